@@ -1,0 +1,11 @@
+pub mod Leb
+pub mod LebLaws
+pub mod Span
+pub mod Taken
+pub mod Short
+pub mod ShortLaws
+pub mod Frames
+pub mod Raw
+pub mod FrameLaws
+pub mod Fault
+pub mod ListWords

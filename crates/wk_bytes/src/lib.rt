@@ -1,0 +1,26 @@
+//! Bytes of a WebAssembly module: integers, words, names, frames, and where bytes go.
+#![tactic(auto)]
+
+mod cursor;
+mod fault;
+mod items;
+mod leb;
+mod memory;
+mod out;
+mod raw;
+mod sections;
+mod text;
+mod writing;
+
+pub use cursor::{Cursor, LIMIT};
+pub use fault::{ReadFault, ReadKind};
+pub use items::Items;
+pub use memory::OutOfMemory;
+pub use out::{Out, OutFault, Sink, Stream, put_all};
+pub use raw::RawSection;
+pub use sections::Sections;
+pub use text::Text;
+pub use writing::{leb_len_u32, out_u32, put_u32};
+
+#[cfg(test)]
+mod tests;
