@@ -1,0 +1,6 @@
+//! The verdict of a module: valid, or the first fault and its place.
+#![tactic(auto)]
+
+mod fault;
+
+pub use fault::{Fault, FaultKind, Place, Verdict};
