@@ -1,0 +1,71 @@
+//! How scripts and runs end.
+ghost use Rattle.std.specs.Prelude.{◌≡◌};
+ghost use Rattle.wk_edit.specs.declared.fault.ScriptFault.TheVariants as ScriptFault;
+ghost use Rattle.wk_edit.specs.declared.fault.RunFault.TheVariants as RunFault;
+
+use std::alloc::{AllocError, AllocFailed};
+
+/// Why a script is refused, S1 to S3 in this order. Lines count from 1.
+#[derive(Clone, Copy, Debug, PartialEq, Eq)]
+pub enum ScriptFault {
+    /// S1: the line is no edit.
+    BadWord {
+        /// The line.
+        line: u64,
+    },
+    /// S2: the line has a byte of `80` or above.
+    NotAscii {
+        /// The line.
+        line: u64,
+    },
+    /// S3: a growth was refused.
+    Memory,
+}
+
+/// How a run ended, where all was written.
+#[derive(Clone, Copy, Debug, PartialEq, Eq)]
+pub enum Status {
+    /// All edits were accepted, and the module is valid: 0.
+    Accepted,
+    /// Some edit was refused, or the module is invalid: 1.
+    Refused,
+    /// The input spells no module: 2.
+    Malformed,
+    /// The script is wrong: 3.
+    BadScript,
+}
+
+/// Why a run gave up, F1 to F3 in this order.
+#[derive(Clone, Copy, Debug, PartialEq, Eq)]
+pub enum RunFault {
+    /// F1: the output of the module failed. A beginning of the module was taken, and nothing of the report.
+    Out,
+    /// F2: the output of the report failed. The module was taken, and a beginning of the report.
+    Report,
+    /// F3: a growth was refused. Nothing was taken.
+    Memory,
+}
+
+impl From<AllocError> for ScriptFault {
+    ghost from_gives = { λ _ e. e ≡ ScriptFault.Memory };
+
+    fn from(_error: AllocError) -> ScriptFault {
+        ScriptFault::Memory
+    }
+}
+
+impl<T: Drop> From<AllocFailed<T>> for ScriptFault {
+    ghost from_gives = { λ _ e. e ≡ ScriptFault.Memory };
+
+    fn from(_error: AllocFailed<T>) -> ScriptFault {
+        ScriptFault::Memory
+    }
+}
+
+impl From<AllocError> for RunFault {
+    ghost from_gives = { λ _ e. e ≡ RunFault.Memory };
+
+    fn from(_error: AllocError) -> RunFault {
+        RunFault::Memory
+    }
+}
