@@ -1,0 +1,162 @@
+-- Laws of settling, and what keeps a module shaped.
+use Rattle.std.proofs.Common.{◌≡◌, ℕ, zero, suc, ◌≤◌, Bool, true, false, not, inl, inr, List, [], ◌∷◌, ◌++◌, map, filter, refl, ap, ◌∙◌, arith}
+use Rattle.std.proofs.lemmas.Bool.{cases_Bool, cases_lt, cond-true, cond-false, cond_both}
+use Rattle.std.proofs.Common.{slice_index_or}
+use Rattle.wk_bytes.specs.ListWords.{is_empty}
+use Rattle.wk_module.specs.declared.types.Parts.{Parts}
+use Rattle.wk_module.specs.declared.types.Custom.{Custom}
+use Rattle.wk_module.specs.declared.types.FuncType.{FuncType}
+use Rattle.wk_module.specs.Shape.{lowered, settled_custom, settle, is_filled, IsInOrderFrom, AreNamed, IsFormed, IsShaped}
+
+-- ---- the greatest id up to one that passes, or 0
+
+pub lowered-here : (passes : ℕ → Bool) (p : ℕ) → passes p ≡ true → lowered passes p ≡ p
+lowered-here passes zero t = refl
+lowered-here passes (suc p) t = cond-true (passes (suc p)) (suc p) (lowered passes p) t
+
+pub lowered-below : (passes : ℕ → Bool) (p : ℕ) → passes (suc p) ≡ false → lowered passes (suc p) ≡ lowered passes p
+lowered-below passes p f = cond-false (passes (suc p)) (suc p) (lowered passes p) f
+
+pub lowered_le : (passes : ℕ → Bool) (p : ℕ) → lowered passes p ≤ p
+lowered_le passes zero = omega arith
+lowered_le passes (suc p) =
+    elim (cases_Bool (passes (suc p))) [
+      | inl t ↦ omega (arith, lowered-here passes (suc p) t)
+      | inr f ↦ omega (arith, lowered-below passes p f, lowered_le passes p)
+    ]
+
+pub lowered_rises : (passes : ℕ → Bool) (p q : ℕ) → p ≤ q → lowered passes p ≤ lowered passes q
+lowered_rises passes p zero le = omega (arith, lowered_le passes p)
+lowered_rises passes p (suc q) le =
+    elim (cases_Bool (passes (suc q))) [
+      | inl t ↦ omega (arith, lowered-here passes (suc q) t, lowered_le passes p)
+      | inr f ↦ elim (cases_lt p (suc q)) [
+        | inl lt ↦ omega (arith, lowered-below passes q f, lowered_rises passes p q (omega arith))
+        | inr ge ↦ let same : p ≡ suc q = omega arith in omega (arith, ap (lowered passes) same)
+      ]
+    ]
+
+pub lowered-lowered : (passes : ℕ → Bool) (p : ℕ) → lowered passes (lowered passes p) ≡ lowered passes p
+lowered-lowered passes zero = refl
+lowered-lowered passes (suc p) =
+    elim (cases_Bool (passes (suc p))) [
+      | inl t ↦ ap (lowered passes) (lowered-here passes (suc p) t)
+      | inr f ↦ rw (lowered-below passes p f) (lowered-lowered passes p)
+    ]
+
+-- where more ids pass, an id that stays still stays
+pub lowered_more : (passes more : ℕ → Bool) → ((id : ℕ) → passes id ≡ true → more id ≡ true) → (p : ℕ) → lowered passes p ≡ p → lowered more p ≡ p
+lowered_more passes more h zero still = refl
+lowered_more passes more h (suc p) still =
+    elim (cases_Bool (passes (suc p))) [
+      | inl t ↦ lowered-here more (suc p) (h (suc p) t)
+      | inr f ↦ absurd (omega (arith, lowered-below passes p f, lowered_le passes p))
+    ]
+
+-- ---- customs
+
+heads : {A : Type 0} (x y : A) (xs ys : List A) → x ∷ xs ≡ y ∷ ys → x ≡ y
+heads x y xs ys e = cc
+
+tails : {A : Type 0} (x y : A) (xs ys : List A) → x ∷ xs ≡ y ∷ ys → xs ≡ ys
+tails x y xs ys e = cc
+
+-- where more ids pass, customs that are settled still are
+pub settled_more : (passes more : ℕ → Bool) → ((id : ℕ) → passes id ≡ true → more id ≡ true) → (cs : List Custom) → map (settled_custom passes) cs ≡ cs → map (settled_custom more) cs ≡ cs
+settled_more passes more h [] e = refl
+settled_more passes more h (c ∷ cs) e =
+    let still = ap (λ (d : Custom). d.place) (heads (settled_custom passes c) c (map (settled_custom passes) cs) cs e) in
+    let first = ap (λ p. record c { place = p }) (lowered_more passes more h c.place still) in
+    let rest = settled_more passes more h cs (tails (settled_custom passes c) c (map (settled_custom passes) cs) cs e) in
+    ap (λ (d : Custom). d ∷ map (settled_custom more) cs) first ∙ ap (λ (ds : List Custom). c ∷ ds) rest
+
+-- customs settled once are settled
+pub settled-settled : (passes : ℕ → Bool) (cs : List Custom) → map (settled_custom passes) (map (settled_custom passes) cs) ≡ map (settled_custom passes) cs
+settled-settled passes [] = refl
+settled-settled passes (c ∷ cs) =
+    ap (λ p. record c { place = p } ∷ map (settled_custom passes) (map (settled_custom passes) cs)) (lowered-lowered passes c.place)
+    ∙ ap (λ (ds : List Custom). settled_custom passes c ∷ ds) (settled-settled passes cs)
+
+pub settled_in_order : (passes : ℕ → Bool) (least : ℕ) (cs : List Custom) → IsInOrderFrom least cs → IsInOrderFrom (lowered passes least) (map (settled_custom passes) cs)
+settled_in_order passes least [] o = tt
+settled_in_order passes least (c ∷ cs) o =
+    (lowered_rises passes least c.place o.0, omega (arith, o.1, lowered_le passes c.place), settled_in_order passes c.place cs o.2)
+
+pub settled_named : (passes : ℕ → Bool) (cs : List Custom) → AreNamed cs → AreNamed (map (settled_custom passes) cs)
+settled_named passes [] n = tt
+settled_named passes (c ∷ cs) n = (n.0, settled_named passes cs n.1)
+
+-- from a lower one on they rise too
+pub in_order_lower : (least lower : ℕ) (cs : List Custom) → lower ≤ least → IsInOrderFrom least cs → IsInOrderFrom lower cs
+in_order_lower least lower [] le o = tt
+in_order_lower least lower (c ∷ cs) le o = (omega (arith, o.0), o.1, o.2)
+
+-- ---- some of the customs
+
+in_order_filter : (keep : Custom → Bool) (least : ℕ) (cs : List Custom) → IsInOrderFrom least cs → IsInOrderFrom least (filter keep cs)
+in_order_filter keep least [] o = tt
+in_order_filter keep least (c ∷ cs) o =
+    let rest = in_order_filter keep c.place cs o.2 in
+    cond_both (keep c) (c ∷ filter keep cs) (filter keep cs) (IsInOrderFrom least) (λ t. (o.0, o.1, rest)) (λ f. in_order_lower c.place least (filter keep cs) o.0 rest)
+
+named_filter : (keep : Custom → Bool) (cs : List Custom) → AreNamed cs → AreNamed (filter keep cs)
+named_filter keep [] n = tt
+named_filter keep (c ∷ cs) n =
+    let rest = named_filter keep cs n.1 in
+    cond_both (keep c) (c ∷ filter keep cs) (filter keep cs) AreNamed (λ t. (n.0, rest)) (λ f. rest)
+
+settled_filter : (passes : ℕ → Bool) (keep : Custom → Bool) (cs : List Custom) → map (settled_custom passes) cs ≡ cs → map (settled_custom passes) (filter keep cs) ≡ filter keep cs
+settled_filter passes keep [] e = refl
+settled_filter passes keep (c ∷ cs) e =
+    let first = heads (settled_custom passes c) c (map (settled_custom passes) cs) cs e in
+    let rest = settled_filter passes keep cs (tails (settled_custom passes c) c (map (settled_custom passes) cs) cs e) in
+    let stays = ap (λ (d : Custom). d ∷ map (settled_custom passes) (filter keep cs)) first ∙ ap (λ (ds : List Custom). c ∷ ds) rest in
+    cond_both (keep c) (c ∷ filter keep cs) (filter keep cs) (λ ds. map (settled_custom passes) ds ≡ ds) (λ t. stays) (λ f. rest)
+
+-- ---- modules
+
+some_types : (t : FuncType) (ts : List FuncType) → not (is_empty (ts ++ t ∷ [])) ≡ true
+some_types t [] = refl
+some_types t (x ∷ ts) = refl
+
+second_more : (a b : Bool) (id : ℕ) → (a ≡ true → b ≡ true) → slice_index_or (false ∷ a ∷ []) id false ≡ true → slice_index_or (false ∷ b ∷ []) id false ≡ true
+second_more a b zero h t = t
+second_more a b (suc zero) h t = h t
+second_more a b (suc (suc id)) h t = t
+
+filled_type : (t : FuncType) (m : Parts) (id : ℕ) → is_filled m id ≡ true → is_filled (record m { types = m.types ++ t ∷ [] }) id ≡ true
+filled_type t m id filled = second_more (not (is_empty m.types)) (not (is_empty (m.types ++ t ∷ []))) id (λ _. some_types t m.types) filled
+
+-- a formed module, settled, is shaped
+pub settle_shaped : (m : Parts) → IsFormed m → IsShaped (settle m)
+settle_shaped m f = record {
+  formed = record {
+    few = f.few;
+    order = settled_in_order (is_filled m) 0 m.customs f.order;
+    names = settled_named (is_filled m) m.customs f.names;
+  };
+  settled = ap (λ (cs : List Custom). record m { customs = cs }) (settled-settled (is_filled m) m.customs);
+}
+
+-- settling twice settles once
+pub settle-settle : (m : Parts) → settle (settle m) ≡ settle m
+settle-settle m = ap (λ (cs : List Custom). record m { customs = cs }) (settled-settled (is_filled m) m.customs)
+
+-- a module with some of its customs is shaped
+pub filter_shaped : (keep : Custom → Bool) (m : Parts) → IsShaped m → IsShaped (record m { customs = filter keep m.customs })
+filter_shaped keep m s =
+    let settled = ap (λ (n : Parts). n.customs) s.settled in
+    record {
+      formed = record {
+        few = s.formed.few;
+        order = in_order_filter keep 0 m.customs s.formed.order;
+        names = named_filter keep m.customs s.formed.names;
+      };
+      settled = ap (λ (cs : List Custom). record m { customs = cs }) (settled_filter (is_filled m) keep m.customs settled);
+    }
+
+-- one more type settles no custom anew
+pub settle-type : (t : FuncType) (m : Parts) → settle m ≡ m → settle (record m { types = m.types ++ t ∷ [] }) ≡ record m { types = m.types ++ t ∷ [] }
+settle-type t m settled =
+    let more : Parts = record m { types = m.types ++ t ∷ [] } in
+    ap (λ (cs : List Custom). record more { customs = cs }) (settled_more (is_filled m) (is_filled more) (filled_type t m) m.customs (ap (λ (n : Parts). n.customs) settled))

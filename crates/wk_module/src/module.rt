@@ -1,0 +1,75 @@
+//! The type of a module.
+
+ghost use Rattle.std.specs.Prelude.{◌≡◌};
+ghost use Rattle.wk_module.specs.Shape.{nothing, settle, IsFormed, IsShaped};
+
+use crate::settle::{filled_ids, settled_customs};
+use crate::types::Parts;
+use std::alloc::Global;
+use std::marker::Model;
+use wk_bytes::Items;
+
+/// A module, seen as its parts.
+///
+/// Its lists are formed: fewer than 2^32 types, custom sections in the order of their places (at most 11), names in
+/// UTF-8. And each custom section is settled: its place is the id of a section that is not empty, or 0.
+#[derive(Drop)]
+pub struct Module {
+    parts: Parts,
+}
+
+impl Model for Module {
+    ghost use Rattle.wk_module.specs.declared.types.Parts.{Parts as Seen};
+    ghost use Rattle.wk_module.specs.Shape.{IsShaped};
+
+    ghost Value = { Seen };
+
+    ghost view = { λ m. m.parts };
+
+    ghost invariant = { λ m. IsShaped m.parts };
+}
+
+impl Module {
+    /// The module without anything. It takes no memory.
+    pub fn empty(alloc: Global) -> Module
+        ensures { result ≡ nothing }
+    {
+        Module {
+            parts: Parts {
+                types: Items::new(alloc),
+                customs: Items::new(alloc),
+            },
+        }
+    }
+
+    /// The module of these parts, each custom section settled. It takes no memory.
+    #[tactic(auto, using(crate::specs::ShapeLaws::settle_shaped))]
+    pub fn of(parts: Parts) -> Module
+        requires { IsFormed parts }
+        ensures { result ≡ settle parts }
+    {
+        let filled = filled_ids(&parts);
+        let Parts { types, customs } = parts;
+        let customs = settled_customs(customs, &filled);
+        Module {
+            parts: Parts { types, customs },
+        }
+    }
+
+    /// The parts of the module.
+    pub fn parts(&self) -> &Parts
+        ensures value { result.now ≡ self.now }
+        ensures shaped { IsShaped self.now }
+    {
+        &self.parts
+    }
+
+    /// The parts of the module, open to change.
+    pub fn into_parts(self) -> Parts
+        ensures value { result ≡ self }
+        ensures shaped { IsShaped self }
+    {
+        let Module { parts } = self;
+        parts
+    }
+}
