@@ -2,5 +2,7 @@
 #![tactic(auto)]
 
 mod fault;
+mod judging;
 
 pub use fault::{Fault, FaultKind, Place, Verdict};
+pub use judging::judge;

@@ -1,5 +1,8 @@
 //! The parts of a module.
 
+ghost use Rattle.std.specs.Prelude.{◌≡◌, IfOk};
+
+use std::alloc::{AllocError, Global};
 use wk_bytes::{Items, Text};
 
 /// A value type (2.3.1).
@@ -22,6 +25,18 @@ pub struct FuncType {
     pub params: Items<ValType>,
     /// The types of the results, the first one first.
     pub results: Items<ValType>,
+}
+
+impl FuncType {
+    /// The same type.
+    pub fn copy(&self, alloc: Global) -> Result<FuncType, AllocError>
+        ensures { IfOk result (λ ty. ty ≡ self.now) }
+    {
+        Ok(FuncType {
+            params: self.params.copy(alloc)?,
+            results: self.results.copy(alloc)?,
+        })
+    }
 }
 
 /// A custom section (5.5.3), whose bytes have no meaning here.

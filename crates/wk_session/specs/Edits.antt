@@ -1,5 +1,5 @@
 -- What each edit makes of a plain module, or why it is refused.
-use Rattle.std.specs.Prelude.{◌≡◌, ℕ, nat_le, Bool, not, if◌then◌else◌, List, [], ◌∷◌, ◌++◌, length, filter, Result, Ok, Err}
+use Rattle.std.specs.Prelude.{ℕ, nat_le, Bool, not, if◌then◌else◌, List, [], ◌∷◌, ◌++◌, length, filter, Result, Ok, Err}
 use Rattle.std.specs.List.{list_any}
 use Rattle.std.specs.Str.{bytes_eq}
 use Rattle.wk_bytes.specs.Frames.{limit}

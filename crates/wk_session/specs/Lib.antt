@@ -1,2 +1,4 @@
 pub mod Edits
 pub mod Runs
+pub mod Kept
+pub mod Written

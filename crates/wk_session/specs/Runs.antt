@@ -1,5 +1,5 @@
 -- What a list of edits makes of a module, where some were refused for want of memory.
-use Rattle.std.specs.Prelude.{◌≡◌, Bool, true, false, List, [], ◌∷◌, Result, Ok, Err, map}
+use Rattle.std.specs.Prelude.{Bool, true, false, List, [], ◌∷◌, Result, Ok, Err, map}
 use Rattle.wk_module.specs.declared.types.Parts.{Parts}
 use Rattle.wk_session.specs.declared.edit.Edit.{Edit}
 use Rattle.wk_session.specs.declared.edit.Edit.TheVariants.{Ty, StripCustom}

@@ -1,0 +1,15 @@
+-- What a write that failed leaves.
+use Rattle.std.specs.Prelude.{◌≡◌, ℕ, ◌+◌, Option, List}
+use Rattle.wk_bytes.specs.Taken.{TakesFront}
+use Rattle.wk_session.specs.declared.write.WriteFault.{WriteFault}
+use Rattle.wk_session.specs.declared.write.WriteFault.TheVariants.{Write, Memory}
+
+-- after a fault of the output a beginning of the bytes was taken; after want of memory nothing was
+abbrev pub Leaves : Option (List ℕ) → Option (List ℕ) → List ℕ → WriteFault → Type 0
+Leaves old new bytes Write = TakesFront old new bytes
+Leaves old new bytes Memory = new ≡ old
+
+-- the output fails once more where it is the cause, and not otherwise
+abbrev pub failures_with : ℕ → WriteFault → ℕ
+failures_with failures Write = failures + 1
+failures_with failures Memory = failures
