@@ -1,5 +1,6 @@
 pub mod Leb
 pub mod LebLaws
+pub mod PrefixFree
 pub mod Span
 pub mod Taken
 pub mod Short
