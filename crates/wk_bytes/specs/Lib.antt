@@ -1,6 +1,6 @@
 pub mod Leb
-pub mod LebLaws
 pub mod PrefixFree
+pub mod LebLaws
 pub mod Span
 pub mod Taken
 pub mod Short

@@ -15,6 +15,7 @@ mod writing;
 pub use cursor::{Cursor, LIMIT};
 pub use fault::{ReadFault, ReadKind};
 pub use items::Items;
+pub use leb::one_spelling;
 pub use memory::OutOfMemory;
 pub use output::{Out, OutFault, Sink, Stream, put_all};
 pub use raw::RawSection;

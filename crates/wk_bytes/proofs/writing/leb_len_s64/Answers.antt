@@ -3,13 +3,13 @@ use Rattle.std.specs.Prelude.{FitsSigned}
 use Rattle.std.specs.Int.{w64}
 use Rattle.std.proofs.lemmas.Int.{to_z-of_z}
 use Rattle.wk_bytes.specs.ShortLaws.{short_signed-last, short_signed-more}
-use Rattle.wk_bytes.proofs.ShortLoop.{signed_64, short_signed_few}
+use Rattle.wk_bytes.proofs.ShortLoop.{signed_few}
 use Rattle.wk_bytes.proofs.writing.leb_len_s64.Goals as goal
 
 pub overflow_add-len : goal.overflow_add-len
 overflow_add-len c =
     let counted = rw (to_z-of_z w64 c.args.n c.ranges.n) at c.loop-rest.invariant in
-    omega (arith, counted, short_signed_few c.args.n (signed_64 c.args.n c.ranges.n))
+    omega (arith, counted, signed_few c.args.n c.ranges.n)
 
 pub loop-rest-preserved : goal.loop-rest-preserved
 loop-rest-preserved c =
