@@ -1,4 +1,5 @@
 pub mod Leb
+pub mod PrefixFree
 pub mod LebLaws
 pub mod Span
 pub mod Taken

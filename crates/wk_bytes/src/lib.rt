@@ -15,12 +15,13 @@ mod writing;
 pub use cursor::{Cursor, LIMIT};
 pub use fault::{ReadFault, ReadKind};
 pub use items::Items;
+pub use leb::one_spelling;
 pub use memory::OutOfMemory;
 pub use output::{Out, OutFault, Sink, Stream, put_all};
 pub use raw::RawSection;
 pub use sections::Sections;
 pub use text::Text;
-pub use writing::{leb_len_u32, out_u32, put_u32};
+pub use writing::{leb_len_s64, leb_len_u32, out_u32, put_s32, put_s33, put_s64, put_u32};
 
 #[cfg(test)]
 mod tests;
