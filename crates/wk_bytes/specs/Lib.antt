@@ -2,6 +2,7 @@ pub mod Leb
 pub mod PrefixFree
 pub mod LebLaws
 pub mod Span
+pub mod SpanLaws
 pub mod Taken
 pub mod Short
 pub mod ShortLaws
@@ -10,3 +11,6 @@ pub mod Raw
 pub mod FrameLaws
 pub mod Fault
 pub mod ListWords
+pub mod Stands
+pub mod StandsLaws
+pub mod FrameStands
