@@ -5,3 +5,4 @@ pub mod Shape
 pub mod Modules
 pub mod Reading
 pub mod Writing
+pub mod ModuleLaws

@@ -1,6 +1,10 @@
 //! A WebAssembly 1.0 module: its lists, its binary format, and its one written form.
 #![tactic(auto)]
 
+mod readable_types;
+mod reader;
+mod reading;
 mod types;
 
+pub use reader::one_module;
 pub use types::{Custom, FuncType, Parts, ValType};

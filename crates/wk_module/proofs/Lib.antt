@@ -1,0 +1,3 @@
+pub mod VectorReading
+pub mod TypeReading
+pub mod ModuleReading
