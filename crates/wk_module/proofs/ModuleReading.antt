@@ -2,7 +2,9 @@
 use Rattle.std.proofs.Common.{◌≡◌, ◌≢◌, ◌≤◌, ◌+◌, ℕ, Bool, true, false, cond, eqb, MatchBool, List, [], ◌∷◌, ◌++◌, length, map, max, Result, Ok, Err, refl, sym, ap, subst, ◌∙◌, append_assoc, inl, inr, ◌⊎◌, arith}
 use Rattle.std.proofs.lemmas.Bool.{eqb-true, ne_eqb, eq-eqb, MatchBool-at_true, MatchBool-at_false}
 use Rattle.std.proofs.lemmas.List.{append-nil}
-use Rattle.wk_bytes.specs.declared.fault.ReadKind.TheVariants.{UnknownSection}
+use Rattle.std.specs.Prelude.{IfOk, IfErr}
+use Rattle.wk_bytes.specs.declared.fault.ReadKind.{ReadKind}
+use Rattle.wk_bytes.specs.declared.fault.ReadKind.TheVariants.{UnknownSection, Memory}
 use Rattle.wk_bytes.specs.declared.fault.ReadFault.{ReadFault}
 use Rattle.wk_bytes.specs.Leb.{◌>>=◌, SpellsU}
 use Rattle.wk_bytes.specs.LebLaws.{IsBytes, bind_ok, chosen, done, ok_is, one_SpellsU}
@@ -18,7 +20,7 @@ use Rattle.wk_module.specs.Types.{SpellsFuncType, functype_at}
 use Rattle.wk_module.specs.Customs.{SpellsCustom, IsEmptyFrame, IsPlaceAfter, SpellsCustoms, custom_at}
 use Rattle.wk_module.specs.Modules.{SpellsSection, AreKnown, Spells, SpellsNone}
 use Rattle.wk_module.specs.ModuleLaws.{SpellOne}
-use Rattle.wk_module.specs.Reading.{Progress, at_start, section_end, with_types, with_section, sections_read, module_at}
+use Rattle.wk_module.specs.Reading.{FailsAs, Reads, Progress, at_start, section_end, with_types, with_section, sections_read, module_at}
 use Rattle.wk_module.proofs.VectorReading.{IsBytes-after, IsBytes-before, SpellsName, name_reader, vector_reader, all_found, all_again}
 use Rattle.wk_module.proofs.TypeReading.{functype_reader}
 
@@ -307,3 +309,22 @@ refused r e m p q = cc
 -- where a fault is read, no module is spelled
 pub module_none : (b : List ℕ) (e : ReadFault) → module_at b ≡ Err e → SpellsNone b
 module_none b e is m s = refused (module_at b) e m is (module_again b m s)
+
+-- ---- what a function that reads answers
+
+unless_memory : (e : ReadFault) (k : ReadKind) (read : Result Parts ReadFault) → k ≢ Memory → FailsAs e k read → read ≡ Err e
+unless_memory e Memory read other fails = absurd (other refl)
+unless_memory e _ read other fails = fails
+
+module _ (b : List ℕ) where
+  pub answer_found : (r : Result Parts ReadFault) → IsBytes b → Reads (λ m. m) r (module_at b) → IfOk r (λ m. Spells b m)
+  answer_found (Ok m) fits reads = module_found b m fits reads
+  answer_found (Err e) fits reads = tt
+
+  pub answer_only : (r : Result Parts ReadFault) → Reads (λ m. m) r (module_at b) → IfOk r (λ m. (n : Parts) → Spells b n → n ≡ m)
+  answer_only (Ok m) reads = λ n s. ok_is n m (sym (module_again b n s) ∙ reads)
+  answer_only (Err e) reads = tt
+
+  pub answer_refused : (r : Result Parts ReadFault) → Reads (λ m. m) r (module_at b) → IfErr r (λ e. e.kind ≢ Memory → SpellsNone b)
+  answer_refused (Ok m) reads = tt
+  answer_refused (Err e) reads = λ other. module_none b e (unless_memory e e.kind (module_at b) other reads)

@@ -6,5 +6,5 @@ mod reader;
 mod reading;
 mod types;
 
-pub use reader::one_module;
+pub use reader::{one_module, read_parts};
 pub use types::{Custom, FuncType, Parts, ValType};

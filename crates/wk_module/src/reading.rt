@@ -1,11 +1,12 @@
 //! Reading items one after the other.
 
 ghost use Rattle.std.specs.Prelude.{◌≡◌};
-ghost use Rattle.wk_module.specs.Reading.{Parses};
-ghost use Rattle.wk_module.specs.Vectors.{vector_at};
+ghost use Rattle.wk_bytes.specs.Raw.{raw_view};
+ghost use Rattle.wk_module.specs.Reading.{Parses, Reads, section_end};
+ghost use Rattle.wk_module.specs.Vectors.{vector_at, all_at};
 
 use std::alloc::Global;
-use wk_bytes::{Cursor, Items, ReadFault};
+use wk_bytes::{Cursor, Items, RawSection, ReadFault, ReadKind};
 
 /// What stands in vectors (5.1.3).
 pub(crate) trait Readable: Drop {
@@ -32,6 +33,22 @@ pub(crate) fn read_vector<T: Readable>(
     let mut items = Items::new(alloc);
     for _ in 0..count {
         items.push(T::read(alloc, cursor)?)?;
+    }
+    Ok(items)
+}
+
+/// Reads a vector that fills the contents of a section.
+#[tactic(auto, unfolding(crate::specs::Vectors::vector_at))]
+pub(crate) fn read_contents<T: Readable>(alloc: Global, section: &RawSection<'_>) -> Result<Items<T>, ReadFault>
+    ensures { Reads (λ x. x) result (all_at (vector_at T.read_at) (section_end (raw_view section.now)) section.now.contents.now) }
+{
+    let mut cursor = section.cursor();
+    let items = read_vector(alloc, &mut cursor)?;
+    if !cursor.rest().is_empty() {
+        return Err(ReadFault {
+            kind: ReadKind::SectionSize,
+            at: cursor.at(),
+        });
     }
     Ok(items)
 }
