@@ -1,1 +1,4 @@
 pub mod Shaped
+pub mod VectorReading
+pub mod TypeReading
+pub mod ModuleReading

@@ -1,0 +1,185 @@
+-- Readers that take each spelling from the front, and nothing else; and vectors of what they read.
+use Rattle.std.proofs.Common.{◌≡◌, ℕ, cond, zero, suc, ◌+◌, ◌-◌, ◌<◌, ◌≤◌, List, [], ◌∷◌, ◌++◌, length, get_or, Result, Ok, Err, refl, sym, ap, subst, ◌∙◌, append_assoc, length-append, inl, inr, arith}
+use Rattle.std.proofs.lemmas.List.{append-nil, get_or-append-add, get_or_append_left, get_or_past}
+use Rattle.std.proofs.lemmas.Bool.{cases_lt}
+use Rattle.std.specs.Str.{IsUtf8, is_utf8}
+use Rattle.std.proofs.lemmas.Str.{is_utf8-from_IsUtf8, IsUtf8-from_is_utf8}
+use Rattle.wk_bytes.specs.declared.fault.ReadKind.{ReadKind}
+use Rattle.wk_bytes.specs.declared.fault.ReadKind.TheVariants.{Memory, BadUtf8, SectionSize}
+use Rattle.wk_bytes.specs.declared.fault.ReadFault.{ReadFault}
+use Rattle.wk_bytes.specs.Leb.{◌>>=◌, SpellsU, uint_at}
+use Rattle.wk_bytes.specs.LebLaws.{IsBytes, bind_ok, chosen, done, ok_is, uint_spells, uint_again}
+use Rattle.wk_bytes.specs.FrameLaws.{piece_at-takes, piece_at-again}
+use Rattle.wk_bytes.specs.Span.{placed, fault, u32_at, piece_at, name_at}
+use Rattle.wk_module.specs.Vectors.{SpellsItems, SpellsVector, items_at, vector_at, taking_all, all_at}
+use Rattle.wk_module.specs.Reading.{FailsAs}
+
+-- what is read is spelled, and what is spelled is read, wherever it ends and whatever follows
+pub record IsReader {A : Type 0} (Spells : List ℕ → A → Type 0) (read : ℕ → List ℕ → Result (A × List ℕ) ReadFault) : Type 0 where
+  pub found : (end : ℕ) (bytes : List ℕ) (x : A) (rest : List ℕ) → IsBytes bytes → read end bytes ≡ Ok (x, rest) → (b : List ℕ) × Spells b x × (bytes ≡ b ++ rest)
+  pub again : (end : ℕ) (b : List ℕ) (x : A) (rest : List ℕ) → Spells b x → read end (b ++ rest) ≡ Ok (x, rest)
+
+-- ---- bytes
+
+pub IsBytes-after : (front later bytes : List ℕ) → bytes ≡ front ++ later → IsBytes bytes → IsBytes later
+IsBytes-after front later bytes e fits i = rw (← get_or-append-add front later i 0, ← e) (fits (length front + i))
+
+pub IsBytes-before : (front later bytes : List ℕ) → bytes ≡ front ++ later → IsBytes bytes → IsBytes front
+IsBytes-before front later bytes e fits i =
+    elim (cases_lt i (length front)) [
+      | inl lt ↦ rw (← get_or_append_left front later 0 i lt, ← e) (fits i)
+      | inr le ↦ rw (get_or_past front i 0 le) (omega arith)
+    ]
+
+-- ---- integers and names
+
+placed_is : {A : Type 0} (r : Result A ReadKind) (end : ℕ) (bytes : List ℕ) (x : A) → placed r end bytes ≡ Ok x → r ≡ Ok x
+placed_is (Ok y) end bytes x e = cc
+placed_is (Err k) end bytes x e = absurd cc
+
+pub u32_reader : IsReader (SpellsU 32) u32_at
+unfolding u32_at
+u32_reader = record {
+  found = λ end bytes n rest fits e. uint_spells 32 bytes n rest fits (placed_is (uint_at 32 bytes) end bytes (n, rest) e);
+  again = λ end b n rest s. ap (λ (r : Result (ℕ × List ℕ) ReadKind). placed r end (b ++ rest)) (uint_again 32 b n rest s);
+}
+
+-- a name: a count, and as many bytes of UTF-8
+pub record SpellsName (b : List ℕ) (text : List ℕ) : Type 0 where
+  pub size : List ℕ
+  pub parts : b ≡ size ++ text
+  pub counts : SpellsU 32 size (length text)
+  pub utf8 : IsUtf8 text
+
+name_found : (end : ℕ) (bytes text rest : List ℕ) → IsBytes bytes → name_at end bytes ≡ Ok (text, rest) → (b : List ℕ) × SpellsName b text × (bytes ≡ b ++ rest)
+unfolding name_at
+name_found end bytes text rest fits e =
+    let a = bind_ok (u32_at end bytes) (λ n. piece_at n.0 end n.1 >>= λ t. cond (is_utf8 t.0) (Ok t) (Err (fault BadUtf8 end n.1))) (text, rest) e in
+    let b = bind_ok (piece_at a.0.0 end a.0.1) (λ t. cond (is_utf8 t.0) (Ok t) (Err (fault BadUtf8 end a.0.1))) (text, rest) a.2 in
+    elim (chosen (is_utf8 b.0.0) (Ok b.0) (Err (fault BadUtf8 end a.0.1)) (Ok (text, rest)) b.2) [
+      | inl p ↦
+          let same : b.0 ≡ (text, rest) = ok_is _ _ p.1 in
+          let texts : b.0.0 ≡ text = ap (λ (t : List ℕ × List ℕ). t.0) same in
+          let pieces : piece_at a.0.0 end a.0.1 ≡ Ok (text, rest) = b.1 ∙ p.1 in
+          let count = u32_reader.found end bytes a.0.0 a.0.1 fits a.1 in
+          let piece = piece_at-takes a.0.0 end a.0.1 text rest pieces in (
+            count.0 ++ text,
+            record { size = count.0; parts = refl; counts = subst (SpellsU 32 count.0) (sym piece.1) count.1; utf8 = subst IsUtf8 texts (IsUtf8-from_is_utf8 b.0.0 p.0) },
+            count.2 ∙ ap (λ (c : List ℕ). count.0 ++ c) piece.0 ∙ sym (append_assoc count.0 text rest),
+          )
+      | inr p ↦ absurd cc
+    ]
+
+name_again : (end : ℕ) (b text rest : List ℕ) → SpellsName b text → name_at end (b ++ rest) ≡ Ok (text, rest)
+unfolding name_at
+name_again end b text rest s =
+    let parts : b ++ rest ≡ s.size ++ (text ++ rest) = ap (λ (c : List ℕ). c ++ rest) s.parts ∙ append_assoc s.size text rest in
+    ap (name_at end) parts ∙ rw (u32_reader.again end s.size (length text) (text ++ rest) s.counts, piece_at-again end text rest, is_utf8-from_IsUtf8 text s.utf8) refl
+
+pub name_reader : IsReader SpellsName name_at
+name_reader = record { found = name_found; again = name_again }
+
+-- ---- vectors
+
+module _ {A : Type 0} (Spells : List ℕ → A → Type 0) (read : ℕ → List ℕ → Result (A × List ℕ) ReadFault) where
+  items_found : IsReader Spells read → (n end : ℕ) (bytes : List ℕ) (xs : List A) (rest : List ℕ) → IsBytes bytes → items_at read n end bytes ≡ Ok (xs, rest)
+      → (b : List ℕ) × SpellsItems Spells b xs × (bytes ≡ b ++ rest) × (length xs ≡ n)
+  items_found is zero end bytes xs rest fits e =
+      let same : ([], bytes) ≡ (xs, rest) = ok_is _ _ e in
+      let none : xs ≡ [] = sym (ap (λ (p : List A × List ℕ). p.0) same) in
+      ([], subst (SpellsItems Spells []) (sym none) refl, ap (λ (p : List A × List ℕ). p.1) same, ap length none)
+  items_found is (suc n) end bytes xs rest fits e =
+      let a = bind_ok (read end bytes) (λ x. items_at read n end x.1 >>= λ ys. Ok (x.0 ∷ ys.0, ys.1)) (xs, rest) e in
+      let b = bind_ok (items_at read n end a.0.1) (λ ys. Ok (a.0.0 ∷ ys.0, ys.1)) (xs, rest) a.2 in
+      let first = is.found end bytes a.0.0 a.0.1 fits a.1 in
+      let others = items_found is n end a.0.1 b.0.0 b.0.1 (IsBytes-after first.0 a.0.1 bytes first.2 fits) b.1 in
+      let same : (a.0.0 ∷ b.0.0, b.0.1) ≡ (xs, rest) = ok_is _ _ b.2 in
+      let items : a.0.0 ∷ b.0.0 ≡ xs = ap (λ (p : List A × List ℕ). p.0) same in (
+        first.0 ++ others.0,
+        subst (SpellsItems Spells (first.0 ++ others.0)) items (first.0, others.0, refl, first.1, others.1),
+        first.2 ∙ ap (λ (c : List ℕ). first.0 ++ c) (others.2 ∙ ap (λ (p : List A × List ℕ). others.0 ++ p.1) same) ∙ sym (append_assoc first.0 others.0 rest),
+        ap length (sym items) ∙ ap suc others.3,
+      )
+
+  items_again : IsReader Spells read → (end : ℕ) (b : List ℕ) (xs : List A) (rest : List ℕ) → SpellsItems Spells b xs → items_at read (length xs) end (b ++ rest) ≡ Ok (xs, rest)
+  items_again is end b [] rest s = ap (λ (c : List ℕ). done ([], c ++ rest)) s
+  items_again is end b (x ∷ xs) rest s =
+      let parts : b ++ rest ≡ s.0 ++ (s.1 ++ rest) = ap (λ (c : List ℕ). c ++ rest) s.2 ∙ append_assoc s.0 s.1 rest in
+      let first = is.again end s.0 x (s.1 ++ rest) s.3 in
+      let others = items_again is end s.1 xs rest s.4 in
+      rw (parts, first, others) refl
+
+  vector_found : IsReader Spells read → (end : ℕ) (bytes : List ℕ) (xs : List A) (rest : List ℕ) → IsBytes bytes → vector_at read end bytes ≡ Ok (xs, rest)
+      → (b : List ℕ) × SpellsVector Spells b xs × (bytes ≡ b ++ rest)
+  unfolding vector_at
+  vector_found is end bytes xs rest fits e =
+      let a = bind_ok (u32_at end bytes) (λ n. items_at read n.0 end n.1) (xs, rest) e in
+      let count = u32_reader.found end bytes a.0.0 a.0.1 fits a.1 in
+      let items = items_found is a.0.0 end a.0.1 xs rest (IsBytes-after count.0 a.0.1 bytes count.2 fits) a.2 in (
+        count.0 ++ items.0,
+        record { count = count.0; items = items.0; parts = refl; counts = subst (SpellsU 32 count.0) (sym items.3) count.1; spelled = items.1 },
+        count.2 ∙ ap (λ (c : List ℕ). count.0 ++ c) items.2 ∙ sym (append_assoc count.0 items.0 rest),
+      )
+
+  vector_again : IsReader Spells read → (end : ℕ) (b : List ℕ) (xs : List A) (rest : List ℕ) → SpellsVector Spells b xs → vector_at read end (b ++ rest) ≡ Ok (xs, rest)
+  unfolding vector_at
+  vector_again is end b xs rest s =
+      let parts : b ++ rest ≡ s.count ++ (s.items ++ rest) = ap (λ (c : List ℕ). c ++ rest) s.parts ∙ append_assoc s.count s.items rest in
+      ap (vector_at read end) parts ∙ rw (u32_reader.again end s.count (length xs) (s.items ++ rest) s.counts) (items_again is end s.items xs rest s.spelled)
+
+  pub vector_reader : IsReader Spells read → IsReader (SpellsVector Spells) (vector_at read)
+  vector_reader is = record { found = vector_found is; again = vector_again is }
+
+  -- ---- the whole of some contents
+
+  taking_all_is : (end : ℕ) (y : A) (rest : List ℕ) (x : A) → taking_all end (y, rest) ≡ Ok x → (y ≡ x) × (rest ≡ [])
+  taking_all_is end y [] x e = (ok_is _ _ e, refl)
+  taking_all_is end y (z ∷ rest) x e = absurd cc
+
+  pub all_found : IsReader Spells read → (end : ℕ) (bytes : List ℕ) (x : A) → IsBytes bytes → all_at read end bytes ≡ Ok x → Spells bytes x
+  all_found is end bytes x fits e =
+      let a = bind_ok (read end bytes) (taking_all end) x e in
+      let whole = taking_all_is end a.0.0 a.0.1 x a.2 in
+      let s = is.found end bytes a.0.0 a.0.1 fits a.1 in
+      let all : s.0 ≡ bytes = sym (s.2 ∙ ap (λ (c : List ℕ). s.0 ++ c) whole.1 ∙ append-nil s.0) in
+      subst (Spells bytes) whole.0 (subst (λ (c : List ℕ). Spells c a.0.0) all s.1)
+
+  pub all_again : IsReader Spells read → (end : ℕ) (b : List ℕ) (x : A) → Spells b x → all_at read end b ≡ Ok x
+  all_again is end b x s =
+      let one : read end b ≡ Ok (x, []) = ap (read end) (sym (append-nil b)) ∙ is.again end b x [] s in
+      rw one refl
+
+-- ---- item after item, as a loop reads them
+
+-- what was read before, and what is still read
+abbrev pub with_front : {A : Type 0} → List A → Result (List A × List ℕ) ReadFault → Result (List A × List ℕ) ReadFault
+with_front front read = read >>= λ x. Ok (front ++ x.0, x.1)
+
+module _ {A : Type 0} (read : ℕ → List ℕ → Result (A × List ℕ) ReadFault) where
+  regroup : (front : List A) (x : A) (r : Result (List A × List ℕ) ReadFault) → with_front front (r >>= λ xs. Ok (x ∷ xs.0, xs.1)) ≡ with_front (front ++ x ∷ []) r
+  regroup front x (Ok xs) = ap (λ (ys : List A). done (ys, xs.1)) (simp append_assoc)
+  regroup front x (Err f) = refl
+
+  pub goes_on : (front : List A) (count i end : ℕ) (bytes : List ℕ) (x : A) (after : List ℕ) → i < count → read end bytes ≡ Ok (x, after)
+      → with_front front (items_at read (count - i) end bytes) ≡ with_front (front ++ x ∷ []) (items_at read (count - (i + 1)) end after)
+  goes_on front count i end bytes x after lt h =
+      let k : count - i ≡ suc (count - (i + 1)) = omega arith in
+      rw (k, h) (regroup front x (items_at read (count - (i + 1)) end after))
+
+  pub stops : (front : List A) (count i end : ℕ) (bytes : List ℕ) (f : ReadFault) → i < count → read end bytes ≡ Err f → with_front front (items_at read (count - i) end bytes) ≡ Err f
+  stops front count i end bytes f lt h =
+      let k : count - i ≡ suc (count - (i + 1)) = omega arith in
+      rw (k, h) refl
+
+  pub is_done : (front : List A) (count i end : ℕ) (bytes : List ℕ) → count ≤ i → with_front front (items_at read (count - i) end bytes) ≡ Ok (front, bytes)
+  is_done front count i end bytes le =
+      let k : count - i ≡ 0 = omega arith in
+      rw k (ap (λ (ys : List A). done (ys, bytes)) (append-nil front))
+
+at_kind : {Y : Type 0} (e : ReadFault) (k : ReadKind) (read : Result Y ReadFault) → read ≡ Err e → FailsAs e k read
+at_kind e Memory read is = tt
+at_kind e _ read is = is
+
+-- the fault that reading gives
+pub fails_as : {Y : Type 0} (e : ReadFault) (read : Result Y ReadFault) → read ≡ Err e → FailsAs e e.kind read
+fails_as e read is = at_kind e e.kind read is
