@@ -9,3 +9,6 @@ pub mod Raw
 pub mod FrameLaws
 pub mod Fault
 pub mod ListWords
+pub mod HexDigits
+pub mod HexDigitLaws
+pub mod FaultText
