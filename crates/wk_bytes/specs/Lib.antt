@@ -14,3 +14,6 @@ pub mod ListWords
 pub mod Stands
 pub mod StandsLaws
 pub mod FrameStands
+pub mod HexDigits
+pub mod HexDigitLaws
+pub mod FaultText

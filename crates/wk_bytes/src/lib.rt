@@ -2,6 +2,7 @@
 #![tactic(auto)]
 
 mod cursor;
+mod display;
 mod fault;
 mod items;
 mod leb;

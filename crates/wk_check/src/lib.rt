@@ -1,6 +1,7 @@
 //! The verdict of a module: valid, or the first fault and its place.
 #![tactic(auto)]
 
+mod display;
 mod fault;
 mod judging;
 
