@@ -9,7 +9,7 @@ use Rattle.wk_bytes.specs.declared.fault.ReadKind.TheVariants.{Memory, BadUtf8, 
 use Rattle.wk_bytes.specs.declared.fault.ReadFault.{ReadFault}
 use Rattle.wk_bytes.specs.Leb.{◌>>=◌, SpellsU, uint_at}
 use Rattle.wk_bytes.specs.LebLaws.{IsBytes, bind_ok, chosen, done, ok_is, uint_spells, uint_again}
-use Rattle.wk_bytes.specs.FrameLaws.{piece_at-takes, piece_at-again}
+use Rattle.wk_bytes.specs.SpanLaws.{piece_at-takes, piece_at-again}
 use Rattle.wk_bytes.specs.Span.{placed, fault, u32_at, piece_at, name_at}
 use Rattle.wk_module.specs.Vectors.{SpellsItems, SpellsVector, items_at, vector_at, taking_all, all_at}
 use Rattle.wk_module.specs.Reading.{FailsAs}

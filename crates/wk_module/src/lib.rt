@@ -2,14 +2,12 @@
 #![tactic(auto)]
 
 mod module;
+mod readable_types;
+mod reader;
+mod reading;
 mod settle;
 mod types;
 
 pub use module::Module;
-mod readable_types;
-mod reader;
-mod reading;
-mod types;
-
 pub use reader::{one_module, read_parts};
 pub use types::{Custom, FuncType, Parts, ValType};
