@@ -312,7 +312,7 @@ module_none b e is m s = refused (module_at b) e m is (module_again b m s)
 
 -- ---- what a function that reads answers
 
-unless_memory : (e : ReadFault) (k : ReadKind) (read : Result Parts ReadFault) → k ≢ Memory → FailsAs e k read → read ≡ Err e
+pub unless_memory : (e : ReadFault) (k : ReadKind) (read : Result Parts ReadFault) → k ≢ Memory → FailsAs e k read → read ≡ Err e
 unless_memory e Memory read other fails = absurd (other refl)
 unless_memory e _ read other fails = fails
 

@@ -1,5 +1,8 @@
 -- Modules (5.5.16): which bytes spell one.
-use Rattle.std.specs.Prelude.{◌≡◌, ◌≤◌, ◌==◌, ℕ, MatchBool, List, [], ◌∷◌}
+use Rattle.std.specs.Prelude.{◌≡◌, ◌≤◌, ◌==◌, ℕ, MatchBool, ◌⊎◌, List, [], ◌∷◌}
+use Rattle.wk_bytes.specs.declared.fault.ReadKind.TheVariants.{UnknownSection}
+use Rattle.wk_bytes.specs.declared.fault.ReadFault.{ReadFault}
+use Rattle.wk_bytes.specs.Stands.{StandsIn}
 use Rattle.wk_bytes.specs.Frames.{Frame, SpellsFraming}
 use Rattle.wk_module.specs.declared.types.Parts.{Parts}
 use Rattle.wk_module.specs.Vectors.{SpellsVector}
@@ -29,3 +32,7 @@ pub record Spells (b : List ℕ) (m : Parts) : Type 0 where
 -- no module is spelled
 abbrev pub SpellsNone : List ℕ → Type 0
 SpellsNone b = (m : Parts) → Spells b m → ⊥
+
+-- A fault stands in the bytes of a module. The id of a section that is not read yet is a fault too.
+abbrev pub StandsInModule : List ℕ → ReadFault → Type 0
+StandsInModule b e = StandsIn b e ⊎ (e.kind ≡ UnknownSection)
