@@ -1,1 +1,6 @@
 pub mod Shaped
+pub mod WrittenItems
+pub mod WrittenFrames
+pub mod WrittenSections
+pub mod WrittenCustoms
+pub mod WrittenSpells
