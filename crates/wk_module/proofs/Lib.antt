@@ -4,3 +4,4 @@ pub mod WrittenFrames
 pub mod WrittenSections
 pub mod WrittenCustoms
 pub mod WrittenSpells
+pub mod Fitting

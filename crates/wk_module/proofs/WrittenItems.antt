@@ -64,7 +64,9 @@ functype_is = record {
         gives = valtypes_is.spells t.results (omega arith);
       };
   least = λ b t s.
-      omega (arith, length-append (written_vector written_valtype t.params) (written_vector written_valtype t.results), ap length s.parts, length-append s.params s.results, valtypes_is.least s.params t.params s.takes, valtypes_is.least s.results t.results s.gives);
+      let params = valtypes_is.least s.params t.params s.takes in
+      let results = valtypes_is.least s.results t.results s.gives in
+      omega (arith, length-append (written_vector written_valtype t.params) (written_vector written_valtype t.results), ap length s.parts, length-append s.params s.results);
 }
 
 -- ---- customs
