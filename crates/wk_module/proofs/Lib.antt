@@ -3,3 +3,9 @@ pub mod VectorReading
 pub mod TypeReading
 pub mod ModuleReading
 pub mod Standing
+pub mod WrittenItems
+pub mod WrittenFrames
+pub mod WrittenSections
+pub mod WrittenCustoms
+pub mod WrittenSpells
+pub mod Fitting
