@@ -39,7 +39,10 @@ pub(crate) fn read_vector<T: Readable>(
 
 /// Reads a vector that fills the contents of a section.
 #[tactic(auto, unfolding(crate::specs::Vectors::vector_at))]
-pub(crate) fn read_contents<T: Readable>(alloc: Global, section: &RawSection<'_>) -> Result<Items<T>, ReadFault>
+pub(crate) fn read_contents<T: Readable>(
+    alloc: Global,
+    section: &RawSection<'_>,
+) -> Result<Items<T>, ReadFault>
     ensures { Reads (λ x. x) result (all_at (vector_at T.read_at) (section_end (raw_view section.now)) section.now.contents.now) }
 {
     let mut cursor = section.cursor();
