@@ -11,3 +11,6 @@ mod types;
 pub use module::Module;
 pub use reader::{one_module, read_parts};
 pub use types::{Custom, FuncType, Parts, ValType};
+
+#[cfg(test)]
+mod tests_reading;
