@@ -1,7 +1,10 @@
 pub mod Leb
+pub mod PrefixFree
 pub mod LebLaws
 pub mod Span
 pub mod SpanLaws
+pub mod Pieces
+pub mod PieceLaws
 pub mod Taken
 pub mod Short
 pub mod ShortLaws
