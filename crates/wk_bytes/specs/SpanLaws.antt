@@ -1,5 +1,5 @@
 -- What each reader takes from the front, and what its faults are.
-use Rattle.std.proofs.Common.{◌≡◌, ℤ, ℕ, ◌+◌, ◌-◌, ◌<◌, true, cond, leb, ltb, inl, inr, List, [], ◌∷◌, ◌++◌, length, take, drop, Result, Ok, Err, Option, refl, sym, ap, ◌∙◌, length-append, length-take, arith}
+use Rattle.std.proofs.Common.{◌≡◌, ℤ, ℕ, ◌+◌, ◌-◌, ◌<◌, ◌≤◌, true, cond, leb, ltb, inl, inr, List, [], ◌∷◌, ◌++◌, length, take, drop, Result, Ok, Err, Option, refl, sym, ap, ◌∙◌, length-append, length-take, arith}
 use Rattle.std.proofs.lemmas.Bool.{leb-true, le-leb}
 use Rattle.std.proofs.lemmas.List.{take-append-drop, take_at, drop_at, get_or-append-add}
 use Rattle.std.specs.Str.{is_utf8}
@@ -84,11 +84,12 @@ unfolding piece_at
 piece_at-takes n end bytes piece rest e =
     elim (chosen (leb n (length bytes)) (Ok (take n bytes, drop n bytes)) (Err (fault UnexpectedEnd end bytes)) (Ok (piece, rest)) e) [
       | inl p ↦
-          let both : (take n bytes, drop n bytes) ≡ (piece, rest) = ok_is _ _ p.1 in
+          let enough : n ≤ length bytes = leb-true _ _ p.0 in
+          let both : (take n bytes, drop n bytes) ≡ (piece, rest) = ok_is (take n bytes, drop n bytes) (piece, rest) p.1 in
           let one : take n bytes ≡ piece = ap (λ (q : List ℕ × List ℕ). q.0) both in
           let two : drop n bytes ≡ rest = ap (λ (q : List ℕ × List ℕ). q.1) both in (
             sym (take-append-drop n bytes) ∙ ap (λ (a : List ℕ). a ++ drop n bytes) one ∙ ap (λ (b : List ℕ). piece ++ b) two,
-            omega (arith, ap length one, length-take n bytes, leb-true _ _ p.0),
+            omega (arith, ap length one, length-take n bytes),
           )
       | inr p ↦ absurd cc
     ]
