@@ -3,6 +3,8 @@ pub mod PrefixFree
 pub mod LebLaws
 pub mod Span
 pub mod SpanLaws
+pub mod Pieces
+pub mod PieceLaws
 pub mod Taken
 pub mod Short
 pub mod ShortLaws

@@ -1,14 +1,14 @@
 -- What each reader takes from the front, and what its faults are.
-use Rattle.std.proofs.Common.{◌≡◌, ℤ, ℕ, ◌-◌, ◌<◌, true, cond, leb, ltb, inl, inr, List, [], ◌∷◌, ◌++◌, length, take, drop, Result, Ok, Err, Option, refl, sym, ap, ◌∙◌, length-append, length-take, arith}
+use Rattle.std.proofs.Common.{◌≡◌, ℤ, ℕ, ◌+◌, ◌-◌, ◌<◌, ◌≤◌, true, cond, leb, ltb, inl, inr, List, [], ◌∷◌, ◌++◌, length, take, drop, Result, Ok, Err, Option, refl, sym, ap, ◌∙◌, length-append, length-take, arith}
 use Rattle.std.proofs.lemmas.Bool.{leb-true, le-leb}
-use Rattle.std.proofs.lemmas.List.{take-append-drop, take_at, drop_at}
+use Rattle.std.proofs.lemmas.List.{take-append-drop, take_at, drop_at, get_or-append-add}
 use Rattle.std.specs.Str.{is_utf8}
 use Rattle.byteorder.specs.Endian.{little_number}
 use Rattle.wk_bytes.specs.declared.fault.ReadKind.{ReadKind}
 use Rattle.wk_bytes.specs.declared.fault.ReadKind.TheVariants.{UnexpectedEnd, IntTooLong, IntTooLarge, BadUtf8}
 use Rattle.wk_bytes.specs.declared.fault.ReadFault.{ReadFault}
 use Rattle.wk_bytes.specs.Leb.{◌>>=◌, or_fail, int_by, lastU, lastS, joinU, joinS, uint_at, sint_at}
-use Rattle.wk_bytes.specs.LebLaws.{bind_ok, chosen, done}
+use Rattle.wk_bytes.specs.LebLaws.{IsBytes, bind_ok, chosen, done}
 use Rattle.wk_bytes.specs.Span.{fault, placed, byte_at, piece_at, u32_at, signed_at, word_at, name_at}
 
 abbrev pub good : {A : Type 0} → A → Result A ReadFault
@@ -35,6 +35,10 @@ placed_ok (Err k) end bytes x e = absurd cc
 pub placed_err : {A : Type 0} (r : Result A ReadKind) (end : ℕ) (bytes : List ℕ) (e : ReadFault) → placed r end bytes ≡ Err e → (kind : ReadKind) × (r ≡ Err kind) × (fault kind end bytes ≡ e)
 placed_err (Ok y) end bytes e h = absurd cc
 placed_err (Err k) end bytes e h = (k, refl, cc)
+
+-- what is left after a front is bytes too
+pub IsBytes-after : (front later bytes : List ℕ) → bytes ≡ front ++ later → IsBytes bytes → IsBytes later
+IsBytes-after front later bytes e fits i = rw (← get_or-append-add front later i 0, ← e) (fits (length front + i))
 
 -- ---- what is taken
 
@@ -80,11 +84,12 @@ unfolding piece_at
 piece_at-takes n end bytes piece rest e =
     elim (chosen (leb n (length bytes)) (Ok (take n bytes, drop n bytes)) (Err (fault UnexpectedEnd end bytes)) (Ok (piece, rest)) e) [
       | inl p ↦
-          let both : (take n bytes, drop n bytes) ≡ (piece, rest) = ok_is _ _ p.1 in
+          let enough : n ≤ length bytes = leb-true _ _ p.0 in
+          let both : (take n bytes, drop n bytes) ≡ (piece, rest) = ok_is (take n bytes, drop n bytes) (piece, rest) p.1 in
           let one : take n bytes ≡ piece = ap (λ (q : List ℕ × List ℕ). q.0) both in
           let two : drop n bytes ≡ rest = ap (λ (q : List ℕ × List ℕ). q.1) both in (
             sym (take-append-drop n bytes) ∙ ap (λ (a : List ℕ). a ++ drop n bytes) one ∙ ap (λ (b : List ℕ). piece ++ b) two,
-            omega (arith, ap length one, length-take n bytes, leb-true _ _ p.0),
+            omega (arith, ap length one, length-take n bytes),
           )
       | inr p ↦ absurd cc
     ]

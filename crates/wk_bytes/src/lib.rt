@@ -13,7 +13,7 @@ mod sections;
 mod text;
 mod writing;
 
-pub use cursor::{Cursor, LIMIT};
+pub use cursor::{Cursor, LIMIT, one_spelling_of_pieces};
 pub use fault::{ReadFault, ReadKind};
 pub use items::Items;
 pub use leb::one_spelling;
