@@ -2,5 +2,10 @@
 #![tactic(auto)]
 
 mod fault;
+mod line;
+mod pieces;
+mod script;
+mod word;
 
 pub use fault::{RunFault, ScriptFault, Status};
+pub use script::read_script;

@@ -1,0 +1,3 @@
+pub mod Cutting
+pub mod Utf8
+pub mod ScriptSteps
