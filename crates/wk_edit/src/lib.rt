@@ -1,8 +1,10 @@
 //! The main job: a module, a script of edits, the edited module and a report.
 #![tactic(auto)]
 
+mod display;
 mod fault;
 mod line;
+mod lines;
 mod pieces;
 mod script;
 mod word;
