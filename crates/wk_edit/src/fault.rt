@@ -4,6 +4,7 @@ ghost use Rattle.wk_edit.specs.declared.fault.ScriptFault.TheVariants as ScriptF
 ghost use Rattle.wk_edit.specs.declared.fault.RunFault.TheVariants as RunFault;
 
 use std::alloc::{AllocError, AllocFailed};
+use thiserror::Error;
 
 /// Why a script is refused, S1 to S3 in this order. Lines count from 1.
 #[derive(Clone, Copy, Debug, PartialEq, Eq)]
@@ -36,13 +37,16 @@ pub enum Status {
 }
 
 /// Why a run gave up, F1 to F3 in this order.
-#[derive(Clone, Copy, Debug, PartialEq, Eq)]
+#[derive(Clone, Copy, Debug, PartialEq, Eq, Error)]
 pub enum RunFault {
     /// F1: the output of the module failed. A beginning of the module was taken, and nothing of the report.
+    #[error("cannot write the module")]
     Out,
     /// F2: the output of the report failed. The module was taken, and a beginning of the report.
+    #[error("cannot write the report")]
     Report,
     /// F3: a growth was refused. Nothing was taken.
+    #[error("out of memory")]
     Memory,
 }
 

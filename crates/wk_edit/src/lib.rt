@@ -1,6 +1,13 @@
 //! The main job: a module, a script of edits, the edited module and a report.
 #![tactic(auto)]
 
+mod display;
 mod fault;
+mod line;
+mod lines;
+mod pieces;
+mod script;
+mod word;
 
 pub use fault::{RunFault, ScriptFault, Status};
+pub use script::read_script;

@@ -2,3 +2,4 @@ pub mod Edits
 pub mod Runs
 pub mod Kept
 pub mod Written
+pub mod EditText

@@ -2,6 +2,7 @@
 #![tactic(auto)]
 
 mod changes;
+mod display;
 mod edit;
 mod write;
 

@@ -1,0 +1,4 @@
+pub mod Cutting
+pub mod Utf8
+pub mod ScriptSteps
+pub mod ReportSteps

@@ -1,0 +1,57 @@
+-- What the words of a script's line say.
+use Rattle.std.specs.Prelude.{ℕ, nat_le, ◌&&◌, not, ◌==◌, Bool, if◌then◌else◌, Option, Some, None, List, [], ◌∷◌, take, drop, length, Result, Ok, Err, codes}
+use Rattle.std.specs.List.{list_all}
+use Rattle.std.specs.Str.{bytes_eq, is_utf8}
+use Rattle.hex.specs.Hex.{decode_of}
+use Rattle.hex.specs.declared.error.FromHexError.{FromHexError}
+use Rattle.wk_module.specs.declared.types.ValType.{ValType}
+use Rattle.wk_module.specs.declared.types.ValType.TheVariants.{I32, I64, F32, F64}
+use Rattle.wk_edit.specs.Pieces.{pieces}
+
+-- the `?` of options
+infixl 10 ◌>>=◌
+abbrev pub ◌>>=◌ : {A B : Type 0} → Option A → (A → Option B) → Option B
+None >>= f = None
+Some x >>= f = f x
+
+-- ---- types
+
+-- the value type of a name
+abbrev pub type_named : List ℕ → Option ValType
+type_named w =
+    if bytes_eq w (codes "i32") then Some I32
+    else if bytes_eq w (codes "i64") then Some I64
+    else if bytes_eq w (codes "f32") then Some F32
+    else if bytes_eq w (codes "f64") then Some F64
+    else None
+
+-- the value types of names, if each is the name of one
+unfoldable pub all_named : List (List ℕ) → Option (List ValType)
+all_named [] = Some []
+all_named (w ∷ ws) = do
+  t ← type_named w
+  ts ← all_named ws
+  Some (t ∷ ts)
+
+-- `-` is no types; else names joined by `,`
+abbrev pub types_of : List ℕ → Option (List ValType)
+types_of w = if bytes_eq w (codes "-") then Some [] else all_named (pieces 44 w)
+
+-- ---- names
+
+-- a byte that is seen in print and is no space
+abbrev pub is_graphic : ℕ → Bool
+is_graphic x = nat_le 33 x && nat_le x 126
+
+-- bytes that are their own name
+abbrev pub is_plain : List ℕ → Bool
+is_plain w = not (length w == 0) && list_all is_graphic w
+
+-- the bytes that were spelled in hexadecimal, if they are UTF-8
+abbrev pub utf8_of : Result (List ℕ) FromHexError → Option (List ℕ)
+utf8_of (Ok bytes) = if is_utf8 bytes then Some bytes else None
+utf8_of (Err e) = None
+
+-- `x:` and the bytes in hexadecimal; else the word itself
+abbrev pub name_of : List ℕ → Option (List ℕ)
+name_of w = if bytes_eq (take 2 w) (codes "x:") then utf8_of (decode_of (drop 2 w)) else if is_plain w then Some w else None

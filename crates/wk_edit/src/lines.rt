@@ -1,0 +1,60 @@
+//! The lines of a report.
+
+ghost use Rattle.std.specs.Prelude.{◌≡◌, ◌++◌, IfOk, OnOk, string_bytes};
+ghost use Rattle.wk_edit.specs.ReportText.{malformed_text, reply_line, report_text, script_text, verdict_line};
+
+use crate::fault::ScriptFault;
+use std::alloc::{AllocError, Global};
+use wk_bytes::ReadFault;
+use wk_check::Verdict;
+use wk_session::Reply;
+
+fn put_reply(alloc: Global, text: &mut String, number: u64, reply: &Reply) -> Result<(), AllocError>
+    ensures { OnOk result (string_bytes text.new ≡ string_bytes text.old ++ reply_line number reply.now) }
+{
+    let line = match reply {
+        Ok(_) => format!(in alloc; "{number} ok\n")?,
+        Err(fault) => format!(in alloc; "{number} refused {fault}\n")?,
+    };
+    text.push_str(line.as_str())
+}
+
+fn verdict_line(alloc: Global, verdict: &Verdict) -> Result<String, AllocError>
+    ensures { IfOk result (λ line. string_bytes line ≡ verdict_line verdict.now) }
+{
+    format!(in alloc; "{verdict}\n")
+}
+
+/// The report of a module that cannot be read: `malformed R5 IntTooLarge at 0x00000009`.
+pub(crate) fn malformed(alloc: Global, fault: &ReadFault) -> Result<String, AllocError>
+    ensures { IfOk result (λ line. string_bytes line ≡ malformed_text fault.now) }
+{
+    format!(in alloc; "malformed {fault}\n")
+}
+
+/// The report of a script that cannot be read: `script S1 BadWord line 3`.
+pub(crate) fn refused_script(alloc: Global, fault: &ScriptFault) -> Result<String, AllocError>
+    ensures { IfOk result (λ line. string_bytes line ≡ script_text fault.now) }
+{
+    format!(in alloc; "script {fault}\n")
+}
+
+/// The report of a run: for each edit, counted from 1, `1 ok` or `2 refused E3 NoSuchCustom`, and last
+/// `valid`, or `invalid` and the fault. Each line ends with LF.
+pub(crate) fn report(
+    alloc: Global,
+    replies: &[Reply],
+    verdict: &Verdict,
+) -> Result<String, AllocError>
+    ensures { IfOk result (λ text. string_bytes text ≡ report_text 1 replies.now verdict.now) }
+{
+    let mut text = String::new(alloc);
+    let mut number = 0;
+    for reply in replies {
+        number += 1;
+        put_reply(alloc, &mut text, number, reply)?;
+    }
+    let last = verdict_line(alloc, verdict)?;
+    text.push_str(last.as_str())?;
+    Ok(text)
+}
