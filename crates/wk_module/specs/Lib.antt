@@ -6,3 +6,4 @@ pub mod Modules
 pub mod Reading
 pub mod Writing
 pub mod ShapeLaws
+pub mod WritingLaws

@@ -1,9 +1,14 @@
 //! A WebAssembly 1.0 module: its lists, its binary format, and its one written form.
 #![tactic(auto)]
 
+mod fault;
+mod length;
 mod module;
 mod settle;
 mod types;
+mod writable;
 
+pub use fault::EncodeFault;
+pub use length::encoded_len;
 pub use module::Module;
 pub use types::{Custom, FuncType, Parts, ValType};
