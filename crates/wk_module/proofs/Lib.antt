@@ -9,3 +9,4 @@ pub mod WrittenSections
 pub mod WrittenCustoms
 pub mod WrittenSpells
 pub mod Fitting
+pub mod Lengths

@@ -1,13 +1,18 @@
 //! A WebAssembly 1.0 module: its lists, its binary format, and its one written form.
 #![tactic(auto)]
 
+mod fault;
+mod length;
 mod module;
 mod readable_types;
 mod reader;
 mod reading;
 mod settle;
 mod types;
+mod writable;
 
+pub use fault::EncodeFault;
+pub use length::encoded_len;
 pub use module::Module;
 pub use reader::{one_module, read_parts};
 pub use types::{Custom, FuncType, Parts, ValType};

@@ -1,0 +1,120 @@
+-- Laws of the written form: its parts have bytes, and how long it is.
+use Rattle.std.proofs.Common.{◌≡◌, ℕ, zero, suc, ◌+◌, ◌<◌, ◌≤◌, ◌==◌, Bool, false, inl, inr, List, [], ◌∷◌, ◌++◌, length, filter, if◌then◌else◌, refl, ap, ◌∙◌, arith, length-append}
+use Rattle.std.proofs.lemmas.Bool.{cases_Bool, cases_eq, cond-false, cond_both, eq-eqb, ne_eqb}
+use Rattle.std.proofs.lemmas.List.{append-nil}
+use Rattle.std.specs.List.{flat_map, range_with_len}
+use Rattle.wk_bytes.specs.Short.{short}
+use Rattle.wk_bytes.specs.Frames.{magic, version}
+use Rattle.wk_bytes.specs.ShortLaws.{short-some}
+use Rattle.wk_bytes.specs.ListWords.{is_empty}
+use Rattle.wk_module.specs.declared.types.Parts.{Parts}
+use Rattle.wk_module.specs.declared.types.Custom.{Custom}
+use Rattle.wk_module.specs.Vectors.{written_vector}
+use Rattle.wk_module.specs.Customs.{written_custom}
+use Rattle.wk_module.specs.Shape.{IsInOrderFrom}
+use Rattle.wk_module.specs.Writing.{framed, vector_section, section_of, customs_at, section_and_customs, ids, encoded}
+
+-- ---- no written form is empty
+
+pub some_short : (n : ℕ) → 0 < length (short n)
+some_short n = let s = short-some n in omega (arith, ap length s.2)
+
+pub some_vector : {A : Type 0} (written : A → List ℕ) (xs : List A) → 0 < length (written_vector written xs)
+some_vector written xs = omega (arith, length-append (short (length xs)) (flat_map written xs), some_short (length xs))
+
+pub some_custom : (c : Custom) → 0 < length (written_custom c)
+some_custom c = omega (arith, length-append (short (length c.name)) (c.name ++ c.bytes), some_short (length c.name))
+
+-- ---- a section that is not left out
+
+pub vector_section-some : {A : Type 0} (id : ℕ) (written : A → List ℕ) (xs : List A) → is_empty xs ≡ false → vector_section id written xs ≡ framed id (written_vector written xs)
+vector_section-some id written xs full = cond-false (is_empty xs) [] (framed id (written_vector written xs)) full
+
+-- ---- lists end to end
+
+pub length-flat_map_le : {A : Type 0} (f g : A → List ℕ) → ((x : A) → length (f x) ≤ length (g x)) → (xs : List A) → length (flat_map f xs) ≤ length (flat_map g xs)
+length-flat_map_le f g le [] = omega arith
+length-flat_map_le f g le (x ∷ xs) = omega (arith, le x, length-flat_map_le f g le xs, length-append (f x) (flat_map f xs), length-append (g x) (flat_map g xs))
+
+-- as many bytes as items, at least
+pub length_le_flat_map : {A : Type 0} (f : A → List ℕ) → ((x : A) → 0 < length (f x)) → (xs : List A) → length xs ≤ length (flat_map f xs)
+length_le_flat_map f some [] = omega arith
+length_le_flat_map f some (x ∷ xs) = omega (arith, some x, length_le_flat_map f some xs, length-append (f x) (flat_map f xs))
+
+-- pieces one after the other are as long whatever their order
+length-flat_map_both : {A : Type 0} (f g : A → List ℕ) (xs : List A) → length (flat_map (λ x. f x ++ g x) xs) ≡ length (flat_map f xs) + length (flat_map g xs)
+length-flat_map_both f g [] = omega arith
+length-flat_map_both f g (x ∷ xs) =
+    omega (arith, length-flat_map_both f g xs, length-append (f x) (flat_map f xs), length-append (g x) (flat_map g xs), length-append (f x) (g x), length-append (f x ++ g x) (flat_map (λ x. f x ++ g x) xs))
+
+length-flat_map_same : {A : Type 0} (f g : A → List ℕ) → ((x : A) → f x ≡ g x) → (xs : List A) → length (flat_map f xs) ≡ length (flat_map g xs)
+length-flat_map_same f g same [] = refl
+length-flat_map_same f g same (x ∷ xs) =
+    omega (arith, ap length (same x), length-flat_map_same f g same xs, length-append (f x) (flat_map f xs), length-append (g x) (flat_map g xs))
+
+-- ---- customs
+
+-- a custom section as it stands in the written form
+abbrev pub written_frame : Custom → List ℕ
+written_frame c = framed 0 (written_custom c)
+
+-- a piece, at the one place where it stands
+abbrev piece_at : ℕ → List ℕ → ℕ → List ℕ
+piece_at place piece id = if place == id then piece else []
+
+piece_after : (place : ℕ) (piece : List ℕ) (n from : ℕ) → place < from → flat_map (piece_at place piece) (range_with_len from n) ≡ []
+piece_after place piece zero from lt = refl
+piece_after place piece (suc n) from lt =
+    rw (ne_eqb place from (omega arith)) (piece_after place piece n (from + 1) (omega arith))
+
+-- over all ids a piece stands once
+piece_once : (place : ℕ) (piece : List ℕ) (n from : ℕ) → from ≤ place → place < from + n → flat_map (piece_at place piece) (range_with_len from n) ≡ piece
+piece_once place piece zero from le lt = absurd (omega arith)
+piece_once place piece (suc n) from le lt =
+    elim (cases_eq place from) [
+      | inl same ↦ rw (eq-eqb place from same) (ap (λ (later : List ℕ). piece ++ later) (piece_after place piece n (from + 1) (omega arith)) ∙ append-nil piece)
+      | inr other ↦ rw (ne_eqb place from other) (piece_once place piece n (from + 1) (omega arith) (omega arith))
+    ]
+
+customs_at-cons : (c : Custom) (cs : List Custom) (id : ℕ) → customs_at id (c ∷ cs) ≡ piece_at c.place (written_frame c) id ++ customs_at id cs
+customs_at-cons c cs id =
+    elim (cases_Bool (c.place == id)) [
+      | inl t ↦ rw t refl
+      | inr f ↦ rw f refl
+    ]
+
+-- customs take as many bytes at their places as one after the other
+length-customs : (least : ℕ) (cs : List Custom) → IsInOrderFrom least cs → length (flat_map (λ id. customs_at id cs) ids) ≡ length (flat_map written_frame cs)
+length-customs least [] o = refl
+length-customs least (c ∷ cs) o =
+    let first = piece_at c.place (written_frame c) in
+    let once : flat_map first ids ≡ written_frame c = piece_once c.place (written_frame c) 12 0 (omega arith) (omega (arith, o.1)) in
+    let split = length-flat_map_same (λ id. customs_at id (c ∷ cs)) (λ id. first id ++ customs_at id cs) (customs_at-cons c cs) ids in
+    let both = length-flat_map_both first (λ id. customs_at id cs) ids in
+    omega (arith, split, both, ap length once, length-customs c.place cs o.2, length-append (written_frame c) (flat_map written_frame cs))
+
+fewer_customs : (keep : Custom → Bool) (id : ℕ) (cs : List Custom) → length (customs_at id (filter keep cs)) ≤ length (customs_at id cs)
+fewer_customs keep id [] = omega arith
+fewer_customs keep id (c ∷ cs) =
+    let rest = fewer_customs keep id cs in
+    let first = piece_at c.place (written_frame c) id in
+    let with_c : length (customs_at id (c ∷ cs)) ≡ length first + length (customs_at id cs) = ap length (customs_at-cons c cs id) ∙ length-append first (customs_at id cs) in
+    let with_kept : length (customs_at id (c ∷ filter keep cs)) ≡ length first + length (customs_at id (filter keep cs)) = ap length (customs_at-cons c (filter keep cs) id) ∙ length-append first (customs_at id (filter keep cs)) in
+    cond_both (keep c) (c ∷ filter keep cs) (filter keep cs) (λ ds. length (customs_at id ds) ≤ length (customs_at id (c ∷ cs))) (λ t. omega (arith, rest, with_c, with_kept)) (λ f. omega (arith, rest, with_c))
+
+-- ---- modules
+
+-- The length of a written form: where the customs stand makes no difference.
+pub length-encoded : (m : Parts) → IsInOrderFrom 0 m.customs → length (encoded m) ≡ 8 + length (flat_map (section_of m) ids) + length (flat_map written_frame m.customs)
+unfolding encoded
+length-encoded m o =
+    let both = length-flat_map_both (section_of m) (λ id. customs_at id m.customs) ids in
+    omega (arith, both, length-customs 0 m.customs o, length-append (magic ++ version) (flat_map (section_and_customs m) ids))
+
+-- without some of its customs a module is no longer
+pub length-encoded_filter : (keep : Custom → Bool) (m : Parts) → length (encoded (record m { customs = filter keep m.customs })) ≤ length (encoded m)
+unfolding encoded
+length-encoded_filter keep m =
+    let fewer : Parts = record m { customs = filter keep m.customs } in
+    let le = length-flat_map_le (section_and_customs fewer) (section_and_customs m) (λ id. omega (arith, fewer_customs keep id m.customs, length-append (section_of m id) (customs_at id m.customs), length-append (section_of m id) (customs_at id (filter keep m.customs)))) ids in
+    omega (arith, le, length-append (magic ++ version) (flat_map (section_and_customs m) ids), length-append (magic ++ version) (flat_map (section_and_customs fewer) ids))
