@@ -1,5 +1,7 @@
 -- The written form of a module is no longer than any bytes that spell it.
-use Rattle.std.proofs.Common.{◌≡◌, ◌≢◌, ℕ, zero, suc, ◌+◌, ◌/◌, ◌<◌, ◌≤◌, ◌==◌, max, inl, inr, List, [], ◌∷◌, ◌++◌, length, refl, ap, arith, length-append}
+use Rattle.std.proofs.Common.{◌≡◌, ◌≢◌, ℕ, zero, suc, ◌+◌, ◌/◌, ◌<◌, ◌≤◌, ◌==◌, max, inl, inr, List, [], Result, Ok, Err, ◌∷◌, ◌++◌, length, refl, ap, arith, length-append}
+use Rattle.std.specs.Prelude.{IfOk}
+use Rattle.wk_bytes.specs.declared.fault.ReadFault.{ReadFault}
 use Rattle.std.specs.List.{filter, flat_map}
 use Rattle.std.proofs.lemmas.Bool.{cases_Bool, cases_eq, cases_lt, eq-eqb, ne_eqb}
 use Rattle.wk_bytes.specs.Short.{short}
@@ -151,3 +153,7 @@ fitting b m spelled =
 -- a module that is spelled fits
 pub spelled_fits : (b : List ℕ) (m : Parts) → Spells b m → Fits m
 spelled_fits b m spelled = omega (arith, fitting b m spelled, spelled.framing.fits)
+
+pub answer_fits : (b : List ℕ) (r : Result Parts ReadFault) → IfOk r (λ m. Spells b m) → IfOk r (λ m. Fits m)
+answer_fits b (Ok m) found = spelled_fits b m found
+answer_fits b (Err e) found = tt

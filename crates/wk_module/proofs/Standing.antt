@@ -202,6 +202,6 @@ pub module_stands : (b : List ℕ) (e : ReadFault) → module_at b ≡ Err e →
 unfolding module_at
 module_stands b e h = sections_stand b at_start (sections_of b) e (sections_of-stand b) h
 
-pub answer_stands : {X : Type 0} (view : X → Parts) (b : List ℕ) (r : Result X ReadFault) → Reads view r (module_at b) → IfErr r (λ e. e.kind ≢ Memory → StandsInModule b e)
-answer_stands view b (Ok m) reads = tt
-answer_stands view b (Err e) reads = λ other. module_stands b e (unless_memory e e.kind (module_at b) other reads)
+pub answer_stands : (b : List ℕ) (r : Result Parts ReadFault) → Reads (λ m. m) r (module_at b) → IfErr r (λ e. e.kind ≢ Memory → StandsInModule b e)
+answer_stands b (Ok m) reads = tt
+answer_stands b (Err e) reads = λ other. module_stands b e (unless_memory e e.kind (module_at b) other reads)

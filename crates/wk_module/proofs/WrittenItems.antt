@@ -16,7 +16,7 @@ pub record IsWritten {A : Type 0} (Spells : List ℕ → A → Type 0) (written 
   pub least : (b : List ℕ) (x : A) → Spells b x → length (written x) ≤ length b
 
 pub short-longer : (n : ℕ) → 0 < length (short n)
-short-longer n = let s = short-some n in rw s.2 (omega arith)
+short-longer n = short-some n
 
 module _ {A : Type 0} (Spells : List ℕ → A → Type 0) (written : A → List ℕ) (one : IsWritten Spells written) where
   items_longer : (xs : List A) → length xs ≤ length (flat_map written xs)

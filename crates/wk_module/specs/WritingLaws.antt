@@ -17,7 +17,7 @@ use Rattle.wk_module.specs.Writing.{framed, vector_section, section_of, customs_
 -- ---- no written form is empty
 
 pub some_short : (n : ℕ) → 0 < length (short n)
-some_short n = let s = short-some n in omega (arith, ap length s.2)
+some_short n = short-some n
 
 pub some_vector : {A : Type 0} (written : A → List ℕ) (xs : List A) → 0 < length (written_vector written xs)
 some_vector written xs = omega (arith, length-append (short (length xs)) (flat_map written xs), some_short (length xs))

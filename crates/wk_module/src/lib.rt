@@ -14,7 +14,7 @@ mod writable;
 pub use fault::EncodeFault;
 pub use length::encoded_len;
 pub use module::Module;
-pub use reader::{one_module, read_parts};
+pub use reader::{one_module, read};
 pub use types::{Custom, FuncType, Parts, ValType};
 
 #[cfg(test)]

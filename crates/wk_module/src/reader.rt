@@ -5,9 +5,11 @@ ghost use Rattle.wk_bytes.specs.Raw.{raw_view};
 ghost use Rattle.wk_module.specs.declared.types.Parts.{Parts as Lists};
 ghost use Rattle.wk_module.specs.Customs.{custom_at};
 ghost use Rattle.wk_module.specs.ModuleLaws.{SpellOne};
-ghost use Rattle.wk_module.specs.Modules.{Spells, SpellsNone};
+ghost use Rattle.wk_module.specs.Modules.{Spells, SpellsNone, StandsInModule};
+ghost use Rattle.wk_module.specs.Writing.{Fits};
 ghost use Rattle.wk_module.specs.Reading.{Reads, at_start, section_end, with_section, is_unknown_at, frame_fault, module_at};
 
+use crate::module::Module;
 use crate::reading::read_contents;
 use crate::types::{Custom, Parts};
 use std::alloc::Global;
@@ -126,13 +128,36 @@ fn read_sections(alloc: Global, bytes: &[u8]) -> Result<Parts, ReadFault>
     Ok(parts)
 }
 
-pub fn read_parts(alloc: Global, bytes: &[u8]) -> Result<Parts, ReadFault>
+// The lists of a module, as they are spelled.
+pub(crate) fn read_parts(alloc: Global, bytes: &[u8]) -> Result<Parts, ReadFault>
+    ensures exact { Reads (λ m. m) result (module_at bytes.now) }
+    ensures found { IfOk result (λ m. Spells bytes.now m) }
+{
+    read_sections(alloc, bytes)
+}
+
+// What is spelled is settled already, so that it is the module.
+fn read_module(alloc: Global, bytes: &[u8]) -> Result<Module, ReadFault>
+    ensures { Reads (λ m. m) result (module_at bytes.now) }
+{
+    let parts = read_parts(alloc, bytes)?;
+    Ok(Module::of(parts))
+}
+
+/// Reads a module (5.5.16): the header, then custom sections and the type section, each read to its end before the
+/// next one's id. The ids 2 to 11 are not read yet: such an id is `UnknownSection`, at the id byte.
+///
+/// The module is the only one that the bytes spell. Where they spell none the answer is the first fault from left to
+/// right, at its offset in `bytes`; where a growth is refused it is `Memory`, at 0.
+pub fn read(alloc: Global, bytes: &[u8]) -> Result<Module, ReadFault>
     ensures exact { Reads (λ m. m) result (module_at bytes.now) }
     ensures found { IfOk result (λ m. Spells bytes.now m) }
     ensures only { IfOk result (λ m. (n : Lists) → Spells bytes.now n → n ≡ m) }
+    ensures fits { IfOk result (λ m. Fits m) }
     ensures refused { IfErr result (λ e. e.kind ≢ ReadKind.Memory → SpellsNone bytes.now) }
+    ensures fault { IfErr result (λ e. e.kind ≢ ReadKind.Memory → StandsInModule bytes.now e) }
 {
-    read_sections(alloc, bytes)
+    read_module(alloc, bytes)
 }
 
 /// No bytes spell two modules: the law alone, without any work.
