@@ -1,1 +1,4 @@
 pub mod RunSteps
+pub mod Outcomes
+pub mod TypeEdits
+pub mod CustomEdits

@@ -12,7 +12,20 @@ use crate::edit::EditFault;
 use std::alloc::Global;
 use std::mem;
 use wk_bytes::{Items, Text};
-use wk_module::{Custom, FuncType, Module, Parts};
+use wk_check::{Verdict, judge};
+use wk_module::{Custom, FuncType, Module, Parts, encoded_len};
+
+// The verdict and the length of a module, where it is not too large.
+pub(crate) fn appraise(alloc: Global, module: &Module) -> Result<(Verdict, u32), EditFault>
+    ensures ok { IfOk result (λ kept. IsKept «module».now kept.0 kept.1) }
+    ensures refused { IfErr result (λ e. e ≢ EditFault.Memory → fitting «module».now ≡ Err e) }
+{
+    let Some(len) = encoded_len(module) else {
+        return Err(EditFault::TooLarge);
+    };
+    let verdict = judge(alloc, module)?;
+    Ok((verdict, len))
+}
 
 // The parts of a module, which is empty until it is given parts again.
 fn take_parts(alloc: Global, module: &mut Module) -> Parts
@@ -28,6 +41,7 @@ pub(crate) fn push_type(alloc: Global, module: &mut Module, ty: FuncType) -> Res
     ensures ok { OnOk result («module».new ≡ with_type ty «module».old) }
     ensures err { OnErr result («module».new ≡ «module».old) }
     ensures refused { IfErr result (λ e. e ≡ EditFault.Memory) }
+    ensures shaped { IsShaped «module».old }
 {
     let mut parts = take_parts(alloc, module);
     let pushed = parts.types.push(ty);

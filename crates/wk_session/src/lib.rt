@@ -4,6 +4,9 @@
 mod changes;
 mod display;
 mod edit;
+mod session;
 mod write;
 
 pub use edit::{Edit, EditFault, Reply, Work};
+pub use session::Session;
+pub use write::WriteFault;

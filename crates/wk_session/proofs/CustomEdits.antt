@@ -1,0 +1,21 @@
+-- Customs removed.
+use Rattle.std.proofs.Common.{◌≡◌, ◌≢◌, ℕ, ◌<◌, ◌≤◌, List, not, length, None, refl, sym, ap, ◌∙◌, arith}
+use Rattle.wk_bytes.specs.Frames.{limit}
+use Rattle.wk_module.specs.declared.types.Parts.{Parts}
+use Rattle.wk_module.specs.Shape.{settle, IsShaped}
+use Rattle.wk_module.specs.ShapeLaws.{filter_shaped}
+use Rattle.wk_module.specs.Writing.{encoded, limited}
+use Rattle.wk_module.specs.WritingLaws.{length-encoded_filter}
+use Rattle.wk_check.specs.declared.fault.Verdict.{Verdict}
+use Rattle.wk_session.specs.Edits.{is_named, without_customs}
+use Rattle.wk_session.specs.Kept.{IsKept}
+use Rattle.wk_session.proofs.Outcomes.{limited-some, limited-none}
+
+-- a module that is kept is not too large without some of its customs
+pub stripped_fits : (name : List ℕ) (m n : Parts) (v : Verdict) (len : ℕ) → IsShaped m → n ≡ settle (without_customs name m) → IsKept m v len → limited (length (encoded n)) ≢ None
+stripped_fits name m n v len shaped is kept = λ none.
+    let still : n ≡ without_customs name m = is ∙ (filter_shaped (λ c. not (is_named name c)) m shaped).settled in
+    let shorter : length (encoded (without_customs name m)) ≤ length (encoded m) = length-encoded_filter (λ c. not (is_named name c)) m in
+    let large = limited-none (length (encoded n)) none in
+    let fits = limited-some (length (encoded m)) len kept.len_is in
+    omega (arith, large, fits, shorter, ap (λ (p : Parts). length (encoded p)) still)

@@ -1,0 +1,144 @@
+//! A session over a module.
+ghost use Rattle.std.specs.Prelude.{◌≡◌, ◌≢◌, ◌<◌, ◌+◌, ◌-◌, ◌^◌, IfOk, IfErr, OnOk, OnErr, length};
+ghost use Rattle.wk_module.specs.declared.types.Parts.{Parts};
+ghost use Rattle.wk_module.specs.Modules.{Spells, SpellsNone, StandsInModule};
+ghost use Rattle.wk_module.specs.Reading.{Reads, module_at};
+ghost use Rattle.wk_module.specs.Writing.{encoded};
+ghost use Rattle.wk_check.specs.Verdict.{module_verdict};
+ghost use Rattle.wk_session.specs.Runs.{reply_of, after_one, is_memory, replies_of, after, refused_for_memory};
+
+use crate::changes::{appraise, has_custom, pop_type, push_type, remove_customs};
+use crate::edit::{Edit, EditFault, Reply, Work};
+use std::alloc::Global;
+use std::marker::Model;
+use wk_bytes::{OutOfMemory, ReadFault, ReadKind, Text};
+use wk_check::{Verdict, judge};
+use wk_module::{FuncType, Module, encoded_len, read};
+
+/// A module under edits, seen by contracts as its plain lists.
+#[derive(Drop)]
+pub struct Session {
+    alloc: Global,
+    module: Module,
+    verdict: Verdict,
+    len: u32,
+}
+
+impl Model for Session {
+    ghost use Rattle.wk_module.specs.declared.types.Parts.{Parts};
+    ghost use Rattle.wk_session.specs.Kept.{IsKept};
+
+    ghost Value = { Parts };
+
+    ghost view = { λ s. s.«module» };
+
+    ghost invariant = { λ s. IsKept s.«module» s.verdict s.len };
+}
+
+impl Session {
+    /// A session over the module that the bytes spell.
+    pub fn open(alloc: Global, bytes: &[u8]) -> Result<Session, ReadFault>
+        ensures exact { Reads (λ m. m) result (module_at bytes.now) }
+        ensures found { IfOk result (λ m. Spells bytes.now m) }
+        ensures only { IfOk result (λ m. (n : Parts) → Spells bytes.now n → n ≡ m) }
+        ensures refused { IfErr result (λ e. e.kind ≢ ReadKind.Memory → SpellsNone bytes.now) }
+        ensures fault { IfErr result (λ e. e.kind ≢ ReadKind.Memory → StandsInModule bytes.now e) }
+    {
+        let module = read(alloc, bytes)?;
+        let verdict = judge(alloc, &module)?;
+        let Some(len) = encoded_len(&module) else {
+            unreachable!()
+        };
+        Ok(Session {
+            alloc,
+            module,
+            verdict,
+            len,
+        })
+    }
+
+    /// The verdict of the module.
+    pub fn verdict(&self) -> &Verdict
+        ensures { result.now ≡ module_verdict self.now }
+    {
+        &self.verdict
+    }
+
+    /// The length of the written form, in bytes: at most 2,147,483,647.
+    pub fn encoded_len(&self) -> u32
+        ensures { result ≡ length (encoded self.now) }
+    {
+        self.len
+    }
+
+    // Appends a type.
+    fn add_type(&mut self, ty: &FuncType) -> Reply
+        ensures reply { result ≡ reply_of (Edit.Ty ty.now) (is_memory result) self.old }
+        ensures module_is { self.new ≡ after_one (Edit.Ty ty.now) (is_memory result) self.old }
+    {
+        let copy = ty.copy(self.alloc)?;
+        push_type(self.alloc, &mut self.module, copy)?;
+        match appraise(self.alloc, &self.module) {
+            Ok((verdict, len)) => {
+                self.verdict = verdict;
+                self.len = len;
+                Ok(Work {
+                    typed: 0,
+                    encoded: 0,
+                    sections: 1,
+                })
+            }
+            Err(fault) => {
+                pop_type(self.alloc, &mut self.module);
+                Err(fault)
+            }
+        }
+    }
+
+    // Removes the custom sections of a name.
+    fn strip_custom(&mut self, name: &Text) -> Reply
+        ensures reply { result ≡ reply_of (Edit.StripCustom name.now) (is_memory result) self.old }
+        ensures module_is { self.new ≡ after_one (Edit.StripCustom name.now) (is_memory result) self.old }
+    {
+        if !has_custom(self.module.parts(), name) {
+            return Err(EditFault::NoSuchCustom);
+        }
+        remove_customs(self.alloc, &mut self.module, name);
+        let Some(len) = encoded_len(&self.module) else {
+            unreachable!()
+        };
+        self.len = len;
+        Ok(Work {
+            typed: 0,
+            encoded: 0,
+            sections: 0,
+        })
+    }
+
+    /// Makes one edit. A refusal leaves the session as it was.
+    pub fn apply(&mut self, edit: &Edit) -> Reply
+        ensures reply { result ≡ reply_of edit.now (is_memory result) self.old }
+        ensures module_is { self.new ≡ after_one edit.now (is_memory result) self.old }
+    {
+        match edit {
+            Edit::Ty(ty) => self.add_type(ty),
+            Edit::StripCustom(name) => self.strip_custom(name),
+        }
+    }
+
+    /// Makes edits in order, and answers each. The room for the replies comes first: where it is refused, nothing
+    /// has changed.
+    pub fn run(&mut self, edits: &[Edit]) -> Result<Vec<Reply>, OutOfMemory>
+        ensures replies { IfOk result (λ rs. rs.items ≡ replies_of edits.now (refused_for_memory rs.items) self.old) }
+        ensures count { IfOk result (λ rs. length rs.items ≡ length edits.now) }
+        ensures module_is { IfOk result (λ rs. self.new ≡ after edits.now (refused_for_memory rs.items) self.old) }
+        ensures err { OnErr result (self.new ≡ self.old) }
+    {
+        let mut replies = Vec::with_capacity(self.alloc, edits.len())?;
+        for edit in edits {
+            let reply = self.apply(edit);
+            replies.push_reserved(reply);
+        }
+        Ok(replies)
+    }
+}
