@@ -7,8 +7,10 @@ mod module;
 mod settle;
 mod types;
 mod writable;
+mod writer;
 
 pub use fault::EncodeFault;
 pub use length::encoded_len;
 pub use module::Module;
 pub use types::{Custom, FuncType, Parts, ValType};
+pub use writer::encode;
