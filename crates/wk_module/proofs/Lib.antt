@@ -10,3 +10,4 @@ pub mod WrittenCustoms
 pub mod WrittenSpells
 pub mod Fitting
 pub mod Lengths
+pub mod WritingSteps

@@ -1,5 +1,5 @@
 -- Laws of settling, and what keeps a module shaped.
-use Rattle.std.proofs.Common.{◌≡◌, ℕ, zero, suc, ◌≤◌, Bool, true, false, not, inl, inr, List, [], ◌∷◌, ◌++◌, map, filter, refl, ap, ◌∙◌, arith}
+use Rattle.std.proofs.Common.{◌≡◌, ℕ, zero, suc, ◌^◌, ◌<◌, ◌+◌, ◌≤◌, Bool, true, false, not, inl, inr, List, [], ◌∷◌, ◌++◌, length, map, filter, refl, ap, ◌∙◌, arith, length-append}
 use Rattle.std.proofs.lemmas.Bool.{cases_Bool, cases_lt, cond-true, cond-false, cond_both}
 use Rattle.std.proofs.Common.{slice_index_or}
 use Rattle.wk_bytes.specs.ListWords.{is_empty}
@@ -127,6 +127,10 @@ second_more a b (suc (suc id)) h t = t
 filled_type : (t : FuncType) (m : Parts) (id : ℕ) → is_filled m id ≡ true → is_filled (record m { types = m.types ++ t ∷ [] }) id ≡ true
 filled_type t m id filled = second_more (not (is_empty m.types)) (not (is_empty (m.types ++ t ∷ []))) id (λ _. some_types t m.types) filled
 
+-- settling twice settles once
+pub settle-settle : (m : Parts) → settle (settle m) ≡ settle m
+settle-settle m = ap (λ (cs : List Custom). record m { customs = cs }) (settled-settled (is_filled m) m.customs)
+
 -- a formed module, settled, is shaped
 pub settle_shaped : (m : Parts) → IsFormed m → IsShaped (settle m)
 settle_shaped m f = record {
@@ -135,12 +139,8 @@ settle_shaped m f = record {
     order = settled_in_order (is_filled m) 0 m.customs f.order;
     names = settled_named (is_filled m) m.customs f.names;
   };
-  settled = ap (λ (cs : List Custom). record m { customs = cs }) (settled-settled (is_filled m) m.customs);
+  settled = settle-settle m;
 }
-
--- settling twice settles once
-pub settle-settle : (m : Parts) → settle (settle m) ≡ settle m
-settle-settle m = ap (λ (cs : List Custom). record m { customs = cs }) (settled-settled (is_filled m) m.customs)
 
 -- a module with some of its customs is shaped
 pub filter_shaped : (keep : Custom → Bool) (m : Parts) → IsShaped m → IsShaped (record m { customs = filter keep m.customs })
@@ -160,3 +160,10 @@ pub settle-type : (t : FuncType) (m : Parts) → settle m ≡ m → settle (reco
 settle-type t m settled =
     let more : Parts = record m { types = m.types ++ t ∷ [] } in
     ap (λ (cs : List Custom). record more { customs = cs }) (settled_more (is_filled m) (is_filled more) (filled_type t m) m.customs (ap (λ (n : Parts). n.customs) settled))
+
+-- a module with one more type is shaped, where it has few
+pub type_shaped : (t : FuncType) (m : Parts) → length m.types + 1 < 2 ^ 32 → IsShaped m → IsShaped (record m { types = m.types ++ t ∷ [] })
+type_shaped t m few s = record {
+  formed = record { few = omega (arith, length-append m.types (t ∷ []), few); order = s.formed.order; names = s.formed.names };
+  settled = settle-type t m s.settled;
+}

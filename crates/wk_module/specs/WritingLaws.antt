@@ -59,7 +59,7 @@ abbrev pub written_frame : Custom → List ℕ
 written_frame c = framed 0 (written_custom c)
 
 -- a piece, at the one place where it stands
-abbrev piece_at : ℕ → List ℕ → ℕ → List ℕ
+abbrev pub piece_at : ℕ → List ℕ → ℕ → List ℕ
 piece_at place piece id = if place == id then piece else []
 
 piece_after : (place : ℕ) (piece : List ℕ) (n from : ℕ) → place < from → flat_map (piece_at place piece) (range_with_len from n) ≡ []
@@ -76,7 +76,7 @@ piece_once place piece (suc n) from le lt =
       | inr other ↦ rw (ne_eqb place from other) (piece_once place piece n (from + 1) (omega arith) (omega arith))
     ]
 
-customs_at-cons : (c : Custom) (cs : List Custom) (id : ℕ) → customs_at id (c ∷ cs) ≡ piece_at c.place (written_frame c) id ++ customs_at id cs
+pub customs_at-cons : (c : Custom) (cs : List Custom) (id : ℕ) → customs_at id (c ∷ cs) ≡ piece_at c.place (written_frame c) id ++ customs_at id cs
 customs_at-cons c cs id =
     elim (cases_Bool (c.place == id)) [
       | inl t ↦ rw t refl

@@ -10,6 +10,7 @@ mod reading;
 mod settle;
 mod types;
 mod writable;
+mod writer;
 
 pub use fault::EncodeFault;
 pub use length::encoded_len;
@@ -19,3 +20,4 @@ pub use types::{Custom, FuncType, Parts, ValType};
 
 #[cfg(test)]
 mod tests_reading;
+pub use writer::encode;
