@@ -1,5 +1,5 @@
 -- Modules are read as they are spelled.
-use Rattle.std.proofs.Common.{◌≡◌, ◌≢◌, ◌≤◌, ◌+◌, ℕ, Bool, true, false, cond, eqb, MatchBool, List, [], ◌∷◌, ◌++◌, length, map, max, Result, Ok, Err, refl, sym, ap, subst, ◌∙◌, append_assoc, inl, inr, ◌⊎◌, arith}
+use Rattle.std.proofs.Common.{◌≡◌, ◌≢◌, ◌≤◌, ℕ, Bool, cond, eqb, MatchBool, List, [], ◌∷◌, ◌++◌, length, map, max, Result, Ok, Err, refl, sym, ap, subst, ◌∙◌, append_assoc, inl, inr, ◌⊎◌, arith}
 use Rattle.std.proofs.lemmas.Bool.{eqb-true, ne_eqb, eq-eqb, MatchBool-at_true, MatchBool-at_false}
 use Rattle.std.proofs.lemmas.List.{append-nil}
 use Rattle.std.specs.Prelude.{IfOk, IfErr}
@@ -10,14 +10,14 @@ use Rattle.wk_bytes.specs.Leb.{◌>>=◌, SpellsU}
 use Rattle.wk_bytes.specs.LebLaws.{IsBytes, bind_ok, chosen, done, ok_is, one_SpellsU}
 use Rattle.wk_bytes.specs.ListWords.{is_empty}
 use Rattle.wk_bytes.specs.Span.{name_at}
-use Rattle.wk_bytes.specs.Frames.{Frame, Section, frame_of, SpellsFrame, SpellsFrames, SpellsFraming, magic, version, sections_of, without_fault}
+use Rattle.wk_bytes.specs.Frames.{Frame, Section, frame_of, SpellsFrame, SpellsFrames, magic, version, sections_of, without_fault}
 use Rattle.wk_bytes.specs.FrameLaws.{sections_of-found, sections_of-again}
 use Rattle.wk_module.specs.declared.types.FuncType.{FuncType}
 use Rattle.wk_module.specs.declared.types.Custom.{Custom}
 use Rattle.wk_module.specs.declared.types.Parts.{Parts}
 use Rattle.wk_module.specs.Vectors.{SpellsVector, vector_at, all_at}
 use Rattle.wk_module.specs.Types.{SpellsFuncType, functype_at}
-use Rattle.wk_module.specs.Customs.{SpellsCustom, IsEmptyFrame, IsPlaceAfter, SpellsCustoms, custom_at}
+use Rattle.wk_module.specs.Customs.{SpellsCustom, IsPlaceAfter, SpellsCustoms, custom_at}
 use Rattle.wk_module.specs.Modules.{SpellsSection, AreKnown, Spells, SpellsNone}
 use Rattle.wk_module.specs.ModuleLaws.{SpellOne}
 use Rattle.wk_module.specs.Reading.{FailsAs, Reads, Progress, at_start, section_end, with_types, with_section, sections_read, module_at}

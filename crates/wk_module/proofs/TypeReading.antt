@@ -1,5 +1,5 @@
 -- Types are read as they are spelled.
-use Rattle.std.proofs.Common.{◌≡◌, ℕ, cond, eqb, true, List, [], ◌∷◌, ◌++◌, Option, Some, None, Ok, Err, refl, sym, ap, subst, ◌∙◌, append_assoc, inl, inr}
+use Rattle.std.proofs.Common.{◌≡◌, ℕ, cond, eqb, true, List, [], ◌∷◌, ◌++◌, Some, None, Ok, Err, refl, ap, subst, ◌∙◌, inl, inr}
 use Rattle.std.proofs.lemmas.Bool.{eqb-true}
 use Rattle.wk_bytes.specs.declared.fault.ReadKind.TheVariants.{BadByte}
 use Rattle.wk_bytes.specs.Leb.{◌>>=◌, or_fail}
@@ -10,7 +10,7 @@ use Rattle.wk_module.specs.declared.types.ValType.TheVariants.{I32, I64, F32, F6
 use Rattle.wk_module.specs.declared.types.FuncType.{FuncType}
 use Rattle.wk_module.specs.Vectors.{SpellsVector, vector_at}
 use Rattle.wk_module.specs.Types.{SpellsValType, valtype_byte, valtype_of, valtype_at, SpellsFuncType, this_byte_at, functype_at}
-use Rattle.wk_module.proofs.VectorReading.{IsReader, IsBytes-after, vector_reader}
+use Rattle.wk_module.proofs.VectorReading.{IsReader, IsBytes-after, joined, both_fronts, same_read, behind, vector_reader}
 
 -- ---- a byte
 
@@ -18,6 +18,9 @@ byte_found : (end : ℕ) (bytes : List ℕ) (x : ℕ) (rest : List ℕ) → byte
 unfolding byte_at
 byte_found end [] x rest e = absurd cc
 byte_found end (y ∷ bytes) x rest e = ap (λ (p : ℕ × List ℕ). p.0 ∷ p.1) (ok_is _ _ e)
+
+byte_first : (bytes : List ℕ) (x y : ℕ) (a b : List ℕ) → bytes ≡ x ∷ a → x ≡ y → a ≡ b → bytes ≡ y ∷ b
+byte_first bytes x y a b e f g = e ∙ ap (λ (z : ℕ). z ∷ a) f ∙ ap (λ (c : List ℕ). y ∷ c) g
 
 byte_again : (end x : ℕ) (rest : List ℕ) → byte_at end (x ∷ rest) ≡ Ok (x, rest)
 unfolding byte_at
@@ -29,8 +32,8 @@ this_byte_found wanted end bytes x rest e =
     let a = bind_ok (byte_at end bytes) (λ x. cond (eqb x.0 wanted) (Ok x) (Err (fault BadByte end bytes))) (x, rest) e in
     elim (chosen (eqb a.0.0 wanted) (Ok a.0) (Err (fault BadByte end bytes)) (Ok (x, rest)) a.2) [
       | inl p ↦
-          let rests : a.0.1 ≡ rest = ap (λ (q : ℕ × List ℕ). q.1) (ok_is _ _ p.1) in
-          byte_found end bytes a.0.0 a.0.1 a.1 ∙ ap (λ (y : ℕ). y ∷ a.0.1) (eqb-true a.0.0 wanted p.0) ∙ ap (λ (c : List ℕ). wanted ∷ c) rests
+          let same = same_read a.0.0 x a.0.1 rest p.1 in
+          byte_first bytes a.0.0 wanted a.0.1 rest (byte_found end bytes a.0.0 a.0.1 a.1) (eqb-true a.0.0 wanted p.0) same.1
       | inr p ↦ absurd cc
     ]
 
@@ -63,15 +66,14 @@ unfolding valtype_at
 valtype_found end bytes t rest fits e =
     let a = bind_ok (byte_at end bytes) (λ x. or_fail (valtype_of x.0) (fault BadByte end bytes) >>= λ u. Ok (u, x.1)) (t, rest) e in
     let b = bind_ok (or_fail (valtype_of a.0.0) (fault BadByte end bytes)) (λ u. Ok (u, a.0.1)) (t, rest) a.2 in
-    let same : (b.0, a.0.1) ≡ (t, rest) = ok_is _ _ b.2 in
-    let byte : a.0.0 ≡ valtype_byte b.0 = byte_of a.0.0 b.0 (or_fail_ok _ _ b.0 b.1) in
-    (valtype_byte t ∷ [], refl, byte_found end bytes a.0.0 a.0.1 a.1 ∙ ap (λ (y : ℕ). y ∷ a.0.1) byte ∙ ap (λ (q : ValType × List ℕ). valtype_byte q.0 ∷ q.1) same)
+    let same = same_read b.0 t a.0.1 rest b.2 in
+    let byte : a.0.0 ≡ valtype_byte t = byte_of a.0.0 b.0 (or_fail_ok (valtype_of a.0.0) (fault BadByte end bytes) b.0 b.1) ∙ ap valtype_byte same.0 in
+    (valtype_byte t ∷ [], refl, byte_first bytes a.0.0 (valtype_byte t) a.0.1 rest (byte_found end bytes a.0.0 a.0.1 a.1) byte same.1)
 
 valtype_again : (end : ℕ) (b : List ℕ) (t : ValType) (rest : List ℕ) → SpellsValType b t → valtype_at end (b ++ rest) ≡ Ok (t, rest)
 unfolding valtype_at
 valtype_again end b t rest s =
-    let parts : b ++ rest ≡ valtype_byte t ∷ rest = ap (λ (c : List ℕ). c ++ rest) s in
-    ap (valtype_at end) parts ∙ rw (byte_again end (valtype_byte t) rest, valtype_of_byte t) refl
+    ap (λ (c : List ℕ). valtype_at end (c ++ rest)) s ∙ rw (byte_again end (valtype_byte t) rest, valtype_of_byte t) refl
 
 pub valtype_reader : IsReader SpellsValType valtype_at
 valtype_reader = record { found = valtype_found; again = valtype_again }
@@ -92,12 +94,10 @@ functype_found end bytes t rest fits e =
     let params = valtypes_reader.found end a.0.1 b.0.0 b.0.1 fits1 b.1 in
     let results = valtypes_reader.found end b.0.1 c.0.0 c.0.1 (IsBytes-after params.0 b.0.1 a.0.1 params.2 fits1) c.1 in
     let made : FuncType = record { params = b.0.0; results = c.0.0 } in
-    let same : (made, c.0.1) ≡ (t, rest) = ok_is _ _ c.2 in
-    let spelled : SpellsFuncType (96 ∷ (params.0 ++ results.0)) made = record { params = params.0; results = results.0; parts = refl; takes = params.1; gives = results.1 } in (
-      96 ∷ (params.0 ++ results.0),
-      subst (SpellsFuncType (96 ∷ (params.0 ++ results.0))) (ap (λ (q : FuncType × List ℕ). q.0) same) spelled,
-      form ∙ ap (λ (x : List ℕ). 96 ∷ x) (params.2 ∙ ap (λ (x : List ℕ). params.0 ++ x) (results.2 ∙ ap (λ (q : FuncType × List ℕ). results.0 ++ q.1) same) ∙ sym (append_assoc params.0 results.0 rest)),
-    )
+    let same = same_read made t c.0.1 rest c.2 in
+    let spelled : SpellsFuncType (96 ∷ (params.0 ++ results.0)) made = record { params = params.0; results = results.0; parts = refl {a = 96 ∷ (params.0 ++ results.0)}; takes = params.1; gives = results.1 } in
+    let behind_form : a.0.1 ≡ (params.0 ++ results.0) ++ rest = joined a.0.1 params.0 b.0.1 results.0 rest params.2 (behind b.0.1 results.0 c.0.1 rest results.2 same.1) in
+    (96 ∷ (params.0 ++ results.0), subst (SpellsFuncType (96 ∷ (params.0 ++ results.0))) {x = made} same.0 spelled, joined bytes (96 ∷ []) a.0.1 (params.0 ++ results.0) rest form behind_form)
 
 this_byte_again : (wanted end : ℕ) (rest : List ℕ) → eqb wanted wanted ≡ true → this_byte_at wanted end (wanted ∷ rest) ≡ Ok (wanted, rest)
 unfolding this_byte_at
@@ -106,8 +106,7 @@ this_byte_again wanted end rest is = rw (byte_again end wanted rest, is) refl
 functype_again : (end : ℕ) (b : List ℕ) (t : FuncType) (rest : List ℕ) → SpellsFuncType b t → functype_at end (b ++ rest) ≡ Ok (t, rest)
 unfolding functype_at
 functype_again end b t rest s =
-    let parts : b ++ rest ≡ 96 ∷ (s.params ++ (s.results ++ rest)) =
-    ap (λ (x : List ℕ). x ++ rest) s.parts ∙ ap (λ (x : List ℕ). 96 ∷ x) (append_assoc s.params s.results rest) in
+    let parts : b ++ rest ≡ 96 ∷ (s.params ++ (s.results ++ rest)) = both_fronts b (96 ∷ s.params) s.results rest s.parts in
     ap (functype_at end) parts
     ∙ rw (this_byte_again 96 end (s.params ++ (s.results ++ rest)) refl, valtypes_reader.again end s.params t.params (s.results ++ rest) s.takes, valtypes_reader.again end s.results t.results rest s.gives) refl
 

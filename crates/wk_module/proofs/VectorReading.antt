@@ -1,11 +1,11 @@
 -- Readers that take each spelling from the front, and nothing else; and vectors of what they read.
-use Rattle.std.proofs.Common.{◌≡◌, ℕ, cond, zero, suc, ◌+◌, ◌-◌, ◌<◌, ◌≤◌, List, [], ◌∷◌, ◌++◌, length, get_or, Result, Ok, Err, refl, sym, ap, subst, ◌∙◌, append_assoc, length-append, inl, inr, arith}
+use Rattle.std.proofs.Common.{◌≡◌, ℕ, cond, zero, suc, ◌+◌, ◌-◌, ◌<◌, ◌≤◌, List, [], ◌∷◌, ◌++◌, length, Result, Ok, Err, refl, sym, ap, subst, ◌∙◌, append_assoc, inl, inr, arith}
 use Rattle.std.proofs.lemmas.List.{append-nil, get_or-append-add, get_or_append_left, get_or_past}
 use Rattle.std.proofs.lemmas.Bool.{cases_lt}
 use Rattle.std.specs.Str.{IsUtf8, is_utf8}
 use Rattle.std.proofs.lemmas.Str.{is_utf8-from_IsUtf8, IsUtf8-from_is_utf8}
 use Rattle.wk_bytes.specs.declared.fault.ReadKind.{ReadKind}
-use Rattle.wk_bytes.specs.declared.fault.ReadKind.TheVariants.{Memory, BadUtf8, SectionSize}
+use Rattle.wk_bytes.specs.declared.fault.ReadKind.TheVariants.{Memory, BadUtf8}
 use Rattle.wk_bytes.specs.declared.fault.ReadFault.{ReadFault}
 use Rattle.wk_bytes.specs.Leb.{◌>>=◌, SpellsU, uint_at}
 use Rattle.wk_bytes.specs.LebLaws.{IsBytes, bind_ok, chosen, done, ok_is, uint_spells, uint_again}
@@ -30,6 +30,28 @@ IsBytes-before front later bytes e fits i =
       | inl lt ↦ rw (← get_or_append_left front later 0 i lt, ← e) (fits i)
       | inr le ↦ rw (get_or_past front i 0 le) (omega arith)
     ]
+
+-- ---- what a reader takes, over plain variables
+
+-- one reader after another takes their fronts together
+pub joined : (bytes front mid next rest : List ℕ) → bytes ≡ front ++ mid → mid ≡ next ++ rest → bytes ≡ (front ++ next) ++ rest
+joined bytes front mid next rest e f = e ∙ ap (λ (b : List ℕ). front ++ b) f ∙ sym (append_assoc front next rest)
+
+-- two fronts, and what follows them
+pub both_fronts : (b front next rest : List ℕ) → b ≡ front ++ next → b ++ rest ≡ front ++ (next ++ rest)
+both_fronts b front next rest e = ap (λ (c : List ℕ). c ++ rest) e ∙ append_assoc front next rest
+
+abbrev pub read_to : {A : Type 0} → A → List ℕ → Result (A × List ℕ) ReadFault
+read_to x rest = Ok (x, rest)
+
+pub same_read : {A : Type 0} (x y : A) (a b : List ℕ) → read_to x a ≡ read_to y b → (x ≡ y) × (a ≡ b)
+same_read {A = A} x y a b e =
+    let pair : A × List ℕ = (x, a) in
+    let same : pair ≡ (y, b) = ok_is pair (y, b) e in
+    (ap (λ (p : A × List ℕ). p.0) same, ap (λ (p : A × List ℕ). p.1) same)
+
+pub behind : (bytes front a b : List ℕ) → bytes ≡ front ++ a → a ≡ b → bytes ≡ front ++ b
+behind bytes front a b e f = e ∙ ap (λ (c : List ℕ). front ++ c) f
 
 -- ---- integers and names
 
@@ -58,14 +80,13 @@ name_found end bytes text rest fits e =
     let b = bind_ok (piece_at a.0.0 end a.0.1) (λ t. cond (is_utf8 t.0) (Ok t) (Err (fault BadUtf8 end a.0.1))) (text, rest) a.2 in
     elim (chosen (is_utf8 b.0.0) (Ok b.0) (Err (fault BadUtf8 end a.0.1)) (Ok (text, rest)) b.2) [
       | inl p ↦
-          let same : b.0 ≡ (text, rest) = ok_is _ _ p.1 in
-          let texts : b.0.0 ≡ text = ap (λ (t : List ℕ × List ℕ). t.0) same in
+          let texts : b.0.0 ≡ text = (same_read b.0.0 text b.0.1 rest p.1).0 in
           let pieces : piece_at a.0.0 end a.0.1 ≡ Ok (text, rest) = b.1 ∙ p.1 in
           let count = u32_reader.found end bytes a.0.0 a.0.1 fits a.1 in
           let piece = piece_at-takes a.0.0 end a.0.1 text rest pieces in (
             count.0 ++ text,
             record { size = count.0; parts = refl; counts = subst (SpellsU 32 count.0) (sym piece.1) count.1; utf8 = subst IsUtf8 texts (IsUtf8-from_is_utf8 b.0.0 p.0) },
-            count.2 ∙ ap (λ (c : List ℕ). count.0 ++ c) piece.0 ∙ sym (append_assoc count.0 text rest),
+            joined bytes count.0 a.0.1 text rest count.2 piece.0,
           )
       | inr p ↦ absurd cc
     ]
@@ -73,8 +94,7 @@ name_found end bytes text rest fits e =
 name_again : (end : ℕ) (b text rest : List ℕ) → SpellsName b text → name_at end (b ++ rest) ≡ Ok (text, rest)
 unfolding name_at
 name_again end b text rest s =
-    let parts : b ++ rest ≡ s.size ++ (text ++ rest) = ap (λ (c : List ℕ). c ++ rest) s.parts ∙ append_assoc s.size text rest in
-    ap (name_at end) parts ∙ rw (u32_reader.again end s.size (length text) (text ++ rest) s.counts, piece_at-again end text rest, is_utf8-from_IsUtf8 text s.utf8) refl
+    ap (name_at end) (both_fronts b s.size text rest s.parts) ∙ rw (u32_reader.again end s.size (length text) (text ++ rest) s.counts, piece_at-again end text rest, is_utf8-from_IsUtf8 text s.utf8) refl
 
 pub name_reader : IsReader SpellsName name_at
 name_reader = record { found = name_found; again = name_again }
@@ -82,29 +102,30 @@ name_reader = record { found = name_found; again = name_again }
 -- ---- vectors
 
 module _ {A : Type 0} (Spells : List ℕ → A → Type 0) (read : ℕ → List ℕ → Result (A × List ℕ) ReadFault) where
+  items_length : (x : A) (ys xs : List A) (n : ℕ) → x ∷ ys ≡ xs → length ys ≡ n → length xs ≡ suc n
+  items_length x ys xs n e k = ap length (sym e) ∙ ap suc k
+
   items_found : IsReader Spells read → (n end : ℕ) (bytes : List ℕ) (xs : List A) (rest : List ℕ) → IsBytes bytes → items_at read n end bytes ≡ Ok (xs, rest)
       → (b : List ℕ) × SpellsItems Spells b xs × (bytes ≡ b ++ rest) × (length xs ≡ n)
   items_found is zero end bytes xs rest fits e =
-      let same : ([], bytes) ≡ (xs, rest) = ok_is _ _ e in
-      let none : xs ≡ [] = sym (ap (λ (p : List A × List ℕ). p.0) same) in
-      ([], subst (SpellsItems Spells []) (sym none) refl, ap (λ (p : List A × List ℕ). p.1) same, ap length none)
+      let same = same_read [] xs bytes rest e in
+      ([], subst (SpellsItems Spells []) same.0 refl, same.1, ap length (sym same.0))
   items_found is (suc n) end bytes xs rest fits e =
       let a = bind_ok (read end bytes) (λ x. items_at read n end x.1 >>= λ ys. Ok (x.0 ∷ ys.0, ys.1)) (xs, rest) e in
       let b = bind_ok (items_at read n end a.0.1) (λ ys. Ok (a.0.0 ∷ ys.0, ys.1)) (xs, rest) a.2 in
       let first = is.found end bytes a.0.0 a.0.1 fits a.1 in
       let others = items_found is n end a.0.1 b.0.0 b.0.1 (IsBytes-after first.0 a.0.1 bytes first.2 fits) b.1 in
-      let same : (a.0.0 ∷ b.0.0, b.0.1) ≡ (xs, rest) = ok_is _ _ b.2 in
-      let items : a.0.0 ∷ b.0.0 ≡ xs = ap (λ (p : List A × List ℕ). p.0) same in (
+      let same = same_read (a.0.0 ∷ b.0.0) xs b.0.1 rest b.2 in (
         first.0 ++ others.0,
-        subst (SpellsItems Spells (first.0 ++ others.0)) items (first.0, others.0, refl, first.1, others.1),
-        first.2 ∙ ap (λ (c : List ℕ). first.0 ++ c) (others.2 ∙ ap (λ (p : List A × List ℕ). others.0 ++ p.1) same) ∙ sym (append_assoc first.0 others.0 rest),
-        ap length (sym items) ∙ ap suc others.3,
+        subst (SpellsItems Spells (first.0 ++ others.0)) same.0 (first.0, others.0, refl {a = first.0 ++ others.0}, first.1, others.1),
+        joined bytes first.0 a.0.1 others.0 rest first.2 (behind a.0.1 others.0 b.0.1 rest others.2 same.1),
+        items_length a.0.0 b.0.0 xs n same.0 others.3,
       )
 
   items_again : IsReader Spells read → (end : ℕ) (b : List ℕ) (xs : List A) (rest : List ℕ) → SpellsItems Spells b xs → items_at read (length xs) end (b ++ rest) ≡ Ok (xs, rest)
   items_again is end b [] rest s = ap (λ (c : List ℕ). done ([], c ++ rest)) s
   items_again is end b (x ∷ xs) rest s =
-      let parts : b ++ rest ≡ s.0 ++ (s.1 ++ rest) = ap (λ (c : List ℕ). c ++ rest) s.2 ∙ append_assoc s.0 s.1 rest in
+      let parts = both_fronts b s.0 s.1 rest s.2 in
       let first = is.again end s.0 x (s.1 ++ rest) s.3 in
       let others = items_again is end s.1 xs rest s.4 in
       rw (parts, first, others) refl
@@ -117,15 +138,14 @@ module _ {A : Type 0} (Spells : List ℕ → A → Type 0) (read : ℕ → List 
       let count = u32_reader.found end bytes a.0.0 a.0.1 fits a.1 in
       let items = items_found is a.0.0 end a.0.1 xs rest (IsBytes-after count.0 a.0.1 bytes count.2 fits) a.2 in (
         count.0 ++ items.0,
-        record { count = count.0; items = items.0; parts = refl; counts = subst (SpellsU 32 count.0) (sym items.3) count.1; spelled = items.1 },
-        count.2 ∙ ap (λ (c : List ℕ). count.0 ++ c) items.2 ∙ sym (append_assoc count.0 items.0 rest),
+        record { count = count.0; items = items.0; parts = refl {a = count.0 ++ items.0}; counts = subst (SpellsU 32 count.0) (sym items.3) count.1; spelled = items.1 },
+        joined bytes count.0 a.0.1 items.0 rest count.2 items.2,
       )
 
   vector_again : IsReader Spells read → (end : ℕ) (b : List ℕ) (xs : List A) (rest : List ℕ) → SpellsVector Spells b xs → vector_at read end (b ++ rest) ≡ Ok (xs, rest)
   unfolding vector_at
   vector_again is end b xs rest s =
-      let parts : b ++ rest ≡ s.count ++ (s.items ++ rest) = ap (λ (c : List ℕ). c ++ rest) s.parts ∙ append_assoc s.count s.items rest in
-      ap (vector_at read end) parts ∙ rw (u32_reader.again end s.count (length xs) (s.items ++ rest) s.counts) (items_again is end s.items xs rest s.spelled)
+      ap (vector_at read end) (both_fronts b s.count s.items rest s.parts) ∙ rw (u32_reader.again end s.count (length xs) (s.items ++ rest) s.counts) (items_again is end s.items xs rest s.spelled)
 
   pub vector_reader : IsReader Spells read → IsReader (SpellsVector Spells) (vector_at read)
   vector_reader is = record { found = vector_found is; again = vector_again is }
@@ -141,7 +161,7 @@ module _ {A : Type 0} (Spells : List ℕ → A → Type 0) (read : ℕ → List 
       let a = bind_ok (read end bytes) (taking_all end) x e in
       let whole = taking_all_is end a.0.0 a.0.1 x a.2 in
       let s = is.found end bytes a.0.0 a.0.1 fits a.1 in
-      let all : s.0 ≡ bytes = sym (s.2 ∙ ap (λ (c : List ℕ). s.0 ++ c) whole.1 ∙ append-nil s.0) in
+      let all : s.0 ≡ bytes = sym (behind bytes s.0 a.0.1 [] s.2 whole.1 ∙ append-nil s.0) in
       subst (Spells bytes) whole.0 (subst (λ (c : List ℕ). Spells c a.0.0) all s.1)
 
   pub all_again : IsReader Spells read → (end : ℕ) (b : List ℕ) (x : A) → Spells b x → all_at read end b ≡ Ok x
