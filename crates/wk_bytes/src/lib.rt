@@ -25,3 +25,5 @@ pub use writing::{leb_len_s64, leb_len_u32, out_u32, put_s32, put_s33, put_s64, 
 
 #[cfg(test)]
 mod tests;
+#[cfg(test)]
+mod tests_integers;
