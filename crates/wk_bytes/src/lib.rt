@@ -12,6 +12,7 @@ mod raw;
 mod sections;
 mod text;
 mod writing;
+mod writing_signed;
 
 pub use cursor::{Cursor, LIMIT, one_spelling_of_pieces};
 pub use fault::{ReadFault, ReadKind};
@@ -22,7 +23,10 @@ pub use output::{Out, OutFault, Sink, Stream, put_all};
 pub use raw::RawSection;
 pub use sections::Sections;
 pub use text::Text;
-pub use writing::{leb_len_s64, leb_len_u32, out_u32, put_s32, put_s33, put_s64, put_u32};
+pub use writing::{leb_len_u32, out_u32, put_u32};
+pub use writing_signed::{leb_len_s64, put_s32, put_s33, put_s64};
 
 #[cfg(test)]
 mod tests;
+#[cfg(test)]
+mod tests_integers;

@@ -1,6 +1,6 @@
 use Rattle.wk_bytes.specs.ShortLaws.{short_signed-is, short_signed-spells}
 use Rattle.wk_bytes.proofs.ShortLoop.{signed_32}
-use Rattle.wk_bytes.proofs.writing.put_s32.Goals as goal
+use Rattle.wk_bytes.proofs.writing_signed.put_s32.Goals as goal
 
 pub returns-clause-shortest : goal.returns-clause-shortest
 returns-clause-shortest c = short_signed-is c.args.n

@@ -4,7 +4,7 @@ use Rattle.std.specs.Int.{w64}
 use Rattle.std.proofs.lemmas.Int.{to_z-of_z}
 use Rattle.wk_bytes.specs.ShortLaws.{short_signed-last, short_signed-more}
 use Rattle.wk_bytes.proofs.ShortLoop.{byte_more, byte_last, signed_room}
-use Rattle.wk_bytes.proofs.writing.write_short_signed.Goals as goal
+use Rattle.wk_bytes.proofs.writing_signed.write_short_signed.Goals as goal
 
 pub bounds-bytes-len : goal.bounds-bytes-len
 bounds-bytes-len c = signed_room c.args.n _ c.loop-bytes.len c.ranges.n c.loop-bytes.invariant.counted

@@ -4,7 +4,7 @@ use Rattle.std.specs.Int.{w64}
 use Rattle.std.proofs.lemmas.Int.{to_z-of_z}
 use Rattle.wk_bytes.specs.ShortLaws.{short_signed-last, short_signed-more}
 use Rattle.wk_bytes.proofs.ShortLoop.{signed_few}
-use Rattle.wk_bytes.proofs.writing.leb_len_s64.Goals as goal
+use Rattle.wk_bytes.proofs.writing_signed.leb_len_s64.Goals as goal
 
 pub overflow_add-len : goal.overflow_add-len
 overflow_add-len c =

@@ -1,6 +1,6 @@
 use Rattle.std.proofs.Common.{◌≡◌, ◌+◌, length}
 use Rattle.wk_bytes.specs.Short.{short_signed, sizeS}
-use Rattle.wk_bytes.proofs.writing.leb_len_s64.Given as goal
+use Rattle.wk_bytes.proofs.writing_signed.leb_len_s64.Given as goal
 
 abbrev pub invariant-loop-rest : goal.invariant-loop-rest
 invariant-loop-rest l = l.len + length (short_signed l.rest) ≡ 1 + length (short_signed l.n)

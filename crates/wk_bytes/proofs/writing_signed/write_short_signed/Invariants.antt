@@ -1,6 +1,6 @@
 use Rattle.std.proofs.Common.{◌≡◌, ◌+◌, ◌++◌, length, take}
 use Rattle.wk_bytes.specs.Short.{short_signed, sizeS}
-use Rattle.wk_bytes.proofs.writing.write_short_signed.Given as goal
+use Rattle.wk_bytes.proofs.writing_signed.write_short_signed.Given as goal
 
 abbrev pub invariant-loop-bytes : goal.invariant-loop-bytes
 invariant-loop-bytes l = record {
