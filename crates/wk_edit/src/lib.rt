@@ -11,3 +11,8 @@ mod word;
 
 pub use fault::{RunFault, ScriptFault, Status};
 pub use script::read_script;
+
+#[cfg(test)]
+mod tests_script;
+#[cfg(test)]
+mod tests_texts;
