@@ -1,4 +1,5 @@
 //! What a scenario finds.
+ghost use Rattle.std.specs.Prelude.{◌≡◌, ◌↔◌, IsTrue};
 
 use std::fmt;
 
@@ -15,7 +16,9 @@ pub enum Outcome {
 
 impl Outcome {
     /// The outcome of a call that answered.
-    pub fn answered(is_right: bool) -> Outcome {
+    pub fn answered(is_right: bool) -> Outcome
+        ensures { (result ≡ Outcome.Fine) ↔ IsTrue is_right }
+    {
         if is_right {
             Outcome::Fine
         } else {
@@ -24,7 +27,9 @@ impl Outcome {
     }
 
     /// The outcome of a call that answered want of memory.
-    pub fn refused(is_as_before: bool) -> Outcome {
+    pub fn refused(is_as_before: bool) -> Outcome
+        ensures { (result ≡ Outcome.Memory) ↔ IsTrue is_as_before }
+    {
         if is_as_before {
             Outcome::Memory
         } else {
