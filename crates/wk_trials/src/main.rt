@@ -1,0 +1,51 @@
+//! Calls of the libraries where memory may be wanting, one scenario a word.
+//!
+//! - `wk_trials SCENARIO` prints `fine`, `memory` or `wrong: ..`. Between two allocations of agreed sizes it makes the one
+//!   call that it is about, so that a library loaded before it can refuse each allocation of that call in turn
+//!   (`tests/refusals`).
+//! - `wk_trials` runs each scenario once and prints a line for each.
+#![tactic(auto)]
+
+mod bytes;
+mod mark;
+mod outcome;
+mod scenario;
+
+use crate::outcome::Outcome;
+use crate::scenario::Scenario;
+use anyhow::{Result, bail};
+use std::env;
+use std::process::ExitCode;
+
+fn run_all(rt: &(impl AllocGlobal + Print)) -> Result<()> {
+    for scenario in Scenario::ALL {
+        let name = scenario.name();
+        let outcome = scenario.run(rt.alloc())?;
+        println!(rt; "{name}: {outcome}")?;
+    }
+    Ok(())
+}
+
+fn run_one(rt: &(impl AllocGlobal + Print), name: &str) -> Result<ExitCode> {
+    let Some(scenario) = Scenario::named(name) else {
+        bail!("no scenario has that name");
+    };
+    let outcome = scenario.run(rt.alloc())?;
+    println!(rt; "{outcome}")?;
+    Ok(match outcome {
+        Outcome::Fine | Outcome::Memory => ExitCode::SUCCESS,
+        Outcome::Wrong(_) => ExitCode::FAILURE,
+    })
+}
+
+fn main(rt: HostRuntime) -> Result<ExitCode> {
+    let words: Vec<String> = env::args(&rt)?.skip(1).collect(rt.alloc())?;
+    match words.as_slice() {
+        [] => {
+            run_all(&rt)?;
+            Ok(ExitCode::SUCCESS)
+        }
+        [name] => run_one(&rt, name.as_str()),
+        _ => bail!("usage: wk_trials [SCENARIO]"),
+    }
+}

@@ -1,0 +1,49 @@
+//! What a scenario finds.
+ghost use Rattle.std.specs.Prelude.{◌≡◌, ◌↔◌, IsTrue};
+
+use std::fmt;
+
+/// What the call under test did.
+#[derive(Clone, Copy, Debug, PartialEq, Eq)]
+pub enum Outcome {
+    /// It answered, and rightly.
+    Fine,
+    /// It answered want of memory, and all was as before.
+    Memory,
+    /// Neither, and what was wrong.
+    Wrong(&'static str),
+}
+
+impl Outcome {
+    /// The outcome of a call that answered.
+    pub fn answered(is_right: bool) -> Outcome
+        ensures { (result ≡ Outcome.Fine) ↔ IsTrue is_right }
+    {
+        if is_right {
+            Outcome::Fine
+        } else {
+            Outcome::Wrong("the answer is not the right one")
+        }
+    }
+
+    /// The outcome of a call that answered want of memory.
+    pub fn refused(is_as_before: bool) -> Outcome
+        ensures { (result ≡ Outcome.Memory) ↔ IsTrue is_as_before }
+    {
+        if is_as_before {
+            Outcome::Memory
+        } else {
+            Outcome::Wrong("a refusal left something changed")
+        }
+    }
+}
+
+impl fmt::Display for Outcome {
+    fn fmt<W: fmt::Write>(&self, f: &mut fmt::Formatter<W>) -> fmt::Result {
+        match self {
+            Outcome::Fine => f.write_str("fine"),
+            Outcome::Memory => f.write_str("memory"),
+            Outcome::Wrong(what) => write!(f, "wrong: {what}"),
+        }
+    }
+}
