@@ -1,12 +1,16 @@
 //! A vector that contracts see as a list.
-ghost use Rattle.std.specs.Prelude.{◌≡◌, ◌<◌, [], ◌∷◌, ◌++◌, length, IsTrue, OnOk, OnErr, IfOk, IfErr, take, slice_set, slice_index_or};
+
+ghost use Rattle.std.specs.Prelude.{◌≡◌, ◌<◌, [], ◌∷◌, ◌++◌, length, OnOk, OnErr, IfOk, IfErr, IfSome, OnSome, IfNone, slice_set, slice_index_or};
 ghost use Rattle.wk_bytes.specs.ListWords.{is_empty};
 
 use std::alloc::{AllocError, AllocFailed, Global};
 use std::marker::Model;
 
-/// A vector, seen as the list of its items.
-#[derive(Drop)]
+/// A vector, which a contract sees as the list of its items and nothing else: not its room, not where it lies in memory.
+///
+/// Types that clauses compare hold their lists so. A vector goes in by [`Items::from_vec`] and comes out by
+/// [`Items::into_vec`], neither of which takes memory.
+#[derive(Debug, Drop)]
 pub struct Items<T> {
     items: Vec<T>,
 }
@@ -23,7 +27,7 @@ impl<T> Model for Items<T> {
 }
 
 impl<T> Items<T> {
-    /// No items.
+    /// No items. It takes no memory until an item is pushed.
     pub fn new(alloc: Global) -> Items<T>
         ensures { result ≡ [] }
     {
@@ -47,7 +51,7 @@ impl<T> Items<T> {
         items
     }
 
-    /// The items.
+    /// The items, to read.
     pub fn as_slice(&self) -> &[T]
         ensures { result.now ≡ self.now }
     {
@@ -69,6 +73,8 @@ impl<T> Items<T> {
     }
 
     /// Adds an item at the end.
+    ///
+    /// Where a growth is refused nothing changes, and the error holds the item.
     pub fn push(&mut self, item: T) -> Result<(), AllocFailed<T>>
         ensures ok { OnOk result (self.new ≡ self.old ++ item ∷ []) }
         ensures err { OnErr result (self.new ≡ self.old) }
@@ -77,7 +83,15 @@ impl<T> Items<T> {
         self.items.push(item)
     }
 
-    /// Puts an item in the place of another.
+    /// Takes the last item, if there is one. It takes no memory.
+    pub fn pop(&mut self) -> Option<T>
+        ensures some { IfSome result (λ item. self.old ≡ self.new ++ item ∷ []) }
+        ensures none { IfNone result ((self.old ≡ []) × (self.new ≡ [])) }
+    {
+        self.items.pop()
+    }
+
+    /// Puts an item in the place of the one at `index`, counted from 0, and gives that one back. It takes no memory.
     pub fn set(&mut self, index: usize, item: T) -> T
         requires { index < length self.old }
         ensures new { self.new ≡ slice_set self.old index item }
@@ -88,7 +102,7 @@ impl<T> Items<T> {
 }
 
 impl<T: Copy> Items<T> {
-    /// The same items.
+    /// The same items in memory of their own.
     pub fn copy(&self, alloc: Global) -> Result<Items<T>, AllocError>
         ensures { IfOk result (λ items. items ≡ self.now) }
     {
