@@ -11,3 +11,4 @@ pub mod WrittenSpells
 pub mod Fitting
 pub mod Lengths
 pub mod WritingSteps
+pub mod WrittenAlone

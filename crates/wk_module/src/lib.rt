@@ -17,7 +17,7 @@ pub use length::encoded_len;
 pub use module::Module;
 pub use reader::{one_module, read};
 pub use types::{Custom, FuncType, Parts, ValType};
+pub use writer::encode;
 
 #[cfg(test)]
 mod tests_reading;
-pub use writer::encode;

@@ -3,6 +3,8 @@
 ghost use Rattle.std.specs.Prelude.{◌≡◌, ◌≤◌, ◌++◌, length, OnOk, IfOk, IfErr};
 ghost use Rattle.wk_bytes.specs.Frames.{limit};
 ghost use Rattle.wk_module.specs.declared.fault.EncodeFault.TheVariants.{TooLarge, Memory};
+ghost use Rattle.wk_module.specs.declared.types.Parts.{Parts as Lists};
+ghost use Rattle.wk_module.specs.Modules.{Spells};
 ghost use Rattle.wk_module.specs.Vectors.{written_vector};
 ghost use Rattle.wk_module.specs.Writing.{encoded, framed, vector_section, section_of, customs_at, Fits};
 
@@ -34,17 +36,22 @@ const LAST: u8 = 11;
 /// # Errors
 ///
 /// `TooLarge` where they are more than 2147483647, and else `Memory` where a growth is refused.
+#[tactic(auto, using(crate::proofs::WrittenSpells::written_spells, crate::proofs::WrittenAlone::written_alone))]
 pub fn encode(alloc: Global, module: &Module) -> Result<Vec<u8>, EncodeFault>
     ensures ok { IfOk result (λ bytes. bytes.items ≡ encoded «module».now) }
     ensures fits { OnOk result (Fits «module».now) }
     ensures too_large { IfErr result (λ e. e ≡ TooLarge → Fits «module».now → ⊥) }
     ensures memory { IfErr result (λ e. e ≡ Memory → Fits «module».now) }
+    // Where the module fits, its written form spells it, and no other.
+    ensures spells { Fits «module».now → Spells (encoded «module».now) «module».now }
+    ensures alone { (n : Lists) → Fits «module».now → Spells (encoded «module».now) n → n ≡ «module».now }
 {
+    let parts = module.parts();
     let Some(len) = encoded_len(module) else {
         return Err(EncodeFault::TooLarge);
     };
     let mut bytes = Vec::with_capacity(alloc, len as usize)?;
-    put_module(module.parts(), &mut bytes)?;
+    put_module(parts, &mut bytes)?;
     Ok(bytes)
 }
 
