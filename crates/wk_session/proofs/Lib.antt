@@ -2,3 +2,4 @@ pub mod RunSteps
 pub mod Outcomes
 pub mod TypeEdits
 pub mod CustomEdits
+pub mod WrittenBack

@@ -1,5 +1,5 @@
 -- What a write that failed leaves.
-use Rattle.std.specs.Prelude.{◌≡◌, ℕ, ◌+◌, Option, List}
+use Rattle.std.specs.Prelude.{◌≡◌, ℕ, ◌+◌, Option, List, Result, Ok, Err}
 use Rattle.wk_bytes.specs.Taken.{TakesFront}
 use Rattle.wk_session.specs.declared.write.WriteFault.{WriteFault}
 use Rattle.wk_session.specs.declared.write.WriteFault.TheVariants.{Write, Memory}
@@ -10,6 +10,7 @@ Leaves old new bytes Write = TakesFront old new bytes
 Leaves old new bytes Memory = new ≡ old
 
 -- the output fails once more where it is the cause, and not otherwise
-abbrev pub failures_with : ℕ → WriteFault → ℕ
-failures_with failures Write = failures + 1
-failures_with failures Memory = failures
+abbrev pub failures_after_write : {A : Type 0} → ℕ → Result A WriteFault → ℕ
+failures_after_write failures (Ok x) = failures
+failures_after_write failures (Err Write) = failures + 1
+failures_after_write failures (Err Memory) = failures

@@ -5,15 +5,18 @@ ghost use Rattle.wk_module.specs.Modules.{Spells, SpellsNone, StandsInModule};
 ghost use Rattle.wk_module.specs.Reading.{Reads, module_at};
 ghost use Rattle.wk_module.specs.Writing.{encoded};
 ghost use Rattle.wk_check.specs.Verdict.{module_verdict};
+ghost use Rattle.std.specs.Io.KnownBytes.{Appends};
+ghost use Rattle.wk_session.specs.Written.{Leaves, failures_after_write};
 ghost use Rattle.wk_session.specs.Runs.{reply_of, after_one, is_memory, replies_of, after, refused_for_memory};
 
 use crate::changes::{appraise, has_custom, pop_type, push_type, remove_customs};
 use crate::edit::{Edit, EditFault, Reply, Work};
+use crate::write::WriteFault;
 use std::alloc::Global;
 use std::marker::Model;
-use wk_bytes::{OutOfMemory, ReadFault, ReadKind, Text};
+use wk_bytes::{Out, OutFault, OutOfMemory, ReadFault, ReadKind, Text, put_all};
 use wk_check::{Verdict, judge};
-use wk_module::{FuncType, Module, encoded_len, read};
+use wk_module::{EncodeFault, FuncType, Module, encode, encoded_len, read};
 
 /// A module under edits, seen by contracts as its plain lists.
 #[derive(Drop)]
@@ -69,6 +72,29 @@ impl Session {
         ensures { result ≡ length (encoded self.now) }
     {
         self.len
+    }
+
+    /// Writes the written form, which reading gives back as this module and no other.
+    ///
+    /// After a fault of the output a beginning of the written form was taken; after want of memory nothing was. The
+    /// session stays as it is.
+    pub fn write<W: Out>(&self, out: &mut W) -> Result<(), WriteFault>
+        requires { W.failed out.old < 2 ^ 64 - 1 }
+        ensures ok { OnOk result (Appends (W.taken out.old) (W.taken out.new) (encoded self.now)) }
+        ensures err { IfErr result (Leaves (W.taken out.old) (W.taken out.new) (encoded self.now)) }
+        ensures failures { W.failed out.new ≡ failures_after_write (W.failed out.old) result }
+        ensures spells { Spells (encoded self.now) self.now }
+        ensures alone { (n : Parts) → Spells (encoded self.now) n → n ≡ self.now }
+    {
+        let bytes = match encode(self.alloc, &self.module) {
+            Ok(bytes) => bytes,
+            Err(EncodeFault::Memory) => return Err(WriteFault::Memory),
+            Err(EncodeFault::TooLarge) => unreachable!(),
+        };
+        match put_all(out, bytes.as_slice()) {
+            Ok(()) => Ok(()),
+            Err(OutFault) => Err(WriteFault::Write),
+        }
     }
 
     // Appends a type.
