@@ -2,3 +2,4 @@ pub mod Cutting
 pub mod Utf8
 pub mod ScriptSteps
 pub mod ReportSteps
+pub mod OutcomeLemmas

@@ -2,3 +2,5 @@ pub mod Pieces
 pub mod Words
 pub mod Script
 pub mod ReportText
+pub mod Outcome
+pub mod Prepared

@@ -5,6 +5,7 @@ ghost use Rattle.wk_edit.specs.declared.fault.RunFault.TheVariants as RunFault;
 
 use std::alloc::{AllocError, AllocFailed};
 use thiserror::Error;
+use wk_bytes::OutOfMemory;
 
 /// Why a script is refused, S1 to S3 in this order. Lines count from 1.
 #[derive(Clone, Copy, Debug, PartialEq, Eq)]
@@ -70,6 +71,14 @@ impl From<AllocError> for RunFault {
     ghost from_gives = { λ _ e. e ≡ RunFault.Memory };
 
     fn from(_error: AllocError) -> RunFault {
+        RunFault::Memory
+    }
+}
+
+impl From<OutOfMemory> for RunFault {
+    ghost from_gives = { λ _ e. e ≡ RunFault.Memory };
+
+    fn from(_error: OutOfMemory) -> RunFault {
         RunFault::Memory
     }
 }

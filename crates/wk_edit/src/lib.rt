@@ -3,13 +3,16 @@
 
 mod display;
 mod fault;
+mod job;
 mod line;
 mod lines;
 mod pieces;
+mod prepared;
 mod script;
 mod word;
 
 pub use fault::{RunFault, ScriptFault, Status};
+pub use job::edit;
 pub use script::read_script;
 
 #[cfg(test)]

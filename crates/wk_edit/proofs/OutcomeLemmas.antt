@@ -1,0 +1,106 @@
+-- What is prepared is the outcome.
+use Rattle.std.proofs.Common.{◌≡◌, ◌≢◌, ℕ, Bool, true, false, ◌||◌, List, [], ◌∷◌, Option, Some, None, Result, Ok, Err, refl, sym, ap, subst, ◌∙◌, inl, inr}
+use Rattle.std.specs.Prelude.{IfOk, OnOk}
+use Rattle.std.specs.List.{list_any}
+use Rattle.std.proofs.lemmas.Bool.{or_left, or_right}
+use Rattle.wk_bytes.specs.declared.fault.ReadKind.{ReadKind}
+use Rattle.wk_bytes.specs.declared.fault.ReadKind.TheVariants as ReadKind
+use Rattle.wk_bytes.specs.declared.fault.ReadFault.{ReadFault}
+use Rattle.wk_module.specs.declared.types.Parts.{Parts}
+use Rattle.wk_module.specs.Modules.{Spells, SpellsNone, StandsInModule}
+use Rattle.wk_module.specs.Reading.{FailsAs, module_at}
+use Rattle.wk_module.specs.Writing.{encoded}
+use Rattle.wk_check.specs.declared.fault.Verdict.{Verdict}
+use Rattle.wk_check.specs.Verdict.{module_verdict}
+use Rattle.wk_session.specs.declared.edit.Edit.{Edit}
+use Rattle.wk_session.specs.declared.edit.Work.{Work}
+use Rattle.wk_session.specs.declared.edit.EditFault.{EditFault}
+use Rattle.wk_session.specs.Runs.{is_memory, reply_of, after_one, replies_of, after, refused_for_memory}
+use Rattle.wk_edit.specs.declared.fault.ScriptFault.{ScriptFault}
+use Rattle.wk_edit.specs.declared.fault.ScriptFault.TheVariants as ScriptFault
+use Rattle.wk_edit.specs.declared.fault.Status.{Status}
+use Rattle.wk_edit.specs.declared.fault.RunFault.{RunFault}
+use Rattle.wk_edit.specs.declared.prepared.Prepared.{Prepared}
+use Rattle.wk_edit.specs.Script.{Reads, script_of}
+use Rattle.wk_edit.specs.ReportText.{report_text}
+use Rattle.wk_edit.specs.Outcome.{Outcome, malformed_outcome, run_status, run_outcome, script_outcome, outcome_on, outcome_of, IsReport}
+use Rattle.wk_edit.specs.Prepared.{IsPrepared, bytes_of}
+
+-- ---- no edit was refused for want of memory
+
+either : (a b : Bool) → (a || b) ≡ false → (a ≡ false) × (b ≡ false)
+either true b h = absurd cc
+either false b h = (refl, h)
+
+after_unmarked : (es : List Edit) (rs : List (Result Work EditFault)) (m : Parts) → list_any is_memory rs ≡ false → after es (refused_for_memory rs) m ≡ after es [] m
+after_unmarked [] rs m h = refl
+after_unmarked (e ∷ es) [] m h = refl
+after_unmarked (e ∷ es) (r ∷ rs) m h =
+    let parts = either (is_memory r) (list_any is_memory rs) h in
+    ap (λ (b : Bool). after es (refused_for_memory rs) (after_one e b m)) parts.0 ∙ after_unmarked es rs (after_one e false m) parts.1
+
+replies_unmarked : (es : List Edit) (rs : List (Result Work EditFault)) (m : Parts) → list_any is_memory rs ≡ false → replies_of es (refused_for_memory rs) m ≡ replies_of es [] m
+replies_unmarked [] rs m h = refl
+replies_unmarked (e ∷ es) [] m h = refl
+replies_unmarked (e ∷ es) (r ∷ rs) m h =
+    let parts = either (is_memory r) (list_any is_memory rs) h in
+    ap (λ (b : Bool). reply_of e b m ∷ replies_of es (refused_for_memory rs) (after_one e b m)) parts.0
+    ∙ ap (λ (more : List (Result Work EditFault)). reply_of e false m ∷ more) (replies_unmarked es rs (after_one e false m) parts.1)
+
+module _ (m n : Parts) (es : List Edit) (rs : List (Result Work EditFault)) (v : Verdict) (no_memory : list_any is_memory rs ≡ false) (replies : rs ≡ replies_of es (refused_for_memory rs) m) (module_is : n ≡ after es (refused_for_memory rs) m) (judged : v ≡ module_verdict n) where
+  n_is : n ≡ after es [] m
+  n_is = module_is ∙ after_unmarked es rs m no_memory
+
+  rs_are : rs ≡ replies_of es [] m
+  rs_are = replies ∙ replies_unmarked es rs m no_memory
+
+  v_is : v ≡ module_verdict (after es [] m)
+  v_is = judged ∙ ap module_verdict n_is
+
+  pub ran_out : encoded n ≡ (run_outcome m es).out
+  ran_out = ap encoded n_is
+
+  pub ran_report : (text : List ℕ) → text ≡ report_text 1 rs v → text ≡ (run_outcome m es).report
+  ran_report text is = is ∙ ap (λ (r : List (Result Work EditFault)). report_text 1 r v) rs_are ∙ ap (report_text 1 (replies_of es [] m)) v_is
+
+  pub ran_status : (status : Status) → status ≡ run_status rs v → status ≡ (run_outcome m es).status
+  ran_status status is = is ∙ ap (λ (r : List (Result Work EditFault)). run_status r v) rs_are ∙ ap (run_status (replies_of es [] m)) v_is
+
+-- ---- the outcome by what was read
+
+pub outcome_ran : (input script : List ℕ) (m : Parts) (s : Result (List Edit) ScriptFault) → module_at input ≡ Ok m → script_of script ≡ s → outcome_of input script ≡ outcome_on m s
+unfolding outcome_of
+outcome_ran input script m s read said = rw (read, said) refl
+
+outcome_malformed : (input script : List ℕ) (e : ReadFault) → module_at input ≡ Err e → outcome_of input script ≡ malformed_outcome e
+unfolding outcome_of
+outcome_malformed input script e read = rw read refl
+
+other_fault : (e : ReadFault) (k : ReadKind) (read : Result Parts ReadFault) → k ≢ ReadKind.Memory → FailsAs e k read → read ≡ Err e
+other_fault e ReadKind.Memory read other fails = absurd (other refl)
+other_fault e _ read other fails = fails
+
+-- ---- what `prepare` answers
+
+module _ (input script : List ℕ) where
+  pub malformed_ok : (r : Result Prepared RunFault) (e : ReadFault) → IfOk r (IsPrepared (malformed_outcome e)) → OnOk r (e.kind ≢ ReadKind.Memory) → FailsAs e e.kind (module_at input) → IfOk r (IsPrepared (outcome_of input script))
+  malformed_ok (Ok p) e is other fails = subst (λ (o : Outcome). IsPrepared o p) (sym (outcome_malformed input script e (other_fault e e.kind (module_at input) other fails))) is
+  malformed_ok (Err f) e is other fails = tt
+
+  pub malformed_means : (r : Result Prepared RunFault) (e : ReadFault) → OnOk r (e.kind ≢ ReadKind.Memory) → FailsAs e e.kind (module_at input) → (e.kind ≢ ReadKind.Memory → SpellsNone input) → (e.kind ≢ ReadKind.Memory → StandsInModule input e) → OnOk r (IsReport input script (outcome_of input script))
+  malformed_means (Ok p) e other fails none stands = inl (none other, (e, stands other, outcome_malformed input script e (other_fault e e.kind (module_at input) other fails)))
+  malformed_means (Err f) e other fails none stands = tt
+
+  pub ran_ok : (r : Result Prepared RunFault) (m : Parts) (s : Result (List Edit) ScriptFault) → IfOk r (IsPrepared (outcome_on m s)) → module_at input ≡ Ok m → script_of script ≡ s → IfOk r (IsPrepared (outcome_of input script))
+  ran_ok r m s is read said = subst (λ (o : Outcome). IfOk r (IsPrepared o)) (sym (outcome_ran input script m s read said)) is
+
+  pub ran_means : (m : Parts) → Spells input m → module_at input ≡ Ok m → IsReport input script (outcome_of input script)
+  ran_means m spelled read = inr (m, spelled, outcome_ran input script m (script_of script) read refl)
+
+  pub script_ok : (r : Result Prepared RunFault) (m : Parts) (f : ScriptFault) → IfOk r (IsPrepared (script_outcome f)) → OnOk r (f ≢ ScriptFault.Memory) → module_at input ≡ Ok m → (f ≢ ScriptFault.Memory → script_of script ≡ Err f) → IfOk r (IsPrepared (outcome_of input script))
+  script_ok (Ok p) m f is other read said = subst (λ (o : Outcome). IsPrepared o p) (sym (outcome_ran input script m (Err f) read (said other))) is
+  script_ok (Err e) m f is other read said = tt
+
+pub when_ok : (r : Result Prepared RunFault) (P : Type 0) → P → OnOk r P
+when_ok (Ok p) P x = x
+when_ok (Err e) P x = tt
