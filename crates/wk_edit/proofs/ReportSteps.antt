@@ -1,5 +1,5 @@
 -- Steps of the loop over replies.
-use Rattle.std.proofs.Common.{◌≡◌, ◌<◌, ◌≤◌, ◌+◌, ℕ, List, [], ◌∷◌, ◌++◌, length, drop, slice_index_or, Result, refl, sym, ap, ◌∙◌, append_assoc, arith}
+use Rattle.std.proofs.Common.{◌≡◌, ◌<◌, ◌≤◌, ◌+◌, ℕ, List, ◌++◌, length, drop, slice_index_or, Result, sym, ap, ◌∙◌, append_assoc}
 use Rattle.std.proofs.lemmas.List.{drop_more, drop_all}
 use Rattle.wk_session.specs.declared.edit.EditFault.{EditFault}
 use Rattle.wk_session.specs.declared.edit.Work.{Work}

@@ -4,3 +4,4 @@ pub mod Script
 pub mod ReportText
 pub mod Outcome
 pub mod Prepared
+pub mod ScriptGrammar

@@ -1,13 +1,30 @@
 //! Whole scripts.
 
-ghost use Rattle.std.specs.Prelude.{◌≡◌};
+ghost use Rattle.std.specs.Prelude.{◌≢◌, IfErr, IfOk};
+ghost use Rattle.wk_edit.specs.declared.fault.ScriptFault.TheVariants.{Memory};
 ghost use Rattle.wk_edit.specs.Script.{script_of, Reads};
+ghost use Rattle.wk_edit.specs.ScriptGrammar.{IsFaultOf, IsNoScript, IsOnlyScript, IsScript};
 
 use crate::fault::ScriptFault;
 use crate::line::read_line;
 use crate::pieces::Pieces;
 use std::alloc::Global;
 use wk_session::Edit;
+
+#[tactic(auto, using(crate::proofs::ScriptSteps::edit_more, crate::proofs::ScriptSteps::line_without, crate::proofs::ScriptSteps::line_stops, crate::proofs::ScriptSteps::edits_done, crate::proofs::ScriptSteps::pieces_few))]
+fn read_lines(alloc: Global, bytes: &[u8]) -> Result<Vec<Edit>, ScriptFault>
+    ensures { Reads (λ edits. edits.items) result (script_of bytes.now) }
+{
+    let mut edits = Vec::new(alloc);
+    let mut number = 0;
+    for line in Pieces::new(bytes, b'\n') {
+        number += 1;
+        if let Some(edit) = read_line(alloc, number, line)? {
+            edits.push(edit)?;
+        }
+    }
+    Ok(edits)
+}
 
 /// The edits of a script, or the fault of its first faulty line; S3 only where a growth was refused.
 ///
@@ -20,17 +37,12 @@ use wk_session::Edit;
 ///   with `x:`, or `x:` and the name's bytes in hexadecimal, which are UTF-8.
 ///
 /// A line with a byte of `80` or above is S2, any other line S1.
-#[tactic(auto, using(crate::proofs::ScriptSteps::edit_more, crate::proofs::ScriptSteps::line_without, crate::proofs::ScriptSteps::line_stops, crate::proofs::ScriptSteps::edits_done, crate::proofs::ScriptSteps::pieces_few))]
 pub fn read_script(alloc: Global, bytes: &[u8]) -> Result<Vec<Edit>, ScriptFault>
-    ensures { Reads (λ edits. edits.items) result (script_of bytes.now) }
+    ensures exact { Reads (λ edits. edits.items) result (script_of bytes.now) }
+    ensures found { IfOk result (λ edits. IsScript bytes.now edits.items) }
+    ensures only { IfOk result (λ edits. IsOnlyScript bytes.now edits.items) }
+    ensures refused { IfErr result (λ e. e ≢ Memory → IsNoScript bytes.now) }
+    ensures fault { IfErr result (λ e. e ≢ Memory → IsFaultOf bytes.now e) }
 {
-    let mut edits = Vec::new(alloc);
-    let mut number = 0;
-    for line in Pieces::new(bytes, b'\n') {
-        number += 1;
-        if let Some(edit) = read_line(alloc, number, line)? {
-            edits.push(edit)?;
-        }
-    }
-    Ok(edits)
+    read_lines(alloc, bytes)
 }

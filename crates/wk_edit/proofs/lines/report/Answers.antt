@@ -1,4 +1,4 @@
-use Rattle.std.proofs.Common.{rules, arith, ◌∙◌, ◌≤◌, length}
+use Rattle.std.proofs.Common.{rules, ◌∙◌, ◌≤◌, length}
 use Rattle.wk_edit.proofs.ReportSteps.{more, last}
 use Rattle.wk_edit.proofs.lines.report.Goals as goal
 

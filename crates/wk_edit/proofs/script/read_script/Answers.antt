@@ -1,8 +1,14 @@
-use Rattle.wk_edit.proofs.ScriptSteps.{edit_step, count_step}
+use Rattle.wk_edit.proofs.ScriptLaws.{found, only, refused, fault_of}
 use Rattle.wk_edit.proofs.script.read_script.Goals as goal
 
-pub loop-line-preserved-in-Continue-branch-3 : goal.loop-line-preserved-in-Continue-branch-3
-loop-line-preserved-in-Continue-branch-3 c = record {
-  said = edit_step _ _ _ _ _ _ _ _ _ c.in-Some.ensures.steps c.in_ok-edit.ensures c.in-Some-2.is c.in_ok-push.ensures.items c.loop-line.invariant.said;
-  count = count_step _ _ _ _ _ c.in-Some.ensures.steps c.loop-line.invariant.count;
-}
+pub returns-clause-found : goal.returns-clause-found
+returns-clause-found c = found _ _ _ c.read_lines.ensures
+
+pub returns-clause-only : goal.returns-clause-only
+returns-clause-only c = only _ _ _ c.read_lines.ensures
+
+pub returns-clause-refused : goal.returns-clause-refused
+returns-clause-refused c = refused _ _ _ c.read_lines.ensures
+
+pub returns-clause-fault : goal.returns-clause-fault
+returns-clause-fault c = fault_of _ _ _ c.read_lines.ensures

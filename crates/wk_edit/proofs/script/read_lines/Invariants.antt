@@ -2,7 +2,7 @@ use Rattle.std.proofs.Common.{◌≡◌, ◌+◌, length}
 use Rattle.wk_edit.specs.Script.{lines_from, script_of}
 use Rattle.wk_edit.proofs.ScriptSteps.{with_edits}
 use Rattle.wk_edit.specs.Pieces.{pieces}
-use Rattle.wk_edit.proofs.script.read_script.Given as goal
+use Rattle.wk_edit.proofs.script.read_lines.Given as goal
 
 abbrev pub invariant-loop-line : goal.invariant-loop-line
 invariant-loop-line l = record {

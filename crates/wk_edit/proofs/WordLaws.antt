@@ -1,0 +1,202 @@
+-- What words say is what they spell, and the other way round.
+use Rattle.std.proofs.Common.{◌≡◌, ◌==◌, not, ℕ, ◌<◌, Bool, true, false, cond, inl, inr, ◌⊎◌, List, [], ◌∷◌, ◌++◌, length, take, drop, map, Option, Some, None, Result, Ok, Err, codes, refl, sym, ap, subst, ◌∙◌, arith}
+use Rattle.std.specs.Prelude.{All, ◌≢◌, if◌then◌else◌, slice_index_or}
+use Rattle.std.specs.List.{AllPass, join_with_byte, list_all}
+use Rattle.std.specs.Str.{IsUtf8, bytes_eq, is_utf8}
+use Rattle.std.proofs.lemmas.List.{take-append-drop}
+use Rattle.std.proofs.lemmas.List.Elements.{All-nil, All-cons, All-append}
+use Rattle.std.proofs.lemmas.List.Sums.{AllPass-from_list_all, list_all-from_AllPass}
+use Rattle.std.proofs.lemmas.List.Splits.{join_with_byte-slice_split, length-slice_split}
+use Rattle.std.proofs.lemmas.Slice.Eq.{bytes_eq-Decides}
+use Rattle.std.proofs.lemmas.Str.{is_utf8-from_IsUtf8, IsUtf8-from_is_utf8}
+use Rattle.hex.specs.Hex.{decode_of, is_hex_digit}
+use Rattle.hex.specs.declared.error.FromHexError.{FromHexError}
+use Rattle.hex.proofs.HexLemmas.{decode_of-ok}
+use Rattle.wk_module.specs.declared.types.ValType.{ValType}
+use Rattle.wk_module.specs.declared.types.ValType.TheVariants.{I32, I64, F32, F64}
+use Rattle.wk_edit.specs.Pieces.{pieces}
+use Rattle.wk_edit.specs.Words.{◌>>=◌, type_named, all_named, types_of, is_graphic, is_plain, utf8_of, name_of}
+use Rattle.wk_edit.specs.ScriptGrammar.{type_name, types_word, IsPlainName, IsHexName, SpellsName}
+use Rattle.wk_edit.proofs.Joining.{IsWithout, pieces-join, All-join}
+
+-- ---- tests and steps
+
+pub bind_some : {A B : Type 0} (o : Option A) (f : A → Option B) (y : B) → (o >>= f) ≡ Some y → (x : A) × (o ≡ Some x) × (f x ≡ Some y)
+bind_some (Some x) f y e = (x, refl, e)
+bind_some None f y e = absurd cc
+
+pub some_is : {A : Type 0} (x y : A) → (Some x) ≡ (Some y) → x ≡ y
+some_is x y e = cc
+
+-- which way a test of bytes went
+pub tested : {A : Type 0} (a b : List ℕ) (x y z : A) → cond (bytes_eq a b) x y ≡ z → ((a ≡ b) × (x ≡ z)) ⊎ ((bytes_eq a b ≡ false) × (y ≡ z))
+tested {A} a b x y z e = by (bytes_eq a b) refl e
+  where
+    by : (t : Bool) → bytes_eq a b ≡ t → cond t x y ≡ z → ((a ≡ b) × (x ≡ z)) ⊎ ((bytes_eq a b ≡ false) × (y ≡ z))
+    by true is h = inl ((bytes_eq-Decides a b).0 is, h)
+    by false is h = inr (is, h)
+
+pub unequal : (a b : List ℕ) → a ≢ b → bytes_eq a b ≡ false
+unequal a b differ = by (bytes_eq a b) refl
+  where
+    by : (t : Bool) → bytes_eq a b ≡ t → bytes_eq a b ≡ false
+    by true is = absurd (differ ((bytes_eq-Decides a b).0 is))
+    by false is = is
+
+-- ---- types
+
+type_is : (w : List ℕ) (t : ValType) → type_named w ≡ Some t → w ≡ type_name t
+type_is w t e = elim (tested w (codes "i32") _ _ _ e) [
+  | inl p ↦ p.0 ∙ ap type_name (some_is I32 t p.1)
+  | inr p ↦ elim (tested w (codes "i64") _ _ _ p.1) [
+    | inl q ↦ q.0 ∙ ap type_name (some_is I64 t q.1)
+    | inr q ↦ elim (tested w (codes "f32") _ _ _ q.1) [
+      | inl r ↦ r.0 ∙ ap type_name (some_is F32 t r.1)
+      | inr r ↦ elim (tested w (codes "f64") _ _ _ r.1) [
+        | inl s ↦ s.0 ∙ ap type_name (some_is F64 t s.1)
+        | inr s ↦ absurd cc
+      ]
+    ]
+  ]
+]
+
+types_are : (ws : List (List ℕ)) (ts : List ValType) → all_named ws ≡ Some ts → ws ≡ map type_name ts
+unfolding all_named
+types_are [] ts e = ap (map type_name) (some_is [] ts e)
+types_are (w ∷ ws) ts e =
+    let a = bind_some (type_named w) (λ t. all_named ws >>= λ more. Some (t ∷ more)) ts e in
+    let b = bind_some (all_named ws) (λ more. Some (a.0 ∷ more)) ts a.2 in
+    let front : w ≡ type_name a.0 = type_is w a.0 a.1 in
+    let back : ws ≡ map type_name b.0 = types_are ws b.0 b.1 in
+    let whole : a.0 ∷ b.0 ≡ ts = some_is (a.0 ∷ b.0) ts b.2 in
+    ap (λ (v : List ℕ). v ∷ ws) front ∙ ap (λ (vs : List (List ℕ)). type_name a.0 ∷ vs) back ∙ ap (map type_name) whole
+
+some_pieces : (w : List ℕ) → 0 < length (pieces 44 w)
+some_pieces w = omega (arith, length-slice_split (λ b. b == 44) w)
+
+joined_types : (w : List ℕ) (ts : List ValType) → pieces 44 w ≡ map type_name ts → w ≡ types_word ts
+joined_types w [] e = absurd (omega (arith, some_pieces w, ap length e))
+joined_types w (t ∷ ts) e = sym (join_with_byte-slice_split 44 w) ∙ ap (join_with_byte 44) e
+
+-- a word that says types is theirs
+pub types_told : (w : List ℕ) (ts : List ValType) → types_of w ≡ Some ts → w ≡ types_word ts
+types_told w ts e = elim (tested w (codes "-") (Some []) (all_named (pieces 44 w)) (Some ts) e) [
+  | inl p ↦ p.0 ∙ ap types_word (some_is [] ts p.1)
+  | inr p ↦ joined_types w ts (types_are (pieces 44 w) ts p.1)
+]
+
+type_back : (t : ValType) → type_named (type_name t) ≡ Some t
+type_back I32 = refl
+type_back I64 = refl
+type_back F32 = refl
+type_back F64 = refl
+
+types_back : (ts : List ValType) → all_named (map type_name ts) ≡ Some ts
+unfolding all_named
+types_back [] = refl
+types_back (t ∷ ts) = rw (type_back t, types_back ts) refl
+
+graphic_type : (t : ValType) → AllPass is_graphic (type_name t)
+graphic_type I32 = AllPass-from_list_all is_graphic (codes "i32") refl
+graphic_type I64 = AllPass-from_list_all is_graphic (codes "i64") refl
+graphic_type F32 = AllPass-from_list_all is_graphic (codes "f32") refl
+graphic_type F64 = AllPass-from_list_all is_graphic (codes "f64") refl
+
+not_true : (b : Bool) → not b ≡ true → b ≡ false
+not_true true e = absurd cc
+not_true false e = refl
+
+without : (c : ℕ) (w : List ℕ) → list_all (λ x. not (x == c)) w ≡ true → IsWithout c w
+without c w e k d within = not_true _ (AllPass-from_list_all (λ x. not (x == c)) w e k d within)
+
+free_type : (t : ValType) → IsWithout 44 (type_name t)
+free_type I32 = without 44 (codes "i32") refl
+free_type I64 = without 44 (codes "i64") refl
+free_type F32 = without 44 (codes "f32") refl
+free_type F64 = without 44 (codes "f64") refl
+
+each_type : (P : List ℕ → Type 0) → ((t : ValType) → P (type_name t)) → (ts : List ValType) → All P (map type_name ts)
+each_type P holds [] = All-nil P
+each_type P holds (t ∷ ts) = All-cons P (type_name t) (map type_name ts) (holds t) (each_type P holds ts)
+
+no_dash : (t : ValType) (ts : List ValType) → bytes_eq (types_word (t ∷ ts)) (codes "-") ≡ false
+no_dash I32 [] = refl
+no_dash I64 [] = refl
+no_dash F32 [] = refl
+no_dash F64 [] = refl
+no_dash I32 (u ∷ ts) = refl
+no_dash I64 (u ∷ ts) = refl
+no_dash F32 (u ∷ ts) = refl
+no_dash F64 (u ∷ ts) = refl
+
+-- the word of types says them
+pub types_said : (ts : List ValType) → types_of (types_word ts) ≡ Some ts
+types_said [] = refl
+types_said (t ∷ ts) =
+    rw (no_dash t ts) (ap all_named (pieces-join 44 (type_name t) (map type_name ts) (each_type (IsWithout 44) free_type (t ∷ ts))) ∙ types_back (t ∷ ts))
+
+pub graphic_types : (ts : List ValType) → AllPass is_graphic (types_word ts)
+graphic_types [] = AllPass-from_list_all is_graphic (codes "-") refl
+graphic_types (t ∷ ts) = All-join (λ x. is_graphic x ≡ true) 44 (map type_name (t ∷ ts)) refl (each_type (AllPass is_graphic) graphic_type (t ∷ ts))
+
+-- ---- names
+
+utf8_told : (r : Result (List ℕ) FromHexError) (name : List ℕ) → utf8_of r ≡ Some name → (r ≡ Ok name) × IsUtf8 name
+utf8_told (Err d) name e = absurd cc
+utf8_told (Ok bytes) name e = let p = by (is_utf8 bytes) refl e in (ap Ok p.0, p.1)
+  where
+    by : (b : Bool) → is_utf8 bytes ≡ b → cond b (Some bytes) None ≡ Some name → (bytes ≡ name) × IsUtf8 name
+    by true is h = let same = some_is bytes name h in (same, subst IsUtf8 same (IsUtf8-from_is_utf8 bytes is))
+    by false is h = absurd cc
+
+plain_told : (w name : List ℕ) → take 2 w ≢ codes "x:" → (if is_plain w then Some w else None) ≡ Some name → IsPlainName w name
+plain_told w name bare e = by (is_plain w) refl e
+  where
+    made : is_plain w ≡ true → IsPlainName w w
+    made is = record {
+      same = refl;
+      some = λ none. absurd (grind (arith, is, none));
+      graphic = AllPass-from_list_all is_graphic w (grind (arith, is));
+      bare = bare;
+    }
+
+    by : (b : Bool) → is_plain w ≡ b → cond b (Some w) None ≡ Some name → IsPlainName w name
+    by true is h = subst (IsPlainName w) (some_is w name h) (made is)
+    by false is h = absurd cc
+
+-- a word that says a name spells it
+pub name_told : (w name : List ℕ) → name_of w ≡ Some name → SpellsName w name
+name_told w name e = elim (tested (take 2 w) (codes "x:") (utf8_of (decode_of (drop 2 w))) (if is_plain w then Some w else None) (Some name) e) [
+  | inl p ↦
+      let u = utf8_told (decode_of (drop 2 w)) name p.1 in
+      inr (record {
+        digits = drop 2 w;
+        parts = sym (take-append-drop 2 w) ∙ ap (λ (front : List ℕ). front ++ drop 2 w) p.0;
+        spelled = u.0;
+        utf8 = u.1;
+      })
+  | inr p ↦ inl (plain_told w name (λ is. absurd (cc (p.0, (bytes_eq-Decides (take 2 w) (codes "x:")).1 is))) p.1)
+]
+
+plain_said : (w name : List ℕ) → IsPlainName w name → name_of w ≡ Some name
+plain_said w name n =
+    let filled : (length name == 0) ≡ false = grind (arith, n.some) in
+    rw (n.same, unequal (take 2 name) (codes "x:") n.bare, filled, list_all-from_AllPass is_graphic name n.graphic) refl
+
+hex_said : (w name : List ℕ) → IsHexName w name → name_of w ≡ Some name
+hex_said w name n = rw (n.parts, n.spelled, is_utf8-from_IsUtf8 name n.utf8) refl
+
+-- a word that spells a name says it
+pub name_said : (w name : List ℕ) → SpellsName w name → name_of w ≡ Some name
+name_said w name (inl n) = plain_said w name n
+name_said w name (inr n) = hex_said w name n
+
+hex_graphic : (x : ℕ) → is_hex_digit x ≡ true → is_graphic x ≡ true
+hex_graphic x e = grind (arith, e)
+
+pub graphic_name : (w name : List ℕ) → SpellsName w name → AllPass is_graphic w
+graphic_name w name (inl n) = subst (AllPass is_graphic) (sym n.same) n.graphic
+graphic_name w name (inr n) =
+    let digits = (decode_of-ok n.digits name n.spelled).1 in
+    subst (AllPass is_graphic) (sym n.parts)
+    (All-append (λ x. is_graphic x ≡ true) (codes "x:") n.digits (AllPass-from_list_all is_graphic (codes "x:") refl) (λ k d within. hex_graphic (slice_index_or n.digits k d) (digits k d within)))
