@@ -1,7 +1,7 @@
 -- What each reader takes from the front, and what its faults are.
-use Rattle.std.proofs.Common.{◌≡◌, ℤ, ℕ, ◌+◌, ◌-◌, ◌<◌, ◌≤◌, true, cond, leb, ltb, inl, inr, List, [], ◌∷◌, ◌++◌, length, take, drop, Result, Ok, Err, Option, refl, sym, ap, ◌∙◌, length-append, length-take, arith}
+use Rattle.std.proofs.Common.{◌≡◌, ℤ, ℕ, ◌+◌, ◌-◌, ◌<◌, ◌≤◌, true, cond, leb, ltb, inl, inr, List, [], ◌∷◌, ◌++◌, length, take, drop, Result, Ok, Err, Option, refl, sym, ap, ◌∙◌, length-append, arith}
 use Rattle.std.proofs.lemmas.Bool.{leb-true, le-leb}
-use Rattle.std.proofs.lemmas.List.{take-append-drop, take_at, drop_at, get_or-append-add}
+use Rattle.std.proofs.lemmas.List.{take-append-drop, take_at, drop_at, get_or-append-add, length-take-le}
 use Rattle.std.specs.Str.{is_utf8}
 use Rattle.byteorder.specs.Endian.{little_number}
 use Rattle.wk_bytes.specs.declared.fault.ReadKind.{ReadKind}
@@ -79,18 +79,20 @@ unfolding byte_at
 byte_at-takes end [] x rest e = absurd cc
 byte_at-takes end (y ∷ bytes) x rest e = ap (λ (p : ℕ × List ℕ). p.0 ∷ p.1) (ok_is (y, bytes) (x, rest) e)
 
+-- the two parts of a cut
+cut_parts : (n : ℕ) (bytes piece rest : List ℕ) → take n bytes ≡ piece → drop n bytes ≡ rest → n ≤ length bytes → (bytes ≡ piece ++ rest) × (length piece ≡ n)
+cut_parts n bytes piece rest one two enough = (
+  sym (take-append-drop n bytes) ∙ ap (λ (a : List ℕ). a ++ drop n bytes) one ∙ ap (λ (b : List ℕ). piece ++ b) two,
+  sym (ap length one) ∙ length-take-le n bytes enough,
+)
+
 pub piece_at-takes : (n end : ℕ) (bytes piece rest : List ℕ) → piece_at n end bytes ≡ Ok (piece, rest) → (bytes ≡ piece ++ rest) × (length piece ≡ n)
 unfolding piece_at
 piece_at-takes n end bytes piece rest e =
     elim (chosen (leb n (length bytes)) (Ok (take n bytes, drop n bytes)) (Err (fault UnexpectedEnd end bytes)) (Ok (piece, rest)) e) [
       | inl p ↦
-          let enough : n ≤ length bytes = leb-true _ _ p.0 in
-          let both : (take n bytes, drop n bytes) ≡ (piece, rest) = ok_is (take n bytes, drop n bytes) (piece, rest) p.1 in
-          let one : take n bytes ≡ piece = ap (λ (q : List ℕ × List ℕ). q.0) both in
-          let two : drop n bytes ≡ rest = ap (λ (q : List ℕ × List ℕ). q.1) both in (
-            sym (take-append-drop n bytes) ∙ ap (λ (a : List ℕ). a ++ drop n bytes) one ∙ ap (λ (b : List ℕ). piece ++ b) two,
-            omega (arith, ap length one, length-take n bytes),
-          )
+          let both : (take n bytes, drop n bytes) ≡ (piece, rest) = ok_is _ _ p.1 in
+          cut_parts n bytes piece rest (ap (λ (q : List ℕ × List ℕ). q.0) both) (ap (λ (q : List ℕ × List ℕ). q.1) both) (leb-true n (length bytes) p.0)
       | inr p ↦ absurd cc
     ]
 
