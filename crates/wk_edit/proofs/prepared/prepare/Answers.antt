@@ -9,13 +9,13 @@ pub returns-in-Err-clause-means : goal.returns-in-Err-clause-means
 returns-in-Err-clause-means c = malformed_means c.args.input.now c.args.script.now _ c.in-Err.fault c.of_malformed.ensures.other c.in-Err.ensures.exact c.in-Err.ensures.refused c.in-Err.ensures.fault
 
 pub returns-in-Ok-read_script-clause-ok : goal.returns-in-Ok-read_script-clause-ok
-returns-in-Ok-read_script-clause-ok c = ran_ok c.args.input.now c.args.script.now _ c.in-Ok.session (Ok c.in-Ok-read_script.edits.items) (rw (← c.deref.ensures.value) c.of_run.ensures.ok) c.in-Ok.ensures.exact c.in-Ok-read_script.ensures
+returns-in-Ok-read_script-clause-ok c = ran_ok c.args.input.now c.args.script.now _ c.in-Ok.session (Ok c.in-Ok-read_script.edits.items) (rw (← c.deref.ensures.value) c.of_run.ensures.ok) c.in-Ok.ensures.exact c.in-Ok-read_script.ensures.exact
 
 pub returns-in-Ok-read_script-clause-means : goal.returns-in-Ok-read_script-clause-means
 returns-in-Ok-read_script-clause-means c = when_ok _ _ (ran_means c.args.input.now c.args.script.now c.in-Ok.session c.in-Ok.ensures.found c.in-Ok.ensures.exact)
 
 pub returns-in-Err-read_script-clause-ok : goal.returns-in-Err-read_script-clause-ok
-returns-in-Err-read_script-clause-ok c = script_ok c.args.input.now c.args.script.now _ c.in-Ok.session c.in-Err-read_script.fault c.of_script.ensures.ok c.of_script.ensures.other c.in-Ok.ensures.exact c.in-Err-read_script.ensures
+returns-in-Err-read_script-clause-ok c = script_ok c.args.input.now c.args.script.now _ c.in-Ok.session c.in-Err-read_script.fault c.of_script.ensures.ok c.of_script.ensures.other c.in-Ok.ensures.exact c.in-Err-read_script.ensures.exact
 
 pub returns-in-Err-read_script-clause-means : goal.returns-in-Err-read_script-clause-means
 returns-in-Err-read_script-clause-means c = when_ok _ _ (ran_means c.args.input.now c.args.script.now c.in-Ok.session c.in-Ok.ensures.found c.in-Ok.ensures.exact)

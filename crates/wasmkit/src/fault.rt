@@ -1,0 +1,85 @@
+//! Why a command gives no answer.
+
+use crate::store::StoreFault;
+use std::alloc::{AllocError, AllocFailed};
+use thiserror::Error;
+use wk_edit::RunFault;
+
+/// Why a command gives no answer. Its text, which ends with LF, goes to standard error.
+#[derive(Debug, Drop, Error)]
+pub enum ProgramFault<'a> {
+    /// The words are no command, or ask for help.
+    #[error("{0}")]
+    CommandLine(clap::Error),
+    /// The words are a command, but not a good one.
+    #[error("bad command line\n")]
+    BadWords,
+    /// The file of this name could not be read.
+    #[error("cannot read {0}\n")]
+    Read(&'a str),
+    /// The file of this name could not be written.
+    #[error("cannot write {0}\n")]
+    Write(&'a str),
+    /// Standard output failed.
+    #[error("cannot write standard output\n")]
+    Output,
+    /// A growth was refused.
+    #[error("out of memory\n")]
+    Memory,
+}
+
+impl<'a> ProgramFault<'a> {
+    /// The status of the program: 3 for its words, 4 for files and standard output, 5 for memory.
+    pub fn status(&self) -> u8 {
+        match self {
+            ProgramFault::CommandLine(error) => match error.kind() {
+                clap::error::ErrorKind::OutOfMemory => 5,
+                _ => 3,
+            },
+            ProgramFault::BadWords => 3,
+            ProgramFault::Read(_) | ProgramFault::Write(_) | ProgramFault::Output => 4,
+            ProgramFault::Memory => 5,
+        }
+    }
+
+    /// Of a file that was not read.
+    pub fn of_load(fault: StoreFault, name: &'a str) -> ProgramFault<'a> {
+        match fault {
+            StoreFault::Failed => ProgramFault::Read(name),
+            StoreFault::Memory => ProgramFault::Memory,
+        }
+    }
+
+    /// Of a file that was not written.
+    pub fn of_save(fault: StoreFault, name: &'a str) -> ProgramFault<'a> {
+        match fault {
+            StoreFault::Failed => ProgramFault::Write(name),
+            StoreFault::Memory => ProgramFault::Memory,
+        }
+    }
+}
+
+impl<'a> From<clap::Error> for ProgramFault<'a> {
+    fn from(error: clap::Error) -> ProgramFault<'a> {
+        ProgramFault::CommandLine(error)
+    }
+}
+
+// The program's outputs of a run lie in memory, so that each of its faults is a growth that was refused.
+impl<'a> From<RunFault> for ProgramFault<'a> {
+    fn from(_fault: RunFault) -> ProgramFault<'a> {
+        ProgramFault::Memory
+    }
+}
+
+impl<'a> From<AllocError> for ProgramFault<'a> {
+    fn from(_error: AllocError) -> ProgramFault<'a> {
+        ProgramFault::Memory
+    }
+}
+
+impl<'a, T: Drop> From<AllocFailed<T>> for ProgramFault<'a> {
+    fn from(_error: AllocFailed<T>) -> ProgramFault<'a> {
+        ProgramFault::Memory
+    }
+}

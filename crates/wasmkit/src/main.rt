@@ -1,0 +1,45 @@
+//! `wasmkit`: reads, judges and edits WebAssembly 1.0 binary modules.
+#![tactic(auto)]
+
+mod command;
+mod commands;
+mod fault;
+mod files;
+mod store;
+
+use crate::commands::{program, tell};
+use crate::fault::ProgramFault;
+use crate::files::MachineFiles;
+use std::process::ExitCode;
+use std::{env, io};
+use wk_bytes::Stream;
+
+// The words after the program's name.
+fn words(rt: &HostRuntime) -> io::Result<Vec<String>> {
+    Ok(env::args(rt)?.skip(1).collect(rt.alloc())?)
+}
+
+// Words that are no text are a bad command line.
+fn fault_of(error: &io::Error) -> ProgramFault<'static> {
+    match error.kind() {
+        io::ErrorKind::OutOfMemory => ProgramFault::Memory,
+        _ => ProgramFault::BadWords,
+    }
+}
+
+fn main(rt: HostRuntime) -> io::Result<ExitCode> {
+    let alloc = rt.alloc();
+    let mut err = Stream::new(rt.stderr());
+    let status = match words(&rt) {
+        Ok(words) => {
+            let mut store = MachineFiles::new(&rt);
+            let mut out = Stream::new(rt.stdout());
+            program(alloc, &words, &mut store, &mut out, &mut err)
+        }
+        Err(error) => tell(alloc, &fault_of(&error), &mut err),
+    };
+    Ok(ExitCode::from(status))
+}
+
+#[cfg(test)]
+mod tests;

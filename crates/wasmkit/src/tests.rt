@@ -1,0 +1,268 @@
+use crate::commands::program;
+use crate::store::{Store, StoreFault};
+use std::alloc::Global;
+use std::test::Fail;
+use wk_bytes::{Out, OutFault, Sink};
+
+const EMPTY: &[u8] = b"\0asm\x01\0\0\0";
+
+const ONE_TYPE: &[u8] = b"\0asm\x01\0\0\0\x01\x04\x01\x60\0\0";
+
+const TWO_RESULTS: &[u8] = b"\0asm\x01\0\0\0\x01\x07\x01\x60\x01\x7f\x02\x7f\x7f";
+
+const BAD_NAME: &[u8] = b"\0asm\x01\0\0\0\0\x02\x01\xff";
+
+const CUSTOMS: &[u8] = b"\0asm\x01\0\0\0\0\x03\x01d\x01\x01\x04\x01\x60\0\0\0\x02\x01e\0\x02\x01d";
+
+const WITHOUT_D: &[u8] = b"\0asm\x01\0\0\0\x01\x04\x01\x60\0\0\0\x02\x01e";
+
+// Two files, and what was saved.
+#[derive(Drop)]
+struct Shelf {
+    alloc: Global,
+    module: &'static [u8],
+    script: &'static str,
+    is_full: bool,
+    saved: Option<Vec<u8>>,
+}
+
+impl Store for Shelf {
+    fn load(&mut self, name: &str) -> Result<Vec<u8>, StoreFault> {
+        let bytes = if name == "in.wasm" {
+            self.module
+        } else if name == "script" {
+            self.script.as_bytes()
+        } else if name == "large" {
+            return Err(StoreFault::Memory);
+        } else {
+            return Err(StoreFault::Failed);
+        };
+        Vec::from_slice(self.alloc, bytes).map_err(|_| StoreFault::Memory)
+    }
+
+    fn save(&mut self, _name: &str, bytes: &[u8]) -> Result<(), StoreFault> {
+        if self.is_full {
+            return Err(StoreFault::Failed);
+        }
+        self.saved = Some(Vec::from_slice(self.alloc, bytes).map_err(|_| StoreFault::Memory)?);
+        Ok(())
+    }
+}
+
+// An output that takes nothing.
+#[derive(Drop)]
+struct Closed {
+    failures: u64,
+}
+
+impl Out for Closed {
+    ghost use Rattle.std.specs.Prelude.{None};
+
+    ghost taken = { λ c. None };
+
+    ghost failed = { λ c. c.failures };
+
+    fn put(&mut self, _piece: &[u8]) -> Result<usize, OutFault> {
+        self.failures += 1;
+        Err(OutFault)
+    }
+
+    fn failures(&self) -> u64 {
+        self.failures
+    }
+}
+
+fn stocked(alloc: Global, module: &'static [u8], script: &'static str) -> Shelf {
+    Shelf {
+        alloc,
+        module,
+        script,
+        is_full: false,
+        saved: None,
+    }
+}
+
+fn owned(alloc: Global, words: &[&str]) -> Result<Vec<String>, Fail> {
+    let mut given = Vec::new(alloc);
+    for word in words {
+        given.push(String::from_str(alloc, word)?)?;
+    }
+    Ok(given)
+}
+
+const EDIT: [&str; 4] = ["edit", "in.wasm", "script", "out.wasm"];
+
+#[test]
+fn edits(rt: HostRuntime) -> Result<(), Fail> {
+    let alloc = rt.alloc();
+    let words = owned(alloc, &EDIT)?;
+    let rows: [(&[u8], &str, u8, &str, Option<&[u8]>); 12] = [
+        (EMPTY, "type - -\n", 0, "1 ok\nvalid\n", Some(ONE_TYPE)),
+        (EMPTY, "", 0, "valid\n", Some(EMPTY)),
+        (
+            EMPTY,
+            "type i32 i32,i32\n",
+            1,
+            "1 ok\ninvalid V1 TypeArity at section 1 item 0\n",
+            Some(TWO_RESULTS),
+        ),
+        (
+            EMPTY,
+            "custom strip d\ntype - -\n",
+            1,
+            "1 refused E3 NoSuchCustom\n2 ok\nvalid\n",
+            Some(ONE_TYPE),
+        ),
+        (
+            CUSTOMS,
+            "custom strip d",
+            0,
+            "1 ok\nvalid\n",
+            Some(WITHOUT_D),
+        ),
+        (CUSTOMS, "\n", 0, "valid\n", Some(CUSTOMS)),
+        (
+            TWO_RESULTS,
+            "",
+            1,
+            "invalid V1 TypeArity at section 1 item 0\n",
+            Some(TWO_RESULTS),
+        ),
+        (EMPTY, "type i32\n", 3, "script S1 BadWord line 1\n", None),
+        (
+            EMPTY,
+            "type - -\nstrip\n",
+            3,
+            "script S1 BadWord line 2\n",
+            None,
+        ),
+        (EMPTY, "\u{e9}\n", 3, "script S2 NotAscii line 1\n", None),
+        (
+            BAD_NAME,
+            "type - -\n",
+            2,
+            "malformed R9 BadUtf8 at 0x0000000b\n",
+            None,
+        ),
+        (
+            b"",
+            "no edit\n",
+            2,
+            "malformed R3 UnexpectedEnd at 0x00000000\n",
+            None,
+        ),
+    ];
+    for (module, script, status, report, saved) in rows {
+        let mut store = stocked(alloc, module, script);
+        let mut out = Sink::new(Vec::new(alloc));
+        let mut err = Sink::new(Vec::new(alloc));
+        let found = program(alloc, &words, &mut store, &mut out, &mut err);
+        assert_eq!(rt; found, status, "{report}");
+        assert_eq!(rt; out.into_inner().as_slice(), report.as_bytes(), "{report}");
+        assert!(rt; err.into_inner().is_empty(), "{report}");
+        assert_eq!(rt; store.saved.as_deref(), saved, "{report}");
+    }
+    Ok(())
+}
+
+#[test]
+fn refuses_words_and_files(rt: HostRuntime) -> Result<(), Fail> {
+    let alloc = rt.alloc();
+    let rows: [(&[&str], u8, &str); 14] = [
+        (
+            &["edit", "none", "script", "out.wasm"],
+            4,
+            "cannot read none\n",
+        ),
+        (
+            &["edit", "in.wasm", "none", "out.wasm"],
+            4,
+            "cannot read none\n",
+        ),
+        (&["edit", "", "script", "out.wasm"], 4, "cannot read \n"),
+        (
+            &["edit", "large", "script", "out.wasm"],
+            5,
+            "out of memory\n",
+        ),
+        (
+            &["edit", "in.wasm", "script", "in.wasm"],
+            3,
+            "bad command line\n",
+        ),
+        (
+            &["edit", "in.wasm", "script", "script"],
+            3,
+            "bad command line\n",
+        ),
+        (&["edit", "none", "none", "none"], 3, "bad command line\n"),
+        (&[], 3, ""),
+        (&["edit"], 3, ""),
+        (&["edit", "in.wasm", "script"], 3, ""),
+        (&["edit", "in.wasm", "script", "out.wasm", "more"], 3, ""),
+        (
+            &["edit", "--keep-valid", "in.wasm", "script", "out.wasm"],
+            3,
+            "",
+        ),
+        (&["paint", "in.wasm"], 3, ""),
+        (&["--help"], 3, ""),
+    ];
+    for (words, status, said) in rows {
+        let words = owned(alloc, words)?;
+        let mut store = stocked(alloc, EMPTY, "");
+        let mut out = Sink::new(Vec::new(alloc));
+        let mut err = Sink::new(Vec::new(alloc));
+        let found = program(alloc, &words, &mut store, &mut out, &mut err);
+        let err = err.into_inner();
+        assert_eq!(rt; found, status, "{said}");
+        assert!(rt; out.into_inner().is_empty() && store.saved.is_none());
+        // What `clap` says is its own; it says something, whole lines of it.
+        if said.is_empty() {
+            assert!(rt; err.ends_with(b"\n"));
+        } else {
+            assert_eq!(rt; err.as_slice(), said.as_bytes());
+        }
+    }
+    Ok(())
+}
+
+#[test]
+fn says_what_fails(rt: HostRuntime) -> Result<(), Fail> {
+    let alloc = rt.alloc();
+    let words = owned(alloc, &EDIT)?;
+    let mut store = stocked(alloc, EMPTY, "type - -");
+    store.is_full = true;
+    let mut out = Sink::new(Vec::new(alloc));
+    let mut err = Sink::new(Vec::new(alloc));
+    assert_eq!(rt; program(alloc, &words, &mut store, &mut out, &mut err), 4);
+    assert!(rt; out.into_inner().is_empty());
+    assert_eq!(rt;
+        err.into_inner().as_slice(),
+        b"cannot write out.wasm\n".as_slice()
+    );
+
+    let mut store = stocked(alloc, EMPTY, "type - -");
+    let mut closed = Closed { failures: 0 };
+    let mut err = Sink::new(Vec::new(alloc));
+    assert_eq!(rt;
+        program(alloc, &words, &mut store, &mut closed, &mut err),
+        4
+    );
+    assert_eq!(rt;
+        err.into_inner().as_slice(),
+        b"cannot write standard output\n".as_slice()
+    );
+    assert_eq!(rt; store.saved.as_deref(), Some(ONE_TYPE));
+
+    let words = owned(alloc, &["edit", "none", "script", "out.wasm"])?;
+    let mut store = stocked(alloc, EMPTY, "");
+    let mut out = Sink::new(Vec::new(alloc));
+    let mut closed = Closed { failures: 0 };
+    assert_eq!(rt;
+        program(alloc, &words, &mut store, &mut out, &mut closed),
+        4
+    );
+    assert_eq!(rt; closed.failures(), 1);
+    Ok(())
+}
