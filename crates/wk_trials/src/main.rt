@@ -8,6 +8,7 @@
 
 mod bytes;
 mod mark;
+mod modules;
 mod outcome;
 mod scenario;
 

@@ -1,7 +1,7 @@
 //! The scenarios and their names.
 
-use crate::bytes;
 use crate::outcome::Outcome;
+use crate::{bytes, modules};
 use std::alloc::{AllocError, Global};
 
 /// A call under test.
@@ -23,11 +23,31 @@ pub enum Scenario {
     ItemsCopy,
     /// `Text::copy`.
     TextCopy,
+    /// `wk_module::read`.
+    Read,
+    /// `wk_module::encode`.
+    Encode,
+    /// `wk_check::judge`: so far it takes no memory.
+    Judge,
+    /// `Session::open`.
+    Open,
+    /// `Session::apply` of a type.
+    ApplyType,
+    /// `Session::apply` of custom sections to strip: it takes no memory.
+    ApplyStrip,
+    /// `Session::run`.
+    Run,
+    /// `Session::write` to a `Sink` with room.
+    Write,
+    /// `wk_edit::read_script`.
+    ReadScript,
+    /// `wk_edit::edit` to two `Sink`s with room.
+    Edit,
 }
 
 impl Scenario {
     /// All scenarios, in the order in which they are run.
-    pub const ALL: [Scenario; 8] = [
+    pub const ALL: [Scenario; 18] = [
         Scenario::PutU32,
         Scenario::SinkPut,
         Scenario::SinkPutInRoom,
@@ -36,6 +56,16 @@ impl Scenario {
         Scenario::ItemsPush,
         Scenario::ItemsCopy,
         Scenario::TextCopy,
+        Scenario::Read,
+        Scenario::Encode,
+        Scenario::Judge,
+        Scenario::Open,
+        Scenario::ApplyType,
+        Scenario::ApplyStrip,
+        Scenario::Run,
+        Scenario::Write,
+        Scenario::ReadScript,
+        Scenario::Edit,
     ];
 
     /// The word that names it.
@@ -49,6 +79,16 @@ impl Scenario {
             Scenario::ItemsPush => "items-push",
             Scenario::ItemsCopy => "items-copy",
             Scenario::TextCopy => "text-copy",
+            Scenario::Read => "read",
+            Scenario::Encode => "encode",
+            Scenario::Judge => "judge-in-room",
+            Scenario::Open => "open",
+            Scenario::ApplyType => "apply-type",
+            Scenario::ApplyStrip => "apply-strip-in-room",
+            Scenario::Run => "run",
+            Scenario::Write => "write",
+            Scenario::ReadScript => "read-script",
+            Scenario::Edit => "edit",
         }
     }
 
@@ -71,6 +111,16 @@ impl Scenario {
             Scenario::ItemsPush => bytes::pushes_item(alloc),
             Scenario::ItemsCopy => bytes::copies_items(alloc),
             Scenario::TextCopy => bytes::copies_text(alloc),
+            Scenario::Read => modules::reads(alloc),
+            Scenario::Encode => modules::encodes(alloc),
+            Scenario::Judge => modules::judges(alloc),
+            Scenario::Open => modules::opens(alloc),
+            Scenario::ApplyType => modules::applies_type(alloc),
+            Scenario::ApplyStrip => modules::applies_strip(alloc),
+            Scenario::Run => modules::runs(alloc),
+            Scenario::Write => modules::writes(alloc),
+            Scenario::ReadScript => modules::reads_script(alloc),
+            Scenario::Edit => modules::edits(alloc),
         }
     }
 }
