@@ -1,6 +1,6 @@
 -- What a reader of bytes hands up of a fault that stands.
 use Rattle.std.proofs.Common.{◌≡◌, ℕ, ◌+◌, ◌-◌, ◌<◌, ◌≤◌, Bool, true, false, cond, leb, inl, inr, List, [], ◌∷◌, ◌++◌, length, take, drop, Result, Ok, Err, Option, refl, sym, ap, subst, ◌∙◌, append_assoc, length-append, arith}
-use Rattle.std.proofs.lemmas.List.{take-append-le}
+use Rattle.std.proofs.lemmas.List.{take-append-le, append-nil}
 use Rattle.std.specs.Prelude.{IfErr}
 use Rattle.std.specs.Str.{is_utf8}
 use Rattle.std.proofs.lemmas.Str.{is_utf8-from_IsUtf8}
@@ -13,7 +13,7 @@ use Rattle.wk_bytes.specs.LebLaws.{bind_ok, chosen, uint_wrong, sint_wrong}
 use Rattle.wk_bytes.specs.Span.{Span, fault, byte_at, piece_at, u32_at, signed_at, word_at, name_at, Gives}
 use Rattle.wk_bytes.specs.SpanLaws.{ok_is, err_is, placed_err, byte_at-takes, piece_at-takes, u32_at-takes, signed_at-takes}
 use Rattle.wk_bytes.specs.Frames.{Section}
-use Rattle.wk_bytes.specs.Stands.{BeginsOtherwise, Begins, IsWidth, StandsAt, Stands, contents_of, whole, LiesIn}
+use Rattle.wk_bytes.specs.Stands.{BeginsOtherwise, Begins, IsWidth, StandsAt, Stands, StandsOrMemory, StandsIn, contents_of, whole, LiesIn}
 
 -- ---- more bytes behind change nothing
 
@@ -96,6 +96,24 @@ Stands-contents bytes s e lies stood = record {
 -- a fault at the first byte
 pub Stands-here : (kind : ReadKind) (end : ℕ) (bytes : List ℕ) → StandsAt kind bytes → Stands (record { rest = bytes; end = end }) (fault kind end bytes)
 Stands-here kind end bytes stands = record { skipped = []; from = bytes; parts = refl; place = omega arith; stands = stands }
+
+-- a fault at the end of an input
+pub Stands-at_end : (kind : ReadKind) (bytes : List ℕ) → StandsAt kind [] → Stands (whole bytes) (record { kind = kind; at = length bytes })
+Stands-at_end kind bytes stands = record { skipped = bytes; from = []; parts = sym (append-nil bytes); place = omega arith; stands = stands }
+
+-- ---- the same of calls that take memory
+
+pub StandsOrMemory-later : (front : List ℕ) (s t : Span) (e : ReadFault) → s.rest ≡ front ++ t.rest → s.end ≡ t.end → length s.rest ≤ s.end → StandsOrMemory t e → StandsOrMemory s e
+StandsOrMemory-later front s t e parts ends fits (inl none) = inl none
+StandsOrMemory-later front s t e parts ends fits (inr stood) = inr (Stands-later front s t e parts ends fits stood)
+
+pub StandsOrMemory-contents : (bytes : List ℕ) (s : Section) (e : ReadFault) → LiesIn bytes s → StandsOrMemory (contents_of s) e → StandsIn bytes e
+StandsOrMemory-contents bytes s e lies (inl none) = inl none
+StandsOrMemory-contents bytes s e lies (inr stood) = inr (inr (Stands-contents bytes s e lies stood))
+
+pub StandsOrMemory-whole : (bytes : List ℕ) (e : ReadFault) → StandsOrMemory (whole bytes) e → StandsIn bytes e
+StandsOrMemory-whole bytes e (inl none) = inl none
+StandsOrMemory-whole bytes e (inr stood) = inr (inr stood)
 
 -- ---- the faults of a reader
 
