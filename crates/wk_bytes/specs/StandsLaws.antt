@@ -1,5 +1,6 @@
 -- What a reader of bytes hands up of a fault that stands.
-use Rattle.std.proofs.Common.{◌≡◌, ℕ, ◌+◌, ◌-◌, ◌<◌, ◌≤◌, Bool, true, false, cond, leb, inl, inr, List, [], ◌∷◌, ◌++◌, length, take, drop, Result, Ok, Err, Option, refl, sym, ap, subst, ◌∙◌, append_assoc, length-append, arith}
+use Rattle.std.proofs.Common.{◌≡◌, ℕ, ◌+◌, ◌-◌, ◌<◌, ◌≤◌, cond, leb, inl, inr, List, [], ◌∷◌, ◌++◌, length, take, drop, Result, Ok, Err, Option, refl, sym, ap, subst, ◌∙◌, append_assoc, length-append, arith}
+use Rattle.std.proofs.lemmas.Bool.{false≢true}
 use Rattle.std.proofs.lemmas.List.{take-append-le, append-nil}
 use Rattle.std.specs.Prelude.{IfErr}
 use Rattle.std.specs.Str.{is_utf8}
@@ -150,7 +151,7 @@ module _ {A B : Type 0} (read : ℕ → List ℕ → Result (A × List ℕ) Read
 
 -- ---- each reader
 
-stands_as : (kind : ReadKind) (end : ℕ) (bytes : List ℕ) (e : ReadFault) → fault kind end bytes ≡ e → StandsAt kind bytes → Stands (record { rest = bytes; end = end }) e
+pub stands_as : (kind : ReadKind) (end : ℕ) (bytes : List ℕ) (e : ReadFault) → fault kind end bytes ≡ e → StandsAt kind bytes → Stands (record { rest = bytes; end = end }) e
 stands_as kind end bytes e is stands = subst (Stands (record { rest = bytes; end = end })) is (Stands-here kind end bytes stands)
 
 byte_at-faults : (end : ℕ) (bytes : List ℕ) (e : ReadFault) → byte_at end bytes ≡ Err e → length bytes ≤ end → Stands (record { rest = bytes; end = end }) e
@@ -221,9 +222,6 @@ text_at-takes n end bytes text rest e =
       | inr p ↦ absurd cc
     ]
 
-true_is_not_false : (b : Bool) → b ≡ false → b ≡ true → ⊥
-true_is_not_false b p q = cc
-
 text_at-faults_of : (n end : ℕ) (bytes : List ℕ) (e : ReadFault) (r : Result (List ℕ × List ℕ) ReadFault) → piece_at n end bytes ≡ r → (r >>= λ text. cond (is_utf8 text.0) (Ok text) (Err (fault BadUtf8 end bytes))) ≡ Err e → length bytes ≤ end → Stands (record { rest = bytes; end = end }) e
 text_at-faults_of n end bytes e (Err d) is h fits = piece_at-faults n end bytes e (is ∙ cc) fits
 text_at-faults_of n end bytes e (Ok text) is h fits =
@@ -231,7 +229,7 @@ text_at-faults_of n end bytes e (Ok text) is h fits =
       | inl p ↦ absurd cc
       | inr p ↦
           let t = piece_at-takes n end bytes text.0 text.1 is in
-          stands_as BadUtf8 end bytes e (err_is {A = List ℕ × List ℕ} _ _ p.1) (text.0, text.1, t.0, λ utf8. true_is_not_false (is_utf8 text.0) p.0 (is_utf8-from_IsUtf8 text.0 utf8))
+          stands_as BadUtf8 end bytes e (err_is {A = List ℕ × List ℕ} _ _ p.1) (text.0, text.1, t.0, λ utf8. false≢true (sym p.0 ∙ is_utf8-from_IsUtf8 text.0 utf8))
     ]
 
 text_at-faults : (n end : ℕ) (bytes : List ℕ) (e : ReadFault) → text_at n end bytes ≡ Err e → length bytes ≤ end → Stands (record { rest = bytes; end = end }) e
