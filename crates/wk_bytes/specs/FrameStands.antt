@@ -2,11 +2,10 @@
 use Rattle.std.proofs.Common.{◌≡◌, ℕ, zero, suc, ◌-◌, ◌<◌, ◌≤◌, max, Bool, true, false, cond, leb, ltb, ◌&&◌, inl, inr, List, [], ◌∷◌, ◌++◌, length, take, Result, Ok, Err, refl, sym, ap, subst, ◌∙◌, append_assoc, length-append, arith}
 use Rattle.std.specs.Prelude.{All}
 use Rattle.std.proofs.lemmas.List.Elements.{All-nil, All-cons}
-use Rattle.std.proofs.lemmas.Bool.{ltb-false, ltb-true}
+use Rattle.std.proofs.lemmas.Bool.{ltb-false, ltb-true, false≢true}
 use Rattle.std.proofs.lemmas.List.{take_at}
 use Rattle.std.proofs.lemmas.Slice.Eq.{bytes_eq-Decides}
 use Rattle.std.specs.Str.{bytes_eq}
-use Rattle.wk_bytes.specs.declared.fault.ReadKind.{ReadKind}
 use Rattle.wk_bytes.specs.declared.fault.ReadKind.TheVariants.{BadMagic, BadVersion, UnknownSection, SectionOrder}
 use Rattle.wk_bytes.specs.declared.fault.ReadFault.{ReadFault}
 use Rattle.wk_bytes.specs.Fault.{long_input}
@@ -16,13 +15,10 @@ use Rattle.wk_bytes.specs.Span.{Span, fault, byte_at, u32_at, piece_at}
 use Rattle.wk_bytes.specs.SpanLaws.{ok_is, err_is, piece_at-takes, u32_at-takes}
 use Rattle.wk_bytes.specs.Frames.{Section, id_at, section_at, each_then, sections_within, sections_from, limit, magic, version, header_at, framing, sections_of}
 use Rattle.wk_bytes.specs.FrameLaws.{first_then, second_then, steps_of, id_at-takes, header_at-takes}
-use Rattle.wk_bytes.specs.Stands.{BeginsOtherwise, StandsAt, Stands, StandsIn, whole, LiesIn, ItemStands}
-use Rattle.wk_bytes.specs.StandsLaws.{Stands-here, Stands-later, ReadsFront, ReadsFront-then, ReadsFront-byte_at, ReadsFront-piece_at, ReadsFront-u32_at}
+use Rattle.wk_bytes.specs.Stands.{BeginsOtherwise, Stands, StandsIn, whole, LiesIn, ItemStands}
+use Rattle.wk_bytes.specs.StandsLaws.{stands_as, Stands-later, ReadsFront, ReadsFront-then, ReadsFront-byte_at, ReadsFront-piece_at, ReadsFront-u32_at}
 
 -- ---- a section
-
-first_is : (kind : ReadKind) (end : ℕ) (bytes : List ℕ) (e : ReadFault) → fault kind end bytes ≡ e → StandsAt kind bytes → Stands (record { rest = bytes; end = end }) e
-first_is kind end bytes e is stands = subst (Stands (record { rest = bytes; end = end })) is (Stands-here kind end bytes stands)
 
 both_true : (a b : Bool) → (a && b) ≡ true → (a ≡ true) × (b ≡ true)
 both_true true b e = (refl, e)
@@ -33,13 +29,13 @@ unfolding id_at byte_at
 id_at-faults last end [] e h fits = ReadsFront-byte_at.faults end [] e (cc) fits
 id_at-faults last end (x ∷ bytes) e h fits =
     elim (chosen (ltb 11 x) (Err (fault UnknownSection end (x ∷ bytes))) (cond (ltb 0 x && leb x last) (Err (fault SectionOrder end (x ∷ bytes))) (Ok (x, bytes))) (Err e) h) [
-      | inl p ↦ first_is UnknownSection end (x ∷ bytes) e (err_is {A = ℕ × List ℕ} _ _ p.1) (ltb-true _ _ p.0)
+      | inl p ↦ stands_as UnknownSection end (x ∷ bytes) e (err_is {A = ℕ × List ℕ} _ _ p.1) (ltb-true _ _ p.0)
       | inr p ↦
           elim (chosen (ltb 0 x && leb x last) (Err (fault SectionOrder end (x ∷ bytes))) (Ok (x, bytes)) (Err e) p.1) [
             | inl q ↦
                 let tests = both_true (ltb 0 x) (leb x last) q.0 in
                 let some : 0 < x = ltb-true _ _ tests.0 in
-                first_is SectionOrder end (x ∷ bytes) e (err_is {A = ℕ × List ℕ} _ _ q.1) (some, ltb-false _ _ p.0)
+                stands_as SectionOrder end (x ∷ bytes) e (err_is {A = ℕ × List ℕ} _ _ q.1) (some, ltb-false _ _ p.0)
             | inr q ↦ absurd cc
           ]
     ]
@@ -118,14 +114,11 @@ sections_from-stand last input front bytes parts = all_within (length bytes) las
 
 -- ---- the header
 
-differs : (b : Bool) → b ≡ false → b ≡ true → ⊥
-differs b p q = cc
-
 -- a half that is another
 half_differs : (half piece rest bytes : List ℕ) → bytes ≡ piece ++ rest → length piece ≡ length half → bytes_eq piece half ≡ false → BeginsOtherwise half bytes
 half_differs half piece rest bytes parts long other = (
   omega (arith, ap length parts, length-append piece rest, long),
-  λ e. differs (bytes_eq piece half) other ((bytes_eq-Decides piece half).1 (sym (take_at piece rest (length half) long) ∙ ap (take (length half)) (sym parts) ∙ e)),
+  λ e. false≢true (sym other ∙ (bytes_eq-Decides piece half).1 (sym (take_at piece rest (length half) long) ∙ ap (take (length half)) (sym parts) ∙ e)),
 )
 
 second_faults : (input first rest : List ℕ) (e : ReadFault) (r : Result (List ℕ × List ℕ) ReadFault) → input ≡ first ++ rest → length first ≡ 4 → piece_at 4 (length input) rest ≡ r

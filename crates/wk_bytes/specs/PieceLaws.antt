@@ -7,13 +7,10 @@ use Rattle.wk_bytes.specs.Leb.{SpellsU, SpellsS, uint_at, sint_at}
 use Rattle.wk_bytes.specs.LebLaws.{IsBytes, uint_spells, uint_again, sint_spells, sint_again}
 use Rattle.wk_bytes.specs.PrefixFree.{IsPrefixFree}
 use Rattle.wk_bytes.specs.Span.{Span, byte_at, piece_at, u32_at, signed_at, word_at, name_at, Gives, TakesSpelling}
-use Rattle.wk_bytes.specs.SpanLaws.{ok_is, placed_ok, byte_at-takes, piece_at-takes, piece_at-again, word_at-takes, name_at-steps}
+use Rattle.wk_bytes.specs.SpanLaws.{not_both, ok_is, placed_ok, byte_at-takes, piece_at-takes, piece_at-again, word_at-takes, name_at-steps}
 use Rattle.wk_bytes.specs.Pieces.{SpellsByte, SpellsPiece, SpellsWord, SpellsName}
 
 -- ---- of any reader that reads each spelling in front, whatever follows
-
-not_both : {A : Type 0} (r : Result A ReadFault) (e : ReadFault) (x : A) → r ≡ Err e → r ≡ Ok x → ⊥
-not_both r e x p q = cc
 
 module _ {Y : Type 0} (Spells : List ℕ → Y → Type 0) (read : ℕ → List ℕ → Result (Y × List ℕ) ReadFault) where
   -- where it refuses, no front is a spelling

@@ -1,6 +1,7 @@
 -- What a reader of bytes hands up of a fault that stands.
-use Rattle.std.proofs.Common.{◌≡◌, ℕ, ◌+◌, ◌-◌, ◌<◌, ◌≤◌, Bool, true, false, cond, leb, inl, inr, List, [], ◌∷◌, ◌++◌, length, take, drop, Result, Ok, Err, Option, refl, sym, ap, subst, ◌∙◌, append_assoc, length-append, arith}
-use Rattle.std.proofs.lemmas.List.{take-append-le}
+use Rattle.std.proofs.Common.{◌≡◌, ℕ, ◌+◌, ◌-◌, ◌<◌, ◌≤◌, cond, leb, inl, inr, List, [], ◌∷◌, ◌++◌, length, take, drop, Result, Ok, Err, Option, refl, sym, ap, subst, ◌∙◌, append_assoc, length-append, arith}
+use Rattle.std.proofs.lemmas.Bool.{false≢true}
+use Rattle.std.proofs.lemmas.List.{take-append-le, append-nil}
 use Rattle.std.specs.Prelude.{IfErr}
 use Rattle.std.specs.Str.{is_utf8}
 use Rattle.std.proofs.lemmas.Str.{is_utf8-from_IsUtf8}
@@ -13,7 +14,7 @@ use Rattle.wk_bytes.specs.LebLaws.{bind_ok, chosen, uint_wrong, sint_wrong}
 use Rattle.wk_bytes.specs.Span.{Span, fault, byte_at, piece_at, u32_at, signed_at, word_at, name_at, Gives}
 use Rattle.wk_bytes.specs.SpanLaws.{ok_is, err_is, placed_err, byte_at-takes, piece_at-takes, u32_at-takes, signed_at-takes}
 use Rattle.wk_bytes.specs.Frames.{Section}
-use Rattle.wk_bytes.specs.Stands.{BeginsOtherwise, Begins, IsWidth, StandsAt, Stands, contents_of, whole, LiesIn}
+use Rattle.wk_bytes.specs.Stands.{BeginsOtherwise, Begins, IsWidth, StandsAt, Stands, StandsOrMemory, StandsIn, contents_of, whole, LiesIn}
 
 -- ---- more bytes behind change nothing
 
@@ -97,6 +98,24 @@ Stands-contents bytes s e lies stood = record {
 pub Stands-here : (kind : ReadKind) (end : ℕ) (bytes : List ℕ) → StandsAt kind bytes → Stands (record { rest = bytes; end = end }) (fault kind end bytes)
 Stands-here kind end bytes stands = record { skipped = []; from = bytes; parts = refl; place = omega arith; stands = stands }
 
+-- a fault at the end of an input
+pub Stands-at_end : (kind : ReadKind) (bytes : List ℕ) → StandsAt kind [] → Stands (whole bytes) (record { kind = kind; at = length bytes })
+Stands-at_end kind bytes stands = record { skipped = bytes; from = []; parts = sym (append-nil bytes); place = omega arith; stands = stands }
+
+-- ---- the same of calls that take memory
+
+pub StandsOrMemory-later : (front : List ℕ) (s t : Span) (e : ReadFault) → s.rest ≡ front ++ t.rest → s.end ≡ t.end → length s.rest ≤ s.end → StandsOrMemory t e → StandsOrMemory s e
+StandsOrMemory-later front s t e parts ends fits (inl none) = inl none
+StandsOrMemory-later front s t e parts ends fits (inr stood) = inr (Stands-later front s t e parts ends fits stood)
+
+pub StandsOrMemory-contents : (bytes : List ℕ) (s : Section) (e : ReadFault) → LiesIn bytes s → StandsOrMemory (contents_of s) e → StandsIn bytes e
+StandsOrMemory-contents bytes s e lies (inl none) = inl none
+StandsOrMemory-contents bytes s e lies (inr stood) = inr (inr (Stands-contents bytes s e lies stood))
+
+pub StandsOrMemory-whole : (bytes : List ℕ) (e : ReadFault) → StandsOrMemory (whole bytes) e → StandsIn bytes e
+StandsOrMemory-whole bytes e (inl none) = inl none
+StandsOrMemory-whole bytes e (inr stood) = inr (inr stood)
+
 -- ---- the faults of a reader
 
 -- A reader takes what it reads from the front, and its faults stand.
@@ -132,7 +151,7 @@ module _ {A B : Type 0} (read : ℕ → List ℕ → Result (A × List ℕ) Read
 
 -- ---- each reader
 
-stands_as : (kind : ReadKind) (end : ℕ) (bytes : List ℕ) (e : ReadFault) → fault kind end bytes ≡ e → StandsAt kind bytes → Stands (record { rest = bytes; end = end }) e
+pub stands_as : (kind : ReadKind) (end : ℕ) (bytes : List ℕ) (e : ReadFault) → fault kind end bytes ≡ e → StandsAt kind bytes → Stands (record { rest = bytes; end = end }) e
 stands_as kind end bytes e is stands = subst (Stands (record { rest = bytes; end = end })) is (Stands-here kind end bytes stands)
 
 byte_at-faults : (end : ℕ) (bytes : List ℕ) (e : ReadFault) → byte_at end bytes ≡ Err e → length bytes ≤ end → Stands (record { rest = bytes; end = end }) e
@@ -203,9 +222,6 @@ text_at-takes n end bytes text rest e =
       | inr p ↦ absurd cc
     ]
 
-true_is_not_false : (b : Bool) → b ≡ false → b ≡ true → ⊥
-true_is_not_false b p q = cc
-
 text_at-faults_of : (n end : ℕ) (bytes : List ℕ) (e : ReadFault) (r : Result (List ℕ × List ℕ) ReadFault) → piece_at n end bytes ≡ r → (r >>= λ text. cond (is_utf8 text.0) (Ok text) (Err (fault BadUtf8 end bytes))) ≡ Err e → length bytes ≤ end → Stands (record { rest = bytes; end = end }) e
 text_at-faults_of n end bytes e (Err d) is h fits = piece_at-faults n end bytes e (is ∙ cc) fits
 text_at-faults_of n end bytes e (Ok text) is h fits =
@@ -213,7 +229,7 @@ text_at-faults_of n end bytes e (Ok text) is h fits =
       | inl p ↦ absurd cc
       | inr p ↦
           let t = piece_at-takes n end bytes text.0 text.1 is in
-          stands_as BadUtf8 end bytes e (err_is {A = List ℕ × List ℕ} _ _ p.1) (text.0, text.1, t.0, λ utf8. true_is_not_false (is_utf8 text.0) p.0 (is_utf8-from_IsUtf8 text.0 utf8))
+          stands_as BadUtf8 end bytes e (err_is {A = List ℕ × List ℕ} _ _ p.1) (text.0, text.1, t.0, λ utf8. false≢true (sym p.0 ∙ is_utf8-from_IsUtf8 text.0 utf8))
     ]
 
 text_at-faults : (n end : ℕ) (bytes : List ℕ) (e : ReadFault) → text_at n end bytes ≡ Err e → length bytes ≤ end → Stands (record { rest = bytes; end = end }) e
