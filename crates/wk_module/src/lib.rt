@@ -14,3 +14,6 @@ pub use length::encoded_len;
 pub use module::Module;
 pub use types::{Custom, FuncType, Parts, ValType};
 pub use writer::encode;
+
+#[cfg(test)]
+mod tests_writing;
