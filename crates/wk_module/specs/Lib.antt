@@ -7,3 +7,4 @@ pub mod Reading
 pub mod Writing
 pub mod ShapeLaws
 pub mod WritingLaws
+pub mod Lengths
