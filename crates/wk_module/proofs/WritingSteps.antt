@@ -7,18 +7,18 @@ use Rattle.wk_bytes.specs.Frames.{limit, magic, version}
 use Rattle.wk_module.specs.declared.types.Parts.{Parts}
 use Rattle.wk_module.specs.declared.types.Custom.{Custom}
 use Rattle.wk_module.specs.Writing.{section_of, customs_at, section_and_customs, ids, encoded, Fits}
-use Rattle.wk_module.specs.WritingLaws.{piece_at, written_frame, customs_at-cons}
+use Rattle.wk_module.specs.WritingLaws.{at_place, written_frame, customs_at-cons}
 use Rattle.wk_module.proofs.Lengths.{piece_le}
 
 -- a custom is no longer than all customs of its place
 pub custom_le : (cs : List Custom) (i : ℕ) (c : Custom) → i < length cs → c ≡ get_or cs i c → length (written_frame c) ≤ length (customs_at c.place cs)
 custom_le [] i c within is = absurd (omega arith)
 custom_le (d ∷ cs) zero c within is =
-    let first = ap (λ (e : Custom). length (piece_at e.place (written_frame e) c.place)) is in
-    let same : length (piece_at c.place (written_frame c) c.place) ≡ length (written_frame c) = rw (eq-eqb c.place c.place refl) refl in
-    omega (arith, first, same, ap length (customs_at-cons d cs c.place), length-append (piece_at d.place (written_frame d) c.place) (customs_at c.place cs))
+    let first = ap (λ (e : Custom). length (at_place e.place (written_frame e) c.place)) is in
+    let same : length (at_place c.place (written_frame c) c.place) ≡ length (written_frame c) = rw (eq-eqb c.place c.place refl) refl in
+    omega (arith, first, same, ap length (customs_at-cons d cs c.place), length-append (at_place d.place (written_frame d) c.place) (customs_at c.place cs))
 custom_le (d ∷ cs) (suc i) c within is =
-    omega (arith, custom_le cs i c (omega arith) is, ap length (customs_at-cons d cs c.place), length-append (piece_at d.place (written_frame d) c.place) (customs_at c.place cs))
+    omega (arith, custom_le cs i c (omega arith) is, ap length (customs_at-cons d cs c.place), length-append (at_place d.place (written_frame d) c.place) (customs_at c.place cs))
 
 -- the ids from one on
 pub drop-ids : (id : ℕ) → id < 12 → drop id ids ≡ id ∷ drop (id + 1) ids

@@ -8,3 +8,4 @@ pub mod Writing
 pub mod ShapeLaws
 pub mod ModuleLaws
 pub mod WritingLaws
+pub mod Lengths

@@ -2,6 +2,7 @@
 use Rattle.std.proofs.Common.{◌≡◌, ℕ, zero, suc, ◌^◌, ◌<◌, ◌+◌, ◌≤◌, Bool, true, false, not, inl, inr, List, [], ◌∷◌, ◌++◌, length, map, filter, refl, ap, ◌∙◌, arith, length-append}
 use Rattle.std.proofs.lemmas.Bool.{cases_Bool, cases_lt, cond-true, cond-false, cond_both}
 use Rattle.std.proofs.Common.{slice_index_or}
+use Rattle.std.specs.Str.{IsUtf8}
 use Rattle.wk_bytes.specs.ListWords.{is_empty}
 use Rattle.wk_module.specs.declared.types.Parts.{Parts}
 use Rattle.wk_module.specs.declared.types.Custom.{Custom}
@@ -113,6 +114,16 @@ settled_filter passes keep (c ∷ cs) e =
     let stays = ap (λ (d : Custom). d ∷ map (settled_custom passes) (filter keep cs)) first ∙ ap (λ (ds : List Custom). c ∷ ds) rest in
     cond_both (keep c) (c ∷ filter keep cs) (filter keep cs) (λ ds. map (settled_custom passes) ds ≡ ds) (λ t. stays) (λ f. rest)
 
+-- ---- one more custom, behind all others
+
+in_order_push : (d : Custom) (least : ℕ) (cs : List Custom) → least ≤ 11 → d.place ≡ 11 → IsInOrderFrom least cs → IsInOrderFrom least (cs ++ d ∷ [])
+in_order_push d least [] le last o = (omega arith, omega arith, tt)
+in_order_push d least (c ∷ cs) le last o = (o.0, o.1, in_order_push d c.place cs o.1 last o.2)
+
+named_push : (d : Custom) (cs : List Custom) → IsUtf8 d.name → AreNamed cs → AreNamed (cs ++ d ∷ [])
+named_push d [] text n = (text, tt)
+named_push d (c ∷ cs) text n = (n.0, named_push d cs text n.1)
+
 -- ---- modules
 
 some_types : (t : FuncType) (ts : List FuncType) → not (is_empty (ts ++ t ∷ [])) ≡ true
@@ -166,4 +177,12 @@ pub type_shaped : (t : FuncType) (m : Parts) → length m.types + 1 < 2 ^ 32 →
 type_shaped t m few s = record {
   formed = record { few = omega (arith, length-append m.types (t ∷ []), few); order = s.formed.order; names = s.formed.names };
   settled = settle-type t m s.settled;
+}
+
+-- a module with one more custom of the greatest place is formed
+pub push_formed : (c : Custom) (m : Parts) → c.place ≡ 11 → IsUtf8 c.name → IsFormed m → IsFormed (record m { customs = m.customs ++ c ∷ [] })
+push_formed c m last text f = record {
+  few = f.few;
+  order = in_order_push c 0 m.customs (omega arith) last f.order;
+  names = named_push c m.customs text f.names;
 }

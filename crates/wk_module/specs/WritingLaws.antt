@@ -59,24 +59,24 @@ abbrev pub written_frame : Custom → List ℕ
 written_frame c = framed 0 (written_custom c)
 
 -- a piece, at the one place where it stands
-abbrev pub piece_at : ℕ → List ℕ → ℕ → List ℕ
-piece_at place piece id = if place == id then piece else []
+abbrev pub at_place : ℕ → List ℕ → ℕ → List ℕ
+at_place place piece id = if place == id then piece else []
 
-piece_after : (place : ℕ) (piece : List ℕ) (n from : ℕ) → place < from → flat_map (piece_at place piece) (range_with_len from n) ≡ []
-piece_after place piece zero from lt = refl
-piece_after place piece (suc n) from lt =
-    rw (ne_eqb place from (omega arith)) (piece_after place piece n (from + 1) (omega arith))
+at_place_after : (place : ℕ) (piece : List ℕ) (n from : ℕ) → place < from → flat_map (at_place place piece) (range_with_len from n) ≡ []
+at_place_after place piece zero from lt = refl
+at_place_after place piece (suc n) from lt =
+    rw (ne_eqb place from (omega arith)) (at_place_after place piece n (from + 1) (omega arith))
 
 -- over all ids a piece stands once
-piece_once : (place : ℕ) (piece : List ℕ) (n from : ℕ) → from ≤ place → place < from + n → flat_map (piece_at place piece) (range_with_len from n) ≡ piece
-piece_once place piece zero from le lt = absurd (omega arith)
-piece_once place piece (suc n) from le lt =
+at_place_once : (place : ℕ) (piece : List ℕ) (n from : ℕ) → from ≤ place → place < from + n → flat_map (at_place place piece) (range_with_len from n) ≡ piece
+at_place_once place piece zero from le lt = absurd (omega arith)
+at_place_once place piece (suc n) from le lt =
     elim (cases_eq place from) [
-      | inl same ↦ rw (eq-eqb place from same) (ap (λ (later : List ℕ). piece ++ later) (piece_after place piece n (from + 1) (omega arith)) ∙ append-nil piece)
-      | inr other ↦ rw (ne_eqb place from other) (piece_once place piece n (from + 1) (omega arith) (omega arith))
+      | inl same ↦ rw (eq-eqb place from same) (ap (λ (later : List ℕ). piece ++ later) (at_place_after place piece n (from + 1) (omega arith)) ∙ append-nil piece)
+      | inr other ↦ rw (ne_eqb place from other) (at_place_once place piece n (from + 1) (omega arith) (omega arith))
     ]
 
-pub customs_at-cons : (c : Custom) (cs : List Custom) (id : ℕ) → customs_at id (c ∷ cs) ≡ piece_at c.place (written_frame c) id ++ customs_at id cs
+pub customs_at-cons : (c : Custom) (cs : List Custom) (id : ℕ) → customs_at id (c ∷ cs) ≡ at_place c.place (written_frame c) id ++ customs_at id cs
 customs_at-cons c cs id =
     elim (cases_Bool (c.place == id)) [
       | inl t ↦ rw t refl
@@ -87,8 +87,8 @@ customs_at-cons c cs id =
 length-customs : (least : ℕ) (cs : List Custom) → IsInOrderFrom least cs → length (flat_map (λ id. customs_at id cs) ids) ≡ length (flat_map written_frame cs)
 length-customs least [] o = refl
 length-customs least (c ∷ cs) o =
-    let first = piece_at c.place (written_frame c) in
-    let once : flat_map first ids ≡ written_frame c = piece_once c.place (written_frame c) 12 0 (omega arith) (omega (arith, o.1)) in
+    let first = at_place c.place (written_frame c) in
+    let once : flat_map first ids ≡ written_frame c = at_place_once c.place (written_frame c) 12 0 (omega arith) (omega (arith, o.1)) in
     let split = length-flat_map_same (λ id. customs_at id (c ∷ cs)) (λ id. first id ++ customs_at id cs) (customs_at-cons c cs) ids in
     let both = length-flat_map_both first (λ id. customs_at id cs) ids in
     omega (arith, split, both, ap length once, length-customs c.place cs o.2, length-append (written_frame c) (flat_map written_frame cs))
@@ -97,7 +97,7 @@ fewer_customs : (keep : Custom → Bool) (id : ℕ) (cs : List Custom) → lengt
 fewer_customs keep id [] = omega arith
 fewer_customs keep id (c ∷ cs) =
     let rest = fewer_customs keep id cs in
-    let first = piece_at c.place (written_frame c) id in
+    let first = at_place c.place (written_frame c) id in
     let with_c : length (customs_at id (c ∷ cs)) ≡ length first + length (customs_at id cs) = ap length (customs_at-cons c cs id) ∙ length-append first (customs_at id cs) in
     let with_kept : length (customs_at id (c ∷ filter keep cs)) ≡ length first + length (customs_at id (filter keep cs)) = ap length (customs_at-cons c (filter keep cs) id) ∙ length-append first (customs_at id (filter keep cs)) in
     cond_both (keep c) (c ∷ filter keep cs) (filter keep cs) (λ ds. length (customs_at id ds) ≤ length (customs_at id (c ∷ cs))) (λ t. omega (arith, rest, with_c, with_kept)) (λ f. omega (arith, rest, with_c))

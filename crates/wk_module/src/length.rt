@@ -4,6 +4,7 @@ ghost use Rattle.std.specs.Prelude.{◌≡◌, ℕ, ◌+◌, ◌≤◌, length};
 ghost use Rattle.std.specs.List.{flat_map};
 ghost use Rattle.wk_bytes.specs.Short.{short};
 ghost use Rattle.wk_module.specs.Customs.{written_custom};
+ghost use Rattle.wk_module.specs.Lengths.{GrowsBy};
 ghost use Rattle.wk_module.specs.Writing.{encoded, framed, limited, section_of, ids, vector_section};
 
 use crate::module::Module;
@@ -25,7 +26,7 @@ pub fn encoded_len(module: &Module) -> Option<u32>
 
 /// A length with more added, or nothing past the limit.
 pub(crate) fn plus(total: Option<u32>, more: usize) -> Option<u32>
-    ensures { (n : ℕ) → total ≡ limited n → result ≡ limited (n + more) }
+    ensures { GrowsBy more total result }
 {
     match total {
         Some(total) if total as usize <= LIMIT && more <= LIMIT - total as usize => {
@@ -47,7 +48,7 @@ pub(crate) fn plus_count(total: Option<u32>, count: usize) -> Option<u32>
 
 /// A length with a section of these contents added.
 fn plus_framed<T: Writable>(total: Option<u32>, contents: &T) -> Option<u32>
-    ensures { (n id : ℕ) → total ≡ limited n → result ≡ limited (n + length (framed id (T.written contents.now))) }
+    ensures { (id : ℕ) → GrowsBy (length (framed id (T.written contents.now))) total result }
 {
     let size = contents.measure(Some(0))?;
     let total = plus(total, 1);
@@ -57,7 +58,7 @@ fn plus_framed<T: Writable>(total: Option<u32>, contents: &T) -> Option<u32>
 
 /// A length with a section of a vector added, which is left out where it is empty.
 fn plus_vector<T: Writable>(total: Option<u32>, items: &Items<T>) -> Option<u32>
-    ensures { (n id : ℕ) → total ≡ limited n → result ≡ limited (n + length (vector_section id T.written items.now)) }
+    ensures { (id : ℕ) → GrowsBy (length (vector_section id T.written items.now)) total result }
 {
     if items.is_empty() {
         return total;
@@ -67,14 +68,14 @@ fn plus_vector<T: Writable>(total: Option<u32>, items: &Items<T>) -> Option<u32>
 
 /// A length with the sections that are no custom ones added.
 fn plus_sections(total: Option<u32>, parts: &Parts) -> Option<u32>
-    ensures { (n : ℕ) → total ≡ limited n → result ≡ limited (n + length (flat_map (section_of parts.now) ids)) }
+    ensures { GrowsBy (length (flat_map (section_of parts.now) ids)) total result }
 {
     plus_vector(total, &parts.types)
 }
 
 /// A length with the custom sections added.
 fn plus_customs(total: Option<u32>, customs: &Items<Custom>) -> Option<u32>
-    ensures { (n : ℕ) → total ≡ limited n → result ≡ limited (n + length (flat_map (λ c. framed 0 (written_custom c)) customs.now)) }
+    ensures { GrowsBy (length (flat_map (λ c. framed 0 (written_custom c)) customs.now)) total result }
 {
     let mut all = total;
     for custom in customs.as_slice() {

@@ -21,3 +21,4 @@ pub use writer::encode;
 
 #[cfg(test)]
 mod tests_reading;
+mod tests_writing;

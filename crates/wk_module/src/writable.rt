@@ -2,7 +2,7 @@
 
 ghost use Rattle.std.specs.Prelude.{◌≡◌, ℕ, ◌+◌, ◌<◌, ◌^◌, List, ◌++◌, length, OnOk};
 ghost use Rattle.wk_module.specs.Types.{valtype_byte};
-ghost use Rattle.wk_module.specs.Writing.{limited};
+ghost use Rattle.wk_module.specs.Lengths.{GrowsBy};
 
 use crate::length::{plus, plus_count};
 use crate::types::{Custom, FuncType, ValType};
@@ -15,7 +15,7 @@ pub(crate) trait Writable {
 
     /// The length so far with the written form added, or nothing past the limit.
     fn measure(&self, so_far: Option<u32>) -> Option<u32>
-        ensures { (n : ℕ) → so_far ≡ limited n → result ≡ limited (n + length (written self.now)) };
+        ensures { GrowsBy (length (written self.now)) so_far result };
 
     /// Appends the written form. After a refusal some of it may stand there.
     fn put(&self, bytes: &mut Vec<u8>) -> Result<(), OutOfMemory>

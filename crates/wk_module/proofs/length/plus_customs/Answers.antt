@@ -10,4 +10,4 @@ loop-custom-preserved c =
     let within : c.loop-custom.custom-index < length customs = omega (arith, ap length c.as_slice-custom-items.ensures) in
     let is = rw c.as_slice-custom-items.ensures at c.custom-item.is in
     let more = length_more written_frame customs c.loop-custom.custom-index c.custom-item.result within is in
-    λ n h. c.plus_framed-all.ensures _ 0 (c.loop-custom.invariant n h) ∙ ap limited (omega (arith, more))
+    λ n h. c.plus_framed-all.ensures 0 _ (c.loop-custom.invariant n h) ∙ ap limited (omega (arith, more))

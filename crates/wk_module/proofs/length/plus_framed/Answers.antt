@@ -8,12 +8,12 @@ pub returns-in_err-size : goal.returns-in_err-size
 returns-in_err-size g c =
     let contents = g.T.Writable.written c.args.contents.now in
     let past = limited_none _ (sym c.in_err-size.was ∙ c.measure.ensures 0 refl) in
-    λ n id h. c.from_residual.ensures ∙ limited_past _ (omega (arith, past, length-framed id contents))
+    λ id n h. c.from_residual.ensures ∙ limited_past _ (omega (arith, past, length-framed id contents))
 
 pub returns : goal.returns
 returns g c =
     let contents = g.T.Writable.written c.args.contents.now in
     let size : c.in_ok-size.size ≡ length contents = omega (arith, (limited_some _ _ (sym c.in_ok-size.was ∙ c.measure.ensures 0 refl)).0) in
     let count = ap (λ (k : ℕ). length (short k)) size in
-    λ n id h. c.plus.ensures _ (c.plus-total-2.ensures _ (c.plus-total.ensures n h))
+    λ id n h. c.plus.ensures _ (c.plus-total-2.ensures _ (c.plus-total.ensures n h))
     ∙ ap limited (omega (arith, size, count, c.leb_len_u32.ensures, length-framed id contents))

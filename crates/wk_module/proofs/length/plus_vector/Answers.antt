@@ -5,6 +5,6 @@ use Rattle.wk_module.proofs.length.plus_vector.Goals as goal
 
 pub returns : goal.returns
 returns g c =
-    λ n id h.
+    λ id n h.
     let some = vector_section-some id g.T.Writable.written c.args.items.now (sym c.is_empty.ensures ∙ c.if-is_empty.false) in
-    c.plus_framed.ensures n id h ∙ ap (λ (b : List ℕ). limited (n + length b)) (sym some)
+    c.plus_framed.ensures id n h ∙ ap (λ (b : List ℕ). limited (n + length b)) (sym some)
