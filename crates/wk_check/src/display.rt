@@ -37,7 +37,8 @@ impl fmt::Display for FaultKind {
     }
 }
 
-/// The numbers in decimal, as in `section 10 item 0 token 1`. Without an instruction the last two words are left out.
+/// The numbers in decimal, as in `section 10 item 0 token 1`.
+/// Without an instruction the last two words are left out.
 impl fmt::Display for Place {
     ghost output = { λ x. Some (place_text x) };
 

@@ -79,3 +79,8 @@ pub count_step : (n m : ℕ) (l : List ℕ) (ls it : List (List ℕ)) → it ≡
 count_step n m l ls it items count =
     let one_less : length it ≡ suc (length ls) = ap length items in
     omega (arith, one_less, count)
+
+-- what the loops over the types of a word and over the lines of a script take
+pub ruleset type_steps = (type_more, type_stops, types_done)
+
+pub ruleset line_steps = (edit_more, line_without, line_stops, edits_done, pieces_few)

@@ -39,8 +39,8 @@ pub(crate) fn refused_script(alloc: Global, fault: &ScriptFault) -> Result<Strin
     format!(in alloc; "script {fault}\n")
 }
 
-/// The report of a run: for each edit, counted from 1, `1 ok` or `2 refused E3 NoSuchCustom`, and last
-/// `valid`, or `invalid` and the fault. Each line ends with LF.
+/// The report of a run: for each edit, counted from 1, `1 ok` or `2 refused E3 NoSuchCustom`, and
+/// last `valid`, or `invalid` and the fault. Each line ends with LF.
 pub(crate) fn report(
     alloc: Global,
     replies: &[Reply],

@@ -6,7 +6,8 @@ ghost use Rattle.wk_edit.specs.Pieces.{pieces, pieces_left};
 
 use std::marker::Model;
 
-/// The pieces between separators that are still to come, the first one first. A contract sees the list of them.
+/// The pieces between separators that are still to come, the first one first.
+/// A contract sees the list of them.
 #[derive(Drop)]
 pub(crate) struct Pieces<'a> {
     /// What is not cut yet; `None` after the last piece.
@@ -34,7 +35,8 @@ fn find(bytes: &[u8], separator: u8) -> Option<usize>
 // The first piece, and what stands behind the separator that ends it.
 #[tactic(auto, using(crate::proofs::Cutting::cut_at, crate::proofs::Cutting::cut_none))]
 fn cut(bytes: &[u8], separator: u8) -> (&[u8], Option<&[u8]>)
-    ensures { pieces separator bytes.now ≡ result.0.now ∷ pieces_left separator (option_map (λ b. b.now) result.1) }
+    ensures { pieces separator bytes.now
+        ≡ result.0.now ∷ pieces_left separator (option_map (λ b. b.now) result.1) }
 {
     match find(bytes, separator) {
         Some(i) => {

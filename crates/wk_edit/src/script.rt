@@ -11,7 +11,7 @@ use crate::pieces::Pieces;
 use std::alloc::Global;
 use wk_session::Edit;
 
-#[tactic(auto, using(crate::proofs::ScriptSteps::edit_more, crate::proofs::ScriptSteps::line_without, crate::proofs::ScriptSteps::line_stops, crate::proofs::ScriptSteps::edits_done, crate::proofs::ScriptSteps::pieces_few))]
+#[tactic(auto, using(crate::proofs::ScriptSteps::line_steps))]
 fn read_lines(alloc: Global, bytes: &[u8]) -> Result<Vec<Edit>, ScriptFault>
     ensures { Reads (λ edits. edits.items) result (script_of bytes.now) }
 {
@@ -26,17 +26,17 @@ fn read_lines(alloc: Global, bytes: &[u8]) -> Result<Vec<Edit>, ScriptFault>
     Ok(edits)
 }
 
-/// The edits of a script, or the fault of its first faulty line; S3 only where a growth was refused.
+/// The edits of a script, or the fault of its first wrong line; S3 where a growth was refused.
 ///
-/// Lines end with LF, which the last one may lack, and count from 1. An empty line gives no edit. Any other
-/// is one edit, in words of the bytes `21` to `7E` parted by exactly one space:
+/// Lines end with LF, which the last one may lack, and count from 1. An empty line gives no edit.
+/// Any other is one edit, in words of the bytes `21` to `7E` parted by exactly one space:
 ///
-/// - `type TYPES TYPES` appends a type of these parameters and results. TYPES is `-` for none, or
-///   `i32`, `i64`, `f32` and `f64` joined by `,`.
-/// - `custom strip NAME` removes the custom sections of that name. NAME is a word that does not begin
-///   with `x:`, or `x:` and the name's bytes in hexadecimal, which are UTF-8.
+/// - `type TYPES TYPES` appends a type of these parameters and results. TYPES is `-` for none,
+///   or `i32`, `i64`, `f32` and `f64` joined by `,`.
+/// - `custom strip NAME` removes the custom sections of that name. NAME is a word that does not
+///   begin with `x:`, or `x:` and the name's bytes in hexadecimal, which are UTF-8.
 ///
-/// A line with a byte of `80` or above is S2, any other line S1.
+/// A wrong line with a byte of `80` or above is S2, any other S1.
 pub fn read_script(alloc: Global, bytes: &[u8]) -> Result<Vec<Edit>, ScriptFault>
     ensures exact { Reads (λ edits. edits.items) result (script_of bytes.now) }
     ensures found { IfOk result (λ edits. IsScript bytes.now edits.items) }

@@ -26,7 +26,7 @@ fn read_type(word: &[u8]) -> Option<ValType>
 }
 
 /// The value types of a word, `-` or names joined by `,`; `None` where it is neither.
-#[tactic(auto, using(crate::proofs::ScriptSteps::type_more, crate::proofs::ScriptSteps::type_stops, crate::proofs::ScriptSteps::types_done))]
+#[tactic(auto, using(crate::proofs::ScriptSteps::type_steps))]
 pub(crate) fn read_types(alloc: Global, word: &[u8]) -> Result<Option<Items<ValType>>, AllocError>
     ensures { IfOk result (λ types. types ≡ types_of word.now) }
 {
@@ -72,7 +72,8 @@ fn is_plain(word: &[u8]) -> bool
     !word.is_empty() && is_graphic(word)
 }
 
-/// The name of a word, which is `x:` and hexadecimal digits of UTF-8, or the word itself; `None` where it is neither.
+/// The name of a word: where that begins with `x:` the UTF-8 that its hexadecimal digits spell,
+/// else the word itself. `None` where it has none.
 pub(crate) fn read_name(alloc: Global, word: &[u8]) -> Result<Option<Text>, AllocError>
     ensures { IfOk result (λ name. name ≡ name_of word.now) }
 {
