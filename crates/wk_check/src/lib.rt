@@ -7,3 +7,6 @@ mod judging;
 
 pub use fault::{Fault, FaultKind, Place, Verdict};
 pub use judging::judge;
+
+#[cfg(test)]
+mod tests;
