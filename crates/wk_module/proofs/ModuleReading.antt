@@ -312,6 +312,18 @@ module_none b e is m s = refused (module_at b) e m is (module_again b m s)
 
 -- ---- what a function that reads answers
 
+pub memory_or_other : (k : ReadKind) → (k ≡ Memory) ⊎ (k ≢ Memory)
+memory_or_other Memory = inl refl
+memory_or_other _ = inr (λ same. absurd cc)
+
+-- the same fault, where want of memory may stand elsewhere
+pub placed_fails : (e f : ReadFault) (read : Result Parts ReadFault) → FailsAs e e.kind read → f.kind ≡ e.kind → (e.kind ≢ Memory → f ≡ e) → FailsAs f f.kind read
+placed_fails e f read fails kind same =
+    elim (memory_or_other e.kind) [
+      | inl memory ↦ subst (λ (k : ReadKind). FailsAs f k read) (sym (kind ∙ memory)) tt
+      | inr other ↦ subst (λ (g : ReadFault). FailsAs g g.kind read) (sym (same other)) fails
+    ]
+
 pub unless_memory : (e : ReadFault) (k : ReadKind) (read : Result Parts ReadFault) → k ≢ Memory → FailsAs e k read → read ≡ Err e
 unless_memory e Memory read other fails = absurd (other refl)
 unless_memory e _ read other fails = fails

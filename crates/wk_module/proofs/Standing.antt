@@ -4,6 +4,7 @@ use Rattle.std.specs.Prelude.{IfErr, ◌⊎◌}
 use Rattle.wk_bytes.specs.declared.fault.ReadKind.{ReadKind}
 use Rattle.wk_bytes.specs.declared.fault.ReadKind.TheVariants.{BadByte, SectionSize, UnknownSection, Memory}
 use Rattle.wk_bytes.specs.declared.fault.ReadFault.{ReadFault}
+use Rattle.wk_bytes.specs.Fault.{no_memory}
 use Rattle.wk_bytes.specs.Leb.{◌>>=◌, or_fail}
 use Rattle.wk_bytes.specs.LebLaws.{bind_ok, chosen, ok_is}
 use Rattle.wk_bytes.specs.Span.{Span, fault, byte_at, u32_at, name_at}
@@ -12,7 +13,7 @@ use Rattle.wk_bytes.specs.FrameStands.{sections_of-stand}
 use Rattle.std.proofs.lemmas.List.Elements.{All-head, All-tail}
 use Rattle.wk_module.specs.Modules.{StandsInModule}
 use Rattle.wk_module.specs.Reading.{Reads, Progress, at_start, section_end, with_types, with_section, is_unknown_at, frame_fault, sections_read, module_at}
-use Rattle.wk_module.proofs.ModuleReading.{unless_memory}
+use Rattle.wk_module.proofs.ModuleReading.{unless_memory, memory_or_other}
 use Rattle.wk_bytes.specs.Stands.{Stands, StandsIn, LiesIn, ItemStands, contents_of, whole}
 use Rattle.wk_bytes.specs.StandsLaws.{ReadsFront, ReadsFront-done, ReadsFront-then, ReadsFront-byte_at, ReadsFront-u32_at, ReadsFront-name_at, Stands-here, Stands-later, Stands-contents}
 use Rattle.wk_module.specs.declared.types.ValType.{ValType}
@@ -202,6 +203,10 @@ pub module_stands : (b : List ℕ) (e : ReadFault) → module_at b ≡ Err e →
 unfolding module_at
 module_stands b e h = sections_stand b at_start (sections_of b) e (sections_of-stand b) h
 
-pub answer_stands : (b : List ℕ) (r : Result Parts ReadFault) → Reads (λ m. m) r (module_at b) → IfErr r (λ e. e.kind ≢ Memory → StandsInModule b e)
-answer_stands b (Ok m) reads = tt
-answer_stands b (Err e) reads = λ other. module_stands b e (unless_memory e e.kind (module_at b) other reads)
+pub answer_stands : (b : List ℕ) (r : Result Parts ReadFault) → Reads (λ m. m) r (module_at b) → IfErr r (λ e. e.kind ≡ Memory → e ≡ no_memory) → IfErr r (λ e. StandsInModule b e)
+answer_stands b (Ok m) reads placed = tt
+answer_stands b (Err e) reads placed =
+    elim (memory_or_other e.kind) [
+      | inl memory ↦ inl (inl (placed memory))
+      | inr other ↦ module_stands b e (unless_memory e e.kind (module_at b) other reads)
+    ]

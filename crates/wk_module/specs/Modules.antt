@@ -1,4 +1,4 @@
--- Modules (5.5.16): which bytes spell one.
+-- Modules (5.5.15): which bytes spell one.
 use Rattle.std.specs.Prelude.{◌≡◌, ◌≤◌, ◌==◌, ℕ, MatchBool, ◌⊎◌, List, [], ◌∷◌}
 use Rattle.wk_bytes.specs.declared.fault.ReadKind.TheVariants.{UnknownSection}
 use Rattle.wk_bytes.specs.declared.fault.ReadFault.{ReadFault}
@@ -33,6 +33,7 @@ pub record Spells (b : List ℕ) (m : Parts) : Type 0 where
 abbrev pub SpellsNone : List ℕ → Type 0
 SpellsNone b = (m : Parts) → Spells b m → ⊥
 
--- A fault stands in the bytes of a module. The id of a section that is not read yet is a fault too.
+-- A fault stands in the bytes of a module. The id of a section that is not read yet, 2 to 11, is a fault too; where it
+-- stands is said by `module_at` alone, until such sections are read.
 abbrev pub StandsInModule : List ℕ → ReadFault → Type 0
 StandsInModule b e = StandsIn b e ⊎ (e.kind ≡ UnknownSection)

@@ -1,4 +1,4 @@
--- The one written form of a module: integers as short as they are, empty sections left out.
+-- The one written form of a module: each integer in its shortest spelling, empty sections left out.
 use Rattle.std.specs.Prelude.{◌≤◌, ◌==◌, ℕ, nat_le, if◌then◌else◌, Option, Some, None, List, [], ◌∷◌, ◌++◌, length, filter}
 use Rattle.std.specs.List.{flat_map}
 use Rattle.wk_bytes.specs.Short.{short}

@@ -9,9 +9,9 @@ use wk_bytes::OutOfMemory;
 /// Why a module has no bytes.
 #[derive(Clone, Copy, Debug, PartialEq, Eq)]
 pub enum EncodeFault {
-    /// Its written form is longer than 2147483647 bytes.
+    /// N1: its written form is longer than 2,147,483,647 bytes.
     TooLarge,
-    /// A growth was refused.
+    /// N2: a growth was refused.
     Memory,
 }
 

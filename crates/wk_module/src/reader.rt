@@ -1,6 +1,7 @@
-//! Reading a module (5.5.16).
+//! Reading a module (5.5.15).
 
 ghost use Rattle.std.specs.Prelude.{◌≡◌, ◌≢◌, ℕ, List, IfOk, IfErr};
+ghost use Rattle.wk_bytes.specs.Fault.{no_memory};
 ghost use Rattle.wk_bytes.specs.Raw.{raw_view};
 ghost use Rattle.wk_module.specs.declared.types.Parts.{Parts as Lists};
 ghost use Rattle.wk_module.specs.Customs.{custom_at};
@@ -14,7 +15,7 @@ use crate::reading::read_contents;
 use crate::types::{Custom, Parts};
 use std::alloc::Global;
 use std::marker::Model;
-use wk_bytes::{Items, LIMIT, RawSection, ReadFault, ReadKind, Sections, Text};
+use wk_bytes::{Items, LIMIT, OutOfMemory, RawSection, ReadFault, ReadKind, Sections, Text};
 
 // What was read so far: the lists, the id of the last section that is not empty, and where the next id stands.
 #[derive(Drop)]
@@ -136,15 +137,30 @@ pub(crate) fn read_parts(alloc: Global, bytes: &[u8]) -> Result<Parts, ReadFault
     read_sections(alloc, bytes)
 }
 
-// What is spelled is settled already, so that it is the module.
-fn read_module(alloc: Global, bytes: &[u8]) -> Result<Module, ReadFault>
-    ensures { Reads (λ m. m) result (module_at bytes.now) }
+// Want of memory has no place in the input: it stands at 0.
+fn placed(fault: ReadFault) -> ReadFault
+    ensures kind { result.kind ≡ fault.kind }
+    ensures same { fault.kind ≢ ReadKind.Memory → result ≡ fault }
+    ensures memory { fault.kind ≡ ReadKind.Memory → result ≡ no_memory }
 {
-    let parts = read_parts(alloc, bytes)?;
-    Ok(Module::of(parts))
+    if fault.kind == ReadKind::Memory {
+        return ReadFault::from(OutOfMemory);
+    }
+    fault
 }
 
-/// Reads a module (5.5.16): the header, then custom sections and the type section, each read to its end before the
+// What is spelled is settled already, so that it is the module.
+fn read_module(alloc: Global, bytes: &[u8]) -> Result<Module, ReadFault>
+    ensures exact { Reads (λ m. m) result (module_at bytes.now) }
+    ensures memory { IfErr result (λ e. e.kind ≡ ReadKind.Memory → e ≡ no_memory) }
+{
+    match read_parts(alloc, bytes) {
+        Ok(parts) => Ok(Module::of(parts)),
+        Err(fault) => Err(placed(fault)),
+    }
+}
+
+/// Reads a module (5.5.15): the header, then custom sections and the type section, each read to its end before the
 /// next one's id. The ids 2 to 11 are not read yet: such an id is `UnknownSection`, at the id byte.
 ///
 /// The module is the only one that the bytes spell. Where they spell none the answer is the first fault from left to
@@ -155,7 +171,7 @@ pub fn read(alloc: Global, bytes: &[u8]) -> Result<Module, ReadFault>
     ensures only { IfOk result (λ m. (n : Lists) → Spells bytes.now n → n ≡ m) }
     ensures fits { IfOk result (λ m. Fits m) }
     ensures refused { IfErr result (λ e. e.kind ≢ ReadKind.Memory → SpellsNone bytes.now) }
-    ensures fault { IfErr result (λ e. e.kind ≢ ReadKind.Memory → StandsInModule bytes.now e) }
+    ensures fault { IfErr result (λ e. StandsInModule bytes.now e) }
 {
     read_module(alloc, bytes)
 }

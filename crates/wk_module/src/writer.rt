@@ -16,7 +16,7 @@ use crate::writable::Writable;
 use std::alloc::Global;
 use wk_bytes::{Items, OutOfMemory, put_u32};
 
-/// The magic and the version (5.5.16).
+/// The magic and the version (5.5.15).
 const HEADER: [u8; 8] = [0, 97, 115, 109, 1, 0, 0, 0];
 
 /// The id of custom sections (5.5.2).
@@ -28,9 +28,9 @@ const TYPES: u8 = 1;
 /// The greatest id of a section (5.5.2).
 const LAST: u8 = 11;
 
-/// The bytes of a module (5.5.16), which stand in one piece of memory of their length.
+/// The written form of a module (5.5.15).
 ///
-/// Integers are as short as they are, and empty sections are left out. Each custom section stands behind the section
+/// Each integer has its shortest spelling, and empty sections are left out. Each custom section stands behind the section
 /// with the id of its place, those of one place in their order.
 ///
 /// # Errors
