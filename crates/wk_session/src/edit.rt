@@ -44,7 +44,7 @@ pub struct Work {
     pub typed: u32,
     /// How many bodies were encoded.
     pub encoded: u32,
-    /// How many sections were encoded, the code section aside.
+    /// How many sections were encoded: each custom section counts, the code section does not.
     pub sections: u32,
 }
 

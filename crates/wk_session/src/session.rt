@@ -3,7 +3,7 @@ ghost use Rattle.std.specs.Prelude.{◌≡◌, ◌≢◌, ◌<◌, ◌+◌, ◌-
 ghost use Rattle.wk_module.specs.declared.types.Parts.{Parts};
 ghost use Rattle.wk_module.specs.Modules.{Spells, SpellsNone, StandsInModule};
 ghost use Rattle.wk_module.specs.Reading.{Reads, module_at};
-ghost use Rattle.wk_module.specs.Writing.{encoded};
+ghost use Rattle.wk_module.specs.Writing.{encoded, Fits};
 ghost use Rattle.wk_check.specs.Verdict.{module_verdict};
 ghost use Rattle.std.specs.Io.KnownBytes.{Appends};
 ghost use Rattle.wk_session.specs.Written.{Leaves, failures_after_write};
@@ -39,13 +39,19 @@ impl Model for Session {
 }
 
 impl Session {
-    /// A session over the module that the bytes spell.
+    /// A session over the one module that the bytes spell.
+    ///
+    /// # Errors
+    ///
+    /// The first fault from left to right, at its offset in `bytes`, where they spell no module; `Memory`, at 0, where a
+    /// growth is refused.
     pub fn open(alloc: Global, bytes: &[u8]) -> Result<Session, ReadFault>
         ensures exact { Reads (λ m. m) result (module_at bytes.now) }
         ensures found { IfOk result (λ m. Spells bytes.now m) }
         ensures only { IfOk result (λ m. (n : Parts) → Spells bytes.now n → n ≡ m) }
         ensures refused { IfErr result (λ e. e.kind ≢ ReadKind.Memory → SpellsNone bytes.now) }
-        ensures fault { IfErr result (λ e. e.kind ≢ ReadKind.Memory → StandsInModule bytes.now e) }
+        ensures fits { IfOk result (λ m. Fits m) }
+        ensures fault { IfErr result (λ e. StandsInModule bytes.now e) }
     {
         let module = read(alloc, bytes)?;
         let verdict = judge(alloc, &module)?;
@@ -69,7 +75,8 @@ impl Session {
 
     /// The length of the written form, in bytes: at most 2,147,483,647.
     pub fn encoded_len(&self) -> u32
-        ensures { result ≡ length (encoded self.now) }
+        ensures value { result ≡ length (encoded self.now) }
+        ensures fits { Fits self.now }
     {
         self.len
     }
@@ -142,6 +149,11 @@ impl Session {
     }
 
     /// Makes one edit. A refusal leaves the session as it was.
+    ///
+    /// # Errors
+    ///
+    /// `NoSuchCustom` where no custom section has the name to strip, `TooLarge` where the written form with one type more
+    /// would pass 2,147,483,647 bytes, `Memory` where a growth is refused.
     pub fn apply(&mut self, edit: &Edit) -> Reply
         ensures reply { result ≡ reply_of edit.now (is_memory result) self.old }
         ensures module_is { self.new ≡ after_one edit.now (is_memory result) self.old }
