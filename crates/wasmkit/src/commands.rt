@@ -8,16 +8,6 @@ use std::alloc::Global;
 use wk_bytes::{Out, Sink, put_all};
 use wk_edit::{Status, edit};
 
-// The exit status of a run.
-fn code(status: Status) -> u8 {
-    match status {
-        Status::Accepted => 0,
-        Status::Refused => 1,
-        Status::Malformed => 2,
-        Status::BadScript => 3,
-    }
-}
-
 // Makes the edits of a script on a module: OUT is made once all is computed, and the report is printed behind it.
 fn run_edit<'a, S: Store, X: Out>(
     alloc: Global,
@@ -49,7 +39,7 @@ fn run_edit<'a, S: Store, X: Out>(
     }
     let text = report.into_inner();
     put_all(out, &text).map_err(|_| ProgramFault::Output)?;
-    Ok(code(status))
+    Ok(status.code())
 }
 
 fn answer<'a, S: Store, X: Out>(

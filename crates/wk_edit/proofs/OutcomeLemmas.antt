@@ -21,7 +21,8 @@ use Rattle.wk_edit.specs.declared.fault.ScriptFault.TheVariants as ScriptFault
 use Rattle.wk_edit.specs.declared.fault.Status.{Status}
 use Rattle.wk_edit.specs.declared.fault.RunFault.{RunFault}
 use Rattle.wk_edit.specs.declared.prepared.Prepared.{Prepared}
-use Rattle.wk_edit.specs.Script.{Reads, script_of}
+use Rattle.wk_edit.specs.Script.{script_of}
+use Rattle.wk_edit.specs.ScriptGrammar.{IsScript, IsNoScript, IsFaultOf}
 use Rattle.wk_edit.specs.ReportText.{report_text}
 use Rattle.wk_edit.specs.Outcome.{Outcome, malformed_outcome, run_status, run_outcome, script_outcome, outcome_on, outcome_of, IsReport}
 use Rattle.wk_edit.specs.Prepared.{IsPrepared, bytes_of}
@@ -87,20 +88,21 @@ module _ (input script : List ℕ) where
   malformed_ok (Ok p) e is other fails = subst (λ (o : Outcome). IsPrepared o p) (sym (outcome_malformed input script e (other_fault e e.kind (module_at input) other fails))) is
   malformed_ok (Err f) e is other fails = tt
 
-  pub malformed_means : (r : Result Prepared RunFault) (e : ReadFault) → OnOk r (e.kind ≢ ReadKind.Memory) → FailsAs e e.kind (module_at input) → (e.kind ≢ ReadKind.Memory → SpellsNone input) → (e.kind ≢ ReadKind.Memory → StandsInModule input e) → OnOk r (IsReport input script (outcome_of input script))
-  malformed_means (Ok p) e other fails none stands = inl (none other, (e, stands other, outcome_malformed input script e (other_fault e e.kind (module_at input) other fails)))
+  pub malformed_means : (r : Result Prepared RunFault) (e : ReadFault) → OnOk r (e.kind ≢ ReadKind.Memory) → FailsAs e e.kind (module_at input) → (e.kind ≢ ReadKind.Memory → SpellsNone input) → StandsInModule input e → OnOk r (IsReport input script (outcome_of input script))
+  malformed_means (Ok p) e other fails none stands = inl (none other, (e, stands, outcome_malformed input script e (other_fault e e.kind (module_at input) other fails)))
   malformed_means (Err f) e other fails none stands = tt
 
   pub ran_ok : (r : Result Prepared RunFault) (m : Parts) (s : Result (List Edit) ScriptFault) → IfOk r (IsPrepared (outcome_on m s)) → module_at input ≡ Ok m → script_of script ≡ s → IfOk r (IsPrepared (outcome_of input script))
   ran_ok r m s is read said = subst (λ (o : Outcome). IfOk r (IsPrepared o)) (sym (outcome_ran input script m s read said)) is
 
-  pub ran_means : (m : Parts) → Spells input m → module_at input ≡ Ok m → IsReport input script (outcome_of input script)
-  ran_means m spelled read = inr (m, spelled, outcome_ran input script m (script_of script) read refl)
+  pub ran_means : (r : Result Prepared RunFault) (m : Parts) (es : List Edit) → Spells input m → module_at input ≡ Ok m → IsScript script es → script_of script ≡ Ok es → OnOk r (IsReport input script (outcome_of input script))
+  ran_means (Ok p) m es spelled read is said = inr (m, spelled, inl (es, is, outcome_ran input script m (Ok es) read said))
+  ran_means (Err e) m es spelled read is said = tt
+
+  pub script_means : (r : Result Prepared RunFault) (m : Parts) (f : ScriptFault) → OnOk r (f ≢ ScriptFault.Memory) → Spells input m → module_at input ≡ Ok m → (f ≢ ScriptFault.Memory → script_of script ≡ Err f) → (f ≢ ScriptFault.Memory → IsNoScript script) → (f ≢ ScriptFault.Memory → IsFaultOf script f) → OnOk r (IsReport input script (outcome_of input script))
+  script_means (Ok p) m f other spelled read said none faulty = inr (m, spelled, inr (f, none other, faulty other, outcome_ran input script m (Err f) read (said other)))
+  script_means (Err e) m f other spelled read said none faulty = tt
 
   pub script_ok : (r : Result Prepared RunFault) (m : Parts) (f : ScriptFault) → IfOk r (IsPrepared (script_outcome f)) → OnOk r (f ≢ ScriptFault.Memory) → module_at input ≡ Ok m → (f ≢ ScriptFault.Memory → script_of script ≡ Err f) → IfOk r (IsPrepared (outcome_of input script))
   script_ok (Ok p) m f is other read said = subst (λ (o : Outcome). IsPrepared o p) (sym (outcome_ran input script m (Err f) read (said other))) is
   script_ok (Err e) m f is other read said = tt
-
-pub when_ok : (r : Result Prepared RunFault) (P : Type 0) → P → OnOk r P
-when_ok (Ok p) P x = x
-when_ok (Err e) P x = tt

@@ -21,6 +21,7 @@ use Rattle.wk_edit.specs.declared.fault.Status.TheVariants.{Accepted, Refused, M
 use Rattle.wk_edit.specs.declared.fault.RunFault.{RunFault}
 use Rattle.wk_edit.specs.declared.fault.RunFault.TheVariants.{Out, Report, Memory}
 use Rattle.wk_edit.specs.Script.{script_of}
+use Rattle.wk_edit.specs.ScriptGrammar.{IsScript, IsNoScript, IsFaultOf}
 use Rattle.wk_edit.specs.ReportText.{malformed_text, script_text, report_text}
 
 pub record Outcome : Type 0 where
@@ -70,14 +71,28 @@ outcome_by (Err fault) script = malformed_outcome fault
 unfoldable pub outcome_of : List ℕ → List ℕ → Outcome
 outcome_of input script = outcome_by (module_at input) (script_of script)
 
--- ---- in the words of the grammar
+-- ---- in the words of the grammars
 
--- The input spells no module, and the one line of the report names a fault that stands in it; or it spells a module,
--- and the script has a fault, or its edits are made on that module.
+-- The script spells edits, and they are made on the module; or it spells none, and the report names its first faulty line.
+abbrev pub IsReportOn : Parts → List ℕ → Outcome → Type 0
+IsReportOn m script o =
+    ((edits : List Edit) × IsScript script edits × (o ≡ run_outcome m edits))
+    ⊎ ((fault : ScriptFault) × IsNoScript script × IsFaultOf script fault × (o ≡ script_outcome fault))
+
+-- The input spells no module, and the report names a fault that stands in it; or it spells a module.
 abbrev pub IsReport : List ℕ → List ℕ → Outcome → Type 0
 IsReport input script o =
     (SpellsNone input × ((fault : ReadFault) × StandsInModule input fault × (o ≡ malformed_outcome fault)))
-    ⊎ ((m : Parts) × Spells input m × (o ≡ outcome_on m (script_of script)))
+    ⊎ ((m : Parts) × Spells input m × IsReportOn m script o)
+
+-- ---- statuses
+
+-- the exit status of a run
+abbrev pub status_code : Status → ℕ
+status_code Accepted = 0
+status_code Refused = 1
+status_code Malformed = 2
+status_code BadScript = 3
 
 -- ---- what a run that gave up leaves
 

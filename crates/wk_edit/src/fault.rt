@@ -1,5 +1,6 @@
 //! How scripts and runs end.
 ghost use Rattle.std.specs.Prelude.{◌≡◌};
+ghost use Rattle.wk_edit.specs.Outcome.{status_code};
 ghost use Rattle.wk_edit.specs.declared.fault.ScriptFault.TheVariants as ScriptFault;
 ghost use Rattle.wk_edit.specs.declared.fault.RunFault.TheVariants as RunFault;
 
@@ -35,6 +36,20 @@ pub enum Status {
     Malformed,
     /// The script is wrong: 3.
     BadScript,
+}
+
+impl Status {
+    /// The exit status: 0 to 3, in the order of the variants.
+    pub fn code(self) -> u8
+        ensures { result ≡ status_code self }
+    {
+        match self {
+            Status::Accepted => 0,
+            Status::Refused => 1,
+            Status::Malformed => 2,
+            Status::BadScript => 3,
+        }
+    }
 }
 
 /// Why a run gave up, F1 to F3 in this order.
