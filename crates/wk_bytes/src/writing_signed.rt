@@ -1,6 +1,6 @@
 //! The shortest spellings of signed integers (5.2.2 "Integers"), appended and measured.
 
-ghost use Rattle.std.specs.Prelude.{◌≡◌, ◌<◌, ◌≤◌, ◌^◌, ◌++◌, pos, neg_ℤ, ◌≤ℤ◌, ◌<ℤ◌, length, take, OnOk, OnErr};
+ghost use Rattle.std.specs.Prelude.{◌≡◌, ◌+◌, ◌<◌, ◌≤◌, ◌^◌, ◌++◌, pos, neg_ℤ, ◌≤ℤ◌, ◌<ℤ◌, length, take, vec_capacity, vec_len, OnOk, OnErr};
 ghost use Rattle.wk_bytes.specs.Leb.{SpellsS};
 ghost use Rattle.wk_bytes.specs.Short.{short_signed, is_lastS, lowS, highS, IsShortSigned};
 
@@ -60,12 +60,11 @@ pub fn leb_len_s64(n: i64) -> usize
     len
 }
 
-/// Appends the shortest spelling of a signed integer of 64 bits. Where the growth is refused, `out` is as before.
-pub fn put_s64(out: &mut Vec<u8>, n: i64) -> Result<(), OutOfMemory>
+// Appends the shortest spelling, all of it or nothing.
+fn append_short_signed(out: &mut Vec<u8>, n: i64) -> Result<(), OutOfMemory>
     ensures ok { OnOk result (out.new.items ≡ out.old.items ++ short_signed n) }
     ensures err { OnErr result (out.new.items ≡ out.old.items) }
-    ensures shortest { IsShortSigned (short_signed n) n }
-    ensures spells { SpellsS 64 (short_signed n) n }
+    ensures full { OnErr result (vec_capacity out.old < vec_len out.old + length (short_signed n)) }
 {
     let mut bytes = [0; 10];
     let len = write_short_signed(&mut bytes, n);
@@ -73,10 +72,24 @@ pub fn put_s64(out: &mut Vec<u8>, n: i64) -> Result<(), OutOfMemory>
     Ok(())
 }
 
-/// Appends the shortest spelling of a signed integer of 32 bits. Where the growth is refused, `out` is as before.
+/// Appends the shortest spelling of a signed integer of 64 bits. Want of memory is answered only where `out` has no room for
+/// it, and leaves `out` as before.
+pub fn put_s64(out: &mut Vec<u8>, n: i64) -> Result<(), OutOfMemory>
+    ensures ok { OnOk result (out.new.items ≡ out.old.items ++ short_signed n) }
+    ensures err { OnErr result (out.new.items ≡ out.old.items) }
+    ensures full { OnErr result (vec_capacity out.old < vec_len out.old + length (short_signed n)) }
+    ensures shortest { IsShortSigned (short_signed n) n }
+    ensures spells { SpellsS 64 (short_signed n) n }
+{
+    append_short_signed(out, n)
+}
+
+/// Appends the shortest spelling of a signed integer of 32 bits. Want of memory is answered only where `out` has no room for
+/// it, and leaves `out` as before.
 pub fn put_s32(out: &mut Vec<u8>, n: i32) -> Result<(), OutOfMemory>
     ensures ok { OnOk result (out.new.items ≡ out.old.items ++ short_signed n) }
     ensures err { OnErr result (out.new.items ≡ out.old.items) }
+    ensures full { OnErr result (vec_capacity out.old < vec_len out.old + length (short_signed n)) }
     ensures shortest { IsShortSigned (short_signed n) n }
     ensures spells { SpellsS 32 (short_signed n) n }
 {
@@ -84,12 +97,13 @@ pub fn put_s32(out: &mut Vec<u8>, n: i32) -> Result<(), OutOfMemory>
 }
 
 /// Appends the shortest spelling of a signed integer of 33 bits, from -4,294,967,296 to 4,294,967,295. A type index that stands
-/// as a block type is spelled so. Where the growth is refused, `out` is as before.
+/// as a block type is spelled so. Want of memory is answered only where `out` has no room for it, and leaves `out` as before.
 pub fn put_s33(out: &mut Vec<u8>, n: i64) -> Result<(), OutOfMemory>
     requires low { neg_ℤ (pos (2 ^ 32)) ≤ℤ n }
     requires high { n <ℤ pos (2 ^ 32) }
     ensures ok { OnOk result (out.new.items ≡ out.old.items ++ short_signed n) }
     ensures err { OnErr result (out.new.items ≡ out.old.items) }
+    ensures full { OnErr result (vec_capacity out.old < vec_len out.old + length (short_signed n)) }
     ensures shortest { IsShortSigned (short_signed n) n }
     ensures spells { SpellsS 33 (short_signed n) n }
 {

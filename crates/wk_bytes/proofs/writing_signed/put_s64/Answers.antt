@@ -2,14 +2,6 @@ use Rattle.wk_bytes.specs.ShortLaws.{short_signed-is, short_signed-spells}
 use Rattle.wk_bytes.proofs.ShortLoop.{signed_64}
 use Rattle.wk_bytes.proofs.writing_signed.put_s64.Goals as goal
 
-pub returns-in_err-extend_from_slice-clause-shortest :
-    goal.returns-in_err-extend_from_slice-clause-shortest
-returns-in_err-extend_from_slice-clause-shortest c = short_signed-is c.args.n
-
-pub returns-in_err-extend_from_slice-clause-spells :
-    goal.returns-in_err-extend_from_slice-clause-spells
-returns-in_err-extend_from_slice-clause-spells c = short_signed-spells 64 c.args.n (signed_64 c.args.n c.ranges.n)
-
 pub returns-clause-shortest : goal.returns-clause-shortest
 returns-clause-shortest c = short_signed-is c.args.n
 
