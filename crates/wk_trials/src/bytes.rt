@@ -1,27 +1,16 @@
 //! Calls of `wk_bytes`.
-ghost use Rattle.std.specs.Prelude.{◌≡◌, IfOk};
 
 use crate::mark::{call_begins, call_ends};
 use crate::outcome::Outcome;
+use crate::sinks::{BEFORE, Room, has_appended, sink};
 use std::alloc::{AllocError, Global};
-use wk_bytes::{Items, Out, OutFault, OutOfMemory, Sink, Text, out_u32, put_all, put_u32};
+use wk_bytes::{
+    Items, Out, OutFault, OutOfMemory, Sink, Text, out_u32, put_all, put_s32, put_s33, put_s64,
+    put_u32,
+};
 
-const BEFORE: [u8; 3] = [1, 2, 3];
-
-// Room enough for each scenario.
-pub const ROOM: usize = 64;
-
-// What stands behind `BEFORE`, if that stands in front.
-fn appended(bytes: &[u8]) -> Option<&[u8]> {
-    bytes.strip_prefix(&BEFORE)
-}
-
-fn has_appended(bytes: &[u8], more: &[u8]) -> bool {
-    match appended(bytes) {
-        Some(rest) => rest == more,
-        None => false,
-    }
-}
+// 624,485, the usual example of LEB128.
+const SPELLING: [u8; 3] = [0xe5, 0x8e, 0x26];
 
 fn after_put(answer: Result<(), OutOfMemory>, bytes: &[u8], spelling: &[u8]) -> Outcome {
     match answer {
@@ -35,16 +24,35 @@ pub fn puts_u32(alloc: Global) -> Result<Outcome, AllocError> {
     call_begins(alloc)?;
     let answer = put_u32(&mut bytes, 624_485);
     call_ends(alloc)?;
-    Ok(after_put(answer, &bytes, &[0xe5, 0x8e, 0x26]))
+    Ok(after_put(answer, &bytes, &SPELLING))
 }
 
-// A sink that holds `BEFORE`, with room for that many bytes more.
-fn sink(alloc: Global, room: usize) -> Result<Sink, AllocError>
-    ensures { IfOk result (λ s. ⟦<Sink as Out>⟧.failed s ≡ 0) }
-{
+pub fn puts_s32(alloc: Global) -> Result<Outcome, AllocError> {
     let mut bytes = Vec::from_slice(alloc, &BEFORE)?;
-    bytes.reserve(room)?;
-    Ok(Sink::new(bytes))
+    call_begins(alloc)?;
+    let answer = put_s32(&mut bytes, -123_456);
+    call_ends(alloc)?;
+    Ok(after_put(answer, &bytes, &[0xc0, 0xbb, 0x78]))
+}
+
+pub fn puts_s33(alloc: Global) -> Result<Outcome, AllocError> {
+    let mut bytes = Vec::from_slice(alloc, &BEFORE)?;
+    call_begins(alloc)?;
+    let answer = put_s33(&mut bytes, -4_294_967_296);
+    call_ends(alloc)?;
+    Ok(after_put(answer, &bytes, &[0x80, 0x80, 0x80, 0x80, 0x70]))
+}
+
+pub fn puts_s64(alloc: Global) -> Result<Outcome, AllocError> {
+    let mut bytes = Vec::from_slice(alloc, &BEFORE)?;
+    call_begins(alloc)?;
+    let answer = put_s64(&mut bytes, i64::MIN);
+    call_ends(alloc)?;
+    Ok(after_put(
+        answer,
+        &bytes,
+        &[0x80, 0x80, 0x80, 0x80, 0x80, 0x80, 0x80, 0x80, 0x80, 0x7f],
+    ))
 }
 
 fn after_out(answer: Result<(), OutFault>, sink: Sink, taken: &[u8]) -> Outcome {
@@ -56,7 +64,7 @@ fn after_out(answer: Result<(), OutFault>, sink: Sink, taken: &[u8]) -> Outcome 
     }
 }
 
-pub fn puts_to_sink(alloc: Global, room: usize) -> Result<Outcome, AllocError> {
+pub fn puts_all(alloc: Global, room: Room) -> Result<Outcome, AllocError> {
     let mut sink = sink(alloc, room)?;
     call_begins(alloc)?;
     let answer = put_all(&mut sink, b"more bytes");
@@ -64,12 +72,12 @@ pub fn puts_to_sink(alloc: Global, room: usize) -> Result<Outcome, AllocError> {
     Ok(after_out(answer, sink, b"more bytes"))
 }
 
-pub fn outs_u32(alloc: Global, room: usize) -> Result<Outcome, AllocError> {
+pub fn outs_u32(alloc: Global, room: Room) -> Result<Outcome, AllocError> {
     let mut sink = sink(alloc, room)?;
     call_begins(alloc)?;
     let answer = out_u32(&mut sink, 624_485);
     call_ends(alloc)?;
-    Ok(after_out(answer, sink, &[0xe5, 0x8e, 0x26]))
+    Ok(after_out(answer, sink, &SPELLING))
 }
 
 pub fn pushes_item(alloc: Global) -> Result<Outcome, AllocError> {

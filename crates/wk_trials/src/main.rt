@@ -7,10 +7,14 @@
 #![tactic(auto)]
 
 mod bytes;
+mod jobs;
 mod mark;
 mod modules;
 mod outcome;
+mod sample;
 mod scenario;
+mod sessions;
+mod sinks;
 
 use crate::outcome::Outcome;
 use crate::scenario::Scenario;

@@ -1,21 +1,30 @@
 //! The scenarios and their names.
 
 use crate::outcome::Outcome;
-use crate::{bytes, modules};
+use crate::sample::{STRIPPED, WITH_TYPE};
+use crate::sinks::Room;
+use crate::{bytes, jobs, modules, sample, sessions};
 use std::alloc::{AllocError, Global};
+use wk_session::EditFault;
 
 /// A call under test.
 #[derive(Clone, Copy, Debug, PartialEq, Eq)]
 pub enum Scenario {
     /// `put_u32` to a full vector.
     PutU32,
-    /// `put_all` to a `Sink` whose vector is full.
+    /// `put_s32` to a full vector.
+    PutS32,
+    /// `put_s33` to a full vector.
+    PutS33,
+    /// `put_s64` to a full vector.
+    PutS64,
+    /// `put_all` to a full `Sink`.
     SinkPut,
-    /// `put_all` to a `Sink` with room: it takes no memory.
+    /// `put_all` to a `Sink` with room.
     SinkPutInRoom,
-    /// `out_u32` to a `Sink` whose vector is full.
+    /// `out_u32` to a full `Sink`.
     OutU32,
-    /// `out_u32` to a `Sink` with room: it takes no memory.
+    /// `out_u32` to a `Sink` with room.
     OutU32InRoom,
     /// `Items::push`.
     ItemsPush,
@@ -27,28 +36,43 @@ pub enum Scenario {
     Read,
     /// `wk_module::encode`.
     Encode,
-    /// `wk_check::judge`: so far it takes no memory.
+    /// `wk_check::judge`, which takes no memory so far.
     Judge,
     /// `Session::open`.
     Open,
     /// `Session::apply` of a type.
     ApplyType,
-    /// `Session::apply` of custom sections to strip: it takes no memory.
+    /// `Session::apply` of a strip of two custom sections.
     ApplyStrip,
-    /// `Session::run`.
+    /// `Session::apply` of a strip that finds no custom section.
+    ApplyRefused,
+    /// `Session::run` of four edits, one of them refused in any case.
     Run,
     /// `Session::write` to a `Sink` with room.
     Write,
+    /// `Session::write` to a full `Sink`.
+    WriteToFull,
     /// `wk_edit::read_script`.
     ReadScript,
-    /// `wk_edit::edit` to two `Sink`s with room.
+    /// `wk_edit::edit` onto two outputs with room.
     Edit,
+    /// `wk_edit::edit` where the output of the report alone is full.
+    EditReportFull,
+    /// `wk_edit::edit` onto two full outputs.
+    EditToFull,
+    /// `wk_edit::edit` of what is no module, onto two full outputs.
+    EditMalformed,
+    /// `wk_edit::edit` by a wrong script, onto two full outputs.
+    EditBadScript,
 }
 
 impl Scenario {
     /// All scenarios, in the order in which they are run.
-    pub const ALL: [Scenario; 18] = [
+    pub const ALL: [Scenario; 27] = [
         Scenario::PutU32,
+        Scenario::PutS32,
+        Scenario::PutS33,
+        Scenario::PutS64,
         Scenario::SinkPut,
         Scenario::SinkPutInRoom,
         Scenario::OutU32,
@@ -62,16 +86,25 @@ impl Scenario {
         Scenario::Open,
         Scenario::ApplyType,
         Scenario::ApplyStrip,
+        Scenario::ApplyRefused,
         Scenario::Run,
         Scenario::Write,
+        Scenario::WriteToFull,
         Scenario::ReadScript,
         Scenario::Edit,
+        Scenario::EditReportFull,
+        Scenario::EditToFull,
+        Scenario::EditMalformed,
+        Scenario::EditBadScript,
     ];
 
-    /// The word that names it.
+    /// The word that names it. One that ends in `-in-room` is of a call that takes no memory.
     pub fn name(self) -> &'static str {
         match self {
             Scenario::PutU32 => "put-u32",
+            Scenario::PutS32 => "put-s32",
+            Scenario::PutS33 => "put-s33",
+            Scenario::PutS64 => "put-s64",
             Scenario::SinkPut => "sink-put",
             Scenario::SinkPutInRoom => "sink-put-in-room",
             Scenario::OutU32 => "out-u32",
@@ -85,10 +118,16 @@ impl Scenario {
             Scenario::Open => "open",
             Scenario::ApplyType => "apply-type",
             Scenario::ApplyStrip => "apply-strip-in-room",
+            Scenario::ApplyRefused => "apply-refused-in-room",
             Scenario::Run => "run",
             Scenario::Write => "write",
+            Scenario::WriteToFull => "write-to-full",
             Scenario::ReadScript => "read-script",
             Scenario::Edit => "edit",
+            Scenario::EditReportFull => "edit-report-full",
+            Scenario::EditToFull => "edit-to-full",
+            Scenario::EditMalformed => "edit-malformed",
+            Scenario::EditBadScript => "edit-bad-script",
         }
     }
 
@@ -104,23 +143,40 @@ impl Scenario {
     pub fn run(self, alloc: Global) -> Result<Outcome, AllocError> {
         match self {
             Scenario::PutU32 => bytes::puts_u32(alloc),
-            Scenario::SinkPut => bytes::puts_to_sink(alloc, 0),
-            Scenario::SinkPutInRoom => bytes::puts_to_sink(alloc, bytes::ROOM),
-            Scenario::OutU32 => bytes::outs_u32(alloc, 0),
-            Scenario::OutU32InRoom => bytes::outs_u32(alloc, bytes::ROOM),
+            Scenario::PutS32 => bytes::puts_s32(alloc),
+            Scenario::PutS33 => bytes::puts_s33(alloc),
+            Scenario::PutS64 => bytes::puts_s64(alloc),
+            Scenario::SinkPut => bytes::puts_all(alloc, Room::Full),
+            Scenario::SinkPutInRoom => bytes::puts_all(alloc, Room::Ample),
+            Scenario::OutU32 => bytes::outs_u32(alloc, Room::Full),
+            Scenario::OutU32InRoom => bytes::outs_u32(alloc, Room::Ample),
             Scenario::ItemsPush => bytes::pushes_item(alloc),
             Scenario::ItemsCopy => bytes::copies_items(alloc),
             Scenario::TextCopy => bytes::copies_text(alloc),
             Scenario::Read => modules::reads(alloc),
             Scenario::Encode => modules::encodes(alloc),
             Scenario::Judge => modules::judges(alloc),
-            Scenario::Open => modules::opens(alloc),
-            Scenario::ApplyType => modules::applies_type(alloc),
-            Scenario::ApplyStrip => modules::applies_strip(alloc),
-            Scenario::Run => modules::runs(alloc),
-            Scenario::Write => modules::writes(alloc),
-            Scenario::ReadScript => modules::reads_script(alloc),
-            Scenario::Edit => modules::edits(alloc),
+            Scenario::Open => sessions::opens(alloc),
+            Scenario::ApplyType => sessions::applies(alloc, &sample::add_type(alloc)?, WITH_TYPE),
+            Scenario::ApplyStrip => sessions::applies(
+                alloc,
+                &sample::strip(alloc, "first")?,
+                STRIPPED,
+            ),
+            Scenario::ApplyRefused => sessions::declines(
+                alloc,
+                &sample::strip(alloc, "absent")?,
+                EditFault::NoSuchCustom,
+            ),
+            Scenario::Run => sessions::runs(alloc),
+            Scenario::Write => sessions::writes(alloc, Room::Ample),
+            Scenario::WriteToFull => sessions::writes(alloc, Room::Full),
+            Scenario::ReadScript => jobs::reads_script(alloc),
+            Scenario::Edit => jobs::edits(alloc, jobs::EDITS, Room::Ample, Room::Ample),
+            Scenario::EditReportFull => jobs::edits(alloc, jobs::EDITS, Room::Ample, Room::Full),
+            Scenario::EditToFull => jobs::edits(alloc, jobs::EDITS, Room::Full, Room::Full),
+            Scenario::EditMalformed => jobs::edits(alloc, jobs::MALFORMED, Room::Full, Room::Full),
+            Scenario::EditBadScript => jobs::edits(alloc, jobs::BAD_SCRIPT, Room::Full, Room::Full),
         }
     }
 }

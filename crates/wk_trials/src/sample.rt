@@ -1,0 +1,87 @@
+//! A module and its edits. What the edits make of it was worked out by hand.
+
+use std::alloc::{AllocError, Global};
+use wk_bytes::{Items, Text};
+use wk_check::{Fault, FaultKind, Place, Verdict};
+use wk_module::{FuncType, ValType};
+use wk_session::Edit;
+
+/// Three types, and four custom sections in two places, two of one name. It is in its written form, and valid.
+pub const MODULE: &[u8] = b"\0asm\x01\0\0\0\
+    \x00\x06\x04name\x07\
+    \x01\x11\x03\x60\x00\x00\x60\x02\x7f\x7e\x01\x7d\x60\x04\x7f\x7f\x7c\x7c\x00\
+    \x00\x0a\x05first\x01\x02\x03\x04\
+    \x00\x07\x06second\
+    \x00\x08\x05first\x05\x06";
+
+/// The module with one type more.
+pub const WITH_TYPE: &[u8] = b"\0asm\x01\0\0\0\
+    \x00\x06\x04name\x07\
+    \x01\x16\x04\x60\x00\x00\x60\x02\x7f\x7e\x01\x7d\x60\x04\x7f\x7f\x7c\x7c\x00\x60\x01\x7f\x01\x7c\
+    \x00\x0a\x05first\x01\x02\x03\x04\
+    \x00\x07\x06second\
+    \x00\x08\x05first\x05\x06";
+
+/// The module without the custom sections named `first`.
+pub const STRIPPED: &[u8] = b"\0asm\x01\0\0\0\
+    \x00\x06\x04name\x07\
+    \x01\x11\x03\x60\x00\x00\x60\x02\x7f\x7e\x01\x7d\x60\x04\x7f\x7f\x7c\x7c\x00\
+    \x00\x07\x06second";
+
+/// The module after the edits of `SCRIPT`: with two types more, the second one invalid, and without `first`.
+pub const EDITED: &[u8] = b"\0asm\x01\0\0\0\
+    \x00\x06\x04name\x07\
+    \x01\x1b\x05\x60\x00\x00\x60\x02\x7f\x7e\x01\x7d\x60\x04\x7f\x7f\x7c\x7c\x00\x60\x01\x7f\x01\x7c\x60\x00\x02\x7f\x7f\
+    \x00\x07\x06second";
+
+/// The edits as a script.
+pub const SCRIPT: &[u8] =
+    b"type i32 f64\ncustom strip first\n\ncustom strip absent\ntype - i32,i32";
+
+/// What the edits are answered, and the verdict after them.
+pub const REPORT: &[u8] = b"1 ok\n\
+    2 ok\n\
+    3 refused E3 NoSuchCustom\n\
+    4 ok\n\
+    invalid V1 TypeArity at section 1 item 4\n";
+
+/// The verdict after the edits.
+pub const EDITED_VERDICT: Verdict = Verdict::Invalid(Fault {
+    kind: FaultKind::TypeArity,
+    place: Place {
+        section: 1,
+        item: 4,
+        token: None,
+    },
+});
+
+fn value_types(alloc: Global, types: &[ValType]) -> Result<Items<ValType>, AllocError> {
+    Ok(Items::from_vec(Vec::from_slice(alloc, types)?))
+}
+
+fn type_edit(alloc: Global, params: &[ValType], results: &[ValType]) -> Result<Edit, AllocError> {
+    Ok(Edit::Ty(FuncType {
+        params: value_types(alloc, params)?,
+        results: value_types(alloc, results)?,
+    }))
+}
+
+/// The edit that makes `WITH_TYPE`.
+pub fn add_type(alloc: Global) -> Result<Edit, AllocError> {
+    type_edit(alloc, &[ValType::I32], &[ValType::F64])
+}
+
+/// The edit that strips the custom sections of a name.
+pub fn strip(alloc: Global, name: &str) -> Result<Edit, AllocError> {
+    Ok(Edit::StripCustom(Text::from_string(String::from_str(alloc, name)?)))
+}
+
+/// The edits of `SCRIPT`.
+pub fn edits(alloc: Global) -> Result<Vec<Edit>, AllocError> {
+    let mut edits = Vec::new(alloc);
+    edits.push(add_type(alloc)?)?;
+    edits.push(strip(alloc, "first")?)?;
+    edits.push(strip(alloc, "absent")?)?;
+    edits.push(type_edit(alloc, &[], &[ValType::I32, ValType::I32])?)?;
+    Ok(edits)
+}
