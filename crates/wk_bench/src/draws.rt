@@ -8,13 +8,13 @@ pub struct Draws {
 
 impl Draws {
     /// Begins at a fixed state.
-    pub fn new() -> Draws {
+    pub(crate) fn new() -> Draws {
         Draws { state: 1 }
     }
 
     /// The next number, of 32 bits.
     #[inline]
-    pub fn draw(&mut self) -> u32 {
+    pub(crate) fn draw(&mut self) -> u32 {
         self.state = self
             .state
             .wrapping_mul(1_664_525)

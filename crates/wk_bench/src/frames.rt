@@ -20,7 +20,7 @@ pub struct Walk {
 }
 
 /// A module of that many custom sections, of up to 255 bytes each.
-pub fn sample_module(alloc: Global, sections: u32) -> Result<Vec<u8>, OutOfMemory> {
+pub(crate) fn sample_module(alloc: Global, sections: u32) -> Result<Vec<u8>, OutOfMemory> {
     let mut draws = Draws::new();
     let mut bytes = Vec::new(alloc);
     bytes.extend_from_slice(&HEADER)?;
@@ -34,7 +34,7 @@ pub fn sample_module(alloc: Global, sections: u32) -> Result<Vec<u8>, OutOfMemor
 }
 
 /// Walks over the frames, and counts on.
-pub fn walk_frames(bytes: &[u8], seen: Walk) -> Walk {
+pub(crate) fn walk_frames(bytes: &[u8], seen: Walk) -> Walk {
     let mut seen = seen;
     for section in Sections::new(bytes) {
         match section {

@@ -16,7 +16,7 @@ pub enum Spelling {
 
 impl Spelling {
     /// What the times are called.
-    pub fn name(self) -> &'static str {
+    pub(crate) fn name(self) -> &'static str {
         match self {
             Spelling::OneByte => "one byte each",
             Spelling::Mixed => "one to five bytes each",
@@ -39,7 +39,11 @@ impl Spelling {
 }
 
 /// That many integers, each in its shortest spelling.
-pub fn spelled(alloc: Global, spelling: Spelling, count: u32) -> Result<Vec<u8>, OutOfMemory> {
+pub(crate) fn spelled(
+    alloc: Global,
+    spelling: Spelling,
+    count: u32,
+) -> Result<Vec<u8>, OutOfMemory> {
     let mut draws = Draws::new();
     let mut bytes = Vec::new(alloc);
     for _ in 0..count {
@@ -49,7 +53,7 @@ pub fn spelled(alloc: Global, spelling: Spelling, count: u32) -> Result<Vec<u8>,
 }
 
 /// Reads that many integers, and adds them to the sum, which wraps.
-pub fn add_all(bytes: &[u8], count: u32, sum: u64) -> Result<u64, ReadFault> {
+pub(crate) fn add_all(bytes: &[u8], count: u32, sum: u64) -> Result<u64, ReadFault> {
     let mut cursor = Cursor::new(&bytes[..bytes.len().min(LIMIT)]);
     let mut sum = sum;
     for _ in 0..count {
