@@ -1,6 +1,7 @@
 //! Why a command gives no answer.
 
 use crate::store::StoreFault;
+use clap::error::ErrorKind;
 use std::alloc::{AllocError, AllocFailed};
 use thiserror::Error;
 use wk_edit::RunFault;
@@ -32,11 +33,7 @@ impl<'a> ProgramFault<'a> {
     /// The status of the program: 3 for its words, 4 for files and standard output, 5 for memory.
     pub fn status(&self) -> u8 {
         match self {
-            ProgramFault::CommandLine(error) => match error.kind() {
-                clap::error::ErrorKind::OutOfMemory => 5,
-                _ => 3,
-            },
-            ProgramFault::BadWords => 3,
+            ProgramFault::CommandLine(_) | ProgramFault::BadWords => 3,
             ProgramFault::Read(_) | ProgramFault::Write(_) | ProgramFault::Output => 4,
             ProgramFault::Memory => 5,
         }
@@ -61,7 +58,10 @@ impl<'a> ProgramFault<'a> {
 
 impl<'a> From<clap::Error> for ProgramFault<'a> {
     fn from(error: clap::Error) -> ProgramFault<'a> {
-        ProgramFault::CommandLine(error)
+        match error.kind() {
+            ErrorKind::OutOfMemory => ProgramFault::Memory,
+            _ => ProgramFault::CommandLine(error),
+        }
     }
 }
 
