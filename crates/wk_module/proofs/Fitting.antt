@@ -5,7 +5,7 @@ use Rattle.wk_bytes.specs.declared.fault.ReadFault.{ReadFault}
 use Rattle.std.specs.List.{filter, flat_map}
 use Rattle.std.proofs.lemmas.Bool.{cases_Bool, cases_eq, cases_lt, eq-eqb, ne_eqb}
 use Rattle.wk_bytes.specs.Short.{short}
-use Rattle.wk_bytes.specs.ShortLaws.{short-last, short-more, short-least}
+use Rattle.wk_bytes.specs.ShortLaws.{short-last, short-more, short-least, short-some}
 use Rattle.wk_bytes.specs.Frames.{Frame, SpellsFrames, magic, version}
 use Rattle.wk_module.specs.declared.types.Custom.{Custom}
 use Rattle.wk_module.specs.declared.types.Parts.{Parts}
@@ -14,16 +14,16 @@ use Rattle.wk_module.specs.Types.{SpellsFuncType, written_functype}
 use Rattle.wk_module.specs.Customs.{SpellsCustoms, written_custom}
 use Rattle.wk_module.specs.Modules.{SpellsSection, Spells}
 use Rattle.wk_module.specs.Writing.{framed, vector_section, section_of, customs_at, section_and_customs, ids, encoded, Fits}
-use Rattle.wk_module.proofs.WrittenItems.{IsWritten, vector_is, functype_is, short-longer, custom_least}
+use Rattle.wk_module.proofs.WrittenItems.{IsWritten, vector_is, functype_is, custom_least}
 use Rattle.wk_module.proofs.WrittenFrames.{frame_bytes, frames_bytes, up_from}
 
 -- ---- longer contents have no shorter size
 
 rises_within : (k a b : ℕ) → a ≤ k → a ≤ b → length (short a) ≤ length (short b)
-rises_within zero a b within le = rw (short-last a (omega arith)) (short-longer b)
+rises_within zero a b within le = rw (short-last a (omega arith)) (short-some b)
 rises_within (suc k) a b within le =
     elim (cases_lt a 128) [
-      | inl small ↦ rw (short-last a small) (short-longer b)
+      | inl small ↦ rw (short-last a small) (short-some b)
       | inr large ↦
           let large_too : 128 ≤ b = omega arith in
           let rest = rises_within k (a / 128) (b / 128) (omega arith) (omega arith) in

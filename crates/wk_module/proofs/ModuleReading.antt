@@ -21,7 +21,9 @@ use Rattle.wk_module.specs.Customs.{SpellsCustom, IsPlaceAfter, SpellsCustoms, c
 use Rattle.wk_module.specs.Modules.{SpellsSection, AreKnown, Spells, SpellsNone}
 use Rattle.wk_module.specs.ModuleLaws.{SpellOne}
 use Rattle.wk_module.specs.Reading.{FailsAs, Reads, Progress, at_start, section_end, with_types, with_section, sections_read, module_at}
-use Rattle.wk_module.proofs.VectorReading.{IsBytes-after, IsBytes-before, SpellsName, name_reader, vector_reader, all_found, all_again}
+use Rattle.wk_bytes.specs.SpanLaws.{IsBytes-after}
+use Rattle.wk_bytes.specs.Pieces.{SpellsName}
+use Rattle.wk_module.proofs.VectorReading.{IsBytes-before, name_reader, vector_reader, all_found, all_again}
 use Rattle.wk_module.proofs.TypeReading.{functype_reader}
 
 -- ---- the contents of one section

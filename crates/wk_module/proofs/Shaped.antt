@@ -12,6 +12,7 @@ use Rattle.wk_module.specs.declared.types.Parts.{Parts}
 use Rattle.wk_module.specs.Vectors.{SpellsVector}
 use Rattle.wk_module.specs.Types.{SpellsFuncType}
 use Rattle.wk_module.specs.Customs.{IsEmptyFrame, SpellsCustoms}
+use Rattle.wk_module.specs.ShapeLaws.{in_order_lower}
 use Rattle.wk_module.specs.Shape.{is_filled, lowered, settled_custom, IsInOrderFrom, AreNamed, IsShaped}
 use Rattle.wk_module.specs.Modules.{SpellsSection, AreKnown, Spells}
 
@@ -77,10 +78,6 @@ abbrev pub AreSettled : (ℕ → Bool) → List Custom → Type 0
 AreSettled passes [] = Unit {0}
 AreSettled passes (c ∷ cs) = (lowered passes c.place ≡ c.place) × AreSettled passes cs
 
-in_order_from : (low least : ℕ) (cs : List Custom) → low ≤ least → IsInOrderFrom least cs → IsInOrderFrom low cs
-in_order_from low least [] le order = tt
-in_order_from low least (c ∷ cs) le order = (omega (arith, order.0), order.1, order.2)
-
 module _ (passes : ℕ → Bool) where
   stays_there : (place : ℕ) → (place ≡ 0) ⊎ (passes place ≡ true) → lowered passes place ≡ place
   stays_there zero is = refl
@@ -119,7 +116,7 @@ module _ (passes : ℕ → Bool) where
         | inr p ↦
             let rest = customs_shaped (max last f.id) f.id framed.1 fs cs (omega arith) bound (inr (filled.0 s.0 p.0)) framed.5 filled.1 (subst (λ (q : ℕ). SpellsCustoms q fs cs) p.1 s.3) in
             let came : place ≤ f.id = elim framed.3 [ inl q ↦ absurd (s.0 q) | inr q ↦ omega arith ] in
-            record { order = in_order_from place f.id cs came rest.order; names = rest.names; settled = rest.settled }
+            record { order = in_order_lower f.id place cs came rest.order; names = rest.names; settled = rest.settled }
       ]
 
 -- ---- the module

@@ -3,21 +3,17 @@ use Rattle.std.proofs.Common.{◌≡◌, ℕ, cond, eqb, true, List, [], ◌∷�
 use Rattle.std.proofs.lemmas.Bool.{eqb-true}
 use Rattle.wk_bytes.specs.declared.fault.ReadKind.TheVariants.{BadByte}
 use Rattle.wk_bytes.specs.Leb.{◌>>=◌, or_fail}
-use Rattle.wk_bytes.specs.LebLaws.{IsBytes, bind_ok, chosen, or_fail_ok, some_is, ok_is}
+use Rattle.wk_bytes.specs.LebLaws.{IsBytes, bind_ok, chosen, or_fail_ok, some_is}
 use Rattle.wk_bytes.specs.Span.{fault, byte_at}
 use Rattle.wk_module.specs.declared.types.ValType.{ValType}
 use Rattle.wk_module.specs.declared.types.ValType.TheVariants.{I32, I64, F32, F64}
 use Rattle.wk_module.specs.declared.types.FuncType.{FuncType}
 use Rattle.wk_module.specs.Vectors.{SpellsVector, vector_at}
 use Rattle.wk_module.specs.Types.{SpellsValType, valtype_byte, valtype_of, valtype_at, SpellsFuncType, this_byte_at, functype_at}
-use Rattle.wk_module.proofs.VectorReading.{IsReader, IsBytes-after, joined, both_fronts, same_read, behind, vector_reader}
+use Rattle.wk_bytes.specs.SpanLaws.{IsBytes-after, byte_at-takes}
+use Rattle.wk_module.proofs.VectorReading.{IsReader, joined, both_fronts, same_read, behind, vector_reader}
 
 -- ---- a byte
-
-byte_found : (end : ℕ) (bytes : List ℕ) (x : ℕ) (rest : List ℕ) → byte_at end bytes ≡ Ok (x, rest) → bytes ≡ x ∷ rest
-unfolding byte_at
-byte_found end [] x rest e = absurd cc
-byte_found end (y ∷ bytes) x rest e = ap (λ (p : ℕ × List ℕ). p.0 ∷ p.1) (ok_is _ _ e)
 
 byte_first : (bytes : List ℕ) (x y : ℕ) (a b : List ℕ) → bytes ≡ x ∷ a → x ≡ y → a ≡ b → bytes ≡ y ∷ b
 byte_first bytes x y a b e f g = e ∙ ap (λ (z : ℕ). z ∷ a) f ∙ ap (λ (c : List ℕ). y ∷ c) g
@@ -33,7 +29,7 @@ this_byte_found wanted end bytes x rest e =
     elim (chosen (eqb a.0.0 wanted) (Ok a.0) (Err (fault BadByte end bytes)) (Ok (x, rest)) a.2) [
       | inl p ↦
           let same = same_read a.0.0 x a.0.1 rest p.1 in
-          byte_first bytes a.0.0 wanted a.0.1 rest (byte_found end bytes a.0.0 a.0.1 a.1) (eqb-true a.0.0 wanted p.0) same.1
+          byte_first bytes a.0.0 wanted a.0.1 rest (byte_at-takes end bytes a.0.0 a.0.1 a.1) (eqb-true a.0.0 wanted p.0) same.1
       | inr p ↦ absurd cc
     ]
 
@@ -68,7 +64,7 @@ valtype_found end bytes t rest fits e =
     let b = bind_ok (or_fail (valtype_of a.0.0) (fault BadByte end bytes)) (λ u. Ok (u, a.0.1)) (t, rest) a.2 in
     let same = same_read b.0 t a.0.1 rest b.2 in
     let byte : a.0.0 ≡ valtype_byte t = byte_of a.0.0 b.0 (or_fail_ok (valtype_of a.0.0) (fault BadByte end bytes) b.0 b.1) ∙ ap valtype_byte same.0 in
-    (valtype_byte t ∷ [], refl, byte_first bytes a.0.0 (valtype_byte t) a.0.1 rest (byte_found end bytes a.0.0 a.0.1 a.1) byte same.1)
+    (valtype_byte t ∷ [], refl, byte_first bytes a.0.0 (valtype_byte t) a.0.1 rest (byte_at-takes end bytes a.0.0 a.0.1 a.1) byte same.1)
 
 valtype_again : (end : ℕ) (b : List ℕ) (t : ValType) (rest : List ℕ) → SpellsValType b t → valtype_at end (b ++ rest) ≡ Ok (t, rest)
 unfolding valtype_at

@@ -1,16 +1,16 @@
 -- Readers that take each spelling from the front, and nothing else; and vectors of what they read.
-use Rattle.std.proofs.Common.{◌≡◌, ℕ, cond, zero, suc, ◌+◌, ◌-◌, ◌<◌, ◌≤◌, List, [], ◌∷◌, ◌++◌, length, Result, Ok, Err, refl, sym, ap, subst, ◌∙◌, append_assoc, inl, inr, arith}
-use Rattle.std.proofs.lemmas.List.{append-nil, get_or-append-add, get_or_append_left, get_or_past}
+use Rattle.std.proofs.Common.{◌≡◌, ℕ, zero, suc, ◌+◌, ◌-◌, ◌<◌, ◌≤◌, List, [], ◌∷◌, ◌++◌, length, Result, Ok, Err, refl, sym, ap, subst, ◌∙◌, append_assoc, inl, inr, arith}
+use Rattle.std.proofs.lemmas.List.{append-nil, get_or_append_left, get_or_past}
 use Rattle.std.proofs.lemmas.Bool.{cases_lt}
-use Rattle.std.specs.Str.{IsUtf8, is_utf8}
-use Rattle.std.proofs.lemmas.Str.{is_utf8-from_IsUtf8, IsUtf8-from_is_utf8}
 use Rattle.wk_bytes.specs.declared.fault.ReadKind.{ReadKind}
-use Rattle.wk_bytes.specs.declared.fault.ReadKind.TheVariants.{Memory, BadUtf8}
+use Rattle.wk_bytes.specs.declared.fault.ReadKind.TheVariants.{Memory}
 use Rattle.wk_bytes.specs.declared.fault.ReadFault.{ReadFault}
-use Rattle.wk_bytes.specs.Leb.{◌>>=◌, SpellsU, uint_at}
-use Rattle.wk_bytes.specs.LebLaws.{IsBytes, bind_ok, chosen, done, ok_is, uint_spells, uint_again}
-use Rattle.wk_bytes.specs.SpanLaws.{piece_at-takes, piece_at-again}
-use Rattle.wk_bytes.specs.Span.{placed, fault, u32_at, piece_at, name_at}
+use Rattle.wk_bytes.specs.Leb.{◌>>=◌, SpellsU}
+use Rattle.wk_bytes.specs.LebLaws.{IsBytes, bind_ok, done, ok_is}
+use Rattle.wk_bytes.specs.SpanLaws.{IsBytes-after}
+use Rattle.wk_bytes.specs.Pieces.{SpellsName}
+use Rattle.wk_bytes.specs.PieceLaws.{u32_at-found, u32_at-again, name_at-found, name_at-again}
+use Rattle.wk_bytes.specs.Span.{u32_at, name_at}
 use Rattle.wk_module.specs.Vectors.{SpellsItems, SpellsVector, items_at, vector_at, taking_all, all_at}
 use Rattle.wk_module.specs.Reading.{FailsAs}
 
@@ -20,9 +20,6 @@ pub record IsReader {A : Type 0} (Spells : List ℕ → A → Type 0) (read : �
   pub again : (end : ℕ) (b : List ℕ) (x : A) (rest : List ℕ) → Spells b x → read end (b ++ rest) ≡ Ok (x, rest)
 
 -- ---- bytes
-
-pub IsBytes-after : (front later bytes : List ℕ) → bytes ≡ front ++ later → IsBytes bytes → IsBytes later
-IsBytes-after front later bytes e fits i = rw (← get_or-append-add front later i 0, ← e) (fits (length front + i))
 
 pub IsBytes-before : (front later bytes : List ℕ) → bytes ≡ front ++ later → IsBytes bytes → IsBytes front
 IsBytes-before front later bytes e fits i =
@@ -55,49 +52,11 @@ behind bytes front a b e f = e ∙ ap (λ (c : List ℕ). front ++ c) f
 
 -- ---- integers and names
 
-placed_is : {A : Type 0} (r : Result A ReadKind) (end : ℕ) (bytes : List ℕ) (x : A) → placed r end bytes ≡ Ok x → r ≡ Ok x
-placed_is (Ok y) end bytes x e = cc
-placed_is (Err k) end bytes x e = absurd cc
-
 pub u32_reader : IsReader (SpellsU 32) u32_at
-unfolding u32_at
-u32_reader = record {
-  found = λ end bytes n rest fits e. uint_spells 32 bytes n rest fits (placed_is (uint_at 32 bytes) end bytes (n, rest) e);
-  again = λ end b n rest s. ap (λ (r : Result (ℕ × List ℕ) ReadKind). placed r end (b ++ rest)) (uint_again 32 b n rest s);
-}
-
--- a name: a count, and as many bytes of UTF-8
-pub record SpellsName (b : List ℕ) (text : List ℕ) : Type 0 where
-  pub size : List ℕ
-  pub parts : b ≡ size ++ text
-  pub counts : SpellsU 32 size (length text)
-  pub utf8 : IsUtf8 text
-
-name_found : (end : ℕ) (bytes text rest : List ℕ) → IsBytes bytes → name_at end bytes ≡ Ok (text, rest) → (b : List ℕ) × SpellsName b text × (bytes ≡ b ++ rest)
-unfolding name_at
-name_found end bytes text rest fits e =
-    let a = bind_ok (u32_at end bytes) (λ n. piece_at n.0 end n.1 >>= λ t. cond (is_utf8 t.0) (Ok t) (Err (fault BadUtf8 end n.1))) (text, rest) e in
-    let b = bind_ok (piece_at a.0.0 end a.0.1) (λ t. cond (is_utf8 t.0) (Ok t) (Err (fault BadUtf8 end a.0.1))) (text, rest) a.2 in
-    elim (chosen (is_utf8 b.0.0) (Ok b.0) (Err (fault BadUtf8 end a.0.1)) (Ok (text, rest)) b.2) [
-      | inl p ↦
-          let texts : b.0.0 ≡ text = (same_read b.0.0 text b.0.1 rest p.1).0 in
-          let pieces : piece_at a.0.0 end a.0.1 ≡ Ok (text, rest) = b.1 ∙ p.1 in
-          let count = u32_reader.found end bytes a.0.0 a.0.1 fits a.1 in
-          let piece = piece_at-takes a.0.0 end a.0.1 text rest pieces in (
-            count.0 ++ text,
-            record { size = count.0; parts = refl; counts = subst (SpellsU 32 count.0) (sym piece.1) count.1; utf8 = subst IsUtf8 texts (IsUtf8-from_is_utf8 b.0.0 p.0) },
-            joined bytes count.0 a.0.1 text rest count.2 piece.0,
-          )
-      | inr p ↦ absurd cc
-    ]
-
-name_again : (end : ℕ) (b text rest : List ℕ) → SpellsName b text → name_at end (b ++ rest) ≡ Ok (text, rest)
-unfolding name_at
-name_again end b text rest s =
-    ap (name_at end) (both_fronts b s.size text rest s.parts) ∙ rw (u32_reader.again end s.size (length text) (text ++ rest) s.counts, piece_at-again end text rest, is_utf8-from_IsUtf8 text s.utf8) refl
+u32_reader = record { found = u32_at-found; again = u32_at-again }
 
 pub name_reader : IsReader SpellsName name_at
-name_reader = record { found = name_found; again = name_again }
+name_reader = record { found = name_at-found; again = name_at-again }
 
 -- ---- vectors
 

@@ -15,9 +15,6 @@ pub record IsWritten {A : Type 0} (Spells : List ℕ → A → Type 0) (written 
   pub spells : (x : A) → length (written x) < 2 ^ 32 → Spells (written x) x
   pub least : (b : List ℕ) (x : A) → Spells b x → length (written x) ≤ length b
 
-pub short-longer : (n : ℕ) → 0 < length (short n)
-short-longer n = short-some n
-
 module _ {A : Type 0} (Spells : List ℕ → A → Type 0) (written : A → List ℕ) (one : IsWritten Spells written) where
   items_longer : (xs : List A) → length xs ≤ length (flat_map written xs)
   items_longer [] = omega arith
@@ -36,7 +33,7 @@ module _ {A : Type 0} (Spells : List ℕ → A → Type 0) (written : A → List
 
   pub vector_is : IsWritten (SpellsVector Spells) (written_vector written)
   vector_is = record {
-    some = λ xs. omega (arith, length-append (short (length xs)) (flat_map written xs), short-longer (length xs));
+    some = λ xs. omega (arith, length-append (short (length xs)) (flat_map written xs), short-some (length xs));
     spells = λ xs fits.
         let both = length-append (short (length xs)) (flat_map written xs) in
         let few : length xs < 2 ^ 32 = omega (arith, items_longer xs) in

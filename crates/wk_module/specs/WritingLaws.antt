@@ -16,14 +16,11 @@ use Rattle.wk_module.specs.Writing.{framed, vector_section, section_of, customs_
 
 -- ---- no written form is empty
 
-pub some_short : (n : ℕ) → 0 < length (short n)
-some_short n = short-some n
-
 pub some_vector : {A : Type 0} (written : A → List ℕ) (xs : List A) → 0 < length (written_vector written xs)
-some_vector written xs = omega (arith, length-append (short (length xs)) (flat_map written xs), some_short (length xs))
+some_vector written xs = omega (arith, length-append (short (length xs)) (flat_map written xs), short-some (length xs))
 
 pub some_custom : (c : Custom) → 0 < length (written_custom c)
-some_custom c = omega (arith, length-append (short (length c.name)) (c.name ++ c.bytes), some_short (length c.name))
+some_custom c = omega (arith, length-append (short (length c.name)) (c.name ++ c.bytes), short-some (length c.name))
 
 -- ---- a section that is not left out
 

@@ -1,4 +1,4 @@
-use Rattle.std.proofs.Common.{◌≡◌, ◌∙◌, ap, sym}
+use Rattle.std.proofs.Common.{◌∙◌, ap, sym}
 use Rattle.wk_bytes.specs.LebLaws.{done}
 use Rattle.wk_module.proofs.ModuleReading.{placed_fails}
 use Rattle.wk_module.proofs.Shaped.{shaped}
