@@ -42,9 +42,11 @@ is_opcode x =
     nat_le x 0x04 || (nat_le 0x0B x && nat_le x 0x11) || (nat_le 0x1A x && nat_le x 0x1B)
     || (nat_le 0x20 x && nat_le x 0x24) || (nat_le 0x28 x && nat_le x 0xBF)
 
--- What the bytes from the offset of a fault on are. Any byte is wrong at some place of the grammar, so `BadByte` asks for a byte
--- alone; of what left-over bytes, a group of locals and an opcode too many are, their offset says no more. A missing piece and the
--- counts of functions and codes are no matter of these bytes. Too long an input and want of memory do not stand at bytes.
+-- What the bytes from the offset of a fault on are.
+-- Each byte is wrong at some place of the grammar (0 as the form of a type, any other as a reserved byte), so `BadByte` asks
+-- for a byte alone. So do the kinds of bytes left over, of a group of locals and of an opcode that opens a block: what came
+-- before decides them. `UnexpectedEnd` and `FuncCodeCount` may lie at the end of the bytes, and ask for none. `LongInput` and
+-- `Memory` do not stand at bytes.
 abbrev pub StandsAt : ReadKind → List ℕ → Type 0
 StandsAt BadMagic from = BeginsOtherwise magic from
 StandsAt BadVersion from = BeginsOtherwise version from
