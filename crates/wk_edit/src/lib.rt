@@ -16,6 +16,10 @@ pub use job::edit;
 pub use script::read_script;
 
 #[cfg(test)]
+mod tests_job;
+#[cfg(test)]
+mod tests_output;
+#[cfg(test)]
 mod tests_script;
 #[cfg(test)]
 mod tests_texts;
