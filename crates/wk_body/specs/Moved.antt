@@ -1,0 +1,17 @@
+-- Kept tokens whose references have moved.
+use Rattle.std.specs.Prelude.{◌≡◌, ℕ, List, [], map, false}
+use Rattle.std.specs.List.{flat_map, AllByRecursion}
+use Rattle.wk_body.specs.declared.moves.Moving.{Moving}
+use Rattle.wk_body.specs.declared.token.Token.{Token}
+use Rattle.wk_body.specs.Kept.{told, all_told, IsWithin}
+use Rattle.wk_body.specs.References.{tok_refs, map_tok, moved_plain, any_stuck}
+
+pub record IsMoved (kind : Moving) (from : ℕ) (token moved : Token) : Type 0 where
+  pub fits : any_stuck kind from (tok_refs (told [] token)) ≡ false
+  pub told_moved : (pool : List ℕ) → told pool moved ≡ map_tok (moved_plain kind from) (told pool token)
+  pub within : (len : ℕ) → IsWithin len token → IsWithin len moved
+
+pub record AreMoved (kind : Moving) (from : ℕ) (tokens moved : List Token) : Type 0 where
+  pub fits : any_stuck kind from (flat_map tok_refs (all_told [] tokens)) ≡ false
+  pub told_moved : (pool : List ℕ) → all_told pool moved ≡ map (map_tok (moved_plain kind from)) (all_told pool tokens)
+  pub within : (len : ℕ) → AllByRecursion (IsWithin len) tokens → AllByRecursion (IsWithin len) moved

@@ -1,0 +1,53 @@
+//! Bodies: local groups and instructions.
+
+ghost use Rattle.std.specs.Prelude.{◌≡◌};
+ghost use Rattle.wk_body.specs.Bodies.{BodyOf, AreGroups};
+
+use crate::expr::Expr;
+use crate::types::LocalGroup;
+use std::marker::Model;
+
+/// The locals and the instructions of a function (2.5.3, 5.5.13): a code without its size.
+///
+/// Local groups are kept as they are, empty ones too. They declare fewer than 2^32 locals.
+#[derive(Clone, Debug, Drop)]
+pub struct Body {
+    groups: Vec<LocalGroup>,
+    instrs: Expr,
+}
+
+impl Model for Body {
+    ghost use Rattle.wk_body.specs.Bodies.{BodyOf, AreGroups, coded_body};
+
+    ghost Value = { BodyOf };
+
+    ghost coded = { coded_body };
+
+    ghost view = { λ b. record { groups = b.groups.items; instrs = b.instrs } };
+
+    ghost invariant = { λ b. AreGroups b.groups.items };
+}
+
+impl Body {
+    // What was read, or made of what was read.
+    pub(crate) fn of(groups: Vec<LocalGroup>, instrs: Expr) -> Body
+        requires { AreGroups groups.items }
+        ensures { result ≡ record { groups = groups.items; instrs = instrs } }
+    {
+        Body { groups, instrs }
+    }
+
+    /// The local groups.
+    pub fn groups(&self) -> &[LocalGroup]
+        ensures { result.now ≡ self.now.groups }
+    {
+        &self.groups
+    }
+
+    /// The instructions.
+    pub fn instrs(&self) -> &Expr
+        ensures { result.now ≡ self.now.instrs }
+    {
+        &self.instrs
+    }
+}

@@ -1,0 +1,55 @@
+//! Expressions, kept flat.
+
+ghost use Rattle.std.specs.Prelude.{◌≡◌, length};
+ghost use Rattle.std.specs.List.{AllByRecursion};
+ghost use Rattle.wk_body.specs.Tree.{tokens_of};
+ghost use Rattle.wk_body.specs.Kept.{IsKept, IsWithin, all_told, tree_kept};
+
+use crate::token::Token;
+use std::marker::Model;
+
+/// Instructions up to their last `end` (2.4.6): an initialiser or an offset, or what a body holds beside its locals.
+///
+/// They are kept as tokens, one after the other, so that nothing recurses over nested blocks. A contract sees their tree
+/// (`Instrs` of `specs/Tree.antt`). Each is one that bytes can spell: all numbers are in their ranges, and at most 20,000 blocks
+/// are open at one place.
+#[derive(Clone, Debug, Drop)]
+pub struct Expr {
+    tokens: Vec<Token>,
+    labels: Vec<u32>,
+}
+
+impl Model for Expr {
+    ghost use Rattle.wk_body.specs.Tree.{Instrs};
+    ghost use Rattle.wk_body.specs.TreeCode.{coded_instrs};
+
+    ghost Value = { Instrs };
+
+    ghost coded = { coded_instrs };
+
+    ghost use Rattle.wk_body.specs.Kept.{tree_kept, IsKept};
+
+    ghost view = { λ e. tree_kept e.labels.items e.tokens.items };
+
+    ghost invariant = { λ e. IsKept e.labels.items e.tokens.items };
+}
+
+impl Expr {
+    // What was put together.
+    pub(crate) fn of(tokens: Vec<Token>, labels: Vec<u32>) -> Expr
+        requires { IsKept labels.items tokens.items }
+        ensures { result ≡ tree_kept labels.items tokens.items }
+    {
+        Expr { tokens, labels }
+    }
+
+    /// The tokens in the order in which they are written, the last `end` among them, and the pool of their labels.
+    ///
+    /// A token's number is its place here. Each one that opens a block, and each `Else`, has the distance to the matching `End`.
+    pub fn tokens(&self) -> (&[Token], &[u32])
+        ensures tokens { all_told result.1.now result.0.now ≡ tokens_of self.now }
+        ensures within { AllByRecursion (IsWithin (length result.1.now)) result.0.now }
+    {
+        (&self.tokens, &self.labels)
+    }
+}

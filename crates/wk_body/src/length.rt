@@ -1,0 +1,146 @@
+//! How long written forms are.
+
+ghost use Rattle.std.specs.Prelude.{◌≡◌, ℕ, ◌+◌, ◌<◌, ◌≤◌, ◌^◌, length};
+ghost use Rattle.std.specs.List.{flat_map, AllByRecursion};
+ghost use Rattle.wk_bytes.specs.Short.{short};
+ghost use Rattle.wk_body.specs.Kept.{told, all_told, IsWithin};
+ghost use Rattle.wk_body.specs.Lengths.{limited, GrowsBy};
+ghost use Rattle.wk_body.specs.Written.{type_bytes, tok_bytes, written_expr, written_body, written_group};
+
+use crate::body::Body;
+use crate::expr::Expr;
+use crate::token::Token;
+use crate::types::{BlockType, LocalGroup};
+use wk_bytes::{LIMIT, leb_len_s64, leb_len_u32};
+
+// The bytes of a block type.
+fn type_len(ty: BlockType) -> u64
+    ensures { result ≡ length (type_bytes ty) }
+{
+    match ty {
+        BlockType::Empty | BlockType::Value(_) => 1,
+        BlockType::Index(x) => leb_len_s64(i64::from(x)) as u64,
+    }
+}
+
+// The bytes of an opcode and an index.
+fn index_len(x: u32) -> u64
+    ensures { result ≡ 1 + length (short x) }
+{
+    1 + leb_len_u32(x) as u64
+}
+
+// The bytes of labels, each at most five.
+fn labels_len(labels: &[u32]) -> u64
+    requires { length labels.now < 2 ^ 32 }
+    ensures len { result ≡ length (flat_map short labels.now) }
+    ensures few { result ≤ 5 * length labels.now }
+{
+    let mut total = 0;
+    for label in labels {
+        total += leb_len_u32(*label) as u64;
+    }
+    total
+}
+
+impl Token {
+    /// How many bytes this token has in the written form: of a `block`, `loop` or `if` the opcode and the block type alone. Its
+    /// labels lie in the pool that its tokens were lent with.
+    pub fn head_len(&self, labels: &[u32]) -> u64
+        requires { IsWithin (length labels.now) self.now }
+        ensures { result ≡ length (tok_bytes (told labels.now self.now)) }
+    {
+        match *self {
+            Token::Unreachable
+            | Token::Nop
+            | Token::Else { .. }
+            | Token::End
+            | Token::Return
+            | Token::Drop
+            | Token::Select
+            | Token::Numeric(_) => 1,
+            Token::Block { ty, .. } | Token::Loop { ty, .. } | Token::If { ty, .. } => {
+                1 + type_len(ty)
+            }
+            Token::Br(x)
+            | Token::BrIf(x)
+            | Token::Call(x)
+            | Token::LocalGet(x)
+            | Token::LocalSet(x)
+            | Token::LocalTee(x)
+            | Token::GlobalGet(x)
+            | Token::GlobalSet(x) => index_len(x),
+            Token::BrTable { start, len, other } => {
+                let start = start as usize;
+                let end = start + len as usize;
+                index_len(len) + labels_len(&labels[start..end]) + leb_len_u32(other) as u64
+            }
+            Token::CallIndirect(x) => index_len(x) + 1,
+            Token::Memory { align, offset, .. } => index_len(align) + leb_len_u32(offset) as u64,
+            Token::MemorySize | Token::MemoryGrow => 2,
+            Token::I32Const(z) => 1 + leb_len_s64(i64::from(z)) as u64,
+            Token::I64Const(z) => 1 + leb_len_s64(z) as u64,
+            Token::F32Const(_) => 5,
+            Token::F64Const(_) => 9,
+        }
+    }
+}
+
+// A length with more added, or nothing past the limit.
+fn plus(total: Option<u32>, more: u64) -> Option<u32>
+    ensures { GrowsBy more total result }
+{
+    match total {
+        Some(total) if total as usize <= LIMIT && more <= (LIMIT - total as usize) as u64 => {
+            Some(total + more as u32)
+        }
+        _ => None,
+    }
+}
+
+// A length with tokens added.
+fn plus_tokens(total: Option<u32>, labels: &[u32], tokens: &[Token]) -> Option<u32>
+    requires { AllByRecursion (IsWithin (length labels.now)) tokens.now }
+    ensures { GrowsBy (length (flat_map tok_bytes (all_told labels.now tokens.now))) total result }
+{
+    let mut all = total;
+    for token in tokens {
+        all = plus(all, token.head_len(labels));
+    }
+    all
+}
+
+// A length with an expression added.
+fn plus_expr(total: Option<u32>, expr: &Expr) -> Option<u32>
+    ensures { GrowsBy (length (written_expr expr.now)) total result }
+{
+    let (tokens, labels) = expr.tokens();
+    plus_tokens(total, labels, tokens)
+}
+
+// A length with local groups added.
+fn plus_groups(total: Option<u32>, groups: &[LocalGroup]) -> Option<u32>
+    ensures { GrowsBy (length (flat_map written_group groups.now)) total result }
+{
+    let mut all = total;
+    for group in groups {
+        all = plus(all, index_len(group.count));
+    }
+    all
+}
+
+/// How many bytes the written form of an expression has, or nothing past 2,147,483,647. It takes no memory.
+pub fn expr_len(expr: &Expr) -> Option<u32>
+    ensures { result ≡ limited (length (written_expr expr.now)) }
+{
+    plus_expr(Some(0), expr)
+}
+
+/// How many bytes the written form of a body has, a code without its size, or nothing past 2,147,483,647. It takes no memory.
+pub fn body_len(body: &Body) -> Option<u32>
+    ensures { result ≡ limited (length (written_body body.now)) }
+{
+    let groups = body.groups();
+    let total = plus(Some(0), leb_len_u32(groups.len() as u32) as u64);
+    plus_expr(plus_groups(total, groups), body.instrs())
+}

@@ -1,0 +1,32 @@
+//! Instructions, expressions and bodies of WebAssembly, in the binary format and as flat tokens that stand for trees.
+#![tactic(auto)]
+
+mod body;
+mod expr;
+mod fault;
+mod length;
+mod memory;
+mod moves;
+mod numeric;
+mod reader;
+mod reading;
+mod refs;
+mod scratch;
+mod token;
+mod types;
+mod writing;
+
+pub use body::Body;
+pub use expr::Expr;
+pub use fault::EncodeFault;
+pub use length::{body_len, expr_len};
+pub use memory::MemoryOp;
+pub use moves::{Moving, ShiftFault};
+pub use numeric::{NumericOp, NumericType};
+pub use reader::{next_expr, next_expr_in, one_spelling_of_code, read_body, read_body_in, read_expr, read_expr_in};
+pub use reading::MAX_DEPTH;
+pub use refs::Ref;
+pub use scratch::Scratch;
+pub use token::Token;
+pub use types::{BlockKind, BlockType, LocalGroup, Profile, ValType};
+pub use writing::{encode_body, encode_expr, put_body, put_expr};

@@ -1,0 +1,316 @@
+//! Reads instructions token by token.
+
+ghost use Rattle.std.specs.Prelude.{◌≡◌, ◌≢◌, ◌+◌, ◌<◌, ◌≤◌, ◌^◌, suc, length, IfOk, MatchResult, [], Ok};
+ghost use Rattle.wk_bytes.specs.declared.fault.ReadKind.TheVariants.{UnknownOpcode, TooDeep};
+ghost use Rattle.wk_bytes.specs.Span.{u32_at};
+ghost use Rattle.wk_body.specs.ValTypes.{valtype_of};
+ghost use Rattle.wk_body.specs.Vectors.{items_at};
+ghost use Rattle.wk_body.specs.Reads.{FailsAs, Parses};
+ghost use Rattle.wk_body.specs.Instructions.{numeric_in};
+ghost use Rattle.wk_body.specs.Reading.{reserved_at, index_at, type_at, type_here, plain_at, tok_at, labels_at, behind_at, token_at, expr_at};
+ghost use Rattle.wk_body.specs.Kept.{told, IsWithin};
+ghost use Rattle.wk_body.specs.Building.{Good, size_of, kinds_of, ReadsLabels, ReadsPlain, ReadsToken};
+
+use crate::expr::Expr;
+use crate::memory::MemoryOp;
+use crate::numeric::NumericOp;
+use crate::scratch::Scratch;
+use crate::token::Token;
+use crate::types::{BlockKind, BlockType, Profile, ValType};
+use std::alloc::Global;
+use wk_bytes::{Cursor, ReadFault, ReadKind};
+
+/// The most blocks that are open at one place of a body or an expression.
+pub const MAX_DEPTH: usize = 20_000;
+
+// The last opcode of 1.0.
+const LAST_CORE: u8 = 0xBF;
+
+/// The value type of a byte (5.3.1).
+pub(crate) fn value_type(byte: u8) -> Option<ValType>
+    ensures { result ≡ valtype_of byte }
+{
+    match byte {
+        0x7F => Some(ValType::I32),
+        0x7E => Some(ValType::I64),
+        0x7D => Some(ValType::F32),
+        0x7C => Some(ValType::F64),
+        _ => None,
+    }
+}
+
+// A reserved byte, which is 00.
+#[tactic(auto, unfolding(crate::specs::Reading::reserved_at))]
+fn reserved(cursor: &mut Cursor<'_>) -> Result<u8, ReadFault>
+    ensures { Parses (λ x. x) reserved_at cursor.old result cursor.new }
+{
+    let at = cursor.at();
+    let byte = cursor.byte()?;
+    if byte != 0 {
+        return Err(ReadFault {
+            kind: ReadKind::BadByte,
+            at,
+        });
+    }
+    Ok(byte)
+}
+
+// A type index, which is a signed integer of 33 bits that is not negative.
+#[tactic(auto, unfolding(crate::specs::Reading::index_at))]
+fn type_index(profile: Profile, cursor: &mut Cursor<'_>) -> Result<BlockType, ReadFault>
+    ensures { Parses (λ x. x) (index_at profile) cursor.old result cursor.new }
+{
+    let at = cursor.at();
+    let bad = ReadFault {
+        kind: ReadKind::BadByte,
+        at,
+    };
+    if profile == Profile::Core {
+        return Err(bad);
+    }
+    let index = cursor.s33()?;
+    if index < 0 {
+        return Err(bad);
+    }
+    Ok(BlockType::Index(index as u32))
+}
+
+// A block type (5.4.1).
+#[tactic(auto, unfolding(crate::specs::Reading::type_at))]
+fn block_type(profile: Profile, cursor: &mut Cursor<'_>) -> Result<BlockType, ReadFault>
+    ensures { Parses (λ x. x) (type_at profile) cursor.old result cursor.new }
+{
+    let mut ahead = cursor.ahead();
+    let byte = ahead.byte()?;
+    if byte == 0x40 {
+        *cursor = ahead;
+        return Ok(BlockType::Empty);
+    }
+    match value_type(byte) {
+        Some(ty) => {
+            *cursor = ahead;
+            Ok(BlockType::Value(ty))
+        }
+        None => type_index(profile, cursor),
+    }
+}
+
+// A load or store behind its opcode.
+#[tactic(auto, unfolding(crate::specs::Reading::plain_at, crate::specs::Reading::behind_form, crate::specs::Instructions::form_of))]
+fn memory_of(opcode: u8, cursor: &mut Cursor<'_>) -> Result<Token, ReadFault>
+    requires low { 0x28 ≤ opcode }
+    requires high { opcode ≤ 0x3E }
+    ensures read { (profile : Profile) (e : ReadFault) → Parses (λ x. told [] x) (tok_at (plain_at profile e opcode)) cursor.old result cursor.new }
+    ensures within { IfOk result (IsWithin 0) }
+{
+    let Some(op) = MemoryOp::of(opcode) else {
+        unreachable!()
+    };
+    let align = cursor.u32()?;
+    let offset = cursor.u32()?;
+    Ok(Token::Memory { op, align, offset })
+}
+
+// The numeric instruction of an opcode.
+fn numeric_of(profile: Profile, opcode: u8) -> Option<NumericOp>
+    ensures { result ≡ numeric_in profile opcode }
+{
+    if profile == Profile::Core && opcode > LAST_CORE {
+        return None;
+    }
+    NumericOp::of(opcode)
+}
+
+// An instruction that holds no others and has no labels, behind its opcode, which stands at `at`.
+#[tactic(auto, unfolding(crate::specs::Reading::plain_at, crate::specs::Reading::behind_form, crate::specs::Instructions::form_of))]
+fn simple_of(
+    profile: Profile,
+    opcode: u8,
+    at: u32,
+    cursor: &mut Cursor<'_>,
+) -> Result<Token, ReadFault>
+    requires { opcode ≢ 0x0E }
+    ensures read { Parses (λ x. told [] x) (tok_at (plain_at profile (record { kind = UnknownOpcode; at = at }) opcode)) cursor.old result cursor.new }
+    ensures within { IfOk result (IsWithin 0) }
+{
+    match opcode {
+        0x00 => Ok(Token::Unreachable),
+        0x01 => Ok(Token::Nop),
+        0x0C => Ok(Token::Br(cursor.u32()?)),
+        0x0D => Ok(Token::BrIf(cursor.u32()?)),
+        0x0F => Ok(Token::Return),
+        0x10 => Ok(Token::Call(cursor.u32()?)),
+        0x11 => {
+            let x = cursor.u32()?;
+            let _zero = reserved(cursor)?;
+            Ok(Token::CallIndirect(x))
+        }
+        0x1A => Ok(Token::Drop),
+        0x1B => Ok(Token::Select),
+        0x20 => Ok(Token::LocalGet(cursor.u32()?)),
+        0x21 => Ok(Token::LocalSet(cursor.u32()?)),
+        0x22 => Ok(Token::LocalTee(cursor.u32()?)),
+        0x23 => Ok(Token::GlobalGet(cursor.u32()?)),
+        0x24 => Ok(Token::GlobalSet(cursor.u32()?)),
+        0x28..=0x3E => memory_of(opcode, cursor),
+        0x3F => {
+            let _zero = reserved(cursor)?;
+            Ok(Token::MemorySize)
+        }
+        0x40 => {
+            let _zero = reserved(cursor)?;
+            Ok(Token::MemoryGrow)
+        }
+        0x41 => Ok(Token::I32Const(cursor.s32()?)),
+        0x42 => Ok(Token::I64Const(cursor.s64()?)),
+        0x43 => Ok(Token::F32Const(cursor.word32()?)),
+        0x44 => Ok(Token::F64Const(cursor.word64()?)),
+        _ => match numeric_of(profile, opcode) {
+            Some(op) => Ok(Token::Numeric(op)),
+            None => Err(ReadFault {
+                kind: ReadKind::UnknownOpcode,
+                at,
+            }),
+        },
+    }
+}
+
+// Labels, which go to the end of the pool. No room is made for a count.
+fn labels_of(scratch: &mut Scratch, count: u32, cursor: &mut Cursor<'_>) -> Result<(), ReadFault>
+    requires { Good scratch.old }
+    ensures { MatchResult result
+        (λ _. ReadsLabels (items_at u32_at count cursor.old.end cursor.old.rest) scratch.old scratch.new cursor.old cursor.new)
+        (λ e. FailsAs e e.kind (items_at u32_at count cursor.old.end cursor.old.rest)) }
+{
+    for _ in 0..count {
+        let label = cursor.u32()?;
+        scratch.add_label(label)?;
+    }
+    Ok(())
+}
+
+// A `br_table` behind its opcode.
+#[tactic(auto, unfolding(crate::specs::Reading::plain_at, crate::specs::Reading::behind_form, crate::specs::Instructions::form_of, crate::specs::Vectors::vector_at))]
+fn table_of(scratch: &mut Scratch, cursor: &mut Cursor<'_>) -> Result<(), ReadFault>
+    requires good { Good scratch.old }
+    requires room { size_of scratch.old + length cursor.old.rest < 2 ^ 31 }
+    ensures { MatchResult result
+        (λ _. ReadsPlain (labels_at cursor.old.end cursor.old.rest) scratch.old scratch.new cursor.old cursor.new)
+        (λ e. FailsAs e e.kind (labels_at cursor.old.end cursor.old.rest)) }
+{
+    let start = scratch.labels.len() as u32;
+    let len = cursor.u32()?;
+    labels_of(scratch, len, cursor)?;
+    let other = cursor.u32()?;
+    scratch.push(Token::BrTable { start, len, other })?;
+    Ok(())
+}
+
+// The type of a block that opens here, behind its opcode, which stands at `at`.
+#[tactic(auto, unfolding(crate::specs::Reading::type_here))]
+fn opening_of(
+    scratch: &Scratch,
+    profile: Profile,
+    at: u32,
+    cursor: &mut Cursor<'_>,
+) -> Result<BlockType, ReadFault>
+    ensures { Parses (λ x. x) (type_here profile (kinds_of scratch.now) (record { kind = TooDeep; at = at })) cursor.old result cursor.new }
+{
+    if scratch.depth() < MAX_DEPTH {
+        block_type(profile, cursor)
+    } else {
+        Err(ReadFault {
+            kind: ReadKind::TooDeep,
+            at,
+        })
+    }
+}
+
+// A token behind its opcode, which stands at `at`. Whether it is the end that closes no block.
+#[tactic(auto, unfolding(crate::specs::Reading::behind_at))]
+fn token_behind(
+    scratch: &mut Scratch,
+    profile: Profile,
+    opcode: u8,
+    at: u32,
+    cursor: &mut Cursor<'_>,
+) -> Result<bool, ReadFault>
+    requires good { Good scratch.old }
+    requires room { size_of scratch.old + length cursor.old.rest < 2 ^ 31 }
+    ensures { MatchResult result
+        (λ last. ReadsToken (behind_at profile (kinds_of scratch.old) at opcode cursor.old.end cursor.old.rest) last scratch.old scratch.new (suc (length cursor.old.rest)) cursor.old.end cursor.new)
+        (λ e. FailsAs e e.kind (behind_at profile (kinds_of scratch.old) at opcode cursor.old.end cursor.old.rest)) }
+{
+    match opcode {
+        0x0B => Ok(scratch.close()?),
+        0x05 => {
+            if !scratch.may_else() {
+                return Err(ReadFault {
+                    kind: ReadKind::UnknownOpcode,
+                    at,
+                });
+            }
+            scratch.start_else()?;
+            Ok(false)
+        }
+        0x02 => {
+            let ty = opening_of(scratch, profile, at, cursor)?;
+            scratch.open_block(BlockKind::Block, ty)?;
+            Ok(false)
+        }
+        0x03 => {
+            let ty = opening_of(scratch, profile, at, cursor)?;
+            scratch.open_block(BlockKind::Loop, ty)?;
+            Ok(false)
+        }
+        0x04 => {
+            let ty = opening_of(scratch, profile, at, cursor)?;
+            scratch.open_if(ty)?;
+            Ok(false)
+        }
+        0x0E => {
+            table_of(scratch, cursor)?;
+            Ok(false)
+        }
+        _ => {
+            let token = simple_of(profile, opcode, at, cursor)?;
+            scratch.push(token)?;
+            Ok(false)
+        }
+    }
+}
+
+// One token. Whether it is the end that closes no block.
+fn token_of(
+    scratch: &mut Scratch,
+    profile: Profile,
+    cursor: &mut Cursor<'_>,
+) -> Result<bool, ReadFault>
+    requires good { Good scratch.old }
+    requires room { size_of scratch.old + length cursor.old.rest < 2 ^ 31 }
+    ensures { MatchResult result
+        (λ last. ReadsToken (token_at profile (kinds_of scratch.old) cursor.old.end cursor.old.rest) last scratch.old scratch.new (length cursor.old.rest) cursor.old.end cursor.new)
+        (λ e. FailsAs e e.kind (token_at profile (kinds_of scratch.old) cursor.old.end cursor.old.rest)) }
+{
+    let at = cursor.at();
+    let opcode = cursor.byte()?;
+    token_behind(scratch, profile, opcode, at, cursor)
+}
+
+/// Reads the instructions at the front, up to their end, in a room that is used again and again.
+pub(crate) fn read_front(
+    alloc: Global,
+    scratch: &mut Scratch,
+    profile: Profile,
+    cursor: &mut Cursor<'_>,
+) -> Result<Expr, ReadFault>
+    ensures exact { Parses (λ e. e) (expr_at profile) cursor.old result cursor.new }
+{
+    scratch.clear();
+    let bytes = cursor.rest();
+    loop {
+        if token_of(scratch, profile, cursor)? {
+            return Ok(scratch.copied(alloc)?);
+        }
+    }
+}

@@ -1,0 +1,68 @@
+//! The tokens in which a body is kept: its instructions one after the other, with their `else` and `end`.
+
+use crate::memory::MemoryOp;
+use crate::numeric::NumericOp;
+use crate::types::BlockType;
+
+/// One token (2.4, 5.4).
+///
+/// Labels, indexes, alignments and offsets are those of the binary format; an alignment is the exponent as it is stored.
+/// `skip` is how many tokens stand between this one and the `End` that closes it. An `Else` stands only where its branch holds
+/// an instruction.
+#[derive(Clone, Copy, Debug, PartialEq, Eq)]
+pub enum Token {
+    Unreachable,
+    Nop,
+    Block {
+        ty: BlockType,
+        skip: u32,
+    },
+    Loop {
+        ty: BlockType,
+        skip: u32,
+    },
+    If {
+        ty: BlockType,
+        skip: u32,
+    },
+    Else {
+        skip: u32,
+    },
+    End,
+    Br(u32),
+    BrIf(u32),
+    /// Its labels are `len` of the pool beside the tokens, from `start` on; `other` is the default label.
+    BrTable {
+        start: u32,
+        len: u32,
+        other: u32,
+    },
+    Return,
+    Call(u32),
+    /// The index of a type.
+    CallIndirect(u32),
+    Drop,
+    Select,
+    LocalGet(u32),
+    LocalSet(u32),
+    LocalTee(u32),
+    GlobalGet(u32),
+    GlobalSet(u32),
+    /// A load or a store.
+    Memory {
+        op: MemoryOp,
+        align: u32,
+        offset: u32,
+    },
+    MemorySize,
+    MemoryGrow,
+    I32Const(i32),
+    I64Const(i64),
+    /// The word of a float of 32 bits.
+    F32Const(u32),
+    /// The word of a float of 64 bits.
+    F64Const(u64),
+    Numeric(NumericOp),
+}
+
+const _: () = prove!(size_of::<Token>() <= 16);

@@ -1,0 +1,221 @@
+//! Writes expressions and bodies in the one written form.
+
+ghost use Rattle.std.specs.Prelude.{◌≡◌, ◌<◌, ◌++◌, ◌∷◌, ◌^◌, length, IfOk, OnOk, MatchResult};
+ghost use Rattle.std.specs.List.{flat_map, AllByRecursion};
+ghost use Rattle.byteorder.specs.Endian.{little_bytes};
+ghost use Rattle.wk_bytes.specs.Short.{short};
+ghost use Rattle.wk_body.specs.ValTypes.{valtype_byte};
+ghost use Rattle.wk_body.specs.Kept.{told, all_told, IsWithin};
+ghost use Rattle.wk_body.specs.Written.{type_bytes, tok_bytes, written_expr, written_body, written_group, Fits, Unwritten};
+ghost use Rattle.wk_body.specs.Spelling.{SpellsExpr, SpellsBody};
+ghost use Rattle.wk_body.specs.Shape.{IsOf};
+
+use crate::body::Body;
+use crate::expr::Expr;
+use crate::fault::EncodeFault;
+use crate::length::{body_len, expr_len};
+use crate::token::Token;
+use crate::types::{BlockType, LocalGroup, Profile, ValType};
+use byteorder::{ByteOrder, LittleEndian};
+use std::alloc::Global;
+use wk_bytes::{OutOfMemory, put_s32, put_s33, put_s64, put_u32};
+
+/// The byte of a value type (5.3.1).
+pub(crate) fn valtype_code(ty: ValType) -> u8
+    ensures { result ≡ valtype_byte ty }
+{
+    match ty {
+        ValType::I32 => 0x7F,
+        ValType::I64 => 0x7E,
+        ValType::F32 => 0x7D,
+        ValType::F64 => 0x7C,
+    }
+}
+
+fn put_word32(out: &mut Vec<u8>, word: u32) -> Result<(), OutOfMemory>
+    ensures { OnOk result (out.new.items ≡ out.old.items ++ little_bytes 4 word) }
+{
+    let mut bytes = [0; 4];
+    LittleEndian::write_u32(&mut bytes, word);
+    out.extend_from_slice(&bytes)?;
+    Ok(())
+}
+
+fn put_word64(out: &mut Vec<u8>, word: u64) -> Result<(), OutOfMemory>
+    ensures { OnOk result (out.new.items ≡ out.old.items ++ little_bytes 8 word) }
+{
+    let mut bytes = [0; 8];
+    LittleEndian::write_u64(&mut bytes, word);
+    out.extend_from_slice(&bytes)?;
+    Ok(())
+}
+
+fn put_numbers(out: &mut Vec<u8>, numbers: &[u32]) -> Result<(), OutOfMemory>
+    ensures { OnOk result (out.new.items ≡ out.old.items ++ flat_map short numbers.now) }
+{
+    for n in numbers {
+        put_u32(out, *n)?;
+    }
+    Ok(())
+}
+
+// A block type (5.4.1).
+fn put_type(out: &mut Vec<u8>, ty: BlockType) -> Result<(), OutOfMemory>
+    ensures { OnOk result (out.new.items ≡ out.old.items ++ type_bytes ty) }
+{
+    match ty {
+        BlockType::Empty => out.push(0x40)?,
+        BlockType::Value(ty) => out.push(valtype_code(ty))?,
+        BlockType::Index(x) => put_s33(out, i64::from(x))?,
+    }
+    Ok(())
+}
+
+// An opcode and a label or an index.
+fn put_index(out: &mut Vec<u8>, opcode: u8, x: u32) -> Result<(), OutOfMemory>
+    ensures { OnOk result (out.new.items ≡ out.old.items ++ (opcode ∷ short x)) }
+{
+    out.push(opcode)?;
+    put_u32(out, x)
+}
+
+// An opcode and a block type.
+fn put_opening(out: &mut Vec<u8>, opcode: u8, ty: BlockType) -> Result<(), OutOfMemory>
+    ensures { OnOk result (out.new.items ≡ out.old.items ++ (opcode ∷ type_bytes ty)) }
+{
+    out.push(opcode)?;
+    put_type(out, ty)
+}
+
+// A token whose labels lie in the pool (5.4).
+fn put_token(out: &mut Vec<u8>, labels: &[u32], token: &Token) -> Result<(), OutOfMemory>
+    requires { IsWithin (length labels.now) token.now }
+    ensures { OnOk result (out.new.items ≡ out.old.items ++ tok_bytes (told labels.now token.now)) }
+{
+    match *token {
+        Token::Unreachable => out.push(0x00)?,
+        Token::Nop => out.push(0x01)?,
+        Token::Block { ty, .. } => put_opening(out, 0x02, ty)?,
+        Token::Loop { ty, .. } => put_opening(out, 0x03, ty)?,
+        Token::If { ty, .. } => put_opening(out, 0x04, ty)?,
+        Token::Else { .. } => out.push(0x05)?,
+        Token::End => out.push(0x0B)?,
+        Token::Br(label) => put_index(out, 0x0C, label)?,
+        Token::BrIf(label) => put_index(out, 0x0D, label)?,
+        Token::BrTable { start, len, other } => {
+            let start = start as usize;
+            let end = start + len as usize;
+            put_index(out, 0x0E, len)?;
+            put_numbers(out, &labels[start..end])?;
+            put_u32(out, other)?;
+        }
+        Token::Return => out.push(0x0F)?,
+        Token::Call(x) => put_index(out, 0x10, x)?,
+        Token::CallIndirect(x) => {
+            put_index(out, 0x11, x)?;
+            out.push(0x00)?;
+        }
+        Token::Drop => out.push(0x1A)?,
+        Token::Select => out.push(0x1B)?,
+        Token::LocalGet(x) => put_index(out, 0x20, x)?,
+        Token::LocalSet(x) => put_index(out, 0x21, x)?,
+        Token::LocalTee(x) => put_index(out, 0x22, x)?,
+        Token::GlobalGet(x) => put_index(out, 0x23, x)?,
+        Token::GlobalSet(x) => put_index(out, 0x24, x)?,
+        Token::Memory { op, align, offset } => {
+            put_index(out, op.opcode(), align)?;
+            put_u32(out, offset)?;
+        }
+        Token::MemorySize => out.extend_from_slice(&[0x3F, 0x00])?,
+        Token::MemoryGrow => out.extend_from_slice(&[0x40, 0x00])?,
+        Token::I32Const(z) => {
+            out.push(0x41)?;
+            put_s32(out, z)?;
+        }
+        Token::I64Const(z) => {
+            out.push(0x42)?;
+            put_s64(out, z)?;
+        }
+        Token::F32Const(word) => {
+            out.push(0x43)?;
+            put_word32(out, word)?;
+        }
+        Token::F64Const(word) => {
+            out.push(0x44)?;
+            put_word64(out, word)?;
+        }
+        Token::Numeric(op) => out.push(op.opcode())?,
+    }
+    Ok(())
+}
+
+// The tokens of an expression.
+fn put_tokens(out: &mut Vec<u8>, labels: &[u32], tokens: &[Token]) -> Result<(), OutOfMemory>
+    requires { AllByRecursion (IsWithin (length labels.now)) tokens.now }
+    ensures { OnOk result (out.new.items ≡ out.old.items ++ flat_map tok_bytes (all_told labels.now tokens.now)) }
+{
+    for token in tokens {
+        put_token(out, labels, token)?;
+    }
+    Ok(())
+}
+
+/// Appends the written form of an expression. After a refusal some of it may stand there.
+pub fn put_expr(out: &mut Vec<u8>, expr: &Expr) -> Result<(), OutOfMemory>
+    ensures { OnOk result (out.new.items ≡ out.old.items ++ written_expr expr.now) }
+{
+    let (tokens, labels) = expr.tokens();
+    put_tokens(out, labels, tokens)
+}
+
+fn put_groups(out: &mut Vec<u8>, groups: &[LocalGroup]) -> Result<(), OutOfMemory>
+    ensures { OnOk result (out.new.items ≡ out.old.items ++ flat_map written_group groups.now) }
+{
+    for group in groups {
+        put_u32(out, group.count)?;
+        out.push(valtype_code(group.ty))?;
+    }
+    Ok(())
+}
+
+/// Appends the written form of a body: a code without its size. After a refusal some of it may stand there.
+pub fn put_body(out: &mut Vec<u8>, body: &Body) -> Result<(), OutOfMemory>
+    ensures { OnOk result (out.new.items ≡ out.old.items ++ written_body body.now) }
+{
+    let groups = body.groups();
+    put_u32(out, groups.len() as u32)?;
+    put_groups(out, groups)?;
+    put_expr(out, body.instrs())
+}
+
+/// The written form of an expression.
+///
+/// `TooLarge` is answered exactly where it is longer than 2,147,483,647 bytes, else `Memory` where a growth was refused. What is
+/// written spells the expression in each profile that it belongs to.
+pub fn encode_expr(alloc: Global, expr: &Expr) -> Result<Vec<u8>, EncodeFault>
+    ensures exact { MatchResult result (λ v. (v.items ≡ written_expr expr.now) × Fits v.items) (Unwritten (written_expr expr.now)) }
+    ensures spells { IfOk result (λ v. (profile : Profile) → IsOf profile expr.now → SpellsExpr profile expr.now v.items) }
+{
+    let Some(len) = expr_len(expr) else {
+        return Err(EncodeFault::TooLarge);
+    };
+    let mut out = Vec::with_capacity(alloc, len as usize)?;
+    put_expr(&mut out, expr)?;
+    Ok(out)
+}
+
+/// The written form of a body: a code without its size.
+///
+/// `TooLarge` is answered exactly where it is longer than 2,147,483,647 bytes, else `Memory` where a growth was refused. What is
+/// written spells the body in each profile that it belongs to.
+pub fn encode_body(alloc: Global, body: &Body) -> Result<Vec<u8>, EncodeFault>
+    ensures exact { MatchResult result (λ v. (v.items ≡ written_body body.now) × Fits v.items) (Unwritten (written_body body.now)) }
+    ensures spells { IfOk result (λ v. (profile : Profile) → IsOf profile body.now.instrs → SpellsBody profile body.now v.items) }
+{
+    let Some(len) = body_len(body) else {
+        return Err(EncodeFault::TooLarge);
+    };
+    let mut out = Vec::with_capacity(alloc, len as usize)?;
+    put_body(&mut out, body)?;
+    Ok(out)
+}
