@@ -119,13 +119,13 @@ impl Scratch {
     pub fn code(
         &mut self,
         alloc: Global,
-        cursor: Cursor<'_>,
+        cursor: &Cursor<'_>,
         profile: Profile,
     ) -> Result<Body, ReadFault>
-        ensures exact { Reads (λ b. b) result (all_body_at profile cursor.end cursor.rest) }
-        ensures only { FindsOnly (λ b. b) (SpellsBody profile) cursor.rest result }
+        ensures exact { Reads (λ b. b) result (all_body_at profile cursor.now.end cursor.now.rest) }
+        ensures only { FindsOnly (λ b. b) (SpellsBody profile) cursor.now.rest result }
         ensures profile { IfOk result (λ b. IsOf profile b.instrs) }
-        ensures fault { IfErr result (λ e. StandsOrMemory cursor e) }
+        ensures fault { IfErr result (λ e. StandsOrMemory cursor.now e) }
     {
         let mut ahead = cursor.ahead();
         let body = body_front(alloc, self, profile, &mut ahead)?;
@@ -161,7 +161,7 @@ pub fn read_body_in(alloc: Global, bytes: &[u8], profile: Profile) -> Result<Bod
     ensures fault { IfErr result (λ e. StandsIn bytes.now e) }
 {
     check_len(bytes)?;
-    Scratch::new(alloc).code(alloc, Cursor::new(bytes), profile)
+    Scratch::new(alloc).code(alloc, &Cursor::new(bytes), profile)
 }
 
 /// Reads a body of WebAssembly 1.0, as [`read_body_in`] does.
@@ -176,8 +176,8 @@ pub fn read_body(alloc: Global, bytes: &[u8]) -> Result<Body, ReadFault>
 
 // All that the cursor has left is an expression.
 #[tactic(auto, unfolding(crate::specs::Reading::all_expr_at))]
-fn expr_whole(alloc: Global, cursor: Cursor<'_>, profile: Profile) -> Result<Expr, ReadFault>
-    ensures { Reads (λ e. e) result (all_expr_at profile cursor.end cursor.rest) }
+fn expr_whole(alloc: Global, cursor: &Cursor<'_>, profile: Profile) -> Result<Expr, ReadFault>
+    ensures { Reads (λ e. e) result (all_expr_at profile cursor.now.end cursor.now.rest) }
 {
     let mut ahead = cursor.ahead();
     let expr = read_front(alloc, &mut Scratch::new(alloc), profile, &mut ahead)?;
@@ -197,7 +197,7 @@ pub fn read_expr_in(alloc: Global, bytes: &[u8], profile: Profile) -> Result<Exp
     ensures fault { IfErr result (λ e. StandsIn bytes.now e) }
 {
     check_len(bytes)?;
-    expr_whole(alloc, Cursor::new(bytes), profile)
+    expr_whole(alloc, &Cursor::new(bytes), profile)
 }
 
 /// Reads an expression of WebAssembly 1.0, as [`read_expr_in`] does.
