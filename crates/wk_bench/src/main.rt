@@ -1,15 +1,18 @@
-//! Times the reading calls of `wk_bytes`: what it computes goes to standard output and is the same in every run, the
+//! Times the reading calls of `wk_bytes` and `wk_body`: what it computes goes to standard output and is the same in every run, the
 //! processor time to standard error.
 //!
-//! - `wk_bench` reads two inputs that it makes itself, and walks over the frames of a third: a short run.
+//! - `wk_bench` reads two inputs that it makes itself, and walks over the frames of a third and the bodies of a fourth: a short
+//!   run.
 //! - `wk_bench --full` does the same a hundred times over: a hundred million integers of each kind.
-//! - `wk_bench FILE` walks over the frames of a file, a hundred times.
+//! - `wk_bench FILE` walks over the frames of a file and reads its bodies, a hundred times.
 #![tactic(auto)]
 
+mod codes;
 mod draws;
 mod frames;
 mod spellings;
 
+use crate::codes::{Codes, read_codes, sample_codes};
 use crate::frames::{Walk, sample_module, walk_frames};
 use crate::spellings::{Spelling, add_all, spelled};
 use anyhow::{Context, Result, anyhow, bail};
@@ -22,6 +25,9 @@ const INTEGERS: u32 = 1_000_000;
 
 // How many sections the module holds that is made here.
 const SECTIONS: u32 = 100_000;
+
+// How many bodies the module holds that is made here.
+const BODIES: u32 = 2_000;
 
 const SHORT: u32 = 1;
 
@@ -78,11 +84,35 @@ fn time_frames(
     Ok(())
 }
 
+// Times the reading of the bodies of a module.
+fn time_codes(
+    rt: &(impl AllocGlobal + CpuClock + Print + Eprint),
+    what: &str,
+    bytes: &[u8],
+    passes: u32,
+) -> Result<()> {
+    let start = rt.process_cpu_time()?;
+    let mut seen = Codes::default();
+    for _ in 0..passes {
+        seen = read_codes(rt.alloc(), bytes, seen);
+    }
+    say_time(rt, what, start)?;
+    let Codes {
+        bodies,
+        tokens,
+        faults,
+    } = seen;
+    println!(rt; "{what}: {bodies} bodies, {tokens} tokens, {faults} faults")?;
+    Ok(())
+}
+
 fn time_all(rt: &(impl AllocGlobal + CpuClock + Print + Eprint), passes: u32) -> Result<()> {
     time_integers(rt, Spelling::OneByte, passes)?;
     time_integers(rt, Spelling::Mixed, passes)?;
     let module = sample_module(rt.alloc(), SECTIONS).map_err(|_| AllocError)?;
-    time_frames(rt, "frames", &module, passes)
+    time_frames(rt, "frames", &module, passes)?;
+    let codes = sample_codes(rt.alloc(), BODIES).map_err(|_| AllocError)?;
+    time_codes(rt, "bodies", &codes, passes)
 }
 
 fn main(rt: HostRuntime) -> Result<()> {
@@ -92,7 +122,8 @@ fn main(rt: HostRuntime) -> Result<()> {
         [word] if word.as_str() == "--full" => time_all(&rt, FULL),
         [file] => {
             let bytes = fs::read(&rt, file.as_str()).context("the file cannot be read")?;
-            time_frames(&rt, file.as_str(), &bytes, FULL)
+            time_frames(&rt, file.as_str(), &bytes, FULL)?;
+            time_codes(&rt, file.as_str(), &bytes, FULL)
         }
         _ => Err(anyhow!("usage: wk_bench [--full | FILE]")),
     }

@@ -6,6 +6,7 @@
 //! - `wk_trials` runs each scenario once and prints a line for each.
 #![tactic(auto)]
 
+mod bodies;
 mod bytes;
 mod jobs;
 mod mark;

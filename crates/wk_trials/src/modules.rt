@@ -2,17 +2,11 @@
 
 use crate::mark::{call_begins, call_ends};
 use crate::outcome::Outcome;
-use crate::sample::MODULE;
+use crate::sample::{MODULE, NO_MEMORY};
 use std::alloc::{AllocError, Global};
-use wk_bytes::{OutOfMemory, ReadFault, ReadKind};
+use wk_bytes::OutOfMemory;
 use wk_check::{Verdict, judge};
 use wk_module::{EncodeFault, Module, encode, read};
-
-/// What a reading answers where memory is wanting.
-pub const NO_MEMORY: ReadFault = ReadFault {
-    kind: ReadKind::Memory,
-    at: 0,
-};
 
 // Whether the module is written as these bytes.
 fn is_written_as(alloc: Global, module: &Module, bytes: &[u8]) -> Result<bool, AllocError> {

@@ -1,10 +1,16 @@
 //! A module and its edits. What the edits make of it was worked out by hand.
 
 use std::alloc::{AllocError, Global};
-use wk_bytes::{Items, Text};
+use wk_bytes::{Items, ReadFault, ReadKind, Text};
 use wk_check::{Fault, FaultKind, Place, Verdict};
 use wk_module::{FuncType, ValType};
 use wk_session::Edit;
+
+/// What a reading answers where memory is wanting.
+pub const NO_MEMORY: ReadFault = ReadFault {
+    kind: ReadKind::Memory,
+    at: 0,
+};
 
 /// Three types, and four custom sections in two places, two of one name. It is in its written form, and valid.
 pub const MODULE: &[u8] = b"\0asm\x01\0\0\0\

@@ -3,7 +3,7 @@
 use crate::outcome::Outcome;
 use crate::sample::{STRIPPED, WITH_TYPE};
 use crate::sinks::Room;
-use crate::{bytes, jobs, modules, sample, sessions};
+use crate::{bodies, bytes, jobs, modules, sample, sessions};
 use std::alloc::{AllocError, Global};
 use wk_session::EditFault;
 
@@ -32,6 +32,26 @@ pub enum Scenario {
     ItemsCopy,
     /// `Text::copy`.
     TextCopy,
+    /// `wk_body::read_body`.
+    ReadBody,
+    /// `Scratch::code` in a room that was used before.
+    ReadCodeAgain,
+    /// `wk_body::next_expr_in`.
+    NextExpr,
+    /// `wk_body::encode_body`.
+    EncodeBody,
+    /// `wk_body::encode_expr`.
+    EncodeExpr,
+    /// `wk_body::body_len`.
+    BodyLen,
+    /// `wk_body::refs`.
+    Refs,
+    /// `wk_body::shift`.
+    Shift,
+    /// `wk_body::shift_expr`.
+    ShiftExpr,
+    /// `Body::clone`.
+    CloneBody,
     /// `wk_module::read`.
     Read,
     /// `wk_module::encode`.
@@ -68,7 +88,7 @@ pub enum Scenario {
 
 impl Scenario {
     /// All scenarios, in the order in which they are run.
-    pub const ALL: [Scenario; 27] = [
+    pub const ALL: [Scenario; 37] = [
         Scenario::PutU32,
         Scenario::PutS32,
         Scenario::PutS33,
@@ -80,6 +100,16 @@ impl Scenario {
         Scenario::ItemsPush,
         Scenario::ItemsCopy,
         Scenario::TextCopy,
+        Scenario::ReadBody,
+        Scenario::ReadCodeAgain,
+        Scenario::NextExpr,
+        Scenario::EncodeBody,
+        Scenario::EncodeExpr,
+        Scenario::BodyLen,
+        Scenario::Refs,
+        Scenario::Shift,
+        Scenario::ShiftExpr,
+        Scenario::CloneBody,
         Scenario::Read,
         Scenario::Encode,
         Scenario::Judge,
@@ -112,6 +142,16 @@ impl Scenario {
             Scenario::ItemsPush => "items-push",
             Scenario::ItemsCopy => "items-copy",
             Scenario::TextCopy => "text-copy",
+            Scenario::ReadBody => "read-body",
+            Scenario::ReadCodeAgain => "read-code-again",
+            Scenario::NextExpr => "next-expr",
+            Scenario::EncodeBody => "encode-body",
+            Scenario::EncodeExpr => "encode-expr",
+            Scenario::BodyLen => "body-len-in-room",
+            Scenario::Refs => "refs",
+            Scenario::Shift => "shift",
+            Scenario::ShiftExpr => "shift-expr",
+            Scenario::CloneBody => "clone-body",
             Scenario::Read => "read",
             Scenario::Encode => "encode",
             Scenario::Judge => "judge-in-room",
@@ -153,6 +193,16 @@ impl Scenario {
             Scenario::ItemsPush => bytes::pushes_item(alloc),
             Scenario::ItemsCopy => bytes::copies_items(alloc),
             Scenario::TextCopy => bytes::copies_text(alloc),
+            Scenario::ReadBody => bodies::reads(alloc),
+            Scenario::ReadCodeAgain => bodies::reads_again(alloc),
+            Scenario::NextExpr => bodies::takes_expr(alloc),
+            Scenario::EncodeBody => bodies::encodes(alloc),
+            Scenario::EncodeExpr => bodies::encodes_expr(alloc),
+            Scenario::BodyLen => bodies::measures(alloc),
+            Scenario::Refs => bodies::finds_refs(alloc),
+            Scenario::Shift => bodies::shifts(alloc),
+            Scenario::ShiftExpr => bodies::shifts_expr(alloc),
+            Scenario::CloneBody => bodies::clones(alloc),
             Scenario::Read => modules::reads(alloc),
             Scenario::Encode => modules::encodes(alloc),
             Scenario::Judge => modules::judges(alloc),

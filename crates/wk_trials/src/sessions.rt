@@ -1,7 +1,7 @@
 //! Calls of `wk_session`.
 
 use crate::mark::{call_begins, call_ends};
-use crate::modules::NO_MEMORY;
+use crate::sample::NO_MEMORY;
 use crate::outcome::Outcome;
 use crate::sample::{EDITED, EDITED_VERDICT, MODULE, edits};
 use crate::sinks::{Room, has_appended, has_begun, sink};
