@@ -6,29 +6,29 @@ use Rattle.wk_body.specs.declared.memory.MemoryOp.{MemoryOp}
 use Rattle.wk_body.specs.declared.memory.MemoryOp.TheVariants.{I32Load, I64Load, F32Load, F64Load, I32Load8S, I32Load8U, I32Load16S, I32Load16U, I64Load8S, I64Load8U, I64Load16S, I64Load16U, I64Load32S, I64Load32U, I32Store, I64Store, F32Store, F64Store, I32Store8, I32Store16, I64Store8, I64Store16, I64Store32}
 
 abbrev pub memory_opcode : MemoryOp → ℕ
-memory_opcode I32Load = 40
-memory_opcode I64Load = 41
-memory_opcode F32Load = 42
-memory_opcode F64Load = 43
-memory_opcode I32Load8S = 44
-memory_opcode I32Load8U = 45
-memory_opcode I32Load16S = 46
-memory_opcode I32Load16U = 47
-memory_opcode I64Load8S = 48
-memory_opcode I64Load8U = 49
-memory_opcode I64Load16S = 50
-memory_opcode I64Load16U = 51
-memory_opcode I64Load32S = 52
-memory_opcode I64Load32U = 53
-memory_opcode I32Store = 54
-memory_opcode I64Store = 55
-memory_opcode F32Store = 56
-memory_opcode F64Store = 57
-memory_opcode I32Store8 = 58
-memory_opcode I32Store16 = 59
-memory_opcode I64Store8 = 60
-memory_opcode I64Store16 = 61
-memory_opcode I64Store32 = 62
+memory_opcode I32Load = 0x28
+memory_opcode I64Load = 0x29
+memory_opcode F32Load = 0x2A
+memory_opcode F64Load = 0x2B
+memory_opcode I32Load8S = 0x2C
+memory_opcode I32Load8U = 0x2D
+memory_opcode I32Load16S = 0x2E
+memory_opcode I32Load16U = 0x2F
+memory_opcode I64Load8S = 0x30
+memory_opcode I64Load8U = 0x31
+memory_opcode I64Load16S = 0x32
+memory_opcode I64Load16U = 0x33
+memory_opcode I64Load32S = 0x34
+memory_opcode I64Load32U = 0x35
+memory_opcode I32Store = 0x36
+memory_opcode I64Store = 0x37
+memory_opcode F32Store = 0x38
+memory_opcode F64Store = 0x39
+memory_opcode I32Store8 = 0x3A
+memory_opcode I32Store16 = 0x3B
+memory_opcode I64Store8 = 0x3C
+memory_opcode I64Store16 = 0x3D
+memory_opcode I64Store32 = 0x3E
 
 -- the type of the value that is loaded or stored
 abbrev pub memory_type : MemoryOp → ValType

@@ -152,7 +152,7 @@ impl MemoryOp {
         }
     }
 
-    /// The name in the text format (6.5.4).
+    /// The name in the text format (6.5.5).
     pub fn name(self) -> &'static str
         ensures { result.now ≡ memory_name self }
     {

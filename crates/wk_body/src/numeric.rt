@@ -363,7 +363,7 @@ impl NumericOp {
         }
     }
 
-    /// The name in the text format (6.5.8).
+    /// The name in the text format (6.5.6).
     pub fn name(self) -> &'static str
         ensures { result.now ≡ numeric_name self }
     {
