@@ -19,3 +19,4 @@ pub mod Moved
 pub mod Building
 pub mod Meaning
 pub mod Lengths
+pub mod Names

@@ -1,5 +1,9 @@
 //! The tokens in which a body is kept: its instructions one after the other, with their `else` and `end`.
 
+ghost use Rattle.std.specs.Prelude.{◌≡◌, []};
+ghost use Rattle.wk_body.specs.Kept.{told};
+ghost use Rattle.wk_body.specs.Names.{tok_name};
+
 use crate::memory::MemoryOp;
 use crate::numeric::NumericOp;
 use crate::types::BlockType;
@@ -66,3 +70,41 @@ pub enum Token {
 }
 
 const _: () = prove!(size_of::<Token>() <= 16);
+
+impl Token {
+    /// The name in the text format (6.5).
+    pub fn name(&self) -> &'static str
+        ensures { result.now ≡ tok_name (told [] self.now) }
+    {
+        match *self {
+            Token::Unreachable => "unreachable",
+            Token::Nop => "nop",
+            Token::Block { .. } => "block",
+            Token::Loop { .. } => "loop",
+            Token::If { .. } => "if",
+            Token::Else { .. } => "else",
+            Token::End => "end",
+            Token::Br(_) => "br",
+            Token::BrIf(_) => "br_if",
+            Token::BrTable { .. } => "br_table",
+            Token::Return => "return",
+            Token::Call(_) => "call",
+            Token::CallIndirect(_) => "call_indirect",
+            Token::Drop => "drop",
+            Token::Select => "select",
+            Token::LocalGet(_) => "local.get",
+            Token::LocalSet(_) => "local.set",
+            Token::LocalTee(_) => "local.tee",
+            Token::GlobalGet(_) => "global.get",
+            Token::GlobalSet(_) => "global.set",
+            Token::Memory { op, .. } => op.name(),
+            Token::MemorySize => "memory.size",
+            Token::MemoryGrow => "memory.grow",
+            Token::I32Const(_) => "i32.const",
+            Token::I64Const(_) => "i64.const",
+            Token::F32Const(_) => "f32.const",
+            Token::F64Const(_) => "f64.const",
+            Token::Numeric(op) => op.name(),
+        }
+    }
+}
