@@ -1,0 +1,4 @@
+pub mod Table
+pub mod Pieces
+pub mod PieceShape
+pub mod PieceStands
