@@ -1,2 +1,5 @@
 pub mod Table
 pub mod Pieces
+pub mod GrammarTokens
+pub mod GrammarParts
+pub mod Grammar
