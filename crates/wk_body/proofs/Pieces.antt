@@ -1,14 +1,13 @@
 -- What the readers of single pieces read is spelled so, and what is spelled so is read.
-use Rattle.std.proofs.Common.{◌≡◌, ℕ, zero, suc, ◌+◌, ◌-◌, ◌^◌, ◌<◌, ◌≤◌, ℤ, pos, negsuc, ◌-ℤ◌, Bool, true, false, cond, ltb, leb, eqb, List, [], ◌∷◌, ◌++◌, length, Option, Some, None, Result, Ok, Err, refl, sym, ap, subst, ◌∙◌, append_assoc, arith, ◌⊎◌, inl, inr}
+use Rattle.std.proofs.Common.{◌≡◌, ℕ, zero, suc, ◌+◌, ◌-◌, ◌^◌, ◌<◌, ◌≤◌, ℤ, pos, negsuc, false, cond, ltb, eqb, List, [], ◌∷◌, ◌++◌, length, Option, Some, None, Result, Ok, Err, refl, sym, ap, subst, ◌∙◌, append_assoc, arith, ◌⊎◌, inl, inr}
 use Rattle.std.proofs.lemmas.Bool.{ltb-true, lt-ltb, eqb-true, ne_eqb, cases_lt}
-use Rattle.std.proofs.lemmas.Int.{ints}
 use Rattle.wk_bytes.specs.declared.fault.ReadKind.TheVariants.{BadByte, TooManyLocals}
 use Rattle.wk_bytes.specs.declared.fault.ReadFault.{ReadFault}
 use Rattle.wk_bytes.specs.Leb.{◌>>=◌, or_fail, SpellsU, SpellsS}
 use Rattle.wk_bytes.specs.LebLaws.{IsBytes, bind_ok, chosen, or_fail_ok, some_is, last_value}
 use Rattle.wk_bytes.specs.Pieces.{SpellsWord}
 use Rattle.wk_bytes.specs.Span.{fault, byte_at, u32_at, signed_at, word_at}
-use Rattle.wk_bytes.specs.SpanLaws.{good, ok_is, byte_at-takes, IsBytes-after}
+use Rattle.wk_bytes.specs.SpanLaws.{ok_is, byte_at-takes, IsBytes-after}
 use Rattle.wk_bytes.specs.PieceLaws.{u32_at-found, u32_at-again, signed_at-found, signed_at-again, word_at-found, word_at-again}
 use Rattle.wk_body.specs.declared.types.ValType.{ValType}
 use Rattle.wk_body.specs.declared.types.ValType.TheVariants.{I32, I64, F32, F64}
@@ -21,7 +20,7 @@ use Rattle.wk_body.specs.declared.types.LocalGroup.{LocalGroup}
 use Rattle.wk_body.specs.Bodies.{local_count}
 use Rattle.wk_body.specs.ValTypes.{valtype_byte, SpellsValType, valtype_of, valtype_at}
 use Rattle.wk_body.specs.Vectors.{SpellsItems, SpellsVector, items_at, vector_at}
-use Rattle.wk_body.specs.Instructions.{Plain, Unreachable, Nop, Br, BrIf, BrTable, Return, Call, CallIndirect, Drop, Select, LocalGet, LocalSet, LocalTee, GlobalGet, GlobalSet, Access, MemorySize, MemoryGrow, I32Const, I64Const, F32Const, F64Const, Numeric, plain_opcode, Immediates, Labels, immediates, Form, Alone, WithReserved, WithIndex, WithIndexReserved, WithLabels, WithMemarg, WithSigned, WithWord, last_opcode, form_of, Allows}
+use Rattle.wk_body.specs.Instructions.{Plain, Unreachable, Nop, Br, BrIf, BrTable, Return, Call, CallIndirect, Drop, Select, LocalGet, LocalSet, LocalTee, GlobalGet, GlobalSet, Access, MemorySize, MemoryGrow, I32Const, I64Const, F32Const, F64Const, Numeric, plain_opcode, Immediates, Labels, immediates, Form, Alone, WithReserved, WithIndex, WithIndexReserved, WithLabels, WithMemarg, WithSigned, WithWord, last_opcode, form_of}
 use Rattle.wk_body.specs.Spelling.{SpellsImmediates, SpellsPlain, SpellsType, SpellsGroup}
 use Rattle.wk_body.specs.Reading.{reserved_at, labels_at, behind_form, plain_at, index_of, index_at, or_value, type_at, groups_at}
 use Rattle.wk_body.proofs.Table.{Makes, form_of-makes, form_for, form_of-for, no_opcode}
