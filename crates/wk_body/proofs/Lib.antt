@@ -5,3 +5,6 @@ pub mod GrammarParts
 pub mod Grammar
 pub mod PieceShape
 pub mod PieceStands
+pub mod Spelled
+pub mod Standing
+pub mod Promised
