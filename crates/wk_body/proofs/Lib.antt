@@ -1,4 +1,10 @@
 pub mod Table
 pub mod Pieces
+pub mod GrammarTokens
+pub mod GrammarParts
+pub mod Grammar
 pub mod PieceShape
 pub mod PieceStands
+pub mod Spelled
+pub mod Standing
+pub mod Promised
