@@ -95,12 +95,12 @@ all_counted : (gs : List LocalGroup) → local_count gs < 2 ^ 32 → AllByRecurs
 all_counted [] few = tt
 all_counted (g ∷ gs) few = (omega arith, all_counted gs (omega arith))
 
-pub body_encoded : (profile : Profile) (b : BodyOf) → AreGroups b.groups → IsShaped b.instrs → IsOf profile b.instrs → SpellsBody profile b (written_body b)
-body_encoded profile b groups h of = record {
+pub body_encoded : (profile : Profile) (b : BodyOf) → AreGroups b.groups → SpellsExpr profile b.instrs (written_expr b.instrs) → SpellsBody profile b (written_body b)
+body_encoded profile b groups spelled = record {
   locals = written_vector written_group b.groups;
   code = written_expr b.instrs;
   parts = refl;
   grouped = vector_spells SpellsGroup written_group IsCounted group_spells b.groups groups.counted (all_counted b.groups groups.few);
-  spelled = expr_encoded profile b.instrs h of;
+  spelled = spelled;
   groups = groups;
 }
