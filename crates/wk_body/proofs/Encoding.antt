@@ -3,7 +3,7 @@ use Rattle.std.proofs.Common.{◌≡◌, ℕ, suc, List, [], ◌∷◌, ◌++◌
 use Rattle.std.specs.List.{flat_map}
 use Rattle.std.proofs.lemmas.List.Concat.{flat_map-cons}
 use Rattle.std.proofs.lemmas.Grind.{flat_map-append}
-use Rattle.wk_body.specs.Tree.{Instrs, Finish, One, Block, If, Tok, Simple, Open, OpenIf, Otherwise, Close, else_part, flatten, tokens_of}
+use Rattle.wk_body.specs.Tree.{Instrs, Finish, One, Block, If, Simple, Open, OpenIf, Otherwise, Close, else_part, flatten, tokens_of}
 use Rattle.wk_body.specs.Spelling.{kind_byte}
 use Rattle.wk_body.specs.Written.{plain_bytes, type_bytes, else_bytes, enc, tok_bytes, written_expr}
 

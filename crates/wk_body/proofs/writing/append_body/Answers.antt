@@ -1,7 +1,5 @@
-use Rattle.std.proofs.Common.{◌≡◌, ◌++◌, length, ap, arith}
+use Rattle.std.proofs.Common.{length, ap, arith}
 use Rattle.std.proofs.lemmas.Result.{on_ok_weaker}
-use Rattle.wk_body.specs.Tree.{Instrs}
-use Rattle.wk_body.specs.Shape.{IsOf}
 use Rattle.wk_body.specs.Spelling.{SpellsExpr}
 use Rattle.wk_body.specs.Written.{written_expr}
 use Rattle.wk_body.proofs.EncodedSpells.{body_encoded}
@@ -14,7 +12,7 @@ pub returns-clause-spells : goal.returns-clause-spells
 returns-clause-spells c =
     on_ok_weaker c.append_expr.result
     (λ _ profile of.
-        let code : SpellsExpr profile c.args.body.now.instrs (written_expr c.args.body.now.instrs) =
-        rw (← c.instrs.ensures) (c.append_expr.ensures.spells profile (rw c.instrs.ensures of)) in
-        body_encoded profile c.args.body.now c.groups-groups.ensures.in_range code)
+    let code : SpellsExpr profile c.args.body.now.instrs (written_expr c.args.body.now.instrs) =
+    rw (← c.instrs.ensures) (c.append_expr.ensures.spells profile (rw c.instrs.ensures of)) in
+    body_encoded profile c.args.body.now c.groups-groups.ensures.in_range code)
     c.append_expr.ensures.ok
