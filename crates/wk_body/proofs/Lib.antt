@@ -8,3 +8,6 @@ pub mod PieceStands
 pub mod Spelled
 pub mod Standing
 pub mod Promised
+pub mod Encoding
+pub mod EncodedSpells
+pub mod Lengths

@@ -4,6 +4,7 @@ ghost use Rattle.std.specs.Prelude.{◌≡◌, length};
 ghost use Rattle.std.specs.List.{AllByRecursion};
 ghost use Rattle.wk_body.specs.Tree.{tokens_of};
 ghost use Rattle.wk_body.specs.Kept.{IsKept, IsWithin, all_told, tree_kept};
+ghost use Rattle.wk_body.specs.Shape.{IsShaped};
 
 use crate::token::Token;
 use std::marker::Model;
@@ -49,6 +50,7 @@ impl Expr {
     pub fn tokens(&self) -> (&[Token], &[u32])
         ensures tokens { all_told result.1.now result.0.now ≡ tokens_of self.now }
         ensures within { AllByRecursion (IsWithin (length result.1.now)) result.0.now }
+        ensures shaped { IsShaped self.now }
     {
         (&self.tokens, &self.labels)
     }

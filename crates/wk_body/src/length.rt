@@ -2,7 +2,7 @@
 
 ghost use Rattle.std.specs.Prelude.{◌≡◌, ℕ, ◌+◌, ◌*◌, ◌<◌, ◌≤◌, ◌^◌, length};
 ghost use Rattle.std.specs.List.{flat_map, AllByRecursion};
-ghost use Rattle.wk_bytes.specs.Short.{short};
+ghost use Rattle.wk_bytes.specs.Short.{short, short_signed};
 ghost use Rattle.wk_body.specs.Kept.{told, all_told, IsWithin};
 ghost use Rattle.wk_body.specs.Lengths.{limited, GrowsBy};
 ghost use Rattle.wk_body.specs.Written.{type_bytes, tok_bytes, written_expr, written_body, written_group};
@@ -13,21 +13,39 @@ use crate::token::Token;
 use crate::types::{BlockType, LocalGroup};
 use wk_bytes::{LIMIT, leb_len_s64, leb_len_u32};
 
+// The bytes of an unsigned integer.
+fn unsigned_len(x: u32) -> u64
+    ensures len { result ≡ length (short x) }
+    ensures few { result ≤ 5 }
+{
+    leb_len_u32(x) as u64
+}
+
+// The bytes of a signed integer.
+fn signed_len(z: i64) -> u64
+    ensures len { result ≡ length (short_signed z) }
+    ensures few { result ≤ 10 }
+{
+    leb_len_s64(z) as u64
+}
+
 // The bytes of a block type.
 fn type_len(ty: BlockType) -> u64
-    ensures { result ≡ length (type_bytes ty) }
+    ensures len { result ≡ length (type_bytes ty) }
+    ensures few { result ≤ 10 }
 {
     match ty {
         BlockType::Empty | BlockType::Value(_) => 1,
-        BlockType::Index(x) => leb_len_s64(i64::from(x)) as u64,
+        BlockType::Index(x) => signed_len(i64::from(x)),
     }
 }
 
 // The bytes of an opcode and an index.
 fn index_len(x: u32) -> u64
-    ensures { result ≡ 1 + length (short x) }
+    ensures len { result ≡ 1 + length (short x) }
+    ensures few { result ≤ 6 }
 {
-    1 + leb_len_u32(x) as u64
+    1 + unsigned_len(x)
 }
 
 // The bytes of labels, each at most five.
@@ -38,7 +56,7 @@ fn labels_len(labels: &[u32]) -> u64
 {
     let mut total = 0;
     for label in labels {
-        total += leb_len_u32(*label) as u64;
+        total += unsigned_len(*label);
     }
     total
 }
@@ -73,13 +91,13 @@ impl Token {
             Token::BrTable { start, len, other } => {
                 let start = start as usize;
                 let end = start + len as usize;
-                index_len(len) + labels_len(&labels[start..end]) + leb_len_u32(other) as u64
+                index_len(len) + labels_len(&labels[start..end]) + unsigned_len(other)
             }
             Token::CallIndirect(x) => index_len(x) + 1,
-            Token::Memory { align, offset, .. } => index_len(align) + leb_len_u32(offset) as u64,
+            Token::Memory { align, offset, .. } => index_len(align) + unsigned_len(offset),
             Token::MemorySize | Token::MemoryGrow => 2,
-            Token::I32Const(z) => 1 + leb_len_s64(i64::from(z)) as u64,
-            Token::I64Const(z) => 1 + leb_len_s64(z) as u64,
+            Token::I32Const(z) => 1 + signed_len(i64::from(z)),
+            Token::I64Const(z) => 1 + signed_len(z),
             Token::F32Const(_) => 5,
             Token::F64Const(_) => 9,
         }
@@ -141,6 +159,6 @@ pub fn body_len(body: &Body) -> Option<u32>
     ensures { result ≡ limited (length (written_body body.now)) }
 {
     let groups = body.groups();
-    let total = plus(Some(0), leb_len_u32(groups.len() as u32) as u64);
+    let total = plus(Some(0), unsigned_len(groups.len() as u32));
     plus_expr(plus_groups(total, groups), body.instrs())
 }

@@ -160,12 +160,20 @@ fn put_tokens(out: &mut Vec<u8>, labels: &[u32], tokens: &[Token]) -> Result<(),
     Ok(())
 }
 
+// The written form of an expression, and that it spells the expression.
+fn append_expr(out: &mut Vec<u8>, expr: &Expr) -> Result<(), OutOfMemory>
+    ensures ok { OnOk result (out.new.items ≡ out.old.items ++ written_expr expr.now) }
+    ensures spells { (profile : Profile) → IsOf profile expr.now → SpellsExpr profile expr.now (written_expr expr.now) }
+{
+    let (tokens, labels) = expr.tokens();
+    put_tokens(out, labels, tokens)
+}
+
 /// Appends the written form of an expression. After a refusal some of it may stand there.
 pub fn put_expr(out: &mut Vec<u8>, expr: &Expr) -> Result<(), OutOfMemory>
     ensures { OnOk result (out.new.items ≡ out.old.items ++ written_expr expr.now) }
 {
-    let (tokens, labels) = expr.tokens();
-    put_tokens(out, labels, tokens)
+    append_expr(out, expr)
 }
 
 fn put_groups(out: &mut Vec<u8>, groups: &[LocalGroup]) -> Result<(), OutOfMemory>
@@ -178,14 +186,22 @@ fn put_groups(out: &mut Vec<u8>, groups: &[LocalGroup]) -> Result<(), OutOfMemor
     Ok(())
 }
 
-/// Appends the written form of a body: a code without its size. After a refusal some of it may stand there.
-pub fn put_body(out: &mut Vec<u8>, body: &Body) -> Result<(), OutOfMemory>
-    ensures { OnOk result (out.new.items ≡ out.old.items ++ written_body body.now) }
+// The written form of a body, and that it spells the body.
+fn append_body(out: &mut Vec<u8>, body: &Body) -> Result<(), OutOfMemory>
+    ensures ok { OnOk result (out.new.items ≡ out.old.items ++ written_body body.now) }
+    ensures spells { OnOk result ((profile : Profile) → IsOf profile body.now.instrs → SpellsBody profile body.now (written_body body.now)) }
 {
     let groups = body.groups();
     put_u32(out, groups.len() as u32)?;
     put_groups(out, groups)?;
-    put_expr(out, body.instrs())
+    append_expr(out, body.instrs())
+}
+
+/// Appends the written form of a body: a code without its size. After a refusal some of it may stand there.
+pub fn put_body(out: &mut Vec<u8>, body: &Body) -> Result<(), OutOfMemory>
+    ensures { OnOk result (out.new.items ≡ out.old.items ++ written_body body.now) }
+{
+    append_body(out, body)
 }
 
 /// The written form of an expression.
@@ -200,7 +216,7 @@ pub fn encode_expr(alloc: Global, expr: &Expr) -> Result<Vec<u8>, EncodeFault>
         return Err(EncodeFault::TooLarge);
     };
     let mut out = Vec::with_capacity(alloc, len as usize)?;
-    put_expr(&mut out, expr)?;
+    append_expr(&mut out, expr)?;
     Ok(out)
 }
 
@@ -216,6 +232,6 @@ pub fn encode_body(alloc: Global, body: &Body) -> Result<Vec<u8>, EncodeFault>
         return Err(EncodeFault::TooLarge);
     };
     let mut out = Vec::with_capacity(alloc, len as usize)?;
-    put_body(&mut out, body)?;
+    append_body(&mut out, body)?;
     Ok(out)
 }
