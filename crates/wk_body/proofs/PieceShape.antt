@@ -7,7 +7,6 @@ use Rattle.wk_bytes.specs.Leb.{SpellsU}
 use Rattle.wk_bytes.specs.LebLaws.{IsBytes, SpellsU-below, SpellsS-fits}
 use Rattle.wk_bytes.specs.Pieces.{SpellsWord}
 use Rattle.wk_bytes.specs.SpanLaws.{IsBytes-after}
-
 use Rattle.wk_body.specs.declared.types.Profile.{Profile}
 use Rattle.wk_body.specs.declared.types.Profile.TheVariants.{Core, Extended}
 use Rattle.wk_body.specs.declared.types.BlockType.{BlockType}
