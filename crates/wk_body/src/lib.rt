@@ -29,7 +29,7 @@ pub use refs::Ref;
 pub use scratch::Scratch;
 pub use token::Token;
 pub use types::{BlockKind, BlockType, LocalGroup, Profile, ValType};
-pub use writing::{encode_body, encode_expr, put_body, put_expr};
+pub use writing::{append_body, append_expr, encode_body, encode_expr, written_form_of_code};
 
 #[cfg(test)]
 mod tests_deep;

@@ -8,7 +8,9 @@ ghost use Rattle.wk_body.specs.ValTypes.{valtype_byte};
 ghost use Rattle.wk_body.specs.Kept.{told, all_told, IsWithin};
 ghost use Rattle.wk_body.specs.Written.{type_bytes, tok_bytes, written_expr, written_body, written_group, Fits, Unwritten};
 ghost use Rattle.wk_body.specs.Spelling.{SpellsExpr, SpellsBody};
-ghost use Rattle.wk_body.specs.Shape.{IsOf};
+ghost use Rattle.wk_body.specs.Shape.{IsShaped, IsOf};
+ghost use Rattle.wk_body.specs.Tree.{Instrs, tokens_of};
+ghost use Rattle.wk_body.specs.Bodies.{BodyOf, AreGroups};
 
 use crate::body::Body;
 use crate::expr::Expr;
@@ -160,20 +162,13 @@ fn put_tokens(out: &mut Vec<u8>, labels: &[u32], tokens: &[Token]) -> Result<(),
     Ok(())
 }
 
-// The written form of an expression, and that it spells the expression.
-fn append_expr(out: &mut Vec<u8>, expr: &Expr) -> Result<(), OutOfMemory>
+/// Appends the written form of an expression, which spells it. After a refusal some of it may stand there.
+pub fn append_expr(out: &mut Vec<u8>, expr: &Expr) -> Result<(), OutOfMemory>
     ensures ok { OnOk result (out.new.items ≡ out.old.items ++ written_expr expr.now) }
     ensures spells { (profile : Profile) → IsOf profile expr.now → SpellsExpr profile expr.now (written_expr expr.now) }
 {
     let (tokens, labels) = expr.tokens();
     put_tokens(out, labels, tokens)
-}
-
-/// Appends the written form of an expression. After a refusal some of it may stand there.
-pub fn put_expr(out: &mut Vec<u8>, expr: &Expr) -> Result<(), OutOfMemory>
-    ensures { OnOk result (out.new.items ≡ out.old.items ++ written_expr expr.now) }
-{
-    append_expr(out, expr)
 }
 
 fn put_groups(out: &mut Vec<u8>, groups: &[LocalGroup]) -> Result<(), OutOfMemory>
@@ -186,8 +181,8 @@ fn put_groups(out: &mut Vec<u8>, groups: &[LocalGroup]) -> Result<(), OutOfMemor
     Ok(())
 }
 
-// The written form of a body, and that it spells the body.
-fn append_body(out: &mut Vec<u8>, body: &Body) -> Result<(), OutOfMemory>
+/// Appends the written form of a body, a code without its size, which spells it. After a refusal some of it may stand there.
+pub fn append_body(out: &mut Vec<u8>, body: &Body) -> Result<(), OutOfMemory>
     ensures ok { OnOk result (out.new.items ≡ out.old.items ++ written_body body.now) }
     ensures spells { OnOk result ((profile : Profile) → IsOf profile body.now.instrs → SpellsBody profile body.now (written_body body.now)) }
 {
@@ -195,13 +190,6 @@ fn append_body(out: &mut Vec<u8>, body: &Body) -> Result<(), OutOfMemory>
     put_u32(out, groups.len() as u32)?;
     put_groups(out, groups)?;
     append_expr(out, body.instrs())
-}
-
-/// Appends the written form of a body: a code without its size. After a refusal some of it may stand there.
-pub fn put_body(out: &mut Vec<u8>, body: &Body) -> Result<(), OutOfMemory>
-    ensures { OnOk result (out.new.items ≡ out.old.items ++ written_body body.now) }
-{
-    append_body(out, body)
 }
 
 /// The written form of an expression.
@@ -235,3 +223,11 @@ pub fn encode_body(alloc: Global, body: &Body) -> Result<Vec<u8>, EncodeFault>
     append_body(&mut out, body)?;
     Ok(out)
 }
+
+/// The laws of the written form: it spells what it is made of, in each profile that this belongs to, and that of an expression
+/// is made of those of its tokens (`Token::head_len`), one after the other. It does nothing.
+pub fn written_form_of_code()
+    ensures expr { (profile : Profile) (t : Instrs) → IsShaped t → IsOf profile t → SpellsExpr profile t (written_expr t) }
+    ensures body { (profile : Profile) (b : BodyOf) → AreGroups b.groups → IsShaped b.instrs → IsOf profile b.instrs → SpellsBody profile b (written_body b) }
+    ensures tokens { (t : Instrs) → flat_map tok_bytes (tokens_of t) ≡ written_expr t }
+{}

@@ -1,0 +1,12 @@
+use Rattle.wk_body.proofs.Encoding.{tokens_written}
+use Rattle.wk_body.proofs.EncodedSpells.{expr_encoded, body_encoded}
+use Rattle.wk_body.proofs.writing.written_form_of_code.Goals as goal
+
+pub returns-clause-expr : goal.returns-clause-expr
+returns-clause-expr c = expr_encoded
+
+pub returns-clause-body : goal.returns-clause-body
+returns-clause-body c = λ profile b groups shaped of. body_encoded profile b groups (expr_encoded profile b.instrs shaped of)
+
+pub returns-clause-tokens : goal.returns-clause-tokens
+returns-clause-tokens c = tokens_written
