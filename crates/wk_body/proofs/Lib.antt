@@ -1,3 +1,4 @@
 pub mod Built
 pub mod Closing
 pub mod Labels
+pub mod Lookup
