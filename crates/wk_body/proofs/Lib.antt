@@ -2,3 +2,4 @@ pub mod Built
 pub mod Closing
 pub mod Labels
 pub mod Lookup
+pub mod Faults
