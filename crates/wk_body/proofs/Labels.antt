@@ -206,3 +206,23 @@ table_reads old mid new start count other from counted labelled to h e r f a =
         size = omega (arith, a.size, r.size, u32_at-shorter from.end from.rest count counted.rest e.0, u32_at-shorter labelled.end labelled.rest other to.rest f.0);
       };
     }
+
+-- ---- where it fails
+
+pub table_count_fails : (from : Span) (e : ReadFault) → u32_at from.end from.rest ≡ Err e → labels_at from.end from.rest ≡ Err e
+unfolding labels_at vector_at
+table_count_fails from e h = rw h refl
+
+pub table_labels_fail : (from counted : Span) (count : ℕ) (e : ReadFault) → (u32_at from.end from.rest ≡ Ok (count, counted.rest)) × (counted.end ≡ from.end) → items_at u32_at count counted.end counted.rest ≡ Err e → labels_at from.end from.rest ≡ Err e
+unfolding labels_at vector_at
+table_labels_fail from counted count e c h =
+    let items : items_at u32_at count from.end counted.rest ≡ Err e = ap (λ (end : ℕ). items_at u32_at count end counted.rest) (sym c.1) ∙ h in
+    rw (c.0, items) refl
+
+pub table_other_fails : (old mid : Scratch) (from counted labelled : Span) (count : ℕ) (e : ReadFault) → (u32_at from.end from.rest ≡ Ok (count, counted.rest)) × (counted.end ≡ from.end)
+    → ReadsLabels (items_at u32_at count counted.end counted.rest) old mid counted labelled → u32_at labelled.end labelled.rest ≡ Err e → labels_at from.end from.rest ≡ Err e
+unfolding labels_at vector_at
+table_other_fails old mid from counted labelled count e c r h =
+    let items : items_at u32_at count from.end counted.rest ≡ Ok (r.labels, labelled.rest) = ap (λ (end : ℕ). items_at u32_at count end counted.rest) (sym c.1) ∙ r.is in
+    let last : u32_at from.end labelled.rest ≡ Err e = ap (λ (end : ℕ). u32_at end labelled.rest) (sym (r.same_end ∙ c.1)) ∙ h in
+    rw (c.0, items, last) refl
