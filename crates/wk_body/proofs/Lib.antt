@@ -3,3 +3,13 @@ pub mod Closing
 pub mod Labels
 pub mod Lookup
 pub mod Faults
+pub mod Table
+pub mod Pieces
+pub mod GrammarTokens
+pub mod GrammarParts
+pub mod Grammar
+pub mod PieceShape
+pub mod PieceStands
+pub mod Spelled
+pub mod Standing
+pub mod Promised

@@ -1,0 +1,137 @@
+-- What calls that read promise in terms of the grammar, from what they answer.
+use Rattle.std.proofs.Common.{◌≡◌, ◌≢◌, ℕ, ◌<◌, ◌≤◌, true, false, cond, leb, List, [], ◌∷◌, ◌++◌, length, Result, Ok, Err, refl, sym, ap, subst, ◌∙◌, arith, inl, inr}
+use Rattle.std.specs.Prelude.{IfOk, IfErr}
+use Rattle.std.proofs.lemmas.Bool.{leb-true, leb-false, le-leb}
+use Rattle.std.proofs.lemmas.List.{append-nil}
+use Rattle.wk_bytes.specs.declared.fault.ReadKind.{ReadKind}
+use Rattle.wk_bytes.specs.declared.fault.ReadKind.TheVariants.{Memory}
+use Rattle.wk_bytes.specs.declared.fault.ReadFault.{ReadFault}
+use Rattle.wk_bytes.specs.Fault.{no_memory, long_input}
+use Rattle.wk_bytes.specs.Leb.{◌>>=◌}
+use Rattle.wk_bytes.specs.LebLaws.{IsBytes, bind_ok, chosen}
+use Rattle.wk_bytes.specs.Span.{Span}
+use Rattle.wk_bytes.specs.SpanLaws.{ok_is, not_both}
+use Rattle.wk_bytes.specs.PieceLaws.{read_prefix_free}
+use Rattle.wk_bytes.specs.Stands.{Stands, StandsOrMemory}
+use Rattle.wk_bytes.specs.StandsLaws.{ReadsFront}
+use Rattle.wk_body.specs.declared.types.Profile.{Profile}
+use Rattle.wk_body.specs.Tree.{Instrs}
+use Rattle.wk_body.specs.Shape.{IsOf}
+use Rattle.wk_body.specs.Bodies.{BodyOf}
+use Rattle.wk_body.specs.Spelling.{SpellsExpr, SpellsBody}
+use Rattle.wk_body.specs.Written.{Fits}
+use Rattle.wk_body.specs.Reads.{FailsAs, Parses, Reads}
+use Rattle.wk_body.specs.Meaning.{Whole, FindsOnly, Takes, TakesOnly}
+use Rattle.wk_body.specs.Reading.{expr_at, body_at, taking_all, all_expr_at, all_body_at, whole_at}
+use Rattle.wk_body.proofs.Pieces.{Took}
+use Rattle.wk_body.proofs.GrammarParts.{expr_takes}
+use Rattle.wk_body.proofs.Grammar.{expr_again, body_takes, body_again}
+use Rattle.wk_body.proofs.Spelled.{expr_allowed}
+use Rattle.wk_body.proofs.Standing.{ReadsFront-expr_at, ReadsFront-body_at, all_expr_stands, all_body_stands}
+
+-- ---- faults
+
+-- a refusal for another cause than memory is what reading gives
+fails_with : {Y : Type 0} (kind : ReadKind) (e : ReadFault) (read : Result Y ReadFault) → kind ≢ Memory → FailsAs e kind read → read ≡ Err e
+fails_with Memory e read other f = absurd (other refl)
+fails_with _ e read other f = f
+
+stands_by : {Y : Type 0} (s : Span) (kind : ReadKind) (at : ℕ) (read : Result Y ReadFault) → (read ≡ Err (record { kind = kind; at = at }) → Stands s (record { kind = kind; at = at }))
+    → FailsAs (record { kind = kind; at = at }) kind read → StandsOrMemory s (record { kind = kind; at = at })
+stands_by s Memory at read stands f = inl (ap (λ (a : ℕ). record { kind = Memory; at = a }) f)
+stands_by s _ at read stands f = inr (stands f)
+
+-- a fault stands, or memory was wanted
+stands_or : {Y : Type 0} (s : Span) (e : ReadFault) (read : Result Y ReadFault) → (read ≡ Err e → Stands s e) → FailsAs e e.kind read → StandsOrMemory s e
+stands_or s e read stands f = stands_by s e.kind e.at read stands f
+
+-- ---- of a reader that takes what the grammar spells, and whose faults stand
+
+pub record Grammatical {V : Type 0} (Spells : V → List ℕ → Type 0) (read : ℕ → List ℕ → Result (V × List ℕ) ReadFault) : Type 0 where
+  pub takes : (end : ℕ) (bytes : List ℕ) (x : V × List ℕ) → IsBytes bytes → read end bytes ≡ Ok x → Took Spells bytes x
+  pub again : (end : ℕ) (v : V) (bytes rest : List ℕ) → Spells v bytes → read end (bytes ++ rest) ≡ Ok (v, rest)
+  pub reads : ReadsFront read
+
+pub exprs : (profile : Profile) → Grammatical (SpellsExpr profile) (expr_at profile)
+exprs profile = record { takes = expr_takes profile; again = expr_again profile; reads = ReadsFront-expr_at profile }
+
+pub bodies : (profile : Profile) → Grammatical (SpellsBody profile) (body_at profile)
+bodies profile = record { takes = body_takes profile; again = body_again profile; reads = ReadsFront-body_at profile }
+
+module _ {V : Type 0} (Spells : V → List ℕ → Type 0) (read : ℕ → List ℕ → Result (V × List ℕ) ReadFault) (is : Grammatical Spells read) where
+  -- the front that was taken, and no other
+  pub takes_only : {X : Type 0} (view : X → V) (old new : Span) (result : Result X ReadFault) → IsBytes old.rest → Takes view read old result new → TakesOnly view Spells old result new
+  takes_only view old new (Ok x) fits given =
+      let t = is.takes old.end old.rest (view x, new.rest) fits given.0 in
+      (t.front, t.spelled, t.parts, λ w c later s parts.
+        let one = read_prefix_free (λ b v. Spells v b) read (λ end b v rest p. is.again end v b rest p) c t.front later new.rest w (view x) s t.spelled (sym parts ∙ t.parts) in
+        (one.1, one.0))
+  takes_only view old new (Err e) fits given = λ other w c later s parts.
+      not_both (read old.end old.rest) e (w, later) (fails_with e.kind e _ other given.0) (ap (read old.end) parts ∙ is.again old.end w c later s)
+
+  pub takes_stand : {X : Type 0} (view : X → V) (old new : Span) (result : Result X ReadFault) → length old.rest ≤ old.end → Takes view read old result new → IfErr result (λ e. StandsOrMemory old e)
+  takes_stand view old new (Ok x) fits given = tt
+  takes_stand view old new (Err e) fits given = stands_or old e _ (λ h. is.reads.faults old.end old.rest e h fits) given.0
+
+  -- all of the bytes are taken
+  abbrev all_at : ℕ → List ℕ → Result V ReadFault
+  all_at end bytes = read end bytes >>= taking_all end
+
+  all_of : (end : ℕ) (v w : V) (rest : List ℕ) → taking_all end (v, rest) ≡ Ok w → (rest ≡ []) × (v ≡ w)
+  all_of end v w [] e = (refl, ok_is v w e)
+  all_of end v w (y ∷ rest) e = absurd cc
+
+  all_takes : (end : ℕ) (bytes : List ℕ) (v : V) → IsBytes bytes → all_at end bytes ≡ Ok v → Spells v bytes
+  all_takes end bytes v fits e =
+      let a = bind_ok (read end bytes) (taking_all end) v e in
+      let all = all_of end a.0.0 v a.0.1 a.2 in
+      let t = is.takes end bytes a.0 fits a.1 in
+      let same : t.front ≡ bytes = sym (t.parts ∙ ap (λ (b : List ℕ). t.front ++ b) all.0 ∙ append-nil t.front) in
+      subst (λ (w : V). Spells w bytes) all.1 (subst (Spells a.0.0) same t.spelled)
+
+  all_again : (end : ℕ) (bytes : List ℕ) (v : V) → Spells v bytes → all_at end bytes ≡ Ok v
+  all_again end bytes v s =
+      let e : read end bytes ≡ Ok (v, []) = ap (read end) (sym (append-nil bytes)) ∙ is.again end v bytes [] s in
+      ap (λ (r : Result (V × List ℕ) ReadFault). r >>= taking_all end) e
+
+  -- the bytes spell what was found, and no other
+  pub finds_only : {X : Type 0} (view : X → V) (end : ℕ) (bytes : List ℕ) (result : Result X ReadFault) → IsBytes bytes → Fits bytes → Reads view result (all_at end bytes) → FindsOnly view Spells bytes result
+  finds_only view end bytes (Ok x) fits few given = ((few, all_takes end bytes (view x) fits given), λ w s. ok_is w (view x) (sym (all_again end bytes w s.1) ∙ given))
+  finds_only view end bytes (Err e) fits few given = λ other w s. not_both (all_at end bytes) e w (fails_with e.kind e _ other given) (all_again end bytes w s.1)
+
+-- a longer input than a module may have spells nothing
+pub long_none : {X V : Type 0} (view : X → V) (Spells : V → List ℕ → Type 0) (bytes : List ℕ) (e : ReadFault) → 2147483647 < length bytes → FindsOnly view Spells bytes (Err e)
+long_none view Spells bytes e long = λ other w s. absurd (omega (arith, s.0, long))
+
+-- ---- expressions and bodies
+
+-- what was read is of its profile
+pub expr_of : (profile : Profile) (old new : Span) (result : Result Instrs ReadFault) → IsBytes old.rest → Parses (λ e. e) (expr_at profile) old result new → IfOk result (IsOf profile)
+expr_of profile old new (Ok x) fits given =
+    let t = expr_takes profile old.end old.rest (x, new.rest) fits given.0 in
+    expr_allowed profile x t.front t.spelled
+expr_of profile old new (Err e) fits given = tt
+
+pub found_expr_of : (profile : Profile) (bytes : List ℕ) (result : Result Instrs ReadFault) → FindsOnly (λ e. e) (SpellsExpr profile) bytes result → IfOk result (IsOf profile)
+found_expr_of profile bytes (Ok t) found = expr_allowed profile t bytes found.0.1
+found_expr_of profile bytes (Err e) found = tt
+
+pub found_body_of : (profile : Profile) (bytes : List ℕ) (result : Result BodyOf ReadFault) → FindsOnly (λ b. b) (SpellsBody profile) bytes result → IfOk result (λ b. IsOf profile b.instrs)
+found_body_of profile bytes (Ok b) found = expr_allowed profile b.instrs found.0.1.code found.0.1.spelled
+found_body_of profile bytes (Err e) found = tt
+
+pub finds_expr : (profile : Profile) (end : ℕ) (bytes : List ℕ) (result : Result Instrs ReadFault) → IsBytes bytes → Fits bytes → Reads (λ e. e) result (all_expr_at profile end bytes) → FindsOnly (λ e. e) (SpellsExpr profile) bytes result
+unfolding all_expr_at
+finds_expr profile end bytes result fits few given = finds_only (SpellsExpr profile) (expr_at profile) (exprs profile) (λ e. e) end bytes result fits few given
+
+pub finds_body : (profile : Profile) (end : ℕ) (bytes : List ℕ) (result : Result BodyOf ReadFault) → IsBytes bytes → Fits bytes → Reads (λ b. b) result (all_body_at profile end bytes) → FindsOnly (λ b. b) (SpellsBody profile) bytes result
+unfolding all_body_at
+finds_body profile end bytes result fits few given = finds_only (SpellsBody profile) (body_at profile) (bodies profile) (λ b. b) end bytes result fits few given
+
+pub expr_stands : (profile : Profile) (s : Span) (result : Result Instrs ReadFault) → length s.rest ≤ s.end → Reads (λ e. e) result (all_expr_at profile s.end s.rest) → IfErr result (λ e. StandsOrMemory s e)
+expr_stands profile s (Ok x) fits given = tt
+expr_stands profile s (Err e) fits given = stands_or s e _ (λ h. all_expr_stands profile s.end s.rest e h fits) given
+
+pub body_stands : (profile : Profile) (s : Span) (result : Result BodyOf ReadFault) → length s.rest ≤ s.end → Reads (λ b. b) result (all_body_at profile s.end s.rest) → IfErr result (λ e. StandsOrMemory s e)
+body_stands profile s (Ok x) fits given = tt
+body_stands profile s (Err e) fits given = stands_or s e _ (λ h. all_body_stands profile s.end s.rest e h fits) given
