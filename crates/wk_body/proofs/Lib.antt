@@ -13,3 +13,4 @@ pub mod PieceStands
 pub mod Spelled
 pub mod Standing
 pub mod Promised
+pub mod Tokens
