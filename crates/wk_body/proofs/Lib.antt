@@ -14,3 +14,4 @@ pub mod Spelled
 pub mod Standing
 pub mod Promised
 pub mod Tokens
+pub mod Loop
