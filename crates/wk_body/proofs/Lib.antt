@@ -1,3 +1,8 @@
+pub mod Built
+pub mod Closing
+pub mod Labels
+pub mod Lookup
+pub mod Faults
 pub mod Table
 pub mod Pieces
 pub mod GrammarTokens
@@ -8,3 +13,5 @@ pub mod PieceStands
 pub mod Spelled
 pub mod Standing
 pub mod Promised
+pub mod Tokens
+pub mod Loop
