@@ -1,3 +1,8 @@
+pub mod Built
+pub mod Closing
+pub mod Labels
+pub mod Lookup
+pub mod Faults
 pub mod Table
 pub mod Pieces
 pub mod GrammarTokens
@@ -11,3 +16,5 @@ pub mod Promised
 pub mod Encoding
 pub mod EncodedSpells
 pub mod Lengths
+pub mod Tokens
+pub mod Loop

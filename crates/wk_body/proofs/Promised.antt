@@ -12,8 +12,8 @@ use Rattle.wk_bytes.specs.LebLaws.{IsBytes, bind_ok, chosen}
 use Rattle.wk_bytes.specs.Span.{Span}
 use Rattle.wk_bytes.specs.SpanLaws.{ok_is, not_both}
 use Rattle.wk_bytes.specs.PieceLaws.{read_prefix_free}
-use Rattle.wk_bytes.specs.Stands.{Stands, StandsOrMemory}
-use Rattle.wk_bytes.specs.StandsLaws.{ReadsFront}
+use Rattle.wk_bytes.specs.Stands.{Stands, StandsOrMemory, StandsIn, whole}
+use Rattle.wk_bytes.specs.StandsLaws.{ReadsFront, StandsOrMemory-whole}
 use Rattle.wk_body.specs.declared.types.Profile.{Profile}
 use Rattle.wk_body.specs.Tree.{Instrs}
 use Rattle.wk_body.specs.Shape.{IsOf}
@@ -135,3 +135,23 @@ expr_stands profile s (Err e) fits given = stands_or s e _ (λ h. all_expr_stand
 pub body_stands : (profile : Profile) (s : Span) (result : Result BodyOf ReadFault) → length s.rest ≤ s.end → Reads (λ b. b) result (all_body_at profile s.end s.rest) → IfErr result (λ e. StandsOrMemory s e)
 body_stands profile s (Ok x) fits given = tt
 body_stands profile s (Err e) fits given = stands_or s e _ (λ h. all_body_stands profile s.end s.rest e h fits) given
+
+-- a fault that stands in the bytes of a whole input
+pub stands_in : {X : Type 0} (bytes : List ℕ) (result : Result X ReadFault) → IfErr result (λ e. StandsOrMemory (whole bytes) e) → IfErr result (λ e. StandsIn bytes e)
+stands_in bytes (Ok x) stands = tt
+stands_in bytes (Err e) stands = StandsOrMemory-whole bytes e stands
+
+-- ---- the expression at the front
+
+-- what was read ahead, from the same place
+pub next_taken : (profile : Profile) (old ahead new : Span) (t : Instrs) → ahead ≡ old → Parses (λ e. e) (expr_at profile) ahead (Ok t) new → Takes (λ e. e) (expr_at profile) old (Ok t) new
+next_taken profile old ahead new t same given = subst (λ (s : Span). Takes (λ e. e) (expr_at profile) s (Ok t) new) same given
+
+pub next_refused : (profile : Profile) (old ahead : Span) (e : ReadFault) → ahead ≡ old → FailsAs e e.kind (expr_at profile ahead.end ahead.rest) → Takes {X = Instrs} (λ e. e) (expr_at profile) old (Err e) old
+next_refused profile old ahead e same given = (subst (λ (s : Span). FailsAs e e.kind (expr_at profile s.end s.rest)) same given, refl)
+
+pub next_only : (profile : Profile) (old new : Span) (result : Result Instrs ReadFault) → IsBytes old.rest → Takes (λ e. e) (expr_at profile) old result new → TakesOnly (λ e. e) (SpellsExpr profile) old result new
+next_only profile = takes_only (SpellsExpr profile) (expr_at profile) (exprs profile) (λ e. e)
+
+pub next_stands : (profile : Profile) (old new : Span) (result : Result Instrs ReadFault) → length old.rest ≤ old.end → Takes (λ e. e) (expr_at profile) old result new → IfErr result (λ e. StandsOrMemory old e)
+next_stands profile = takes_stand (SpellsExpr profile) (expr_at profile) (exprs profile) (λ e. e)

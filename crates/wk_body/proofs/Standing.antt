@@ -95,7 +95,7 @@ either opcode end rest false x y then_ else_ = else_ refl
 stray_else : (opcode end : ℕ) (rest : List ℕ) → opcode ≡ 0x05 → Stands (record { rest = opcode ∷ rest; end = end }) (fault UnknownOpcode end (opcode ∷ rest))
 stray_else opcode end rest is = Stands-here UnknownOpcode end (opcode ∷ rest) (rw is refl)
 
-token_behind : (profile : Profile) (ks : List Bool) (opcode end : ℕ) (rest : List ℕ) → ReadsBehind opcode end rest (behind_at profile ks (end - length (opcode ∷ rest)) opcode end rest)
+pub token_behind : (profile : Profile) (ks : List Bool) (opcode end : ℕ) (rest : List ℕ) → ReadsBehind opcode end rest (behind_at profile ks (end - length (opcode ∷ rest)) opcode end rest)
 unfolding behind_at
 token_behind profile ks opcode end rest =
     either opcode end rest (eqb opcode 0x0B) _ _ (λ _. behind_alone opcode end rest Close) (λ no_end.

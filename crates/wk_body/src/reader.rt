@@ -14,7 +14,7 @@ ghost use Rattle.wk_body.specs.Meaning.{FindsOnly, Takes, TakesOnly, SpellOnce, 
 
 use crate::body::Body;
 use crate::expr::Expr;
-use crate::reading::{read_front, value_type};
+use crate::reading::{are_bytes, read_front, value_type};
 use crate::scratch::Scratch;
 use crate::types::{LocalGroup, Profile, ValType};
 use std::alloc::Global;
@@ -36,6 +36,7 @@ impl Scratch {
         ensures profile { IfOk result (IsOf profile) }
         ensures fault { IfErr result (λ e. StandsOrMemory cursor.old e) }
     {
+        are_bytes(cursor.rest());
         let mut ahead = cursor.ahead();
         let expr = read_front(alloc, self, profile, &mut ahead)?;
         *cursor = ahead;
@@ -127,6 +128,7 @@ impl Scratch {
         ensures profile { IfOk result (λ b. IsOf profile b.instrs) }
         ensures fault { IfErr result (λ e. StandsOrMemory cursor.now e) }
     {
+        are_bytes(cursor.rest());
         let mut ahead = cursor.ahead();
         let body = body_front(alloc, self, profile, &mut ahead)?;
         at_end(&ahead)?;

@@ -2,6 +2,7 @@
 
 ghost use Rattle.std.specs.Prelude.{◌≡◌, ◌≢◌, ◌+◌, ◌<◌, ◌≤◌, ◌^◌, suc, length, IfOk, MatchResult, [], Ok};
 ghost use Rattle.wk_bytes.specs.declared.fault.ReadKind.TheVariants.{UnknownOpcode, TooDeep};
+ghost use Rattle.wk_bytes.specs.LebLaws.{IsBytes};
 ghost use Rattle.wk_bytes.specs.Span.{u32_at};
 ghost use Rattle.wk_body.specs.ValTypes.{valtype_of};
 ghost use Rattle.wk_body.specs.Vectors.{items_at};
@@ -38,6 +39,11 @@ pub(crate) fn value_type(byte: u8) -> Option<ValType>
         _ => None,
     }
 }
+
+/// Each byte is below 256, which proofs ask for where a cursor holds the bytes. It does nothing.
+pub(crate) fn are_bytes(bytes: &[u8])
+    ensures { IsBytes bytes.now }
+{}
 
 // A reserved byte, which is 00.
 #[tactic(auto, unfolding(crate::specs::Reading::reserved_at))]
@@ -306,8 +312,10 @@ pub(crate) fn read_front(
 ) -> Result<Expr, ReadFault>
     ensures exact { Parses (λ e. e) (expr_at profile) cursor.old result cursor.new }
 {
+    // The proof asks what these two say: each byte is below 256, and the bytes are few.
+    are_bytes(cursor.rest());
+    let _at = cursor.at();
     scratch.clear();
-    let bytes = cursor.rest();
     loop {
         if token_of(scratch, profile, cursor)? {
             return Ok(scratch.copied(alloc)?);
