@@ -332,6 +332,7 @@ ends_all old new good l none e =
       written = rw l (w ∙ ap tokens_of (sym (ap tree_of w ∙ tree_of-flatten good.current)));
       within = rw (l, e) (all-push (IsWithin (length pool)) old.tokens.items kept.End good.built.within tt);
       parts = rw (l, e, told-push pool old.tokens.items kept.End) (over-push (all_told pool old.tokens.items) Close []);
+      size = omega (arith, ap (length {A = Token}) e, ap (length {A = ℕ}) l, length-append old.tokens.items (kept.End ∷ []));
     }
 
 -- ---- an else

@@ -110,12 +110,12 @@ pub ends : (profile : Profile) (from : Span) (now last : Scratch) (at to : Span)
 ends profile from now last at to r u = (ending profile from now last at to r u.same_end u.steps u.enough u.reads, r.same_end ∙ u.same_end)
 
 -- what was put together may be kept
-pub keeps : (profile : Profile) (from : Span) (now last : Scratch) (at to : Span) → IsBytes from.rest → Next profile true now at last to → Underway profile from now at → IsKept last.labels.items last.tokens.items
-keeps profile from now last at to fits r u =
+pub keeps : (profile : Profile) (from : Span) (now last : Scratch) (at to : Span) → IsBytes from.rest → length from.rest ≤ 2147483647 → Next profile true now at last to → Underway profile from now at → IsKept last.labels.items last.tokens.items
+keeps profile from now last at to fits small r u =
     let end = r.stepped.0 in
     let tree = tree_kept last.labels.items last.tokens.items in
     let t = expr_takes profile from.end from.rest (tree, to.rest) fits (ends profile from now last at to r u).0 in
-    record { written = end.written; within = end.within; shaped = expr_shaped profile tree t.front (IsBytes-before t.front to.rest from.rest t.parts fits) t.spelled }
+    record { written = end.written; within = end.within; few = omega (arith, end.size, u.room, token_shorter profile (kinds_of now) at.end at.rest (r.token, to.rest) r.is, small); shaped = expr_shaped profile tree t.front (IsBytes-before t.front to.rest from.rest t.parts fits) t.spelled }
 
 pub shorter : (profile : Profile) (now next : Scratch) (at to : Span) (last : Bool) → Next profile last now at next to → length to.rest < length at.rest
 shorter profile now next at to last r = token_shorter profile (kinds_of now) at.end at.rest (r.token, to.rest) r.is

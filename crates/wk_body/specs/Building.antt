@@ -79,6 +79,7 @@ pub record Ends (old new : Scratch) : Type 0 where
   pub written : toks_of new ≡ tokens_of (tree_kept new.labels.items new.tokens.items)
   pub within : AllByRecursion (IsWithin (length new.labels.items)) new.tokens.items
   pub parts : over (toks_of new) [] ≡ over (toks_of old) (before Close [])
+  pub size : size_of new ≤ size_of old + 1
 
 abbrev pub Closes : Bool → Scratch → Scratch → Type 0
 Closes true old new = Ends old new

@@ -50,10 +50,12 @@ all_told pool ts = map (told pool) ts
 abbrev pub tree_kept : List ℕ → List Token → Instrs
 tree_kept pool ts = tree_of (all_told pool ts)
 
--- the tokens are those of the tree that they spell, and its end; the tree is one that bytes can spell
+-- the tokens are those of the tree that they spell, and its end, and no more than a module has bytes; the tree is one that
+-- bytes can spell
 pub record IsKept (pool : List ℕ) (ts : List Token) : Type 0 where
   pub written : all_told pool ts ≡ tokens_of (tree_kept pool ts)
   pub within : AllByRecursion (IsWithin (length pool)) ts
+  pub few : length ts ≤ 2147483647
   pub shaped : IsShaped (tree_kept pool ts)
 
 -- a kept token with another distance to its end

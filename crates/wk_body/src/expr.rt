@@ -8,6 +8,7 @@ ghost use Rattle.wk_body.specs.Shape.{IsShaped};
 
 use crate::token::Token;
 use std::marker::Model;
+use wk_bytes::LIMIT;
 
 /// Instructions up to their last `end` (2.4.6): an initialiser or an offset, or what a body holds beside its locals.
 ///
@@ -50,6 +51,7 @@ impl Expr {
     pub fn tokens(&self) -> (&[Token], &[u32])
         ensures tokens { all_told result.1.now result.0.now ≡ tokens_of self.now }
         ensures within { AllByRecursion (IsWithin (length result.1.now)) result.0.now }
+        ensures few { length result.0.now ≤ LIMIT }
         ensures shaped { IsShaped self.now }
     {
         (&self.tokens, &self.labels)

@@ -22,7 +22,7 @@ pub copied-requires : goal.copied-requires
 copied-requires c =
     let r = subst (λ (last : Bool). Next c.args.profile last c.loop-scratch.scratch c.loop-scratch.cursor c.token_of.new.scratch c.token_of.new.cursor) c.if-branch.true c.in_ok-token_of.ensures in
     let fits : IsBytes c.args.cursor.now.rest = subst IsBytes c.rest.ensures c.are_bytes.ensures in
-    keeps c.args.profile c.args.cursor.now c.loop-scratch.scratch c.token_of.new.scratch c.loop-scratch.cursor c.token_of.new.cursor fits r c.loop-scratch.invariant
+    keeps c.args.profile c.args.cursor.now c.loop-scratch.scratch c.token_of.new.scratch c.loop-scratch.cursor c.token_of.new.cursor fits (omega (arith, c.at-at.ensures.end, c.at-at.ensures.small)) r c.loop-scratch.invariant
 
 pub returns-then-branch : goal.returns-then-branch
 returns-then-branch c =
