@@ -13,5 +13,6 @@ pub mod PieceStands
 pub mod Spelled
 pub mod Standing
 pub mod Promised
+pub mod GroupLoop
 pub mod Tokens
 pub mod Loop
