@@ -1,21 +1,19 @@
 -- A scratch that is given one token more.
-use Rattle.std.proofs.Common.{◌≡◌, ℕ, zero, suc, ◌+◌, ◌-◌, ◌<◌, ◌≤◌, Bool, true, false, List, [], ◌∷◌, ◌++◌, length, map, reverse, take, drop, set, get_or, Option, Some, None, refl, sym, ap, subst, ◌∙◌, append_assoc, arith, length-append}
+use Rattle.std.proofs.Common.{◌≡◌, ℕ, ◌+◌, ◌≤◌, Bool, List, [], ◌∷◌, ◌++◌, length, map, reverse, Some, refl, sym, ap, ◌∙◌, append_assoc, arith, length-append}
 use Rattle.std.specs.List.{AllByRecursion}
 use Rattle.std.proofs.lemmas.List.{map-append, reverse-append, length-map, append-nil}
 use Rattle.wk_body.specs.declared.types.BlockType.{BlockType}
-use Rattle.wk_body.specs.declared.types.BlockKind.{BlockKind}
 use Rattle.wk_body.specs.declared.types.BlockKind.TheVariants as kinds
 use Rattle.wk_body.specs.declared.token.Token.{Token}
 use Rattle.wk_body.specs.declared.token.Token.TheVariants as kept
 use Rattle.wk_body.specs.declared.scratch.Opened.{Opened}
 use Rattle.wk_body.specs.declared.scratch.Opened.TheVariants as opened
 use Rattle.wk_body.specs.declared.scratch.Scratch.{Scratch}
-use Rattle.wk_body.specs.Instructions.{Plain}
-use Rattle.wk_body.specs.Tree.{Instrs, Finish, One, Block, If, Tok, Simple, Open, OpenIf, Otherwise, Close, Part, else_part, flatten, append, before, over}
+use Rattle.wk_body.specs.Tree.{Instrs, Finish, One, Block, If, Tok, Simple, Open, OpenIf, Close, Part, else_part, flatten, append, before, over}
 use Rattle.wk_body.specs.TreeLaws.{over-append}
 use Rattle.wk_body.specs.Reading.{after}
 use Rattle.wk_body.specs.Kept.{told, all_told, IsWithin}
-use Rattle.wk_body.specs.Building.{Frame, InBlock, InThen, InElse, written_frame, written_frames, place_of, opened_of, toks_of, kind_of, kinds_of, size_of, Built, Good, Adds, IsSimple}
+use Rattle.wk_body.specs.Building.{Frame, InBlock, InThen, written_frame, written_frames, place_of, toks_of, kind_of, kinds_of, size_of, Built, Good, Adds, IsSimple}
 
 pub flatten-append : (t s : Instrs) → flatten (append t s) ≡ flatten t ++ flatten s
 flatten-append Finish s = refl

@@ -1,22 +1,20 @@
 -- A scratch whose innermost block ends.
-use Rattle.std.proofs.Common.{◌≡◌, ℕ, zero, suc, ◌+◌, ◌-◌, ◌<◌, ◌≤◌, Bool, true, false, cond, eqb, List, [], ◌∷◌, ◌++◌, length, map, reverse, take, drop, set, get_or, Option, Some, None, refl, sym, ap, subst, ◌∙◌, append_assoc, arith, length-append}
+use Rattle.std.proofs.Common.{◌≡◌, ℕ, zero, suc, ◌+◌, ◌-◌, ◌<◌, ◌≤◌, true, false, cond, eqb, List, [], ◌∷◌, ◌++◌, length, take, set, get_or, refl, sym, ap, ◌∙◌, append_assoc, arith, length-append}
 use Rattle.std.specs.List.{AllByRecursion}
 use Rattle.std.proofs.Math.Seq.{set-append_seam, get_or-append_seam, take-append_seam}
 use Rattle.std.proofs.Math.ListN.{get_or-map}
 use Rattle.std.proofs.lemmas.Bool.{eq-eqb, ne_eqb}
-use Rattle.std.proofs.lemmas.List.{map-append, map-set, take-map, length-map, length-set, length-take, append-nil}
+use Rattle.std.proofs.lemmas.List.{map-set, take-map, length-map, length-set, length-take, append-nil}
 use Rattle.std.proofs.lemmas.List.Elements.{All-set, All-take, All-from_recursion, recursion_from_All}
-use Rattle.wk_body.specs.declared.types.BlockType.{BlockType}
-use Rattle.wk_body.specs.declared.types.BlockKind.{BlockKind}
 use Rattle.wk_body.specs.declared.token.Token.{Token}
 use Rattle.wk_body.specs.declared.token.Token.TheVariants as kept
 use Rattle.wk_body.specs.declared.scratch.Opened.{Opened}
 use Rattle.wk_body.specs.declared.scratch.Opened.TheVariants as opened
 use Rattle.wk_body.specs.declared.scratch.Scratch.{Scratch}
-use Rattle.wk_body.specs.Tree.{Instrs, Finish, One, Block, If, Tok, Simple, Open, OpenIf, Otherwise, Close, Part, else_part, flatten, tokens_of, append, before, over, tree_of}
+use Rattle.wk_body.specs.Tree.{Instrs, Finish, Block, If, Tok, Simple, Open, OpenIf, Otherwise, Close, Part, else_part, flatten, tokens_of, append, before, over, tree_of}
 use Rattle.wk_body.specs.TreeLaws.{over-append, tree_of-flatten}
 use Rattle.wk_body.specs.Kept.{told, all_told, IsWithin, skipping, ended, else_ended}
-use Rattle.wk_body.specs.Building.{Frame, InBlock, InThen, InElse, written_frame, written_frames, place_of, opened_of, toks_of, kind_of, kinds_of, size_of, Built, Good, GoodWith, Adds, AddsEnd, Ends, IsSimple}
+use Rattle.wk_body.specs.Building.{Frame, InBlock, InThen, InElse, written_frame, written_frames, place_of, opened_of, toks_of, Built, Good, GoodWith, Adds, AddsEnd, Ends}
 use Rattle.wk_body.proofs.Built.{flatten-append, all-push, told-push, over-push, kinds-push}
 
 -- ---- tokens that are changed in place

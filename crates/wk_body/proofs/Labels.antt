@@ -1,8 +1,7 @@
 -- The pool of labels grows, and tokens mean what they meant.
-use Rattle.std.proofs.Common.{◌≡◌, ℕ, zero, suc, ◌+◌, ◌-◌, ◌<◌, ◌≤◌, List, [], ◌∷◌, ◌++◌, length, map, take, drop, Some, Result, Ok, Err, refl, sym, ap, subst, ◌∙◌, append_assoc, arith, length-append}
+use Rattle.std.proofs.Common.{◌≡◌, ℕ, zero, suc, ◌+◌, ◌-◌, ◌<◌, ◌≤◌, List, [], ◌∷◌, ◌++◌, length, take, drop, Some, Result, Ok, Err, refl, sym, ap, ◌∙◌, append_assoc, arith, length-append}
 use Rattle.std.specs.List.{AllByRecursion}
-use Rattle.std.proofs.lemmas.List.{append-nil, take-append-le, drop-append-le, take_at, drop_at, length-drop, length-map, take_all}
-use Rattle.wk_bytes.specs.declared.fault.ReadKind.{ReadKind}
+use Rattle.std.proofs.lemmas.List.{append-nil, take-append-le, drop-append-le, drop_at, length-drop, length-map, take_all}
 use Rattle.wk_bytes.specs.declared.fault.ReadFault.{ReadFault}
 use Rattle.wk_bytes.specs.Leb.{◌>>=◌}
 use Rattle.wk_bytes.specs.LebLaws.{bind_ok}
@@ -12,10 +11,9 @@ use Rattle.wk_body.specs.declared.token.Token.{Token}
 use Rattle.wk_body.specs.declared.token.Token.TheVariants as kept
 use Rattle.wk_body.specs.declared.scratch.Scratch.{Scratch}
 use Rattle.wk_body.specs.Instructions.{BrTable}
-use Rattle.wk_body.specs.Tree.{Tok, Simple, Part, over, before}
+use Rattle.wk_body.specs.Tree.{Tok, Simple, over, before}
 use Rattle.wk_body.specs.Kept.{told, all_told, IsWithin}
 use Rattle.wk_body.specs.Vectors.{items_at, vector_at}
-use Rattle.wk_body.specs.Reads.{FailsAs}
 use Rattle.wk_body.specs.Reading.{labels_at, after}
 use Rattle.wk_body.specs.Building.{Good, Adds, Labelled, ReadsLabels, ReadsPlain, toks_of, kinds_of, size_of}
 

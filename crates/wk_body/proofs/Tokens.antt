@@ -1,9 +1,8 @@
 -- One token that is read.
-use Rattle.std.proofs.Common.{◌≡◌, ℕ, suc, ◌+◌, ◌<◌, ◌≤◌, Bool, true, false, cond, ltb, eqb, List, [], ◌∷◌, ◌++◌, length, Result, Ok, Err, refl, sym, ap, subst, ◌∙◌, arith, inl, inr, length-append}
+use Rattle.std.proofs.Common.{◌≡◌, ℕ, suc, ◌<◌, ◌≤◌, Bool, false, ltb, eqb, List, [], ◌∷◌, ◌++◌, length, Ok, Err, refl, sym, ap, subst, ◌∙◌, arith, inl, inr, length-append}
 use Rattle.std.proofs.lemmas.Bool.{ne_eqb}
 use Rattle.wk_bytes.specs.declared.fault.ReadKind.TheVariants.{UnexpectedEnd, UnknownOpcode, TooDeep}
 use Rattle.wk_bytes.specs.declared.fault.ReadFault.{ReadFault}
-use Rattle.wk_bytes.specs.Leb.{◌>>=◌, or_fail}
 use Rattle.wk_bytes.specs.LebLaws.{bind_ok, chosen}
 use Rattle.wk_bytes.specs.Span.{Span, fault, byte_at}
 use Rattle.wk_bytes.specs.SpanLaws.{ok_is, err_is}

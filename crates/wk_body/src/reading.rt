@@ -312,8 +312,10 @@ pub(crate) fn read_front(
 ) -> Result<Expr, ReadFault>
     ensures exact { Parses (λ e. e) (expr_at profile) cursor.old result cursor.new }
 {
+    // The proof asks what these two say: each byte is below 256, and the bytes are few.
+    are_bytes(cursor.rest());
+    let _at = cursor.at();
     scratch.clear();
-    let bytes = cursor.rest();
     loop {
         if token_of(scratch, profile, cursor)? {
             return Ok(scratch.copied(alloc)?);

@@ -1,43 +1,38 @@
-use Rattle.std.proofs.Common.{rules, ◌≡◌, ◌≢◌, ◌+◌, ◌<◌, ◌≤◌, ◌^◌, suc, length, IfOk, MatchResult, [], Ok, ℕ, ◌-◌, ◌*◌, ◌/◌, ◌%◌, Bool, true, false, nat_eq, nat_lt, List, ◌∷◌, ◌++◌, slice_index_or, slice_set, bit_and, bit_or, Fits, w8, w32, w64, Bor, MutBor}
-use Rattle.wk_bytes.specs.declared.fault.ReadKind.TheVariants.{UnknownOpcode, TooDeep}
-use Rattle.wk_bytes.specs.Span.{u32_at}
-use Rattle.wk_body.specs.ValTypes.{valtype_of}
-use Rattle.wk_body.specs.Vectors.{items_at}
-use Rattle.wk_body.specs.Reads.{FailsAs, Parses}
-use Rattle.wk_body.specs.Instructions.{numeric_in}
-use Rattle.wk_body.specs.Reading.{reserved_at, index_at, type_at, type_here, plain_at, tok_at, labels_at, behind_at, token_at, expr_at}
-use Rattle.wk_body.specs.Kept.{told, IsWithin}
-use Rattle.wk_body.specs.Building.{Good, size_of, kinds_of, ReadsLabels, ReadsPlain, ReadsToken}
+use Rattle.std.proofs.Common.{Bool, subst, arith}
+use Rattle.std.proofs.lemmas.Result.{err_from_is_err_and}
+use Rattle.wk_bytes.specs.LebLaws.{IsBytes}
+use Rattle.wk_body.proofs.Loop.{Next, begins, goes_on, fails, ends, keeps, shorter}
 use Rattle.wk_body.proofs.reading.read_front.Goals as goal
 
--- src/reading.rt:311:5
 pub loop-scratch-init : goal.loop-scratch-init
-loop-scratch-init c = ?
+loop-scratch-init c = begins c.args.profile c.clear.new.self c.args.cursor.now c.clear.ensures.good c.clear.ensures.toks c.clear.ensures.kinds c.clear.ensures.size
 
--- src/reading.rt:312:12
 pub token_of-requires-clause-good : goal.token_of-requires-clause-good
-token_of-requires-clause-good c = ?
+token_of-requires-clause-good c = c.loop-scratch.invariant.good
 
--- src/reading.rt:312:12
 pub token_of-requires-clause-room : goal.token_of-requires-clause-room
-token_of-requires-clause-room c = ?
+token_of-requires-clause-room c = omega (arith, c.loop-scratch.invariant.room, c.at-at.ensures.end, c.at-at.ensures.small)
 
--- src/reading.rt:312:12
 pub returns-in_err-token_of : goal.returns-in_err-token_of
-returns-in_err-token_of c = ?
+returns-in_err-token_of c =
+    let p = err_from_is_err_and c.from_residual.result c.from_residual.ensures.1 in
+    record { exact = rw (p.1, p.2) (fails c.args.profile c.args.cursor.now c.loop-scratch.scratch c.loop-scratch.cursor c.in_err-token_of.field-0.0 c.in_err-token_of.ensures c.loop-scratch.invariant) }
 
--- src/reading.rt:313:23
 pub copied-requires : goal.copied-requires
-copied-requires c = ?
+copied-requires c =
+    let r = subst (λ (last : Bool). Next c.args.profile last c.loop-scratch.scratch c.loop-scratch.cursor c.token_of.new.scratch c.token_of.new.cursor) c.if-branch.true c.in_ok-token_of.ensures in
+    let fits : IsBytes c.args.cursor.now.rest = subst IsBytes c.rest.ensures c.are_bytes.ensures in
+    keeps c.args.profile c.args.cursor.now c.loop-scratch.scratch c.token_of.new.scratch c.loop-scratch.cursor c.token_of.new.cursor fits r c.loop-scratch.invariant
 
--- src/reading.rt:313:13
 pub returns-then-branch : goal.returns-then-branch
-returns-then-branch c = ?
+returns-then-branch c =
+    let r = subst (λ (last : Bool). Next c.args.profile last c.loop-scratch.scratch c.loop-scratch.cursor c.token_of.new.scratch c.token_of.new.cursor) c.if-branch.true c.in_ok-token_of.ensures in
+    record { exact = rw c.in_ok-copied.ensures (ends c.args.profile c.args.cursor.now c.loop-scratch.scratch c.token_of.new.scratch c.loop-scratch.cursor c.token_of.new.cursor r c.loop-scratch.invariant) }
 
--- src/reading.rt:311:5
 pub loop-scratch-smaller : goal.loop-scratch-smaller
-loop-scratch-smaller c = ?
+loop-scratch-smaller c = shorter c.args.profile c.loop-scratch.scratch c.token_of.new.scratch c.loop-scratch.cursor c.token_of.new.cursor c.in_ok-token_of.field-0 c.in_ok-token_of.ensures
 
--- src/reading.rt:311:5
 pub loop-scratch-preserved : goal.loop-scratch-preserved
-loop-scratch-preserved c = ?
+loop-scratch-preserved c =
+    let r = subst (λ (last : Bool). Next c.args.profile last c.loop-scratch.scratch c.loop-scratch.cursor c.token_of.new.scratch c.token_of.new.cursor) c.if-branch.false c.in_ok-token_of.ensures in
+    goes_on c.args.profile c.args.cursor.now c.loop-scratch.scratch c.token_of.new.scratch c.loop-scratch.cursor c.token_of.new.cursor r c.loop-scratch.invariant

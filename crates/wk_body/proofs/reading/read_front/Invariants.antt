@@ -1,17 +1,9 @@
-use Rattle.std.proofs.Common.{◌≡◌, ◌≢◌, ◌+◌, ◌<◌, ◌≤◌, ◌^◌, suc, length, IfOk, MatchResult, [], Ok, ℕ, ◌-◌, ◌*◌}
-use Rattle.wk_bytes.specs.declared.fault.ReadKind.TheVariants.{UnknownOpcode, TooDeep}
-use Rattle.wk_bytes.specs.Span.{u32_at}
-use Rattle.wk_body.specs.ValTypes.{valtype_of}
-use Rattle.wk_body.specs.Vectors.{items_at}
-use Rattle.wk_body.specs.Reads.{FailsAs, Parses}
-use Rattle.wk_body.specs.Instructions.{numeric_in}
-use Rattle.wk_body.specs.Reading.{reserved_at, index_at, type_at, type_here, plain_at, tok_at, labels_at, behind_at, token_at, expr_at}
-use Rattle.wk_body.specs.Kept.{told, IsWithin}
-use Rattle.wk_body.specs.Building.{Good, size_of, kinds_of, ReadsLabels, ReadsPlain, ReadsToken}
+use Rattle.std.proofs.Common.{length}
+use Rattle.wk_body.proofs.Loop.{Underway}
 use Rattle.wk_body.proofs.reading.read_front.Given as goal
 
 abbrev pub invariant-loop-scratch : goal.invariant-loop-scratch
-invariant-loop-scratch l = ?
+invariant-loop-scratch l = Underway l.profile l.fn.cursor l.scratch l.cursor
 
 abbrev pub decreases-loop-scratch : goal.decreases-loop-scratch
-decreases-loop-scratch l = ?
+decreases-loop-scratch l = length l.cursor.rest

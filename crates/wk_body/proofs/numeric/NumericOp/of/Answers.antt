@@ -1,5 +1,5 @@
-use Rattle.std.proofs.Common.{◌∙◌, ap, arith}
-use Rattle.std.specs.Prelude.{nat_le, ◌≡◌, true, slice_get, ◌-◌}
+use Rattle.std.proofs.Common.{◌∙◌, ap}
+use Rattle.std.specs.Prelude.{nat_le, ◌≡◌, true, slice_get}
 use Rattle.std.proofs.lemmas.Bool.{le-leb}
 use Rattle.wk_body.specs.Numeric.{numeric_ops}
 use Rattle.wk_body.proofs.Lookup.{copied_at}

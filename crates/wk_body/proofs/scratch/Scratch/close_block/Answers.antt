@@ -1,6 +1,5 @@
-use Rattle.std.proofs.Common.{refl, subst, ◌∙◌, ap, ℕ, List}
+use Rattle.std.proofs.Common.{refl, subst, ◌∙◌, ap, List}
 use Rattle.std.proofs.lemmas.Result.{on_ok_weaker}
-use Rattle.wk_body.specs.declared.scratch.Opened.{Opened}
 use Rattle.wk_body.specs.declared.token.Token.{Token}
 use Rattle.wk_body.specs.Kept.{ended}
 use Rattle.wk_body.specs.Building.{GoodWith}

@@ -1,9 +1,6 @@
-use Rattle.std.proofs.Common.{refl, sym, subst, ap, ◌∙◌, ◌++◌, ◌∷◌, [], ℕ, List}
+use Rattle.std.proofs.Common.{refl, ap, ◌∙◌, ◌++◌, ◌∷◌, [], ℕ}
 use Rattle.wk_body.specs.declared.token.Token.{Token}
-use Rattle.wk_body.specs.declared.types.BlockKind.{BlockKind}
 use Rattle.wk_body.specs.declared.scratch.Opened.TheVariants.{Block}
-use Rattle.wk_body.specs.Tree.{Open}
-use Rattle.wk_body.specs.Building.{Adds}
 use Rattle.wk_body.proofs.Built.{opening_adds, opens_block, opens_loop}
 use Rattle.wk_body.proofs.scratch.Scratch.open_block.Goals as goal
 use Rattle.wk_body.proofs.scratch.Scratch.open_block.Goals.{in-Block, in-Loop}
