@@ -1,14 +1,12 @@
 -- What calls that read promise in terms of the grammar, from what they answer.
-use Rattle.std.proofs.Common.{◌≡◌, ◌≢◌, ℕ, ◌<◌, ◌≤◌, true, false, cond, leb, List, [], ◌∷◌, ◌++◌, length, Result, Ok, Err, refl, sym, ap, subst, ◌∙◌, arith, inl, inr}
+use Rattle.std.proofs.Common.{◌≡◌, ◌≢◌, ℕ, ◌<◌, ◌≤◌, List, [], ◌∷◌, ◌++◌, length, Result, Ok, Err, refl, sym, ap, subst, ◌∙◌, arith, inl, inr}
 use Rattle.std.specs.Prelude.{IfOk, IfErr}
-use Rattle.std.proofs.lemmas.Bool.{leb-true, leb-false, le-leb}
 use Rattle.std.proofs.lemmas.List.{append-nil}
 use Rattle.wk_bytes.specs.declared.fault.ReadKind.{ReadKind}
 use Rattle.wk_bytes.specs.declared.fault.ReadKind.TheVariants.{BodySize, Memory}
 use Rattle.wk_bytes.specs.declared.fault.ReadFault.{ReadFault}
-use Rattle.wk_bytes.specs.Fault.{no_memory, long_input}
 use Rattle.wk_bytes.specs.Leb.{◌>>=◌}
-use Rattle.wk_bytes.specs.LebLaws.{IsBytes, bind_ok, chosen}
+use Rattle.wk_bytes.specs.LebLaws.{IsBytes, bind_ok}
 use Rattle.wk_bytes.specs.Span.{Span, fault}
 use Rattle.wk_bytes.specs.SpanLaws.{ok_is, not_both}
 use Rattle.wk_bytes.specs.PieceLaws.{read_prefix_free}
@@ -21,8 +19,8 @@ use Rattle.wk_body.specs.Bodies.{BodyOf}
 use Rattle.wk_body.specs.Spelling.{SpellsExpr, SpellsBody}
 use Rattle.wk_body.specs.Written.{Fits}
 use Rattle.wk_body.specs.Reads.{FailsAs, Parses, Reads}
-use Rattle.wk_body.specs.Meaning.{Whole, FindsOnly, Takes, TakesOnly}
-use Rattle.wk_body.specs.Reading.{expr_at, body_at, taking_all, all_expr_at, all_body_at, whole_at}
+use Rattle.wk_body.specs.Meaning.{FindsOnly, Takes, TakesOnly}
+use Rattle.wk_body.specs.Reading.{expr_at, body_at, taking_all, all_expr_at, all_body_at}
 use Rattle.wk_body.proofs.Faults.{fails_on}
 use Rattle.wk_body.proofs.Pieces.{Took}
 use Rattle.wk_body.proofs.GrammarParts.{expr_takes}
@@ -63,10 +61,14 @@ module _ {V : Type 0} (Spells : V → List ℕ → Type 0) (read : ℕ → List 
   -- the front that was taken, and no other
   pub takes_only : {X : Type 0} (view : X → V) (old new : Span) (result : Result X ReadFault) → IsBytes old.rest → Takes view read old result new → TakesOnly view Spells old result new
   takes_only view old new (Ok x) fits given =
-      let t = is.takes old.end old.rest (view x, new.rest) fits given.0 in
-      (t.front, t.spelled, t.parts, λ w c later s parts.
-        let one = read_prefix_free (λ b v. Spells v b) read (λ end b v rest p. is.again end v b rest p) c t.front later new.rest w (view x) s t.spelled (sym parts ∙ t.parts) in
-        (one.1, one.0))
+      let t = is.takes old.end old.rest (view x, new.rest) fits given.0 in (
+        t.front,
+        t.spelled,
+        t.parts,
+        λ w c later s parts.
+            let one = read_prefix_free (λ b v. Spells v b) read (λ end b v rest p. is.again end v b rest p) c t.front later new.rest w (view x) s t.spelled (sym parts ∙ t.parts) in
+            (one.1, one.0),
+      )
   takes_only view old new (Err e) fits given = λ other w c later s parts.
       not_both (read old.end old.rest) e (w, later) (fails_with e.kind e _ other given.0) (ap (read old.end) parts ∙ is.again old.end w c later s)
 
