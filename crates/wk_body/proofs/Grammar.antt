@@ -1,5 +1,5 @@
 -- What is in the grammar is read, whatever follows it; and what is read of a body is in the grammar.
-use Rattle.std.proofs.Common.{◌≡◌, ℕ, zero, suc, ◌+◌, ◌<◌, ◌≤◌, ◌^◌, Bool, true, false, List, [], ◌∷◌, ◌++◌, length, Option, Some, None, Result, Ok, Err, refl, sym, ap, subst, ◌∙◌, append_assoc, arith, inl, inr, length-append}
+use Rattle.std.proofs.Common.{◌≡◌, ℕ, zero, suc, ◌+◌, ◌<◌, ◌≤◌, Bool, true, false, List, [], ◌∷◌, ◌++◌, length, Some, Result, Ok, Err, refl, sym, ap, subst, ◌∙◌, append_assoc, arith, inl, inr, length-append}
 use Rattle.wk_bytes.specs.declared.fault.ReadFault.{ReadFault}
 use Rattle.wk_bytes.specs.Leb.{◌>>=◌, SpellsU}
 use Rattle.wk_bytes.specs.LebLaws.{IsBytes, bind_ok, SpellsU-below}
@@ -14,10 +14,10 @@ use Rattle.wk_body.specs.Instructions.{Plain}
 use Rattle.wk_body.specs.Tree.{Instrs, Finish, One, Block, If, Tok, Simple, Open, OpenIf, Otherwise, Close, Part, before, onto, append}
 use Rattle.wk_body.specs.TreeLaws.{append-Finish}
 use Rattle.wk_body.specs.Shape.{deep, limit}
-use Rattle.wk_body.specs.Bodies.{BodyOf, local_count, AreGroups}
+use Rattle.wk_body.specs.Bodies.{BodyOf, AreGroups}
 use Rattle.wk_body.specs.Spelling.{kind_byte, Spells, SpellsExpr, SpellsGroup, SpellsBody}
-use Rattle.wk_body.specs.Vectors.{SpellsItems, SpellsVector}
-use Rattle.wk_body.specs.Reading.{behind_at, token_at, after, With, parts_at, expr_at, groups_at, body_at}
+use Rattle.wk_body.specs.Vectors.{SpellsItems}
+use Rattle.wk_body.specs.Reading.{behind_at, after, With, parts_at, expr_at, groups_at, body_at}
 use Rattle.wk_body.proofs.Pieces.{Took, plain_headed, groups_take, groups_again}
 use Rattle.wk_body.proofs.GrammarTokens.{SpellsTok, MayCome, token_again}
 use Rattle.wk_body.proofs.GrammarParts.{expr_takes}
@@ -220,7 +220,8 @@ body_takes profile end bytes x fits e =
     let below = SpellsU-below 32 counted.0 n.0.0 counted.1 in
     let few = grouped.5 (omega arith) in
     let made : BodyOf × List ℕ = (record { groups = gs.0.0; instrs = t.0.0 }, t.0.1) in
-    subst (Took (SpellsBody profile) bytes) (ok_is made x t.2)
+    let is : made ≡ x = ok_is made x t.2 in
+    subst (Took (SpellsBody profile) bytes) {x = made} is
     (one_body profile gs.0.0 t.0.0 counted.0 grouped.0 coded.front bytes n.0.1 gs.0.1 t.0.1 (subst (SpellsU 32 counted.0) (sym grouped.4) counted.1) grouped.1 coded.spelled
     (record { counted = omega (arith, grouped.4, below); few = omega (arith, few) }) counted.2 grouped.2 coded.parts coded.rest_fits)
 

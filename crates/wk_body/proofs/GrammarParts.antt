@@ -1,15 +1,14 @@
 -- Instructions that are read up to their end are spelled so.
-use Rattle.std.proofs.Common.{◌≡◌, ℕ, zero, suc, ◌+◌, ◌<◌, ◌≤◌, max, Bool, true, false, List, [], ◌∷◌, ◌++◌, length, Option, Some, None, Result, Ok, Err, refl, sym, ap, subst, ◌∙◌, append_assoc, arith, inl, inr}
+use Rattle.std.proofs.Common.{◌≡◌, ℕ, zero, suc, ◌+◌, ◌≤◌, max, Bool, true, false, List, [], ◌∷◌, ◌++◌, length, Result, Ok, refl, sym, ap, subst, ◌∙◌, append_assoc, arith, inl, inr}
 use Rattle.std.specs.Prelude.{◌⊎◌}
 use Rattle.wk_bytes.specs.declared.fault.ReadFault.{ReadFault}
-use Rattle.wk_bytes.specs.Leb.{◌>>=◌}
 use Rattle.wk_bytes.specs.LebLaws.{IsBytes, bind_ok}
 use Rattle.wk_bytes.specs.SpanLaws.{ok_is}
 use Rattle.wk_body.specs.declared.types.Profile.{Profile}
 use Rattle.wk_body.specs.declared.types.BlockType.{BlockType}
 use Rattle.wk_body.specs.declared.types.BlockKind.{BlockKind}
 use Rattle.wk_body.specs.Instructions.{Plain}
-use Rattle.wk_body.specs.Tree.{Instrs, Finish, One, Block, If, Tok, Simple, Open, OpenIf, Otherwise, Close, Part, before, first_part}
+use Rattle.wk_body.specs.Tree.{Instrs, Finish, Tok, Simple, Open, OpenIf, Otherwise, Close, Part, before, first_part}
 use Rattle.wk_body.specs.Shape.{deep, limit}
 use Rattle.wk_body.specs.Spelling.{SpellsType, SpellsPlain, kind_byte, Spells, SpellsExpr}
 use Rattle.wk_body.specs.Reading.{may_else, else_seen, token_at, after, With, in_front, then_on, parts_at, expr_at}

@@ -1,5 +1,5 @@
 -- One token that is read is spelled so, and one that is spelled so is read.
-use Rattle.std.proofs.Common.{◌≡◌, ℕ, suc, ◌+◌, ◌<◌, ◌≤◌, Bool, true, false, cond, ltb, eqb, List, [], ◌∷◌, ◌++◌, length, Result, Ok, Err, refl, sym, ap, subst, ◌∙◌, arith, inl, inr}
+use Rattle.std.proofs.Common.{◌≡◌, ℕ, suc, ◌<◌, Bool, true, false, ltb, eqb, List, [], ◌∷◌, ◌++◌, length, Ok, Err, refl, sym, ap, subst, ◌∙◌, arith, inl, inr}
 use Rattle.std.proofs.lemmas.Bool.{ltb-true, lt-ltb, eqb-true, ne_eqb}
 use Rattle.wk_bytes.specs.declared.fault.ReadKind.TheVariants.{UnknownOpcode, TooDeep}
 use Rattle.wk_bytes.specs.declared.fault.ReadFault.{ReadFault}
@@ -13,7 +13,7 @@ use Rattle.wk_body.specs.Tree.{Tok, Simple, Open, OpenIf, Otherwise, Close}
 use Rattle.wk_body.specs.Shape.{limit}
 use Rattle.wk_body.specs.Spelling.{SpellsType, SpellsPlain, kind_byte}
 use Rattle.wk_body.specs.Reading.{type_at, plain_at, may_else, type_here, opening_at, behind_at, token_at}
-use Rattle.wk_body.proofs.Pieces.{Took, type_takes, type_again, plain_takes, Headed, plain_headed}
+use Rattle.wk_body.proofs.Pieces.{Took, type_takes, type_again, plain_takes, plain_headed}
 
 abbrev pub SpellsTok : Profile → Tok → List ℕ → Type 0
 SpellsTok profile (Simple p) bytes = SpellsPlain profile p bytes

@@ -1,15 +1,13 @@
 -- What calls that read promise in terms of the grammar, from what they answer.
-use Rattle.std.proofs.Common.{◌≡◌, ◌≢◌, ℕ, ◌<◌, ◌≤◌, true, false, cond, leb, List, [], ◌∷◌, ◌++◌, length, Result, Ok, Err, refl, sym, ap, subst, ◌∙◌, arith, inl, inr}
+use Rattle.std.proofs.Common.{◌≡◌, ◌≢◌, ℕ, ◌<◌, ◌≤◌, List, [], ◌∷◌, ◌++◌, length, Result, Ok, Err, refl, sym, ap, subst, ◌∙◌, arith, inl, inr}
 use Rattle.std.specs.Prelude.{IfOk, IfErr}
-use Rattle.std.proofs.lemmas.Bool.{leb-true, leb-false, le-leb}
 use Rattle.std.proofs.lemmas.List.{append-nil}
 use Rattle.wk_bytes.specs.declared.fault.ReadKind.{ReadKind}
-use Rattle.wk_bytes.specs.declared.fault.ReadKind.TheVariants.{Memory}
+use Rattle.wk_bytes.specs.declared.fault.ReadKind.TheVariants.{BodySize, Memory}
 use Rattle.wk_bytes.specs.declared.fault.ReadFault.{ReadFault}
-use Rattle.wk_bytes.specs.Fault.{no_memory, long_input}
 use Rattle.wk_bytes.specs.Leb.{◌>>=◌}
-use Rattle.wk_bytes.specs.LebLaws.{IsBytes, bind_ok, chosen}
-use Rattle.wk_bytes.specs.Span.{Span}
+use Rattle.wk_bytes.specs.LebLaws.{IsBytes, bind_ok}
+use Rattle.wk_bytes.specs.Span.{Span, fault}
 use Rattle.wk_bytes.specs.SpanLaws.{ok_is, not_both}
 use Rattle.wk_bytes.specs.PieceLaws.{read_prefix_free}
 use Rattle.wk_bytes.specs.Stands.{Stands, StandsOrMemory, StandsIn, whole}
@@ -21,8 +19,9 @@ use Rattle.wk_body.specs.Bodies.{BodyOf}
 use Rattle.wk_body.specs.Spelling.{SpellsExpr, SpellsBody}
 use Rattle.wk_body.specs.Written.{Fits}
 use Rattle.wk_body.specs.Reads.{FailsAs, Parses, Reads}
-use Rattle.wk_body.specs.Meaning.{Whole, FindsOnly, Takes, TakesOnly}
-use Rattle.wk_body.specs.Reading.{expr_at, body_at, taking_all, all_expr_at, all_body_at, whole_at}
+use Rattle.wk_body.specs.Meaning.{FindsOnly, Takes, TakesOnly}
+use Rattle.wk_body.specs.Reading.{expr_at, body_at, taking_all, all_expr_at, all_body_at}
+use Rattle.wk_body.proofs.Faults.{fails_on}
 use Rattle.wk_body.proofs.Pieces.{Took}
 use Rattle.wk_body.proofs.GrammarParts.{expr_takes}
 use Rattle.wk_body.proofs.Grammar.{expr_again, body_takes, body_again}
@@ -62,10 +61,14 @@ module _ {V : Type 0} (Spells : V → List ℕ → Type 0) (read : ℕ → List 
   -- the front that was taken, and no other
   pub takes_only : {X : Type 0} (view : X → V) (old new : Span) (result : Result X ReadFault) → IsBytes old.rest → Takes view read old result new → TakesOnly view Spells old result new
   takes_only view old new (Ok x) fits given =
-      let t = is.takes old.end old.rest (view x, new.rest) fits given.0 in
-      (t.front, t.spelled, t.parts, λ w c later s parts.
-        let one = read_prefix_free (λ b v. Spells v b) read (λ end b v rest p. is.again end v b rest p) c t.front later new.rest w (view x) s t.spelled (sym parts ∙ t.parts) in
-        (one.1, one.0))
+      let t = is.takes old.end old.rest (view x, new.rest) fits given.0 in (
+        t.front,
+        t.spelled,
+        t.parts,
+        λ w c later s parts.
+            let one = read_prefix_free (λ b v. Spells v b) read (λ end b v rest p. is.again end v b rest p) c t.front later new.rest w (view x) s t.spelled (sym parts ∙ t.parts) in
+            (one.1, one.0),
+      )
   takes_only view old new (Err e) fits given = λ other w c later s parts.
       not_both (read old.end old.rest) e (w, later) (fails_with e.kind e _ other given.0) (ap (read old.end) parts ∙ is.again old.end w c later s)
 
@@ -155,3 +158,32 @@ next_only profile = takes_only (SpellsExpr profile) (expr_at profile) (exprs pro
 
 pub next_stands : (profile : Profile) (old new : Span) (result : Result Instrs ReadFault) → length old.rest ≤ old.end → Takes (λ e. e) (expr_at profile) old result new → IfErr result (λ e. StandsOrMemory old e)
 next_stands profile = takes_stand (SpellsExpr profile) (expr_at profile) (exprs profile) (λ e. e)
+
+-- ---- all of the bytes of a body
+
+-- the body took all of the bytes
+pub body_whole : (profile : Profile) (old ahead new : Span) (b : BodyOf) → ahead ≡ old → Parses (λ c. c) (body_at profile) ahead (Ok b) new → new.rest ≡ [] → all_body_at profile old.end old.rest ≡ Ok b
+unfolding all_body_at
+body_whole profile old ahead new b same given none =
+    let read : body_at profile old.end old.rest ≡ Ok (b, new.rest) = subst (λ (s : Span). body_at profile s.end s.rest ≡ Ok (b, new.rest)) same given.0 in
+    rw (read, none) refl
+
+-- bytes are left over
+left_over : (end : ℕ) (b : BodyOf) (rest : List ℕ) → rest ≢ [] → taking_all end (b, rest) ≡ Err (fault BodySize end rest)
+left_over end b [] some = absurd (some refl)
+left_over end b (x ∷ rest) some = refl
+
+pub body_longer : (profile : Profile) (old ahead new : Span) (b : BodyOf) (e : ReadFault) → ahead ≡ old → Parses (λ c. c) (body_at profile) ahead (Ok b) new → (e ≡ fault BodySize new.end new.rest) × (new.rest ≢ []) → FailsAs e e.kind (all_body_at profile old.end old.rest)
+unfolding all_body_at
+body_longer profile old ahead new b e same given longer =
+    let read : body_at profile old.end old.rest ≡ Ok (b, new.rest) = subst (λ (s : Span). body_at profile s.end s.rest ≡ Ok (b, new.rest)) same given.0 in
+    let ends : new.end ≡ old.end = given.1 ∙ ap (λ (s : Span). s.end) same in
+    let size : ReadFault = fault BodySize new.end new.rest in
+    let fails : all_body_at profile old.end old.rest ≡ Err size = rw read (left_over old.end b new.rest longer.1 ∙ ap (λ (end : ℕ). Err (fault BodySize end new.rest)) (sym ends)) in
+    subst (λ (d : ReadFault). FailsAs d d.kind (all_body_at profile old.end old.rest)) (sym longer.0) fails
+
+-- no body is at the front
+pub body_refused : (profile : Profile) (old ahead : Span) (e : ReadFault) → ahead ≡ old → FailsAs e e.kind (body_at profile ahead.end ahead.rest) → FailsAs e e.kind (all_body_at profile old.end old.rest)
+unfolding all_body_at
+body_refused profile old ahead e same given =
+    fails_on e e.kind (body_at profile old.end old.rest) (all_body_at profile old.end old.rest) (λ h. rw h refl) (subst (λ (s : Span). FailsAs e e.kind (body_at profile s.end s.rest)) same given)

@@ -1,5 +1,5 @@
 -- What the grammar spells: shaped trees of the profile, each in one way.
-use Rattle.std.proofs.Common.{◌≡◌, ℕ, zero, suc, ◌<◌, ◌≤◌, List, [], ◌∷◌, ◌++◌, length, get_or, refl, sym, ap, ◌∙◌, arith, inl, inr, append_assoc}
+use Rattle.std.proofs.Common.{◌≡◌, ℕ, zero, suc, List, [], ◌∷◌, ◌++◌, ap, ◌∙◌, arith, inl, inr, append_assoc}
 use Rattle.std.specs.Prelude.{◌⊎◌}
 use Rattle.wk_bytes.specs.LebLaws.{IsBytes}
 use Rattle.wk_bytes.specs.SpanLaws.{IsBytes-after}
@@ -8,7 +8,6 @@ use Rattle.wk_body.specs.declared.types.Profile.{Profile}
 use Rattle.wk_body.specs.declared.types.Profile.TheVariants.{Core, Extended}
 use Rattle.wk_body.specs.Tree.{Instrs, Finish, One, Block, If}
 use Rattle.wk_body.specs.Shape.{IsInRange, IsShaped, IsOf}
-use Rattle.wk_body.specs.Bodies.{BodyOf}
 use Rattle.wk_body.specs.Spelling.{kind_byte, Spells, SpellsExpr, SpellsBody}
 use Rattle.wk_body.specs.Meaning.{SpellOnce, SpellAlike}
 use Rattle.wk_body.specs.Reading.{expr_at, body_at}

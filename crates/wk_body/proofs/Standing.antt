@@ -1,13 +1,12 @@
 -- The faults of reading expressions and bodies stand.
-use Rattle.std.proofs.Common.{◌≡◌, ℕ, zero, suc, ◌+◌, ◌-◌, ◌<◌, ◌≤◌, Bool, true, false, cond, ltb, eqb, List, [], ◌∷◌, ◌++◌, length, Option, Some, None, Result, Ok, Err, refl, sym, ap, subst, ◌∙◌, arith, inl, inr, length-append}
-use Rattle.std.specs.Prelude.{IfErr}
-use Rattle.std.proofs.lemmas.Bool.{eqb-true, eqb-false, ltb-true}
+use Rattle.std.proofs.Common.{◌≡◌, ℕ, zero, suc, ◌-◌, ◌≤◌, Bool, true, false, cond, ltb, eqb, List, [], ◌∷◌, ◌++◌, length, Option, Some, None, Result, Ok, Err, refl, sym, ap, subst, ◌∙◌, arith, inl, inr}
+use Rattle.std.proofs.lemmas.Bool.{eqb-true, eqb-false}
 use Rattle.std.proofs.lemmas.List.{append-nil}
 use Rattle.wk_bytes.specs.declared.fault.ReadKind.TheVariants.{UnexpectedEnd, UnknownOpcode, TooDeep, BodySize}
 use Rattle.wk_bytes.specs.declared.fault.ReadFault.{ReadFault}
 use Rattle.wk_bytes.specs.Leb.{◌>>=◌}
-use Rattle.wk_bytes.specs.LebLaws.{bind_ok, chosen}
-use Rattle.wk_bytes.specs.Span.{Span, fault, u32_at}
+use Rattle.wk_bytes.specs.LebLaws.{chosen}
+use Rattle.wk_bytes.specs.Span.{fault, u32_at}
 use Rattle.wk_bytes.specs.SpanLaws.{ok_is, err_is}
 use Rattle.wk_bytes.specs.Stands.{Stands}
 use Rattle.wk_bytes.specs.StandsLaws.{Stands-later, Stands-here, stands_as, ReadsFront, ReadsFront-done, ReadsFront-then, ReadsFront-u32_at}
@@ -15,10 +14,10 @@ use Rattle.wk_body.specs.declared.types.Profile.{Profile}
 use Rattle.wk_body.specs.declared.types.BlockType.{BlockType}
 use Rattle.wk_body.specs.declared.types.BlockKind.TheVariants as kinds
 use Rattle.wk_body.specs.declared.types.LocalGroup.{LocalGroup}
-use Rattle.wk_body.specs.Tree.{Instrs, Tok, Simple, Open, OpenIf, Otherwise, Close, Part, before, first_part}
+use Rattle.wk_body.specs.Tree.{Tok, Simple, Open, OpenIf, Otherwise, Close, before, first_part}
 use Rattle.wk_body.specs.Shape.{limit}
 use Rattle.wk_body.specs.Bodies.{BodyOf}
-use Rattle.wk_body.specs.Reading.{type_at, plain_at, may_else, type_here, opening_at, behind_at, token_at, after, With, in_front, then_on, parts_at, expr_at, groups_at, body_at, all_expr_at, all_body_at, taking_all}
+use Rattle.wk_body.specs.Reading.{type_at, plain_at, may_else, type_here, opening_at, behind_at, token_at, after, With, then_on, parts_at, expr_at, groups_at, body_at, all_expr_at, all_body_at, taking_all}
 use Rattle.wk_body.proofs.PieceStands.{ReadsFront-type_at, ReadsFront-groups_at, plain_at-takes, plain_stands}
 
 -- ---- one token

@@ -36,6 +36,7 @@ impl Scratch {
         ensures profile { IfOk result (IsOf profile) }
         ensures fault { IfErr result (λ e. StandsOrMemory cursor.old e) }
     {
+        // The proof asks what this says: each byte is below 256.
         are_bytes(cursor.rest());
         let mut ahead = cursor.ahead();
         let expr = read_front(alloc, self, profile, &mut ahead)?;
@@ -94,6 +95,8 @@ fn body_front(
     ensures { Parses (λ b. b) (body_at profile) cursor.old result cursor.new }
 {
     let count = cursor.u32()?;
+    // The proof asks what this says: each byte is below 256.
+    are_bytes(cursor.rest());
     let groups = groups_of(alloc, count, cursor)?;
     let instrs = read_front(alloc, scratch, profile, cursor)?;
     Ok(Body::of(groups, instrs))
@@ -128,7 +131,9 @@ impl Scratch {
         ensures profile { IfOk result (λ b. IsOf profile b.instrs) }
         ensures fault { IfErr result (λ e. StandsOrMemory cursor.now e) }
     {
+        // The proof asks what these two say: each byte is below 256, and the bytes are few.
         are_bytes(cursor.rest());
+        let _at = cursor.at();
         let mut ahead = cursor.ahead();
         let body = body_front(alloc, self, profile, &mut ahead)?;
         at_end(&ahead)?;
