@@ -1,0 +1,2 @@
+pub mod TreeRefs
+pub mod MovedTrees

@@ -39,7 +39,8 @@ impl Body {
 
     /// The local groups.
     pub fn groups(&self) -> &[LocalGroup]
-        ensures { result.now ≡ self.now.groups }
+        ensures groups { result.now ≡ self.now.groups }
+        ensures few { AreGroups self.now.groups }
     {
         &self.groups
     }

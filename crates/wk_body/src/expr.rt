@@ -3,6 +3,7 @@
 ghost use Rattle.std.specs.Prelude.{◌≡◌, length};
 ghost use Rattle.std.specs.List.{AllByRecursion};
 ghost use Rattle.wk_body.specs.Tree.{tokens_of};
+ghost use Rattle.wk_body.specs.Shape.{IsShaped};
 ghost use Rattle.wk_body.specs.Kept.{IsKept, IsWithin, all_told, tree_kept};
 
 use crate::token::Token;
@@ -49,6 +50,7 @@ impl Expr {
     pub fn tokens(&self) -> (&[Token], &[u32])
         ensures tokens { all_told result.1.now result.0.now ≡ tokens_of self.now }
         ensures within { AllByRecursion (IsWithin (length result.1.now)) result.0.now }
+        ensures shaped { IsShaped self.now }
     {
         (&self.tokens, &self.labels)
     }
