@@ -1,5 +1,5 @@
 -- Tokens whose references move spell the tree whose references move, and it stays one that bytes can spell.
-use Rattle.std.proofs.Common.{◌≡◌, ℕ, zero, suc, ◌+◌, ◌<◌, ◌≤◌, ◌^◌, Bool, true, false, List, [], ◌∷◌, ◌++◌, length, map, take, get_or, refl, sym, ap, subst, ◌∙◌, arith, max}
+use Rattle.std.proofs.Common.{◌≡◌, ℕ, zero, suc, ◌+◌, ◌<◌, ◌≤◌, ◌^◌, Bool, true, false, List, [], ◌∷◌, ◌++◌, length, map, take, get_or, refl, sym, ap, subst, ◌∙◌, arith, Result, Ok, Err, MatchResult, IfOk}
 use Rattle.std.specs.Prelude.{◌||◌, ◌&&◌, IsTrue, nat_le, ◌==◌}
 use Rattle.std.specs.List.{flat_map, AllByRecursion}
 use Rattle.std.proofs.lemmas.Bool.{or_parts, or_left, or_right}
@@ -63,6 +63,12 @@ moved_allowed profile kind from p h = h
 
 pub moved_of : (profile : Profile) (kind : Moving) (from : ℕ) (t : Instrs) → IsOf profile t → IsOf profile (shift_instrs kind from t)
 moved_of profile kind from t h = map_of profile (moved_plain kind from) (moved_allowed profile kind from) t h
+
+-- what is answered, by what it is
+pub answer_of : (kind : Moving) (from : ℕ) (t : Instrs) (r : Result Instrs ShiftFault) → MatchResult r (λ s. (any_stuck kind from (refs_of t) ≡ false) × (s ≡ shift_instrs kind from t)) (λ e. IsRefused e (any_stuck kind from (refs_of t)))
+    → IfOk r (λ s. (profile : Profile) → IsOf profile t → IsOf profile s)
+answer_of kind from t (Ok s) h = λ profile k. subst (IsOf profile) (sym h.1) (moved_of profile kind from t k)
+answer_of kind from t (Err e) h = tt
 
 -- ---- references that can move
 
