@@ -7,6 +7,7 @@ ghost use Rattle.wk_body.specs.Shape.{IsShaped};
 ghost use Rattle.wk_body.specs.Kept.{IsKept, IsWithin, all_told, tree_kept};
 
 use crate::token::Token;
+use std::alloc::AllocError;
 use std::marker::Model;
 
 /// Instructions up to their last `end` (2.4.6): an initialiser or an offset, or what a body holds beside its locals.
@@ -14,7 +15,7 @@ use std::marker::Model;
 /// They are kept as tokens, one after the other, so that nothing recurses over nested blocks. A contract sees their tree
 /// (`Instrs` of `specs/Tree.antt`). Each is one that bytes can spell: all numbers are in their ranges, and at most 20,000 blocks
 /// are open at one place.
-#[derive(Clone, Debug, Drop)]
+#[derive(Debug, Drop)]
 pub struct Expr {
     tokens: Vec<Token>,
     labels: Vec<u32>,
@@ -33,6 +34,16 @@ impl Model for Expr {
     ghost view = { λ e. tree_kept e.labels.items e.tokens.items };
 
     ghost invariant = { λ e. IsKept e.labels.items e.tokens.items };
+}
+
+impl Clone for Expr {
+    ghost is_clone = { λ e copy. copy ≡ e };
+
+    fn clone(&self) -> Result<Expr, AllocError> {
+        let tokens = self.tokens.clone()?;
+        let labels = self.labels.clone()?;
+        Ok(Expr::of(tokens, labels))
+    }
 }
 
 impl Expr {
