@@ -1,2 +1,3 @@
 pub mod TreeRefs
 pub mod MovedTrees
+pub mod RefSets
