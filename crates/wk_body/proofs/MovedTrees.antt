@@ -114,12 +114,15 @@ pub kept_moved : (kind : Moving) (from : ℕ) (pool : List ℕ) (ts ms : List To
 kept_moved kind from pool ts ms t written within shaped m =
     let w : all_told pool ms ≡ tokens_of (shift_instrs kind from t) = m.told_moved pool ∙ ap (map (map_tok (moved_plain kind from))) written ∙ sym (tokens_map (moved_plain kind from) t) in
     let e : tree_kept pool ms ≡ shift_instrs kind from t = ap tree_of w ∙ tree_of-flatten (shift_instrs kind from t) in
-    let free : any_stuck kind from (refs_of t) ≡ false = ap (any_stuck kind from) (sym (kept_refs pool ts t written)) ∙ m.fits in
-    (record {
-      written = w ∙ ap tokens_of (sym e);
-      within = m.within (length pool) within;
-      shaped = subst IsShaped (sym e) (shift_shaped kind from t free shaped);
-    }, e, free)
+    let free : any_stuck kind from (refs_of t) ≡ false = ap (any_stuck kind from) (sym (kept_refs pool ts t written)) ∙ m.fits in (
+      record {
+        written = w ∙ ap tokens_of (sym e);
+        within = m.within (length pool) within;
+        shaped = subst IsShaped (sym e) (shift_shaped kind from t free shaped);
+      },
+      e,
+      free,
+    )
 
 -- ---- one token after the other
 

@@ -74,17 +74,19 @@ among_parts r (x ∷ xs) ys (inr h) = elim (among_parts r xs ys h) [ inl a ↦ i
 
 -- the same references in front of others
 pub same_front : (xs ys more : List Ref) → AreSame xs ys → AreSame (xs ++ more) (ys ++ more)
-same_front xs ys more p r =
-    (λ h. elim (among_parts r xs more h) [ inl a ↦ among_left r ys more ((p r).0 a) | inr b ↦ among_right r ys more b ],
-    λ h. elim (among_parts r ys more h) [ inl a ↦ among_left r xs more ((p r).1 a) | inr b ↦ among_right r xs more b ])
+same_front xs ys more p r = (
+  λ h. elim (among_parts r xs more h) [ inl a ↦ among_left r ys more ((p r).0 a) | inr b ↦ among_right r ys more b ],
+  λ h. elim (among_parts r ys more h) [ inl a ↦ among_left r xs more ((p r).1 a) | inr b ↦ among_right r xs more b ],
+)
 
 -- ---- a key more
 
 by_place : (k x : Ref) (xs : List Ref) (o : Ordering) → MatchOrdering o (IsBelow k x) (k ≡ x) (IsBelow x k) → AreSame (insert_key cmp xs k) (xs ++ k ∷ [])
     → AreSame (match_ordering o (k ∷ x ∷ xs) (x ∷ xs) (x ∷ insert_key cmp xs k)) (x ∷ (xs ++ k ∷ []))
-by_place k x xs Less h p r =
-    (λ a. elim a [ inl e ↦ among_right r (x ∷ xs) (k ∷ []) (inl e) | inr b ↦ among_left r (x ∷ xs) (k ∷ []) b ],
-    λ a. elim (among_parts r (x ∷ xs) (k ∷ []) a) [ inl b ↦ inr b | inr b ↦ elim b [ inl e ↦ inl e | inr never ↦ absurd never ] ])
+by_place k x xs Less h p r = (
+  λ a. elim a [ inl e ↦ among_right r (x ∷ xs) (k ∷ []) (inl e) | inr b ↦ among_left r (x ∷ xs) (k ∷ []) b ],
+  λ a. elim (among_parts r (x ∷ xs) (k ∷ []) a) [ inl b ↦ inr b | inr b ↦ elim b [ inl e ↦ inl e | inr never ↦ absurd never ] ],
+)
 by_place k x xs Equal h p r =
     (λ a. among_left r (x ∷ xs) (k ∷ []) a, λ a. elim (among_parts r (x ∷ xs) (k ∷ []) a) [ inl b ↦ b | inr b ↦ elim b [ inl e ↦ inl (e ∙ h) | inr never ↦ absurd never ] ])
 by_place k x xs Greater h p r = (λ a. elim a [ inl e ↦ inl e | inr b ↦ inr ((p r).0 b) ], λ a. elim a [ inl e ↦ inl e | inr b ↦ inr ((p r).1 b) ])

@@ -23,10 +23,15 @@ pub use length::{body_len, expr_len};
 pub use memory::MemoryOp;
 pub use moves::{Moving, ShiftFault};
 pub use numeric::{NumericOp, NumericType};
-pub use reader::{next_expr, next_expr_in, one_spelling_of_code, read_body, read_body_in, read_expr, read_expr_in};
+pub use reader::{
+    next_expr, next_expr_in, one_spelling_of_code, read_body, read_body_in, read_expr, read_expr_in,
+};
 pub use reading::MAX_DEPTH;
 pub use references::{Ref, refs};
 pub use scratch::Scratch;
 pub use token::Token;
 pub use types::{BlockKind, BlockType, LocalGroup, Profile, ValType};
 pub use writing::{encode_body, encode_expr, put_body, put_expr};
+
+#[cfg(test)]
+mod tests_moving;
