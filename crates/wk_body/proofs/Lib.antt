@@ -19,3 +19,6 @@ pub mod Lengths
 pub mod GroupLoop
 pub mod Tokens
 pub mod Loop
+pub mod TreeRefs
+pub mod MovedTrees
+pub mod RefSets

@@ -1,10 +1,10 @@
 -- What a body refers to outside of itself, and how references move.
-use Rattle.std.specs.Prelude.{◌≡◌, ℕ, ◌+◌, List, [], ◌∷◌, ◌++◌, Bool, true, false, ◌&&◌, ◌||◌, nat_le, ◌==◌, if◌then◌else◌, IsTrue}
-use Rattle.std.specs.List.{flat_map}
+use Rattle.std.specs.Prelude.{◌≡◌, ℕ, ◌+◌, ◌<◌, ◌⊎◌, ◌↔◌, List, [], ◌∷◌, ◌++◌, Bool, true, false, ◌&&◌, ◌||◌, nat_le, ◌==◌, if◌then◌else◌, IsTrue}
+use Rattle.std.specs.List.{AllByRecursion}
 use Rattle.wk_body.specs.declared.types.BlockType.{BlockType}
 use Rattle.wk_body.specs.declared.types.BlockType.TheVariants.{Index}
-use Rattle.wk_body.specs.declared.refs.Ref.{Ref}
-use Rattle.wk_body.specs.declared.refs.Ref.TheVariants.{Ty, Func, Global, Table, Memory}
+use Rattle.wk_body.specs.declared.references.Ref.{Ref}
+use Rattle.wk_body.specs.declared.references.Ref.TheVariants.{Ty, Func, Global, Table, Memory}
 use Rattle.wk_body.specs.declared.moves.Moving.{Moving}
 use Rattle.wk_body.specs.declared.moves.Moving.TheVariants as moving
 use Rattle.wk_body.specs.declared.moves.ShiftFault.{ShiftFault}
@@ -42,6 +42,46 @@ tok_refs (Open kind ty skip) = type_refs ty
 tok_refs (OpenIf ty skip) = type_refs ty
 tok_refs (Otherwise skip) = []
 tok_refs Close = []
+
+-- ---- references as a set
+
+-- the reference is one of them
+abbrev pub IsAmong : Ref → List Ref → Type 0
+IsAmong r [] = ⊥
+IsAmong r (x ∷ xs) = (r ≡ x) ⊎ IsAmong r xs
+
+-- types come first, then functions, globals, the table and the memory
+abbrev pub rank : Ref → ℕ
+rank (Ty x) = 0
+rank (Func x) = 1
+rank (Global x) = 2
+rank Table = 3
+rank Memory = 4
+
+abbrev pub index : Ref → ℕ
+index (Ty x) = x
+index (Func x) = x
+index (Global x) = x
+index Table = 0
+index Memory = 0
+
+-- the one reference comes before the other: by their kinds, and then by their indexes
+abbrev pub IsBelow : Ref → Ref → Type 0
+IsBelow a b = (rank a < rank b) ⊎ ((rank a ≡ rank b) × (index a < index b))
+
+-- each reference comes before all behind it
+abbrev pub AreRising : List Ref → Type 0
+AreRising [] = Unit {0}
+AreRising (x ∷ xs) = AllByRecursion (IsBelow x) xs × AreRising xs
+
+-- the same references are among both
+abbrev pub AreSame : List Ref → List Ref → Type 0
+AreSame xs ys = (r : Ref) → IsAmong r xs ↔ IsAmong r ys
+
+-- the new keys are the old ones and more
+pub record Gains (old new more : List Ref) : Type 0 where
+  pub rising : AreRising old → AreRising new
+  pub same : AreSame new (old ++ more)
 
 -- ---- moving: an import of the kind comes in front of the index `from`
 

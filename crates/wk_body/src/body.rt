@@ -5,12 +5,13 @@ ghost use Rattle.wk_body.specs.Bodies.{BodyOf, AreGroups};
 
 use crate::expr::Expr;
 use crate::types::LocalGroup;
+use std::alloc::AllocError;
 use std::marker::Model;
 
 /// The locals and the instructions of a function (2.5.3, 5.5.13): a code without its size.
 ///
 /// Local groups are kept as they are, empty ones too. They declare fewer than 2^32 locals.
-#[derive(Clone, Debug, Drop)]
+#[derive(Debug, Drop)]
 pub struct Body {
     groups: Vec<LocalGroup>,
     instrs: Expr,
@@ -26,6 +27,16 @@ impl Model for Body {
     ghost view = { λ b. record { groups = b.groups.items; instrs = b.instrs } };
 
     ghost invariant = { λ b. AreGroups b.groups.items };
+}
+
+impl Clone for Body {
+    ghost is_clone = { λ b copy. copy ≡ b };
+
+    fn clone(&self) -> Result<Body, AllocError> {
+        let groups = self.groups.clone()?;
+        let instrs = self.instrs.clone()?;
+        Ok(Body::of(groups, instrs))
+    }
 }
 
 impl Body {

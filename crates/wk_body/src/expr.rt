@@ -3,10 +3,11 @@
 ghost use Rattle.std.specs.Prelude.{◌≡◌, ◌≤◌, length};
 ghost use Rattle.std.specs.List.{AllByRecursion};
 ghost use Rattle.wk_body.specs.Tree.{tokens_of};
-ghost use Rattle.wk_body.specs.Kept.{IsKept, IsWithin, all_told, tree_kept};
 ghost use Rattle.wk_body.specs.Shape.{IsShaped};
+ghost use Rattle.wk_body.specs.Kept.{IsKept, IsWithin, all_told, tree_kept};
 
 use crate::token::Token;
+use std::alloc::AllocError;
 use std::marker::Model;
 use wk_bytes::LIMIT;
 
@@ -15,7 +16,7 @@ use wk_bytes::LIMIT;
 /// They are kept as tokens, one after the other, so that nothing recurses over nested blocks. A contract sees their tree
 /// (`Instrs` of `specs/Tree.antt`). Each is one that bytes can spell: all numbers are in their ranges, and at most 20,000 blocks
 /// are open at one place.
-#[derive(Clone, Debug, Drop)]
+#[derive(Debug, Drop)]
 pub struct Expr {
     tokens: Vec<Token>,
     labels: Vec<u32>,
@@ -34,6 +35,16 @@ impl Model for Expr {
     ghost view = { λ e. tree_kept e.labels.items e.tokens.items };
 
     ghost invariant = { λ e. IsKept e.labels.items e.tokens.items };
+}
+
+impl Clone for Expr {
+    ghost is_clone = { λ e copy. copy ≡ e };
+
+    fn clone(&self) -> Result<Expr, AllocError> {
+        let tokens = self.tokens.clone()?;
+        let labels = self.labels.clone()?;
+        Ok(Expr::of(tokens, labels))
+    }
 }
 
 impl Expr {

@@ -10,7 +10,7 @@ mod moves;
 mod numeric;
 mod reader;
 mod reading;
-mod refs;
+mod references;
 mod scratch;
 mod token;
 mod types;
@@ -23,9 +23,11 @@ pub use length::{body_len, expr_len};
 pub use memory::MemoryOp;
 pub use moves::{Moving, ShiftFault, shift, shift_expr};
 pub use numeric::{NumericOp, NumericType};
-pub use reader::{next_expr, next_expr_in, one_spelling_of_code, read_body, read_body_in, read_expr, read_expr_in};
+pub use reader::{
+    next_expr, next_expr_in, one_spelling_of_code, read_body, read_body_in, read_expr, read_expr_in,
+};
 pub use reading::MAX_DEPTH;
-pub use refs::Ref;
+pub use references::{Ref, refs};
 pub use scratch::Scratch;
 pub use token::Token;
 pub use types::{BlockKind, BlockType, LocalGroup, Profile, ValType};
@@ -33,5 +35,7 @@ pub use writing::{append_body, append_expr, encode_body, encode_expr, written_fo
 
 #[cfg(test)]
 mod tests_deep;
+#[cfg(test)]
+mod tests_moving;
 #[cfg(test)]
 mod tests_reading;

@@ -1,0 +1,114 @@
+-- References that are put into a set.
+use Rattle.std.proofs.Common.{◌≡◌, ℕ, ◌<◌, List, [], ◌∷◌, ◌++◌, ◌⊎◌, ◌↔◌, inl, inr, refl, sym, ap, subst, ◌∙◌, append_assoc, lit<}
+use Rattle.std.specs.List.{AllByRecursion, flat_map}
+use Rattle.std.specs.declared.cmp.Ordering.{Ordering}
+use Rattle.std.specs.declared.cmp.Ordering.TheVariants.{Less, Equal, Greater}
+use Rattle.std.specs.Ordering.{MatchOrdering, nat_cmp, match_ordering}
+use Rattle.std.specs.BTreeSet.{insert_key}
+use Rattle.std.specs.Cmp.{ranks}
+use Rattle.std.specs.List.Sorted.{IsStrictlySortedBy}
+use Rattle.std.proofs.lemmas.List.{append-nil, map-append}
+use Rattle.std.proofs.lemmas.List.Concat.{flat_map-append}
+use Rattle.std.proofs.lemmas.Map.Keys.{sorted_head, sorted_tail}
+use Rattle.wk_body.specs.declared.references.Ref.{Ref}
+use Rattle.wk_body.specs.declared.references.Ref.TheVariants.{Ty, Func, Global, Table, Memory}
+use Rattle.wk_body.specs.declared.token.Token.{Token}
+use Rattle.wk_body.specs.contracts.references.RefOrd.TheImpl as ord
+use Rattle.wk_body.specs.Kept.{told, all_told}
+use Rattle.wk_body.specs.References.{tok_refs, IsAmong, IsBelow, AreRising, AreSame, Gains}
+
+abbrev pub cmp : Ref → Ref → Ordering
+cmp a b = (ord.ghosts).cmp a b
+
+-- ---- the order
+
+by_index : (r : Ordering) (make : ℕ → Ref) (n x y : ℕ) → MatchOrdering r (x < y) (x ≡ y) (y < x)
+    → MatchOrdering r ((n < n) ⊎ ((n ≡ n) × (x < y))) (make x ≡ make y) ((n < n) ⊎ ((n ≡ n) × (y < x)))
+by_index Less make n x y h = inr (refl, h)
+by_index Equal make n x y h = ap make h
+by_index Greater make n x y h = inr (refl, h)
+
+-- the order of the words is the order that is derived
+pub cmp_is : (a b : Ref) → MatchOrdering (cmp a b) (IsBelow a b) (a ≡ b) (IsBelow b a)
+cmp_is (Ty x) (Ty y) = by_index (nat_cmp x y) Ty 0 x y (ranks x y)
+cmp_is (Func x) (Func y) = by_index (nat_cmp x y) Func 1 x y (ranks x y)
+cmp_is (Global x) (Global y) = by_index (nat_cmp x y) Global 2 x y (ranks x y)
+cmp_is Table Table = refl
+cmp_is Memory Memory = refl
+cmp_is a b = inl (lit< tt)
+
+below : (r : Ordering) (A B C : Type 0) → MatchOrdering r A B C → r ≡ Less → A
+below Less A B C h e = h
+below Equal A B C h e = absurd (cc)
+below Greater A B C h e = absurd (cc)
+
+all_below : (x : Ref) (ks : List Ref) → AllByRecursion (λ y. cmp x y ≡ Less) ks → AllByRecursion (IsBelow x) ks
+all_below x [] h = tt
+all_below x (k ∷ ks) h = (below (cmp x k) (IsBelow x k) (x ≡ k) (IsBelow k x) (cmp_is x k) h.0, all_below x ks h.1)
+
+pub sorted_rises : (ks : List Ref) → IsStrictlySortedBy cmp ks → AreRising ks
+sorted_rises [] h = tt
+sorted_rises (k ∷ ks) h = (all_below k ks (sorted_head cmp k ks h), sorted_rises ks (sorted_tail cmp k ks h))
+
+-- ---- which references are among others
+
+pub same_self : (xs : List Ref) → AreSame xs xs
+same_self xs r = (λ h. h, λ h. h)
+
+pub same_then : (xs ys zs : List Ref) → AreSame xs ys → AreSame ys zs → AreSame xs zs
+same_then xs ys zs p q r = (λ h. (q r).0 ((p r).0 h), λ h. (p r).1 ((q r).1 h))
+
+among_left : (r : Ref) (xs ys : List Ref) → IsAmong r xs → IsAmong r (xs ++ ys)
+among_left r [] ys h = absurd h
+among_left r (x ∷ xs) ys (inl e) = inl e
+among_left r (x ∷ xs) ys (inr h) = inr (among_left r xs ys h)
+
+among_right : (r : Ref) (xs ys : List Ref) → IsAmong r ys → IsAmong r (xs ++ ys)
+among_right r [] ys h = h
+among_right r (x ∷ xs) ys h = inr (among_right r xs ys h)
+
+among_parts : (r : Ref) (xs ys : List Ref) → IsAmong r (xs ++ ys) → IsAmong r xs ⊎ IsAmong r ys
+among_parts r [] ys h = inr h
+among_parts r (x ∷ xs) ys (inl e) = inl (inl e)
+among_parts r (x ∷ xs) ys (inr h) = elim (among_parts r xs ys h) [ inl a ↦ inl (inr a) | inr b ↦ inr b ]
+
+-- the same references in front of others
+pub same_front : (xs ys more : List Ref) → AreSame xs ys → AreSame (xs ++ more) (ys ++ more)
+same_front xs ys more p r = (
+  λ h. elim (among_parts r xs more h) [ inl a ↦ among_left r ys more ((p r).0 a) | inr b ↦ among_right r ys more b ],
+  λ h. elim (among_parts r ys more h) [ inl a ↦ among_left r xs more ((p r).1 a) | inr b ↦ among_right r xs more b ],
+)
+
+-- ---- a key more
+
+by_place : (k x : Ref) (xs : List Ref) (o : Ordering) → MatchOrdering o (IsBelow k x) (k ≡ x) (IsBelow x k) → AreSame (insert_key cmp xs k) (xs ++ k ∷ [])
+    → AreSame (match_ordering o (k ∷ x ∷ xs) (x ∷ xs) (x ∷ insert_key cmp xs k)) (x ∷ (xs ++ k ∷ []))
+by_place k x xs Less h p r = (
+  λ a. elim a [ inl e ↦ among_right r (x ∷ xs) (k ∷ []) (inl e) | inr b ↦ among_left r (x ∷ xs) (k ∷ []) b ],
+  λ a. elim (among_parts r (x ∷ xs) (k ∷ []) a) [ inl b ↦ inr b | inr b ↦ elim b [ inl e ↦ inl e | inr never ↦ absurd never ] ],
+)
+by_place k x xs Equal h p r =
+    (λ a. among_left r (x ∷ xs) (k ∷ []) a, λ a. elim (among_parts r (x ∷ xs) (k ∷ []) a) [ inl b ↦ b | inr b ↦ elim b [ inl e ↦ inl (e ∙ h) | inr never ↦ absurd never ] ])
+by_place k x xs Greater h p r = (λ a. elim a [ inl e ↦ inl e | inr b ↦ inr ((p r).0 b) ], λ a. elim a [ inl e ↦ inl e | inr b ↦ inr ((p r).1 b) ])
+
+pub same_insert : (k : Ref) (ks : List Ref) → AreSame (insert_key cmp ks k) (ks ++ k ∷ [])
+same_insert k [] = same_self (k ∷ [])
+same_insert k (x ∷ xs) = by_place k x xs (cmp k x) (cmp_is k x) (same_insert k xs)
+
+pub gains_key : (k : Ref) (old new : List Ref) → new ≡ insert_key cmp old k → IsStrictlySortedBy cmp new → Gains old new (k ∷ [])
+gains_key k old new e s = record { rising = λ h. sorted_rises new s; same = subst (λ (ks : List Ref). AreSame ks (old ++ k ∷ [])) (sym e) (same_insert k old) }
+
+pub gains_none : (old new : List Ref) → new ≡ old → Gains old new []
+gains_none old new e = record { rising = λ h. subst AreRising (sym e) h; same = subst (λ (ks : List Ref). AreSame new ks) (e ∙ sym (append-nil old)) (same_self new) }
+
+pub gains_then : (a b c xs ys : List Ref) → Gains a b xs → Gains b c ys → Gains a c (xs ++ ys)
+gains_then a b c xs ys p q = record {
+  rising = λ h. q.rising (p.rising h);
+  same = subst (AreSame c) (append_assoc a xs ys) (same_then c (b ++ ys) ((a ++ xs) ++ ys) q.same (same_front b (a ++ xs) ys p.same));
+}
+
+-- ---- a token more
+
+pub gains_token : (old new : List Ref) (front : List Token) (t : Token) → Gains [] old (flat_map tok_refs (all_told [] front)) → Gains old new (tok_refs (told [] t)) → Gains [] new (flat_map tok_refs (all_told [] (front ++ t ∷ [])))
+gains_token old new front t p q =
+    rw (map-append (told []) front (t ∷ []), flat_map-append tok_refs (all_told [] front) (told [] t ∷ []), append-nil (tok_refs (told [] t))) (gains_then [] old new (flat_map tok_refs (all_told [] front)) (tok_refs (told [] t)) p q)

@@ -1,0 +1,87 @@
+//! What a body refers to outside of itself.
+
+ghost use Rattle.std.specs.Prelude.{[], ◌∷◌, IfOk, OnOk};
+ghost use Rattle.std.specs.List.{flat_map};
+ghost use Rattle.wk_body.specs.Kept.{told, all_told};
+ghost use Rattle.wk_body.specs.References.{refs_of, type_refs, tok_refs, AreRising, AreSame, Gains};
+
+use crate::body::Body;
+use crate::token::Token;
+use crate::types::BlockType;
+use std::alloc::Global;
+use std::collections::BTreeSet;
+use wk_bytes::OutOfMemory;
+
+/// A reference: to a type, a function or a global by its index, to the table or to the memory.
+#[derive(Clone, Copy, Debug, PartialEq, Eq, PartialOrd, Ord)]
+pub enum Ref {
+    Ty(u32),
+    Func(u32),
+    Global(u32),
+    Table,
+    Memory,
+}
+
+// Adds a reference.
+fn add(found: &mut BTreeSet<Ref>, r: Ref) -> Result<(), OutOfMemory>
+    ensures { OnOk result (Gains found.old.keys found.new.keys (r ∷ [])) }
+{
+    found.insert(r)?;
+    Ok(())
+}
+
+// Adds the type of a block.
+#[tactic(auto, using(crate::proofs::RefSets::gains_none))]
+fn add_type(found: &mut BTreeSet<Ref>, ty: BlockType) -> Result<(), OutOfMemory>
+    ensures { OnOk result (Gains found.old.keys found.new.keys (type_refs ty)) }
+{
+    match ty {
+        BlockType::Index(x) => add(found, Ref::Ty(x)),
+        _ => Ok(()),
+    }
+}
+
+// Adds a type and the table.
+fn add_indirect(found: &mut BTreeSet<Ref>, x: u32) -> Result<(), OutOfMemory>
+    ensures { OnOk result (Gains found.old.keys found.new.keys (Ref.Ty x ∷ Ref.Table ∷ [])) }
+{
+    add(found, Ref::Ty(x))?;
+    add(found, Ref::Table)
+}
+
+// Adds the references of a token.
+#[tactic(auto, using(crate::proofs::RefSets::gains_none))]
+fn add_refs(found: &mut BTreeSet<Ref>, token: &Token) -> Result<(), OutOfMemory>
+    ensures { OnOk result (Gains found.old.keys found.new.keys (tok_refs (told [] token.now))) }
+{
+    match *token {
+        Token::Block { ty, .. } | Token::Loop { ty, .. } | Token::If { ty, .. } => {
+            add_type(found, ty)
+        }
+        Token::Call(x) => add(found, Ref::Func(x)),
+        Token::CallIndirect(x) => add_indirect(found, x),
+        Token::GlobalGet(x) | Token::GlobalSet(x) => add(found, Ref::Global(x)),
+        Token::Memory { .. } | Token::MemorySize | Token::MemoryGrow => add(found, Ref::Memory),
+        _ => Ok(()),
+    }
+}
+
+// The references of tokens.
+fn refs_among(alloc: Global, tokens: &[Token]) -> Result<BTreeSet<Ref>, OutOfMemory>
+    ensures { IfOk result (λ s. Gains [] s.keys (flat_map tok_refs (all_told [] tokens.now))) }
+{
+    let mut found = BTreeSet::new(alloc);
+    for token in tokens {
+        add_refs(&mut found, token)?;
+    }
+    Ok(found)
+}
+
+/// The references of a body, each once, in the order of [`Ref`]. The body's own type is not among them.
+pub fn refs(alloc: Global, body: &Body) -> Result<BTreeSet<Ref>, OutOfMemory>
+    ensures rising { IfOk result (λ s. AreRising s.keys) }
+    ensures exact { IfOk result (λ s. AreSame s.keys (refs_of body.now.instrs)) }
+{
+    let (tokens, _) = body.instrs().tokens();
+    refs_among(alloc, tokens)
+}
