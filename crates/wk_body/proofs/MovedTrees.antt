@@ -17,7 +17,7 @@ use Rattle.wk_body.specs.Instructions.{Plain, Call, GlobalGet, GlobalSet, immedi
 use Rattle.wk_body.specs.Tree.{Instrs, Finish, One, Block, If, Tok, Simple, Open, OpenIf, Otherwise, Close, else_part, flatten, tokens_of, tree_of}
 use Rattle.wk_body.specs.TreeLaws.{tree_of-flatten}
 use Rattle.wk_body.specs.References.{plain_refs, type_refs, refs_of, tok_refs, map_plain, map_tok, moved, moved_plain, shift_instrs, is_stuck_at, is_stuck, any_stuck, IsRefused, greatest}
-use Rattle.wk_body.specs.Moved.{IsMoved, AreMoved}
+use Rattle.wk_body.specs.Moved.{IsMoved, AreMoved, MayRefuse}
 use Rattle.wk_body.specs.Kept.{told, all_told, IsWithin, IsKept, tree_kept}
 use Rattle.wk_body.specs.Shape.{deep, AreInRange, IsInRange, IsShaped, IsOf, limit}
 use Rattle.wk_body.proofs.TreeRefs.{kept_refs}
@@ -109,15 +109,17 @@ shift_shaped kind from t free h = record { in_range = shift_in_range kind from t
 
 -- ---- kept tokens
 
-pub kept_moved : (kind : Moving) (from : ℕ) (pool : List ℕ) (ts ms : List Token) (t : Instrs) → all_told pool ts ≡ tokens_of t → AllByRecursion (IsWithin (length pool)) ts → IsShaped t → AreMoved kind from ts ms
+pub kept_moved : (kind : Moving) (from : ℕ) (pool : List ℕ) (ts ms : List Token) (t : Instrs) → all_told pool ts ≡ tokens_of t → AllByRecursion (IsWithin (length pool)) ts → length ts ≤ 2147483647 → IsShaped t → AreMoved kind from ts ms
     → IsKept pool ms × (tree_kept pool ms ≡ shift_instrs kind from t) × (any_stuck kind from (refs_of t) ≡ false)
-kept_moved kind from pool ts ms t written within shaped m =
+kept_moved kind from pool ts ms t written within few shaped m =
     let w : all_told pool ms ≡ tokens_of (shift_instrs kind from t) = m.told_moved pool ∙ ap (map (map_tok (moved_plain kind from))) written ∙ sym (tokens_map (moved_plain kind from) t) in
     let e : tree_kept pool ms ≡ shift_instrs kind from t = ap tree_of w ∙ tree_of-flatten (shift_instrs kind from t) in
-    let free : any_stuck kind from (refs_of t) ≡ false = ap (any_stuck kind from) (sym (kept_refs pool ts t written)) ∙ m.fits in (
+    let free : any_stuck kind from (refs_of t) ≡ false = ap (any_stuck kind from) (sym (kept_refs pool ts t written)) ∙ m.fits in
+    let long : length ms ≡ length ts = sym (length-map ms (told pool)) ∙ ap (length {A = Tok}) (m.told_moved pool) ∙ length-map (all_told pool ts) (map_tok (moved_plain kind from)) ∙ length-map ts (told pool) in (
       record {
         written = w ∙ ap tokens_of (sym e);
         within = m.within (length pool) within;
+        few = omega (arith, few, long);
         shaped = subst IsShaped (sym e) (shift_shaped kind from t free shaped);
       },
       e,
@@ -134,23 +136,33 @@ all_push : {X : Type 0} (P : X → Type 0) (xs : List X) (x : X) → AllByRecurs
 all_push P [] x h p = (p, tt)
 all_push P (y ∷ ys) x h p = (h.0, all_push P ys x h.1 p)
 
+-- no reference is stuck in one token more
+pub free_more : (kind : Moving) (from : ℕ) (xs : List Token) (x : Token) → any_stuck kind from (flat_map tok_refs (all_told [] xs)) ≡ false → any_stuck kind from (tok_refs (told [] x)) ≡ false → any_stuck kind from (flat_map tok_refs (all_told [] (xs ++ x ∷ []))) ≡ false
+free_more kind from xs x p q =
+    rw (map-append (told []) xs (x ∷ []), flat_map-append tok_refs (all_told [] xs) (told [] x ∷ []), append-nil (tok_refs (told [] x)), any_stuck_append kind from (flat_map tok_refs (all_told [] xs)) (tok_refs (told [] x)), p) q
+
 pub moved_none : (kind : Moving) (from : ℕ) → AreMoved kind from [] []
 moved_none kind from = record { fits = refl; told_moved = λ pool. refl; within = λ len h. h }
 
 pub moved_more : (kind : Moving) (from : ℕ) (xs ms : List Token) (x m : Token) → AreMoved kind from xs ms → IsMoved kind from x m → AreMoved kind from (xs ++ x ∷ []) (ms ++ m ∷ [])
 moved_more kind from xs ms x m p q = record {
-  fits = rw (map-append (told []) xs (x ∷ []), flat_map-append tok_refs (all_told [] xs) (told [] x ∷ []), append-nil (tok_refs (told [] x)), any_stuck_append kind from (flat_map tok_refs (all_told [] xs)) (tok_refs (told [] x)), p.fits) q.fits;
+  fits = free_more kind from xs x p.fits q.fits;
   told_moved = λ pool. rw (map-append (told pool) ms (m ∷ []), map-append (told pool) xs (x ∷ []), p.told_moved pool, q.told_moved pool) (sym (map-append (map_tok (moved_plain kind from)) (all_told pool xs) (told pool x ∷ [])));
   within = λ len h. let r = all_parts (IsWithin len) xs x h in all_push (IsWithin len) ms m (p.within len r.0) (q.within len r.1);
 }
 
 -- a reference of a token that can't move is one of all
-stuck_at : (kind : Moving) (from : ℕ) (ts : List Token) (i : ℕ) (d : Token) → i < length ts → any_stuck kind from (tok_refs (told [] (get_or ts i d))) ≡ true → any_stuck kind from (flat_map tok_refs (all_told [] ts)) ≡ true
+pub stuck_at : (kind : Moving) (from : ℕ) (ts : List Token) (i : ℕ) (d : Token) → i < length ts → any_stuck kind from (tok_refs (told [] (get_or ts i d))) ≡ true → any_stuck kind from (flat_map tok_refs (all_told [] ts)) ≡ true
 stuck_at kind from [] i d lt h = absurd (omega arith)
 stuck_at kind from (t ∷ ts) zero d lt h = any_stuck_append kind from (tok_refs (told [] t)) (flat_map tok_refs (all_told [] ts)) ∙ or_left (any_stuck kind from (tok_refs (told [] t))) (any_stuck kind from (flat_map tok_refs (all_told [] ts))) h
 stuck_at kind from (t ∷ ts) (suc i) d lt h =
     any_stuck_append kind from (tok_refs (told [] t)) (flat_map tok_refs (all_told [] ts)) ∙ or_right (any_stuck kind from (tok_refs (told [] t))) (any_stuck kind from (flat_map tok_refs (all_told [] ts))) (stuck_at kind from ts i d (omega arith) h)
 
-pub refused_whole : (e : ShiftFault) (kind : Moving) (from : ℕ) (ts : List Token) (i : ℕ) (d : Token) → i < length ts → IsRefused e (any_stuck kind from (tok_refs (told [] (get_or ts i d)))) → IsRefused e (any_stuck kind from (flat_map tok_refs (all_told [] ts)))
+pub refused_whole : (e : ShiftFault) (kind : Moving) (from : ℕ) (ts : List Token) (i : ℕ) (d : Token) → i < length ts → MayRefuse e (any_stuck kind from (tok_refs (told [] (get_or ts i d)))) → MayRefuse e (any_stuck kind from (flat_map tok_refs (all_told [] ts)))
 refused_whole faults.Overflow kind from ts i d lt h = stuck_at kind from ts i d lt h
 refused_whole faults.Memory kind from ts i d lt h = tt
+
+-- a refusal on the way, where moving is defined
+pub refused_free : (e : ShiftFault) (stuck whole : Bool) → stuck ≡ false → stuck ≡ whole → MayRefuse e stuck → IsRefused e whole
+refused_free faults.Overflow stuck whole free same h = absurd cc
+refused_free faults.Memory stuck whole free same h = sym same ∙ free

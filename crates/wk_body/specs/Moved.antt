@@ -1,7 +1,9 @@
 -- Kept tokens whose references have moved.
-use Rattle.std.specs.Prelude.{◌≡◌, ℕ, List, [], map, false}
+use Rattle.std.specs.Prelude.{◌≡◌, ℕ, Bool, List, [], map, false, IsTrue}
 use Rattle.std.specs.List.{flat_map, AllByRecursion}
 use Rattle.wk_body.specs.declared.moves.Moving.{Moving}
+use Rattle.wk_body.specs.declared.moves.ShiftFault.{ShiftFault}
+use Rattle.wk_body.specs.declared.moves.ShiftFault.TheVariants as faults
 use Rattle.wk_body.specs.declared.token.Token.{Token}
 use Rattle.wk_body.specs.Kept.{told, all_told, IsWithin}
 use Rattle.wk_body.specs.References.{tok_refs, map_tok, moved_plain, any_stuck}
@@ -15,3 +17,8 @@ pub record AreMoved (kind : Moving) (from : ℕ) (tokens moved : List Token) : T
   pub fits : any_stuck kind from (flat_map tok_refs (all_told [] tokens)) ≡ false
   pub told_moved : (pool : List ℕ) → all_told pool moved ≡ map (map_tok (moved_plain kind from)) (all_told pool tokens)
   pub within : (len : ℕ) → AllByRecursion (IsWithin len) tokens → AllByRecursion (IsWithin len) moved
+
+-- a refusal on the way: moving is undefined, or memory was wanted, of which nothing follows
+abbrev pub MayRefuse : ShiftFault → Bool → Type 0
+MayRefuse faults.Overflow stuck = IsTrue stuck
+MayRefuse faults.Memory stuck = Unit {0}

@@ -130,7 +130,7 @@ abbrev pub any_stuck : Moving → ℕ → List Ref → Bool
 any_stuck kind from [] = false
 any_stuck kind from (r ∷ rs) = is_stuck kind from r || any_stuck kind from rs
 
--- a refusal: moving is undefined, or memory was wanted
+-- a refusal: moving is undefined; or it is not, and memory was wanted
 abbrev pub IsRefused : ShiftFault → Bool → Type 0
 IsRefused faults.Overflow stuck = IsTrue stuck
-IsRefused faults.Memory stuck = Unit {0}
+IsRefused faults.Memory stuck = stuck ≡ false

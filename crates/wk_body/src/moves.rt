@@ -6,7 +6,7 @@ ghost use Rattle.wk_body.specs.declared.moves.ShiftFault.TheVariants.{Overflow, 
 ghost use Rattle.wk_body.specs.Kept.{told, all_told};
 ghost use Rattle.wk_body.specs.Shape.{IsOf};
 ghost use Rattle.wk_body.specs.References.{refs_of, tok_refs, moved, shift_instrs, shift_body, is_stuck_at, any_stuck, IsRefused};
-ghost use Rattle.wk_body.specs.Moved.{IsMoved, AreMoved};
+ghost use Rattle.wk_body.specs.Moved.{IsMoved, AreMoved, MayRefuse};
 
 use crate::body::Body;
 use crate::expr::Expr;
@@ -71,7 +71,7 @@ fn moved(from: u32, x: u32) -> Result<u32, ShiftFault>
 fn moved_token(kind: Moving, from: u32, token: &Token) -> Result<Token, ShiftFault>
     ensures { MatchResult result
         (λ t. IsMoved kind from token.now t)
-        (λ e. IsRefused e (any_stuck kind from (tok_refs (told [] token.now)))) }
+        (λ e. MayRefuse e (any_stuck kind from (tok_refs (told [] token.now)))) }
 {
     match (kind, *token) {
         (Moving::Func, Token::Call(x)) => Ok(Token::Call(moved(from, x)?)),
@@ -90,13 +90,37 @@ fn moved_tokens(
 ) -> Result<Vec<Token>, ShiftFault>
     ensures { MatchResult result
         (λ v. AreMoved kind from tokens.now v.items)
-        (λ e. IsRefused e (any_stuck kind from (flat_map tok_refs (all_told [] tokens.now)))) }
+        (λ e. MayRefuse e (any_stuck kind from (flat_map tok_refs (all_told [] tokens.now)))) }
 {
     let mut moved = Vec::with_capacity(alloc, tokens.len())?;
     for token in tokens {
         moved.push(moved_token(kind, from, token)?)?;
     }
     Ok(moved)
+}
+
+// Whether the token's reference would move and can't.
+fn is_stuck(kind: Moving, from: u32, token: &Token) -> bool
+    ensures { result ≡ any_stuck kind from (tok_refs (told [] token.now)) }
+{
+    match (kind, *token) {
+        (Moving::Func, Token::Call(x))
+        | (Moving::Global, Token::GlobalGet(x))
+        | (Moving::Global, Token::GlobalSet(x)) => x >= from && x == u32::MAX,
+        _ => false,
+    }
+}
+
+// Whether some reference would move and can't.
+fn are_stuck(kind: Moving, from: u32, tokens: &[Token]) -> bool
+    ensures { result ≡ any_stuck kind from (flat_map tok_refs (all_told [] tokens.now)) }
+{
+    for token in tokens {
+        if is_stuck(kind, from, token) {
+            return true;
+        }
+    }
+    false
 }
 
 // An expression with its references moved.
@@ -106,6 +130,9 @@ fn moved_expr(alloc: Global, expr: &Expr, kind: Moving, from: u32) -> Result<Exp
         (λ e. IsRefused e (any_stuck kind from (refs_of expr.now))) }
 {
     let (tokens, labels) = expr.tokens();
+    if are_stuck(kind, from, tokens) {
+        return Err(ShiftFault::Overflow);
+    }
     let tokens = moved_tokens(alloc, kind, from, tokens)?;
     let labels = Vec::from_slice(alloc, labels)?;
     Ok(Expr::of(tokens, labels))
@@ -114,8 +141,8 @@ fn moved_expr(alloc: Global, expr: &Expr, kind: Moving, from: u32) -> Result<Exp
 /// The body as it is behind an import of the kind that comes in front of the index `from`: each reference of the kind to `from`
 /// or above is one more.
 ///
-/// `Overflow` is answered only where such a reference is 4,294,967,295, which has no next, and then always, unless a growth was
-/// refused before: that is `Memory`. A body of a profile stays one of it.
+/// `Overflow` is answered exactly where such a reference is 4,294,967,295, which has no next; else `Memory` where a growth was
+/// refused. A body of a profile stays one of it.
 pub fn shift(alloc: Global, body: &Body, kind: Moving, from: u32) -> Result<Body, ShiftFault>
     ensures exact { MatchResult result
         (λ b. (any_stuck kind from (refs_of body.now.instrs) ≡ false) × (b ≡ shift_body kind from body.now))
