@@ -21,7 +21,7 @@ pub use expr::Expr;
 pub use fault::EncodeFault;
 pub use length::{body_len, expr_len};
 pub use memory::MemoryOp;
-pub use moves::{Moving, ShiftFault};
+pub use moves::{Moving, ShiftFault, shift, shift_expr};
 pub use numeric::{NumericOp, NumericType};
 pub use reader::{
     next_expr, next_expr_in, one_spelling_of_code, read_body, read_body_in, read_expr, read_expr_in,
