@@ -1,6 +1,6 @@
 -- Tokens whose references move spell the tree whose references move, and it stays one that bytes can spell.
-use Rattle.std.proofs.Common.{◌≡◌, ℕ, zero, suc, ◌+◌, ◌<◌, ◌≤◌, ◌^◌, Bool, true, false, List, [], ◌∷◌, ◌++◌, length, map, take, get_or, refl, sym, ap, subst, ◌∙◌, arith, Result, Ok, Err, MatchResult, IfOk}
-use Rattle.std.specs.Prelude.{◌||◌, ◌&&◌, IsTrue, nat_le, ◌==◌}
+use Rattle.std.proofs.Common.{◌≡◌, ℕ, zero, suc, ◌<◌, ◌≤◌, ◌^◌, true, false, List, [], ◌∷◌, ◌++◌, length, map, get_or, refl, sym, ap, subst, ◌∙◌, arith, Result, Ok, Err, MatchResult, IfOk}
+use Rattle.std.specs.Prelude.{◌||◌}
 use Rattle.std.specs.List.{flat_map, AllByRecursion}
 use Rattle.std.proofs.lemmas.Bool.{or_parts, or_left, or_right}
 use Rattle.std.proofs.lemmas.Bool.Decides.{nat_tests}
@@ -16,7 +16,7 @@ use Rattle.wk_body.specs.declared.moves.ShiftFault.TheVariants as faults
 use Rattle.wk_body.specs.Instructions.{Plain, Call, GlobalGet, GlobalSet, immediates, Allows}
 use Rattle.wk_body.specs.Tree.{Instrs, Finish, One, Block, If, Tok, Simple, Open, OpenIf, Otherwise, Close, else_part, flatten, tokens_of, tree_of}
 use Rattle.wk_body.specs.TreeLaws.{tree_of-flatten}
-use Rattle.wk_body.specs.References.{plain_refs, type_refs, refs_of, tok_refs, map_plain, map_tok, moved, moved_plain, shift_instrs, is_stuck_at, is_stuck, any_stuck, IsRefused, greatest}
+use Rattle.wk_body.specs.References.{plain_refs, type_refs, refs_of, tok_refs, map_plain, map_tok, moved, moved_plain, shift_instrs, is_stuck_at, is_stuck, any_stuck, IsRefused}
 use Rattle.wk_body.specs.Moved.{IsMoved, AreMoved, MayRefuse}
 use Rattle.wk_body.specs.Kept.{told, all_told, IsWithin, IsKept, tree_kept}
 use Rattle.wk_body.specs.Shape.{deep, AreInRange, IsInRange, IsShaped, IsOf, limit}

@@ -1,5 +1,5 @@
 -- The references of kept tokens are those of their tree.
-use Rattle.std.proofs.Common.{◌≡◌, ℕ, suc, List, [], ◌∷◌, ◌++◌, length, refl, ap, ◌∙◌, append_assoc}
+use Rattle.std.proofs.Common.{◌≡◌, ℕ, List, [], ◌∷◌, ◌++◌, refl, ap, ◌∙◌, append_assoc}
 use Rattle.std.specs.List.{flat_map}
 use Rattle.std.proofs.lemmas.List.{append-nil}
 use Rattle.std.proofs.lemmas.List.Concat.{flat_map-append}
@@ -8,7 +8,7 @@ use Rattle.wk_body.specs.declared.token.Token.{Token}
 use Rattle.wk_body.specs.declared.token.Token.TheVariants as kept
 use Rattle.wk_body.specs.Tree.{Instrs, Finish, One, Block, If, Tok, Close, else_part, flatten, tokens_of}
 use Rattle.wk_body.specs.References.{plain_refs, type_refs, refs_of, tok_refs}
-use Rattle.wk_body.specs.Kept.{told, all_told, IsKept, tree_kept}
+use Rattle.wk_body.specs.Kept.{told, all_told}
 
 else_refs : (ts : List Tok) → flat_map tok_refs (else_part ts) ≡ flat_map tok_refs ts
 else_refs [] = refl

@@ -1,5 +1,5 @@
 -- What a body refers to outside of itself, and how references move.
-use Rattle.std.specs.Prelude.{◌≡◌, ℕ, ◌+◌, ◌<◌, ◌⊎◌, ◌↔◌, List, [], ◌∷◌, ◌++◌, Bool, true, false, ◌&&◌, ◌||◌, nat_le, ◌==◌, if◌then◌else◌, IsTrue}
+use Rattle.std.specs.Prelude.{◌≡◌, ℕ, ◌+◌, ◌<◌, ◌⊎◌, ◌↔◌, List, [], ◌∷◌, ◌++◌, Bool, false, ◌&&◌, ◌||◌, nat_le, ◌==◌, if◌then◌else◌, IsTrue}
 use Rattle.std.specs.List.{AllByRecursion}
 use Rattle.wk_body.specs.declared.types.BlockType.{BlockType}
 use Rattle.wk_body.specs.declared.types.BlockType.TheVariants.{Index}
