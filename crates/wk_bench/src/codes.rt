@@ -66,8 +66,8 @@ fn read_code(
     let size = cursor.u32()?;
     let at = cursor.at();
     let code = Cursor::within(cursor.take(size)?, at);
-    let body = scratch.code(alloc, &code, Profile::Extended)?;
-    Ok(body.instrs().tokens().0.len() as u64)
+    let body = scratch.read_body(alloc, &code, Profile::Extended)?;
+    Ok(body.tokens().0.len() as u64)
 }
 
 // Reads the bodies of a code section, and counts on.

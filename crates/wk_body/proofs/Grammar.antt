@@ -13,7 +13,7 @@ use Rattle.wk_body.specs.declared.types.LocalGroup.{LocalGroup}
 use Rattle.wk_body.specs.Instructions.{Plain}
 use Rattle.wk_body.specs.Tree.{Instrs, Finish, One, Block, If, Tok, Simple, Open, OpenIf, Otherwise, Close, Part, before, onto, append}
 use Rattle.wk_body.specs.TreeLaws.{append-Finish}
-use Rattle.wk_body.specs.Shape.{deep, limit}
+use Rattle.wk_body.specs.Shape.{deep, depth_limit}
 use Rattle.wk_body.specs.Bodies.{BodyOf, AreGroups}
 use Rattle.wk_body.specs.Spelling.{kind_byte, Spells, SpellsExpr, SpellsGroup, SpellsBody}
 use Rattle.wk_body.specs.Vectors.{SpellsItems}
@@ -107,7 +107,7 @@ split_some a b d f e rest h = ap (λ (w : List ℕ). (a ++ (b ++ (w ++ 0x0B ∷ 
 
 -- the reader passes the bytes of a tree
 module _ (profile : Profile) (end : ℕ) where
-  reads_on : (t : Instrs) (ks : List Bool) (bytes rest : List ℕ) (n : ℕ) → Spells profile t bytes → length ks + deep t ≤ limit → length (bytes ++ rest) < n → Reaches profile end ks rest (onto t) (parts_at profile n ks end (bytes ++ rest))
+  reads_on : (t : Instrs) (ks : List Bool) (bytes rest : List ℕ) (n : ℕ) → Spells profile t bytes → length ks + deep t ≤ depth_limit → length (bytes ++ rest) < n → Reaches profile end ks rest (onto t) (parts_at profile n ks end (bytes ++ rest))
   reads_on Finish ks bytes rest n s few lt =
       record { steps = n; enough = omega (arith, length-append bytes rest); is = ap (λ (b : List ℕ). parts_at profile n ks end (b ++ rest)) s ∙ sym (changed-Finish (parts_at profile n ks end rest)) }
   reads_on (One p more) ks bytes rest n s few lt =

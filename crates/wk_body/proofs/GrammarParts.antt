@@ -9,7 +9,7 @@ use Rattle.wk_body.specs.declared.types.BlockType.{BlockType}
 use Rattle.wk_body.specs.declared.types.BlockKind.{BlockKind}
 use Rattle.wk_body.specs.Instructions.{Plain}
 use Rattle.wk_body.specs.Tree.{Instrs, Finish, Tok, Simple, Open, OpenIf, Otherwise, Close, Part, before, first_part}
-use Rattle.wk_body.specs.Shape.{deep, limit}
+use Rattle.wk_body.specs.Shape.{deep, depth_limit}
 use Rattle.wk_body.specs.Spelling.{SpellsType, SpellsPlain, kind_byte, Spells, SpellsExpr}
 use Rattle.wk_body.specs.Reading.{may_else, else_seen, token_at, after, With, in_front, then_on, parts_at, expr_at}
 use Rattle.wk_body.proofs.Pieces.{Took}
@@ -23,9 +23,9 @@ SpellsOther profile k other d = ((other ≡ Finish) × (d ≡ [])) ⊎ ((k ≡ t
 -- the bytes spell the parts of the open blocks, each up to its end
 abbrev pub SpellsParts : Profile → List Bool → List Part → List ℕ → Type 0
 SpellsParts profile ks [] bytes = ⊥
-SpellsParts profile [] (x ∷ xs) bytes = (a : List ℕ) × Spells profile x.rest a × (x.other ≡ Finish) × (bytes ≡ a ++ 0x0B ∷ []) × (deep x.rest ≤ limit)
+SpellsParts profile [] (x ∷ xs) bytes = (a : List ℕ) × Spells profile x.rest a × (x.other ≡ Finish) × (bytes ≡ a ++ 0x0B ∷ []) × (deep x.rest ≤ depth_limit)
 SpellsParts profile (k ∷ ks) (x ∷ xs) bytes = (a : List ℕ) × (d : List ℕ) × (c : List ℕ) × Spells profile x.rest a × SpellsOther profile k x.other d × SpellsParts profile ks xs c × (bytes ≡ a ++ (d ++ 0x0B ∷ c))
-    × (suc (length ks) + max (deep x.rest) (deep x.other) ≤ limit)
+    × (suc (length ks) + max (deep x.rest) (deep x.other) ≤ depth_limit)
 
 -- one more plain instruction in front
 in_front_plain : (profile : Profile) (p : Plain) (ks : List Bool) (xs : List Part) (front bytes : List ℕ) → SpellsPlain profile p front → SpellsParts profile ks xs bytes → SpellsParts profile ks (before (Simple p) xs) (front ++ bytes)
@@ -99,8 +99,8 @@ grow profile t ks front bytes rest read x e parts step =
     subst (Parted profile ks bytes) (ok_is (before t a.0.0, a.0.1) x a.2)
     (record { front = front ++ s.0; spelled = s.1; parts = parts ∙ ap (λ (r : List ℕ). front ++ r) s.2 ∙ sym (append_assoc front s.0 a.0.1); rest_fits = s.3 })
 
-step_takes : (profile : Profile) (n : ℕ) (ks : List Bool) (t : Tok) (front bytes : List ℕ) (end : ℕ) (rest : List ℕ) (x : With) → bytes ≡ front ++ rest → length ks ≤ limit → SpellsTok profile t front → MayCome ks t → IsBytes rest
-    → ((next : List Bool) (y : With) → length next ≤ limit → parts_at profile n next end rest ≡ Ok y → Parted profile next rest y)
+step_takes : (profile : Profile) (n : ℕ) (ks : List Bool) (t : Tok) (front bytes : List ℕ) (end : ℕ) (rest : List ℕ) (x : With) → bytes ≡ front ++ rest → length ks ≤ depth_limit → SpellsTok profile t front → MayCome ks t → IsBytes rest
+    → ((next : List Bool) (y : With) → length next ≤ depth_limit → parts_at profile n next end rest ≡ Ok y → Parted profile next rest y)
     → then_on t rest (after t ks) (λ next. parts_at profile n next end rest) ≡ Ok x → Parted profile ks bytes x
 step_takes profile n ks (Simple p) front bytes end rest x parts few s may fits more e =
     grow profile (Simple p) ks front bytes rest (parts_at profile n ks end rest) x e parts (λ y h. let q = more ks y few h in (q.front, in_front_plain profile p ks y.0 front q.front s q.spelled, q.parts, q.rest_fits))
@@ -121,7 +121,7 @@ step_takes profile n (k ∷ ks) Close front bytes end rest x parts few s may fit
     grow profile Close (k ∷ ks) front bytes rest (parts_at profile n ks end rest) x e parts (λ y h. let q = more ks y (omega (arith, few)) h in
     (q.front, subst (λ (b : List ℕ). SpellsParts profile (k ∷ ks) (before Close y.0) (b ++ q.front)) (sym s) ([], [], q.front, refl, inl (refl, refl), q.spelled, refl, omega (arith, few)), q.parts, q.rest_fits))
 
-parts_take : (profile : Profile) (n : ℕ) (ks : List Bool) (end : ℕ) (bytes : List ℕ) (x : With) → IsBytes bytes → length ks ≤ limit → parts_at profile n ks end bytes ≡ Ok x → Parted profile ks bytes x
+parts_take : (profile : Profile) (n : ℕ) (ks : List Bool) (end : ℕ) (bytes : List ℕ) (x : With) → IsBytes bytes → length ks ≤ depth_limit → parts_at profile n ks end bytes ≡ Ok x → Parted profile ks bytes x
 unfolding parts_at
 parts_take profile zero ks end bytes x fits few e = absurd cc
 parts_take profile (suc n) ks end bytes x fits few e =

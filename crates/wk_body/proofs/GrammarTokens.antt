@@ -10,7 +10,7 @@ use Rattle.wk_body.specs.declared.types.Profile.{Profile}
 use Rattle.wk_body.specs.declared.types.BlockType.{BlockType}
 use Rattle.wk_body.specs.declared.types.BlockKind.TheVariants as kinds
 use Rattle.wk_body.specs.Tree.{Tok, Simple, Open, OpenIf, Otherwise, Close}
-use Rattle.wk_body.specs.Shape.{limit}
+use Rattle.wk_body.specs.Shape.{depth_limit}
 use Rattle.wk_body.specs.Spelling.{SpellsType, SpellsPlain, kind_byte}
 use Rattle.wk_body.specs.Reading.{type_at, plain_at, may_else, type_here, opening_at, behind_at, token_at}
 use Rattle.wk_body.proofs.Pieces.{Took, type_takes, type_again, plain_takes, plain_headed}
@@ -24,8 +24,8 @@ SpellsTok profile Close bytes = bytes ≡ 0x0B ∷ []
 
 -- the token may stand where these blocks are open
 abbrev pub MayCome : List Bool → Tok → Type 0
-MayCome ks (Open kind ty skip) = length ks < limit
-MayCome ks (OpenIf ty skip) = length ks < limit
+MayCome ks (Open kind ty skip) = length ks < depth_limit
+MayCome ks (OpenIf ty skip) = length ks < depth_limit
 MayCome ks (Otherwise skip) = may_else ks ≡ true
 MayCome ks (Simple p) = Unit {0}
 MayCome ks Close = Unit {0}
@@ -35,11 +35,11 @@ abbrev pub TookTok : Profile → List Bool → List ℕ → Tok × List ℕ → 
 TookTok profile ks bytes x = Took (SpellsTok profile) bytes x × MayCome ks x.0
 
 opening_takes : (profile : Profile) (make : BlockType → Tok) (ks : List Bool) (at opcode k end : ℕ) (rest : List ℕ) (x : Tok × List ℕ) → IsBytes rest → opcode ≡ k → opening_at make profile ks at end rest ≡ Ok x
-    → ((ty : BlockType) (a : List ℕ) → SpellsType profile ty a → SpellsTok profile (make ty) (k ∷ a)) → ((ty : BlockType) → length ks < limit → MayCome ks (make ty)) → TookTok profile ks (opcode ∷ rest) x
+    → ((ty : BlockType) (a : List ℕ) → SpellsType profile ty a → SpellsTok profile (make ty) (k ∷ a)) → ((ty : BlockType) → length ks < depth_limit → MayCome ks (make ty)) → TookTok profile ks (opcode ∷ rest) x
 unfolding type_here
 opening_takes profile make ks at opcode k end rest x fits h e says may =
     let a = bind_ok (type_here profile ks (record { kind = TooDeep; at = at }) end rest) (λ ty. Ok (make ty.0, ty.1)) x e in
-    elim (chosen (ltb (length ks) limit) (type_at profile end rest) (Err (record { kind = TooDeep; at = at })) (Ok a.0) a.1) [
+    elim (chosen (ltb (length ks) depth_limit) (type_at profile end rest) (Err (record { kind = TooDeep; at = at })) (Ok a.0) a.1) [
       | inl p ↦
           let t = type_takes profile end rest a.0 fits p.1 in
           subst (TookTok profile ks (opcode ∷ rest)) (ok_is (make a.0.0, a.0.1) x a.2)
@@ -84,9 +84,9 @@ pub token_takes : (profile : Profile) (ks : List Bool) (end : ℕ) (bytes : List
 token_takes profile ks end [] x fits e = absurd cc
 token_takes profile ks end (opcode ∷ rest) x fits e = behind_takes profile ks _ opcode end rest x (λ i. fits (suc i)) e
 
-opening_again : (profile : Profile) (make : BlockType → Tok) (ks : List Bool) (at end : ℕ) (ty : BlockType) (a rest : List ℕ) → SpellsType profile ty a → length ks < limit → opening_at make profile ks at end (a ++ rest) ≡ Ok (make ty, rest)
+opening_again : (profile : Profile) (make : BlockType → Tok) (ks : List Bool) (at end : ℕ) (ty : BlockType) (a rest : List ℕ) → SpellsType profile ty a → length ks < depth_limit → opening_at make profile ks at end (a ++ rest) ≡ Ok (make ty, rest)
 unfolding type_here
-opening_again profile make ks at end ty a rest s lt = rw (lt-ltb (length ks) limit lt, type_again profile end ty a rest s) refl
+opening_again profile make ks at end ty a rest s lt = rw (lt-ltb (length ks) depth_limit lt, type_again profile end ty a rest s) refl
 
 pub token_again : (profile : Profile) (ks : List Bool) (end : ℕ) (t : Tok) (front rest : List ℕ) → SpellsTok profile t front → MayCome ks t → token_at profile ks end (front ++ rest) ≡ Ok (t, rest)
 unfolding behind_at

@@ -1,5 +1,5 @@
 -- Tokens whose references move spell the tree whose references move, and it stays one that bytes can spell.
-use Rattle.std.proofs.Common.{◌≡◌, ℕ, zero, suc, ◌<◌, ◌≤◌, ◌^◌, true, false, List, [], ◌∷◌, ◌++◌, length, map, get_or, refl, sym, ap, subst, ◌∙◌, arith, Result, Ok, Err, MatchResult, IfOk}
+use Rattle.std.proofs.Common.{◌≡◌, ℕ, zero, suc, ◌<◌, ◌≤◌, ◌^◌, Bool, true, false, List, [], ◌∷◌, ◌++◌, length, map, get_or, refl, sym, ap, subst, ◌∙◌, arith, Result, Ok, Err, MatchResult, IfOk}
 use Rattle.std.specs.Prelude.{◌||◌}
 use Rattle.std.specs.List.{flat_map, AllByRecursion}
 use Rattle.std.proofs.lemmas.Bool.{or_parts, or_left, or_right}
@@ -19,7 +19,7 @@ use Rattle.wk_body.specs.TreeLaws.{tree_of-flatten}
 use Rattle.wk_body.specs.References.{plain_refs, type_refs, refs_of, tok_refs, map_plain, map_tok, moved, moved_plain, shift_instrs, is_stuck_at, is_stuck, any_stuck, IsRefused}
 use Rattle.wk_body.specs.Moved.{IsMoved, AreMoved, MayRefuse}
 use Rattle.wk_body.specs.Kept.{told, all_told, IsWithin, IsKept, tree_kept}
-use Rattle.wk_body.specs.Shape.{deep, AreInRange, IsInRange, IsShaped, IsOf, limit}
+use Rattle.wk_body.specs.Shape.{deep, AreInRange, IsInRange, IsShaped, IsOf, depth_limit}
 use Rattle.wk_body.proofs.TreeRefs.{kept_refs}
 
 -- ---- instructions that are changed one by one
@@ -105,7 +105,7 @@ shift_in_range kind from (If ty first second rest) free h =
     (h.0, shift_in_range kind from first g.0 h.1, shift_in_range kind from second i.0 h.2, shift_in_range kind from rest i.1 h.3)
 
 pub shift_shaped : (kind : Moving) (from : ℕ) (t : Instrs) → any_stuck kind from (refs_of t) ≡ false → IsShaped t → IsShaped (shift_instrs kind from t)
-shift_shaped kind from t free h = record { in_range = shift_in_range kind from t free h.in_range; shallow = subst (λ (n : ℕ). n ≤ limit) (sym (deep_map (moved_plain kind from) t)) h.shallow }
+shift_shaped kind from t free h = record { in_range = shift_in_range kind from t free h.in_range; shallow = subst (λ (n : ℕ). n ≤ depth_limit) (sym (deep_map (moved_plain kind from) t)) h.shallow }
 
 -- ---- kept tokens
 

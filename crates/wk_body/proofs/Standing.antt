@@ -15,7 +15,7 @@ use Rattle.wk_body.specs.declared.types.BlockType.{BlockType}
 use Rattle.wk_body.specs.declared.types.BlockKind.TheVariants as kinds
 use Rattle.wk_body.specs.declared.types.LocalGroup.{LocalGroup}
 use Rattle.wk_body.specs.Tree.{Tok, Simple, Open, OpenIf, Otherwise, Close, before, first_part}
-use Rattle.wk_body.specs.Shape.{limit}
+use Rattle.wk_body.specs.Shape.{depth_limit}
 use Rattle.wk_body.specs.Bodies.{BodyOf}
 use Rattle.wk_body.specs.Reading.{type_at, plain_at, may_else, type_here, opening_at, behind_at, token_at, after, With, then_on, parts_at, expr_at, groups_at, body_at, all_expr_at, all_body_at, taking_all}
 use Rattle.wk_body.proofs.PieceStands.{ReadsFront-type_at, ReadsFront-groups_at, plain_at-takes, plain_stands}
@@ -68,11 +68,11 @@ opening_behind profile make ks opcode end rest =
     let deep = fault TooDeep end (opcode ∷ rest) in
     let types = ReadsFront-type_at profile in
     behind_mapped opcode end rest make (type_here profile ks deep end rest)
-    (λ x e. elim (chosen (ltb (length ks) limit) (type_at profile end rest) (Err deep) (Ok x) e) [
+    (λ x e. elim (chosen (ltb (length ks) depth_limit) (type_at profile end rest) (Err deep) (Ok x) e) [
       | inl p ↦ types.takes end rest x.0 x.1 p.1
       | inr p ↦ absurd cc
     ])
-    (λ e h fits. elim (chosen (ltb (length ks) limit) (type_at profile end rest) (Err deep) (Err e) h) [
+    (λ e h fits. elim (chosen (ltb (length ks) depth_limit) (type_at profile end rest) (Err deep) (Err e) h) [
       | inl p ↦ behind_stands opcode end rest e fits (types.faults end rest e p.1 (omega arith))
       | inr p ↦ subst (Stands (record { rest = opcode ∷ rest; end = end })) (err_is {A = BlockType × List ℕ} deep e p.1) (here_deep opcode end rest)
     ])

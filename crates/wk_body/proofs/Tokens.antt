@@ -14,7 +14,7 @@ use Rattle.wk_body.specs.declared.token.Token.{Token}
 use Rattle.wk_body.specs.declared.scratch.Scratch.{Scratch}
 use Rattle.wk_body.specs.Instructions.{Plain, BrTable, form_of}
 use Rattle.wk_body.specs.Tree.{Tok, Simple, Open, OpenIf}
-use Rattle.wk_body.specs.Shape.{limit}
+use Rattle.wk_body.specs.Shape.{depth_limit}
 use Rattle.wk_body.specs.Kept.{told, IsWithin}
 use Rattle.wk_body.specs.Reads.{FailsAs}
 use Rattle.wk_body.specs.Reading.{labels_at, behind_form, plain_at, tok_at, type_at, type_here, behind_at, token_at}
@@ -31,7 +31,7 @@ no_longer front bytes rest e = omega (arith, ap (length {A = ℕ}) e, length-app
 here_shorter : (profile : Profile) (ks : List Bool) (d : ReadFault) (end : ℕ) (bytes rest : List ℕ) (ty : BlockType) → type_here profile ks d end bytes ≡ Ok (ty, rest) → length rest ≤ length bytes
 unfolding type_here
 here_shorter profile ks d end bytes rest ty e =
-    elim (chosen (ltb (length ks) limit) (type_at profile end bytes) (Err d) (Ok (ty, rest)) e) [
+    elim (chosen (ltb (length ks) depth_limit) (type_at profile end bytes) (Err d) (Ok (ty, rest)) e) [
       | inl p ↦ let t = (ReadsFront-type_at profile).takes end bytes ty rest p.1 in no_longer t.0 bytes rest t.1
       | inr p ↦ absurd cc
     ]

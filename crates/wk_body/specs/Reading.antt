@@ -17,7 +17,7 @@ use Rattle.wk_body.specs.ValTypes.{valtype_of, valtype_at}
 use Rattle.wk_body.specs.Vectors.{vector_at}
 use Rattle.wk_body.specs.Instructions.{Plain, Form, Alone, WithReserved, WithIndex, WithIndexReserved, WithLabels, WithMemarg, WithSigned, WithWord, form_of}
 use Rattle.wk_body.specs.Tree.{Instrs, Tok, Simple, Open, OpenIf, Otherwise, Close, Part, before, first_part}
-use Rattle.wk_body.specs.Shape.{limit}
+use Rattle.wk_body.specs.Shape.{depth_limit}
 use Rattle.wk_body.specs.Bodies.{BodyOf}
 
 -- ---- instructions that hold no others
@@ -97,7 +97,7 @@ else_seen (k ∷ ks) = false ∷ ks
 
 -- a block type, where one more block may open, or else the fault e
 unfoldable pub type_here : Profile → List Bool → ReadFault → ℕ → List ℕ → Result (BlockType × List ℕ) ReadFault
-type_here profile ks e end rest = if nat_lt (length ks) limit then type_at profile end rest else Err e
+type_here profile ks e end rest = if nat_lt (length ks) depth_limit then type_at profile end rest else Err e
 
 -- a token that opens a block, behind its opcode, which stands at `at`
 abbrev pub opening_at : (BlockType → Tok) → Profile → List Bool → ℕ → ℕ → List ℕ → Result (Tok × List ℕ) ReadFault

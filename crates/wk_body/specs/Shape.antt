@@ -11,8 +11,8 @@ use Rattle.wk_body.specs.Instructions.{Plain, Immediates, Nothing, Reserved, Ind
 use Rattle.wk_body.specs.Tree.{Instrs, Finish, One, Block, If}
 
 -- the most blocks that are open at one place; the body itself is none
-abbrev pub limit : ℕ
-limit = 20000
+abbrev pub depth_limit : ℕ
+depth_limit = 20000
 
 -- how many blocks are open at most at one place
 abbrev pub deep : Instrs → ℕ
@@ -48,7 +48,7 @@ IsInRange (If ty first second rest) = IsTypeInRange ty × IsInRange first × IsI
 
 pub record IsShaped (t : Instrs) : Type 0 where
   pub in_range : IsInRange t
-  pub shallow : deep t ≤ limit
+  pub shallow : deep t ≤ depth_limit
 
 -- ---- profiles
 

@@ -14,7 +14,7 @@ use Rattle.wk_body.specs.ValTypes.{valtype_byte, SpellsValType}
 use Rattle.wk_body.specs.Vectors.{SpellsVector}
 use Rattle.wk_body.specs.Instructions.{Plain, plain_opcode, Immediates, Nothing, Reserved, Index, IndexReserved, Labels, Memarg, Signed, Word, immediates, Allows}
 use Rattle.wk_body.specs.Tree.{Instrs, Finish, One, Block, If}
-use Rattle.wk_body.specs.Shape.{deep, limit}
+use Rattle.wk_body.specs.Shape.{deep, depth_limit}
 use Rattle.wk_body.specs.Bodies.{BodyOf, AreGroups}
 
 -- ---- instructions that hold no others (5.4.1 to 5.4.5)
@@ -32,7 +32,7 @@ SpellsImmediates (Word size word) bytes = SpellsWord size bytes word
 abbrev pub SpellsPlain : Profile → Plain → List ℕ → Type 0
 SpellsPlain profile p bytes = (a : List ℕ) × Allows profile p × SpellsImmediates (immediates p) a × (bytes ≡ plain_opcode p ∷ a)
 
--- ---- blocks (5.4.1)
+-- ---- blocks (5.3.2, 5.4.1)
 
 -- A type index is a signed integer of 33 bits that is not negative.
 abbrev pub SpellsType : Profile → BlockType → List ℕ → Type 0
@@ -58,7 +58,7 @@ pub record SpellsExpr (profile : Profile) (t : Instrs) (bytes : List ℕ) : Type
   pub front : List ℕ
   pub spelled : Spells profile t front
   pub whole : bytes ≡ front ++ 0x0B ∷ []
-  pub shallow : deep t ≤ limit
+  pub shallow : deep t ≤ depth_limit
 
 -- ---- bodies (5.5.13): a code without its size
 

@@ -1,12 +1,18 @@
 //! Bodies: local groups and instructions.
 
-ghost use Rattle.std.specs.Prelude.{◌≡◌};
+ghost use Rattle.std.specs.Prelude.{◌≡◌, ◌≤◌, length};
+ghost use Rattle.std.specs.List.{AllByRecursion};
+ghost use Rattle.wk_body.specs.Tree.{tokens_of};
+ghost use Rattle.wk_body.specs.Kept.{IsWithin, all_told};
+ghost use Rattle.wk_body.specs.Shape.{IsShaped};
 ghost use Rattle.wk_body.specs.Bodies.{BodyOf, AreGroups};
 
 use crate::expr::Expr;
+use crate::token::Token;
 use crate::types::LocalGroup;
 use std::alloc::AllocError;
 use std::marker::Model;
+use wk_bytes::LIMIT;
 
 /// The locals and the instructions of a function (2.5.3, 5.5.13): a code without its size.
 ///
@@ -57,9 +63,19 @@ impl Body {
     }
 
     /// The instructions.
-    pub fn instrs(&self) -> &Expr
+    pub fn expr(&self) -> &Expr
         ensures { result.now ≡ self.now.instrs }
     {
         &self.instrs
+    }
+
+    /// The tokens of the instructions in the order in which they are written, and the pool of their labels ([`Expr::tokens`]).
+    pub fn tokens(&self) -> (&[Token], &[u32])
+        ensures tokens { all_told result.1.now result.0.now ≡ tokens_of self.now.instrs }
+        ensures within { AllByRecursion (IsWithin (length result.1.now)) result.0.now }
+        ensures few { length result.0.now ≤ LIMIT }
+        ensures shaped { IsShaped self.now.instrs }
+    {
+        self.instrs.tokens()
     }
 }

@@ -94,7 +94,7 @@ impl Token {
                 index_len(len) + labels_len(&labels[start..end]) + unsigned_len(other)
             }
             Token::CallIndirect(x) => index_len(x) + 1,
-            Token::Memory { align, offset, .. } => index_len(align) + unsigned_len(offset),
+            Token::Access { align, offset, .. } => index_len(align) + unsigned_len(offset),
             Token::MemorySize | Token::MemoryGrow => 2,
             Token::I32Const(z) => 1 + signed_len(i64::from(z)),
             Token::I64Const(z) => 1 + signed_len(z),
@@ -160,5 +160,5 @@ pub fn body_len(body: &Body) -> Option<u32>
 {
     let groups = body.groups();
     let total = plus(Some(0), unsigned_len(groups.len() as u32));
-    plus_expr(plus_groups(total, groups), body.instrs())
+    plus_expr(plus_groups(total, groups), body.expr())
 }

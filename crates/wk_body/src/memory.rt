@@ -72,7 +72,7 @@ impl MemoryOp {
     }
 
     /// The load or store of an opcode.
-    pub fn of(opcode: u8) -> Option<MemoryOp>
+    pub fn from_opcode(opcode: u8) -> Option<MemoryOp>
         ensures { result ≡ memory_of opcode }
     {
         if opcode < FIRST {
@@ -114,10 +114,8 @@ impl MemoryOp {
             | MemoryOp::I64Store8
             | MemoryOp::I64Store16
             | MemoryOp::I64Store32 => I64,
-            MemoryOp::F32Load
-            | MemoryOp::F32Store => F32,
-            MemoryOp::F64Load
-            | MemoryOp::F64Store => F64,
+            MemoryOp::F32Load | MemoryOp::F32Store => F32,
+            MemoryOp::F64Load | MemoryOp::F64Store => F64,
         }
     }
 
@@ -145,10 +143,7 @@ impl MemoryOp {
             | MemoryOp::I32Store
             | MemoryOp::F32Store
             | MemoryOp::I64Store32 => 4,
-            MemoryOp::I64Load
-            | MemoryOp::F64Load
-            | MemoryOp::I64Store
-            | MemoryOp::F64Store => 8,
+            MemoryOp::I64Load | MemoryOp::F64Load | MemoryOp::I64Store | MemoryOp::F64Store => 8,
         }
     }
 

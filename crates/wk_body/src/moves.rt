@@ -149,7 +149,7 @@ pub fn shift(alloc: Global, body: &Body, kind: Moving, from: u32) -> Result<Body
         (λ e. IsRefused e (any_stuck kind from (refs_of body.now.instrs))) }
     ensures profile { IfOk result (λ b. (profile : Profile) → IsOf profile body.now.instrs → IsOf profile b.instrs) }
 {
-    let instrs = moved_expr(alloc, body.instrs(), kind, from)?;
+    let instrs = moved_expr(alloc, body.expr(), kind, from)?;
     let groups = Vec::from_slice(alloc, body.groups())?;
     Ok(Body::of(groups, instrs))
 }

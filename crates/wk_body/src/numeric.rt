@@ -312,7 +312,7 @@ impl NumericOp {
     }
 
     /// The instruction of an opcode, in either profile.
-    pub fn of(opcode: u8) -> Option<NumericOp>
+    pub fn from_opcode(opcode: u8) -> Option<NumericOp>
         ensures { result ≡ numeric_of opcode }
     {
         if opcode < FIRST {

@@ -120,7 +120,7 @@ impl Scratch {
     /// The body is the only one that the bytes spell. A refusal is the first fault from left to right, which says that they spell
     /// none, or `Memory` at 0 where a growth was refused.
     #[tactic(auto, unfolding(crate::specs::Reading::all_body_at))]
-    pub fn code(
+    pub fn read_body(
         &mut self,
         alloc: Global,
         cursor: &Cursor<'_>,
@@ -168,7 +168,7 @@ pub fn read_body_in(alloc: Global, bytes: &[u8], profile: Profile) -> Result<Bod
     ensures fault { IfErr result (λ e. StandsIn bytes.now e) }
 {
     check_len(bytes)?;
-    Scratch::new(alloc).code(alloc, &Cursor::new(bytes), profile)
+    Scratch::new(alloc).read_body(alloc, &Cursor::new(bytes), profile)
 }
 
 /// Reads a body of WebAssembly 1.0, as [`read_body_in`] does.

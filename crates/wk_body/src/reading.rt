@@ -81,7 +81,7 @@ fn type_index(profile: Profile, cursor: &mut Cursor<'_>) -> Result<BlockType, Re
     Ok(BlockType::Index(index as u32))
 }
 
-// A block type (5.4.1).
+// A block type (5.3.2).
 #[tactic(auto, unfolding(crate::specs::Reading::type_at))]
 fn block_type(profile: Profile, cursor: &mut Cursor<'_>) -> Result<BlockType, ReadFault>
     ensures { Parses (λ x. x) (type_at profile) cursor.old result cursor.new }
@@ -109,12 +109,12 @@ fn memory_of(opcode: u8, cursor: &mut Cursor<'_>) -> Result<Token, ReadFault>
     ensures read { (profile : Profile) (e : ReadFault) → Parses (λ x. told [] x) (tok_at (plain_at profile e opcode)) cursor.old result cursor.new }
     ensures within { IfOk result (IsWithin 0) }
 {
-    let Some(op) = MemoryOp::of(opcode) else {
+    let Some(op) = MemoryOp::from_opcode(opcode) else {
         unreachable!()
     };
     let align = cursor.u32()?;
     let offset = cursor.u32()?;
-    Ok(Token::Memory { op, align, offset })
+    Ok(Token::Access { op, align, offset })
 }
 
 // The numeric instruction of an opcode.
@@ -124,7 +124,7 @@ fn numeric_of(profile: Profile, opcode: u8) -> Option<NumericOp>
     if profile == Profile::Core && opcode > LAST_CORE {
         return None;
     }
-    NumericOp::of(opcode)
+    NumericOp::from_opcode(opcode)
 }
 
 // An instruction that holds no others and has no labels, behind its opcode, which stands at `at`.

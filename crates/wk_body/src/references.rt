@@ -61,7 +61,7 @@ fn add_refs(found: &mut BTreeSet<Ref>, token: &Token) -> Result<(), OutOfMemory>
         Token::Call(x) => add(found, Ref::Func(x)),
         Token::CallIndirect(x) => add_indirect(found, x),
         Token::GlobalGet(x) | Token::GlobalSet(x) => add(found, Ref::Global(x)),
-        Token::Memory { .. } | Token::MemorySize | Token::MemoryGrow => add(found, Ref::Memory),
+        Token::Access { .. } | Token::MemorySize | Token::MemoryGrow => add(found, Ref::Memory),
         _ => Ok(()),
     }
 }
@@ -82,6 +82,6 @@ pub fn refs(alloc: Global, body: &Body) -> Result<BTreeSet<Ref>, OutOfMemory>
     ensures rising { IfOk result (λ s. AreRising s.keys) }
     ensures exact { IfOk result (λ s. AreSame s.keys (refs_of body.now.instrs)) }
 {
-    let (tokens, _) = body.instrs().tokens();
+    let (tokens, _) = body.tokens();
     refs_among(alloc, tokens)
 }

@@ -1,8 +1,6 @@
 //! As many blocks as may be open at once.
 
-use crate::{
-    Moving, Profile, body_len, encode_body, read_body_in, shift,
-};
+use crate::{Moving, Profile, body_len, encode_body, read_body_in, shift};
 use std::alloc::{AllocError, Global};
 use std::test::Fail;
 use wk_bytes::ReadKind;
@@ -42,9 +40,7 @@ fn moves_and_copies_20_000_blocks(rt: HostRuntime) -> Result<(), Fail> {
         .ok()
         .ok_or("it is moved")?;
     drop(body);
-    let written = encode_body(rt.alloc(), &moved)
-        .ok()
-        .ok_or("it is written")?;
+    let written = encode_body(rt.alloc(), &moved).ok().ok_or("it is written")?;
     let expected = nested(rt.alloc(), 20_000, &[0x10, 0x01])?;
     assert!(rt; written.as_slice() == expected.as_slice());
     Ok(())

@@ -93,7 +93,7 @@ fn moves_functions(rt: HostRuntime) -> Result<(), Fail> {
     for (from, first, second) in [(6, 5, 1), (5, 6, 1), (2, 6, 1), (1, 6, 2), (0, 6, 2)] {
         let body = moved(rt.alloc(), &MANY, Moving::Func, from)?;
         assert_eq!(rt;
-            body.instrs().tokens().0,
+            body.tokens().0,
             [
                 Token::Block {
                     ty: BlockType::Index(3),
@@ -103,7 +103,7 @@ fn moves_functions(rt: HostRuntime) -> Result<(), Fail> {
                 Token::CallIndirect(4),
                 Token::GlobalSet(7),
                 Token::GlobalGet(2),
-                Token::Memory {
+                Token::Access {
                     op: MemoryOp::I32Load,
                     align: 2,
                     offset: 0
@@ -131,7 +131,7 @@ fn moves_globals(rt: HostRuntime) -> Result<(), Fail> {
             from,
         )?;
         assert_eq!(rt;
-            body.instrs().tokens().0,
+            body.tokens().0,
             [
                 Token::GlobalSet(set),
                 Token::GlobalGet(got),
@@ -163,7 +163,7 @@ fn keeps_groups_and_labels(rt: HostRuntime) -> Result<(), Fail> {
         ]
         .as_slice()
     );
-    let (tokens, labels) = body.instrs().tokens();
+    let (tokens, labels) = body.tokens();
     assert_eq!(rt; labels, [0, 0].as_slice());
     assert_eq!(rt;
         tokens,
@@ -198,17 +198,17 @@ fn refuses_the_greatest_index(rt: HostRuntime) -> Result<(), Fail> {
     // what does not move can't fail to
     let body = moved(rt.alloc(), &greatest, Moving::Global, 0)?;
     assert_eq!(rt;
-        body.instrs().tokens().0,
+        body.tokens().0,
         [Token::Call(4294967295), Token::End].as_slice()
     );
     let body = moved(rt.alloc(), &below, Moving::Func, 4294967294)?;
     assert_eq!(rt;
-        body.instrs().tokens().0,
+        body.tokens().0,
         [Token::Call(4294967295), Token::End].as_slice()
     );
     let body = moved(rt.alloc(), &below, Moving::Func, 4294967295)?;
     assert_eq!(rt;
-        body.instrs().tokens().0,
+        body.tokens().0,
         [Token::Call(4294967294), Token::End].as_slice()
     );
     Ok(())
@@ -246,11 +246,11 @@ fn clones(rt: HostRuntime) -> Result<(), Fail> {
     let body = read_body(rt.alloc(), &[1, 2, 126, 14, 1, 0, 0, 2, 64, 11, 11])?;
     let copy = body.clone()?;
     assert_eq!(rt; copy.groups(), body.groups());
-    let (tokens, labels) = copy.instrs().tokens();
-    assert_eq!(rt; tokens, body.instrs().tokens().0);
-    assert_eq!(rt; labels, body.instrs().tokens().1);
+    let (tokens, labels) = copy.tokens();
+    assert_eq!(rt; tokens, body.tokens().0);
+    assert_eq!(rt; labels, body.tokens().1);
     assert_eq!(rt; tokens.len(), 4);
-    let expr = copy.instrs().clone()?;
+    let expr = copy.expr().clone()?;
     assert_eq!(rt; expr.tokens().0, tokens);
     assert_eq!(rt; expr.tokens().1, [0].as_slice());
     Ok(())

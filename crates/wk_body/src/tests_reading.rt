@@ -56,7 +56,10 @@ fn shortens(rt: HostRuntime) -> Result<(), Fail> {
             [0x00, 0x41, 0x00, 0x04, 0x40, 0x0B, 0x0B].as_slice(),
         ),
         // padded integers
-        (&[0x80, 0x00, 0x10, 0x81, 0x80, 0x00, 0x0B], &[0x00, 0x10, 0x01, 0x0B]),
+        (
+            &[0x80, 0x00, 0x10, 0x81, 0x80, 0x00, 0x0B],
+            &[0x00, 0x10, 0x01, 0x0B],
+        ),
         (
             &[0x00, 0x0E, 0x81, 0x00, 0x82, 0x00, 0x83, 0x00, 0x0B],
             &[0x00, 0x0E, 0x01, 0x02, 0x03, 0x0B],
@@ -135,7 +138,11 @@ fn refuses(rt: HostRuntime) -> Result<(), Fail> {
 #[test]
 fn refuses_in_core(rt: HostRuntime) -> Result<(), Fail> {
     for (bytes, kind, at) in [
-        ([0x00, 0x02, 0x00, 0x0B, 0x0B].as_slice(), ReadKind::BadByte, 2),
+        (
+            [0x00, 0x02, 0x00, 0x0B, 0x0B].as_slice(),
+            ReadKind::BadByte,
+            2,
+        ),
         (&[0x00, 0x02, 0xC0, 0x00, 0x0B, 0x0B], ReadKind::BadByte, 2),
         (&[0x00, 0x02], ReadKind::UnexpectedEnd, 2),
         (
@@ -166,7 +173,11 @@ fn reads_in_extended(rt: HostRuntime) -> Result<(), Fail> {
         assert_eq!(rt; written.as_slice(), bytes);
     }
     for (bytes, kind, at) in [
-        ([0x00, 0x02, 0xFF, 0x7F, 0x0B, 0x0B].as_slice(), ReadKind::BadByte, 2),
+        (
+            [0x00, 0x02, 0xFF, 0x7F, 0x0B, 0x0B].as_slice(),
+            ReadKind::BadByte,
+            2,
+        ),
         (&[0x00, 0x02, 0xC0, 0x7F, 0x0B, 0x0B], ReadKind::BadByte, 2),
         (&[0x00, 0x02, 0x70, 0x0B, 0x0B], ReadKind::BadByte, 2),
         (
@@ -194,10 +205,15 @@ fn reads_in_extended(rt: HostRuntime) -> Result<(), Fail> {
 #[test]
 fn reads_expressions(rt: HostRuntime) -> Result<(), Fail> {
     for (bytes, written) in [
-        ([0x41, 0xFF, 0xFF, 0xFF, 0xFF, 0x7F, 0x0B].as_slice(), [0x41, 0x7F, 0x0B].as_slice()),
+        (
+            [0x41, 0xFF, 0xFF, 0xFF, 0xFF, 0x7F, 0x0B].as_slice(),
+            [0x41, 0x7F, 0x0B].as_slice(),
+        ),
         (&[0x41, 0x7F, 0x0B], &[0x41, 0x7F, 0x0B]),
         (
-            &[0x42, 0xFF, 0xFF, 0xFF, 0xFF, 0xFF, 0xFF, 0xFF, 0xFF, 0xFF, 0x7F, 0x0B],
+            &[
+                0x42, 0xFF, 0xFF, 0xFF, 0xFF, 0xFF, 0xFF, 0xFF, 0xFF, 0xFF, 0x7F, 0x0B,
+            ],
             &[0x42, 0x7F, 0x0B],
         ),
         (&[0x23, 0x00, 0x0B], &[0x23, 0x00, 0x0B]),
@@ -221,12 +237,16 @@ fn refuses_expressions(rt: HostRuntime) -> Result<(), Fail> {
             1,
         ),
         (
-            &[0x42, 0x80, 0x80, 0x80, 0x80, 0x80, 0x80, 0x80, 0x80, 0x80, 0x01, 0x0B],
+            &[
+                0x42, 0x80, 0x80, 0x80, 0x80, 0x80, 0x80, 0x80, 0x80, 0x80, 0x01, 0x0B,
+            ],
             ReadKind::IntTooLarge,
             1,
         ),
         (
-            &[0x42, 0x80, 0x80, 0x80, 0x80, 0x80, 0x80, 0x80, 0x80, 0x80, 0x80, 0x00, 0x0B],
+            &[
+                0x42, 0x80, 0x80, 0x80, 0x80, 0x80, 0x80, 0x80, 0x80, 0x80, 0x80, 0x00, 0x0B,
+            ],
             ReadKind::IntTooLong,
             1,
         ),
@@ -269,13 +289,20 @@ fn lends_tokens(rt: HostRuntime) -> Result<(), Fail> {
         0x01, 0x02, 0x7E, 0x04, 0x7F, 0x6A, 0x05, 0x0E, 0x02, 0x03, 0x04, 0x05, 0x0B, 0x0B,
     ];
     let body = read_body_in(rt.alloc(), &bytes, Profile::Core)?;
-    let (tokens, labels) = body.instrs().tokens();
+    let (tokens, labels) = body.tokens();
     let ty = BlockType::Value(crate::ValType::I32);
     assert_eq!(rt; tokens.len(), 6);
     assert_eq!(rt; tokens[0], Token::If { ty, skip: 3 });
     assert_eq!(rt; tokens[1], Token::Numeric(NumericOp::I32Add));
     assert_eq!(rt; tokens[2], Token::Else { skip: 1 });
-    assert_eq!(rt; tokens[3], Token::BrTable { start: 0, len: 2, other: 5 });
+    assert_eq!(rt;
+        tokens[3],
+        Token::BrTable {
+            start: 0,
+            len: 2,
+            other: 5
+        }
+    );
     assert_eq!(rt; labels, [3, 4].as_slice());
     assert_eq!(rt; body.groups().len(), 1);
     Ok(())
@@ -294,7 +321,11 @@ fn refuses_cuts(rt: HostRuntime) -> Result<(), Fail> {
         let fault = read_body_in(rt.alloc(), &bytes[..len], Profile::Core)
             .err()
             .ok_or("a fault")?;
-        assert_eq!(rt; fault.kind, ReadKind::UnexpectedEnd, "the first {len} bytes");
+        assert_eq!(rt;
+            fault.kind,
+            ReadKind::UnexpectedEnd,
+            "the first {len} bytes"
+        );
     }
     Ok(())
 }
@@ -317,7 +348,9 @@ fn knows_each_opcode(rt: HostRuntime) -> Result<(), Fail> {
     for opcode in 0..=255 {
         let mut bytes = Vec::new(rt.alloc());
         bytes.extend_from_slice(&[0x00, opcode])?;
-        bytes.extend_from_slice(&[0; 8][..behind(opcode).unwrap_or(0)])?;
+        for _ in 0..behind(opcode).unwrap_or(0) {
+            bytes.push(0)?;
+        }
         bytes.push(0x0B)?;
         let known = behind(opcode).is_some() || opcode == 0x0B;
         let core = read_body_in(rt.alloc(), &bytes, Profile::Core);

@@ -53,7 +53,7 @@ pub enum Token {
     GlobalGet(u32),
     GlobalSet(u32),
     /// A load or a store.
-    Memory {
+    Access {
         op: MemoryOp,
         align: u32,
         offset: u32,
@@ -97,7 +97,7 @@ impl Token {
             Token::LocalTee(_) => "local.tee",
             Token::GlobalGet(_) => "global.get",
             Token::GlobalSet(_) => "global.set",
-            Token::Memory { op, .. } => op.name(),
+            Token::Access { op, .. } => op.name(),
             Token::MemorySize => "memory.size",
             Token::MemoryGrow => "memory.grow",
             Token::I32Const(_) => "i32.const",

@@ -18,7 +18,7 @@ pub enum ValType {
     F64,
 }
 
-/// The type of a block (5.4.1).
+/// The type of a block (5.3.2).
 #[derive(Clone, Copy, Debug, PartialEq, Eq)]
 pub enum BlockType {
     /// No parameters and no results.
@@ -29,7 +29,7 @@ pub enum BlockType {
     Index(u32),
 }
 
-/// What a block that is no `if` is (5.4.1).
+/// What a block that is no `if` is (5.4.1). The trees of contracts name it.
 #[derive(Clone, Copy, Debug, PartialEq, Eq)]
 pub enum BlockKind {
     Block,

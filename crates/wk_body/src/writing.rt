@@ -61,7 +61,7 @@ fn put_numbers(out: &mut Vec<u8>, numbers: &[u32]) -> Result<(), OutOfMemory>
     Ok(())
 }
 
-// A block type (5.4.1).
+// A block type (5.3.2).
 fn put_type(out: &mut Vec<u8>, ty: BlockType) -> Result<(), OutOfMemory>
     ensures { OnOk result (out.new.items ≡ out.old.items ++ type_bytes ty) }
 {
@@ -124,7 +124,7 @@ fn put_token(out: &mut Vec<u8>, labels: &[u32], token: &Token) -> Result<(), Out
         Token::LocalTee(x) => put_index(out, 0x22, x)?,
         Token::GlobalGet(x) => put_index(out, 0x23, x)?,
         Token::GlobalSet(x) => put_index(out, 0x24, x)?,
-        Token::Memory { op, align, offset } => {
+        Token::Access { op, align, offset } => {
             put_index(out, op.opcode(), align)?;
             put_u32(out, offset)?;
         }
@@ -189,7 +189,7 @@ pub fn append_body(out: &mut Vec<u8>, body: &Body) -> Result<(), OutOfMemory>
     let groups = body.groups();
     put_u32(out, groups.len() as u32)?;
     put_groups(out, groups)?;
-    append_expr(out, body.instrs())
+    append_expr(out, body.expr())
 }
 
 /// The written form of an expression.

@@ -73,16 +73,16 @@ pub fn reads(alloc: Global) -> Result<Outcome, AllocError> {
     })
 }
 
-/// `Scratch::code` in a room that was used before.
+/// `Scratch::read_body` in a room that was used before.
 pub fn reads_again(alloc: Global) -> Result<Outcome, AllocError> {
     let mut scratch = Scratch::new(alloc);
     let cursor = Cursor::new(BODY);
-    let first = scratch.code(alloc, &cursor, Profile::Core);
+    let first = scratch.read_body(alloc, &cursor, Profile::Core);
     if first.is_err() {
         return Err(AllocError);
     }
     call_begins(alloc)?;
-    let answer = scratch.code(alloc, &cursor, Profile::Core);
+    let answer = scratch.read_body(alloc, &cursor, Profile::Core);
     call_ends(alloc)?;
     Ok(match answer {
         Ok(body) => Outcome::answered(is_written_as(alloc, &body, BODY)?),

@@ -34,7 +34,7 @@ pub enum Scenario {
     TextCopy,
     /// `wk_body::read_body`.
     ReadBody,
-    /// `Scratch::code` in a room that was used before.
+    /// `Scratch::read_body` in a room that was used before.
     ReadCodeAgain,
     /// `wk_body::next_expr_in`.
     NextExpr,

@@ -12,7 +12,7 @@ returns c =
     let groups = c.args.body.now.groups in
     let count = c.unsigned_len.ensures.len ∙ ap (λ (gs : List LocalGroup). length (short (length gs))) c.groups-groups.ensures.value in
     let locals = ap (λ (gs : List LocalGroup). length (flat_map written_group gs)) c.groups-groups.ensures.value in
-    let code = ap (λ t. length (written_expr t)) c.instrs.ensures in
+    let code = ap (λ t. length (written_expr t)) c.expr.ensures in
     let vector = length-append (short (length groups)) (flat_map written_group groups) in
     let whole = length-append (written_vector written_group groups) (written_expr c.args.body.now.instrs) in
     c.plus_expr.ensures _ (c.plus_groups.ensures _ (c.plus-total.ensures 0 refl)) ∙ ap limited (omega (arith, count, locals, code, vector, whole))

@@ -8,5 +8,5 @@ use Rattle.wk_body.proofs.moves.shift.Goals as goal
 pub returns-clause-profile : goal.returns-clause-profile
 returns-clause-profile c =
     let e : c.of.result.instrs ≡ shift_instrs c.args.kind c.args.from c.args.body.now.instrs =
-    ap (λ (b : BodyOf). b.instrs) c.of.ensures ∙ c.in_ok-instrs.ensures.1 ∙ ap (shift_instrs c.args.kind c.args.from) c.instrs.ensures in
+    ap (λ (b : BodyOf). b.instrs) c.of.ensures ∙ c.in_ok-instrs.ensures.1 ∙ ap (shift_instrs c.args.kind c.args.from) c.expr.ensures in
     λ profile h. subst (IsOf profile) (sym e) (moved_of profile c.args.kind c.args.from c.args.body.now.instrs h)

@@ -13,6 +13,6 @@ returns-clause-spells c =
     on_ok_weaker c.append_expr.result
     (λ _ profile of.
     let code : SpellsExpr profile c.args.body.now.instrs (written_expr c.args.body.now.instrs) =
-    rw (← c.instrs.ensures) (c.append_expr.ensures.spells profile (rw c.instrs.ensures of)) in
+    rw (← c.expr.ensures) (c.append_expr.ensures.spells profile (rw c.expr.ensures of)) in
     body_encoded profile c.args.body.now c.groups-groups.ensures.in_range code)
     c.append_expr.ensures.ok

@@ -3,7 +3,7 @@ use Rattle.std.proofs.lemmas.Result.{err_from_is_err_and}
 use Rattle.wk_bytes.specs.LebLaws.{IsBytes}
 use Rattle.wk_body.specs.Written.{Fits}
 use Rattle.wk_body.proofs.Promised.{finds_body, found_body_of, body_stands, body_whole, body_longer, body_refused}
-use Rattle.wk_body.proofs.scratch.Scratch.code.Goals as goal
+use Rattle.wk_body.proofs.scratch.Scratch.read_body.Goals as goal
 
 pub returns-in_err-body-clause-only : goal.returns-in_err-body-clause-only
 returns-in_err-body-clause-only c =

@@ -3,7 +3,7 @@ use Rattle.std.specs.Prelude.{nat_le, ◌≡◌, true, slice_get}
 use Rattle.std.proofs.lemmas.Bool.{le-leb}
 use Rattle.wk_body.specs.Numeric.{numeric_ops}
 use Rattle.wk_body.proofs.Lookup.{copied_at}
-use Rattle.wk_body.proofs.numeric.NumericOp.of.Goals as goal
+use Rattle.wk_body.proofs.numeric.NumericOp.from_opcode.Goals as goal
 
 pub returns : goal.returns
 returns c =
