@@ -5,11 +5,9 @@ use Rattle.std.specs.Coded.{Coded, code_by, coded×, coded_ℕ, coded_list}
 use Rattle.wk_body.specs.declared.types.ValType.{ValType}
 use Rattle.wk_body.specs.declared.types.ValType.TheVariants.{I32, I64, F32, F64}
 use Rattle.wk_body.specs.declared.types.LocalGroup.{LocalGroup}
-use Rattle.wk_body.specs.declared.types.Profile.{Profile}
 use Rattle.wk_body.specs.ValTypes.{valtype_byte, valtype_of}
 use Rattle.wk_body.specs.Tree.{Instrs}
 use Rattle.wk_body.specs.TreeCode.{coded_instrs, value_or}
-use Rattle.wk_body.specs.Shape.{IsShaped, IsOf}
 
 pub record BodyOf : Type 0 where
   pub groups : List LocalGroup

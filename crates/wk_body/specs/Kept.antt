@@ -5,7 +5,7 @@ use Rattle.wk_body.specs.declared.token.Token.{Token}
 use Rattle.wk_body.specs.declared.token.Token.TheVariants as kept
 use Rattle.wk_body.specs.declared.types.BlockKind.TheVariants as kinds
 use Rattle.wk_body.specs.Instructions as plain
-use Rattle.wk_body.specs.Tree.{Instrs, Tok, Simple, Open, OpenIf, Otherwise, Close, flatten, tokens_of, tree_of}
+use Rattle.wk_body.specs.Tree.{Instrs, Tok, Simple, Open, OpenIf, Otherwise, Close, tokens_of, tree_of}
 use Rattle.wk_body.specs.Shape.{IsShaped}
 
 -- what a kept token is, its labels taken from the pool

@@ -1,15 +1,11 @@
 -- What the calls that read promise, in terms of the grammar.
 use Rattle.std.specs.Prelude.{◌≡◌, ◌≢◌, ℕ, List, ◌++◌, Result, Ok, Err}
-use Rattle.wk_bytes.specs.declared.fault.ReadKind.{ReadKind}
 use Rattle.wk_bytes.specs.declared.fault.ReadKind.TheVariants.{Memory}
 use Rattle.wk_bytes.specs.declared.fault.ReadFault.{ReadFault}
 use Rattle.wk_bytes.specs.Span.{Span}
 use Rattle.wk_body.specs.declared.types.Profile.{Profile}
 use Rattle.wk_body.specs.declared.types.Profile.TheVariants.{Core, Extended}
 use Rattle.wk_body.specs.Reads.{FailsAs}
-use Rattle.wk_body.specs.Tree.{Instrs}
-use Rattle.wk_body.specs.Bodies.{BodyOf}
-use Rattle.wk_body.specs.Spelling.{SpellsExpr, SpellsBody}
 use Rattle.wk_body.specs.Written.{Fits}
 
 -- The bytes are no more than a module may have, and spell the value.

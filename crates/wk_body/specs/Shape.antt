@@ -1,5 +1,5 @@
 -- Trees that bytes can spell: each number in its range, and not too many blocks open at once.
-use Rattle.std.specs.Prelude.{ℕ, suc, ◌≡◌, ◌<◌, ◌≤◌, ◌^◌, List, length, max}
+use Rattle.std.specs.Prelude.{ℕ, suc, ◌≡◌, ◌<◌, ◌≤◌, ◌^◌, length, max}
 use Rattle.std.specs.List.{AllByRecursion}
 use Rattle.wk_bytes.specs.Leb.{IsSignedOf}
 use Rattle.wk_body.specs.declared.types.Profile.{Profile}
@@ -7,7 +7,7 @@ use Rattle.wk_body.specs.declared.types.Profile.TheVariants.{Extended}
 use Rattle.wk_body.specs.declared.types.BlockType.{BlockType}
 use Rattle.wk_body.specs.declared.types.BlockType.TheVariants.{Empty, Value}
 use Rattle.wk_body.specs.declared.types.BlockType.TheVariants as types
-use Rattle.wk_body.specs.Instructions.{Plain, Immediates, Nothing, Reserved, Index, IndexReserved, Labels, Memarg, Signed, Word, immediates, Allows}
+use Rattle.wk_body.specs.Instructions.{Immediates, Nothing, Reserved, Index, IndexReserved, Labels, Memarg, Signed, Word, immediates, Allows}
 use Rattle.wk_body.specs.Tree.{Instrs, Finish, One, Block, If}
 
 -- the most blocks that are open at one place; the body itself is none

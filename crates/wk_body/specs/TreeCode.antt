@@ -1,6 +1,6 @@
 -- A tree is stored as its tokens, and a token as numbers.
-use Rattle.std.specs.Prelude.{◌≡◌, ℕ, zero, suc, ℤ, pos, Option, Some, None, List, [], ◌∷◌, ◌++◌}
-use Rattle.std.proofs.Common.{refl, ap, ◌∙◌}
+use Rattle.std.specs.Prelude.{◌≡◌, ℕ, zero, suc, ℤ, pos, Option, Some, None, List, [], ◌∷◌}
+use Rattle.std.proofs.Common.{refl, ap}
 use Rattle.std.specs.Coded.{Coded, code_by, coded×, coded_ℕ, coded_ℤ, coded_list}
 use Rattle.wk_body.specs.declared.types.ValType.{ValType}
 use Rattle.wk_body.specs.declared.types.ValType.TheVariants.{I32, I64, F32, F64}
@@ -8,14 +8,10 @@ use Rattle.wk_body.specs.declared.types.BlockType.{BlockType}
 use Rattle.wk_body.specs.declared.types.BlockType.TheVariants.{Empty, Value}
 use Rattle.wk_body.specs.declared.types.BlockType.TheVariants as types
 use Rattle.wk_body.specs.declared.types.BlockKind.TheVariants as kinds
-use Rattle.wk_body.specs.declared.memory.MemoryOp.{MemoryOp}
-use Rattle.wk_body.specs.declared.numeric.NumericOp.{NumericOp}
-use Rattle.wk_body.specs.Numeric.{numeric_opcode}
-use Rattle.wk_body.specs.MemoryOps.{memory_opcode}
 use Rattle.wk_body.specs.ValTypes.{valtype_byte, valtype_of}
 use Rattle.wk_body.specs.Instructions.{Plain, Unreachable, Nop, Br, BrIf, BrTable, Return, Call, CallIndirect, Drop, Select, LocalGet, LocalSet, LocalTee, GlobalGet, GlobalSet, Access, MemorySize, MemoryGrow, I32Const, I64Const, F32Const, F64Const, Numeric, plain_opcode, Immediates, Nothing, Reserved, Index, IndexReserved, Labels, Memarg, Signed, Word, immediates, Form, Alone, WithReserved, WithIndex, WithIndexReserved, WithLabels, WithMemarg, WithSigned, WithWord, any_form}
 use Rattle.wk_body.specs.OpcodeLaws.{any_form-numeric, any_form-memory}
-use Rattle.wk_body.specs.Tree.{Instrs, Finish, One, Block, If, Tok, Simple, Open, OpenIf, Otherwise, Close, flatten, tokens_of, tree_of}
+use Rattle.wk_body.specs.Tree.{Instrs, Tok, Simple, Open, OpenIf, Otherwise, Close, tokens_of, tree_of}
 use Rattle.wk_body.specs.TreeLaws.{tree_of-flatten}
 
 abbrev pub head_or : List ℕ → ℕ

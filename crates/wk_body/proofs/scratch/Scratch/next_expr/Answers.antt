@@ -1,4 +1,4 @@
-use Rattle.std.proofs.Common.{Ok, Err, arith}
+use Rattle.std.proofs.Common.{Ok, Err}
 use Rattle.std.proofs.lemmas.Result.{err_from_is_err_and}
 use Rattle.wk_bytes.specs.LebLaws.{IsBytes}
 use Rattle.wk_body.proofs.Promised.{next_taken, next_refused, next_only, next_stands, expr_of}
