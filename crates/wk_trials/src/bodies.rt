@@ -183,7 +183,7 @@ pub fn shifts_expr(alloc: Global) -> Result<Outcome, AllocError> {
 pub fn clones(alloc: Global) -> Result<Outcome, AllocError> {
     let body = body(alloc)?;
     call_begins(alloc)?;
-    let answer = body.clone();
+    let answer: Result<Body, AllocError> = body.clone();
     call_ends(alloc)?;
     Ok(match answer {
         Ok(copy) => Outcome::answered(is_written_as(alloc, &copy, BODY)?),
