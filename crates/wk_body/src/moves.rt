@@ -1,4 +1,4 @@
-//! References that move, as an import of their kind comes in front of them.
+//! References that move, as an import of their kind is put in before them.
 
 ghost use Rattle.std.specs.Prelude.{◌≡◌, [], true, false, IfOk, MatchResult};
 ghost use Rattle.std.specs.List.{flat_map};
@@ -138,8 +138,8 @@ fn moved_expr(alloc: Global, expr: &Expr, kind: Moving, from: u32) -> Result<Exp
     Ok(Expr::of(tokens, labels))
 }
 
-/// The body as it is behind an import of the kind that comes in front of the index `from`: each reference of the kind to `from`
-/// or above is one more.
+/// The body after an import of the kind was put in at the index `from`: each reference of the kind to `from` or above is one
+/// more.
 ///
 /// `Overflow` is answered exactly where such a reference is 4,294,967,295, which has no next; else `Memory` where a growth was
 /// refused. A body of a profile stays one of it.
@@ -154,7 +154,7 @@ pub fn shift(alloc: Global, body: &Body, kind: Moving, from: u32) -> Result<Body
     Ok(Body::of(groups, instrs))
 }
 
-/// The expression as it is behind an import of a global that comes in front of the index `from`, as [`shift`] of a body.
+/// The expression after an import of a global was put in at the index `from`, as [`shift`] of a body.
 pub fn shift_expr(alloc: Global, expr: &Expr, from: u32) -> Result<Expr, ShiftFault>
     ensures exact { MatchResult result
         (λ e. (any_stuck Moving.Global from (refs_of expr.now) ≡ false) × (e ≡ shift_instrs Moving.Global from expr.now))

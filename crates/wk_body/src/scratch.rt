@@ -22,7 +22,7 @@ pub(crate) enum Opened {
 
 /// Room in which bodies and expressions are read, one after the other, before each is copied to a room of its own size.
 ///
-/// It holds nothing between two reads but its memory. A call that reads many bodies is given one of these and grows it once.
+/// What it holds of one read is forgotten by the next; only its memory stays. A call that reads many bodies is given one of these and grows it once.
 #[derive(Drop)]
 pub struct Scratch {
     pub(crate) tokens: Vec<Token>,

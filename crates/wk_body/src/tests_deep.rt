@@ -23,11 +23,13 @@ fn nested(alloc: Global, blocks: usize, inside: &[u8]) -> Result<Vec<u8>, AllocE
 #[test]
 fn takes_20_000_blocks(rt: HostRuntime) -> Result<(), Fail> {
     let bytes = nested(rt.alloc(), 20_000, &[])?;
-    let body = read_body_in(rt.alloc(), &bytes, Profile::Core)?;
     assert_eq!(rt; bytes.len(), 60_002);
-    assert_eq!(rt; body_len(&body), Some(60_002));
-    let written = encode_body(rt.alloc(), &body).ok().ok_or("it is written")?;
-    assert!(rt; written.as_slice() == bytes.as_slice());
+    for profile in [Profile::Core, Profile::Extended] {
+        let body = read_body_in(rt.alloc(), &bytes, profile)?;
+        assert_eq!(rt; body_len(&body), Some(60_002));
+        let written = encode_body(rt.alloc(), &body).ok().ok_or("it is written")?;
+        assert!(rt; written.as_slice() == bytes.as_slice());
+    }
     Ok(())
 }
 
@@ -49,11 +51,13 @@ fn moves_and_copies_20_000_blocks(rt: HostRuntime) -> Result<(), Fail> {
 #[test]
 fn refuses_20_001_blocks(rt: HostRuntime) -> Result<(), Fail> {
     let bytes = nested(rt.alloc(), 20_001, &[])?;
-    let fault = read_body_in(rt.alloc(), &bytes, Profile::Core)
-        .err()
-        .ok_or("a fault")?;
-    assert_eq!(rt; fault.kind, ReadKind::TooDeep);
-    assert_eq!(rt; fault.at, 40_001);
+    for profile in [Profile::Core, Profile::Extended] {
+        let fault = read_body_in(rt.alloc(), &bytes, profile)
+            .err()
+            .ok_or("a fault")?;
+        assert_eq!(rt; fault.kind, ReadKind::TooDeep);
+        assert_eq!(rt; fault.at, 40_001);
+    }
     Ok(())
 }
 

@@ -70,8 +70,10 @@ fn shortens(rt: HostRuntime) -> Result<(), Fail> {
         ),
         (&[0x01, 0x83, 0x00, 0x7D, 0x0B], &[0x01, 0x03, 0x7D, 0x0B]),
     ] {
-        let written = rewritten(rt.alloc(), bytes, Profile::Core)?;
-        assert_eq!(rt; written.as_slice(), short);
+        for profile in [Profile::Core, Profile::Extended] {
+            let written = rewritten(rt.alloc(), bytes, profile)?;
+            assert_eq!(rt; written.as_slice(), short);
+        }
     }
     Ok(())
 }
@@ -254,11 +256,13 @@ fn refuses_expressions(rt: HostRuntime) -> Result<(), Fail> {
         (&[], ReadKind::UnexpectedEnd, 0),
         (&[0x41], ReadKind::UnexpectedEnd, 1),
     ] {
-        let fault = read_expr_in(rt.alloc(), bytes, Profile::Core)
-            .err()
-            .ok_or("a fault")?;
-        assert_eq!(rt; fault.kind, kind, "of {bytes:?}");
-        assert_eq!(rt; fault.at, at, "of {bytes:?}");
+        for profile in [Profile::Core, Profile::Extended] {
+            let fault = read_expr_in(rt.alloc(), bytes, profile)
+                .err()
+                .ok_or("a fault")?;
+            assert_eq!(rt; fault.kind, kind, "of {bytes:?}");
+            assert_eq!(rt; fault.at, at, "of {bytes:?}");
+        }
     }
     Ok(())
 }
@@ -352,7 +356,7 @@ fn knows_each_opcode(rt: HostRuntime) -> Result<(), Fail> {
             bytes.push(0)?;
         }
         bytes.push(0x0B)?;
-        let known = behind(opcode).is_some() || opcode == 0x0B;
+        let known = behind(opcode).is_some();
         let core = read_body_in(rt.alloc(), &bytes, Profile::Core);
         let extended = read_body_in(rt.alloc(), &bytes, Profile::Extended);
         if opcode != 0x0B {

@@ -29,14 +29,14 @@ pub enum BlockType {
     Index(u32),
 }
 
-/// What a block that is no `if` is (5.4.1). The trees of contracts name it.
+/// The two kinds of blocks that have one branch (5.4.1), as the trees of contracts name them.
 #[derive(Clone, Copy, Debug, PartialEq, Eq)]
 pub enum BlockKind {
     Block,
     Loop,
 }
 
-/// So many locals of one type, one after the other (5.5.13).
+/// `count` locals of one type, one after the other (5.5.13).
 #[derive(Clone, Copy, Debug, PartialEq, Eq)]
 pub struct LocalGroup {
     pub count: u32,

@@ -162,7 +162,7 @@ fn put_tokens(out: &mut Vec<u8>, labels: &[u32], tokens: &[Token]) -> Result<(),
     Ok(())
 }
 
-/// Appends the written form of an expression, which spells it. After a refusal some of it may stand there.
+/// Appends the written form of an expression, which spells it. Nothing is said of `out` after a refusal.
 pub fn append_expr(out: &mut Vec<u8>, expr: &Expr) -> Result<(), OutOfMemory>
     ensures ok { OnOk result (out.new.items ≡ out.old.items ++ written_expr expr.now) }
     ensures spells { (profile : Profile) → IsOf profile expr.now → SpellsExpr profile expr.now (written_expr expr.now) }
@@ -181,7 +181,7 @@ fn put_groups(out: &mut Vec<u8>, groups: &[LocalGroup]) -> Result<(), OutOfMemor
     Ok(())
 }
 
-/// Appends the written form of a body, a code without its size, which spells it. After a refusal some of it may stand there.
+/// Appends the written form of a body, a code without its size, which spells it. Nothing is said of `out` after a refusal.
 pub fn append_body(out: &mut Vec<u8>, body: &Body) -> Result<(), OutOfMemory>
     ensures ok { OnOk result (out.new.items ≡ out.old.items ++ written_body body.now) }
     ensures spells { OnOk result ((profile : Profile) → IsOf profile body.now.instrs → SpellsBody profile body.now (written_body body.now)) }

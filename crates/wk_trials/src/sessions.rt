@@ -1,9 +1,8 @@
 //! Calls of `wk_session`.
 
 use crate::mark::{call_begins, call_ends};
-use crate::sample::NO_MEMORY;
 use crate::outcome::Outcome;
-use crate::sample::{EDITED, EDITED_VERDICT, MODULE, edits};
+use crate::sample::{EDITED, EDITED_VERDICT, MODULE, NO_MEMORY, edits};
 use crate::sinks::{Room, has_appended, has_begun, sink};
 use std::alloc::{AllocError, Global};
 use wk_bytes::{Out, OutOfMemory, Sink};
