@@ -19,7 +19,7 @@ use Rattle.wk_body.specs.Bodies.{BodyOf}
 use Rattle.wk_body.specs.Spelling.{SpellsExpr, SpellsBody}
 use Rattle.wk_body.specs.Written.{Fits}
 use Rattle.wk_body.specs.Reads.{FailsAs, Parses, Reads}
-use Rattle.wk_body.specs.Meaning.{FindsOnly, Takes, TakesOnly}
+use Rattle.wk_body.specs.Meaning.{FindsOnly, Takes, TakesOnly, IsReadAs, IsAllReadAs}
 use Rattle.wk_body.specs.Reading.{expr_at, body_at, taking_all, all_expr_at, all_body_at}
 use Rattle.wk_body.proofs.Faults.{fails_on}
 use Rattle.wk_body.proofs.Pieces.{Took}
@@ -187,3 +187,20 @@ pub body_refused : (profile : Profile) (old ahead : Span) (e : ReadFault) → ah
 unfolding all_body_at
 body_refused profile old ahead e same given =
     fails_on e e.kind (body_at profile old.end old.rest) (all_body_at profile old.end old.rest) (λ h. rw h refl) (subst (λ (s : Span). FailsAs e e.kind (body_at profile s.end s.rest)) same given)
+
+-- ---- reading as a law
+
+pub exprs_read : (profile : Profile) → IsReadAs (SpellsExpr profile) (expr_at profile)
+exprs_read profile = record {
+  takes = λ end bytes t rest fits e. let a = expr_takes profile end bytes (t, rest) fits e in (a.front, a.spelled, a.parts);
+  again = expr_again profile;
+  stands = ReadsFront-expr_at profile;
+}
+
+pub bodies_read : (profile : Profile) → IsAllReadAs (SpellsBody profile) (all_body_at profile)
+unfolding all_body_at
+bodies_read profile = record {
+  takes = all_takes (SpellsBody profile) (body_at profile) (bodies profile);
+  again = λ end b bytes s. all_again (SpellsBody profile) (body_at profile) (bodies profile) end bytes b s;
+  stands = all_body_stands profile;
+}

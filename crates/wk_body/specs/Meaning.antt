@@ -1,8 +1,11 @@
 -- What the calls that read promise, in terms of the grammar.
-use Rattle.std.specs.Prelude.{◌≡◌, ◌≢◌, ℕ, List, ◌++◌, Result, Ok, Err}
+use Rattle.std.specs.Prelude.{◌≡◌, ◌≢◌, ◌≤◌, ℕ, List, ◌++◌, length, Result, Ok, Err}
 use Rattle.wk_bytes.specs.declared.fault.ReadKind.TheVariants.{Memory}
 use Rattle.wk_bytes.specs.declared.fault.ReadFault.{ReadFault}
+use Rattle.wk_bytes.specs.LebLaws.{IsBytes}
 use Rattle.wk_bytes.specs.Span.{Span}
+use Rattle.wk_bytes.specs.Stands.{Stands}
+use Rattle.wk_bytes.specs.StandsLaws.{ReadsFront}
 use Rattle.wk_body.specs.declared.types.Profile.{Profile}
 use Rattle.wk_body.specs.declared.types.Profile.TheVariants.{Core, Extended}
 use Rattle.wk_body.specs.Reads.{FailsAs}
@@ -38,3 +41,16 @@ SpellOnce {V = V} Spells = (v w : V) (a b x y : List ℕ) → Spells v a → Spe
 -- What is spelled in 1.0 is spelled so in the other profile too.
 abbrev pub SpellAlike : {V : Type 0} → (Profile → V → List ℕ → Type 0) → Type 0
 SpellAlike {V = V} Spells = (v : V) (bytes : List ℕ) → Spells Core v bytes → Spells Extended v bytes
+
+-- Reading takes what is spelled: what it takes from the front is a spelling of what it gives; what is spelled in front is read,
+-- wherever the bytes end and whatever follows; and a fault of it stands in the bytes.
+pub record IsReadAs {V : Type 0} (Spells : V → List ℕ → Type 0) (read : ℕ → List ℕ → Result (V × List ℕ) ReadFault) : Type 0 where
+  pub takes : (end : ℕ) (bytes : List ℕ) (v : V) (rest : List ℕ) → IsBytes bytes → read end bytes ≡ Ok (v, rest) → (front : List ℕ) × Spells v front × (bytes ≡ front ++ rest)
+  pub again : (end : ℕ) (v : V) (bytes rest : List ℕ) → Spells v bytes → read end (bytes ++ rest) ≡ Ok (v, rest)
+  pub stands : ReadsFront read
+
+-- The same of reading that takes all of the bytes.
+pub record IsAllReadAs {V : Type 0} (Spells : V → List ℕ → Type 0) (read : ℕ → List ℕ → Result V ReadFault) : Type 0 where
+  pub takes : (end : ℕ) (bytes : List ℕ) (v : V) → IsBytes bytes → read end bytes ≡ Ok v → Spells v bytes
+  pub again : (end : ℕ) (v : V) (bytes : List ℕ) → Spells v bytes → read end bytes ≡ Ok v
+  pub stands : (end : ℕ) (bytes : List ℕ) (e : ReadFault) → read end bytes ≡ Err e → length bytes ≤ end → Stands (record { rest = bytes; end = end }) e

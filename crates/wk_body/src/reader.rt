@@ -1,6 +1,6 @@
 //! Reads whole expressions and bodies, and the expression at the front of a cursor.
 
-ghost use Rattle.std.specs.Prelude.{◌≡◌, ◌≢◌, ◌<◌, ◌≤◌, [], length, IfOk, IfErr, MatchResult};
+ghost use Rattle.std.specs.Prelude.{◌≡◌, ◌≢◌, ◌<◌, ◌≤◌, ℕ, List, [], length, IfOk, IfErr, MatchResult};
 ghost use Rattle.wk_bytes.specs.declared.fault.ReadKind.TheVariants.{BodySize};
 ghost use Rattle.wk_bytes.specs.Fault.{long_input};
 ghost use Rattle.wk_bytes.specs.Span.{fault};
@@ -8,13 +8,15 @@ ghost use Rattle.wk_bytes.specs.Stands.{StandsIn, StandsOrMemory};
 ghost use Rattle.wk_body.specs.ValTypes.{valtype_at};
 ghost use Rattle.wk_body.specs.Reads.{Parses, Reads};
 ghost use Rattle.wk_body.specs.Reading.{groups_at, body_at, expr_at, all_expr_at, all_body_at, whole_at};
-ghost use Rattle.wk_body.specs.Shape.{IsOf};
+ghost use Rattle.wk_body.specs.Shape.{IsOf, IsShaped};
 ghost use Rattle.wk_body.specs.Spelling.{SpellsExpr, SpellsBody};
-ghost use Rattle.wk_body.specs.Meaning.{FindsOnly, Takes, TakesOnly, SpellOnce, SpellAlike};
+ghost use Rattle.wk_bytes.specs.LebLaws.{IsBytes};
+ghost use Rattle.wk_body.specs.Tree.{Instrs};
+ghost use Rattle.wk_body.specs.Meaning.{FindsOnly, Takes, TakesOnly, SpellOnce, SpellAlike, IsReadAs, IsAllReadAs};
 
 use crate::body::Body;
 use crate::expr::Expr;
-use crate::reading::{are_bytes, read_front, value_type};
+use crate::reading::{are_bytes, read_front};
 use crate::scratch::Scratch;
 use crate::types::{LocalGroup, Profile, ValType};
 use std::alloc::Global;
@@ -52,7 +54,7 @@ fn local_type(cursor: &mut Cursor<'_>) -> Result<ValType, ReadFault>
 {
     let at = cursor.at();
     let byte = cursor.byte()?;
-    value_type(byte).ok_or(ReadFault {
+    ValType::from_byte(byte).ok_or(ReadFault {
         kind: ReadKind::BadByte,
         at,
     })
@@ -248,4 +250,12 @@ pub fn one_spelling_of_code()
     ensures body { (profile : Profile) → SpellOnce (SpellsBody profile) }
     ensures same_expr { SpellAlike SpellsExpr }
     ensures same_body { SpellAlike SpellsBody }
+{}
+
+/// The laws of reading: what is read is what the grammar spells, in its one way, and is of the profile; and a fault stands in the
+/// bytes. It does nothing.
+pub fn reading_of_code()
+    ensures expr { (profile : Profile) → IsReadAs (SpellsExpr profile) (expr_at profile) }
+    ensures body { (profile : Profile) → IsAllReadAs (SpellsBody profile) (all_body_at profile) }
+    ensures expr_shape { (profile : Profile) (t : Instrs) (bytes : List ℕ) → IsBytes bytes → SpellsExpr profile t bytes → IsShaped t × IsOf profile t }
 {}

@@ -4,7 +4,6 @@ ghost use Rattle.std.specs.Prelude.{◌≡◌, ◌≢◌, ◌+◌, ◌<◌, ◌�
 ghost use Rattle.wk_bytes.specs.declared.fault.ReadKind.TheVariants.{UnknownOpcode, TooDeep};
 ghost use Rattle.wk_bytes.specs.LebLaws.{IsBytes};
 ghost use Rattle.wk_bytes.specs.Span.{u32_at};
-ghost use Rattle.wk_body.specs.ValTypes.{valtype_of};
 ghost use Rattle.wk_body.specs.Vectors.{items_at};
 ghost use Rattle.wk_body.specs.Reads.{FailsAs, Parses};
 ghost use Rattle.wk_body.specs.Instructions.{numeric_in};
@@ -26,19 +25,6 @@ pub const MAX_DEPTH: usize = 20_000;
 
 // The last opcode of 1.0.
 const LAST_CORE: u8 = 0xBF;
-
-/// The value type of a byte (5.3.1).
-pub(crate) fn value_type(byte: u8) -> Option<ValType>
-    ensures { result ≡ valtype_of byte }
-{
-    match byte {
-        0x7F => Some(ValType::I32),
-        0x7E => Some(ValType::I64),
-        0x7D => Some(ValType::F32),
-        0x7C => Some(ValType::F64),
-        _ => None,
-    }
-}
 
 /// Each byte is below 256, which proofs ask for where a cursor holds the bytes. It does nothing.
 pub(crate) fn are_bytes(bytes: &[u8])
@@ -92,7 +78,7 @@ fn block_type(profile: Profile, cursor: &mut Cursor<'_>) -> Result<BlockType, Re
         *cursor = ahead;
         return Ok(BlockType::Empty);
     }
-    match value_type(byte) {
+    match ValType::from_byte(byte) {
         Some(ty) => {
             *cursor = ahead;
             Ok(BlockType::Value(ty))

@@ -1,5 +1,8 @@
 //! Value types, block types and locals, and the rules by which they are read.
 
+ghost use Rattle.std.specs.Prelude.{◌≡◌};
+ghost use Rattle.wk_body.specs.ValTypes.{valtype_byte, valtype_of};
+
 /// The rules by which a module is read and judged.
 #[derive(Clone, Copy, Debug, PartialEq, Eq)]
 pub enum Profile {
@@ -16,6 +19,33 @@ pub enum ValType {
     I64,
     F32,
     F64,
+}
+
+impl ValType {
+    /// The byte of the type.
+    pub fn byte(self) -> u8
+        ensures { result ≡ valtype_byte self }
+    {
+        match self {
+            ValType::I32 => 0x7F,
+            ValType::I64 => 0x7E,
+            ValType::F32 => 0x7D,
+            ValType::F64 => 0x7C,
+        }
+    }
+
+    /// The type of a byte, or nothing where the byte is that of none.
+    pub fn from_byte(byte: u8) -> Option<ValType>
+        ensures { result ≡ valtype_of byte }
+    {
+        match byte {
+            0x7F => Some(ValType::I32),
+            0x7E => Some(ValType::I64),
+            0x7D => Some(ValType::F32),
+            0x7C => Some(ValType::F64),
+            _ => None,
+        }
+    }
 }
 
 /// The type of a block (5.3.2).

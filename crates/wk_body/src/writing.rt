@@ -1,10 +1,9 @@
 //! Writes expressions and bodies in the one written form.
 
-ghost use Rattle.std.specs.Prelude.{◌≡◌, ◌<◌, ◌++◌, ◌∷◌, ◌^◌, length, IfOk, OnOk, MatchResult};
+ghost use Rattle.std.specs.Prelude.{◌≡◌, ◌≤◌, ◌<◌, ℕ, List, ◌++◌, ◌∷◌, ◌^◌, length, IfOk, OnOk, MatchResult};
 ghost use Rattle.std.specs.List.{flat_map, AllByRecursion};
 ghost use Rattle.byteorder.specs.Endian.{little_bytes};
 ghost use Rattle.wk_bytes.specs.Short.{short};
-ghost use Rattle.wk_body.specs.ValTypes.{valtype_byte};
 ghost use Rattle.wk_body.specs.Kept.{told, all_told, IsWithin};
 ghost use Rattle.wk_body.specs.Written.{type_bytes, tok_bytes, written_expr, written_body, written_group, Fits, Unwritten};
 ghost use Rattle.wk_body.specs.Spelling.{SpellsExpr, SpellsBody};
@@ -17,22 +16,10 @@ use crate::expr::Expr;
 use crate::fault::EncodeFault;
 use crate::length::{body_len, expr_len};
 use crate::token::Token;
-use crate::types::{BlockType, LocalGroup, Profile, ValType};
+use crate::types::{BlockType, LocalGroup, Profile};
 use byteorder::{ByteOrder, LittleEndian};
 use std::alloc::Global;
 use wk_bytes::{OutOfMemory, put_s32, put_s33, put_s64, put_u32};
-
-/// The byte of a value type (5.3.1).
-pub(crate) fn valtype_code(ty: ValType) -> u8
-    ensures { result ≡ valtype_byte ty }
-{
-    match ty {
-        ValType::I32 => 0x7F,
-        ValType::I64 => 0x7E,
-        ValType::F32 => 0x7D,
-        ValType::F64 => 0x7C,
-    }
-}
 
 fn put_word32(out: &mut Vec<u8>, word: u32) -> Result<(), OutOfMemory>
     ensures { OnOk result (out.new.items ≡ out.old.items ++ little_bytes 4 word) }
@@ -67,7 +54,7 @@ fn put_type(out: &mut Vec<u8>, ty: BlockType) -> Result<(), OutOfMemory>
 {
     match ty {
         BlockType::Empty => out.push(0x40)?,
-        BlockType::Value(ty) => out.push(valtype_code(ty))?,
+        BlockType::Value(ty) => out.push(ty.byte())?,
         BlockType::Index(x) => put_s33(out, i64::from(x))?,
     }
     Ok(())
@@ -176,7 +163,7 @@ fn put_groups(out: &mut Vec<u8>, groups: &[LocalGroup]) -> Result<(), OutOfMemor
 {
     for group in groups {
         put_u32(out, group.count)?;
-        out.push(valtype_code(group.ty))?;
+        out.push(group.ty.byte())?;
     }
     Ok(())
 }
@@ -224,10 +211,12 @@ pub fn encode_body(alloc: Global, body: &Body) -> Result<Vec<u8>, EncodeFault>
     Ok(out)
 }
 
-/// The laws of the written form: it spells what it is made of, in each profile that this belongs to, and that of an expression
-/// is made of those of its tokens (`Token::head_len`), one after the other. It does nothing.
+/// The laws of the written form: it spells what it is made of, in each profile that this belongs to; no spelling is shorter; and
+/// that of an expression is made of those of its tokens (`Token::head_len`), one after the other. It does nothing.
 pub fn written_form_of_code()
     ensures expr { (profile : Profile) (t : Instrs) → IsShaped t → IsOf profile t → SpellsExpr profile t (written_expr t) }
     ensures body { (profile : Profile) (b : BodyOf) → AreGroups b.groups → IsShaped b.instrs → IsOf profile b.instrs → SpellsBody profile b (written_body b) }
+    ensures least_expr { (profile : Profile) (t : Instrs) (bytes : List ℕ) → SpellsExpr profile t bytes → length (written_expr t) ≤ length bytes }
+    ensures least_body { (profile : Profile) (b : BodyOf) (bytes : List ℕ) → SpellsBody profile b bytes → length (written_body b) ≤ length bytes }
     ensures tokens { (t : Instrs) → flat_map tok_bytes (tokens_of t) ≡ written_expr t }
 {}

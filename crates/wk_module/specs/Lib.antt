@@ -1,11 +1,13 @@
-pub mod Vectors
+pub mod Formats
 pub mod Types
+pub mod Items
 pub mod Customs
+pub mod Sections
 pub mod Shape
 pub mod Modules
 pub mod Reading
 pub mod Writing
+pub mod Listed
 pub mod ShapeLaws
 pub mod ModuleLaws
 pub mod WritingLaws
-pub mod Lengths

@@ -7,7 +7,9 @@ use Rattle.wk_bytes.specs.ListWords.{is_empty}
 use Rattle.wk_module.specs.declared.types.Parts.{Parts}
 use Rattle.wk_module.specs.declared.types.Custom.{Custom}
 use Rattle.wk_module.specs.declared.types.FuncType.{FuncType}
-use Rattle.wk_module.specs.Shape.{lowered, settled_custom, settle, is_filled, IsInOrderFrom, AreNamed, IsFormed, IsShaped}
+use Rattle.wk_body.specs.declared.types.Profile.{Profile}
+use Rattle.wk_module.specs.Sections.{SectionId, TypeSection, ImportSection, FunctionSection, TableSection, MemorySection, GlobalSection, ExportSection, StartSection, ElementSection, CodeSection, DataSection, contents, AreValid}
+use Rattle.wk_module.specs.Shape.{lists_of, lowered, settled_custom, settle, is_filled, IsInOrderFrom, AreNamed, IsFormed, IsShaped, nothing}
 
 -- ---- the greatest id up to one that passes, or 0
 
@@ -130,13 +132,44 @@ some_types : (t : FuncType) (ts : List FuncType) → not (is_empty (ts ++ t ∷ 
 some_types t [] = refl
 some_types t (x ∷ ts) = refl
 
-second_more : (a b : Bool) (id : ℕ) → (a ≡ true → b ≡ true) → slice_index_or (false ∷ a ∷ []) id false ≡ true → slice_index_or (false ∷ b ∷ []) id false ≡ true
-second_more a b zero h t = t
-second_more a b (suc zero) h t = h t
-second_more a b (suc (suc id)) h t = t
+second_more : (a b : Bool) (rest : List Bool) (id : ℕ) → (a ≡ true → b ≡ true) → slice_index_or (false ∷ a ∷ rest) id false ≡ true → slice_index_or (false ∷ b ∷ rest) id false ≡ true
+second_more a b rest zero h t = t
+second_more a b rest (suc zero) h t = h t
+second_more a b rest (suc (suc id)) h t = t
 
 filled_type : (t : FuncType) (m : Parts) (id : ℕ) → is_filled m id ≡ true → is_filled (record m { types = m.types ++ t ∷ [] }) id ≡ true
-filled_type t m id filled = second_more (not (is_empty m.types)) (not (is_empty (m.types ++ t ∷ []))) id (λ _. some_types t m.types) filled
+filled_type t m id filled = second_more (not (is_empty m.types)) (not (is_empty (m.types ++ t ∷ []))) _ id (λ _. some_types t m.types) filled
+
+-- the lists of a module are valid whatever its types are
+types_valid : (ts : List FuncType) (m : Parts) → ((k : SectionId) → AreValid m.profile k (contents (lists_of m) k)) → (k : SectionId) → AreValid m.profile k (contents (lists_of (record m { types = ts })) k)
+types_valid ts m valid TypeSection = tt
+types_valid ts m valid ImportSection = valid ImportSection
+types_valid ts m valid FunctionSection = valid FunctionSection
+types_valid ts m valid TableSection = valid TableSection
+types_valid ts m valid MemorySection = valid MemorySection
+types_valid ts m valid GlobalSection = valid GlobalSection
+types_valid ts m valid ExportSection = valid ExportSection
+types_valid ts m valid StartSection = valid StartSection
+types_valid ts m valid ElementSection = valid ElementSection
+types_valid ts m valid CodeSection = valid CodeSection
+types_valid ts m valid DataSection = valid DataSection
+
+nothing_valid : (profile : Profile) (k : SectionId) → AreValid profile k (contents (lists_of (nothing profile)) k)
+nothing_valid profile TypeSection = tt
+nothing_valid profile ImportSection = tt
+nothing_valid profile FunctionSection = tt
+nothing_valid profile TableSection = tt
+nothing_valid profile MemorySection = tt
+nothing_valid profile GlobalSection = tt
+nothing_valid profile ExportSection = tt
+nothing_valid profile StartSection = tt
+nothing_valid profile ElementSection = tt
+nothing_valid profile CodeSection = tt
+nothing_valid profile DataSection = tt
+
+-- a module with nothing is shaped
+pub nothing_shaped : (profile : Profile) → IsShaped (nothing profile)
+nothing_shaped profile = record { formed = record { valid = nothing_valid profile; order = tt; names = tt }; settled = refl }
 
 -- settling twice settles once
 pub settle-settle : (m : Parts) → settle (settle m) ≡ settle m
@@ -146,7 +179,7 @@ settle-settle m = ap (λ (cs : List Custom). record m { customs = cs }) (settled
 pub settle_shaped : (m : Parts) → IsFormed m → IsShaped (settle m)
 settle_shaped m f = record {
   formed = record {
-    few = f.few;
+    valid = f.valid;
     order = settled_in_order (is_filled m) 0 m.customs f.order;
     names = settled_named (is_filled m) m.customs f.names;
   };
@@ -159,7 +192,7 @@ filter_shaped keep m s =
     let settled = ap (λ (n : Parts). n.customs) s.settled in
     record {
       formed = record {
-        few = s.formed.few;
+        valid = s.formed.valid;
         order = in_order_filter keep 0 m.customs s.formed.order;
         names = named_filter keep m.customs s.formed.names;
       };
@@ -172,17 +205,17 @@ settle-type t m settled =
     let more : Parts = record m { types = m.types ++ t ∷ [] } in
     ap (λ (cs : List Custom). record more { customs = cs }) (settled_more (is_filled m) (is_filled more) (filled_type t m) m.customs (ap (λ (n : Parts). n.customs) settled))
 
--- a module with one more type is shaped, where it has few
-pub type_shaped : (t : FuncType) (m : Parts) → length m.types + 1 < 2 ^ 32 → IsShaped m → IsShaped (record m { types = m.types ++ t ∷ [] })
-type_shaped t m few s = record {
-  formed = record { few = omega (arith, length-append m.types (t ∷ []), few); order = s.formed.order; names = s.formed.names };
+-- a module with one more type is shaped
+pub type_shaped : (t : FuncType) (m : Parts) → IsShaped m → IsShaped (record m { types = m.types ++ t ∷ [] })
+type_shaped t m s = record {
+  formed = record { valid = types_valid (m.types ++ t ∷ []) m s.formed.valid; order = s.formed.order; names = s.formed.names };
   settled = settle-type t m s.settled;
 }
 
 -- a module with one more custom of the greatest place is formed
 pub push_formed : (c : Custom) (m : Parts) → c.place ≡ 11 → IsUtf8 c.name → IsFormed m → IsFormed (record m { customs = m.customs ++ c ∷ [] })
 push_formed c m last text f = record {
-  few = f.few;
+  valid = f.valid;
   order = in_order_push c 0 m.customs (omega arith) last f.order;
   names = named_push c m.customs text f.names;
 }

@@ -1,18 +1,27 @@
 -- Laws of the written form: its parts have bytes, and how long it is.
-use Rattle.std.proofs.Common.{◌≡◌, ℕ, zero, suc, ◌+◌, ◌<◌, ◌≤◌, ◌==◌, Bool, false, inl, inr, List, [], ◌∷◌, ◌++◌, length, filter, if◌then◌else◌, refl, ap, ◌∙◌, arith, length-append}
-use Rattle.std.proofs.lemmas.Bool.{cases_Bool, cases_eq, cond-false, cond_both, eq-eqb, ne_eqb}
+use Rattle.std.proofs.Common.{◌≡◌, ℕ, zero, suc, ◌+◌, ◌<◌, ◌≤◌, ◌==◌, Bool, inl, inr, List, [], ◌∷◌, ◌++◌, length, filter, if◌then◌else◌, refl, ap, ◌∙◌, arith, length-append}
+use Rattle.std.proofs.lemmas.Bool.{cases_Bool, cases_eq, cond_both, eq-eqb, ne_eqb}
 use Rattle.std.proofs.lemmas.List.{append-nil}
 use Rattle.std.specs.List.{flat_map, range_with_len}
 use Rattle.wk_bytes.specs.Short.{short}
 use Rattle.wk_bytes.specs.Frames.{magic, version}
 use Rattle.wk_bytes.specs.ShortLaws.{short-some}
-use Rattle.wk_bytes.specs.ListWords.{is_empty}
 use Rattle.wk_module.specs.declared.types.Parts.{Parts}
 use Rattle.wk_module.specs.declared.types.Custom.{Custom}
-use Rattle.wk_module.specs.Vectors.{written_vector}
+use Rattle.wk_body.specs.Bodies.{BodyOf}
+use Rattle.wk_body.specs.Vectors.{written_vector}
+use Rattle.wk_body.specs.Written.{written_expr, written_body}
+use Rattle.wk_module.specs.declared.types.FuncType.{FuncType}
+use Rattle.wk_module.specs.declared.types.Import.{Import}
+use Rattle.wk_module.specs.declared.types.Export.{Export}
+use Rattle.wk_module.specs.declared.types.Elem.{Elem}
+use Rattle.wk_module.specs.declared.types.DataSeg.{DataSeg}
+use Rattle.wk_module.specs.Formats.{written_bytes}
+use Rattle.wk_module.specs.Types.{written_functype, kind_byte}
+use Rattle.wk_module.specs.Items.{written_import, written_desc, written_export, written_elem, written_code, written_data}
 use Rattle.wk_module.specs.Customs.{written_custom}
 use Rattle.wk_module.specs.Shape.{IsInOrderFrom}
-use Rattle.wk_module.specs.Writing.{framed, vector_section, section_of, customs_at, section_and_customs, ids, encoded}
+use Rattle.wk_module.specs.Writing.{framed, section_of, customs_at, section_and_customs, ids, encoded}
 
 -- ---- no written form is empty
 
@@ -22,10 +31,26 @@ some_vector written xs = omega (arith, length-append (short (length xs)) (flat_m
 pub some_custom : (c : Custom) → 0 < length (written_custom c)
 some_custom c = omega (arith, length-append (short (length c.name)) (c.name ++ c.bytes), short-some (length c.name))
 
--- ---- a section that is not left out
+pub some_functype : (t : FuncType) → 0 < length (written_functype t)
+some_functype t = omega arith
 
-pub vector_section-some : {A : Type 0} (id : ℕ) (written : A → List ℕ) (xs : List A) → is_empty xs ≡ false → vector_section id written xs ≡ framed id (written_vector written xs)
-vector_section-some id written xs full = cond-false (is_empty xs) [] (framed id (written_vector written xs)) full
+pub some_bytes : (bytes : List ℕ) → 0 < length (written_bytes bytes)
+some_bytes bytes = omega (arith, length-append (short (length bytes)) bytes, short-some (length bytes))
+
+pub some_import : (i : Import) → 0 < length (written_import i)
+some_import i = omega (arith, length-append (written_bytes i.from) (written_bytes i.name ++ written_desc i.desc), some_bytes i.from)
+
+pub some_export : (e : Export) → 0 < length (written_export e)
+some_export e = omega (arith, length-append (written_bytes e.name) (kind_byte e.kind ∷ short e.index), some_bytes e.name)
+
+pub some_elem : (e : Elem) → 0 < length (written_elem e)
+some_elem e = omega (arith, length-append (short e.table) (written_expr e.offset ++ written_vector short e.funcs), short-some e.table)
+
+pub some_code : (body : BodyOf) → 0 < length (written_code body)
+some_code body = some_bytes (written_body body)
+
+pub some_data : (d : DataSeg) → 0 < length (written_data d)
+some_data d = omega (arith, length-append (short d.memory) (written_expr d.offset ++ written_bytes d.bytes), short-some d.memory)
 
 -- ---- lists end to end
 

@@ -1,21 +1,33 @@
 //! How long written forms get.
 
-ghost use Rattle.std.specs.Prelude.{◌≡◌, ℕ, ◌+◌, ◌≤◌, length};
+ghost use Rattle.std.specs.Prelude.{◌≡◌, ℕ, List, length};
+ghost use Rattle.wk_body.specs.Lengths.{limited, GrowsBy};
 ghost use Rattle.std.specs.List.{flat_map};
-ghost use Rattle.wk_bytes.specs.Short.{short};
 ghost use Rattle.wk_module.specs.Customs.{written_custom};
-ghost use Rattle.wk_module.specs.Lengths.{GrowsBy};
-ghost use Rattle.wk_module.specs.Writing.{encoded, framed, limited, section_of, ids, vector_section};
+ghost use Rattle.wk_module.specs.Sections.{of_number};
+ghost use Rattle.wk_module.specs.Shape.{lists_of};
+ghost use Rattle.wk_module.specs.Writing.{encoded, framed, section_of, ids, contents_by, SectionLen};
 
+use crate::format::{Codes, FuncIndices};
+use crate::lists::Lists;
 use crate::module::Module;
 use crate::types::{Custom, Parts};
-use crate::writable::Writable;
-use wk_bytes::{Items, LIMIT, leb_len_u32};
+use crate::writing::{list_len, plus, plus_bytes, plus_u32};
+use wk_bytes::Items;
 
 /// The length of the magic and the version.
 const HEADER_LEN: u32 = 8;
 
-/// How many bytes the written form of a module has (`encode`), or nothing past 2147483647. It takes no memory.
+/// The greatest id of a section (5.5.2).
+pub(crate) const LAST: u8 = 11;
+
+/// The id of the function section (5.5.2).
+pub(crate) const FUNCTIONS: u8 = 3;
+
+/// The id of the code section (5.5.2).
+pub(crate) const CODES: u8 = 10;
+
+/// How many bytes the written form of a module has (`encode`), or nothing past 2,147,483,647. It takes no memory.
 pub fn encoded_len(module: &Module) -> Option<u32>
     ensures { result ≡ limited (length (encoded «module».now)) }
 {
@@ -24,53 +36,66 @@ pub fn encoded_len(module: &Module) -> Option<u32>
     plus_customs(total, &parts.customs)
 }
 
-/// A length with more added, or nothing past the limit.
-pub(crate) fn plus(total: Option<u32>, more: usize) -> Option<u32>
-    ensures { GrowsBy more total result }
+/// How many bytes the contents of the section of an id have in the written form: 0 where the section is left out. Nothing where
+/// they are more than 2,147,483,647, or where the id is not 1 to 11. It takes no memory.
+pub fn section_len(module: &Module, id: u8) -> Option<u32>
+    ensures { SectionLen (lists_of «module».now) (of_number id) result }
 {
-    match total {
-        Some(total) if total as usize <= LIMIT && more <= LIMIT - total as usize => {
-            Some(total + more as u32)
-        }
-        _ => None,
-    }
-}
-
-/// A length with a count added, where at least as many bytes are in it already.
-pub(crate) fn plus_count(total: Option<u32>, count: usize) -> Option<u32>
-    ensures { (n : ℕ) → total ≡ limited n → count ≤ n → result ≡ limited (n + length (short count)) }
-{
-    if count > LIMIT {
+    if id == 0 || id > LAST {
         return None;
     }
-    plus(total, leb_len_u32(count as u32))
+    contents_len(module.parts(), id)
 }
 
-/// A length with a section of these contents added.
-fn plus_framed<T: Writable>(total: Option<u32>, contents: &T) -> Option<u32>
-    ensures { (id : ℕ) → GrowsBy (length (framed id (T.written contents.now))) total result }
+/// How many bytes the contents of a custom section have, its name and its bytes, or nothing past 2,147,483,647. It takes no
+/// memory.
+pub fn custom_len(custom: &Custom) -> Option<u32>
+    ensures { result ≡ limited (length (written_custom custom.now)) }
 {
-    let size = contents.measure(Some(0))?;
-    let total = plus(total, 1);
-    let total = plus(total, leb_len_u32(size));
+    let total = plus_bytes(custom.name.as_str().as_bytes(), Some(0));
+    plus(total, custom.bytes.len())
+}
+
+/// The length of the contents of the section of an id: 0 where it is left out or is one of other ids, nothing past the limit.
+pub(crate) fn contents_len(parts: &Parts, id: u8) -> Option<u32>
+    ensures { result ≡ limited (length (contents_by (lists_of parts.now) (of_number id))) }
+{
+    match id {
+        FUNCTIONS => list_len::<FuncIndices>(parts.funcs.as_slice()),
+        CODES => list_len::<Codes>(parts.funcs.as_slice()),
+        _ => Lists::but_funcs(parts).contents_len(id),
+    }
+}
+
+/// A length with a section whose contents are so long added, or nothing past the limit.
+fn plus_framed(total: Option<u32>, size: Option<u32>) -> Option<u32>
+    ensures { (id : ℕ) (contents : List ℕ) → size ≡ limited (length contents) → GrowsBy (length (framed id contents)) total result }
+{
+    let size = size?;
+    let total = plus_u32(plus(total, 1), size);
     plus(total, size as usize)
 }
 
-/// A length with a section of a vector added, which is left out where it is empty.
-fn plus_vector<T: Writable>(total: Option<u32>, items: &Items<T>) -> Option<u32>
-    ensures { (id : ℕ) → GrowsBy (length (vector_section id T.written items.now)) total result }
+/// A length with the section of an id added, which is left out where it has no contents.
+fn plus_section(total: Option<u32>, parts: &Parts, id: u8) -> Option<u32>
+    ensures { GrowsBy (length (section_of parts.now id)) total result }
 {
-    if items.is_empty() {
+    let size = contents_len(parts, id);
+    if size == Some(0) {
         return total;
     }
-    plus_framed(total, items)
+    plus_framed(total, size)
 }
 
 /// A length with the sections that are no custom ones added.
 fn plus_sections(total: Option<u32>, parts: &Parts) -> Option<u32>
     ensures { GrowsBy (length (flat_map (section_of parts.now) ids)) total result }
 {
-    plus_vector(total, &parts.types)
+    let mut all = total;
+    for id in 0..=LAST {
+        all = plus_section(all, parts, id);
+    }
+    all
 }
 
 /// A length with the custom sections added.
@@ -79,7 +104,7 @@ fn plus_customs(total: Option<u32>, customs: &Items<Custom>) -> Option<u32>
 {
     let mut all = total;
     for custom in customs.as_slice() {
-        all = plus_framed(all, custom);
+        all = plus_framed(all, custom_len(custom));
     }
     all
 }

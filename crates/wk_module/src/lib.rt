@@ -1,24 +1,33 @@
 //! A WebAssembly 1.0 module: its lists, its binary format, and its one written form.
 #![tactic(auto)]
 
-mod fault;
+mod format;
 mod length;
+mod lists;
 mod module;
-mod readable_types;
+mod readable;
 mod reader;
 mod reading;
 mod settle;
 mod types;
 mod writable;
 mod writer;
+mod writing;
 
-pub use fault::EncodeFault;
-pub use length::encoded_len;
+pub use length::{custom_len, encoded_len, section_len};
+pub use lists::Lists;
 pub use module::Module;
-pub use reader::{one_module, read};
-pub use types::{Custom, FuncType, Parts, ValType};
-pub use writer::encode;
+pub use reader::{one_module, read, read_in};
+pub use types::{
+    Custom, DataSeg, Elem, Export, Func, FuncType, GlobalDef, GlobalType, Import, ImportDesc, Kind,
+    Limits, Parts,
+};
+pub use wk_body::{
+    BlockKind, BlockType, Body, EncodeFault, Expr, LocalGroup, MAX_DEPTH, MemoryOp, Moving,
+    NumericOp, NumericType, Profile, Ref, Scratch, ShiftFault, Token, ValType, append_body,
+    append_expr, body_len, encode_body, encode_expr, expr_len, next_expr, next_expr_in,
+    one_spelling_of_code, read_body, read_body_in, read_expr, read_expr_in, refs, shift,
+    shift_expr, written_form_of_code,
+};
+pub use writer::{encode, encode_custom, encode_section};
 
-#[cfg(test)]
-mod tests_reading;
-mod tests_writing;

@@ -7,12 +7,13 @@ use crate::settle::{filled_ids, settled_customs};
 use crate::types::Parts;
 use std::alloc::Global;
 use std::marker::Model;
-use wk_bytes::Items;
+use wk_body::Profile;
 
-/// A module, seen as its parts.
+/// A module (2.5), seen as its parts.
 ///
-/// Its lists are formed: fewer than 2^32 types, custom sections in the order of their places (at most 11), names in
-/// UTF-8. And each custom section is settled: its place is the id of a section that is not empty, or 0.
+/// Its lists are formed: numbers are in their ranges, names are UTF-8, expressions and bodies belong to its profile, and custom
+/// sections stand in the order of their places, which are at most 11. And each custom section is settled: its place is the id of
+/// a section that is not empty, or 0.
 #[derive(Drop)]
 pub struct Module {
     parts: Parts,
@@ -30,15 +31,13 @@ impl Model for Module {
 }
 
 impl Module {
-    /// The module without anything. It takes no memory.
-    pub fn empty(alloc: Global) -> Module
-        ensures { result ≡ nothing }
+    /// The module of a profile without anything. It takes no memory.
+    #[tactic(auto, using(crate::specs::ShapeLaws::nothing_shaped))]
+    pub fn empty(alloc: Global, profile: Profile) -> Module
+        ensures { result ≡ nothing profile }
     {
         Module {
-            parts: Parts {
-                types: Items::new(alloc),
-                customs: Items::new(alloc),
-            },
+            parts: Parts::new(alloc, profile),
         }
     }
 
@@ -49,10 +48,10 @@ impl Module {
         ensures { result ≡ settle parts }
     {
         let filled = filled_ids(&parts);
-        let Parts { types, customs } = parts;
+        let Parts { customs, .. } = parts;
         let customs = settled_customs(customs, &filled);
         Module {
-            parts: Parts { types, customs },
+            parts: Parts { customs, ..parts },
         }
     }
 

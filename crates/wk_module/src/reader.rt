@@ -1,28 +1,37 @@
 //! Reading a module (5.5.15).
 
-ghost use Rattle.std.specs.Prelude.{◌≡◌, ◌≢◌, ℕ, List, IfOk, IfErr};
-ghost use Rattle.wk_bytes.specs.Fault.{no_memory};
+ghost use Rattle.std.specs.Prelude.{◌≡◌, ◌≢◌, length, IfOk, IfErr, MatchResult, if◌then◌else◌};
 ghost use Rattle.wk_bytes.specs.Raw.{raw_view};
+ghost use Rattle.wk_bytes.specs.Stands.{StandsIn};
+ghost use Rattle.wk_body.specs.Reads.{Reads};
 ghost use Rattle.wk_module.specs.declared.types.Parts.{Parts as Lists};
 ghost use Rattle.wk_module.specs.Customs.{custom_at};
-ghost use Rattle.wk_module.specs.ModuleLaws.{SpellOne};
-ghost use Rattle.wk_module.specs.Modules.{Spells, SpellsNone, StandsInModule};
+ghost use Rattle.wk_module.specs.Formats.{all_at};
+ghost use Rattle.wk_module.specs.ModuleLaws.{SpellOne, SpellAlike};
+ghost use Rattle.wk_module.specs.Modules.{Spells, SpellsNone};
 ghost use Rattle.wk_module.specs.Writing.{Fits};
-ghost use Rattle.wk_module.specs.Reading.{Reads, at_start, section_end, with_section, is_unknown_at, frame_fault, module_at};
+ghost use Rattle.wk_module.specs.Sections.{contents_at, StartSection, CodeSection};
+ghost use Rattle.wk_module.specs.Reading.{at_start, section_end, with_section, sections_read, joined, zipped, module_at};
 
+use crate::format::{
+    Codes, Datas, Elems, Exports, FuncTypes, Globals, Imports, Indices, Memories, Tables,
+};
 use crate::module::Module;
-use crate::reading::read_contents;
-use crate::types::{Custom, Parts};
+use crate::reading::{Readable, at_end, read_contents, read_name};
+use crate::types::{Custom, Func, Parts};
 use std::alloc::Global;
 use std::marker::Model;
-use wk_bytes::{Items, LIMIT, OutOfMemory, RawSection, ReadFault, ReadKind, Sections, Text};
+use wk_body::{Body, Profile, Scratch};
+use wk_bytes::{Items, OutOfMemory, RawSection, ReadFault, ReadKind, Sections};
 
-// What was read so far: the lists, the id of the last section that is not empty, and where the next id stands.
+// What was read so far: the lists, where the functions are parted into their types and their bodies, and the id of the last
+// section that is not empty.
 #[derive(Drop)]
 struct SoFar {
     parts: Parts,
+    indices: Items<u32>,
+    bodies: Items<Body>,
     place: u8,
-    next: u32,
 }
 
 impl Model for SoFar {
@@ -30,7 +39,23 @@ impl Model for SoFar {
 
     ghost Value = { Progress };
 
-    ghost view = { λ s. record { lists = s.parts; place = s.place; next = s.next } };
+    ghost view = { λ s. record {
+        lists = record {
+            types = s.parts.types;
+            imports = s.parts.imports;
+            funcs = s.indices;
+            tables = s.parts.tables;
+            memories = s.parts.memories;
+            globals = s.parts.globals;
+            exports = s.parts.exports;
+            start = s.parts.start;
+            elems = s.parts.elems;
+            codes = s.bodies;
+            datas = s.parts.datas
+        };
+        customs = s.parts.customs;
+        place = s.place
+    } };
 }
 
 // Reads a custom section that stands at a place.
@@ -39,144 +64,275 @@ fn read_custom(alloc: Global, place: u8, section: &RawSection<'_>) -> Result<Cus
     ensures { Reads (λ c. c) result (custom_at place (section_end (raw_view section.now)) section.now.contents.now) }
 {
     let mut cursor = section.cursor();
-    let name = cursor.name()?;
+    let name = read_name(alloc, &mut cursor)?;
     Ok(Custom {
         place,
-        name: Text::from_string(String::from_str(alloc, name)?),
+        name,
         bytes: Items::from_vec(Vec::from_slice(alloc, cursor.rest())?),
     })
 }
 
+// Reads the start section, which is one index.
+#[tactic(auto, unfolding(crate::specs::Formats::made_at))]
+fn read_start(profile: Profile, section: &RawSection<'_>) -> Result<Option<u32>, ReadFault>
+    ensures { (funcs : ℕ) → Reads (λ x. x) result (all_at (contents_at profile funcs StartSection) (section_end (raw_view section.now)) section.now.contents.now) }
+{
+    let mut cursor = section.cursor();
+    let index = cursor.u32()?;
+    at_end(&cursor)?;
+    Ok(Some(index))
+}
+
+// Reads the code section, where that many functions were declared.
+#[tactic(auto, using(crate::proofs::VectorReading::goes_on, crate::proofs::VectorReading::stops, crate::proofs::VectorReading::is_done), unfolding(crate::specs::Sections::codes_at))]
+fn read_codes(
+    alloc: Global,
+    scratch: &mut Scratch,
+    profile: Profile,
+    funcs: usize,
+    section: &RawSection<'_>,
+) -> Result<Items<Body>, ReadFault>
+    ensures { Reads (λ x. x) result (all_at (contents_at profile funcs CodeSection) (section_end (raw_view section.now)) section.now.contents.now) }
+{
+    let mut cursor = section.cursor();
+    let mismatch = cursor.fault(ReadKind::FuncCodeCount);
+    let count = cursor.u32()?;
+    if count as usize != funcs {
+        return Err(mismatch);
+    }
+    let mut bodies = Items::new(alloc);
+    for _ in 0..count {
+        bodies.push(Codes::read(alloc, scratch, profile, &mut cursor)?)?;
+    }
+    at_end(&cursor)?;
+    Ok(bodies)
+}
+
+// The place behind a section: its id, unless it is empty.
+fn place_behind(place: u8, id: u8, full: bool) -> u8
+    ensures { result ≡ (if full then id else place) }
+{
+    if full { id } else { place }
+}
+
 impl SoFar {
     // Before the first section.
-    fn new(alloc: Global) -> SoFar
+    fn new(alloc: Global, profile: Profile) -> SoFar
         ensures { result ≡ at_start }
     {
         SoFar {
-            parts: Parts {
-                types: Items::new(alloc),
-                customs: Items::new(alloc),
-            },
+            parts: Parts::new(alloc, profile),
+            indices: Items::new(alloc),
+            bodies: Items::new(alloc),
             place: 0,
-            next: 8,
         }
+    }
+
+    // Reads a section of the ids 1 to 5.
+    #[tactic(auto, unfolding(crate::specs::Reading::section_by))]
+    fn with_low_section(
+        mut self,
+        alloc: Global,
+        scratch: &mut Scratch,
+        profile: Profile,
+        section: &RawSection<'_>,
+    ) -> Result<SoFar, ReadFault>
+        requires low { 1 ≤ section.now.id }
+        requires high { section.now.id ≤ 5 }
+        ensures { Reads (λ p. p) result (with_section profile self (raw_view section.now)) }
+    {
+        let full = match section.id {
+            1 => {
+                self.parts.types = read_contents::<FuncTypes>(alloc, scratch, profile, section)?;
+                !self.parts.types.is_empty()
+            }
+            2 => {
+                self.parts.imports = read_contents::<Imports>(alloc, scratch, profile, section)?;
+                !self.parts.imports.is_empty()
+            }
+            3 => {
+                self.indices = read_contents::<Indices>(alloc, scratch, profile, section)?;
+                !self.indices.is_empty()
+            }
+            4 => {
+                self.parts.tables = read_contents::<Tables>(alloc, scratch, profile, section)?;
+                !self.parts.tables.is_empty()
+            }
+            _ => {
+                self.parts.memories = read_contents::<Memories>(alloc, scratch, profile, section)?;
+                !self.parts.memories.is_empty()
+            }
+        };
+        self.place = place_behind(self.place, section.id, full);
+        Ok(self)
+    }
+
+    // Reads a section of the ids 6 to 11.
+    #[tactic(auto, unfolding(crate::specs::Reading::section_by))]
+    fn with_high_section(
+        mut self,
+        alloc: Global,
+        scratch: &mut Scratch,
+        profile: Profile,
+        section: &RawSection<'_>,
+    ) -> Result<SoFar, ReadFault>
+        requires low { 6 ≤ section.now.id }
+        requires high { section.now.id ≤ 11 }
+        ensures { Reads (λ p. p) result (with_section profile self (raw_view section.now)) }
+    {
+        let full = match section.id {
+            6 => {
+                self.parts.globals = read_contents::<Globals>(alloc, scratch, profile, section)?;
+                !self.parts.globals.is_empty()
+            }
+            7 => {
+                self.parts.exports = read_contents::<Exports>(alloc, scratch, profile, section)?;
+                !self.parts.exports.is_empty()
+            }
+            8 => {
+                self.parts.start = read_start(profile, section)?;
+                self.parts.start.is_some()
+            }
+            9 => {
+                self.parts.elems = read_contents::<Elems>(alloc, scratch, profile, section)?;
+                !self.parts.elems.is_empty()
+            }
+            10 => {
+                let funcs = self.indices.len();
+                self.bodies = read_codes(alloc, scratch, profile, funcs, section)?;
+                !self.bodies.is_empty()
+            }
+            _ => {
+                self.parts.datas = read_contents::<Datas>(alloc, scratch, profile, section)?;
+                !self.parts.datas.is_empty()
+            }
+        };
+        self.place = place_behind(self.place, section.id, full);
+        Ok(self)
     }
 
     // Reads one more section.
-    #[tactic(auto, unfolding(crate::specs::Reading::with_section))]
-    fn with_section(mut self, alloc: Global, section: &RawSection<'_>) -> Result<SoFar, ReadFault>
-        ensures { Reads (λ p. p) result (with_section self (raw_view section.now)) }
+    #[tactic(auto, unfolding(crate::specs::Reading::section_by))]
+    fn with_section(
+        mut self,
+        alloc: Global,
+        scratch: &mut Scratch,
+        profile: Profile,
+        section: &RawSection<'_>,
+    ) -> Result<SoFar, ReadFault>
+        ensures { Reads (λ p. p) result (with_section profile self (raw_view section.now)) }
     {
         match section.id {
-            0 => {
+            1..=5 => self.with_low_section(alloc, scratch, profile, section),
+            6..=11 => self.with_high_section(alloc, scratch, profile, section),
+            _ => {
                 let custom = read_custom(alloc, self.place, section)?;
                 self.parts.customs.push(custom)?;
-            }
-            1 => {
-                self.parts.types = read_contents(alloc, section)?;
-                if !self.parts.types.is_empty() {
-                    self.place = 1;
-                }
-            }
-            _ => {
-                return Err(ReadFault {
-                    kind: ReadKind::UnknownSection,
-                    at: self.next,
-                });
+                Ok(self)
             }
         }
-        self.next = section.at + section.contents.len() as u32;
-        Ok(self)
     }
-}
-
-// Whether a section that is not known yet begins there.
-fn is_unknown_at(bytes: &[u8], next: u32) -> bool
-    ensures { result ≡ is_unknown_at bytes.now next }
-{
-    match bytes.get(next as usize) {
-        Some(id) => 1 < *id && *id < 12,
-        None => false,
-    }
-}
-
-// The fault of a frame, unless its id, which comes first, is not known yet.
-fn frame_fault(bytes: &[u8], next: u32, fault: ReadFault) -> ReadFault
-    ensures { result ≡ frame_fault bytes.now next fault }
-{
-    if bytes.len() <= LIMIT && next <= fault.at && is_unknown_at(bytes, next) {
-        return ReadFault {
-            kind: ReadKind::UnknownSection,
-            at: next,
-        };
-    }
-    fault
 }
 
 // Section after section.
-#[tactic(auto, unfolding(crate::specs::Reading::sections_read, crate::specs::Reading::module_at))]
-fn read_sections(alloc: Global, bytes: &[u8]) -> Result<Parts, ReadFault>
-    ensures { Reads (λ m. m) result (module_at bytes.now) }
+#[tactic(auto, unfolding(crate::specs::Reading::sections_read))]
+fn read_sections(alloc: Global, bytes: &[u8], profile: Profile) -> Result<SoFar, ReadFault>
+    ensures { Reads (λ p. p) result (sections_read profile at_start (sections_of bytes.now)) }
 {
-    let mut so_far = SoFar::new(alloc);
+    let mut scratch = Scratch::new(alloc);
+    let mut so_far = SoFar::new(alloc, profile);
     for section in Sections::new(bytes) {
-        match section {
-            Ok(section) => so_far = so_far.with_section(alloc, &section)?,
-            Err(fault) => return Err(frame_fault(bytes, so_far.next, fault)),
-        }
+        so_far = so_far.with_section(alloc, &mut scratch, profile, &section?)?;
     }
-    let SoFar { parts, .. } = so_far;
-    Ok(parts)
+    Ok(so_far)
+}
+
+// Each function's type and body.
+fn functions(
+    alloc: Global,
+    indices: &Items<u32>,
+    bodies: Items<Body>,
+) -> Result<Items<Func>, OutOfMemory>
+    requires { length indices.now ≡ length bodies }
+    ensures { IfOk result (λ funcs. funcs ≡ zipped indices.now bodies) }
+{
+    let indices = indices.as_slice();
+    let mut funcs = Vec::with_capacity(alloc, indices.len())?;
+    for body in bodies.into_vec() {
+        let ty = indices[funcs.len()];
+        funcs.push_reserved(Func { ty, body });
+    }
+    Ok(Items::from_vec(funcs))
+}
+
+// The module of all that was read of an input with that many bytes.
+fn together(
+    alloc: Global,
+    profile: Profile,
+    so_far: SoFar,
+    len: u32,
+) -> Result<Parts, ReadFault>
+    ensures { Reads (λ m. m) result (joined profile len so_far) }
+{
+    let SoFar {
+        parts,
+        indices,
+        bodies,
+        ..
+    } = so_far;
+    if indices.len() != bodies.len() {
+        return Err(ReadFault {
+            kind: ReadKind::FuncCodeCount,
+            at: len,
+        });
+    }
+    let funcs = functions(alloc, &indices, bodies)?;
+    Ok(Parts { profile, funcs, ..parts })
 }
 
 // The lists of a module, as they are spelled.
-pub(crate) fn read_parts(alloc: Global, bytes: &[u8]) -> Result<Parts, ReadFault>
-    ensures exact { Reads (λ m. m) result (module_at bytes.now) }
+#[tactic(auto, unfolding(crate::specs::Reading::module_at))]
+pub(crate) fn read_parts(alloc: Global, bytes: &[u8], profile: Profile) -> Result<Parts, ReadFault>
+    ensures exact { Reads (λ m. m) result (module_at profile bytes.now) }
     ensures found { IfOk result (λ m. Spells bytes.now m) }
+    ensures profile { IfOk result (λ m. m.profile ≡ profile) }
 {
-    read_sections(alloc, bytes)
+    let so_far = read_sections(alloc, bytes, profile)?;
+    together(alloc, profile, so_far, bytes.len() as u32)
 }
 
-// Want of memory has no place in the input: it stands at 0.
-fn placed(fault: ReadFault) -> ReadFault
-    ensures kind { result.kind ≡ fault.kind }
-    ensures same { fault.kind ≢ ReadKind.Memory → result ≡ fault }
-    ensures memory { fault.kind ≡ ReadKind.Memory → result ≡ no_memory }
-{
-    if fault.kind == ReadKind::Memory {
-        return ReadFault::from(OutOfMemory);
-    }
-    fault
-}
-
-// What is spelled is settled already, so that it is the module.
-fn read_module(alloc: Global, bytes: &[u8]) -> Result<Module, ReadFault>
-    ensures exact { Reads (λ m. m) result (module_at bytes.now) }
-    ensures memory { IfErr result (λ e. e.kind ≡ ReadKind.Memory → e ≡ no_memory) }
-{
-    match read_parts(alloc, bytes) {
-        Ok(parts) => Ok(Module::of(parts)),
-        Err(fault) => Err(placed(fault)),
-    }
-}
-
-/// Reads a module (5.5.15): the header, then custom sections and the type section, each read to its end before the
-/// next one's id. The ids 2 to 11 are not read yet: such an id is `UnknownSection`, at the id byte.
+/// Reads a module of a profile (5.5.15): the header and the sections, each read to its end before the next one's id.
 ///
-/// The module is the only one that the bytes spell. Where they spell none the answer is the first fault from left to
-/// right, at its offset in `bytes`; where a growth is refused it is `Memory`, at 0.
-pub fn read(alloc: Global, bytes: &[u8]) -> Result<Module, ReadFault>
-    ensures exact { Reads (λ m. m) result (module_at bytes.now) }
+/// The module is the only one of the profile that the bytes spell. Where they spell none the answer is the first fault from left
+/// to right, at its offset in `bytes`; where a growth is refused it is `Memory`, at 0.
+pub fn read_in(alloc: Global, bytes: &[u8], profile: Profile) -> Result<Module, ReadFault>
+    ensures exact { Reads (λ m. m) result (module_at profile bytes.now) }
     ensures found { IfOk result (λ m. Spells bytes.now m) }
-    ensures only { IfOk result (λ m. (n : Lists) → Spells bytes.now n → n ≡ m) }
+    ensures profile { IfOk result (λ m. m.profile ≡ profile) }
+    ensures only { IfOk result (λ m. (n : Lists) → n.profile ≡ profile → Spells bytes.now n → n ≡ m) }
     ensures fits { IfOk result (λ m. Fits m) }
-    ensures refused { IfErr result (λ e. e.kind ≢ ReadKind.Memory → SpellsNone bytes.now) }
-    ensures fault { IfErr result (λ e. StandsInModule bytes.now e) }
+    ensures refused { IfErr result (λ e. e.kind ≢ ReadKind.Memory → SpellsNone profile bytes.now) }
+    ensures fault { IfErr result (λ e. StandsIn bytes.now e) }
 {
-    read_module(alloc, bytes)
+    Ok(Module::of(read_parts(alloc, bytes, profile)?))
 }
 
-/// No bytes spell two modules: the law alone, without any work.
+/// Reads a module of WebAssembly 1.0, as [`read_in`] does.
+pub fn read(alloc: Global, bytes: &[u8]) -> Result<Module, ReadFault>
+    ensures exact { Reads (λ m. m) result (module_at Profile.Core bytes.now) }
+    ensures found { IfOk result (λ m. Spells bytes.now m) }
+    ensures profile { IfOk result (λ m. m.profile ≡ Profile.Core) }
+    ensures only { IfOk result (λ m. (n : Lists) → n.profile ≡ Profile.Core → Spells bytes.now n → n ≡ m) }
+    ensures fits { IfOk result (λ m. Fits m) }
+    ensures refused { IfErr result (λ e. e.kind ≢ ReadKind.Memory → SpellsNone Profile.Core bytes.now) }
+    ensures fault { IfErr result (λ e. StandsIn bytes.now e) }
+{
+    read_in(alloc, bytes, Profile::Core)
+}
+
+/// The laws that make modules readable in one way: no bytes spell two modules of one profile, and what spells one of 1.0 spells
+/// the one of the other profile with the same lists. It does nothing.
 pub fn one_module()
-    ensures { SpellOne }
+    ensures one { SpellOne }
+    ensures alike { SpellAlike }
 {}

@@ -1,57 +1,113 @@
-//! Reading items one after the other.
+//! Reading items one after the other (5.1.3).
 
-ghost use Rattle.std.specs.Prelude.{◌≡◌};
+ghost use Rattle.std.specs.Prelude.{◌≡◌, ◌≢◌, [], MatchResult};
 ghost use Rattle.wk_bytes.specs.Raw.{raw_view};
-ghost use Rattle.wk_module.specs.Reading.{Parses, Reads, section_end};
-ghost use Rattle.wk_module.specs.Vectors.{vector_at, all_at};
+ghost use Rattle.wk_bytes.specs.Span.{fault, name_at};
+ghost use Rattle.wk_body.specs.Reads.{Parses, Reads};
+ghost use Rattle.wk_body.specs.Vectors.{vector_at};
+ghost use Rattle.wk_module.specs.Formats.{coded_at, this_byte_at, bytes_at, all_at};
+ghost use Rattle.wk_module.specs.Reading.{section_end};
 
 use std::alloc::Global;
-use wk_bytes::{Cursor, Items, RawSection, ReadFault, ReadKind};
+use wk_body::{Profile, Scratch};
+use wk_bytes::{Cursor, Items, RawSection, ReadFault, ReadKind, Text};
 
-/// What stands in vectors (5.1.3).
-pub(crate) trait Readable: Drop {
+/// A way in which items of vectors are spelled, as they are read.
+pub(crate) trait Readable {
+    /// What is read.
+    type Item: Drop;
+
     ghost use Rattle.std.specs.Prelude.{ℕ, List, Result};
     ghost use Rattle.wk_bytes.specs.declared.fault.ReadFault.{ReadFault};
+    ghost use Rattle.wk_body.specs.declared.types.Profile.{Profile as InProfile};
 
     // How one is read at the front of bytes that end at an offset.
-    ghost read_at: { ℕ → List ℕ → Result (Self × List ℕ) ReadFault };
+    ghost read_at: { InProfile → ℕ → List ℕ → Result (Self.Item × List ℕ) ReadFault };
 
     /// Reads one. A refusal leaves the cursor anywhere.
-    fn read(alloc: Global, cursor: &mut Cursor<'_>) -> Result<Self, ReadFault>
-        ensures { Parses (λ x. x) read_at cursor.old result cursor.new };
+    fn read(
+        alloc: Global,
+        scratch: &mut Scratch,
+        profile: Profile,
+        cursor: &mut Cursor<'_>,
+    ) -> Result<Self::Item, ReadFault>
+        ensures { Parses (λ x. x) (read_at profile) cursor.old result cursor.new };
 }
 
 /// Reads a count and as many items. Room grows with the items and not with the count, which may be any number.
-#[tactic(auto, using(crate::proofs::VectorReading::goes_on, crate::proofs::VectorReading::stops, crate::proofs::VectorReading::is_done), unfolding(crate::specs::Vectors::vector_at))]
-pub(crate) fn read_vector<T: Readable>(
+#[tactic(auto, using(crate::proofs::VectorReading::goes_on, crate::proofs::VectorReading::stops, crate::proofs::VectorReading::is_done), unfolding(wk_body::specs::Vectors::vector_at))]
+pub(crate) fn read_vector<F: Readable>(
     alloc: Global,
+    scratch: &mut Scratch,
+    profile: Profile,
     cursor: &mut Cursor<'_>,
-) -> Result<Items<T>, ReadFault>
-    ensures { Parses (λ x. x) (vector_at T.read_at) cursor.old result cursor.new }
+) -> Result<Items<F::Item>, ReadFault>
+    ensures { Parses (λ x. x) (vector_at (F.read_at profile)) cursor.old result cursor.new }
 {
     let count = cursor.u32()?;
     let mut items = Items::new(alloc);
     for _ in 0..count {
-        items.push(T::read(alloc, cursor)?)?;
+        items.push(F::read(alloc, scratch, profile, cursor)?)?;
     }
     Ok(items)
 }
 
+/// What was read took all of a section's contents.
+pub(crate) fn at_end(cursor: &Cursor<'_>) -> Result<(), ReadFault>
+    ensures { MatchResult result
+        (λ _. cursor.now.rest ≡ [])
+        (λ e. (e ≡ fault ReadKind.SectionSize cursor.now.end cursor.now.rest) × (cursor.now.rest ≢ [])) }
+{
+    if !cursor.rest().is_empty() {
+        return Err(cursor.fault(ReadKind::SectionSize));
+    }
+    Ok(())
+}
+
 /// Reads a vector that fills the contents of a section.
-#[tactic(auto, unfolding(crate::specs::Vectors::vector_at))]
-pub(crate) fn read_contents<T: Readable>(
+pub(crate) fn read_contents<F: Readable>(
     alloc: Global,
+    scratch: &mut Scratch,
+    profile: Profile,
     section: &RawSection<'_>,
-) -> Result<Items<T>, ReadFault>
-    ensures { Reads (λ x. x) result (all_at (vector_at T.read_at) (section_end (raw_view section.now)) section.now.contents.now) }
+) -> Result<Items<F::Item>, ReadFault>
+    ensures { Reads (λ x. x) result (all_at (vector_at (F.read_at profile)) (section_end (raw_view section.now)) section.now.contents.now) }
 {
     let mut cursor = section.cursor();
-    let items = read_vector(alloc, &mut cursor)?;
-    if !cursor.rest().is_empty() {
+    let items = read_vector::<F>(alloc, scratch, profile, &mut cursor)?;
+    at_end(&cursor)?;
+    Ok(items)
+}
+
+/// Reads a byte that has to be there.
+#[tactic(auto, unfolding(crate::specs::Formats::this_byte_at))]
+pub(crate) fn read_this(wanted: u8, cursor: &mut Cursor<'_>) -> Result<u8, ReadFault>
+    ensures { Parses (λ x. x) (this_byte_at wanted) cursor.old result cursor.new }
+{
+    let at = cursor.at();
+    let byte = cursor.byte()?;
+    if byte != wanted {
         return Err(ReadFault {
-            kind: ReadKind::SectionSize,
-            at: cursor.at(),
+            kind: ReadKind::BadByte,
+            at,
         });
     }
-    Ok(items)
+    Ok(byte)
+}
+
+/// Reads a name (5.2.4).
+pub(crate) fn read_name(alloc: Global, cursor: &mut Cursor<'_>) -> Result<Text, ReadFault>
+    ensures { Parses (λ x. x) name_at cursor.old result cursor.new }
+{
+    let name = cursor.name()?;
+    Ok(Text::from_string(String::from_str(alloc, name)?))
+}
+
+/// Reads a size and as many bytes.
+#[tactic(auto, unfolding(crate::specs::Formats::bytes_at))]
+pub(crate) fn read_bytes<'a>(cursor: &mut Cursor<'a>) -> Result<&'a [u8], ReadFault>
+    ensures { Parses (λ x. x.now) bytes_at cursor.old result cursor.new }
+{
+    let size = cursor.u32()?;
+    cursor.take(size)
 }

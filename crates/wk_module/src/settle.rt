@@ -7,10 +7,24 @@ use crate::types::{Custom, Parts};
 use wk_bytes::Items;
 
 /// For each id from 0 on, whether the section with that id is written.
-pub(crate) fn filled_ids(parts: &Parts) -> [bool; 2]
+pub(crate) fn filled_ids(parts: &Parts) -> [bool; 12]
     ensures { result ≡ filled_list parts.now }
 {
-    [false, !parts.types.is_empty()]
+    let has_funcs = !parts.funcs.is_empty();
+    [
+        false,
+        !parts.types.is_empty(),
+        !parts.imports.is_empty(),
+        has_funcs,
+        !parts.tables.is_empty(),
+        !parts.memories.is_empty(),
+        !parts.globals.is_empty(),
+        !parts.exports.is_empty(),
+        parts.start.is_some(),
+        !parts.elems.is_empty(),
+        has_funcs,
+        !parts.datas.is_empty(),
+    ]
 }
 
 /// The custom sections, each at its settled place.

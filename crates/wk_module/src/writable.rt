@@ -1,44 +1,135 @@
-//! What is written: how long it gets, and its bytes.
+//! Writing what the lists of a module hold (5.3, 5.5).
 
-ghost use Rattle.std.specs.Prelude.{◌≡◌, ℕ, ◌+◌, ◌<◌, ◌^◌, List, ◌++◌, length, OnOk};
-ghost use Rattle.wk_module.specs.Types.{valtype_byte};
-ghost use Rattle.wk_module.specs.Lengths.{GrowsBy};
+ghost use Rattle.std.specs.Prelude.{◌≡◌, ◌<◌, ◌^◌, ◌++◌, length, OnOk};
+ghost use Rattle.wk_body.specs.Lengths.{GrowsBy};
+ghost use Rattle.wk_body.specs.Written.{written_expr};
+ghost use Rattle.wk_module.specs.Types.{flag_byte, kind_byte, written_limits, written_tabletype, written_globaltype};
+ghost use Rattle.wk_module.specs.Items.{desc_kind, written_desc};
 
-use crate::length::{plus, plus_count};
-use crate::types::{Custom, FuncType, ValType};
-use wk_bytes::{Items, OutOfMemory, put_u32};
+use crate::format::{
+    Codes, Datas, Elems, Exports, FuncIndices, FuncTypes, Globals, Imports, Indices, Memories,
+    Tables, ValTypes,
+};
+use crate::types::{
+    DataSeg, Elem, Export, Func, FuncType, GlobalDef, GlobalType, Import, ImportDesc, Kind, Limits,
+};
+use crate::writing::{
+    Writable, plus, plus_bytes, plus_u32, plus_vector, put_bytes, put_vector,
+};
+use wk_body::{Expr, ValType, append_body, append_expr, body_len, expr_len};
+use wk_bytes::{OutOfMemory, put_u32};
 
-/// A thing with one written form.
-pub(crate) trait Writable {
-    /// The bytes of the written form.
-    ghost written: { Self → List ℕ };
+/// The byte that begins a function type (5.3.3).
+const FUNC_TYPE: u8 = 0x60;
 
-    /// The length so far with the written form added, or nothing past the limit.
-    fn measure(&self, so_far: Option<u32>) -> Option<u32>
-        ensures { GrowsBy (length (written self.now)) so_far result };
+/// The byte of the element type of tables (5.3.5).
+const FUNC_REF: u8 = 0x70;
 
-    /// Appends the written form. After a refusal some of it may stand there.
-    fn put(&self, bytes: &mut Vec<u8>) -> Result<(), OutOfMemory>
-        requires { length (written self.now) < 2 ^ 32 }
-        ensures { OnOk result (bytes.new.items ≡ bytes.old.items ++ written self.now) };
-
-    /// No written form is empty.
-    ghost some: { (x : Self) → 0 < length (written x) };
+// The byte of a flag.
+fn flag_code(flag: bool) -> u8
+    ensures { result ≡ flag_byte flag }
+{
+    u8::from(flag)
 }
 
-// The byte of a value type (5.3.1).
-fn valtype_code(t: ValType) -> u8
-    ensures { result ≡ valtype_byte t }
+// The byte of a kind (5.5.10).
+fn kind_code(kind: Kind) -> u8
+    ensures { result ≡ kind_byte kind }
 {
-    match t {
-        ValType::I32 => 0x7F,
-        ValType::I64 => 0x7E,
-        ValType::F32 => 0x7D,
-        ValType::F64 => 0x7C,
+    match kind {
+        Kind::Func => 0x00,
+        Kind::Table => 0x01,
+        Kind::Memory => 0x02,
+        Kind::Global => 0x03,
     }
 }
 
-impl Writable for ValType {
+// The kind of what is imported.
+fn kind_of(desc: &ImportDesc) -> Kind
+    ensures { result ≡ desc_kind desc.now }
+{
+    match desc {
+        ImportDesc::Func(_) => Kind::Func,
+        ImportDesc::Table(_) => Kind::Table,
+        ImportDesc::Memory(_) => Kind::Memory,
+        ImportDesc::Global(_) => Kind::Global,
+    }
+}
+
+// A length with limits added.
+fn plus_limits(total: Option<u32>, limits: Limits) -> Option<u32>
+    ensures { GrowsBy (length (written_limits limits)) total result }
+{
+    let total = plus_u32(plus(total, 1), limits.min);
+    match limits.max {
+        Some(max) => plus_u32(total, max),
+        None => total,
+    }
+}
+
+// A length with what is imported added.
+fn plus_desc(total: Option<u32>, desc: &ImportDesc) -> Option<u32>
+    ensures { GrowsBy (length (written_desc desc.now)) total result }
+{
+    match *desc {
+        ImportDesc::Func(ty) => plus_u32(plus(total, 1), ty),
+        ImportDesc::Table(limits) => plus_limits(plus(total, 2), limits),
+        ImportDesc::Memory(limits) => plus_limits(plus(total, 1), limits),
+        ImportDesc::Global(_) => plus(total, 3),
+    }
+}
+
+// A length with an expression added.
+fn plus_expr(total: Option<u32>, expr: &Expr) -> Option<u32>
+    ensures { GrowsBy (length (written_expr expr.now)) total result }
+{
+    plus(total, expr_len(expr)? as usize)
+}
+
+// Limits (5.3.4).
+fn put_limits(limits: Limits, bytes: &mut Vec<u8>) -> Result<(), OutOfMemory>
+    ensures { OnOk result (bytes.new.items ≡ bytes.old.items ++ written_limits limits) }
+{
+    bytes.push(flag_code(limits.max.is_some()))?;
+    put_u32(bytes, limits.min)?;
+    if let Some(max) = limits.max {
+        put_u32(bytes, max)?;
+    }
+    Ok(())
+}
+
+// A table type (5.3.5).
+fn put_table_type(limits: Limits, bytes: &mut Vec<u8>) -> Result<(), OutOfMemory>
+    ensures { OnOk result (bytes.new.items ≡ bytes.old.items ++ written_tabletype limits) }
+{
+    bytes.push(FUNC_REF)?;
+    put_limits(limits, bytes)
+}
+
+// A global type (5.3.6).
+fn put_global_type(ty: GlobalType, bytes: &mut Vec<u8>) -> Result<(), OutOfMemory>
+    ensures { OnOk result (bytes.new.items ≡ bytes.old.items ++ written_globaltype ty) }
+{
+    bytes.extend_from_slice(&[ty.val.byte(), flag_code(ty.mutable)])?;
+    Ok(())
+}
+
+// What is imported (5.5.5).
+fn put_desc(desc: &ImportDesc, bytes: &mut Vec<u8>) -> Result<(), OutOfMemory>
+    ensures { OnOk result (bytes.new.items ≡ bytes.old.items ++ written_desc desc.now) }
+{
+    bytes.push(kind_code(kind_of(desc)))?;
+    match *desc {
+        ImportDesc::Func(ty) => put_u32(bytes, ty),
+        ImportDesc::Table(limits) => put_table_type(limits, bytes),
+        ImportDesc::Memory(limits) => put_limits(limits, bytes),
+        ImportDesc::Global(ty) => put_global_type(ty, bytes),
+    }
+}
+
+impl Writable for ValTypes {
+    type Item = ValType;
+
     ghost use Rattle.std.proofs.Common.{rules};
     ghost use Rattle.wk_module.specs.Types.{written_valtype};
 
@@ -46,85 +137,244 @@ impl Writable for ValType {
 
     ghost some = { Prim.search rules };
 
-    fn measure(&self, so_far: Option<u32>) -> Option<u32> {
+    fn measure(_item: &ValType, so_far: Option<u32>) -> Option<u32> {
         plus(so_far, 1)
     }
 
-    fn put(&self, bytes: &mut Vec<u8>) -> Result<(), OutOfMemory> {
-        bytes.extend_from_slice(&[valtype_code(*self)])?;
+    fn put(item: &ValType, bytes: &mut Vec<u8>) -> Result<(), OutOfMemory> {
+        bytes.push(item.byte())?;
         Ok(())
     }
 }
 
-impl<T: Writable> Writable for Items<T> {
-    ghost use Rattle.wk_module.specs.Vectors.{written_vector};
-    ghost use Rattle.wk_module.specs.WritingLaws.{some_vector};
+impl Writable for FuncTypes {
+    type Item = FuncType;
 
-    ghost written = { written_vector T.written };
-
-    ghost some = { some_vector T.written };
-
-    fn measure(&self, so_far: Option<u32>) -> Option<u32> {
-        let mut total = so_far;
-        for item in self.as_slice() {
-            total = item.measure(total);
-        }
-        plus_count(total, self.len())
-    }
-
-    fn put(&self, bytes: &mut Vec<u8>) -> Result<(), OutOfMemory> {
-        put_u32(bytes, self.len() as u32)?;
-        for item in self.as_slice() {
-            item.put(bytes)?;
-        }
-        Ok(())
-    }
-}
-
-impl Writable for FuncType {
-    ghost use Rattle.std.proofs.Common.{rules};
     ghost use Rattle.wk_module.specs.Types.{written_functype};
+    ghost use Rattle.wk_module.specs.WritingLaws.{some_functype};
 
     ghost written = { written_functype };
 
-    ghost some = { Prim.search rules };
+    ghost some = { some_functype };
 
-    fn measure(&self, so_far: Option<u32>) -> Option<u32> {
+    fn measure(item: &FuncType, so_far: Option<u32>) -> Option<u32> {
         let total = plus(so_far, 1);
-        let total = self.params.measure(total);
-        self.results.measure(total)
+        let total = plus_vector::<ValTypes>(item.params.as_slice(), total);
+        plus_vector::<ValTypes>(item.results.as_slice(), total)
     }
 
-    fn put(&self, bytes: &mut Vec<u8>) -> Result<(), OutOfMemory> {
-        bytes.extend_from_slice(&[FORM])?;
-        self.params.put(bytes)?;
-        self.results.put(bytes)
+    fn put(item: &FuncType, bytes: &mut Vec<u8>) -> Result<(), OutOfMemory> {
+        bytes.push(FUNC_TYPE)?;
+        put_vector::<ValTypes>(item.params.as_slice(), bytes)?;
+        put_vector::<ValTypes>(item.results.as_slice(), bytes)
     }
 }
 
-/// The byte that begins a function type (5.3.3).
-const FORM: u8 = 0x60;
+impl Writable for Imports {
+    type Item = Import;
 
-impl Writable for Custom {
-    ghost use Rattle.wk_module.specs.Customs.{written_custom};
-    ghost use Rattle.wk_module.specs.WritingLaws.{some_custom};
+    ghost use Rattle.wk_module.specs.Items.{written_import};
+    ghost use Rattle.wk_module.specs.WritingLaws.{some_import};
 
-    ghost written = { written_custom };
+    ghost written = { written_import };
 
-    ghost some = { some_custom };
+    ghost some = { some_import };
 
-    fn measure(&self, so_far: Option<u32>) -> Option<u32> {
-        let name = self.name.as_str().len();
-        let total = plus(so_far, name);
-        let total = plus_count(total, name);
-        plus(total, self.bytes.len())
+    fn measure(item: &Import, so_far: Option<u32>) -> Option<u32> {
+        let total = plus_bytes(item.from.as_str().as_bytes(), so_far);
+        let total = plus_bytes(item.name.as_str().as_bytes(), total);
+        plus_desc(total, &item.desc)
     }
 
-    fn put(&self, bytes: &mut Vec<u8>) -> Result<(), OutOfMemory> {
-        let name = self.name.as_str();
-        put_u32(bytes, name.len() as u32)?;
-        bytes.extend_from_slice(name.as_bytes())?;
-        bytes.extend_from_slice(self.bytes.as_slice())?;
-        Ok(())
+    fn put(item: &Import, bytes: &mut Vec<u8>) -> Result<(), OutOfMemory> {
+        put_bytes(item.from.as_str().as_bytes(), bytes)?;
+        put_bytes(item.name.as_str().as_bytes(), bytes)?;
+        put_desc(&item.desc, bytes)
+    }
+}
+
+impl Writable for Indices {
+    type Item = u32;
+
+    ghost use Rattle.wk_bytes.specs.Short.{short};
+    ghost use Rattle.wk_bytes.specs.ShortLaws.{short-some};
+
+    ghost written = { short };
+
+    ghost some = { short-some };
+
+    fn measure(item: &u32, so_far: Option<u32>) -> Option<u32> {
+        plus_u32(so_far, *item)
+    }
+
+    fn put(item: &u32, bytes: &mut Vec<u8>) -> Result<(), OutOfMemory> {
+        put_u32(bytes, *item)
+    }
+}
+
+impl Writable for FuncIndices {
+    type Item = Func;
+
+    ghost use Rattle.wk_bytes.specs.Short.{short};
+    ghost use Rattle.wk_bytes.specs.ShortLaws.{short-some};
+
+    ghost written = { λ f. short f.ty };
+
+    ghost some = { λ f. short-some f.ty };
+
+    fn measure(item: &Func, so_far: Option<u32>) -> Option<u32> {
+        plus_u32(so_far, item.ty)
+    }
+
+    fn put(item: &Func, bytes: &mut Vec<u8>) -> Result<(), OutOfMemory> {
+        put_u32(bytes, item.ty)
+    }
+}
+
+impl Writable for Tables {
+    type Item = Limits;
+
+    ghost use Rattle.std.proofs.Common.{rules};
+    ghost use Rattle.wk_module.specs.Types.{written_tabletype};
+
+    ghost written = { written_tabletype };
+
+    ghost some = { Prim.search rules };
+
+    fn measure(item: &Limits, so_far: Option<u32>) -> Option<u32> {
+        plus_limits(plus(so_far, 1), *item)
+    }
+
+    fn put(item: &Limits, bytes: &mut Vec<u8>) -> Result<(), OutOfMemory> {
+        put_table_type(*item, bytes)
+    }
+}
+
+impl Writable for Memories {
+    type Item = Limits;
+
+    ghost use Rattle.std.proofs.Common.{rules};
+    ghost use Rattle.wk_module.specs.Types.{written_limits};
+
+    ghost written = { written_limits };
+
+    ghost some = { Prim.search rules };
+
+    fn measure(item: &Limits, so_far: Option<u32>) -> Option<u32> {
+        plus_limits(so_far, *item)
+    }
+
+    fn put(item: &Limits, bytes: &mut Vec<u8>) -> Result<(), OutOfMemory> {
+        put_limits(*item, bytes)
+    }
+}
+
+impl Writable for Globals {
+    type Item = GlobalDef;
+
+    ghost use Rattle.std.proofs.Common.{rules};
+    ghost use Rattle.wk_module.specs.Items.{written_global};
+
+    ghost written = { written_global };
+
+    ghost some = { Prim.search rules };
+
+    fn measure(item: &GlobalDef, so_far: Option<u32>) -> Option<u32> {
+        plus_expr(plus(so_far, 2), &item.init)
+    }
+
+    fn put(item: &GlobalDef, bytes: &mut Vec<u8>) -> Result<(), OutOfMemory> {
+        put_global_type(item.ty, bytes)?;
+        append_expr(bytes, &item.init)
+    }
+}
+
+impl Writable for Exports {
+    type Item = Export;
+
+    ghost use Rattle.wk_module.specs.Items.{written_export};
+    ghost use Rattle.wk_module.specs.WritingLaws.{some_export};
+
+    ghost written = { written_export };
+
+    ghost some = { some_export };
+
+    fn measure(item: &Export, so_far: Option<u32>) -> Option<u32> {
+        let total = plus_bytes(item.name.as_str().as_bytes(), so_far);
+        plus_u32(plus(total, 1), item.index)
+    }
+
+    fn put(item: &Export, bytes: &mut Vec<u8>) -> Result<(), OutOfMemory> {
+        put_bytes(item.name.as_str().as_bytes(), bytes)?;
+        bytes.push(kind_code(item.kind))?;
+        put_u32(bytes, item.index)
+    }
+}
+
+impl Writable for Elems {
+    type Item = Elem;
+
+    ghost use Rattle.wk_module.specs.Items.{written_elem};
+    ghost use Rattle.wk_module.specs.WritingLaws.{some_elem};
+
+    ghost written = { written_elem };
+
+    ghost some = { some_elem };
+
+    fn measure(item: &Elem, so_far: Option<u32>) -> Option<u32> {
+        let total = plus_expr(plus_u32(so_far, item.table), &item.offset);
+        plus_vector::<Indices>(item.funcs.as_slice(), total)
+    }
+
+    fn put(item: &Elem, bytes: &mut Vec<u8>) -> Result<(), OutOfMemory> {
+        put_u32(bytes, item.table)?;
+        append_expr(bytes, &item.offset)?;
+        put_vector::<Indices>(item.funcs.as_slice(), bytes)
+    }
+}
+
+impl Writable for Codes {
+    type Item = Func;
+
+    ghost use Rattle.wk_module.specs.Items.{written_code};
+    ghost use Rattle.wk_module.specs.WritingLaws.{some_code};
+
+    ghost written = { λ f. written_code f.body };
+
+    ghost some = { λ f. some_code f.body };
+
+    fn measure(item: &Func, so_far: Option<u32>) -> Option<u32> {
+        let len = body_len(&item.body)?;
+        plus(plus_u32(so_far, len), len as usize)
+    }
+
+    fn put(item: &Func, bytes: &mut Vec<u8>) -> Result<(), OutOfMemory> {
+        let Some(len) = body_len(&item.body) else {
+            unreachable!()
+        };
+        put_u32(bytes, len)?;
+        append_body(bytes, &item.body)
+    }
+}
+
+impl Writable for Datas {
+    type Item = DataSeg;
+
+    ghost use Rattle.wk_module.specs.Items.{written_data};
+    ghost use Rattle.wk_module.specs.WritingLaws.{some_data};
+
+    ghost written = { written_data };
+
+    ghost some = { some_data };
+
+    fn measure(item: &DataSeg, so_far: Option<u32>) -> Option<u32> {
+        let total = plus_expr(plus_u32(so_far, item.memory), &item.offset);
+        plus_bytes(item.bytes.as_slice(), total)
+    }
+
+    fn put(item: &DataSeg, bytes: &mut Vec<u8>) -> Result<(), OutOfMemory> {
+        put_u32(bytes, item.memory)?;
+        append_expr(bytes, &item.offset)?;
+        put_bytes(item.bytes.as_slice(), bytes)
     }
 }

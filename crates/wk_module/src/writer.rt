@@ -1,19 +1,25 @@
 //! The written form of a module.
 
-ghost use Rattle.std.specs.Prelude.{◌≡◌, ◌≤◌, ◌++◌, length, OnOk, IfOk, IfErr};
+ghost use Rattle.std.specs.Prelude.{◌≡◌, ◌≤◌, ◌++◌, length, OnOk, IfOk, IfErr, MatchResult};
 ghost use Rattle.wk_bytes.specs.Frames.{limit};
-ghost use Rattle.wk_module.specs.declared.fault.EncodeFault.TheVariants.{TooLarge, Memory};
-ghost use Rattle.wk_module.specs.declared.types.Parts.{Parts as Lists};
+ghost use Rattle.wk_body.specs.declared.fault.EncodeFault.TheVariants.{TooLarge, Memory};
+ghost use Rattle.wk_body.specs.Written.{Fits as FewBytes, Unwritten};
+ghost use Rattle.wk_module.specs.declared.types.Parts.{Parts as Seen};
+ghost use Rattle.wk_module.specs.Customs.{written_custom};
+ghost use Rattle.wk_module.specs.Listed.{listed, IsListId};
 ghost use Rattle.wk_module.specs.Modules.{Spells};
-ghost use Rattle.wk_module.specs.Vectors.{written_vector};
-ghost use Rattle.wk_module.specs.Writing.{encoded, framed, vector_section, section_of, customs_at, Fits};
+ghost use Rattle.wk_module.specs.Sections.{of_number};
+ghost use Rattle.wk_module.specs.Shape.{lists_of};
+ghost use Rattle.wk_module.specs.Writing.{encoded, framed, contents_by, section_of, customs_at, Fits};
 
-use crate::fault::EncodeFault;
-use crate::length::encoded_len;
+use crate::format::{Codes, FuncIndices};
+use crate::length::{CODES, FUNCTIONS, LAST, contents_len, custom_len, encoded_len};
+use crate::lists::Lists;
 use crate::module::Module;
 use crate::types::{Custom, Parts};
-use crate::writable::Writable;
+use crate::writing::{put_bytes, put_list};
 use std::alloc::Global;
+use wk_body::EncodeFault;
 use wk_bytes::{Items, OutOfMemory, put_u32};
 
 /// The magic and the version (5.5.15).
@@ -22,12 +28,6 @@ const HEADER: [u8; 8] = [0, 97, 115, 109, 1, 0, 0, 0];
 /// The id of custom sections (5.5.2).
 const CUSTOM: u8 = 0;
 
-/// The id of the section of types (5.5.2).
-const TYPES: u8 = 1;
-
-/// The greatest id of a section (5.5.2).
-const LAST: u8 = 11;
-
 /// The written form of a module (5.5.15).
 ///
 /// Each integer has its shortest spelling, and empty sections are left out. Each custom section stands behind the section
@@ -35,16 +35,15 @@ const LAST: u8 = 11;
 ///
 /// # Errors
 ///
-/// `TooLarge` where they are more than 2147483647, and else `Memory` where a growth is refused.
-#[tactic(auto, using(crate::proofs::WrittenSpells::written_spells, crate::proofs::WrittenAlone::written_alone))]
+/// `TooLarge` where the bytes are more than 2,147,483,647, and else `Memory` where a growth is refused.
 pub fn encode(alloc: Global, module: &Module) -> Result<Vec<u8>, EncodeFault>
     ensures ok { IfOk result (λ bytes. bytes.items ≡ encoded «module».now) }
     ensures fits { OnOk result (Fits «module».now) }
     ensures too_large { IfErr result (λ e. e ≡ TooLarge → Fits «module».now → ⊥) }
     ensures memory { IfErr result (λ e. e ≡ Memory → Fits «module».now) }
-    // Where the module fits, its written form spells it, and no other.
+    // Where the module fits, its written form spells it, and no other of its profile.
     ensures spells { Fits «module».now → Spells (encoded «module».now) «module».now }
-    ensures alone { (n : Lists) → Fits «module».now → Spells (encoded «module».now) n → n ≡ «module».now }
+    ensures alone { (n : Seen) → Fits «module».now → n.profile ≡ («module».now).profile → Spells (encoded «module».now) n → n ≡ «module».now }
 {
     let parts = module.parts();
     let Some(len) = encoded_len(module) else {
@@ -52,6 +51,44 @@ pub fn encode(alloc: Global, module: &Module) -> Result<Vec<u8>, EncodeFault>
     };
     let mut bytes = Vec::with_capacity(alloc, len as usize)?;
     put_module(parts, &mut bytes)?;
+    Ok(bytes)
+}
+
+/// The contents of the section of an id, 1 to 9 or 11, as they stand in the written form: no bytes where the section is left
+/// out.
+///
+/// # Errors
+///
+/// `TooLarge` where the bytes are more than 2,147,483,647, and else `Memory` where a growth is refused.
+pub fn encode_section(alloc: Global, lists: &Lists<'_>, id: u8) -> Result<Vec<u8>, EncodeFault>
+    requires { IsListId id }
+    ensures { MatchResult result
+        (λ bytes. (bytes.items ≡ contents_by (listed lists.now) (of_number id)) × FewBytes bytes.items)
+        (Unwritten (contents_by (listed lists.now) (of_number id))) }
+{
+    let Some(len) = lists.contents_len(id) else {
+        return Err(EncodeFault::TooLarge);
+    };
+    let mut bytes = Vec::with_capacity(alloc, len as usize)?;
+    lists.put_contents(id, &mut bytes)?;
+    Ok(bytes)
+}
+
+/// The contents of a custom section: its name and its bytes.
+///
+/// # Errors
+///
+/// `TooLarge` where the bytes are more than 2,147,483,647, and else `Memory` where a growth is refused.
+pub fn encode_custom(alloc: Global, custom: &Custom) -> Result<Vec<u8>, EncodeFault>
+    ensures { MatchResult result
+        (λ bytes. (bytes.items ≡ written_custom custom.now) × FewBytes bytes.items)
+        (Unwritten (written_custom custom.now)) }
+{
+    let Some(len) = custom_len(custom) else {
+        return Err(EncodeFault::TooLarge);
+    };
+    let mut bytes = Vec::with_capacity(alloc, len as usize)?;
+    put_custom(custom, &mut bytes)?;
     Ok(bytes)
 }
 
@@ -69,26 +106,55 @@ fn put_module(parts: &Parts, bytes: &mut Vec<u8>) -> Result<(), OutOfMemory>
     Ok(())
 }
 
-// Appends the section of an id that is not a custom one, unless it is empty.
+// Appends the contents of the section of an id.
+fn put_contents(parts: &Parts, id: u8, bytes: &mut Vec<u8>) -> Result<(), OutOfMemory>
+    requires { length (contents_by (lists_of parts.now) (of_number id)) ≤ limit }
+    ensures { OnOk result (bytes.new.items ≡ bytes.old.items ++ contents_by (lists_of parts.now) (of_number id)) }
+{
+    match id {
+        FUNCTIONS => put_list::<FuncIndices>(parts.funcs.as_slice(), bytes),
+        CODES => put_list::<Codes>(parts.funcs.as_slice(), bytes),
+        _ => Lists::but_funcs(parts).put_contents(id, bytes),
+    }
+}
+
+// Appends the section of an id that is not a custom one, unless it has no contents.
 fn put_section(parts: &Parts, id: u8, bytes: &mut Vec<u8>) -> Result<(), OutOfMemory>
     requires { length (section_of parts.now id) ≤ limit }
     ensures { OnOk result (bytes.new.items ≡ bytes.old.items ++ section_of parts.now id) }
 {
-    match id {
-        TYPES => put_vector(TYPES, &parts.types, bytes),
-        _ => Ok(()),
-    }
-}
-
-// Appends a section whose contents are a vector, unless that is empty.
-fn put_vector<T: Writable>(id: u8, items: &Items<T>, bytes: &mut Vec<u8>) -> Result<(), OutOfMemory>
-    requires { length (vector_section id T.written items.now) ≤ limit }
-    ensures { OnOk result (bytes.new.items ≡ bytes.old.items ++ vector_section id T.written items.now) }
-{
-    if items.is_empty() {
+    let Some(size) = contents_len(parts, id) else {
+        unreachable!()
+    };
+    if size == 0 {
         return Ok(());
     }
-    put_framed(id, items, bytes)
+    bytes.push(id)?;
+    put_u32(bytes, size)?;
+    put_contents(parts, id, bytes)
+}
+
+// Appends the contents of a custom section.
+fn put_custom(custom: &Custom, bytes: &mut Vec<u8>) -> Result<(), OutOfMemory>
+    requires { length (written_custom custom.now) ≤ limit }
+    ensures { OnOk result (bytes.new.items ≡ bytes.old.items ++ written_custom custom.now) }
+{
+    put_bytes(custom.name.as_str().as_bytes(), bytes)?;
+    bytes.extend_from_slice(custom.bytes.as_slice())?;
+    Ok(())
+}
+
+// Appends a custom section.
+fn put_custom_section(custom: &Custom, bytes: &mut Vec<u8>) -> Result<(), OutOfMemory>
+    requires { length (framed 0 (written_custom custom.now)) ≤ limit }
+    ensures { OnOk result (bytes.new.items ≡ bytes.old.items ++ framed 0 (written_custom custom.now)) }
+{
+    let Some(size) = custom_len(custom) else {
+        unreachable!()
+    };
+    bytes.push(CUSTOM)?;
+    put_u32(bytes, size)?;
+    put_custom(custom, bytes)
 }
 
 // Appends the custom sections of a place.
@@ -102,21 +168,8 @@ fn put_customs_at(
 {
     for custom in customs.as_slice() {
         if custom.place == place {
-            put_framed(CUSTOM, custom, bytes)?;
+            put_custom_section(custom, bytes)?;
         }
     }
     Ok(())
-}
-
-// Appends a section: its id, the size of its contents, the contents.
-fn put_framed<T: Writable>(id: u8, contents: &T, bytes: &mut Vec<u8>) -> Result<(), OutOfMemory>
-    requires { length (framed id (T.written contents.now)) ≤ limit }
-    ensures { OnOk result (bytes.new.items ≡ bytes.old.items ++ framed id (T.written contents.now)) }
-{
-    let Some(size) = contents.measure(Some(0)) else {
-        unreachable!();
-    };
-    bytes.extend_from_slice(&[id])?;
-    put_u32(bytes, size)?;
-    contents.put(bytes)
 }

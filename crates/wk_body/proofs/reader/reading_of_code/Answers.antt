@@ -1,0 +1,12 @@
+use Rattle.wk_body.proofs.Promised.{exprs_read, bodies_read}
+use Rattle.wk_body.proofs.Spelled.{expr_shaped, expr_allowed}
+use Rattle.wk_body.proofs.reader.reading_of_code.Goals as goal
+
+pub returns-clause-expr : goal.returns-clause-expr
+returns-clause-expr c = exprs_read
+
+pub returns-clause-body : goal.returns-clause-body
+returns-clause-body c = bodies_read
+
+pub returns-clause-expr_shape : goal.returns-clause-expr_shape
+returns-clause-expr_shape c = λ profile t bytes fits s. (expr_shaped profile t bytes fits s, expr_allowed profile t bytes s)
