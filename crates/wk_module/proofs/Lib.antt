@@ -1,14 +1,1 @@
-pub mod Shaped
 pub mod VectorReading
-pub mod TypeReading
-pub mod ModuleReading
-pub mod Standing
-pub mod WrittenItems
-pub mod WrittenFrames
-pub mod WrittenSections
-pub mod WrittenCustoms
-pub mod WrittenSpells
-pub mod Fitting
-pub mod Lengths
-pub mod WritingSteps
-pub mod WrittenAlone

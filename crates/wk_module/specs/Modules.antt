@@ -1,5 +1,5 @@
 -- Modules (5.5.15): which bytes spell one.
-use Rattle.std.specs.Prelude.{◌≡◌, ◌==◌, ℕ, MatchBool, List, [], ◌∷◌, ⊥}
+use Rattle.std.specs.Prelude.{◌≡◌, ◌==◌, ℕ, MatchBool, List, [], ◌∷◌}
 use Rattle.wk_bytes.specs.Frames.{Frame, SpellsFraming}
 use Rattle.wk_body.specs.declared.types.Profile.{Profile}
 use Rattle.wk_module.specs.declared.types.Parts.{Parts}

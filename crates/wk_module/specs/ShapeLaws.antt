@@ -1,5 +1,5 @@
 -- Laws of settling, and what keeps a module shaped.
-use Rattle.std.proofs.Common.{◌≡◌, ℕ, zero, suc, ◌^◌, ◌<◌, ◌+◌, ◌≤◌, Bool, true, false, not, inl, inr, List, [], ◌∷◌, ◌++◌, length, map, filter, refl, ap, ◌∙◌, arith, length-append}
+use Rattle.std.proofs.Common.{◌≡◌, ℕ, zero, suc, ◌^◌, ◌<◌, ◌+◌, ◌≤◌, Bool, true, false, not, inl, inr, List, [], ◌∷◌, ◌++◌, length, map, drop, filter, refl, ap, ◌∙◌, arith, length-append}
 use Rattle.std.proofs.lemmas.Bool.{cases_Bool, cases_lt, cond-true, cond-false, cond_both}
 use Rattle.std.proofs.Common.{slice_index_or}
 use Rattle.std.specs.Str.{IsUtf8}
@@ -9,7 +9,7 @@ use Rattle.wk_module.specs.declared.types.Custom.{Custom}
 use Rattle.wk_module.specs.declared.types.FuncType.{FuncType}
 use Rattle.wk_body.specs.declared.types.Profile.{Profile}
 use Rattle.wk_module.specs.Sections.{SectionId, TypeSection, ImportSection, FunctionSection, TableSection, MemorySection, GlobalSection, ExportSection, StartSection, ElementSection, CodeSection, DataSection, contents, AreValid}
-use Rattle.wk_module.specs.Shape.{lists_of, lowered, settled_custom, settle, is_filled, IsInOrderFrom, AreNamed, IsFormed, IsShaped, nothing}
+use Rattle.wk_module.specs.Shape.{lists_of, lowered, settled_custom, settle, filled_ids, is_filled, IsInOrderFrom, AreNamed, IsFormed, IsShaped, nothing}
 
 -- ---- the greatest id up to one that passes, or 0
 
@@ -138,7 +138,7 @@ second_more a b rest (suc zero) h t = h t
 second_more a b rest (suc (suc id)) h t = t
 
 filled_type : (t : FuncType) (m : Parts) (id : ℕ) → is_filled m id ≡ true → is_filled (record m { types = m.types ++ t ∷ [] }) id ≡ true
-filled_type t m id filled = second_more (not (is_empty m.types)) (not (is_empty (m.types ++ t ∷ []))) _ id (λ _. some_types t m.types) filled
+filled_type t m id filled = second_more (not (is_empty m.types)) (not (is_empty (m.types ++ t ∷ []))) (drop 2 (filled_ids m)) id (λ _. some_types t m.types) filled
 
 -- the lists of a module are valid whatever its types are
 types_valid : (ts : List FuncType) (m : Parts) → ((k : SectionId) → AreValid m.profile k (contents (lists_of m) k)) → (k : SectionId) → AreValid m.profile k (contents (lists_of (record m { types = ts })) k)

@@ -22,8 +22,13 @@ pub struct Module {
 impl Model for Module {
     ghost use Rattle.wk_module.specs.declared.types.Parts.{Parts as Seen};
     ghost use Rattle.wk_module.specs.Shape.{IsShaped};
+    ghost use Rattle.std.specs.Coded.{codes};
+    ghost use Rattle.wk_body.specs.Bodies.{coded_body};
+    ghost use Rattle.wk_body.specs.TreeCode.{coded_instrs};
 
     ghost Value = { Seen };
+
+    ghost coded = { Prim.hlevel (codes, coded_instrs, coded_body) };
 
     ghost view = { λ m. m.parts };
 

@@ -1,6 +1,7 @@
 //! Reading a module (5.5.15).
 
-ghost use Rattle.std.specs.Prelude.{◌≡◌, ◌≢◌, length, IfOk, IfErr, MatchResult, if◌then◌else◌};
+ghost use Rattle.std.specs.Prelude.{◌≡◌, ◌≢◌, ◌≤◌, ℕ, length, IfOk, IfErr, if◌then◌else◌};
+ghost use Rattle.wk_bytes.specs.Frames.{sections_of};
 ghost use Rattle.wk_bytes.specs.Raw.{raw_view};
 ghost use Rattle.wk_bytes.specs.Stands.{StandsIn};
 ghost use Rattle.wk_body.specs.Reads.{Reads};
@@ -35,9 +36,14 @@ struct SoFar {
 }
 
 impl Model for SoFar {
+    ghost use Rattle.std.specs.Coded.{codes};
+    ghost use Rattle.wk_body.specs.Bodies.{coded_body};
+    ghost use Rattle.wk_body.specs.TreeCode.{coded_instrs};
     ghost use Rattle.wk_module.specs.Reading.{Progress};
 
     ghost Value = { Progress };
+
+    ghost coded = { Prim.hlevel (codes, coded_instrs, coded_body) };
 
     ghost view = { λ s. record {
         lists = record {
