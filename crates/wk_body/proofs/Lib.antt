@@ -15,6 +15,7 @@ pub mod Standing
 pub mod Promised
 pub mod Encoding
 pub mod EncodedSpells
+pub mod Least
 pub mod Lengths
 pub mod GroupLoop
 pub mod Tokens
