@@ -24,8 +24,8 @@ pub use memory::MemoryOp;
 pub use moves::{Moving, ShiftFault, shift, shift_expr};
 pub use numeric::{NumericOp, NumericType};
 pub use reader::{
-    next_expr, next_expr_in, one_spelling_of_code, read_body, read_body_in, read_expr, read_expr_in,
-    reading_of_code,
+    next_expr, next_expr_in, one_spelling_of_code, read_body, read_body_in, read_expr,
+    read_expr_in, reading_of_code,
 };
 pub use reading::MAX_DEPTH;
 pub use references::{Ref, refs};

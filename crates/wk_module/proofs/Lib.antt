@@ -1,1 +1,2 @@
 pub mod VectorReading
+pub mod Laws

@@ -30,4 +30,3 @@ module _ {A : Type 0} (read : ℕ → List ℕ → Result (A × List ℕ) ReadFa
   is_done front count i end bytes le =
       let k : count - i ≡ 0 = omega arith in
       rw k (ap (λ (ys : List A). done (ys, bytes)) (append-nil front))
-

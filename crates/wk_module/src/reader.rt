@@ -22,7 +22,9 @@ use crate::reading::{Readable, at_end, read_contents, read_name};
 use crate::types::{Custom, Func, Parts};
 use std::alloc::Global;
 use std::marker::Model;
-use wk_body::{Body, Profile, Scratch};
+use wk_body::{
+    Body, Profile, Scratch, one_spelling_of_code, reading_of_code, written_form_of_code,
+};
 use wk_bytes::{Items, OutOfMemory, RawSection, ReadFault, ReadKind, Sections};
 
 // What was read so far: the lists, where the functions are parted into their types and their bodies, and the id of the last
@@ -46,21 +48,21 @@ impl Model for SoFar {
     ghost coded = { Prim.hlevel (codes, coded_instrs, coded_body) };
 
     ghost view = { λ s. record {
-        lists = record {
-            types = s.parts.types;
-            imports = s.parts.imports;
-            funcs = s.indices;
-            tables = s.parts.tables;
-            memories = s.parts.memories;
-            globals = s.parts.globals;
-            exports = s.parts.exports;
-            start = s.parts.start;
-            elems = s.parts.elems;
-            codes = s.bodies;
-            datas = s.parts.datas
-        };
-        customs = s.parts.customs;
-        place = s.place
+      lists = record {
+        types = s.parts.types;
+        imports = s.parts.imports;
+        funcs = s.indices;
+        tables = s.parts.tables;
+        memories = s.parts.memories;
+        globals = s.parts.globals;
+        exports = s.parts.exports;
+        start = s.parts.start;
+        elems = s.parts.elems;
+        codes = s.bodies;
+        datas = s.parts.datas;
+      };
+      customs = s.parts.customs;
+      place = s.place;
     } };
 }
 
@@ -272,12 +274,7 @@ fn functions(
 }
 
 // The module of all that was read of an input with that many bytes.
-fn together(
-    alloc: Global,
-    profile: Profile,
-    so_far: SoFar,
-    len: u32,
-) -> Result<Parts, ReadFault>
+fn together(alloc: Global, profile: Profile, so_far: SoFar, len: u32) -> Result<Parts, ReadFault>
     ensures { Reads (λ m. m) result (joined profile len so_far) }
 {
     let SoFar {
@@ -293,15 +290,17 @@ fn together(
         });
     }
     let funcs = functions(alloc, &indices, bodies)?;
-    Ok(Parts { profile, funcs, ..parts })
+    Ok(Parts {
+        profile,
+        funcs,
+        ..parts
+    })
 }
 
 // The lists of a module, as they are spelled.
 #[tactic(auto, unfolding(crate::specs::Reading::module_at))]
 pub(crate) fn read_parts(alloc: Global, bytes: &[u8], profile: Profile) -> Result<Parts, ReadFault>
-    ensures exact { Reads (λ m. m) result (module_at profile bytes.now) }
-    ensures found { IfOk result (λ m. Spells bytes.now m) }
-    ensures profile { IfOk result (λ m. m.profile ≡ profile) }
+    ensures { Reads (λ m. m) result (module_at profile bytes.now) }
 {
     let so_far = read_sections(alloc, bytes, profile)?;
     together(alloc, profile, so_far, bytes.len() as u32)
@@ -320,6 +319,9 @@ pub fn read_in(alloc: Global, bytes: &[u8], profile: Profile) -> Result<Module, 
     ensures refused { IfErr result (λ e. e.kind ≢ ReadKind.Memory → SpellsNone profile bytes.now) }
     ensures fault { IfErr result (λ e. StandsIn bytes.now e) }
 {
+    // The proof asks for what these two say of expressions and bodies.
+    reading_of_code();
+    written_form_of_code();
     Ok(Module::of(read_parts(alloc, bytes, profile)?))
 }
 
@@ -341,4 +343,7 @@ pub fn read(alloc: Global, bytes: &[u8]) -> Result<Module, ReadFault>
 pub fn one_module()
     ensures one { SpellOne }
     ensures alike { SpellAlike }
-{}
+{
+    reading_of_code();
+    one_spelling_of_code();
+}

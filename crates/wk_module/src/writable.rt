@@ -13,9 +13,7 @@ use crate::format::{
 use crate::types::{
     DataSeg, Elem, Export, Func, FuncType, GlobalDef, GlobalType, Import, ImportDesc, Kind, Limits,
 };
-use crate::writing::{
-    Writable, plus, plus_bytes, plus_u32, plus_vector, put_bytes, put_vector,
-};
+use crate::writing::{Writable, plus, plus_bytes, plus_u32, plus_vector, put_bytes, put_vector};
 use wk_body::{Expr, ValType, append_body, append_expr, body_len, expr_len};
 use wk_bytes::{OutOfMemory, put_u32};
 

@@ -19,7 +19,7 @@ use crate::module::Module;
 use crate::types::{Custom, Parts};
 use crate::writing::{put_bytes, put_list};
 use std::alloc::Global;
-use wk_body::EncodeFault;
+use wk_body::{EncodeFault, reading_of_code, written_form_of_code};
 use wk_bytes::{Items, OutOfMemory, put_u32};
 
 /// The magic and the version (5.5.15).
@@ -45,6 +45,9 @@ pub fn encode(alloc: Global, module: &Module) -> Result<Vec<u8>, EncodeFault>
     ensures spells { Fits «module».now → Spells (encoded «module».now) «module».now }
     ensures alone { (n : Seen) → Fits «module».now → n.profile ≡ («module».now).profile → Spells (encoded «module».now) n → n ≡ «module».now }
 {
+    // The proof asks for what these two say of expressions and bodies.
+    reading_of_code();
+    written_form_of_code();
     let parts = module.parts();
     let Some(len) = encoded_len(module) else {
         return Err(EncodeFault::TooLarge);

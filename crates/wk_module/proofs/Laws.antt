@@ -1,0 +1,58 @@
+-- What laws of formats say: of the code that lies in a module, of an item of a list, and of the contents of a section.
+use Rattle.std.proofs.Common.{◌≡◌, ◌≢◌, ℕ, ◌<◌, ◌≤◌, ◌^◌, Bool, true, false, List, ◌++◌, length, Result, Ok, Err}
+use Rattle.wk_bytes.specs.Leb.{SpellsU}
+use Rattle.wk_bytes.specs.LebLaws.{IsBytes}
+use Rattle.wk_bytes.specs.StandsLaws.{ReadsFront}
+use Rattle.wk_body.specs.declared.types.Profile.{Profile}
+use Rattle.wk_body.specs.Bodies.{BodyOf, AreGroups}
+use Rattle.wk_body.specs.Meaning.{IsReadAs, IsAllReadAs}
+use Rattle.wk_body.specs.Reading.{expr_at, all_body_at}
+use Rattle.wk_body.specs.Shape.{IsShaped, IsOf}
+use Rattle.wk_body.specs.Spelling.{SpellsExpr, SpellsBody}
+use Rattle.wk_body.specs.Tree.{Instrs}
+use Rattle.wk_body.specs.Written.{written_expr, written_body}
+use Rattle.wk_module.specs.Formats.{Reader}
+use Rattle.wk_module.specs.Sections.{SectionId, CodeSection, ContentsOf, number, is_full, SpellsContents, contents_at, written_contents, AreValid}
+
+-- of expressions and bodies of a profile, as the calls below say it
+pub record CodeLaws (profile : Profile) : Type 0 where
+  pub expr : IsReadAs (SpellsExpr profile) (expr_at profile)
+  pub body : IsAllReadAs (SpellsBody profile) (all_body_at profile)
+  pub expr_shape : (t : Instrs) (bytes : List ℕ) → IsBytes bytes → SpellsExpr profile t bytes → IsShaped t × IsOf profile t
+  pub expr_written : (t : Instrs) → IsShaped t → IsOf profile t → SpellsExpr profile t (written_expr t)
+  pub body_written : (b : BodyOf) → AreGroups b.groups → IsShaped b.instrs → IsOf profile b.instrs → SpellsBody profile b (written_body b)
+  pub expr_least : (t : Instrs) (bytes : List ℕ) → SpellsExpr profile t bytes → length (written_expr t) ≤ length bytes
+  pub body_least : (b : BodyOf) (bytes : List ℕ) → SpellsBody profile b bytes → length (written_body b) ≤ length bytes
+
+-- Of a thing that stands in a list: what is read is spelled, and what is spelled is read, wherever it ends and whatever follows; a
+-- fault stands; the written form has a byte, spells the thing, where it is valid and not too long, and is a shortest spelling;
+-- what is spelled is valid.
+pub record IsFormat {A : Type 0} (Valid : A → Type 0) (Spells : List ℕ → A → Type 0) (read : Reader A) (written : A → List ℕ) : Type 0 where
+  pub found : (end : ℕ) (bytes : List ℕ) (x : A) (rest : List ℕ) → IsBytes bytes → read end bytes ≡ Ok (x, rest) → (b : List ℕ) × Spells b x × (bytes ≡ b ++ rest)
+  pub again : (end : ℕ) (b : List ℕ) (x : A) (rest : List ℕ) → Spells b x → read end (b ++ rest) ≡ Ok (x, rest)
+  pub fronts : ReadsFront read
+  pub some : (x : A) → 0 < length (written x)
+  pub spells : (x : A) → Valid x → length (written x) < 2 ^ 32 → Spells (written x) x
+  pub least : (b : List ℕ) (x : A) → Spells b x → length (written x) ≤ length b
+  pub valid : (b : List ℕ) (x : A) → IsBytes b → Spells b x → Valid x
+
+-- as many codes as functions were declared
+abbrev pub CountIs : (k : SectionId) → ℕ → ContentsOf k → Type 0
+CountIs CodeSection funcs bodies = length bodies ≡ funcs
+CountIs _ funcs x = Unit {0}
+
+-- The same of the contents of a section, which may be empty: then they are a count of zero, and are not written.
+pub record IsSection (profile : Profile) (k : SectionId) : Type 0 where
+  pub found : (funcs end : ℕ) (bytes : List ℕ) (x : ContentsOf k) (rest : List ℕ) → IsBytes bytes → contents_at profile funcs k end bytes ≡ Ok (x, rest) → (b : List ℕ) × SpellsContents profile k b x × (bytes ≡ b ++ rest)
+  pub again : (funcs end : ℕ) (b : List ℕ) (x : ContentsOf k) (rest : List ℕ) → CountIs k funcs x → SpellsContents profile k b x → contents_at profile funcs k end (b ++ rest) ≡ Ok (x, rest)
+  pub fronts : (funcs : ℕ) → ReadsFront (contents_at profile funcs k)
+  pub some : (x : ContentsOf k) → is_full k x ≡ true → 0 < length (written_contents k x)
+  pub spells : (x : ContentsOf k) → is_full k x ≡ true → AreValid profile k x → length (written_contents k x) < 2 ^ 32 → SpellsContents profile k (written_contents k x) x
+  pub least : (b : List ℕ) (x : ContentsOf k) → SpellsContents profile k b x → length (written_contents k x) ≤ length b
+  pub valid : (b : List ℕ) (x : ContentsOf k) → IsBytes b → SpellsContents profile k b x → AreValid profile k x
+  pub empty : (b : List ℕ) (x : ContentsOf k) → SpellsContents profile k b x → is_full k x ≡ false → (number k ≢ 8) × SpellsU 32 b 0
+  pub full : (b : List ℕ) (x : ContentsOf k) → SpellsContents profile k b x → is_full k x ≡ true → number k ≢ 8 → SpellsU 32 b 0 → ⊥
+
+-- of the sections of modules of a profile
+abbrev pub SectionLaws : Profile → Type 0
+SectionLaws profile = (k : SectionId) → IsSection profile k
