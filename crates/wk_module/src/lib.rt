@@ -30,3 +30,8 @@ pub use wk_body::{
     shift, shift_expr, written_form_of_code,
 };
 pub use writer::{encode, encode_custom, encode_section};
+
+#[cfg(test)]
+mod tests_reading;
+#[cfg(test)]
+mod tests_writing;
