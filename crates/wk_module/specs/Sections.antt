@@ -251,16 +251,20 @@ abbrev pub IsStart : Option ℕ → Type 0
 IsStart None = Unit {0}
 IsStart (Some x) = IsU32 x
 
+-- no more items than indexes count, and each is valid
+abbrev pub AreItems : {A : Type 0} → (A → Type 0) → List A → Type 0
+AreItems IsItem xs = IsU32 (length xs) × AllByRecursion IsItem xs
+
 -- numbers are in their ranges, names are UTF-8, expressions and bodies are ones of the profile that bytes can spell
 abbrev pub AreValid : Profile → (k : SectionId) → ContentsOf k → Type 0
-AreValid profile TypeSection xs = Unit {0}
-AreValid profile ImportSection xs = AllByRecursion IsImport xs
-AreValid profile FunctionSection xs = AllByRecursion IsU32 xs
-AreValid profile TableSection xs = AllByRecursion AreLimits xs
-AreValid profile MemorySection xs = AllByRecursion AreLimits xs
-AreValid profile GlobalSection xs = AllByRecursion (IsGlobal profile) xs
-AreValid profile ExportSection xs = AllByRecursion IsExport xs
+AreValid profile TypeSection xs = IsU32 (length xs)
+AreValid profile ImportSection xs = AreItems IsImport xs
+AreValid profile FunctionSection xs = AreItems IsU32 xs
+AreValid profile TableSection xs = AreItems AreLimits xs
+AreValid profile MemorySection xs = AreItems AreLimits xs
+AreValid profile GlobalSection xs = AreItems (IsGlobal profile) xs
+AreValid profile ExportSection xs = AreItems IsExport xs
 AreValid profile StartSection x = IsStart x
-AreValid profile ElementSection xs = AllByRecursion (IsElem profile) xs
-AreValid profile CodeSection xs = AllByRecursion (IsCode profile) xs
-AreValid profile DataSection xs = AllByRecursion (IsData profile) xs
+AreValid profile ElementSection xs = AreItems (IsElem profile) xs
+AreValid profile CodeSection xs = AreItems (IsCode profile) xs
+AreValid profile DataSection xs = AreItems (IsData profile) xs

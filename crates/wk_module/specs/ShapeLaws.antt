@@ -140,32 +140,32 @@ second_more a b rest (suc (suc id)) h t = t
 filled_type : (t : FuncType) (m : Parts) (id : ℕ) → is_filled m id ≡ true → is_filled (record m { types = m.types ++ t ∷ [] }) id ≡ true
 filled_type t m id filled = second_more (not (is_empty m.types)) (not (is_empty (m.types ++ t ∷ []))) (drop 2 (filled_ids m)) id (λ _. some_types t m.types) filled
 
--- the lists of a module are valid whatever its types are
-types_valid : (ts : List FuncType) (m : Parts) → ((k : SectionId) → AreValid m.profile k (contents (lists_of m) k)) → (k : SectionId) → AreValid m.profile k (contents (lists_of (record m { types = ts })) k)
-types_valid ts m valid TypeSection = tt
-types_valid ts m valid ImportSection = valid ImportSection
-types_valid ts m valid FunctionSection = valid FunctionSection
-types_valid ts m valid TableSection = valid TableSection
-types_valid ts m valid MemorySection = valid MemorySection
-types_valid ts m valid GlobalSection = valid GlobalSection
-types_valid ts m valid ExportSection = valid ExportSection
-types_valid ts m valid StartSection = valid StartSection
-types_valid ts m valid ElementSection = valid ElementSection
-types_valid ts m valid CodeSection = valid CodeSection
-types_valid ts m valid DataSection = valid DataSection
+-- the lists of a module are valid whatever its types are, where those are few
+types_valid : (ts : List FuncType) (m : Parts) → length ts < 2 ^ 32 → ((k : SectionId) → AreValid m.profile k (contents (lists_of m) k)) → (k : SectionId) → AreValid m.profile k (contents (lists_of (record m { types = ts })) k)
+types_valid ts m few valid TypeSection = few
+types_valid ts m few valid ImportSection = valid ImportSection
+types_valid ts m few valid FunctionSection = valid FunctionSection
+types_valid ts m few valid TableSection = valid TableSection
+types_valid ts m few valid MemorySection = valid MemorySection
+types_valid ts m few valid GlobalSection = valid GlobalSection
+types_valid ts m few valid ExportSection = valid ExportSection
+types_valid ts m few valid StartSection = valid StartSection
+types_valid ts m few valid ElementSection = valid ElementSection
+types_valid ts m few valid CodeSection = valid CodeSection
+types_valid ts m few valid DataSection = valid DataSection
 
 nothing_valid : (profile : Profile) (k : SectionId) → AreValid profile k (contents (lists_of (nothing profile)) k)
-nothing_valid profile TypeSection = tt
-nothing_valid profile ImportSection = tt
-nothing_valid profile FunctionSection = tt
-nothing_valid profile TableSection = tt
-nothing_valid profile MemorySection = tt
-nothing_valid profile GlobalSection = tt
-nothing_valid profile ExportSection = tt
+nothing_valid profile TypeSection = omega arith
+nothing_valid profile ImportSection = (omega arith, tt)
+nothing_valid profile FunctionSection = (omega arith, tt)
+nothing_valid profile TableSection = (omega arith, tt)
+nothing_valid profile MemorySection = (omega arith, tt)
+nothing_valid profile GlobalSection = (omega arith, tt)
+nothing_valid profile ExportSection = (omega arith, tt)
 nothing_valid profile StartSection = tt
-nothing_valid profile ElementSection = tt
-nothing_valid profile CodeSection = tt
-nothing_valid profile DataSection = tt
+nothing_valid profile ElementSection = (omega arith, tt)
+nothing_valid profile CodeSection = (omega arith, tt)
+nothing_valid profile DataSection = (omega arith, tt)
 
 -- a module with nothing is shaped
 pub nothing_shaped : (profile : Profile) → IsShaped (nothing profile)
@@ -205,10 +205,10 @@ settle-type t m settled =
     let more : Parts = record m { types = m.types ++ t ∷ [] } in
     ap (λ (cs : List Custom). record more { customs = cs }) (settled_more (is_filled m) (is_filled more) (filled_type t m) m.customs (ap (λ (n : Parts). n.customs) settled))
 
--- a module with one more type is shaped
-pub type_shaped : (t : FuncType) (m : Parts) → IsShaped m → IsShaped (record m { types = m.types ++ t ∷ [] })
-type_shaped t m s = record {
-  formed = record { valid = types_valid (m.types ++ t ∷ []) m s.formed.valid; order = s.formed.order; names = s.formed.names };
+-- a module with one more type is shaped, where it has few
+pub type_shaped : (t : FuncType) (m : Parts) → length m.types + 1 < 2 ^ 32 → IsShaped m → IsShaped (record m { types = m.types ++ t ∷ [] })
+type_shaped t m few s = record {
+  formed = record { valid = types_valid (m.types ++ t ∷ []) m (omega (arith, length-append m.types (t ∷ []), few)) s.formed.valid; order = s.formed.order; names = s.formed.names };
   settled = settle-type t m s.settled;
 }
 
