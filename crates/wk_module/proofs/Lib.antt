@@ -1,2 +1,4 @@
 pub mod VectorReading
 pub mod Laws
+pub mod Shaped
+pub mod Standing

@@ -1,0 +1,259 @@
+-- What is spelled is in shape.
+use Rattle.std.proofs.Common.{◌≡◌, ◌≢◌, ℕ, zero, suc, ◌<◌, ◌≤◌, ◌==◌, max, Bool, true, ◌⊎◌, inl, inr, List, [], ◌∷◌, ◌++◌, length, map, refl, sym, ap, subst, ◌∙◌, arith}
+use Rattle.std.proofs.lemmas.Bool.{eqb-true, eqb-false, ne_eqb, cases_Bool, cases_lt}
+use Rattle.std.proofs.lemmas.List.{get_or_append_left, get_or_past}
+use Rattle.std.specs.Str.{IsUtf8}
+use Rattle.wk_bytes.specs.LebLaws.{IsBytes}
+use Rattle.wk_bytes.specs.SpanLaws.{IsBytes-after}
+use Rattle.wk_bytes.specs.Frames.{Frame, SpellsFrame, SpellsFrames, magic, version}
+use Rattle.wk_body.specs.declared.types.Profile.{Profile}
+use Rattle.wk_module.specs.declared.types.Custom.{Custom}
+use Rattle.wk_module.specs.declared.types.Parts.{Parts}
+use Rattle.wk_module.specs.Customs.{IsEmptyFrame, SpellsCustoms}
+use Rattle.wk_module.specs.Sections.{SectionId, TypeSection, ImportSection, FunctionSection, TableSection, MemorySection, GlobalSection, ExportSection, StartSection, ElementSection, CodeSection, DataSection, number, ContentsOf, contents, omitted, is_full, SpellsContents, AreValid}
+use Rattle.wk_module.specs.ShapeLaws.{in_order_lower}
+use Rattle.wk_module.specs.Shape.{lists_of, is_filled, lowered, settled_custom, IsInOrderFrom, AreNamed, IsShaped}
+use Rattle.wk_module.specs.Modules.{SpellsSection, Spells}
+use Rattle.wk_module.proofs.Laws.{SectionLaws}
+
+-- ---- one section
+
+module _ {A : Type 0} (Spells : List ℕ → A → Type 0) (id : ℕ) where
+  -- what holds of all that is spelled, and of what an omitted section has, holds of the section
+  pub section_keeps : (P : A → Type 0) → ((b : List ℕ) (x : A) → Spells b x → P x) → (fs : List Frame) (x y : A) → P x → SpellsSection id Spells x fs y → P y
+  section_keeps P spelled [] x y p e = subst P (sym e) p
+  section_keeps P spelled (f ∷ fs) x y p e =
+      elim (cases_Bool (f.id == id)) [
+        | inl is ↦ let s = rw is at e in section_keeps P spelled fs s.0 y (spelled f.contents s.0 s.1) s.2
+        | inr is ↦ section_keeps P spelled fs x y p (rw is at e)
+      ]
+
+  -- an id comes once
+  pub section_stays : (last : ℕ) (b : List ℕ) (fs : List Frame) (x y : A) → 0 < id → id ≤ last → SpellsFrames last b fs → SpellsSection id Spells x fs y → y ≡ x
+  section_stays last b [] x y some came framed e = e
+  section_stays last b (f ∷ fs) x y some came framed e =
+      let other : f.id ≢ id = elim framed.3 [ inl p ↦ omega arith | inr p ↦ omega arith ] in
+      section_stays (max last f.id) framed.1 fs x y some (omega arith) framed.5 (rw (ne_eqb f.id id other) at e)
+
+-- the contents of each are bytes
+abbrev pub HaveBytes : List Frame → Type 0
+HaveBytes [] = Unit {0}
+HaveBytes (f ∷ fs) = IsBytes f.contents × HaveBytes fs
+
+IsBytes-before : (front later bytes : List ℕ) → bytes ≡ front ++ later → IsBytes bytes → IsBytes front
+IsBytes-before front later bytes e fits i =
+    elim (cases_lt i (length front)) [
+      | inl lt ↦ rw (← get_or_append_left front later 0 i lt, ← e) (fits i)
+      | inr le ↦ rw (get_or_past front i 0 le) (omega arith)
+    ]
+
+frame_bytes : (b : List ℕ) (f : Frame) → IsBytes b → SpellsFrame b f → IsBytes f.contents
+frame_bytes b f fits s = IsBytes-after (f.id ∷ s.size) f.contents b s.parts fits
+
+pub frames_bytes : (last : ℕ) (b : List ℕ) (fs : List Frame) → IsBytes b → SpellsFrames last b fs → HaveBytes fs
+frames_bytes last b [] fits s = tt
+frames_bytes last b (f ∷ fs) fits s =
+    (frame_bytes s.0 f (IsBytes-before s.0 s.1 b s.2 fits) s.4, frames_bytes (max last f.id) s.1 fs (IsBytes-after s.0 s.1 b s.2 fits) s.5)
+
+module _ {A : Type 0} (Spells : List ℕ → A → Type 0) (id : ℕ) where
+  -- the same of what bytes spell
+  pub section_of_bytes_keeps : (P : A → Type 0) → ((b : List ℕ) (x : A) → IsBytes b → Spells b x → P x) → (fs : List Frame) (x y : A) → HaveBytes fs → P x → SpellsSection id Spells x fs y → P y
+  section_of_bytes_keeps P spelled [] x y fits p e = subst P (sym e) p
+  section_of_bytes_keeps P spelled (f ∷ fs) x y fits p e =
+      elim (cases_Bool (f.id == id)) [
+        | inl is ↦ let s = rw is at e in section_of_bytes_keeps P spelled fs s.0 y fits.1 (spelled f.contents s.0 fits.0 s.1) s.2
+        | inr is ↦ section_of_bytes_keeps P spelled fs x y fits.1 p (rw is at e)
+      ]
+
+-- each frame of that id is empty, unless the section is full
+abbrev pub IsFilledAt : ℕ → Bool → List Frame → Type 0
+IsFilledAt id filled [] = Unit {0}
+IsFilledAt id filled (f ∷ fs) = (f.id ≡ id → ¬ IsEmptyFrame f → filled ≡ true) × IsFilledAt id filled fs
+
+filled_later : (id last : ℕ) (b : List ℕ) (fs : List Frame) (filled : Bool) → 0 < id → id ≤ last → SpellsFrames last b fs → IsFilledAt id filled fs
+filled_later id last b [] filled some came framed = tt
+filled_later id last b (f ∷ fs) filled some came framed =
+    let other : f.id ≢ id = elim framed.3 [ inl p ↦ omega arith | inr p ↦ omega arith ] in
+    (λ is more. absurd (other is), filled_later id (max last f.id) framed.1 fs filled some (omega arith) framed.5)
+
+module _ {A : Type 0} (Spells : List ℕ → A → Type 0) (id : ℕ) (full : A → Bool) where
+  -- where only a full one is spelled by a frame that is not empty
+  pub section_filled : ((f : Frame) (x : A) → f.id ≡ id → Spells f.contents x → ¬ IsEmptyFrame f → full x ≡ true) → (last : ℕ) (b : List ℕ) (fs : List Frame) (x y : A) → 0 < id → SpellsFrames last b fs
+      → SpellsSection id Spells x fs y → IsFilledAt id (full y) fs
+  section_filled fills last b [] x y some framed e = tt
+  section_filled fills last b (f ∷ fs) x y some framed e =
+      elim (cases_Bool (f.id == id)) [
+        | inl is ↦
+            let s = rw is at e in
+            let same : f.id ≡ id = eqb-true f.id id is in
+            let stays : y ≡ s.0 = section_stays Spells id (max last f.id) framed.1 fs s.0 y some (omega arith) framed.5 s.2 in
+            let spelled : Spells f.contents y = subst (Spells f.contents) (sym stays) s.1 in
+            (λ again more. fills f y same spelled more, filled_later id (max last f.id) framed.1 fs (full y) some (omega arith) framed.5)
+        | inr is ↦ (λ again more. absurd (eqb-false f.id id is again), section_filled fills (max last f.id) framed.1 fs x y some framed.5 (rw is at e))
+      ]
+
+-- ---- places
+
+-- each frame that is neither a custom section nor empty has an id that passes
+abbrev pub AreFilled : (ℕ → Bool) → List Frame → Type 0
+AreFilled passes [] = Unit {0}
+AreFilled passes (f ∷ fs) = (f.id ≢ 0 → ¬ IsEmptyFrame f → passes f.id ≡ true) × AreFilled passes fs
+
+-- each place stays where it is
+abbrev pub AreSettled : (ℕ → Bool) → List Custom → Type 0
+AreSettled passes [] = Unit {0}
+AreSettled passes (c ∷ cs) = (lowered passes c.place ≡ c.place) × AreSettled passes cs
+
+module _ (passes : ℕ → Bool) where
+  stays_there : (place : ℕ) → (place ≡ 0) ⊎ (passes place ≡ true) → lowered passes place ≡ place
+  stays_there zero is = refl
+  stays_there (suc p) (inl is) = absurd (omega arith)
+  stays_there (suc p) (inr is) = rw is refl
+
+  pub settled_all : (cs : List Custom) → AreSettled passes cs → map (settled_custom passes) cs ≡ cs
+  settled_all [] settled = refl
+  settled_all (c ∷ cs) settled = rw (settled.0, settled_all cs settled.1) refl
+
+-- what the customs of a module keep
+record AreShaped (passes : ℕ → Bool) (least : ℕ) (cs : List Custom) : Type 0 where
+  order : IsInOrderFrom least cs
+  names : AreNamed cs
+  settled : AreSettled passes cs
+
+module _ (passes : ℕ → Bool) where
+  one_more : (place : ℕ) (c : Custom) (cs : List Custom) → c.place ≡ place → place ≤ 11 → (place ≡ 0) ⊎ (passes place ≡ true) → IsUtf8 c.name → AreShaped passes place cs → AreShaped passes place (c ∷ cs)
+  one_more place c cs there small is text rest = record {
+    order = (omega arith, omega arith, subst (λ (p : ℕ). IsInOrderFrom p cs) (sym there) rest.order);
+    names = (text, rest.names);
+    settled = (rw there (stays_there passes place is), rest.settled);
+  }
+
+  customs_shaped : (last place : ℕ) (b : List ℕ) (fs : List Frame) (cs : List Custom) → place ≤ last → last ≤ 11 → (place ≡ 0) ⊎ (passes place ≡ true) → SpellsFrames last b fs → AreFilled passes fs
+      → SpellsCustoms place fs cs → AreShaped passes place cs
+  customs_shaped last place b [] cs le small is framed filled e = subst (AreShaped passes place) (sym e) (record { order = tt; names = tt; settled = tt })
+  customs_shaped last place b (f ∷ fs) cs le small is framed filled (inl s) =
+      let bound : max last f.id ≤ 11 = elim framed.3 [ inl p ↦ omega arith | inr p ↦ omega arith ] in
+      let rest = customs_shaped (max last f.id) place framed.1 fs s.2 (omega arith) bound is framed.5 filled.1 s.6 in
+      subst (AreShaped passes place) (sym s.3) (one_more place s.1 s.2 s.4 (omega arith) is s.5.text rest)
+  customs_shaped last place b (f ∷ fs) cs le small is framed filled (inr s) =
+      let bound : max last f.id ≤ 11 = elim framed.3 [ inl p ↦ omega arith | inr p ↦ omega arith ] in
+      elim s.2 [
+        | inl p ↦ customs_shaped (max last f.id) place framed.1 fs cs (omega arith) bound is framed.5 filled.1 (subst (λ (q : ℕ). SpellsCustoms q fs cs) p.1 s.3)
+        | inr p ↦
+            let rest = customs_shaped (max last f.id) f.id framed.1 fs cs (omega arith) bound (inr (filled.0 s.0 p.0)) framed.5 filled.1 (subst (λ (q : ℕ). SpellsCustoms q fs cs) p.1 s.3) in
+            let came : place ≤ f.id = elim framed.3 [ inl q ↦ absurd (s.0 q) | inr q ↦ omega arith ] in
+            record { order = in_order_lower f.id place cs came rest.order; names = rest.names; settled = rest.settled }
+      ]
+
+-- ---- the ids
+
+-- each id but 0 is that of a section
+pub known_number : (id : ℕ) → id ≢ 0 → id ≤ 11 → (k : SectionId) × (number k ≡ id)
+known_number zero some small = absurd (some refl)
+known_number (suc zero) some small = (TypeSection, refl)
+known_number (suc (suc zero)) some small = (ImportSection, refl)
+known_number (suc (suc (suc zero))) some small = (FunctionSection, refl)
+known_number (suc (suc (suc (suc zero)))) some small = (TableSection, refl)
+known_number (suc (suc (suc (suc (suc zero))))) some small = (MemorySection, refl)
+known_number (suc (suc (suc (suc (suc (suc zero)))))) some small = (GlobalSection, refl)
+known_number (suc (suc (suc (suc (suc (suc (suc zero))))))) some small = (ExportSection, refl)
+known_number (suc (suc (suc (suc (suc (suc (suc (suc zero)))))))) some small = (StartSection, refl)
+known_number (suc (suc (suc (suc (suc (suc (suc (suc (suc zero))))))))) some small = (ElementSection, refl)
+known_number (suc (suc (suc (suc (suc (suc (suc (suc (suc (suc zero)))))))))) some small = (CodeSection, refl)
+known_number (suc (suc (suc (suc (suc (suc (suc (suc (suc (suc (suc zero))))))))))) some small = (DataSection, refl)
+known_number (suc (suc (suc (suc (suc (suc (suc (suc (suc (suc (suc (suc more)))))))))))) some small = absurd (omega arith)
+
+pub some_number : (k : SectionId) → 0 < number k
+some_number TypeSection = omega arith
+some_number ImportSection = omega arith
+some_number FunctionSection = omega arith
+some_number TableSection = omega arith
+some_number MemorySection = omega arith
+some_number GlobalSection = omega arith
+some_number ExportSection = omega arith
+some_number StartSection = omega arith
+some_number ElementSection = omega arith
+some_number CodeSection = omega arith
+some_number DataSection = omega arith
+
+-- the id of a section is filled where the section is full
+pub filled_full : (m : Parts) (k : SectionId) → is_filled m (number k) ≡ is_full k (contents (lists_of m) k)
+filled_full m TypeSection = refl
+filled_full m ImportSection = refl
+filled_full m FunctionSection = refl
+filled_full m TableSection = refl
+filled_full m MemorySection = refl
+filled_full m GlobalSection = refl
+filled_full m ExportSection = refl
+filled_full m StartSection = refl
+filled_full m ElementSection = refl
+filled_full m CodeSection = refl
+filled_full m DataSection = refl
+
+omitted_valid : (profile : Profile) (k : SectionId) → AreValid profile k (omitted k)
+omitted_valid profile TypeSection = tt
+omitted_valid profile ImportSection = tt
+omitted_valid profile FunctionSection = tt
+omitted_valid profile TableSection = tt
+omitted_valid profile MemorySection = tt
+omitted_valid profile GlobalSection = tt
+omitted_valid profile ExportSection = tt
+omitted_valid profile StartSection = tt
+omitted_valid profile ElementSection = tt
+omitted_valid profile CodeSection = tt
+omitted_valid profile DataSection = tt
+
+all_filled : (passes : ℕ → Bool) (last : ℕ) (b : List ℕ) (fs : List Frame) → SpellsFrames last b fs → ((k : SectionId) → IsFilledAt (number k) (passes (number k)) fs) → AreFilled passes fs
+all_filled passes last b [] framed each = tt
+all_filled passes last b (f ∷ fs) framed each = (
+  λ some more.
+      let small : f.id ≤ 11 = elim framed.3 [ inl p ↦ omega arith | inr p ↦ omega arith ] in
+      let known = known_number f.id some small in
+      subst (λ (id : ℕ). passes id ≡ true) known.1 ((each known.0).0 (sym known.1) more),
+  all_filled passes (max last f.id) framed.1 fs framed.5 (λ k. (each k).1),
+)
+
+-- ---- the module
+
+module _ (profile : Profile) (sections : SectionLaws profile) where
+  -- a frame that is not empty spells a full section
+  full_frame : (k : SectionId) (f : Frame) (x : ContentsOf k) → f.id ≡ number k → SpellsContents profile k f.contents x → ¬ IsEmptyFrame f → is_full k x ≡ true
+  full_frame k f x is spelled more =
+      elim (cases_Bool (is_full k x)) [
+        | inl full ↦ full
+        | inr none ↦
+            let empty = (sections k).empty f.contents x spelled none in
+            absurd (more (record { vector = λ e. empty.0 (sym is ∙ e); none = empty.1 }))
+      ]
+
+  -- what a section has that bytes spell, or that is left out, is valid
+  section_valid : (k : SectionId) (fs : List Frame) (x : ContentsOf k) → HaveBytes fs → SpellsSection (number k) (SpellsContents profile k) (omitted k) fs x → AreValid profile k x
+  section_valid k fs x fits e = section_of_bytes_keeps (SpellsContents profile k) (number k) (AreValid profile k) (sections k).valid fs (omitted k) x fits (omitted_valid profile k) e
+
+  -- the frames fill the sections of a module that they spell
+  sections_filled : (m : Parts) (b : List ℕ) (fs : List Frame) → SpellsFrames 0 b fs → ((k : SectionId) → SpellsSection (number k) (SpellsContents profile k) (omitted k) fs (contents (lists_of m) k)) → AreFilled (is_filled m) fs
+  sections_filled m b fs framed spelled =
+      all_filled (is_filled m) 0 b fs framed
+      (λ k. subst (λ (filled : Bool). IsFilledAt (number k) filled fs) (sym (filled_full m k))
+      (section_filled (SpellsContents profile k) (number k) (is_full k) (full_frame k) 0 b fs (omitted k) (contents (lists_of m) k) (some_number k) framed (spelled k)))
+
+shaped_by : (b : List ℕ) (m : Parts) → SectionLaws m.profile → IsBytes b → Spells b m → IsShaped m
+shaped_by b m sections fits spelled =
+    let framing = spelled.framing in
+    let inner : IsBytes framing.frames = IsBytes-after (magic ++ version) framing.frames b framing.parts fits in
+    let have = frames_bytes 0 framing.frames spelled.frames inner framing.spelled in
+    let filled = sections_filled m.profile sections m framing.frames spelled.frames framing.spelled spelled.sections in
+    let customs = customs_shaped (is_filled m) 0 0 framing.frames spelled.frames m.customs (omega arith) (omega arith) (inl refl) framing.spelled filled spelled.customs in
+    record {
+      formed = record {
+        valid = λ k. section_valid m.profile sections k spelled.frames (contents (lists_of m) k) have (spelled.sections k);
+        order = customs.order;
+        names = customs.names;
+      };
+      settled = ap (λ (cs : List Custom). record m { customs = cs }) (settled_all (is_filled m) m.customs customs.settled);
+    }
+
+module _ (profile : Profile) (sections : SectionLaws profile) where
+  -- what bytes spell is in shape
+  pub shaped : (b : List ℕ) (m : Parts) → m.profile ≡ profile → IsBytes b → Spells b m → IsShaped m
+  shaped b m is fits spelled = shaped_by b m (subst SectionLaws (sym is) sections) fits spelled

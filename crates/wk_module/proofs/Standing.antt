@@ -1,0 +1,120 @@
+-- The faults of reading a module stand in its bytes.
+use Rattle.std.proofs.Common.{◌≡◌, ℕ, ◌≤◌, ◌==◌, ◌⊎◌, List, [], ◌∷◌, ◌++◌, length, Option, Some, None, Result, Ok, Err, All, refl, ap, subst, ◌∙◌, inl, inr, arith}
+use Rattle.std.specs.Prelude.{IfErr}
+use Rattle.std.proofs.lemmas.List.Elements.{All-head, All-tail}
+use Rattle.wk_bytes.specs.declared.fault.ReadKind.{ReadKind}
+use Rattle.wk_bytes.specs.declared.fault.ReadKind.TheVariants.{SectionSize, FuncCodeCount, Memory}
+use Rattle.wk_bytes.specs.declared.fault.ReadFault.{ReadFault}
+use Rattle.wk_bytes.specs.Fault.{no_memory}
+use Rattle.wk_bytes.specs.Leb.{◌>>=◌}
+use Rattle.wk_bytes.specs.LebLaws.{chosen}
+use Rattle.wk_bytes.specs.Span.{fault, name_at}
+use Rattle.wk_bytes.specs.SpanLaws.{err_is}
+use Rattle.wk_bytes.specs.Frames.{Section, sections_of}
+use Rattle.wk_bytes.specs.FrameStands.{sections_of-stand}
+use Rattle.wk_bytes.specs.Stands.{Stands, StandsIn, LiesIn, ItemStands, contents_of, whole}
+use Rattle.wk_bytes.specs.StandsLaws.{ReadsFront, ReadsFront-name_at, Stands-here, Stands-later, Stands-contents, Stands-at_end}
+use Rattle.wk_body.specs.declared.types.Profile.{Profile}
+use Rattle.wk_body.specs.Reads.{FailsAs, Reads}
+use Rattle.wk_module.specs.declared.types.Custom.{Custom}
+use Rattle.wk_module.specs.declared.types.Parts.{Parts}
+use Rattle.wk_module.specs.Customs.{custom_at}
+use Rattle.wk_module.specs.Formats.{Reader, taking_all, all_at}
+use Rattle.wk_module.specs.Sections.{SectionId, ContentsOf, of_number, contents_at}
+use Rattle.wk_module.specs.Reading.{Progress, at_start, section_end, with_custom, with_lists, section_by, with_section, sections_read, module_of, joined, module_at}
+use Rattle.wk_module.proofs.Laws.{SectionLaws}
+
+-- ---- contents
+
+module _ {A : Type 0} (read : Reader A) where
+  left_over : (end : ℕ) (bytes : List ℕ) (x : A) (rest : List ℕ) (e : ReadFault) → (front : List ℕ) × (bytes ≡ front ++ rest) → taking_all end (x, rest) ≡ Err e → length bytes ≤ end → Stands (record { rest = bytes; end = end }) e
+  left_over end bytes x [] e front h fits = absurd cc
+  left_over end bytes x (y ∷ rest) e front h fits =
+      let is : fault SectionSize end (y ∷ rest) ≡ e = cc in
+      Stands-later front.0 (record { rest = bytes; end = end }) (record { rest = y ∷ rest; end = end }) e front.1 refl fits
+      (subst (Stands (record { rest = y ∷ rest; end = end })) is (Stands-here SectionSize end (y ∷ rest) (omega arith)))
+
+  all_by : (end : ℕ) (bytes : List ℕ) (e : ReadFault) (r : Result (A × List ℕ) ReadFault) → ReadsFront read → read end bytes ≡ r → (r >>= taking_all end) ≡ Err e → length bytes ≤ end → Stands (record { rest = bytes; end = end }) e
+  all_by end bytes e (Err d) fronts is h fits = fronts.faults end bytes e (is ∙ cc) fits
+  all_by end bytes e (Ok x) fronts is h fits = left_over end bytes x.0 x.1 e (fronts.takes end bytes x.0 x.1 is) h fits
+
+  pub all_at-stands : ReadsFront read → (end : ℕ) (bytes : List ℕ) (e : ReadFault) → all_at read end bytes ≡ Err e → length bytes ≤ end → Stands (record { rest = bytes; end = end }) e
+  all_at-stands fronts end bytes e h fits = all_by end bytes e (read end bytes) fronts refl h fits
+
+abbrev custom_named : ℕ → List ℕ → List ℕ → Result Custom ReadFault
+custom_named place name bytes = Ok (record { place = place; name = name; bytes = bytes })
+
+custom_by : (place end : ℕ) (bytes : List ℕ) (e : ReadFault) (r : Result (List ℕ × List ℕ) ReadFault) → name_at end bytes ≡ r → (r >>= λ name. custom_named place name.0 name.1) ≡ Err e → length bytes ≤ end → Stands (record { rest = bytes; end = end }) e
+custom_by place end bytes e (Err d) is h fits = ReadsFront-name_at.faults end bytes e (is ∙ cc) fits
+custom_by place end bytes e (Ok x) is h fits = absurd cc
+
+pub custom_at-stands : (place end : ℕ) (bytes : List ℕ) (e : ReadFault) → custom_at place end bytes ≡ Err e → length bytes ≤ end → Stands (record { rest = bytes; end = end }) e
+unfolding custom_at
+custom_at-stands place end bytes e h fits = custom_by place end bytes e (name_at end bytes) refl h fits
+
+-- ---- modules
+
+failed_before : {A B E : Type 0} (r : Result A E) (f : A → B) (e : E) → (r >>= λ x. Ok (f x)) ≡ Err e → r ≡ Err e
+failed_before (Ok x) f e h = absurd cc
+failed_before (Err d) f e h = cc
+
+joined_stands : (profile : Profile) (b : List ℕ) (p : Progress) (e : ReadFault) → joined profile (length b) p ≡ Err e → StandsIn b e
+joined_stands profile b p e h =
+    elim (chosen (length p.lists.funcs == length p.lists.codes) (Ok (module_of profile p)) (Err (record { kind = FuncCodeCount; at = length b })) (Err e) h) [
+      | inl a ↦ absurd cc
+      | inr a ↦ inr (inr (subst (Stands (whole b)) (err_is {A = Parts} _ _ a.1) (Stands-at_end FuncCodeCount b tt)))
+    ]
+
+module _ (profile : Profile) (sections : SectionLaws profile) where
+  section_stands : (p : Progress) (s : Section) (e : ReadFault) (k : Option SectionId) → section_by profile p s k ≡ Err e → Stands (contents_of s) e
+  unfolding section_by
+  section_stands p s e None h =
+      custom_at-stands p.place (section_end s) s.contents e (failed_before (custom_at p.place (section_end s) s.contents) (with_custom p) e h) (omega arith)
+  section_stands p s e (Some k) h =
+      let read : Reader (ContentsOf k) = contents_at profile (length p.lists.funcs) k in
+      all_at-stands read ((sections k).fronts (length p.lists.funcs)) (section_end s) s.contents e
+      (failed_before (all_at read (section_end s) s.contents) (with_lists k p) e h) (omega arith)
+
+  then_stands : (input : List ℕ) (s : Section) (items : List (Result Section ReadFault)) (e : ReadFault) (p : Progress) (r : Result Progress ReadFault) → LiesIn input s → with_section profile p s ≡ r
+      → ((q : Progress) → sections_read profile q items ≡ Err e → StandsIn input e) → (r >>= λ q. sections_read profile q items) ≡ Err e → StandsIn input e
+  then_stands input s items e p (Err d) lies is more h = inr (inr (Stands-contents input s e lies (section_stands p s e (of_number s.id) (is ∙ cc))))
+  then_stands input s items e p (Ok q) lies is more h = more q h
+
+  sections_stand : (input : List ℕ) (p : Progress) (items : List (Result Section ReadFault)) (e : ReadFault) → All (ItemStands input) items → sections_read profile p items ≡ Err e → StandsIn input e
+  unfolding sections_read
+  sections_stand input p [] e stand h = absurd cc
+  sections_stand input p (Err d ∷ items) e stand h = subst (StandsIn input) (err_is {A = Progress} d e h) (All-head (ItemStands input) (Err d) items stand)
+  sections_stand input p (Ok s ∷ items) e stand h =
+      then_stands input s items e p (with_section profile p s) (All-head (ItemStands input) (Ok s) items stand) refl (λ q. sections_stand input q items e (All-tail (ItemStands input) (Ok s) items stand)) h
+
+  module_by : (b : List ℕ) (e : ReadFault) (r : Result Progress ReadFault) → sections_read profile at_start (sections_of b) ≡ r → (r >>= joined profile (length b)) ≡ Err e → StandsIn b e
+  module_by b e (Err d) is h = sections_stand b at_start (sections_of b) e (sections_of-stand b) (is ∙ cc)
+  module_by b e (Ok p) is h = joined_stands profile b p e h
+
+  -- the first fault of reading a module stands in its bytes
+  pub module_stands : (b : List ℕ) (e : ReadFault) → module_at profile b ≡ Err e → StandsIn b e
+  unfolding module_at
+  module_stands b e h = module_by b e (sections_read profile at_start (sections_of b)) refl h
+
+-- ---- what a function that reads answers
+
+want_of_memory : (e : ReadFault) → e.kind ≡ Memory → e.at ≡ 0 → e ≡ no_memory
+want_of_memory e is there = ap (λ (kind : ReadKind). record e { kind = kind }) is ∙ ap (λ (at : ℕ). record no_memory { at = at }) there
+
+-- where a fault is answered, memory was wanted, or that fault is read
+pub memory_or_read : {Y : Type 0} (e : ReadFault) (read : Result Y ReadFault) → FailsAs e e.kind read → (e ≡ no_memory) ⊎ (read ≡ Err e)
+memory_or_read {Y = Y} e read fails = by_kind e.kind refl fails
+  where
+    by_kind : (k : ReadKind) → e.kind ≡ k → FailsAs {Y = Y} e k read → (e ≡ no_memory) ⊎ (read ≡ Err e)
+    by_kind Memory is there = inl (want_of_memory e is there)
+    by_kind _ is there = inr there
+
+module _ (profile : Profile) (sections : SectionLaws profile) where
+  -- the fault that is answered stands in the bytes
+  pub answer_stands : (b : List ℕ) (r : Result Parts ReadFault) → Reads (λ m. m) r (module_at profile b) → IfErr r (λ e. StandsIn b e)
+  answer_stands b (Ok m) reads = tt
+  answer_stands b (Err e) reads =
+      elim (memory_or_read e (module_at profile b) reads) [
+        | inl none ↦ inl none
+        | inr read ↦ module_stands profile sections b e read
+      ]
