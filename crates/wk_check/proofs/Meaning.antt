@@ -1,11 +1,13 @@
 -- What the computed verdict says, in the standard's words.
-use Rattle.std.proofs.Common.{◌≡◌, ◌<◌, ◌+◌, ℕ, Bool, true, false, cond, ltb, List, [], ◌∷◌, ◌++◌, length, Option, Some, None, All, refl, ap, ◌∙◌, arith}
+use Rattle.std.proofs.Common.{◌≡◌, ◌<◌, ◌+◌, ℕ, Bool, true, false, cond, ltb, List, [], ◌∷◌, ◌++◌, length, Option, Some, None, All, refl, sym, ap, ◌∙◌, arith}
 use Rattle.std.proofs.lemmas.Bool.{ltb-true, ltb-false}
 use Rattle.std.proofs.lemmas.List.Elements.{All-cons, All-nil}
 use Rattle.wk_module.specs.declared.types.FuncType.{FuncType}
 use Rattle.wk_module.specs.declared.types.Parts.{Parts}
 use Rattle.wk_check.specs.declared.fault.Fault.{Fault}
-use Rattle.wk_check.specs.Verdict.{arity_fault, types_fault, verdict_by, module_verdict, IsValidType, IsVerdict}
+use Rattle.wk_body.specs.declared.types.Profile.{Profile}
+use Rattle.wk_body.specs.declared.types.Profile.TheVariants.{Core, Extended}
+use Rattle.wk_check.specs.Verdict.{arity_fault, types_fault, verdict_by, arity_in, module_verdict, IsValidType, IsFirstArity, IsVerdict}
 
 -- the same, where the types are counted from an index on
 record FirstFrom (item : ℕ) (types : List FuncType) (fault : Fault) : Type 0 where
@@ -49,18 +51,25 @@ says : (item : ℕ) (types : List FuncType) → Says item types (types_fault ite
 says item [] = All-nil IsValidType
 says item (t ∷ ts) = says_first (ltb 1 (length t.results)) item t ts refl (says (item + 1) ts)
 
-meant : (m : Parts) (o : Option Fault) → Says 0 m.types o → IsVerdict m (verdict_by o)
-meant m None all = all
-meant m (Some fault) first = record {
-  before = first.before;
-  wrong = first.wrong;
-  after = first.after;
-  parts = first.parts;
-  fine = first.fine;
-  many = first.many;
-  is = first.is ∙ ap arity_fault (omega arith);
+first : (types : List FuncType) (fault : Fault) → FirstFrom 0 types fault → IsFirstArity types fault
+first types fault f = record {
+  before = f.before;
+  wrong = f.wrong;
+  after = f.after;
+  parts = f.parts;
+  fine = f.fine;
+  many = f.many;
+  is = f.is ∙ ap arity_fault (omega arith);
 }
+
+meant : (m : Parts) (o : Option Fault) → m.profile ≡ Core → Says 0 m.types o → IsVerdict m (verdict_by o)
+meant m None core all = λ _. all
+meant m (Some fault) core f = (core, first m.types fault f)
+
+meant_in : (m : Parts) (profile : Profile) → m.profile ≡ profile → IsVerdict m (verdict_by (arity_in profile m.types))
+meant_in m Core is = meant m (types_fault 0 m.types) is (says 0 m.types)
+meant_in m Extended is = λ core. let both : Core ≡ Extended = sym core ∙ is in absurd cc
 
 -- the verdict that is computed is the standard's, with the first fault
 pub verdict_meant : (m : Parts) → IsVerdict m (module_verdict m)
-verdict_meant m = meant m (types_fault 0 m.types) (says 0 m.types)
+verdict_meant m = meant_in m m.profile refl

@@ -1,5 +1,7 @@
 -- The verdict of a module (3.4.10): its first fault by section, then by item.
 use Rattle.std.specs.Prelude.{◌≡◌, ℕ, ◌+◌, ◌<◌, ◌≤◌, nat_lt, if◌then◌else◌, Option, Some, None, List, [], ◌∷◌, ◌++◌, length, All}
+use Rattle.wk_body.specs.declared.types.Profile.{Profile}
+use Rattle.wk_body.specs.declared.types.Profile.TheVariants.{Core, Extended}
 use Rattle.wk_module.specs.declared.types.FuncType.{FuncType}
 use Rattle.wk_module.specs.declared.types.Parts.{Parts}
 use Rattle.wk_check.specs.declared.fault.FaultKind.TheVariants.{TypeArity}
@@ -22,13 +24,18 @@ abbrev pub verdict_by : Option Fault → Verdict
 verdict_by None = Valid
 verdict_by (Some fault) = Invalid fault
 
+-- the fault of the type section: more than one result is none where blocks may have any function type
+abbrev pub arity_in : Profile → List FuncType → Option Fault
+arity_in Core types = types_fault 0 types
+arity_in Extended types = None
+
 -- the verdict of a module; customs have no say in it
 abbrev pub module_verdict : Parts → Verdict
-module_verdict m = verdict_by (types_fault 0 m.types)
+module_verdict m = verdict_by (arity_in m.profile m.types)
 
 -- ---- in the standard's words
 
--- a function type is valid where it has at most one result (3.2.3)
+-- a function type of 1.0 is valid where it has at most one result (3.2.3)
 abbrev pub IsValidType : FuncType → Type 0
 IsValidType t = length t.results ≤ 1
 
@@ -43,5 +50,5 @@ pub record IsFirstArity (types : List FuncType) (fault : Fault) : Type 0 where
   pub is : fault ≡ arity_fault (length before)
 
 abbrev pub IsVerdict : Parts → Verdict → Type 0
-IsVerdict m Valid = All IsValidType m.types
-IsVerdict m (Invalid fault) = IsFirstArity m.types fault
+IsVerdict m Valid = m.profile ≡ Core → All IsValidType m.types
+IsVerdict m (Invalid fault) = (m.profile ≡ Core) × IsFirstArity m.types fault

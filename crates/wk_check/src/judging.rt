@@ -5,7 +5,7 @@ ghost use Rattle.wk_check.specs.Verdict.{module_verdict, types_fault, IsVerdict}
 use crate::fault::{Fault, FaultKind, Place, Verdict};
 use std::alloc::Global;
 use wk_bytes::OutOfMemory;
-use wk_module::{FuncType, Module};
+use wk_module::{FuncType, Module, Profile};
 
 // The first type with more than one result.
 fn types_fault(types: &[FuncType]) -> Option<Fault>
@@ -31,7 +31,11 @@ fn types_fault(types: &[FuncType]) -> Option<Fault>
 fn verdict_of(module: &Module) -> Verdict
     ensures { result ≡ module_verdict «module».now }
 {
-    match types_fault(module.parts().types.as_slice()) {
+    let parts = module.parts();
+    if parts.profile == Profile::Extended {
+        return Verdict::Valid;
+    }
+    match types_fault(parts.types.as_slice()) {
         Some(fault) => Verdict::Invalid(fault),
         None => Verdict::Valid,
     }

@@ -2,7 +2,7 @@
 
 use super::*;
 use std::test::Fail;
-use wk_module::read;
+use wk_module::{Profile, read, read_in};
 
 // The verdict on a module whose first type with more than one result is this one.
 fn arity(item: u32) -> Verdict {
@@ -56,5 +56,16 @@ fn judges(rt: HostRuntime) -> Result<(), Fail> {
         let module = read(rt.alloc(), bytes)?;
         assert_eq!(rt; judge(rt.alloc(), &module)?, verdict, "{bytes:?}");
     }
+    Ok(())
+}
+
+// Any number of results is fine in the other profile.
+#[test]
+fn judges_the_other_profile(rt: HostRuntime) -> Result<(), Fail> {
+    let bytes = b"\0asm\x01\0\0\0\x01\x08\x01\x60\x02\x7f\x7f\x02\x7f\x7f";
+    let core = read(rt.alloc(), bytes)?;
+    assert_eq!(rt; judge(rt.alloc(), &core)?, arity(0));
+    let extended = read_in(rt.alloc(), bytes, Profile::Extended)?;
+    assert_eq!(rt; judge(rt.alloc(), &extended)?, Verdict::Valid);
     Ok(())
 }

@@ -2,3 +2,9 @@ pub mod VectorReading
 pub mod Laws
 pub mod Shaped
 pub mod Standing
+pub mod WrittenFrames
+pub mod WrittenSections
+pub mod WrittenCustoms
+pub mod WrittenSpells
+pub mod WrittenAlone
+pub mod Fitting

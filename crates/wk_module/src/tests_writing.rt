@@ -36,6 +36,7 @@ fn writes_what_is_shortest_already(rt: HostRuntime) -> Result<(), Fail> {
         [].as_slice(),
         [1, 4, 1, 96, 0, 0].as_slice(),
         [0, 1, 0].as_slice(),
+        [0, 2, 1, 97, 1, 4, 1, 96, 0, 0, 0, 3, 1, 98, 7, 5, 3, 1, 0, 1].as_slice(),
         [0, 3, 1, 97, 7].as_slice(),
         [2, 7, 1, 1, 97, 1, 102, 0, 0].as_slice(),
         [2, 9, 1, 1, 97, 1, 116, 1, 112, 0, 1].as_slice(),
@@ -223,5 +224,16 @@ fn writes_a_long_section(rt: HostRuntime) -> Result<(), Fail> {
     let start = bytes.as_slice().get(8..15).ok_or("a section")?;
     assert_eq!(rt; start, [1, 205, 1, 1, 96, 200, 1].as_slice());
     assert_eq!(rt; encoded_len(&module), Some(216));
+    Ok(())
+}
+
+#[test]
+fn copies_a_type(rt: HostRuntime) -> Result<(), Fail> {
+    let input = after_header(rt.alloc(), &[1, 6, 1, 96, 1, 127, 1, 126])?;
+    let module = read(rt.alloc(), input.as_slice())?;
+    let ty = module.parts().types.as_slice().first().ok_or("a type")?;
+    let copy = ty.copy(rt.alloc())?;
+    assert_eq!(rt; copy.params.as_slice(), [ValType::I32].as_slice());
+    assert_eq!(rt; copy.results.as_slice(), [ValType::I64].as_slice());
     Ok(())
 }
