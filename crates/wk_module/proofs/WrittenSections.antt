@@ -57,8 +57,19 @@ id_of_section DataSection = refl
 
 pub id_of_none : (n : ℕ) → 11 < n → of_number n ≡ None
 id_of_none n more =
-    rw (ne_eqb n 1 (omega arith), ne_eqb n 2 (omega arith), ne_eqb n 3 (omega arith), ne_eqb n 4 (omega arith), ne_eqb n 5 (omega arith), ne_eqb n 6 (omega arith),
-        ne_eqb n 7 (omega arith), ne_eqb n 8 (omega arith), ne_eqb n 9 (omega arith), ne_eqb n 10 (omega arith), ne_eqb n 11 (omega arith)) refl
+    rw (
+      ne_eqb n 1 (omega arith),
+      ne_eqb n 2 (omega arith),
+      ne_eqb n 3 (omega arith),
+      ne_eqb n 4 (omega arith),
+      ne_eqb n 5 (omega arith),
+      ne_eqb n 6 (omega arith),
+      ne_eqb n 7 (omega arith),
+      ne_eqb n 8 (omega arith),
+      ne_eqb n 9 (omega arith),
+      ne_eqb n 10 (omega arith),
+      ne_eqb n 11 (omega arith),
+    ) refl
 
 -- a number that is greater than all ids
 abbrev pub past_ids : ℕ → ℕ

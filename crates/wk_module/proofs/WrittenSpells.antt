@@ -59,7 +59,7 @@ spells_itself m sections shaped fits =
     let small : length (frames_bytes (written_frames m ids)) < 2 ^ 32 = omega (arith, fits, ap length parts, length-append (magic ++ version) (frames_bytes (written_frames m ids))) in
     let all_small = small_all (written_frames m ids) small in
     let spelled : (k : SectionId) → is_written m k ≡ true → SpellsContents m.profile k (written_contents k (contents (lists_of m) k)) (contents (lists_of m) k)
-        = λ k full. (sections k).spells (contents (lists_of m) k) full (shaped.formed.valid k) (short_contents m k full (omega (arith, ap length bytes))) in
+    = λ k full. (sections k).spells (contents (lists_of m) k) full (shaped.formed.valid k) (short_contents m k full (omega (arith, ap length bytes))) in
     let each = section_is m sections spelled in
     let rising = frames_rise (section_frames m) (is_filled m) m.customs each 12 0 0 (omega arith) (omega arith) in
     let settled = parts_settled (is_filled m) m.customs (ap (λ (n : Parts). n.customs) shaped.settled) in

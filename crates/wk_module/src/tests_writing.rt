@@ -36,7 +36,10 @@ fn writes_what_is_shortest_already(rt: HostRuntime) -> Result<(), Fail> {
         [].as_slice(),
         [1, 4, 1, 96, 0, 0].as_slice(),
         [0, 1, 0].as_slice(),
-        [0, 2, 1, 97, 1, 4, 1, 96, 0, 0, 0, 3, 1, 98, 7, 5, 3, 1, 0, 1].as_slice(),
+        [
+            0, 2, 1, 97, 1, 4, 1, 96, 0, 0, 0, 3, 1, 98, 7, 5, 3, 1, 0, 1,
+        ]
+        .as_slice(),
         [0, 3, 1, 97, 7].as_slice(),
         [2, 7, 1, 1, 97, 1, 102, 0, 0].as_slice(),
         [2, 9, 1, 1, 97, 1, 116, 1, 112, 0, 1].as_slice(),
