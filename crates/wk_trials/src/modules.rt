@@ -2,11 +2,14 @@
 
 use crate::mark::{call_begins, call_ends};
 use crate::outcome::Outcome;
-use crate::sample::{MODULE, NO_MEMORY};
+use crate::sample::{EXPORTS, LAST_CUSTOM, MODULE, NO_MEMORY, WHOLE};
 use std::alloc::{AllocError, Global};
 use wk_bytes::OutOfMemory;
 use wk_check::{Verdict, judge};
-use wk_module::{EncodeFault, Module, encode, read};
+use wk_module::{
+    EncodeFault, Lists, Module, Parts, encode, encode_custom, encode_section, encoded_len, read,
+    section_len,
+};
 
 // Whether the module is written as these bytes.
 fn is_written_as(alloc: Global, module: &Module, bytes: &[u8]) -> Result<bool, AllocError> {
@@ -16,26 +19,92 @@ fn is_written_as(alloc: Global, module: &Module, bytes: &[u8]) -> Result<bool, A
     }
 }
 
-pub fn reads(alloc: Global) -> Result<Outcome, AllocError> {
+pub fn reads(alloc: Global, bytes: &[u8]) -> Result<Outcome, AllocError> {
     call_begins(alloc)?;
-    let answer = read(alloc, MODULE);
+    let answer = read(alloc, bytes);
     call_ends(alloc)?;
     Ok(match answer {
-        Ok(module) => Outcome::answered(is_written_as(alloc, &module, MODULE)?),
+        Ok(module) => Outcome::answered(is_written_as(alloc, &module, bytes)?),
         Err(fault) => Outcome::refused(fault == NO_MEMORY),
     })
 }
 
-pub fn encodes(alloc: Global) -> Result<Outcome, AllocError> {
-    let module = read(alloc, MODULE).map_err(|_| AllocError)?;
+// What an encoder answered, where these bytes are right.
+fn encoded(
+    alloc: Global,
+    answer: Result<Vec<u8>, EncodeFault>,
+    bytes: &[u8],
+    module: &Module,
+    input: &[u8],
+) -> Result<Outcome, AllocError> {
+    Ok(match answer {
+        Ok(written) => Outcome::answered(written.as_slice() == bytes),
+        Err(EncodeFault::Memory) => Outcome::refused(is_written_as(alloc, module, input)?),
+        Err(EncodeFault::TooLarge) => Outcome::Wrong("a small module is too large"),
+    })
+}
+
+pub fn encodes(alloc: Global, bytes: &[u8]) -> Result<Outcome, AllocError> {
+    let module = read(alloc, bytes).map_err(|_| AllocError)?;
     call_begins(alloc)?;
     let answer = encode(alloc, &module);
     call_ends(alloc)?;
-    Ok(match answer {
-        Ok(bytes) => Outcome::answered(bytes.as_slice() == MODULE),
-        Err(EncodeFault::Memory) => Outcome::refused(is_written_as(alloc, &module, MODULE)?),
-        Err(EncodeFault::TooLarge) => Outcome::Wrong("a small module is too large"),
-    })
+    encoded(alloc, answer, bytes, &module, bytes)
+}
+
+// The lists of a module, but for its functions.
+fn lists(parts: &Parts) -> Lists<'_> {
+    Lists {
+        profile: parts.profile,
+        types: parts.types.as_slice(),
+        imports: parts.imports.as_slice(),
+        funcs: &[],
+        tables: parts.tables.as_slice(),
+        memories: parts.memories.as_slice(),
+        globals: parts.globals.as_slice(),
+        exports: parts.exports.as_slice(),
+        start: parts.start,
+        elems: parts.elems.as_slice(),
+        datas: parts.datas.as_slice(),
+    }
+}
+
+pub fn encodes_exports(alloc: Global) -> Result<Outcome, AllocError> {
+    let module = read(alloc, WHOLE).map_err(|_| AllocError)?;
+    let lists = lists(module.parts());
+    call_begins(alloc)?;
+    let answer = encode_section(alloc, &lists, 7);
+    call_ends(alloc)?;
+    encoded(alloc, answer, EXPORTS, &module, WHOLE)
+}
+
+pub fn encodes_custom(alloc: Global) -> Result<Outcome, AllocError> {
+    let module = read(alloc, WHOLE).map_err(|_| AllocError)?;
+    let Some(custom) = module.parts().customs.as_slice().last() else {
+        return Ok(Outcome::Wrong("a custom section is lost"));
+    };
+    call_begins(alloc)?;
+    let answer = encode_custom(alloc, custom);
+    call_ends(alloc)?;
+    encoded(alloc, answer, LAST_CUSTOM, &module, WHOLE)
+}
+
+pub fn measures(alloc: Global) -> Result<Outcome, AllocError> {
+    let module = read(alloc, WHOLE).map_err(|_| AllocError)?;
+    call_begins(alloc)?;
+    let len = encoded_len(&module);
+    let exports = section_len(&module, 7);
+    call_ends(alloc)?;
+    let is_right = len == Some(WHOLE.len() as u32) && exports == Some(EXPORTS.len() as u32);
+    Ok(Outcome::answered(is_right))
+}
+
+pub fn settles(alloc: Global) -> Result<Outcome, AllocError> {
+    let module = read(alloc, WHOLE).map_err(|_| AllocError)?;
+    call_begins(alloc)?;
+    let module = Module::of(module.into_parts());
+    call_ends(alloc)?;
+    Ok(Outcome::answered(is_written_as(alloc, &module, WHOLE)?))
 }
 
 pub fn judges(alloc: Global) -> Result<Outcome, AllocError> {

@@ -1,7 +1,7 @@
 //! The scenarios and their names.
 
 use crate::outcome::Outcome;
-use crate::sample::{STRIPPED, WITH_TYPE};
+use crate::sample::{MODULE, STRIPPED, WHOLE, WITH_TYPE};
 use crate::sinks::Room;
 use crate::{bodies, bytes, jobs, modules, sample, sessions};
 use std::alloc::{AllocError, Global};
@@ -56,6 +56,18 @@ pub enum Scenario {
     Read,
     /// `wk_module::encode`.
     Encode,
+    /// `wk_module::read` of a module with every section.
+    ReadWhole,
+    /// `wk_module::encode` of a module with every section.
+    EncodeWhole,
+    /// `wk_module::encode_section` of exports.
+    EncodeSection,
+    /// `wk_module::encode_custom`.
+    EncodeCustom,
+    /// `wk_module::encoded_len` and `section_len`.
+    Lengths,
+    /// `Module::of`.
+    Settle,
     /// `wk_check::judge`, which takes no memory so far.
     Judge,
     /// `Session::open`.
@@ -88,7 +100,7 @@ pub enum Scenario {
 
 impl Scenario {
     /// All scenarios, in the order in which they are run.
-    pub const ALL: [Scenario; 37] = [
+    pub const ALL: [Scenario; 43] = [
         Scenario::PutU32,
         Scenario::PutS32,
         Scenario::PutS33,
@@ -112,6 +124,12 @@ impl Scenario {
         Scenario::CloneBody,
         Scenario::Read,
         Scenario::Encode,
+        Scenario::ReadWhole,
+        Scenario::EncodeWhole,
+        Scenario::EncodeSection,
+        Scenario::EncodeCustom,
+        Scenario::Lengths,
+        Scenario::Settle,
         Scenario::Judge,
         Scenario::Open,
         Scenario::ApplyType,
@@ -154,6 +172,12 @@ impl Scenario {
             Scenario::CloneBody => "clone-body",
             Scenario::Read => "read",
             Scenario::Encode => "encode",
+            Scenario::ReadWhole => "read-whole",
+            Scenario::EncodeWhole => "encode-whole",
+            Scenario::EncodeSection => "encode-section",
+            Scenario::EncodeCustom => "encode-custom",
+            Scenario::Lengths => "lengths-in-room",
+            Scenario::Settle => "settle-in-room",
             Scenario::Judge => "judge-in-room",
             Scenario::Open => "open",
             Scenario::ApplyType => "apply-type",
@@ -203,8 +227,14 @@ impl Scenario {
             Scenario::Shift => bodies::shifts(alloc),
             Scenario::ShiftExpr => bodies::shifts_expr(alloc),
             Scenario::CloneBody => bodies::clones(alloc),
-            Scenario::Read => modules::reads(alloc),
-            Scenario::Encode => modules::encodes(alloc),
+            Scenario::Read => modules::reads(alloc, MODULE),
+            Scenario::Encode => modules::encodes(alloc, MODULE),
+            Scenario::ReadWhole => modules::reads(alloc, WHOLE),
+            Scenario::EncodeWhole => modules::encodes(alloc, WHOLE),
+            Scenario::EncodeSection => modules::encodes_exports(alloc),
+            Scenario::EncodeCustom => modules::encodes_custom(alloc),
+            Scenario::Lengths => modules::measures(alloc),
+            Scenario::Settle => modules::settles(alloc),
             Scenario::Judge => modules::judges(alloc),
             Scenario::Open => sessions::opens(alloc),
             Scenario::ApplyType => sessions::applies(alloc, &sample::add_type(alloc)?, WITH_TYPE),
