@@ -1,2 +1,3 @@
 pub mod VectorReading
 pub mod Laws
+pub mod Formats
