@@ -1,5 +1,5 @@
 -- The formats of integers, names and bytes, and of things spelled one behind the other.
-use Rattle.std.proofs.Common.{◌≡◌, ℕ, zero, suc, ◌+◌, ◌-◌, ◌^◌, ◌<◌, ◌≤◌, Bool, true, false, cond, eqb, List, [], ◌∷◌, ◌++◌, length, Option, Some, None, Result, Ok, Err, refl, sym, ap, subst, ◌∙◌, inl, inr, append_assoc, length-append, arith}
+use Rattle.std.proofs.Common.{◌≡◌, ℕ, zero, suc, ◌+◌, ◌-◌, ◌/◌, ◌^◌, ◌<◌, ◌≤◌, Bool, true, false, cond, eqb, List, [], ◌∷◌, ◌++◌, length, Option, Some, None, Result, Ok, Err, refl, sym, ap, subst, ◌∙◌, inl, inr, append_assoc, length-append, arith}
 use Rattle.std.proofs.lemmas.Bool.{eqb-true, eq-eqb, cases_lt}
 use Rattle.std.proofs.lemmas.List.{get_or_append_left, get_or_past}
 use Rattle.std.specs.List.{flat_map, AllByRecursion}
@@ -9,7 +9,7 @@ use Rattle.wk_bytes.specs.declared.fault.ReadFault.{ReadFault}
 use Rattle.wk_bytes.specs.Leb.{◌>>=◌, or_fail, SpellsU}
 use Rattle.wk_bytes.specs.LebLaws.{IsBytes, bind_ok, chosen, or_fail_ok, some_is, SpellsU-below}
 use Rattle.wk_bytes.specs.Short.{short}
-use Rattle.wk_bytes.specs.ShortLaws.{short-some, short-spells, short-least}
+use Rattle.wk_bytes.specs.ShortLaws.{short-some, short-spells, short-least, short-last, short-more}
 use Rattle.wk_bytes.specs.Span.{fault, byte_at, piece_at, u32_at, name_at}
 use Rattle.wk_bytes.specs.SpanLaws.{ok_is, IsBytes-after, byte_at-takes, piece_at-takes, piece_at-again}
 use Rattle.wk_bytes.specs.Pieces.{SpellsName}
@@ -51,6 +51,23 @@ IsBytes-before front later bytes e fits i =
       | inr le ↦ rw (get_or_past front i 0 le) (omega arith)
     ]
 
+-- a larger number has no shorter spelling
+short_grows_by : (k m n : ℕ) → n ≤ k → m ≤ n → length (short m) ≤ length (short n)
+short_grows_by zero m n most le =
+    let same : m ≡ n = omega arith in
+    rw same (omega arith)
+short_grows_by (suc k) m n most le =
+    elim (cases_lt m 128) [
+      | inl small ↦ omega (arith, ap length (short-last m small), short-some n)
+      | inr large ↦
+          let more : 128 ≤ n = omega arith in
+          let less = short_grows_by k (m / 128) (n / 128) (omega arith) (omega arith) in
+          omega (arith, ap length (short-more m large), ap length (short-more n more), less)
+    ]
+
+pub short_grows : (m n : ℕ) → m ≤ n → length (short m) ≤ length (short n)
+short_grows m n le = short_grows_by n m n (omega arith) le
+
 -- ---- integers and names
 
 pub u32_format : IsFormat IsU32 (SpellsU 32) u32_at short
@@ -86,6 +103,14 @@ bytes_found end bytes x rest fits e =
     let counted = u32_at-found end bytes a.0.0 a.0.1 fits a.1 in
     let cut = piece_at-takes a.0.0 end a.0.1 x rest a.2 in
     (counted.0 ++ x, record { size = counted.0; parts = refl; counts = subst (SpellsU 32 counted.0) (sym cut.1) counted.1 }, joined bytes counted.0 a.0.1 x rest counted.2 cut.0)
+
+-- the bytes of the number alone stand before what is read
+pub bytes_parts : (end : ℕ) (bytes x rest : List ℕ) → bytes_at end bytes ≡ Ok (x, rest) → (size : List ℕ) × (bytes ≡ size ++ (x ++ rest))
+unfolding bytes_at
+bytes_parts end bytes x rest e =
+    let a = bind_ok (u32_at end bytes) (λ n. piece_at n.0 end n.1) (x, rest) e in
+    let size = ReadsFront-u32_at.takes end bytes a.0.0 a.0.1 a.1 in
+    (size.0, behind bytes size.0 a.0.1 (x ++ rest) size.1 (piece_at-takes a.0.0 end a.0.1 x rest a.2).0)
 
 bytes_again : (end : ℕ) (b x rest : List ℕ) → SpellsBytes b x → bytes_at end (b ++ rest) ≡ Ok (x, rest)
 unfolding bytes_at

@@ -1,3 +1,4 @@
 pub mod VectorReading
 pub mod Laws
 pub mod Formats
+pub mod ItemFormats
