@@ -2,3 +2,4 @@ pub mod VectorReading
 pub mod Laws
 pub mod Formats
 pub mod ItemFormats
+pub mod SectionFormats
