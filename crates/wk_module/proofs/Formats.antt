@@ -7,7 +7,7 @@ use Rattle.std.specs.Str.{IsUtf8}
 use Rattle.wk_bytes.specs.declared.fault.ReadKind.TheVariants.{BadByte}
 use Rattle.wk_bytes.specs.declared.fault.ReadFault.{ReadFault}
 use Rattle.wk_bytes.specs.Leb.{◌>>=◌, or_fail, SpellsU}
-use Rattle.wk_bytes.specs.LebLaws.{IsBytes, bind_ok, chosen, or_fail_ok, some_is, SpellsU-below}
+use Rattle.wk_bytes.specs.LebLaws.{IsBytes, bind_ok, chosen, or_fail_ok, SpellsU-below}
 use Rattle.wk_bytes.specs.Short.{short}
 use Rattle.wk_bytes.specs.ShortLaws.{short-some, short-spells, short-least, short-last, short-more}
 use Rattle.wk_bytes.specs.Span.{fault, byte_at, piece_at, u32_at, name_at}

@@ -1,5 +1,5 @@
 -- The formats of the items of a module's lists.
-use Rattle.std.proofs.Common.{◌≡◌, ℕ, ◌+◌, ◌-◌, ◌^◌, ◌<◌, ◌≤◌, Bool, true, false, cond, eqb, List, [], ◌∷◌, ◌++◌, length, Option, Some, None, Result, Ok, Err, refl, sym, ap, subst, ◌∙◌, inl, inr, append_assoc, length-append, arith}
+use Rattle.std.proofs.Common.{◌≡◌, ℕ, ◌+◌, ◌-◌, ◌^◌, ◌<◌, ◌≤◌, Bool, true, false, cond, eqb, List, [], ◌∷◌, ◌++◌, length, Option, Some, None, Result, Ok, Err, refl, sym, ap, ◌∙◌, inl, inr, length-append, arith}
 use Rattle.std.proofs.lemmas.Bool.{eqb-true}
 use Rattle.std.specs.List.{AllByRecursion}
 use Rattle.std.specs.Str.{IsUtf8}
@@ -7,8 +7,8 @@ use Rattle.wk_bytes.specs.declared.fault.ReadFault.{ReadFault}
 use Rattle.wk_bytes.specs.Leb.{◌>>=◌, SpellsU}
 use Rattle.wk_bytes.specs.LebLaws.{IsBytes, bind_ok, chosen, some_is}
 use Rattle.wk_bytes.specs.Short.{short}
-use Rattle.wk_bytes.specs.ShortLaws.{short-spells, short-some, short-least}
-use Rattle.wk_bytes.specs.Span.{u32_at, name_at}
+use Rattle.wk_bytes.specs.ShortLaws.{short-least}
+use Rattle.wk_bytes.specs.Span.{u32_at}
 use Rattle.wk_bytes.specs.SpanLaws.{good, IsBytes-after}
 use Rattle.wk_bytes.specs.Stands.{Stands}
 use Rattle.wk_bytes.specs.StandsLaws.{ReadsFront, Stands-within}
@@ -19,23 +19,14 @@ use Rattle.wk_body.specs.ValTypes.{valtype_byte, SpellsValType, valtype_of, valt
 use Rattle.wk_body.specs.Bodies.{BodyOf}
 use Rattle.wk_body.specs.Reading.{expr_at, all_body_at}
 use Rattle.wk_body.specs.Shape.{IsU32}
-use Rattle.wk_body.specs.Spelling.{SpellsBody}
 use Rattle.wk_body.specs.Tree.{Instrs}
-use Rattle.wk_body.specs.Vectors.{SpellsVector, vector_at, written_vector}
 use Rattle.wk_body.specs.Written.{enc, written_expr, written_body}
-use Rattle.wk_module.specs.declared.types.FuncType.{FuncType}
 use Rattle.wk_module.specs.declared.types.Limits.{Limits}
-use Rattle.wk_module.specs.declared.types.GlobalType.{GlobalType}
 use Rattle.wk_module.specs.declared.types.Kind.{Kind}
 use Rattle.wk_module.specs.declared.types.Kind.TheVariants as kinds
 use Rattle.wk_module.specs.declared.types.ImportDesc.{ImportDesc}
 use Rattle.wk_module.specs.declared.types.ImportDesc.TheVariants.{Func, Table, Memory, Global}
-use Rattle.wk_module.specs.declared.types.Import.{Import}
-use Rattle.wk_module.specs.declared.types.GlobalDef.{GlobalDef}
-use Rattle.wk_module.specs.declared.types.Export.{Export}
-use Rattle.wk_module.specs.declared.types.Elem.{Elem}
-use Rattle.wk_module.specs.declared.types.DataSeg.{DataSeg}
-use Rattle.wk_module.specs.Formats.{Reader, SpellsBoth, both_at, SpellsCoded, coded_at, made_at, bytes_at, SpellsBytes, written_bytes}
+use Rattle.wk_module.specs.Formats.{SpellsBoth, both_at, SpellsCoded, coded_at, bytes_at, SpellsBytes}
 use Rattle.wk_module.specs.Types.{written_valtype, SpellsFuncType, func_type, functype_at, written_functype, flag_byte, flag_of, has_max, SpellsBounds, SpellsLimits, without_max, with_max, bounds_at, limits_at, written_bounds, written_limits, IsBound, AreLimits, SpellsTableType, tabletype_at, written_tabletype, SpellsGlobalType, global_type, globaltype_at, written_globaltype, kind_byte, kind_of}
 use Rattle.wk_module.specs.Items.{desc_kind, SpellsDescRest, SpellsDesc, desc_rest_at, desc_at, written_desc_rest, written_desc, IsDesc, SpellsImport, import_of, import_at, written_import, IsImport, SpellsInit, IsInit, SpellsGlobal, global_of, global_at, written_global, IsGlobal, SpellsExport, export_of, export_at, written_export, IsExport, SpellsElem, elem_of, elem_at, written_elem, IsElem, SpellsCode, code_at, written_code, IsCode, SpellsData, data_of, data_at, written_data, IsData}
 use Rattle.wk_module.proofs.Laws.{CodeLaws, IsFormat}

@@ -1,6 +1,6 @@
 -- The laws of the contents of each section.
-use Rattle.std.proofs.Common.{◌≡◌, ◌≢◌, ℕ, ◌+◌, ◌-◌, ◌^◌, ◌<◌, ◌≤◌, Bool, true, false, not, cond, eqb, List, [], ◌∷◌, ◌++◌, length, Option, Some, None, Result, Ok, Err, refl, sym, ap, subst, ◌∙◌, inl, inr, append_assoc, length-append, arith}
-use Rattle.std.proofs.lemmas.Bool.{eqb-true, eq-eqb}
+use Rattle.std.proofs.Common.{◌≡◌, ◌≢◌, ℕ, ◌+◌, ◌-◌, ◌^◌, ◌<◌, ◌≤◌, Bool, true, false, not, cond, eqb, List, [], ◌∷◌, ◌++◌, length, Option, Some, None, Result, Ok, Err, refl, sym, ap, subst, ◌∙◌, inl, inr, length-append, arith}
+use Rattle.std.proofs.lemmas.Bool.{eq-eqb}
 use Rattle.std.proofs.lemmas.List.{append-nil}
 use Rattle.std.specs.List.{AllByRecursion}
 use Rattle.wk_bytes.specs.declared.fault.ReadKind.TheVariants.{FuncCodeCount}
@@ -20,7 +20,7 @@ use Rattle.wk_module.specs.declared.types.FuncType.{FuncType}
 use Rattle.wk_module.specs.Formats.{Reader, made_at}
 use Rattle.wk_module.specs.Types.{SpellsFuncType, functype_at, written_functype}
 use Rattle.wk_module.specs.Items.{SpellsCode, code_at, written_code, IsCode}
-use Rattle.wk_module.specs.Sections.{SectionId, TypeSection, ImportSection, FunctionSection, TableSection, MemorySection, GlobalSection, ExportSection, StartSection, ElementSection, CodeSection, DataSection, ContentsOf, number, is_some, is_full, SpellsStart, SpellsContents, codes_at, contents_at, written_start, written_contents, IsStart, AreValid}
+use Rattle.wk_module.specs.Sections.{SectionId, TypeSection, ImportSection, FunctionSection, TableSection, MemorySection, GlobalSection, ExportSection, StartSection, ElementSection, CodeSection, DataSection, number, is_some, is_full, SpellsStart, SpellsContents, codes_at, contents_at, written_start, written_contents, IsStart, AreValid}
 use Rattle.wk_module.proofs.Laws.{CodeLaws, IsFormat, CountIs, IsSection, SectionLaws}
 use Rattle.wk_module.proofs.Formats.{u32_format, made_front, made_steps, made_again, valid_as, items_found, items_again, items_front, vector_made, vector_format, joined, both_parts}
 use Rattle.wk_module.proofs.ItemFormats.{functype_format, limits_format, tabletype_format, import_format, export_format, global_format, elem_format, code_format, data_format}
