@@ -1,5 +1,8 @@
 pub mod VectorReading
 pub mod Laws
+pub mod Formats
+pub mod ItemFormats
+pub mod SectionFormats
 pub mod Shaped
 pub mod Standing
 pub mod WrittenFrames
