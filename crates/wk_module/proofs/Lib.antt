@@ -1,2 +1,3 @@
+pub mod SectionIds
 pub mod VectorReading
 pub mod Laws
