@@ -1,3 +1,4 @@
 pub mod SectionIds
+pub mod ModuleReading
 pub mod VectorReading
 pub mod Laws
