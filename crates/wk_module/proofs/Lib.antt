@@ -1,4 +1,5 @@
 pub mod SectionIds
 pub mod ModuleReading
+pub mod Alike
 pub mod VectorReading
 pub mod Laws

@@ -1,12 +1,11 @@
 -- Modules are read as they are spelled.
-use Rattle.std.proofs.Common.{◌≡◌, ◌≢◌, ◌<◌, ◌≤◌, ℕ, Bool, true, false, cond, eqb, MatchBool, Option, Some, None, List, [], ◌∷◌, ◌++◌, length, map, max, Result, Ok, Err, refl, sym, ap, subst, ◌∙◌, append_assoc, inl, inr, ◌⊎◌, arith}
+use Rattle.std.proofs.Common.{◌≡◌, ◌≢◌, ◌<◌, ◌≤◌, ℕ, Bool, cond, eqb, MatchBool, Some, None, List, [], ◌∷◌, ◌++◌, length, map, max, Result, Ok, Err, refl, sym, ap, subst, ◌∙◌, append_assoc, inl, inr, ◌⊎◌, arith}
 use Rattle.std.proofs.lemmas.Bool.{eqb-true, ne_eqb, eq-eqb, cases_Bool, cases_lt, cond-true, cond-false, MatchBool-at_true, MatchBool-at_false}
 use Rattle.std.proofs.lemmas.List.{append-nil, get_or_append_left, get_or_past}
 use Rattle.std.specs.Prelude.{IfOk, IfErr}
 use Rattle.wk_bytes.specs.declared.fault.ReadKind.{ReadKind}
 use Rattle.wk_bytes.specs.declared.fault.ReadKind.TheVariants.{FuncCodeCount, Memory}
 use Rattle.wk_bytes.specs.declared.fault.ReadFault.{ReadFault}
-use Rattle.wk_bytes.specs.Leb.{◌>>=◌, SpellsU}
 use Rattle.wk_bytes.specs.LebLaws.{IsBytes, bind_ok, chosen, done, ok_is}
 use Rattle.wk_bytes.specs.Pieces.{SpellsName}
 use Rattle.wk_bytes.specs.PieceLaws.{name_at-found, name_at-again}
@@ -20,15 +19,15 @@ use Rattle.wk_body.specs.Reads.{FailsAs, Reads}
 use Rattle.wk_module.specs.declared.types.Custom.{Custom}
 use Rattle.wk_module.specs.declared.types.Func.{Func}
 use Rattle.wk_module.specs.declared.types.Parts.{Parts}
-use Rattle.wk_module.specs.Customs.{SpellsCustom, IsEmptyFrame, IsPlaceAfter, SpellsCustoms, custom_at}
-use Rattle.wk_module.specs.Formats.{Reader, taking_all, all_at}
+use Rattle.wk_module.specs.Customs.{SpellsCustom, IsPlaceAfter, SpellsCustoms, custom_at}
+use Rattle.wk_module.specs.Formats.{taking_all, all_at}
 use Rattle.wk_module.specs.Sections.{SectionId, FunctionSection, CodeSection, number, of_number, ContentsOf, SectionLists, contents, omitted, no_lists, with_contents, is_full, SpellsContents, contents_at}
 use Rattle.wk_module.specs.Shape.{lists_of}
 use Rattle.wk_module.specs.Modules.{SpellsSection, Spells, SpellsNone}
 use Rattle.wk_module.specs.ModuleLaws.{SpellOne}
 use Rattle.wk_module.specs.Reading.{Progress, at_start, section_end, with_custom, with_lists, section_by, with_section, sections_read, zipped, module_of, joined, module_at}
-use Rattle.wk_module.proofs.Laws.{CountIs, IsSection, SectionLaws}
-use Rattle.wk_module.proofs.SectionIds.{of_number-none, of_number-is, has_id, HasId, number_some, number_small, same_or_other, other_number, contents-here, contents-elsewhere, contents-none, same_lists}
+use Rattle.wk_module.proofs.Laws.{CountIs, SectionLaws}
+use Rattle.wk_module.proofs.SectionIds.{of_number-none, of_number-is, has_id, HasId, number_some, same_or_other, other_number, contents-here, contents-elsewhere, contents-none, same_lists}
 
 -- ---- bytes
 
