@@ -22,7 +22,7 @@ use Rattle.wk_module.specs.declared.types.Parts.{Parts}
 use Rattle.wk_module.specs.Customs.{SpellsCustom, IsPlaceAfter, SpellsCustoms, custom_at}
 use Rattle.wk_module.specs.Formats.{taking_all, all_at}
 use Rattle.wk_module.specs.Sections.{SectionId, FunctionSection, CodeSection, number, of_number, ContentsOf, SectionLists, contents, omitted, no_lists, with_contents, is_full, SpellsContents, contents_at}
-use Rattle.wk_module.specs.Shape.{lists_of}
+use Rattle.wk_module.specs.Shape.{lists_of, settle}
 use Rattle.wk_module.specs.Modules.{SpellsSection, Spells, SpellsNone}
 use Rattle.wk_module.specs.ModuleLaws.{SpellOne}
 use Rattle.wk_module.specs.Reading.{Progress, at_start, section_end, with_custom, with_lists, section_by, with_section, sections_read, zipped, module_of, joined, module_at}
@@ -179,6 +179,10 @@ memory_or_other _ = inr (λ same. absurd cc)
 pub unless_memory : {Y : Type 0} (e : ReadFault) (k : ReadKind) (read : Result Y ReadFault) → k ≢ Memory → FailsAs e k read → read ≡ Err e
 unless_memory e Memory read other fails = absurd (other refl)
 unless_memory e _ read other fails = fails
+
+-- what was read is settled already, so that settling it gives the same
+pub read_settled : (profile : Profile) (b : List ℕ) (m r : Parts) → module_at profile b ≡ Ok m → settle m ≡ m → r ≡ settle m → module_at profile b ≡ Ok r
+read_settled profile b m r read settled is = read ∙ ap (λ (n : Parts). done n) (sym settled ∙ sym is)
 
 refused : (r : Result Parts ReadFault) (e : ReadFault) (m : Parts) → r ≡ Err e → r ≡ Ok m → ⊥
 refused r e m p q = cc
