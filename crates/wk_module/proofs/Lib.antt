@@ -1,3 +1,6 @@
+pub mod SectionIds
+pub mod ModuleReading
+pub mod Alike
 pub mod VectorReading
 pub mod Laws
 pub mod Formats
