@@ -6,7 +6,7 @@ use Rattle.std.specs.List.{AllByRecursion}
 use Rattle.wk_bytes.specs.declared.fault.ReadKind.TheVariants.{FuncCodeCount}
 use Rattle.wk_bytes.specs.declared.fault.ReadFault.{ReadFault}
 use Rattle.wk_bytes.specs.Leb.{◌>>=◌, SpellsU}
-use Rattle.wk_bytes.specs.LebLaws.{IsBytes, bind_ok, chosen, one_SpellsU}
+use Rattle.wk_bytes.specs.LebLaws.{IsBytes, bind_ok, chosen, one_SpellsU, SpellsU-below}
 use Rattle.wk_bytes.specs.ListWords.{is_empty}
 use Rattle.wk_bytes.specs.ShortLaws.{short-some}
 use Rattle.wk_bytes.specs.Span.{fault, u32_at}
@@ -15,12 +15,13 @@ use Rattle.wk_bytes.specs.Stands.{Stands}
 use Rattle.wk_bytes.specs.StandsLaws.{ReadsFront, Stands-later, stands_as}
 use Rattle.wk_body.specs.declared.types.Profile.{Profile}
 use Rattle.wk_body.specs.Bodies.{BodyOf}
+use Rattle.wk_body.specs.Shape.{IsU32}
 use Rattle.wk_body.specs.Vectors.{SpellsVector, items_at, vector_at, written_vector}
 use Rattle.wk_module.specs.declared.types.FuncType.{FuncType}
 use Rattle.wk_module.specs.Formats.{Reader, made_at}
 use Rattle.wk_module.specs.Types.{SpellsFuncType, functype_at, written_functype}
 use Rattle.wk_module.specs.Items.{SpellsCode, code_at, written_code, IsCode}
-use Rattle.wk_module.specs.Sections.{SectionId, TypeSection, ImportSection, FunctionSection, TableSection, MemorySection, GlobalSection, ExportSection, StartSection, ElementSection, CodeSection, DataSection, number, is_some, is_full, SpellsStart, SpellsContents, codes_at, contents_at, written_start, written_contents, IsStart, AreValid}
+use Rattle.wk_module.specs.Sections.{SectionId, TypeSection, ImportSection, FunctionSection, TableSection, MemorySection, GlobalSection, ExportSection, StartSection, ElementSection, CodeSection, DataSection, number, is_some, is_full, SpellsStart, SpellsContents, codes_at, contents_at, written_start, written_contents, IsStart, AreItems, AreValid}
 use Rattle.wk_module.proofs.Laws.{CodeLaws, IsFormat, CountIs, IsSection, SectionLaws}
 use Rattle.wk_module.proofs.Formats.{u32_format, made_front, made_steps, made_again, valid_as, items_found, items_again, items_front, vector_made, vector_format, joined, both_parts}
 use Rattle.wk_module.proofs.ItemFormats.{functype_format, limits_format, tabletype_format, import_format, export_format, global_format, elem_format, code_format, data_format}
@@ -89,9 +90,24 @@ vector_contents {Spells = Spells} id other of = record {
   full = λ b xs s e vector. vector_full Spells b xs s e;
 }
 
+-- what is spelled has no more items than indexes count
+items_format : {A : Type 0} {Valid : A → Type 0} {Spells : List ℕ → A → Type 0} {read : Reader A} {written : A → List ℕ} → IsFormat Valid Spells read written
+    → IsFormat (AreItems Valid) (SpellsVector Spells) (vector_at read) (written_vector written)
+items_format of =
+    let vector = vector_format of in
+    record {
+      found = vector.found;
+      again = vector.again;
+      fronts = vector.fronts;
+      some = vector.some;
+      spells = λ xs valid. vector.spells xs valid.1;
+      least = vector.least;
+      valid = λ b xs bytes s. (SpellsU-below 32 s.count (length xs) s.counts, vector.valid b xs bytes s);
+    }
+
 -- any function types are valid
-types_format : IsFormat (λ (xs : List FuncType). Unit {0}) (SpellsVector SpellsFuncType) (vector_at functype_at) (written_vector written_functype)
-types_format = valid_as (λ xs. Unit {0}) (λ xs any. all_any xs) (λ xs all. tt) (vector_format functype_format)
+types_format : IsFormat (λ (xs : List FuncType). IsU32 (length xs)) (SpellsVector SpellsFuncType) (vector_at functype_at) (written_vector written_functype)
+types_format = valid_as (λ xs. IsU32 (length xs)) (λ xs few. (few, all_any xs)) (λ xs all. all.0) (items_format functype_format)
   where
     all_any : {A : Type 0} (xs : List A) → AllByRecursion (λ (x : A). Unit {0}) xs
     all_any [] = tt
@@ -196,9 +212,9 @@ module _ (profile : Profile) (laws : CodeLaws profile) where
   unfolding codes_at
   codes_fault funcs end bytes e h fits = counted_fault funcs end bytes e (u32_at end bytes) refl h fits
 
-  codes_contents : IsContents 10 (λ funcs xs. length xs ≡ funcs) (λ xs. not (is_empty xs)) (AllByRecursion (IsCode profile)) (SpellsVector (SpellsCode profile)) (codes_at profile) (written_vector written_code)
+  codes_contents : IsContents 10 (λ funcs xs. length xs ≡ funcs) (λ xs. not (is_empty xs)) (AreItems (IsCode profile)) (SpellsVector (SpellsCode profile)) (codes_at profile) (written_vector written_code)
   codes_contents =
-      let of = vector_format (code_format profile laws) in
+      let of = items_format (code_format profile laws) in
       record {
         found = codes_found;
         again = codes_again;
@@ -215,13 +231,13 @@ module _ (profile : Profile) (laws : CodeLaws profile) where
 
 pub section_laws : (profile : Profile) → CodeLaws profile → SectionLaws profile
 section_laws profile laws TypeSection = section_is profile TypeSection (vector_contents 1 (λ e. omega arith) types_format)
-section_laws profile laws ImportSection = section_is profile ImportSection (vector_contents 2 (λ e. omega arith) (vector_format import_format))
-section_laws profile laws FunctionSection = section_is profile FunctionSection (vector_contents 3 (λ e. omega arith) (vector_format u32_format))
-section_laws profile laws TableSection = section_is profile TableSection (vector_contents 4 (λ e. omega arith) (vector_format tabletype_format))
-section_laws profile laws MemorySection = section_is profile MemorySection (vector_contents 5 (λ e. omega arith) (vector_format limits_format))
-section_laws profile laws GlobalSection = section_is profile GlobalSection (vector_contents 6 (λ e. omega arith) (vector_format (global_format profile laws)))
-section_laws profile laws ExportSection = section_is profile ExportSection (vector_contents 7 (λ e. omega arith) (vector_format export_format))
+section_laws profile laws ImportSection = section_is profile ImportSection (vector_contents 2 (λ e. omega arith) (items_format import_format))
+section_laws profile laws FunctionSection = section_is profile FunctionSection (vector_contents 3 (λ e. omega arith) (items_format u32_format))
+section_laws profile laws TableSection = section_is profile TableSection (vector_contents 4 (λ e. omega arith) (items_format tabletype_format))
+section_laws profile laws MemorySection = section_is profile MemorySection (vector_contents 5 (λ e. omega arith) (items_format limits_format))
+section_laws profile laws GlobalSection = section_is profile GlobalSection (vector_contents 6 (λ e. omega arith) (items_format (global_format profile laws)))
+section_laws profile laws ExportSection = section_is profile ExportSection (vector_contents 7 (λ e. omega arith) (items_format export_format))
 section_laws profile laws StartSection = section_is profile StartSection start_contents
-section_laws profile laws ElementSection = section_is profile ElementSection (vector_contents 9 (λ e. omega arith) (vector_format (elem_format profile laws)))
+section_laws profile laws ElementSection = section_is profile ElementSection (vector_contents 9 (λ e. omega arith) (items_format (elem_format profile laws)))
 section_laws profile laws CodeSection = section_is profile CodeSection (codes_contents profile laws)
-section_laws profile laws DataSection = section_is profile DataSection (vector_contents 11 (λ e. omega arith) (vector_format (data_format profile laws)))
+section_laws profile laws DataSection = section_is profile DataSection (vector_contents 11 (λ e. omega arith) (items_format (data_format profile laws)))

@@ -345,5 +345,6 @@ pub fn one_module()
     ensures alike { SpellAlike }
 {
     reading_of_code();
+    written_form_of_code();
     one_spelling_of_code();
 }
