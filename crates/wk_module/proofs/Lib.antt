@@ -1,2 +1,4 @@
 pub mod VectorReading
 pub mod Laws
+pub mod Lengths
+pub mod WritingSteps
