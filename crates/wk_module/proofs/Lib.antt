@@ -14,3 +14,5 @@ pub mod WrittenCustoms
 pub mod WrittenSpells
 pub mod WrittenAlone
 pub mod Fitting
+pub mod Lengths
+pub mod WritingSteps

@@ -1,9 +1,12 @@
 -- Items read one after the other, as a loop reads them.
 use Rattle.std.proofs.Common.{◌≡◌, ℕ, zero, suc, ◌+◌, ◌-◌, ◌<◌, ◌≤◌, List, [], ◌∷◌, ◌++◌, Result, Ok, Err, refl, ap, append_assoc, arith}
 use Rattle.std.proofs.lemmas.List.{append-nil}
+use Rattle.wk_bytes.specs.declared.fault.ReadKind.{ReadKind}
+use Rattle.wk_bytes.specs.declared.fault.ReadKind.TheVariants.{Memory}
 use Rattle.wk_bytes.specs.declared.fault.ReadFault.{ReadFault}
 use Rattle.wk_bytes.specs.Leb.{◌>>=◌}
 use Rattle.wk_bytes.specs.LebLaws.{done}
+use Rattle.wk_body.specs.Reads.{FailsAs}
 use Rattle.wk_body.specs.Vectors.{items_at}
 
 -- what was read before, and what is still read
@@ -30,3 +33,10 @@ module _ {A : Type 0} (read : ℕ → List ℕ → Result (A × List ℕ) ReadFa
   is_done front count i end bytes le =
       let k : count - i ≡ 0 = omega arith in
       rw k (ap (λ (ys : List A). done (ys, bytes)) (append-nil front))
+
+-- ---- faults
+
+-- a fault of a step is one of the whole
+pub fails_on : {Y Z : Type 0} (e : ReadFault) (kind : ReadKind) (step : Result Y ReadFault) (whole : Result Z ReadFault) → (step ≡ Err e → whole ≡ Err e) → FailsAs e kind step → FailsAs e kind whole
+fails_on e Memory step whole f h = h
+fails_on e _ step whole f h = f h
