@@ -191,17 +191,17 @@ filled_full m CodeSection = refl
 filled_full m DataSection = refl
 
 omitted_valid : (profile : Profile) (k : SectionId) → AreValid profile k (omitted k)
-omitted_valid profile TypeSection = tt
-omitted_valid profile ImportSection = tt
-omitted_valid profile FunctionSection = tt
-omitted_valid profile TableSection = tt
-omitted_valid profile MemorySection = tt
-omitted_valid profile GlobalSection = tt
-omitted_valid profile ExportSection = tt
+omitted_valid profile TypeSection = omega arith
+omitted_valid profile ImportSection = (omega arith, tt)
+omitted_valid profile FunctionSection = (omega arith, tt)
+omitted_valid profile TableSection = (omega arith, tt)
+omitted_valid profile MemorySection = (omega arith, tt)
+omitted_valid profile GlobalSection = (omega arith, tt)
+omitted_valid profile ExportSection = (omega arith, tt)
 omitted_valid profile StartSection = tt
-omitted_valid profile ElementSection = tt
-omitted_valid profile CodeSection = tt
-omitted_valid profile DataSection = tt
+omitted_valid profile ElementSection = (omega arith, tt)
+omitted_valid profile CodeSection = (omega arith, tt)
+omitted_valid profile DataSection = (omega arith, tt)
 
 all_filled : (passes : ℕ → Bool) (last : ℕ) (b : List ℕ) (fs : List Frame) → SpellsFrames last b fs → ((k : SectionId) → IsFilledAt (number k) (passes (number k)) fs) → AreFilled passes fs
 all_filled passes last b [] framed each = tt
