@@ -1,13 +1,19 @@
 -- Items read one after the other, as a loop reads them.
-use Rattle.std.proofs.Common.{◌≡◌, ℕ, zero, suc, ◌+◌, ◌-◌, ◌<◌, ◌≤◌, List, [], ◌∷◌, ◌++◌, Result, Ok, Err, refl, ap, append_assoc, arith}
+use Rattle.std.proofs.Common.{◌≡◌, ℕ, zero, suc, ◌+◌, ◌-◌, ◌<◌, ◌≤◌, List, [], ◌∷◌, ◌++◌, length, get_or, Result, Ok, Err, refl, sym, ap, ◌∙◌, inl, inr, append_assoc, arith}
+use Rattle.std.proofs.lemmas.Bool.{cases_lt, lt-ltb}
 use Rattle.std.proofs.lemmas.List.{append-nil}
 use Rattle.wk_bytes.specs.declared.fault.ReadKind.{ReadKind}
-use Rattle.wk_bytes.specs.declared.fault.ReadKind.TheVariants.{Memory}
+use Rattle.wk_bytes.specs.declared.fault.ReadKind.TheVariants.{LongInput, Memory}
 use Rattle.wk_bytes.specs.declared.fault.ReadFault.{ReadFault}
 use Rattle.wk_bytes.specs.Leb.{◌>>=◌}
 use Rattle.wk_bytes.specs.LebLaws.{done}
+use Rattle.wk_bytes.specs.Frames.{limit, header_at, sections_of}
+use Rattle.wk_body.specs.declared.types.Profile.{Profile}
+use Rattle.wk_body.specs.Bodies.{BodyOf}
 use Rattle.wk_body.specs.Reads.{FailsAs}
 use Rattle.wk_body.specs.Vectors.{items_at}
+use Rattle.wk_module.specs.declared.types.Func.{Func}
+use Rattle.wk_module.specs.Reading.{Progress, sections_read, zipped}
 
 -- what was read before, and what is still read
 abbrev pub with_front : {A : Type 0} → List A → Result (List A × List ℕ) ReadFault → Result (List A × List ℕ) ReadFault
@@ -36,7 +42,38 @@ module _ {A : Type 0} (read : ℕ → List ℕ → Result (A × List ℕ) ReadFa
 
 -- ---- faults
 
+abbrev failed : (A : Type 0) → ReadFault → Result A ReadFault
+failed A e = Err e
+
 -- a fault of a step is one of the whole
 pub fails_on : {Y Z : Type 0} (e : ReadFault) (kind : ReadKind) (step : Result Y ReadFault) (whole : Result Z ReadFault) → (step ≡ Err e → whole ≡ Err e) → FailsAs e kind step → FailsAs e kind whole
 fails_on e Memory step whole f h = h
 fails_on e _ step whole f h = f h
+
+err_ok : {A : Type 0} (e : ReadFault) (x : A) → failed A e ≡ Ok x → ⊥
+err_ok e x is = absurd cc
+
+-- what sections are read of is no longer than the limit
+pub read_few : (profile : Profile) (p q : Progress) (bytes : List ℕ) → sections_read profile p (sections_of bytes) ≡ Ok q → length bytes ≤ limit
+unfolding header_at sections_read
+read_few profile p q bytes read =
+    elim (cases_lt limit (length bytes)) [
+      | inl lt ↦ let none : sections_read profile p (sections_of bytes) ≡ Err (record { kind = LongInput; at = limit }) = rw (lt-ltb limit (length bytes) lt) refl in absurd (err_ok _ q (sym none ∙ read))
+      | inr le ↦ le
+    ]
+
+-- ---- functions
+
+abbrev function : ℕ → BodyOf → Func
+function t b = record { ty = t; body = b }
+
+pub zipped_none : (types : List ℕ) → zipped types [] ≡ []
+zipped_none [] = refl
+zipped_none (t ∷ types) = refl
+
+-- one more function
+pub zipped_more : (types : List ℕ) (bodies : List BodyOf) (place : ℕ) (body : BodyOf) → length bodies < length types → place ≡ length bodies
+    → zipped types (bodies ++ body ∷ []) ≡ zipped types bodies ++ function (get_or types place 0) body ∷ []
+zipped_more [] bodies place body lt is = absurd (omega arith)
+zipped_more (t ∷ types) [] place body lt is = rw is (ap (λ fs. function t body ∷ fs) (zipped_none types))
+zipped_more (t ∷ types) (b ∷ bodies) place body lt is = rw is (ap (λ fs. function t b ∷ fs) (zipped_more types bodies (length bodies) body (omega arith) refl))

@@ -83,7 +83,7 @@ fn read_custom(alloc: Global, place: u8, section: &RawSection<'_>) -> Result<Cus
 // Reads the start section, which is one index.
 #[tactic(auto, unfolding(crate::specs::Formats::made_at))]
 fn read_start(profile: Profile, section: &RawSection<'_>) -> Result<Option<u32>, ReadFault>
-    ensures { (funcs : ℕ) → Reads (λ x. x) result (all_at (contents_at profile funcs StartSection) (section_end (raw_view section.now)) section.now.contents.now) }
+    ensures { Reads (λ x. x) result (all_at (contents_at profile 0 StartSection) (section_end (raw_view section.now)) section.now.contents.now) }
 {
     let mut cursor = section.cursor();
     let index = cursor.u32()?;
