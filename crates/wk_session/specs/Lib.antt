@@ -1,5 +1,6 @@
 pub mod Edits
 pub mod Runs
 pub mod Kept
+pub mod Put
 pub mod Written
 pub mod EditText
