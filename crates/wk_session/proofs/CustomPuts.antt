@@ -1,10 +1,13 @@
 -- A custom given other bytes, or put behind all others.
-use Rattle.std.proofs.Common.{◌≡◌, ℕ, zero, suc, ◌+◌, ◌<◌, ◌≤◌, nat_lt, Bool, true, false, cond, inl, inr, Option, Some, None, List, [], ◌∷◌, ◌++◌, length, map, slice_index_or, slice_set, refl, sym, ap, ◌∙◌, arith}
+use Rattle.std.proofs.Common.{◌≡◌, ℕ, zero, suc, ◌+◌, ◌<◌, ◌≤◌, nat_lt, Bool, true, false, cond, inl, inr, Option, Some, None, Result, Ok, Err, List, [], ◌∷◌, ◌++◌, length, map, slice_index_or, slice_set, refl, ap, subst, ◌∙◌, arith}
 use Rattle.std.proofs.lemmas.Bool.{cases_Bool}
+use Rattle.std.specs.Prelude.{IfSome, IfNone, OnOk, OnErr}
+use Rattle.std.specs.Str.{IsUtf8}
 use Rattle.std.specs.List.{position, position_or_len}
 use Rattle.wk_module.specs.declared.types.Parts.{Parts}
 use Rattle.wk_module.specs.declared.types.Custom.{Custom}
-use Rattle.wk_module.specs.Shape.{settled_custom, settle, is_filled, IsInOrderFrom, AreNamed, IsFormed, IsShaped}
+use Rattle.wk_module.specs.Shape.{settled_custom, settle, is_filled, IsInOrderFrom, AreNamed, IsFormed}
+use Rattle.wk_module.specs.ShapeLaws.{push_formed}
 use Rattle.wk_session.specs.Edits.{is_named, with_bytes, custom_put}
 use Rattle.wk_session.specs.Put.{bytes_at, with_bytes_at}
 
@@ -98,3 +101,24 @@ swapped i bytes after cs d less here is =
 pub swapped_back : (i : ℕ) (bytes before : List ℕ) (m : Parts) (d : Custom) → i < length m.customs → before ≡ (slice_index_or m.customs i d).bytes → with_bytes_at i before (with_bytes_at i bytes m) ≡ m
 swapped_back i bytes before m d less is =
     ap (λ (cs : List Custom). record m { customs = cs }) (ap (λ b. bytes_at i b (bytes_at i bytes m.customs)) is ∙ bytes_back i bytes m.customs d less)
+
+-- ---- one more custom, or one less
+
+-- whether a push was refused or not
+pub pushed_formed : {E : Type 0} (r : Result (Unit {0}) E) (m : Parts) (c : Custom) (cs : List Custom) → c.place ≡ 11 → IsUtf8 c.name → IsFormed m
+    → OnOk r (cs ≡ m.customs ++ c ∷ []) → OnErr r (cs ≡ m.customs) → IsFormed (record m { customs = cs })
+pushed_formed (Ok x) m c cs last text f ok err = rw ok (push_formed c m last text f)
+pushed_formed (Err e) m c cs last text f ok err = rw err f
+
+in_order_front : (least : ℕ) (d : Custom) (front : List Custom) → IsInOrderFrom least (front ++ d ∷ []) → IsInOrderFrom least front
+in_order_front least d [] o = tt
+in_order_front least d (c ∷ cs) o = (o.0, o.1, in_order_front c.place d cs o.2)
+
+named_front : (d : Custom) (front : List Custom) → AreNamed (front ++ d ∷ []) → AreNamed front
+named_front d [] n = tt
+named_front d (c ∷ cs) n = (n.0, named_front d cs n.1)
+
+pub popped_formed : (o : Option Custom) (m : Parts) (cs : List Custom) → IsFormed m → IfSome o (λ d. m.customs ≡ cs ++ d ∷ []) → IfNone o ((m.customs ≡ []) × (cs ≡ [])) → IsFormed (record m { customs = cs })
+popped_formed None m cs f some none = customs_formed m cs f (rw none.1 tt) (rw none.1 tt)
+popped_formed (Some d) m cs f some none =
+    customs_formed m cs f (in_order_front 0 d cs (subst (IsInOrderFrom 0) some f.order)) (named_front d cs (subst AreNamed some f.names))

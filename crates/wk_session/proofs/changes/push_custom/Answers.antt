@@ -1,0 +1,10 @@
+use Rattle.std.proofs.Common.{refl, ◌∙◌, ap}
+use Rattle.wk_module.specs.declared.types.Parts.{Parts}
+use Rattle.wk_module.specs.Shape.{IsFormed}
+use Rattle.wk_session.proofs.CustomPuts.{pushed_formed}
+use Rattle.wk_session.proofs.changes.push_custom.Goals as goal
+
+pub of-requires : goal.of-requires
+of-requires c =
+    let formed : IsFormed c.take_parts-parts.result = rw (c.take_parts-parts.ensures.value) c.take_parts-parts.ensures.shaped.formed in
+    pushed_formed c.push-pushed.result c.take_parts-parts.result (record { place = 11; name = c.args.name; bytes = c.args.bytes }) c.push-pushed.new.self refl c.as_str-text.ensures.utf8 formed c.push-pushed.ensures.ok c.push-pushed.ensures.err
