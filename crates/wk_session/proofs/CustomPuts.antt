@@ -1,5 +1,5 @@
 -- A custom given other bytes, or put behind all others.
-use Rattle.std.proofs.Common.{◌≡◌, ℕ, zero, suc, ◌+◌, ◌<◌, ◌≤◌, nat_lt, Bool, true, false, cond, inl, inr, Option, Some, None, Result, Ok, Err, List, [], ◌∷◌, ◌++◌, length, map, slice_index_or, slice_set, refl, ap, subst, ◌∙◌, arith}
+use Rattle.std.proofs.Common.{◌≡◌, ℕ, zero, suc, ◌+◌, ◌<◌, ◌≤◌, nat_lt, Bool, true, false, cond, inl, inr, Option, Some, None, Result, Ok, Err, List, [], ◌∷◌, ◌++◌, length, map, slice_index_or, slice_set, refl, sym, ap, subst, ◌∙◌, arith}
 use Rattle.std.proofs.lemmas.Bool.{cases_Bool}
 use Rattle.std.specs.Prelude.{IfSome, IfNone, OnOk, OnErr}
 use Rattle.std.specs.Str.{IsUtf8}
@@ -8,8 +8,8 @@ use Rattle.wk_module.specs.declared.types.Parts.{Parts}
 use Rattle.wk_module.specs.declared.types.Custom.{Custom}
 use Rattle.wk_module.specs.Shape.{settled_custom, settle, is_filled, IsInOrderFrom, AreNamed, IsFormed}
 use Rattle.wk_module.specs.ShapeLaws.{push_formed}
-use Rattle.wk_session.specs.Edits.{is_named, with_bytes, custom_put}
-use Rattle.wk_session.specs.Put.{bytes_at, with_bytes_at}
+use Rattle.wk_session.specs.Edits.{is_named, with_bytes, custom_put, with_custom}
+use Rattle.wk_session.specs.Put.{bytes_at, with_bytes_at, with_last_custom}
 
 -- ---- the first custom of a name
 
@@ -122,3 +122,25 @@ pub popped_formed : (o : Option Custom) (m : Parts) (cs : List Custom) → IsFor
 popped_formed None m cs f some none = customs_formed m cs f (rw none.1 tt) (rw none.1 tt)
 popped_formed (Some d) m cs f some none =
     customs_formed m cs f (in_order_front 0 d cs (subst (IsInOrderFrom 0) some f.order)) (named_front d cs (subst AreNamed some f.names))
+
+-- as many customs as before
+length-bytes_at : (i : ℕ) (bytes : List ℕ) (cs : List Custom) → length (bytes_at i bytes cs) ≡ length cs
+length-bytes_at i bytes [] = refl
+length-bytes_at zero bytes (c ∷ cs) = refl
+length-bytes_at (suc i) bytes (c ∷ cs) = omega (arith, length-bytes_at i bytes cs)
+
+pub still_within : (i : ℕ) (bytes : List ℕ) (m n : Parts) → n ≡ with_bytes_at i bytes m → i < length m.customs → i < length n.customs
+still_within i bytes m n is less = omega (arith, less, length-bytes_at i bytes m.customs, ap (λ (p : Parts). length p.customs) is)
+
+-- ---- a custom put
+
+module _ (name bytes : List ℕ) (m p : Parts) (seen : p ≡ m) where
+  pub put_in_place : (taken : List ℕ) (i : ℕ) → settle m ≡ m → taken ≡ bytes → Some i ≡ position (is_named name) p.customs → with_bytes_at i taken m ≡ settle (with_custom name bytes m)
+  put_in_place taken i settled is at =
+      let place = put_at name bytes m.customs i (ap (λ (q : Parts). position (is_named name) q.customs) (sym seen) ∙ sym at) in
+      ap (λ b. with_bytes_at i b m) is ∙ (sym (settle-bytes i bytes m settled) ∙ ap (λ (cs : List Custom). settle (record m { customs = cs })) (sym place))
+
+  pub put_behind : (called taken : List ℕ) → called ≡ name → taken ≡ bytes → None ≡ position (is_named name) p.customs → settle (with_last_custom called taken m) ≡ settle (with_custom name bytes m)
+  put_behind called taken named is at =
+      let last = put_last name bytes m.customs (ap (λ (q : Parts). position (is_named name) q.customs) (sym seen) ∙ sym at) in
+      ap (λ n. settle (with_last_custom n taken m)) named ∙ (ap (λ b. settle (with_last_custom name b m)) is ∙ ap (λ (cs : List Custom). settle (record m { customs = cs })) (sym last))
