@@ -1,11 +1,11 @@
 -- Customs removed.
-use Rattle.std.proofs.Common.{◌≡◌, ◌≢◌, ℕ, ◌<◌, ◌≤◌, List, [], ◌∷◌, not, false, filter, length, None, refl, sym, ap, ◌∙◌, arith}
+use Rattle.std.proofs.Common.{◌≡◌, ◌≢◌, ℕ, ◌<◌, ◌≤◌, List, [], ◌∷◌, Bool, not, false, filter, length, None, refl, sym, ap, ◌∙◌, arith}
 use Rattle.wk_bytes.specs.Frames.{limit}
 use Rattle.wk_module.specs.declared.types.Parts.{Parts}
 use Rattle.wk_module.specs.declared.types.Custom.{Custom}
 use Rattle.wk_module.specs.Shape.{settle, IsShaped}
 use Rattle.wk_module.specs.ShapeLaws.{filter_shaped}
-use Rattle.wk_module.specs.Writing.{encoded, limited}
+use Rattle.wk_module.specs.Writing.{encoded, limited, Fits}
 use Rattle.wk_module.specs.WritingLaws.{length-encoded_filter}
 use Rattle.wk_check.specs.declared.fault.Verdict.{Verdict}
 use Rattle.wk_session.specs.Edits.{is_named, without_customs, without_all_customs}
@@ -33,3 +33,6 @@ all_stripped_fits m n v len is kept = λ none.
     let large = limited-none (length (encoded n)) none in
     let fits = limited-some (length (encoded m)) len kept.len_is in
     omega (arith, large, fits, shorter, still, ap (λ (p : Parts). length (encoded p)) is)
+
+pub filtered_fits : (keep : Custom → Bool) (m n : Parts) → n ≡ record m { customs = filter keep m.customs } → Fits m → Fits n
+filtered_fits keep m n is fits = omega (arith, fits, length-encoded_filter keep m, ap (λ (p : Parts). length (encoded p)) is)
