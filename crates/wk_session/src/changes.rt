@@ -117,12 +117,7 @@ fn find_custom(parts: &Parts, name: &Text) -> Option<usize>
 }
 
 // Gives the custom section at an index these bytes, and hands back those that it had.
-fn swap_bytes(
-    alloc: Global,
-    module: &mut Module,
-    index: usize,
-    bytes: Items<u8>,
-) -> Items<u8>
+fn swap_bytes(alloc: Global, module: &mut Module, index: usize, bytes: Items<u8>) -> Items<u8>
     requires { index < length «module».old.customs }
     ensures new { «module».new ≡ with_bytes_at index bytes «module».old }
     ensures back { with_bytes_at index result «module».new ≡ «module».old }
@@ -171,13 +166,13 @@ fn push_custom(
 {
     let mut parts = take_parts(alloc, module);
     let _text = name.as_str();
-    let pushed = parts.customs.push(Custom {
+    let appended = parts.customs.push(Custom {
         place: LAST,
         name,
         bytes,
     });
     *module = Module::of(parts);
-    pushed?;
+    appended?;
     Ok(())
 }
 
