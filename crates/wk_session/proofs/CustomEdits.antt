@@ -1,6 +1,5 @@
 -- Customs removed.
-use Rattle.std.proofs.Common.{◌≡◌, ◌≢◌, ℕ, ◌<◌, ◌≤◌, List, [], ◌∷◌, Bool, not, false, filter, length, None, refl, sym, ap, ◌∙◌, arith}
-use Rattle.wk_bytes.specs.Frames.{limit}
+use Rattle.std.proofs.Common.{◌≡◌, ◌≢◌, ℕ, ◌≤◌, List, [], ◌∷◌, Bool, not, false, filter, length, None, refl, ap, ◌∙◌, arith}
 use Rattle.wk_module.specs.declared.types.Parts.{Parts}
 use Rattle.wk_module.specs.declared.types.Custom.{Custom}
 use Rattle.wk_module.specs.Shape.{settle, IsShaped}

@@ -1,5 +1,4 @@
-use Rattle.std.proofs.Common.{refl, ◌∙◌, ap}
-use Rattle.wk_module.specs.declared.types.Parts.{Parts}
+use Rattle.std.proofs.Common.{refl}
 use Rattle.wk_module.specs.Shape.{IsFormed}
 use Rattle.wk_session.proofs.CustomPuts.{pushed_formed}
 use Rattle.wk_session.proofs.changes.push_custom.Goals as goal

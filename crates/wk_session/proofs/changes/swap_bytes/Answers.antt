@@ -1,4 +1,4 @@
-use Rattle.std.proofs.Common.{◌≡◌, ◌<◌, ◌∙◌, ap, List, length, slice_index_or}
+use Rattle.std.proofs.Common.{◌<◌, ◌∙◌, ap, List, length, slice_index_or}
 use Rattle.wk_module.specs.declared.types.Parts.{Parts}
 use Rattle.wk_module.specs.declared.types.Custom.{Custom}
 use Rattle.wk_session.specs.Put.{bytes_at, with_bytes_at}

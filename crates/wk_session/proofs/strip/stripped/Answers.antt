@@ -1,4 +1,4 @@
-use Rattle.std.proofs.Common.{◌∙◌, ap}
+use Rattle.std.proofs.Common.{◌∙◌}
 use Rattle.std.specs.Prelude.{option_map}
 use Rattle.wk_module.specs.ShapeLaws.{filter_shaped}
 use Rattle.wk_session.specs.Stripped.{is_kept}
