@@ -2,4 +2,5 @@ pub mod RunSteps
 pub mod Outcomes
 pub mod TypeEdits
 pub mod CustomEdits
+pub mod CustomPuts
 pub mod WrittenBack

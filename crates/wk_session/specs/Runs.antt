@@ -2,7 +2,7 @@
 use Rattle.std.specs.Prelude.{Bool, true, false, List, [], ◌∷◌, Result, Ok, Err, map}
 use Rattle.wk_module.specs.declared.types.Parts.{Parts}
 use Rattle.wk_session.specs.declared.edit.Edit.{Edit}
-use Rattle.wk_session.specs.declared.edit.Edit.TheVariants.{Ty, StripCustom}
+use Rattle.wk_session.specs.declared.edit.Edit.TheVariants.{Ty, StripCustom, SetCustom, StripAll}
 use Rattle.wk_session.specs.declared.edit.Work.{Work}
 use Rattle.wk_session.specs.declared.edit.EditFault.{EditFault}
 use Rattle.wk_session.specs.declared.edit.EditFault.TheVariants.{NoSuchFunction, NoSuchExport, NoSuchCustom, IndexOverflow, TooLarge, BadBytes, WouldBreak, Memory}
@@ -17,6 +17,8 @@ left_by m (Err e) = m
 abbrev pub work_of : Edit → Work
 work_of (Ty t) = record { typed = 0; encoded = 0; sections = 1 }
 work_of (StripCustom name) = record { typed = 0; encoded = 0; sections = 0 }
+work_of (SetCustom name bytes) = record { typed = 0; encoded = 0; sections = 1 }
+work_of StripAll = record { typed = 0; encoded = 0; sections = 0 }
 
 -- whether a reply is want of memory
 abbrev pub is_memory : Result Work EditFault → Bool

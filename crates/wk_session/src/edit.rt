@@ -3,7 +3,7 @@ ghost use Rattle.std.specs.Prelude.{◌≡◌};
 ghost use Rattle.wk_session.specs.declared.edit.EditFault.TheVariants.{Memory};
 
 use std::alloc::{AllocError, AllocFailed};
-use wk_bytes::{OutOfMemory, ReadFault, Text};
+use wk_bytes::{Items, OutOfMemory, ReadFault, Text};
 use wk_check::Fault;
 use wk_module::FuncType;
 
@@ -14,6 +14,15 @@ pub enum Edit {
     Ty(FuncType),
     /// Removes all custom sections of a name.
     StripCustom(Text),
+    /// Gives the first custom section of a name other bytes, in its place. Where there is none, appends one behind all others.
+    SetCustom {
+        /// The name.
+        name: Text,
+        /// What stands after the name.
+        bytes: Items<u8>,
+    },
+    /// Removes all custom sections.
+    StripAll,
 }
 
 /// Why an edit is refused, E1 to E8 in this order.

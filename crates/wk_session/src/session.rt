@@ -9,12 +9,14 @@ ghost use Rattle.std.specs.Io.KnownBytes.{Appends};
 ghost use Rattle.wk_session.specs.Written.{Leaves, failures_after_write};
 ghost use Rattle.wk_session.specs.Runs.{reply_of, after_one, is_memory, replies_of, after, refused_for_memory};
 
-use crate::changes::{appraise, has_custom, pop_type, push_type, remove_customs};
+use crate::changes::{
+    appraise, has_custom, pop_type, push_type, put_custom, remove_all_customs, remove_customs,
+};
 use crate::edit::{Edit, EditFault, Reply, Work};
 use crate::write::WriteFault;
 use std::alloc::Global;
 use std::marker::Model;
-use wk_bytes::{Out, OutFault, OutOfMemory, ReadFault, ReadKind, Text, put_all};
+use wk_bytes::{Items, Out, OutFault, OutOfMemory, ReadFault, ReadKind, Text, put_all};
 use wk_check::{Verdict, judge};
 use wk_module::{EncodeFault, FuncType, Module, encode, encoded_len, read};
 
@@ -148,12 +150,43 @@ impl Session {
         })
     }
 
+    // Gives the first custom section of a name other bytes, or appends one.
+    fn set_custom(&mut self, name: &Text, bytes: &Items<u8>) -> Reply
+        ensures reply { result ≡ reply_of (Edit.SetCustom name.now bytes.now) (is_memory result) self.old }
+        ensures module_is { self.new ≡ after_one (Edit.SetCustom name.now bytes.now) (is_memory result) self.old }
+    {
+        self.len = put_custom(self.alloc, &mut self.module, name, bytes)?;
+        Ok(Work {
+            typed: 0,
+            encoded: 0,
+            sections: 1,
+        })
+    }
+
+    // Removes all custom sections.
+    fn strip_all(&mut self) -> Reply
+        ensures reply { result ≡ reply_of Edit.StripAll (is_memory result) self.old }
+        ensures module_is { self.new ≡ after_one Edit.StripAll (is_memory result) self.old }
+        ensures never { OnErr result ⊥ }
+    {
+        remove_all_customs(self.alloc, &mut self.module);
+        let Some(left) = encoded_len(&self.module) else {
+            unreachable!()
+        };
+        self.len = left;
+        Ok(Work {
+            typed: 0,
+            encoded: 0,
+            sections: 0,
+        })
+    }
+
     /// Makes one edit. A refusal leaves the session as it was.
     ///
     /// # Errors
     ///
-    /// `NoSuchCustom` where no custom section has the name to strip, `TooLarge` where the written form with one type more
-    /// would pass 2,147,483,647 bytes, `Memory` where a growth is refused.
+    /// `NoSuchCustom` where no custom section has the name to strip, `TooLarge` where the written form with the new type or
+    /// custom section would pass 2,147,483,647 bytes, `Memory` where a growth is refused.
     pub fn apply(&mut self, edit: &Edit) -> Reply
         ensures reply { result ≡ reply_of edit.now (is_memory result) self.old }
         ensures module_is { self.new ≡ after_one edit.now (is_memory result) self.old }
@@ -161,6 +194,8 @@ impl Session {
         match edit {
             Edit::Ty(ty) => self.add_type(ty),
             Edit::StripCustom(name) => self.strip_custom(name),
+            Edit::SetCustom { name, bytes } => self.set_custom(name, bytes),
+            Edit::StripAll => self.strip_all(),
         }
     }
 
