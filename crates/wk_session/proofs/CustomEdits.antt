@@ -4,7 +4,8 @@ use Rattle.wk_module.specs.declared.types.Parts.{Parts}
 use Rattle.wk_module.specs.declared.types.Custom.{Custom}
 use Rattle.wk_module.specs.Shape.{settle, IsShaped}
 use Rattle.wk_module.specs.ShapeLaws.{filter_shaped}
-use Rattle.wk_module.specs.Writing.{encoded, limited, Fits}
+use Rattle.wk_body.specs.Lengths.{limited}
+use Rattle.wk_module.specs.Writing.{encoded, Fits}
 use Rattle.wk_module.specs.WritingLaws.{length-encoded_filter}
 use Rattle.wk_check.specs.declared.fault.Verdict.{Verdict}
 use Rattle.wk_session.specs.Edits.{is_named, without_customs, without_all_customs}

@@ -4,7 +4,8 @@ use Rattle.std.proofs.lemmas.Bool.{leb-true, leb-false}
 use Rattle.wk_bytes.specs.LebLaws.{chosen}
 use Rattle.wk_bytes.specs.Frames.{limit}
 use Rattle.wk_module.specs.declared.types.Parts.{Parts}
-use Rattle.wk_module.specs.Writing.{encoded, limited}
+use Rattle.wk_body.specs.Lengths.{limited}
+use Rattle.wk_module.specs.Writing.{encoded}
 use Rattle.wk_session.specs.declared.edit.Edit.{Edit}
 use Rattle.wk_session.specs.declared.edit.Work.{Work}
 use Rattle.wk_session.specs.declared.edit.EditFault.{EditFault}

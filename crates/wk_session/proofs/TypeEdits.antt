@@ -6,10 +6,11 @@ use Rattle.wk_bytes.specs.Frames.{magic, version}
 use Rattle.wk_module.specs.declared.types.Parts.{Parts}
 use Rattle.wk_module.specs.declared.types.FuncType.{FuncType}
 use Rattle.wk_module.specs.Types.{written_functype}
-use Rattle.wk_module.specs.Vectors.{written_vector}
+use Rattle.wk_body.specs.Vectors.{written_vector}
 use Rattle.wk_module.specs.Shape.{IsShaped}
 use Rattle.wk_module.specs.ShapeLaws.{settle-type}
-use Rattle.wk_module.specs.Writing.{encoded, vector_section, section_of, customs_at, section_and_customs}
+use Rattle.wk_module.specs.Sections.{TypeSection}
+use Rattle.wk_module.specs.Writing.{encoded, written_section, section_of, customs_at, section_and_customs}
 use Rattle.wk_module.specs.WritingLaws.{length_le_flat_map}
 use Rattle.wk_check.specs.declared.fault.Verdict.{Verdict}
 use Rattle.wk_session.specs.declared.edit.Edit.TheVariants.{Ty}
@@ -20,7 +21,7 @@ use Rattle.wk_session.specs.Kept.{IsKept}
 use Rattle.wk_session.proofs.Outcomes.{limited-some, fitting-kept, Refuses}
 
 -- a section has at least as many bytes as types
-section_types : (types : List FuncType) → length types ≤ length (vector_section 1 written_functype types)
+section_types : (types : List FuncType) → length types ≤ length (written_section TypeSection types)
 section_types [] = omega arith
 section_types (t ∷ ts) =
     let items = length_le_flat_map written_functype (λ t. omega arith) (t ∷ ts) in

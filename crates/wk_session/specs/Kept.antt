@@ -1,7 +1,8 @@
 -- What a session keeps beside its module.
 use Rattle.std.specs.Prelude.{◌≡◌, ℕ, Some, length}
 use Rattle.wk_module.specs.declared.types.Parts.{Parts}
-use Rattle.wk_module.specs.Writing.{encoded, limited}
+use Rattle.wk_body.specs.Lengths.{limited}
+use Rattle.wk_module.specs.Writing.{encoded}
 use Rattle.wk_check.specs.declared.fault.Verdict.{Verdict}
 use Rattle.wk_check.specs.Verdict.{module_verdict}
 

@@ -14,7 +14,7 @@ use std::alloc::Global;
 use std::mem;
 use wk_bytes::{Items, Text};
 use wk_check::{Verdict, judge};
-use wk_module::{Custom, FuncType, Module, Parts, encoded_len};
+use wk_module::{Custom, FuncType, Module, Parts, Profile, encoded_len};
 
 /// The greatest place of a custom section, which settling lowers.
 const LAST: u8 = 11;
@@ -36,7 +36,7 @@ fn take_parts(alloc: Global, module: &mut Module) -> Parts
     ensures value { result ≡ «module».old }
     ensures shaped { IsShaped «module».old }
 {
-    mem::replace(module, Module::empty(alloc)).into_parts()
+    mem::replace(module, Module::empty(alloc, Profile::Core)).into_parts()
 }
 
 // Appends a type, or changes nothing.

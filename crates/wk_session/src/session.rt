@@ -1,8 +1,10 @@
 //! A session over a module.
 ghost use Rattle.std.specs.Prelude.{◌≡◌, ◌≢◌, ◌<◌, ◌+◌, ◌-◌, ◌^◌, IfOk, IfErr, OnOk, OnErr, length};
 ghost use Rattle.wk_module.specs.declared.types.Parts.{Parts};
-ghost use Rattle.wk_module.specs.Modules.{Spells, SpellsNone, StandsInModule};
-ghost use Rattle.wk_module.specs.Reading.{Reads, module_at};
+ghost use Rattle.wk_bytes.specs.Stands.{StandsIn};
+ghost use Rattle.wk_body.specs.Reads.{Reads};
+ghost use Rattle.wk_module.specs.Modules.{Spells, SpellsNone};
+ghost use Rattle.wk_module.specs.Reading.{module_at};
 ghost use Rattle.wk_module.specs.Writing.{encoded, Fits};
 ghost use Rattle.wk_check.specs.Verdict.{module_verdict};
 ghost use Rattle.std.specs.Io.KnownBytes.{Appends};
@@ -18,7 +20,7 @@ use std::alloc::Global;
 use std::marker::Model;
 use wk_bytes::{Items, Out, OutFault, OutOfMemory, ReadFault, ReadKind, Text, put_all};
 use wk_check::{Verdict, judge};
-use wk_module::{EncodeFault, FuncType, Module, encode, encoded_len, read};
+use wk_module::{EncodeFault, FuncType, Module, encode, encoded_len, Profile, read_in};
 
 /// A module under edits, seen by contracts as its plain lists.
 #[derive(Drop)]
@@ -41,21 +43,22 @@ impl Model for Session {
 }
 
 impl Session {
-    /// A session over the one module that the bytes spell.
+    /// A session over the one module of a profile that the bytes spell.
     ///
     /// # Errors
     ///
-    /// The first fault from left to right, at its offset in `bytes`, where they spell no module; `Memory`, at 0, where a
-    /// growth is refused.
-    pub fn open(alloc: Global, bytes: &[u8]) -> Result<Session, ReadFault>
-        ensures exact { Reads (λ m. m) result (module_at bytes.now) }
+    /// The first fault from left to right, at its offset in `bytes`, where they spell no module of the profile; `Memory`, at 0,
+    /// where a growth is refused.
+    pub fn open_in(alloc: Global, bytes: &[u8], profile: Profile) -> Result<Session, ReadFault>
+        ensures exact { Reads (λ m. m) result (module_at profile bytes.now) }
         ensures found { IfOk result (λ m. Spells bytes.now m) }
-        ensures only { IfOk result (λ m. (n : Parts) → Spells bytes.now n → n ≡ m) }
-        ensures refused { IfErr result (λ e. e.kind ≢ ReadKind.Memory → SpellsNone bytes.now) }
+        ensures profile { IfOk result (λ m. m.profile ≡ profile) }
+        ensures only { IfOk result (λ m. (n : Parts) → n.profile ≡ profile → Spells bytes.now n → n ≡ m) }
+        ensures refused { IfErr result (λ e. e.kind ≢ ReadKind.Memory → SpellsNone profile bytes.now) }
         ensures fits { IfOk result (λ m. Fits m) }
-        ensures fault { IfErr result (λ e. StandsInModule bytes.now e) }
+        ensures fault { IfErr result (λ e. StandsIn bytes.now e) }
     {
-        let module = read(alloc, bytes)?;
+        let module = read_in(alloc, bytes, profile)?;
         let verdict = judge(alloc, &module)?;
         let Some(len) = encoded_len(&module) else {
             unreachable!()
@@ -66,6 +69,19 @@ impl Session {
             verdict,
             len,
         })
+    }
+
+    /// A session over the one module of WebAssembly 1.0 that the bytes spell, as [`Session::open_in`].
+    pub fn open(alloc: Global, bytes: &[u8]) -> Result<Session, ReadFault>
+        ensures exact { Reads (λ m. m) result (module_at Profile.Core bytes.now) }
+        ensures found { IfOk result (λ m. Spells bytes.now m) }
+        ensures profile { IfOk result (λ m. m.profile ≡ Profile.Core) }
+        ensures only { IfOk result (λ m. (n : Parts) → n.profile ≡ Profile.Core → Spells bytes.now n → n ≡ m) }
+        ensures refused { IfErr result (λ e. e.kind ≢ ReadKind.Memory → SpellsNone Profile.Core bytes.now) }
+        ensures fits { IfOk result (λ m. Fits m) }
+        ensures fault { IfErr result (λ e. StandsIn bytes.now e) }
+    {
+        Session::open_in(alloc, bytes, Profile::Core)
     }
 
     /// The verdict of the module.
@@ -93,7 +109,7 @@ impl Session {
         ensures err { IfErr result (Leaves (W.taken out.old) (W.taken out.new) (encoded self.now)) }
         ensures failures { W.failed out.new ≡ failures_after_write (W.failed out.old) result }
         ensures spells { Spells (encoded self.now) self.now }
-        ensures alone { (n : Parts) → Spells (encoded self.now) n → n ≡ self.now }
+        ensures alone { (n : Parts) → n.profile ≡ (self.now).profile → Spells (encoded self.now) n → n ≡ self.now }
     {
         let bytes = match encode(self.alloc, &self.module) {
             Ok(bytes) => bytes,
