@@ -35,6 +35,9 @@ module _ {A : Type 0} (read : ℕ → List ℕ → Result (A × List ℕ) ReadFa
       let k : count - i ≡ suc (count - (i + 1)) = omega arith in
       rw (k, h) refl
 
+  pub stops_all : (front : List A) (count i end : ℕ) (bytes : List ℕ) (f : ReadFault) (whole : Result (List A × List ℕ) ReadFault) → i < count → with_front front (items_at read (count - i) end bytes) ≡ whole → read end bytes ≡ Err f → whole ≡ Err f
+  stops_all front count i end bytes f whole lt so_far h = sym so_far ∙ stops front count i end bytes f lt h
+
   pub is_done : (front : List A) (count i end : ℕ) (bytes : List ℕ) → count ≤ i → with_front front (items_at read (count - i) end bytes) ≡ Ok (front, bytes)
   is_done front count i end bytes le =
       let k : count - i ≡ 0 = omega arith in
