@@ -1,4 +1,3 @@
-use Rattle.std.proofs.Common.{List, ℕ, Result, ap}
 use Rattle.std.proofs.lemmas.Result.{err_from_is_err_and}
 use Rattle.wk_bytes.specs.Raw.{raw_view}
 use Rattle.wk_module.specs.Formats.{all_at}
