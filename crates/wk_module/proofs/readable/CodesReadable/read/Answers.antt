@@ -11,6 +11,6 @@ returns c =
     let piece = c.in_ok-code.ensures.exact in
     let taken = c.in_ok-code.ensures.spelling in
     let end : c.at-at.result + length code ≡ old.end - length new.rest =
-        omega (arith, c.at-at.ensures.end, size.1, ap length taken.1.0, ap length taken.2, length-append taken.0 new.rest) in
+    omega (arith, c.at-at.ensures.end, size.1, ap length taken.1.0, ap length taken.2, length-append taken.0 new.rest) in
     code_parses c.args.profile old new c.in_ok-size.size (c.at-at.result + length code) c.u32.new.self.rest code c.read_body.result
     size.0 (rw size.1 at piece.0) (piece.1 ∙ size.1) end (rw c.within.ensures at c.read_body.ensures.exact)
