@@ -102,47 +102,47 @@ number_of id k e0 =
     elim (first_is (id == 1) TypeSection k (if id == 2 then Some ImportSection else if id == 3 then Some FunctionSection else if id == 4 then Some TableSection else if id == 5 then Some MemorySection else if id == 6 then Some GlobalSection else if id == 7 then Some ExportSection else if id == 8 then Some StartSection else if id == 9 then Some ElementSection else if id == 10 then Some CodeSection else if id == 11 then Some DataSection else None) e0) [
       | inl h ↦ ap number (sym h.1) ∙ sym (eqb-true id 1 h.0)
       | inr e1 ↦
-        elim (first_is (id == 2) ImportSection k (if id == 3 then Some FunctionSection else if id == 4 then Some TableSection else if id == 5 then Some MemorySection else if id == 6 then Some GlobalSection else if id == 7 then Some ExportSection else if id == 8 then Some StartSection else if id == 9 then Some ElementSection else if id == 10 then Some CodeSection else if id == 11 then Some DataSection else None) e1) [
-          | inl h ↦ ap number (sym h.1) ∙ sym (eqb-true id 2 h.0)
-          | inr e2 ↦
-            elim (first_is (id == 3) FunctionSection k (if id == 4 then Some TableSection else if id == 5 then Some MemorySection else if id == 6 then Some GlobalSection else if id == 7 then Some ExportSection else if id == 8 then Some StartSection else if id == 9 then Some ElementSection else if id == 10 then Some CodeSection else if id == 11 then Some DataSection else None) e2) [
-              | inl h ↦ ap number (sym h.1) ∙ sym (eqb-true id 3 h.0)
-              | inr e3 ↦
-                elim (first_is (id == 4) TableSection k (if id == 5 then Some MemorySection else if id == 6 then Some GlobalSection else if id == 7 then Some ExportSection else if id == 8 then Some StartSection else if id == 9 then Some ElementSection else if id == 10 then Some CodeSection else if id == 11 then Some DataSection else None) e3) [
-                  | inl h ↦ ap number (sym h.1) ∙ sym (eqb-true id 4 h.0)
-                  | inr e4 ↦
-                    elim (first_is (id == 5) MemorySection k (if id == 6 then Some GlobalSection else if id == 7 then Some ExportSection else if id == 8 then Some StartSection else if id == 9 then Some ElementSection else if id == 10 then Some CodeSection else if id == 11 then Some DataSection else None) e4) [
-                      | inl h ↦ ap number (sym h.1) ∙ sym (eqb-true id 5 h.0)
-                      | inr e5 ↦
-                        elim (first_is (id == 6) GlobalSection k (if id == 7 then Some ExportSection else if id == 8 then Some StartSection else if id == 9 then Some ElementSection else if id == 10 then Some CodeSection else if id == 11 then Some DataSection else None) e5) [
-                          | inl h ↦ ap number (sym h.1) ∙ sym (eqb-true id 6 h.0)
-                          | inr e6 ↦
-                            elim (first_is (id == 7) ExportSection k (if id == 8 then Some StartSection else if id == 9 then Some ElementSection else if id == 10 then Some CodeSection else if id == 11 then Some DataSection else None) e6) [
-                              | inl h ↦ ap number (sym h.1) ∙ sym (eqb-true id 7 h.0)
-                              | inr e7 ↦
-                                elim (first_is (id == 8) StartSection k (if id == 9 then Some ElementSection else if id == 10 then Some CodeSection else if id == 11 then Some DataSection else None) e7) [
-                                  | inl h ↦ ap number (sym h.1) ∙ sym (eqb-true id 8 h.0)
-                                  | inr e8 ↦
-                                    elim (first_is (id == 9) ElementSection k (if id == 10 then Some CodeSection else if id == 11 then Some DataSection else None) e8) [
-                                      | inl h ↦ ap number (sym h.1) ∙ sym (eqb-true id 9 h.0)
-                                      | inr e9 ↦
-                                        elim (first_is (id == 10) CodeSection k (if id == 11 then Some DataSection else None) e9) [
-                                          | inl h ↦ ap number (sym h.1) ∙ sym (eqb-true id 10 h.0)
-                                          | inr e10 ↦
-                                            elim (first_is (id == 11) DataSection k None e10) [
-                                              | inl h ↦ ap number (sym h.1) ∙ sym (eqb-true id 11 h.0)
-                                              | inr e11 ↦
-                                                absurd cc
-                                            ]
+          elim (first_is (id == 2) ImportSection k (if id == 3 then Some FunctionSection else if id == 4 then Some TableSection else if id == 5 then Some MemorySection else if id == 6 then Some GlobalSection else if id == 7 then Some ExportSection else if id == 8 then Some StartSection else if id == 9 then Some ElementSection else if id == 10 then Some CodeSection else if id == 11 then Some DataSection else None) e1) [
+            | inl h ↦ ap number (sym h.1) ∙ sym (eqb-true id 2 h.0)
+            | inr e2 ↦
+                elim (first_is (id == 3) FunctionSection k (if id == 4 then Some TableSection else if id == 5 then Some MemorySection else if id == 6 then Some GlobalSection else if id == 7 then Some ExportSection else if id == 8 then Some StartSection else if id == 9 then Some ElementSection else if id == 10 then Some CodeSection else if id == 11 then Some DataSection else None) e2) [
+                  | inl h ↦ ap number (sym h.1) ∙ sym (eqb-true id 3 h.0)
+                  | inr e3 ↦
+                      elim (first_is (id == 4) TableSection k (if id == 5 then Some MemorySection else if id == 6 then Some GlobalSection else if id == 7 then Some ExportSection else if id == 8 then Some StartSection else if id == 9 then Some ElementSection else if id == 10 then Some CodeSection else if id == 11 then Some DataSection else None) e3) [
+                        | inl h ↦ ap number (sym h.1) ∙ sym (eqb-true id 4 h.0)
+                        | inr e4 ↦
+                            elim (first_is (id == 5) MemorySection k (if id == 6 then Some GlobalSection else if id == 7 then Some ExportSection else if id == 8 then Some StartSection else if id == 9 then Some ElementSection else if id == 10 then Some CodeSection else if id == 11 then Some DataSection else None) e4) [
+                              | inl h ↦ ap number (sym h.1) ∙ sym (eqb-true id 5 h.0)
+                              | inr e5 ↦
+                                  elim (first_is (id == 6) GlobalSection k (if id == 7 then Some ExportSection else if id == 8 then Some StartSection else if id == 9 then Some ElementSection else if id == 10 then Some CodeSection else if id == 11 then Some DataSection else None) e5) [
+                                    | inl h ↦ ap number (sym h.1) ∙ sym (eqb-true id 6 h.0)
+                                    | inr e6 ↦
+                                        elim (first_is (id == 7) ExportSection k (if id == 8 then Some StartSection else if id == 9 then Some ElementSection else if id == 10 then Some CodeSection else if id == 11 then Some DataSection else None) e6) [
+                                          | inl h ↦ ap number (sym h.1) ∙ sym (eqb-true id 7 h.0)
+                                          | inr e7 ↦
+                                              elim (first_is (id == 8) StartSection k (if id == 9 then Some ElementSection else if id == 10 then Some CodeSection else if id == 11 then Some DataSection else None) e7) [
+                                                | inl h ↦ ap number (sym h.1) ∙ sym (eqb-true id 8 h.0)
+                                                | inr e8 ↦
+                                                    elim (first_is (id == 9) ElementSection k (if id == 10 then Some CodeSection else if id == 11 then Some DataSection else None) e8) [
+                                                      | inl h ↦ ap number (sym h.1) ∙ sym (eqb-true id 9 h.0)
+                                                      | inr e9 ↦
+                                                          elim (first_is (id == 10) CodeSection k (if id == 11 then Some DataSection else None) e9) [
+                                                            | inl h ↦ ap number (sym h.1) ∙ sym (eqb-true id 10 h.0)
+                                                            | inr e10 ↦
+                                                                elim (first_is (id == 11) DataSection k None e10) [
+                                                                  | inl h ↦ ap number (sym h.1) ∙ sym (eqb-true id 11 h.0)
+                                                                  | inr e11 ↦
+                                                                      absurd cc
+                                                                ]
+                                                          ]
+                                                    ]
+                                              ]
                                         ]
-                                    ]
-                                ]
+                                  ]
                             ]
-                        ]
-                    ]
+                      ]
                 ]
-            ]
-        ]
+          ]
     ]
 
 -- a section of no contents is left out

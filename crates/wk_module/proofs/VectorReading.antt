@@ -7,12 +7,16 @@ use Rattle.wk_bytes.specs.declared.fault.ReadKind.TheVariants.{LongInput, Memory
 use Rattle.wk_bytes.specs.declared.fault.ReadFault.{ReadFault}
 use Rattle.wk_bytes.specs.Leb.{◌>>=◌}
 use Rattle.wk_bytes.specs.LebLaws.{done}
+use Rattle.wk_bytes.specs.Span.{Span, u32_at, piece_at}
 use Rattle.wk_bytes.specs.Frames.{limit, header_at, sections_of}
 use Rattle.wk_body.specs.declared.types.Profile.{Profile}
 use Rattle.wk_body.specs.Bodies.{BodyOf}
-use Rattle.wk_body.specs.Reads.{FailsAs}
+use Rattle.wk_body.specs.Reading.{all_body_at}
+use Rattle.wk_body.specs.Reads.{FailsAs, Parses, Reads}
 use Rattle.wk_body.specs.Vectors.{items_at}
 use Rattle.wk_module.specs.declared.types.Func.{Func}
+use Rattle.wk_module.specs.Formats.{Reader, bytes_at, all_at}
+use Rattle.wk_module.specs.Items.{code_at}
 use Rattle.wk_module.specs.Reading.{Progress, sections_read, zipped}
 
 -- what was read before, and what is still read
@@ -35,6 +39,9 @@ module _ {A : Type 0} (read : ℕ → List ℕ → Result (A × List ℕ) ReadFa
       let k : count - i ≡ suc (count - (i + 1)) = omega arith in
       rw (k, h) refl
 
+  pub stops_all : (front : List A) (count i end : ℕ) (bytes : List ℕ) (f : ReadFault) (whole : Result (List A × List ℕ) ReadFault) → i < count → with_front front (items_at read (count - i) end bytes) ≡ whole → read end bytes ≡ Err f → whole ≡ Err f
+  stops_all front count i end bytes f whole lt so_far h = sym so_far ∙ stops front count i end bytes f lt h
+
   pub is_done : (front : List A) (count i end : ℕ) (bytes : List ℕ) → count ≤ i → with_front front (items_at read (count - i) end bytes) ≡ Ok (front, bytes)
   is_done front count i end bytes le =
       let k : count - i ≡ 0 = omega arith in
@@ -49,6 +56,10 @@ failed A e = Err e
 pub fails_on : {Y Z : Type 0} (e : ReadFault) (kind : ReadKind) (step : Result Y ReadFault) (whole : Result Z ReadFault) → (step ≡ Err e → whole ≡ Err e) → FailsAs e kind step → FailsAs e kind whole
 fails_on e Memory step whole f h = h
 fails_on e _ step whole f h = f h
+
+-- what fails does not reach the end
+pub all_fails : {A : Type 0} (read : Reader A) (end : ℕ) (bytes : List ℕ) (e : ReadFault) → read end bytes ≡ Err e → all_at read end bytes ≡ Err e
+all_fails read end bytes e bad = rw bad refl
 
 err_ok : {A : Type 0} (e : ReadFault) (x : A) → failed A e ≡ Ok x → ⊥
 err_ok e x is = absurd cc
@@ -77,3 +88,13 @@ pub zipped_more : (types : List ℕ) (bodies : List BodyOf) (place : ℕ) (body 
 zipped_more [] bodies place body lt is = absurd (omega arith)
 zipped_more (t ∷ types) [] place body lt is = rw is (ap (λ fs. function t body ∷ fs) (zipped_none types))
 zipped_more (t ∷ types) (b ∷ bodies) place body lt is = rw is (ap (λ fs. function t b ∷ fs) (zipped_more types bodies (length bodies) body (omega arith) refl))
+
+-- ---- codes
+
+-- a size, and a body that takes as many bytes
+pub code_parses : (profile : Profile) (old new : Span) (size at : ℕ) (after code : List ℕ) (r : Result BodyOf ReadFault) → u32_at old.end old.rest ≡ Ok (size, after) → piece_at size old.end after ≡ Ok (code, new.rest)
+    → new.end ≡ old.end → at ≡ old.end - length new.rest → Reads (λ b. b) r (all_body_at profile at code) → Parses (λ b. b) (code_at profile) old r new
+unfolding code_at bytes_at
+code_parses profile old new size at after code (Ok body) sized taken same is reads = (rw (sized, taken, ← is, reads) refl, same)
+code_parses profile old new size at after code (Err e) sized taken same is reads =
+    fails_on e e.kind (all_body_at profile at code) (code_at profile old.end old.rest) (λ bad. rw (sized, taken, ← is, bad) refl) reads

@@ -1,11 +1,8 @@
-use Rattle.std.proofs.Common.{ℕ, List, length, refl, ap, ◌∙◌, arith}
+use Rattle.std.proofs.Common.{ℕ, List, length, ap}
 use Rattle.wk_bytes.specs.Short.{short}
 use Rattle.wk_body.specs.Lengths.{limited}
 use Rattle.wk_module.specs.Items.{written_code}
 use Rattle.wk_module.specs.declared.types.Func.{Func}
-use Rattle.wk_module.specs.Sections.{of_number}
-use Rattle.wk_module.specs.Shape.{lists_of}
-use Rattle.wk_module.specs.Writing.{contents_by, list_contents}
 use Rattle.wk_module.proofs.Lengths.{list_contents-map}
 use Rattle.wk_module.proofs.length.contents_len.Goals as goal
 

@@ -7,6 +7,6 @@ use Rattle.wk_module.proofs.length.plus_framed.Goals as goal
 pub returns : goal.returns
 returns c =
     λ id contents is.
-        let size : c.in_ok-size.size ≡ length contents = (limited_some _ _ (sym c.in_ok-size.was ∙ is)).0 in
-        let count = ap (λ (k : ℕ). length (short k)) size in
-        λ n h. c.plus-2.ensures _ (c.plus_u32-total.ensures _ (c.plus.ensures n h)) ∙ ap limited (omega (arith, size, count, length-framed id contents))
+    let size : c.in_ok-size.size ≡ length contents = (limited_some _ _ (sym c.in_ok-size.was ∙ is)).0 in
+    let count = ap (λ (k : ℕ). length (short k)) size in
+    λ n h. c.plus-2.ensures _ (c.plus_u32-total.ensures _ (c.plus.ensures n h)) ∙ ap limited (omega (arith, size, count, length-framed id contents))

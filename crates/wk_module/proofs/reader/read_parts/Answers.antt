@@ -1,4 +1,4 @@
-use Rattle.std.proofs.Common.{◌<◌, arith}
+use Rattle.std.proofs.Common.{arith}
 use Rattle.wk_module.proofs.VectorReading.{read_few}
 use Rattle.wk_module.specs.Reading.{at_start}
 use Rattle.wk_module.proofs.reader.read_parts.Goals as goal

@@ -1,7 +1,6 @@
-use Rattle.std.proofs.Common.{◌<◌, sym, ◌∙◌, arith}
 use Rattle.std.proofs.lemmas.Result.{err_from_is_err_and}
 use Rattle.wk_body.specs.Vectors.{vector_at}
-use Rattle.wk_module.proofs.VectorReading.{fails_on, stops}
+use Rattle.wk_module.proofs.VectorReading.{fails_on, stops_all}
 use Rattle.wk_module.proofs.reading.read_vector.Goals as goal
 
 pub returns-in_err-read : goal.returns-in_err-read
@@ -12,5 +11,5 @@ returns-in_err-read g c =
     let before = c.loop.cursor in
     let whole = vector_at read c.args.cursor.now.end c.args.cursor.now.rest in
     rw (p.1, p.2) (fails_on e e.kind (read before.end before.rest) whole
-    (λ bad. sym c.loop.invariant.reads ∙ stops read c.loop.items c.in_ok-count.count c.loop.counter before.end before.rest e c.loop-test.true bad)
+    (stops_all read c.loop.items c.in_ok-count.count c.loop.counter before.end before.rest e whole c.loop-test.true c.loop.invariant.reads)
     c.in_err-read.ensures)

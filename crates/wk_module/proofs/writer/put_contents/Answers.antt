@@ -1,4 +1,3 @@
-use Rattle.std.proofs.Common.{ℕ, List, ◌++◌, length, sym, ap, arith}
 use Rattle.wk_bytes.specs.Short.{short}
 use Rattle.wk_module.specs.Items.{written_code}
 use Rattle.wk_module.specs.declared.types.Func.{Func}

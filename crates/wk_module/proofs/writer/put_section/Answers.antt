@@ -1,4 +1,4 @@
-use Rattle.std.proofs.Common.{◌≡◌, [], length, sym, ap, ◌∙◌, arith}
+use Rattle.std.proofs.Common.{◌≡◌, [], length, sym, arith}
 use Rattle.std.proofs.lemmas.List.{append-nil}
 use Rattle.wk_module.specs.Sections.{of_number}
 use Rattle.wk_module.specs.Shape.{lists_of}

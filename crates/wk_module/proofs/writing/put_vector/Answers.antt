@@ -1,4 +1,4 @@
-use Rattle.std.proofs.Common.{length, ap, ◌∙◌, arith, length-append}
+use Rattle.std.proofs.Common.{length, arith, length-append}
 use Rattle.std.specs.List.{flat_map}
 use Rattle.wk_bytes.specs.Short.{short}
 use Rattle.wk_module.specs.WritingLaws.{length_le_flat_map}
