@@ -154,6 +154,10 @@ types_valid ts m few valid ElementSection = valid ElementSection
 types_valid ts m few valid CodeSection = valid CodeSection
 types_valid ts m few valid DataSection = valid DataSection
 
+-- a formed module is formed with any types that are few
+pub types_formed : (ts : List FuncType) (m : Parts) → length ts < 2 ^ 32 → IsFormed m → IsFormed (record m { types = ts })
+types_formed ts m few f = record { valid = types_valid ts m few f.valid; order = f.order; names = f.names }
+
 nothing_valid : (profile : Profile) (k : SectionId) → AreValid profile k (contents (lists_of (nothing profile)) k)
 nothing_valid profile TypeSection = omega arith
 nothing_valid profile ImportSection = (omega arith, tt)

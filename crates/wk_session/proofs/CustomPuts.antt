@@ -82,7 +82,7 @@ named_bytes (suc i) bytes (c ∷ cs) n = (n.0, named_bytes i bytes cs n.1)
 
 -- a formed module with other customs
 customs_formed : (m : Parts) (cs : List Custom) → IsFormed m → IsInOrderFrom 0 cs → AreNamed cs → IsFormed (record m { customs = cs })
-customs_formed m cs f order names = record { few = f.few; order = order; names = names }
+customs_formed m cs f order names = record { valid = f.valid; order = order; names = names }
 
 -- a module with other bytes in a custom is formed and settled
 pub bytes_formed : (i : ℕ) (bytes : List ℕ) (m : Parts) → IsFormed m → IsFormed (with_bytes_at i bytes m)

@@ -1,3 +1,4 @@
+pub mod Popped
 pub mod RunSteps
 pub mod Outcomes
 pub mod TypeEdits

@@ -59,9 +59,7 @@ pub(crate) fn pop_type(alloc: Global, module: &mut Module)
     ensures { (t : FuncType) (m : Parts) → IsShaped m → «module».old ≡ with_type t m → «module».new ≡ m }
 {
     let mut parts = take_parts(alloc, module);
-    let mut types = parts.types.into_vec();
-    let _ = types.pop();
-    parts.types = Items::from_vec(types);
+    let _ = parts.types.pop();
     *module = Module::of(parts);
 }
 

@@ -33,9 +33,14 @@ pub struct Session {
 
 impl Model for Session {
     ghost use Rattle.wk_module.specs.declared.types.Parts.{Parts};
+    ghost use Rattle.std.specs.Coded.{codes};
+    ghost use Rattle.wk_body.specs.Bodies.{coded_body};
+    ghost use Rattle.wk_body.specs.TreeCode.{coded_instrs};
     ghost use Rattle.wk_session.specs.Kept.{IsKept};
 
     ghost Value = { Parts };
+
+    ghost coded = { Prim.hlevel (codes, coded_instrs, coded_body) };
 
     ghost view = { λ s. s.«module» };
 
