@@ -74,7 +74,7 @@ fn is_plain(word: &[u8]) -> bool
 
 /// The name of a word: where that begins with `x:` the UTF-8 that its hexadecimal digits spell,
 /// else the word itself. `None` where it has none.
-pub(crate) fn read_name(alloc: Global, word: &[u8]) -> Result<Option<Text>, AllocError>
+pub fn read_name(alloc: Global, word: &[u8]) -> Result<Option<Text>, AllocError>
     ensures { IfOk result (λ name. name ≡ name_of word.now) }
 {
     if let Some(digits) = word.strip_prefix(b"x:") {
