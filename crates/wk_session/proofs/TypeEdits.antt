@@ -1,13 +1,13 @@
 -- One more type.
-use Rattle.std.proofs.Common.{◌≡◌, ◌≢◌, ℕ, ◌+◌, ◌<◌, ◌≤◌, ◌^◌, List, [], ◌∷◌, ◌++◌, length, Ok, Err, sym, ap, ◌∙◌, arith, length-append}
+use Rattle.std.proofs.Common.{◌≡◌, ◌≢◌, ℕ, ◌+◌, ◌<◌, ◌≤◌, ◌^◌, List, [], ◌∷◌, ◌++◌, length, Result, Ok, Err, refl, sym, ap, ◌∙◌, arith, length-append}
 use Rattle.std.specs.List.{flat_map}
 use Rattle.wk_bytes.specs.Short.{short}
-use Rattle.wk_bytes.specs.Frames.{magic, version}
+use Rattle.wk_bytes.specs.Frames.{limit, magic, version}
 use Rattle.wk_module.specs.declared.types.Parts.{Parts}
 use Rattle.wk_module.specs.declared.types.FuncType.{FuncType}
 use Rattle.wk_module.specs.Types.{written_functype}
 use Rattle.wk_module.specs.Vectors.{written_vector}
-use Rattle.wk_module.specs.Shape.{IsShaped}
+use Rattle.wk_module.specs.Shape.{settle, IsShaped}
 use Rattle.wk_module.specs.ShapeLaws.{settle-type}
 use Rattle.wk_module.specs.Writing.{encoded, vector_section, section_of, customs_at, section_and_customs}
 use Rattle.wk_module.specs.WritingLaws.{length_le_flat_map}
