@@ -1,8 +1,21 @@
 //! The command line.
 
 use crate::fault::ProgramFault;
-use clap::{Arg, ArgAction, Command};
+use clap::{Arg, ArgAction, ArgMatches, Command};
 use std::alloc::{AllocError, Global};
+use wk_bytes::Text;
+use wk_edit::read_name;
+
+/// What the words ask for.
+#[derive(Drop)]
+pub enum Asked<'a> {
+    /// `edit`
+    Edit(EditCommand<'a>),
+    /// `sections FILE`: the name of the file, as it stands.
+    Sections(&'a str),
+    /// `strip`
+    Strip(StripCommand<'a>),
+}
 
 /// `edit FILE SCRIPT OUT`: the names of files, as they stand.
 #[derive(Clone, Copy, Debug)]
@@ -15,6 +28,19 @@ pub struct EditCommand<'a> {
     pub out: &'a str,
 }
 
+/// `strip [--keep NAME] [--extended] FILE OUT`: the names of files, as they stand.
+#[derive(Debug, Drop)]
+pub struct StripCommand<'a> {
+    /// The name of the custom sections that stay.
+    pub keep: Option<Text>,
+    /// Whether the module is read with the instructions that came after WebAssembly 1.0.
+    pub is_extended: bool,
+    /// The module.
+    pub file: &'a str,
+    /// Where the stripped module goes.
+    pub out: &'a str,
+}
+
 fn word<'a>(alloc: Global, id: &'static str, help: &'static str) -> Arg<'a> {
     Arg::new(alloc, id)
         .required(true)
@@ -22,32 +48,50 @@ fn word<'a>(alloc: Global, id: &'static str, help: &'static str) -> Arg<'a> {
         .help(help)
 }
 
-fn command<'a>(alloc: Global) -> Result<Command<'a>, AllocError> {
-    let edit = Command::new(alloc, "edit")
+fn edit_command<'a>(alloc: Global) -> Result<Command<'a>, AllocError> {
+    Command::new(alloc, "edit")
         .about("Makes the edits of a script on a module")
         .arg(word(alloc, "FILE", "the module"))?
         .arg(word(alloc, "SCRIPT", "the edits, one a line"))?
-        .arg(word(alloc, "OUT", "where the edited module goes"))?;
+        .arg(word(alloc, "OUT", "where the edited module goes"))
+}
+
+fn sections_command<'a>(alloc: Global) -> Result<Command<'a>, AllocError> {
+    Command::new(alloc, "sections")
+        .about("Lists the sections of a module, unread")
+        .arg(word(alloc, "FILE", "the module"))
+}
+
+fn strip_command<'a>(alloc: Global) -> Result<Command<'a>, AllocError> {
+    let keep = Arg::new(alloc, "keep")
+        .long("keep")
+        .value_name("NAME")
+        .action(ArgAction::Set)
+        .allow_hyphen_values(true)
+        .help("keeps the custom sections of this name");
+    let extended = Arg::new(alloc, "extended")
+        .long("extended")
+        .action(ArgAction::SetTrue)
+        .help("knows the instructions that came after WebAssembly 1.0");
+    Command::new(alloc, "strip")
+        .about("Removes the custom sections of a module")
+        .arg(keep)?
+        .arg(extended)?
+        .arg(word(alloc, "FILE", "the module"))?
+        .arg(word(alloc, "OUT", "where the stripped module goes"))
+}
+
+fn command<'a>(alloc: Global) -> Result<Command<'a>, AllocError> {
     Command::new(alloc, "wasmkit")
         .about("Reads, judges and edits WebAssembly 1.0 binary modules")
         .no_binary_name(true)
         .subcommand_required(true)
-        .subcommand(edit)
+        .subcommand(edit_command(alloc)?)?
+        .subcommand(sections_command(alloc)?)?
+        .subcommand(strip_command(alloc)?)
 }
 
-/// Reads the words after the program's name.
-///
-/// # Errors
-///
-/// What `clap` says of words that are no command, and `BadWords` where OUT is spelled as FILE or SCRIPT.
-pub fn read_words<'a>(
-    alloc: Global,
-    words: &'a [String],
-) -> Result<EditCommand<'a>, ProgramFault<'a>> {
-    let matches = command(alloc)?.try_get_matches_from(words)?;
-    let Some(("edit", found)) = matches.subcommand() else {
-        return Err(ProgramFault::BadWords);
-    };
+fn read_edit<'a>(found: &ArgMatches<'a>) -> Result<EditCommand<'a>, ProgramFault<'a>> {
     let (Some(file), Some(script), Some(out)) = (
         found.get_str("FILE"),
         found.get_str("SCRIPT"),
@@ -59,4 +103,51 @@ pub fn read_words<'a>(
         return Err(ProgramFault::BadWords);
     }
     Ok(EditCommand { file, script, out })
+}
+
+// The name to keep, spelled as in a script.
+fn read_keep<'a>(alloc: Global, word: Option<&str>) -> Result<Option<Text>, ProgramFault<'a>> {
+    let Some(word) = word else {
+        return Ok(None);
+    };
+    match read_name(alloc, word.as_bytes())? {
+        Some(name) => Ok(Some(name)),
+        None => Err(ProgramFault::BadWords),
+    }
+}
+
+fn read_strip<'a>(
+    alloc: Global,
+    found: &ArgMatches<'a>,
+) -> Result<StripCommand<'a>, ProgramFault<'a>> {
+    let (Some(file), Some(out)) = (found.get_str("FILE"), found.get_str("OUT")) else {
+        return Err(ProgramFault::BadWords);
+    };
+    if out == file {
+        return Err(ProgramFault::BadWords);
+    }
+    Ok(StripCommand {
+        keep: read_keep(alloc, found.get_str("keep"))?,
+        is_extended: found.get_flag("extended"),
+        file,
+        out,
+    })
+}
+
+/// Reads the words after the program's name.
+///
+/// # Errors
+///
+/// What `clap` says of words that are no command, and `BadWords` where OUT is spelled as FILE or SCRIPT, or NAME is no name.
+pub fn read_words<'a>(alloc: Global, words: &'a [String]) -> Result<Asked<'a>, ProgramFault<'a>> {
+    let matches = command(alloc)?.try_get_matches_from(words)?;
+    match matches.subcommand() {
+        Some(("edit", found)) => Ok(Asked::Edit(read_edit(found)?)),
+        Some(("sections", found)) => match found.get_str("FILE") {
+            Some(file) => Ok(Asked::Sections(file)),
+            None => Err(ProgramFault::BadWords),
+        },
+        Some(("strip", found)) => Ok(Asked::Strip(read_strip(alloc, found)?)),
+        _ => Err(ProgramFault::BadWords),
+    }
 }

@@ -1,12 +1,16 @@
 //! The commands.
-ghost use Rattle.std.specs.Prelude.{◌-◌, ◌<◌, ◌^◌};
+ghost use Rattle.std.specs.Prelude.{◌-◌, ◌<◌, ◌^◌, IfOk};
+ghost use Rattle.wk_module.specs.Writing.{Fits};
 
-use crate::command::{EditCommand, read_words};
+use crate::command::{Asked, EditCommand, StripCommand, read_words};
 use crate::fault::ProgramFault;
+use crate::listing::{Listing, list_sections, malformed_line};
 use crate::store::Store;
 use std::alloc::Global;
-use wk_bytes::{Out, Sink, put_all};
+use wk_bytes::{Out, ReadFault, ReadKind, Sink, put_all};
 use wk_edit::{Status, edit};
+use wk_module::{EncodeFault, Module, encode, read};
+use wk_session::stripped;
 
 // Makes the edits of a script on a module: OUT is made once all is computed, and the report is printed behind it.
 fn run_edit<'a, S: Store, X: Out>(
@@ -42,6 +46,79 @@ fn run_edit<'a, S: Store, X: Out>(
     Ok(status.code())
 }
 
+// Lists the sections of a module, and then the fault of their frames, if there is one.
+fn run_sections<'a, S: Store, X: Out>(
+    alloc: Global,
+    file: &'a str,
+    store: &mut S,
+    out: &mut X,
+) -> Result<u8, ProgramFault<'a>>
+    requires { X.failed out.old < 2 ^ 64 - 1 }
+{
+    let input = store
+        .load(file)
+        .map_err(|fault| ProgramFault::of_load(fault, file))?;
+    let Listing { text, has_fault } = list_sections(alloc, &input)?;
+    put_all(out, text.as_bytes()).map_err(|_| ProgramFault::Output)?;
+    Ok(if has_fault { 2 } else { 0 })
+}
+
+// Reads the module of a command: here each command says with which instructions.
+fn read_module(alloc: Global, input: &[u8], _is_extended: bool) -> Result<Module, ReadFault>
+    ensures { IfOk result (λ m. Fits m) }
+{
+    read(alloc, input)
+}
+
+// Prints why the input is no module.
+fn refuse_module<'a, X: Out>(
+    alloc: Global,
+    fault: &ReadFault,
+    out: &mut X,
+) -> Result<u8, ProgramFault<'a>>
+    requires { X.failed out.old < 2 ^ 64 - 1 }
+{
+    if let ReadKind::Memory = fault.kind {
+        return Err(ProgramFault::Memory);
+    }
+    let line = malformed_line(alloc, fault)?;
+    put_all(out, line.as_bytes()).map_err(|_| ProgramFault::Output)?;
+    Ok(2)
+}
+
+// Removes the custom sections of a module: OUT is made once all is computed, and nothing is printed.
+fn run_strip<'a, S: Store, X: Out>(
+    alloc: Global,
+    command: StripCommand<'a>,
+    store: &mut S,
+    out: &mut X,
+) -> Result<u8, ProgramFault<'a>>
+    requires { X.failed out.old < 2 ^ 64 - 1 }
+{
+    let StripCommand {
+        keep,
+        is_extended,
+        file,
+        out: out_file,
+    } = command;
+    let input = store
+        .load(file)
+        .map_err(|fault| ProgramFault::of_load(fault, file))?;
+    let module = match read_module(alloc, &input, is_extended) {
+        Ok(module) => stripped(module, keep.as_ref()),
+        Err(fault) => return refuse_module(alloc, &fault, out),
+    };
+    let bytes = match encode(alloc, &module) {
+        Ok(bytes) => bytes,
+        Err(EncodeFault::Memory) => return Err(ProgramFault::Memory),
+        Err(EncodeFault::TooLarge) => unreachable!(),
+    };
+    store
+        .save(out_file, &bytes)
+        .map_err(|fault| ProgramFault::of_save(fault, out_file))?;
+    Ok(0)
+}
+
 fn answer<'a, S: Store, X: Out>(
     alloc: Global,
     words: &'a [String],
@@ -50,8 +127,11 @@ fn answer<'a, S: Store, X: Out>(
 ) -> Result<u8, ProgramFault<'a>>
     requires { X.failed out.old < 2 ^ 64 - 1 }
 {
-    let command = read_words(alloc, words)?;
-    run_edit(alloc, command, store, out)
+    match read_words(alloc, words)? {
+        Asked::Edit(command) => run_edit(alloc, command, store, out),
+        Asked::Sections(file) => run_sections(alloc, file, store, out),
+        Asked::Strip(command) => run_strip(alloc, command, store, out),
+    }
 }
 
 /// Says on standard error why there is no answer, and gives the status. Where standard error fails, nothing changes.
@@ -71,7 +151,7 @@ pub fn tell<Y: Out>(alloc: Global, fault: &ProgramFault<'_>, err: &mut Y) -> u8
 }
 
 /// Runs the command of these words, the ones after the program's name, and gives the exit status: 0 to 3 of a run
-/// (`Status`), 3 for a bad command line, 4 where a file or standard output failed, 5 for want of memory.
+/// (`Status`), 0 or 2 of the other commands, 3 for a bad command line, 4 where a file or standard output failed, 5 for want of memory.
 pub fn program<S: Store, X: Out, Y: Out>(
     alloc: Global,
     words: &[String],

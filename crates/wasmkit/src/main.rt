@@ -5,6 +5,7 @@ mod command;
 mod commands;
 mod fault;
 mod files;
+mod listing;
 mod store;
 
 use crate::commands::{program, tell};

@@ -131,7 +131,7 @@ fn edits(rt: HostRuntime) -> Result<(), Fail> {
         (EMPTY, "type i32\n", 3, "script S1 BadWord line 1\n", None),
         (
             EMPTY,
-            "type - -\nstrip\n",
+            "type - -\nstrip d\n",
             3,
             "script S1 BadWord line 2\n",
             None,

@@ -8,17 +8,17 @@ use Rattle.std.proofs.lemmas.List.Folds.{list_any_none}
 use Rattle.std.proofs.lemmas.List.Sums.{AllPass-from_list_all}
 use Rattle.std.proofs.lemmas.List.Splits.{join_with_byte-slice_split}
 use Rattle.wk_session.specs.declared.edit.Edit.{Edit}
-use Rattle.wk_session.specs.declared.edit.Edit.TheVariants.{Ty, StripCustom}
+use Rattle.wk_session.specs.declared.edit.Edit.TheVariants.{Ty, StripCustom, SetCustom, StripAll}
 use Rattle.wk_edit.specs.declared.fault.ScriptFault.{ScriptFault}
 use Rattle.wk_edit.specs.declared.fault.ScriptFault.TheVariants.{BadWord, NotAscii, Memory}
 use Rattle.wk_edit.specs.declared.line.Verb.{Verb}
-use Rattle.wk_edit.specs.declared.line.Verb.TheVariants.{TypeLine, CustomLine}
+use Rattle.wk_edit.specs.declared.line.Verb.TheVariants.{TypeLine, CustomLine, StripLine}
 use Rattle.wk_edit.specs.Pieces.{pieces}
-use Rattle.wk_edit.specs.Words.{◌>>=◌, types_of, name_of, is_graphic}
-use Rattle.wk_edit.specs.Script.{Reads, type_edit, custom_edit, verb_named, edit_by, edit_of, or_bad_word, is_high, line_edit, then_more, lines_from, script_of}
+use Rattle.wk_edit.specs.Words.{◌>>=◌, types_of, name_of, data_of, is_graphic}
+use Rattle.wk_edit.specs.Script.{Reads, type_edit, custom_edit, set_edit, verb_named, edit_by, edit_of, or_bad_word, is_high, line_edit, then_more, lines_from, script_of}
 use Rattle.wk_edit.specs.ScriptGrammar.{types_word, SpellsEdit, SpellsLine, SpellsLines, IsScript, IsOnlyScript, IsNoScript, IsFineLine, IsFirstWrong, IsFaultOf}
 use Rattle.wk_edit.proofs.Joining.{IsWithout, pieces-join, All-join}
-use Rattle.wk_edit.proofs.WordLaws.{bind_some, some_is, tested, types_told, types_said, graphic_types, name_told, name_said, graphic_name}
+use Rattle.wk_edit.proofs.WordLaws.{bind_some, some_is, tested, types_told, types_said, graphic_types, name_told, name_said, graphic_name, data_told, data_said, graphic_data}
 
 -- ---- words of a line
 
@@ -39,9 +39,20 @@ custom_told kind name e h = elim (tested kind (codes "strip") (name_of name >>= 
   | inr p ↦ absurd cc
 ]
 
+set_told : (kind name digits : List ℕ) (e : Edit) → set_edit kind name digits ≡ Some e → SpellsEdit (codes "custom" ∷ kind ∷ name ∷ digits ∷ []) e
+set_told kind name digits e h = elim (tested kind (codes "set") (name_of name >>= λ n. data_of digits >>= λ bytes. Some (SetCustom n bytes)) None (Some e) h) [
+  | inl p ↦
+      let a = bind_some (name_of name) (λ n. data_of digits >>= λ bytes. Some (SetCustom n bytes)) e p.1 in
+      let b = bind_some (data_of digits) (λ bytes. Some (SetCustom a.0 bytes)) e a.2 in
+      subst (SpellsEdit (codes "custom" ∷ kind ∷ name ∷ digits ∷ [])) (some_is _ e b.2)
+      (name, digits, ap (λ (w : List ℕ). codes "custom" ∷ w ∷ name ∷ digits ∷ []) p.0, name_told name a.0 a.1, data_told digits b.0 b.1)
+  | inr p ↦ absurd cc
+]
+
 verb_word : Verb → List ℕ
 verb_word TypeLine = codes "type"
 verb_word CustomLine = codes "custom"
+verb_word StripLine = codes "strip"
 
 verb_is : (w : List ℕ) (v : Verb) → verb_named w ≡ Some v → w ≡ verb_word v
 unfolding verb_word
@@ -49,7 +60,10 @@ verb_is w v e = elim (tested w (codes "type") _ _ _ e) [
   | inl p ↦ p.0 ∙ ap verb_word (some_is TypeLine v p.1)
   | inr p ↦ elim (tested w (codes "custom") _ _ _ p.1) [
     | inl q ↦ q.0 ∙ ap verb_word (some_is CustomLine v q.1)
-    | inr q ↦ absurd cc
+    | inr q ↦ elim (tested w (codes "strip") _ _ _ q.1) [
+      | inl r ↦ r.0 ∙ ap verb_word (some_is StripLine v r.1)
+      | inr r ↦ absurd cc
+    ]
   ]
 ]
 
@@ -62,7 +76,10 @@ by_told TypeLine (a ∷ b ∷ c ∷ ws) e h = absurd cc
 by_told CustomLine [] e h = absurd cc
 by_told CustomLine (a ∷ []) e h = absurd cc
 by_told CustomLine (a ∷ b ∷ []) e h = custom_told a b e h
-by_told CustomLine (a ∷ b ∷ c ∷ ws) e h = absurd cc
+by_told CustomLine (a ∷ b ∷ c ∷ []) e h = set_told a b c e h
+by_told CustomLine (a ∷ b ∷ c ∷ d ∷ ws) e h = absurd cc
+by_told StripLine [] e h = subst (SpellsEdit (codes "strip" ∷ [])) (some_is StripAll e h) refl
+by_told StripLine (a ∷ ws) e h = absurd cc
 
 edit_told : (ws : List (List ℕ)) (e : Edit) → edit_of ws ≡ Some e → SpellsEdit ws e
 edit_told [] e h = absurd cc
@@ -73,6 +90,8 @@ edit_told (w ∷ ws) e h =
 edit_said : (ws : List (List ℕ)) (e : Edit) → SpellsEdit ws e → edit_of ws ≡ Some e
 edit_said ws (Ty t) h = rw (h, types_said t.params, types_said t.results) refl
 edit_said ws (StripCustom name) h = rw (h.1, name_said h.0 name h.2) refl
+edit_said ws (SetCustom name bytes) h = rw (h.2, name_said h.0 name h.3, data_said h.1 bytes h.4) refl
+edit_said ws StripAll h = rw h refl
 
 -- ---- lines
 
@@ -104,6 +123,23 @@ words_told ws (StripCustom name) h = record {
   some = omega arith;
   graphic = subst (All (AllPass is_graphic)) (sym h.1)
       (three_graphic (codes "custom") (codes "strip") h.0 (AllPass-from_list_all is_graphic (codes "custom") refl) (AllPass-from_list_all is_graphic (codes "strip") refl) (graphic_name h.0 name h.2));
+}
+words_told ws (SetCustom name bytes) h = record {
+  first = codes "custom";
+  more = codes "set" ∷ h.0 ∷ h.1 ∷ [];
+  parts = h.2;
+  some = omega arith;
+  graphic = subst (All (AllPass is_graphic)) (sym h.2)
+      (All-cons (AllPass is_graphic) (codes "custom") (codes "set" ∷ h.0 ∷ h.1 ∷ []) (AllPass-from_list_all is_graphic (codes "custom") refl)
+      (three_graphic (codes "set") h.0 h.1 (AllPass-from_list_all is_graphic (codes "set") refl) (graphic_name h.0 name h.3) (graphic_data h.1 bytes h.4)));
+}
+words_told ws StripAll h = record {
+  first = codes "strip";
+  more = [];
+  parts = h;
+  some = omega arith;
+  graphic = subst (All (AllPass is_graphic)) (sym h)
+      (All-cons (AllPass is_graphic) (codes "strip") [] (AllPass-from_list_all is_graphic (codes "strip") refl) (All-nil (AllPass is_graphic)));
 }
 
 graphic_below : (x : ℕ) → is_graphic x ≡ true → is_high x ≡ false

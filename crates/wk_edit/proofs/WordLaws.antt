@@ -15,8 +15,8 @@ use Rattle.hex.proofs.HexLemmas.{decode_of-ok}
 use Rattle.wk_module.specs.declared.types.ValType.{ValType}
 use Rattle.wk_module.specs.declared.types.ValType.TheVariants.{I32, I64, F32, F64}
 use Rattle.wk_edit.specs.Pieces.{pieces}
-use Rattle.wk_edit.specs.Words.{◌>>=◌, type_named, all_named, types_of, is_graphic, is_plain, utf8_of, name_of}
-use Rattle.wk_edit.specs.ScriptGrammar.{type_name, types_word, IsPlainName, IsHexName, SpellsName}
+use Rattle.wk_edit.specs.Words.{◌>>=◌, type_named, all_named, types_of, is_graphic, is_plain, utf8_of, name_of, spelled_of, data_of}
+use Rattle.wk_edit.specs.ScriptGrammar.{type_name, types_word, IsPlainName, IsHexName, SpellsName, SpellsData}
 use Rattle.wk_edit.proofs.Joining.{IsWithout, pieces-join, All-join}
 
 -- ---- tests and steps
@@ -200,3 +200,40 @@ graphic_name w name (inr n) =
     let digits = (decode_of-ok n.digits name n.spelled).1 in
     subst (AllPass is_graphic) (sym n.parts)
     (All-append (λ x. is_graphic x ≡ true) (codes "x:") n.digits (AllPass-from_list_all is_graphic (codes "x:") refl) (λ k d within. hex_graphic (slice_index_or n.digits k d) (digits k d within)))
+
+-- ---- bytes
+
+some_word : (x : ℕ) (w : List ℕ) → (x ∷ w) ≢ []
+some_word x w none = absurd cc
+
+filled : (x : ℕ) (w : List ℕ) → (length (x ∷ w) == 0) ≡ false
+filled x w = grind (arith)
+
+hex_told : (w bytes : List ℕ) (r : Result (List ℕ) FromHexError) → (if length w == 0 then None else spelled_of r) ≡ Some bytes → (w ≢ []) × (r ≡ Ok bytes)
+hex_told [] bytes r e = absurd cc
+hex_told (x ∷ w) bytes (Err d) e = let never : spelled_of (Err d) ≡ Some bytes = rw (filled x w) at e in absurd cc
+hex_told (x ∷ w) bytes (Ok found) e = (some_word x w, ap Ok (some_is found bytes (rw (filled x w) at e)))
+
+-- a word that says bytes spells them
+pub data_told : (w bytes : List ℕ) → data_of w ≡ Some bytes → SpellsData w bytes
+data_told w bytes e = elim (tested w (codes "-") (Some []) (if length w == 0 then None else spelled_of (decode_of w)) (Some bytes) e) [
+  | inl p ↦ inl (p.0, sym (some_is [] bytes p.1))
+  | inr p ↦ inr (hex_told w bytes (decode_of w) p.1)
+]
+
+-- no digits begin with `-`
+not_dash : (w bytes : List ℕ) → decode_of w ≡ Ok bytes → w ≢ codes "-"
+not_dash w bytes spelled is = let fault : decode_of (codes "-") ≡ Ok bytes = ap decode_of (sym is) ∙ spelled in absurd cc
+
+hex_said_data : (w bytes : List ℕ) → w ≢ [] → decode_of w ≡ Ok bytes → data_of w ≡ Some bytes
+hex_said_data [] bytes some spelled = absurd (some refl)
+hex_said_data (x ∷ w) bytes some spelled = rw (unequal (x ∷ w) (codes "-") (not_dash (x ∷ w) bytes spelled), filled x w, spelled) refl
+
+-- a word that spells bytes says them
+pub data_said : (w bytes : List ℕ) → SpellsData w bytes → data_of w ≡ Some bytes
+data_said w bytes (inl p) = rw (p.0, p.1) refl
+data_said w bytes (inr p) = hex_said_data w bytes p.0 p.1
+
+pub graphic_data : (w bytes : List ℕ) → SpellsData w bytes → AllPass is_graphic w
+graphic_data w bytes (inl p) = subst (AllPass is_graphic) (sym p.0) (AllPass-from_list_all is_graphic (codes "-") refl)
+graphic_data w bytes (inr p) = let digits = (decode_of-ok w bytes p.1).1 in λ k d within. hex_graphic (slice_index_or w k d) (digits k d within)

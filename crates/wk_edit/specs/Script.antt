@@ -3,13 +3,13 @@ use Rattle.std.specs.Prelude.{◌≡◌, ◌≢◌, ℕ, ◌+◌, nat_le, Bool, 
 use Rattle.std.specs.List.{list_any}
 use Rattle.std.specs.Str.{bytes_eq}
 use Rattle.wk_session.specs.declared.edit.Edit.{Edit}
-use Rattle.wk_session.specs.declared.edit.Edit.TheVariants.{Ty, StripCustom}
+use Rattle.wk_session.specs.declared.edit.Edit.TheVariants.{Ty, StripCustom, SetCustom, StripAll}
 use Rattle.wk_edit.specs.declared.line.Verb.{Verb}
-use Rattle.wk_edit.specs.declared.line.Verb.TheVariants.{TypeLine, CustomLine}
+use Rattle.wk_edit.specs.declared.line.Verb.TheVariants.{TypeLine, CustomLine, StripLine}
 use Rattle.wk_edit.specs.declared.fault.ScriptFault.{ScriptFault}
 use Rattle.wk_edit.specs.declared.fault.ScriptFault.TheVariants.{BadWord, NotAscii, Memory}
 use Rattle.wk_edit.specs.Pieces.{pieces}
-use Rattle.wk_edit.specs.Words.{◌>>=◌, types_of, name_of}
+use Rattle.wk_edit.specs.Words.{◌>>=◌, types_of, name_of, data_of}
 
 -- ---- lines
 
@@ -26,17 +26,27 @@ custom_edit kind name = if bytes_eq kind (codes "strip") then (do
   n ← name_of name
   Some (StripCustom n)) else None
 
+-- `custom set NAME BYTES`: a custom of that name has these bytes
+abbrev pub set_edit : List ℕ → List ℕ → List ℕ → Option Edit
+set_edit kind name digits = if bytes_eq kind (codes "set") then (do
+  n ← name_of name
+  bytes ← data_of digits
+  Some (SetCustom n bytes)) else None
+
 -- what the first word of a line asks for
 abbrev pub verb_named : List ℕ → Option Verb
 verb_named w =
     if bytes_eq w (codes "type") then Some TypeLine
     else if bytes_eq w (codes "custom") then Some CustomLine
+    else if bytes_eq w (codes "strip") then Some StripLine
     else None
 
 -- the edit that a line asks for by its other words
 abbrev pub edit_by : Verb → List (List ℕ) → Option Edit
 edit_by TypeLine (params ∷ results ∷ []) = type_edit params results
 edit_by CustomLine (kind ∷ name ∷ []) = custom_edit kind name
+edit_by CustomLine (kind ∷ name ∷ digits ∷ []) = set_edit kind name digits
+edit_by StripLine [] = Some StripAll
 edit_by _ _ = None
 
 -- the edit that the words of a line name

@@ -6,7 +6,7 @@ use Rattle.hex.specs.Hex.{decode_of}
 use Rattle.wk_module.specs.declared.types.ValType.{ValType}
 use Rattle.wk_module.specs.declared.types.ValType.TheVariants.{I32, I64, F32, F64}
 use Rattle.wk_session.specs.declared.edit.Edit.{Edit}
-use Rattle.wk_session.specs.declared.edit.Edit.TheVariants.{Ty, StripCustom}
+use Rattle.wk_session.specs.declared.edit.Edit.TheVariants.{Ty, StripCustom, SetCustom, StripAll}
 use Rattle.wk_edit.specs.declared.fault.ScriptFault.{ScriptFault}
 use Rattle.wk_edit.specs.declared.fault.ScriptFault.TheVariants.{BadWord, NotAscii, Memory}
 use Rattle.wk_edit.specs.Pieces.{pieces}
@@ -43,12 +43,19 @@ pub record IsHexName (word name : List ℕ) : Type 0 where
 abbrev pub SpellsName : List ℕ → List ℕ → Type 0
 SpellsName word name = IsPlainName word name ⊎ IsHexName word name
 
+-- `-` for no bytes, or two hexadecimal digits of either case for each
+abbrev pub SpellsData : List ℕ → List ℕ → Type 0
+SpellsData word bytes = ((word ≡ codes "-") × (bytes ≡ [])) ⊎ ((word ≢ []) × (decode_of word ≡ Ok bytes))
+
 -- ---- lines
 
 -- the words of a line spell the edit
 abbrev pub SpellsEdit : List (List ℕ) → Edit → Type 0
 SpellsEdit words (Ty t) = words ≡ codes "type" ∷ types_word t.params ∷ types_word t.results ∷ []
 SpellsEdit words (StripCustom name) = (word : List ℕ) × (words ≡ codes "custom" ∷ codes "strip" ∷ word ∷ []) × SpellsName word name
+SpellsEdit words (SetCustom name bytes) =
+    (word digits : List ℕ) × (words ≡ codes "custom" ∷ codes "set" ∷ word ∷ digits ∷ []) × SpellsName word name × SpellsData digits bytes
+SpellsEdit words StripAll = words ≡ codes "strip" ∷ []
 
 -- the line is words parted by one space, and they spell the edit
 abbrev pub SpellsLine : List ℕ → Edit → Type 0

@@ -55,3 +55,14 @@ utf8_of (Err e) = None
 -- `x:` and the bytes in hexadecimal; else the word itself
 abbrev pub name_of : List ℕ → Option (List ℕ)
 name_of w = if bytes_eq (take 2 w) (codes "x:") then utf8_of (decode_of (drop 2 w)) else if is_plain w then Some w else None
+
+-- ---- bytes
+
+-- the bytes that were spelled in hexadecimal, if they were
+abbrev pub spelled_of : Result (List ℕ) FromHexError → Option (List ℕ)
+spelled_of (Ok bytes) = Some bytes
+spelled_of (Err e) = None
+
+-- `-` is no bytes; else there is one at least, and each is two hexadecimal digits
+abbrev pub data_of : List ℕ → Option (List ℕ)
+data_of w = if bytes_eq w (codes "-") then Some [] else if length w == 0 then None else spelled_of (decode_of w)

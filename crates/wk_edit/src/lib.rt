@@ -14,6 +14,7 @@ mod word;
 pub use fault::{RunFault, ScriptFault, Status};
 pub use job::edit;
 pub use script::read_script;
+pub use word::read_name;
 
 #[cfg(test)]
 mod tests_job;

@@ -3,11 +3,11 @@
 ghost use Rattle.std.specs.Prelude.{◌≡◌, IfOk, map};
 ghost use Rattle.std.specs.List.{list_any};
 ghost use Rattle.wk_edit.specs.Pieces.{pieces};
-ghost use Rattle.wk_edit.specs.Script.{custom_edit, edit_by, edit_of, is_high, line_edit, type_edit, verb_named, Reads};
+ghost use Rattle.wk_edit.specs.Script.{custom_edit, edit_by, edit_of, is_high, line_edit, set_edit, type_edit, verb_named, Reads};
 
 use crate::fault::ScriptFault;
 use crate::pieces::Pieces;
-use crate::word::{read_name, read_types};
+use crate::word::{read_data, read_name, read_types};
 use std::alloc::{AllocError, Global};
 use wk_module::FuncType;
 use wk_session::Edit;
@@ -19,6 +19,8 @@ pub(crate) enum Verb {
     TypeLine,
     /// `custom`
     CustomLine,
+    /// `strip`
+    StripLine,
 }
 
 fn read_verb(word: &[u8]) -> Option<Verb>
@@ -28,6 +30,8 @@ fn read_verb(word: &[u8]) -> Option<Verb>
         Some(Verb::TypeLine)
     } else if word == b"custom".as_slice() {
         Some(Verb::CustomLine)
+    } else if word == b"strip".as_slice() {
+        Some(Verb::StripLine)
     } else {
         None
     }
@@ -57,15 +61,35 @@ fn read_custom(alloc: Global, kind: &[u8], name: &[u8]) -> Result<Option<Edit>, 
     }
 }
 
+fn read_set(
+    alloc: Global,
+    kind: &[u8],
+    name: &[u8],
+    digits: &[u8],
+) -> Result<Option<Edit>, AllocError>
+    ensures { IfOk result (λ edit. edit ≡ set_edit kind.now name.now digits.now) }
+{
+    if kind != b"set".as_slice() {
+        return Ok(None);
+    }
+    let Some(name) = read_name(alloc, name)? else {
+        return Ok(None);
+    };
+    let Some(bytes) = read_data(alloc, digits)? else {
+        return Ok(None);
+    };
+    Ok(Some(Edit::SetCustom { name, bytes }))
+}
+
 fn read_edit(alloc: Global, verb: Verb, words: &[&[u8]]) -> Result<Option<Edit>, AllocError>
     ensures { IfOk result (λ edit. edit ≡ edit_by verb (map (λ w. w.now) words.now)) }
 {
-    let [second, third] = *words else {
-        return Ok(None);
-    };
-    match verb {
-        Verb::TypeLine => read_ty(alloc, second, third),
-        Verb::CustomLine => read_custom(alloc, second, third),
+    match (verb, words) {
+        (Verb::TypeLine, &[params, results]) => read_ty(alloc, params, results),
+        (Verb::CustomLine, &[kind, name]) => read_custom(alloc, kind, name),
+        (Verb::CustomLine, &[kind, name, digits]) => read_set(alloc, kind, name, digits),
+        (Verb::StripLine, &[]) => Ok(Some(Edit::StripAll)),
+        _ => Ok(None),
     }
 }
 

@@ -35,6 +35,9 @@ fn read_lines(alloc: Global, bytes: &[u8]) -> Result<Vec<Edit>, ScriptFault>
 ///   or `i32`, `i64`, `f32` and `f64` joined by `,`.
 /// - `custom strip NAME` removes the custom sections of that name. NAME is a word that does not
 ///   begin with `x:`, or `x:` and the name's bytes in hexadecimal, which are UTF-8.
+/// - `custom set NAME BYTES` gives the first custom section of that name these bytes, or appends one. BYTES is `-` for none,
+///   or two hexadecimal digits for each.
+/// - `strip` removes all custom sections.
 ///
 /// A wrong line with a byte of `80` or above is S2, any other S1.
 pub fn read_script(alloc: Global, bytes: &[u8]) -> Result<Vec<Edit>, ScriptFault>

@@ -32,7 +32,7 @@ type Row = (
     &'static str,
 );
 
-const ROWS: [Row; 15] = [
+const ROWS: [Row; 18] = [
     (
         EMPTY,
         b"type - -",
@@ -61,6 +61,27 @@ const ROWS: [Row; 15] = [
         Status::Accepted,
         WITHOUT_D,
         "1 ok\nvalid\n",
+    ),
+    (
+        b"\0asm\x01\0\0\0\0\x02\x01c\x01\x04\x01\x60\0\0",
+        b"custom set c ff",
+        Status::Accepted,
+        b"\0asm\x01\0\0\0\0\x03\x01c\xff\x01\x04\x01\x60\0\0",
+        "1 ok\nvalid\n",
+    ),
+    (
+        CUSTOMS,
+        b"custom set d -\ncustom strip e\ncustom set e 00fF\n",
+        Status::Accepted,
+        b"\0asm\x01\0\0\0\0\x02\x01d\x01\x04\x01\x60\0\0\0\x02\x01d\0\x04\x01e\0\xff",
+        "1 ok\n2 ok\n3 ok\nvalid\n",
+    ),
+    (
+        CUSTOMS,
+        b"strip\nstrip\ncustom strip d\n",
+        Status::Refused,
+        ONE_TYPE,
+        "1 ok\n2 ok\n3 refused E3 NoSuchCustom\nvalid\n",
     ),
     (PADDED_TYPE, b"", Status::Accepted, ONE_TYPE, "valid\n"),
     (
@@ -109,7 +130,7 @@ const ROWS: [Row; 15] = [
     ),
     (
         TWO_RESULTS,
-        b"type - -\n\nstrip\n",
+        b"type - -\n\nstrip d\n",
         Status::BadScript,
         b"",
         "script S1 BadWord line 3\n",

@@ -30,7 +30,21 @@ const NAMES: [(&[u8], &str); 9] = [
     (b"custom strip x:20783a", " x:"),
 ];
 
-const BAD_WORDS: [(&[u8], u64); 36] = [
+const BYTES: [(&[u8], &str, &[u8]); 7] = [
+    (b"custom set c -", "c", b""),
+    (b"custom set - -", "-", b""),
+    (b"custom set c 00", "c", b"\0"),
+    (b"custom set x: fF0a", "", b"\xff\x0a"),
+    (b"custom set x:C3a9 AbcdEF\n", "\u{e9}", b"\xab\xcd\xef"),
+    (b"custom set set 7365740a", "set", b"set\n"),
+    (
+        b"\ncustom set ff 0123456789abcdef\n",
+        "ff",
+        b"\x01\x23\x45\x67\x89\xab\xcd\xef",
+    ),
+];
+
+const BAD_WORDS: [(&[u8], u64); 54] = [
     (b" ", 1),
     (b"type", 1),
     (b"type -", 1),
@@ -63,10 +77,28 @@ const BAD_WORDS: [(&[u8], u64); 36] = [
     (b"custom strip x:6g", 1),
     (b"custom strip x:ff", 1),
     (b"custom strip x:C3", 1),
-    (b"custom set a -", 1),
-    (b"strip", 1),
+    (b"custom set", 1),
+    (b"custom set a", 1),
+    (b"custom set a ", 1),
+    (b"custom set a  -", 1),
+    (b"custom set a - -", 1),
+    (b"custom set a --", 1),
+    (b"custom set a 0", 1),
+    (b"custom set a 012", 1),
+    (b"custom set a 0g", 1),
+    (b"custom set a -00", 1),
+    (b"custom set a 0x00", 1),
+    (b"custom set a x:00", 1),
+    (b"custom set a 00 ", 1),
+    (b"custom set x:f 00", 1),
+    (b"custom set x:ff 00", 1),
+    (b"custom Set a 00", 1),
+    (b"strip ", 1),
+    (b" strip", 1),
+    (b"strip a", 1),
+    (b"Strip", 1),
     (b"\n\ntype - -\n\ncustom\n", 5),
-    (b"custom strip a\ncustom\nstrip\n", 2),
+    (b"custom strip a\ncustom\nstrips\n", 2),
 ];
 
 const HIGH_BYTES: [(&[u8], ScriptFault); 7] = [
@@ -92,7 +124,7 @@ fn reads_types(rt: HostRuntime) -> Result<(), Fail> {
                 assert_eq!(rt; ty.params.as_slice(), params, "{script:?}");
                 assert_eq!(rt; ty.results.as_slice(), results, "{script:?}");
             }
-            Edit::StripCustom(_) => assert!(rt; false, "{script:?}"),
+            _ => assert!(rt; false, "{script:?}"),
         }
     }
     Ok(())
@@ -105,9 +137,27 @@ fn reads_names(rt: HostRuntime) -> Result<(), Fail> {
         assert_eq!(rt; edits.len(), 1, "{script:?}");
         match &edits[0] {
             Edit::StripCustom(found) => assert_eq!(rt; found.as_str(), name, "{script:?}"),
-            Edit::Ty(_) => assert!(rt; false, "{script:?}"),
+            _ => assert!(rt; false, "{script:?}"),
         }
     }
+    Ok(())
+}
+
+#[test]
+fn reads_bytes(rt: HostRuntime) -> Result<(), Fail> {
+    for (script, called, wanted) in BYTES {
+        let edits = read_script(rt.alloc(), script).ok().ok_or("a script")?;
+        assert_eq!(rt; edits.len(), 1, "{script:?}");
+        match &edits[0] {
+            Edit::SetCustom { name, bytes } => {
+                assert_eq!(rt; name.as_str(), called, "{script:?}");
+                assert_eq!(rt; bytes.as_slice(), wanted, "{script:?}");
+            }
+            _ => assert!(rt; false, "{script:?}"),
+        }
+    }
+    let edits = read_script(rt.alloc(), b"strip\n").ok().ok_or("a script")?;
+    assert!(rt; matches!(edits.as_slice(), [Edit::StripAll]));
     Ok(())
 }
 

@@ -1,10 +1,10 @@
-//! The words of a script's line: types and names.
+//! The words of a script's line: types, names and bytes.
 
 ghost use Rattle.std.specs.Prelude.{◌≡◌, IfOk, true};
 ghost use Rattle.std.specs.List.{list_all};
 ghost use Rattle.std.specs.Str.{IsUtf8};
 ghost use Rattle.hex.specs.Hex.{decode_of};
-ghost use Rattle.wk_edit.specs.Words.{is_graphic, is_plain, name_of, type_named, types_of, utf8_of};
+ghost use Rattle.wk_edit.specs.Words.{data_of, is_graphic, is_plain, name_of, type_named, types_of, utf8_of};
 
 use crate::pieces::Pieces;
 use hex::FromHexError;
@@ -74,7 +74,7 @@ fn is_plain(word: &[u8]) -> bool
 
 /// The name of a word: where that begins with `x:` the UTF-8 that its hexadecimal digits spell,
 /// else the word itself. `None` where it has none.
-pub(crate) fn read_name(alloc: Global, word: &[u8]) -> Result<Option<Text>, AllocError>
+pub fn read_name(alloc: Global, word: &[u8]) -> Result<Option<Text>, AllocError>
     ensures { IfOk result (λ name. name ≡ name_of word.now) }
 {
     if let Some(digits) = word.strip_prefix(b"x:") {
@@ -85,6 +85,23 @@ pub(crate) fn read_name(alloc: Global, word: &[u8]) -> Result<Option<Text>, Allo
     }
     match str::from_utf8(word) {
         Ok(text) => Ok(Some(Text::from_string(String::from_str(alloc, text)?))),
+        Err(_) => Ok(None),
+    }
+}
+
+/// The bytes of a word: none for `-`, else those that its hexadecimal digits spell. `None` where it is neither.
+pub(crate) fn read_data(alloc: Global, spelled: &[u8]) -> Result<Option<Items<u8>>, AllocError>
+    ensures { IfOk result (λ bytes. bytes ≡ data_of spelled.now) }
+{
+    if spelled == b"-".as_slice() {
+        return Ok(Some(Items::new(alloc)));
+    }
+    if spelled.is_empty() {
+        return Ok(None);
+    }
+    match hex::decode(alloc, spelled) {
+        Ok(bytes) => Ok(Some(Items::from_vec(bytes))),
+        Err(FromHexError::OutOfMemory) => Err(AllocError),
         Err(_) => Ok(None),
     }
 }
