@@ -7,8 +7,11 @@ use Rattle.wk_bytes.specs.declared.fault.ReadKind.{ReadKind}
 use Rattle.wk_bytes.specs.declared.fault.ReadKind.TheVariants as ReadKind
 use Rattle.wk_bytes.specs.declared.fault.ReadFault.{ReadFault}
 use Rattle.wk_module.specs.declared.types.Parts.{Parts}
-use Rattle.wk_module.specs.Modules.{Spells, SpellsNone, StandsInModule}
-use Rattle.wk_module.specs.Reading.{FailsAs, module_at}
+use Rattle.wk_bytes.specs.Stands.{StandsIn}
+use Rattle.wk_body.specs.declared.types.Profile.{Profile}
+use Rattle.wk_body.specs.Reads.{FailsAs}
+use Rattle.wk_module.specs.Modules.{Spells, SpellsNone}
+use Rattle.wk_module.specs.Reading.{module_at}
 use Rattle.wk_module.specs.Writing.{encoded}
 use Rattle.wk_check.specs.declared.fault.Verdict.{Verdict}
 use Rattle.wk_check.specs.Verdict.{module_verdict}
@@ -69,13 +72,13 @@ module _ (m n : Parts) (es : List Edit) (rs : List (Result Work EditFault)) (v :
 
 -- ---- the outcome by what was read
 
-pub outcome_ran : (input script : List ℕ) (m : Parts) (s : Result (List Edit) ScriptFault) → module_at input ≡ Ok m → script_of script ≡ s → outcome_of input script ≡ outcome_on m s
+pub outcome_ran : (profile : Profile) (input script : List ℕ) (m : Parts) (s : Result (List Edit) ScriptFault) → module_at profile input ≡ Ok m → script_of script ≡ s → outcome_of profile input script ≡ outcome_on m s
 unfolding outcome_of
-outcome_ran input script m s read said = rw (read, said) refl
+outcome_ran profile input script m s read said = rw (read, said) refl
 
-outcome_malformed : (input script : List ℕ) (e : ReadFault) → module_at input ≡ Err e → outcome_of input script ≡ malformed_outcome e
+outcome_malformed : (profile : Profile) (input script : List ℕ) (e : ReadFault) → module_at profile input ≡ Err e → outcome_of profile input script ≡ malformed_outcome e
 unfolding outcome_of
-outcome_malformed input script e read = rw read refl
+outcome_malformed profile input script e read = rw read refl
 
 other_fault : (e : ReadFault) (k : ReadKind) (read : Result Parts ReadFault) → k ≢ ReadKind.Memory → FailsAs e k read → read ≡ Err e
 other_fault e ReadKind.Memory read other fails = absurd (other refl)
@@ -83,26 +86,26 @@ other_fault e _ read other fails = fails
 
 -- ---- what `prepare` answers
 
-module _ (input script : List ℕ) where
-  pub malformed_ok : (r : Result Prepared RunFault) (e : ReadFault) → IfOk r (IsPrepared (malformed_outcome e)) → OnOk r (e.kind ≢ ReadKind.Memory) → FailsAs e e.kind (module_at input) → IfOk r (IsPrepared (outcome_of input script))
-  malformed_ok (Ok p) e is other fails = subst (λ (o : Outcome). IsPrepared o p) (sym (outcome_malformed input script e (other_fault e e.kind (module_at input) other fails))) is
+module _ (profile : Profile) (input script : List ℕ) where
+  pub malformed_ok : (r : Result Prepared RunFault) (e : ReadFault) → IfOk r (IsPrepared (malformed_outcome e)) → OnOk r (e.kind ≢ ReadKind.Memory) → FailsAs e e.kind (module_at profile input) → IfOk r (IsPrepared (outcome_of profile input script))
+  malformed_ok (Ok p) e is other fails = subst (λ (o : Outcome). IsPrepared o p) (sym (outcome_malformed profile input script e (other_fault e e.kind (module_at profile input) other fails))) is
   malformed_ok (Err f) e is other fails = tt
 
-  pub malformed_means : (r : Result Prepared RunFault) (e : ReadFault) → OnOk r (e.kind ≢ ReadKind.Memory) → FailsAs e e.kind (module_at input) → (e.kind ≢ ReadKind.Memory → SpellsNone input) → StandsInModule input e → OnOk r (IsReport input script (outcome_of input script))
-  malformed_means (Ok p) e other fails none stands = inl (none other, (e, stands, outcome_malformed input script e (other_fault e e.kind (module_at input) other fails)))
+  pub malformed_means : (r : Result Prepared RunFault) (e : ReadFault) → OnOk r (e.kind ≢ ReadKind.Memory) → FailsAs e e.kind (module_at profile input) → (e.kind ≢ ReadKind.Memory → SpellsNone profile input) → StandsIn input e → OnOk r (IsReport profile input script (outcome_of profile input script))
+  malformed_means (Ok p) e other fails none stands = inl (none other, (e, stands, outcome_malformed profile input script e (other_fault e e.kind (module_at profile input) other fails)))
   malformed_means (Err f) e other fails none stands = tt
 
-  pub ran_ok : (r : Result Prepared RunFault) (m : Parts) (s : Result (List Edit) ScriptFault) → IfOk r (IsPrepared (outcome_on m s)) → module_at input ≡ Ok m → script_of script ≡ s → IfOk r (IsPrepared (outcome_of input script))
-  ran_ok r m s is read said = subst (λ (o : Outcome). IfOk r (IsPrepared o)) (sym (outcome_ran input script m s read said)) is
+  pub ran_ok : (r : Result Prepared RunFault) (m : Parts) (s : Result (List Edit) ScriptFault) → IfOk r (IsPrepared (outcome_on m s)) → module_at profile input ≡ Ok m → script_of script ≡ s → IfOk r (IsPrepared (outcome_of profile input script))
+  ran_ok r m s is read said = subst (λ (o : Outcome). IfOk r (IsPrepared o)) (sym (outcome_ran profile input script m s read said)) is
 
-  pub ran_means : (r : Result Prepared RunFault) (m : Parts) (es : List Edit) → Spells input m → module_at input ≡ Ok m → IsScript script es → script_of script ≡ Ok es → OnOk r (IsReport input script (outcome_of input script))
-  ran_means (Ok p) m es spelled read is said = inr (m, spelled, inl (es, is, outcome_ran input script m (Ok es) read said))
-  ran_means (Err e) m es spelled read is said = tt
+  pub ran_means : (r : Result Prepared RunFault) (m : Parts) (es : List Edit) → m.profile ≡ profile → Spells input m → module_at profile input ≡ Ok m → IsScript script es → script_of script ≡ Ok es → OnOk r (IsReport profile input script (outcome_of profile input script))
+  ran_means (Ok p) m es of spelled read is said = inr (m, of, spelled, inl (es, is, outcome_ran profile input script m (Ok es) read said))
+  ran_means (Err e) m es of spelled read is said = tt
 
-  pub script_means : (r : Result Prepared RunFault) (m : Parts) (f : ScriptFault) → OnOk r (f ≢ ScriptFault.Memory) → Spells input m → module_at input ≡ Ok m → (f ≢ ScriptFault.Memory → script_of script ≡ Err f) → (f ≢ ScriptFault.Memory → IsNoScript script) → (f ≢ ScriptFault.Memory → IsFaultOf script f) → OnOk r (IsReport input script (outcome_of input script))
-  script_means (Ok p) m f other spelled read said none faulty = inr (m, spelled, inr (f, none other, faulty other, outcome_ran input script m (Err f) read (said other)))
-  script_means (Err e) m f other spelled read said none faulty = tt
+  pub script_means : (r : Result Prepared RunFault) (m : Parts) (f : ScriptFault) → OnOk r (f ≢ ScriptFault.Memory) → m.profile ≡ profile → Spells input m → module_at profile input ≡ Ok m → (f ≢ ScriptFault.Memory → script_of script ≡ Err f) → (f ≢ ScriptFault.Memory → IsNoScript script) → (f ≢ ScriptFault.Memory → IsFaultOf script f) → OnOk r (IsReport profile input script (outcome_of profile input script))
+  script_means (Ok p) m f other of spelled read said none faulty = inr (m, of, spelled, inr (f, none other, faulty other, outcome_ran profile input script m (Err f) read (said other)))
+  script_means (Err e) m f other of spelled read said none faulty = tt
 
-  pub script_ok : (r : Result Prepared RunFault) (m : Parts) (f : ScriptFault) → IfOk r (IsPrepared (script_outcome f)) → OnOk r (f ≢ ScriptFault.Memory) → module_at input ≡ Ok m → (f ≢ ScriptFault.Memory → script_of script ≡ Err f) → IfOk r (IsPrepared (outcome_of input script))
-  script_ok (Ok p) m f is other read said = subst (λ (o : Outcome). IsPrepared o p) (sym (outcome_ran input script m (Err f) read (said other))) is
+  pub script_ok : (r : Result Prepared RunFault) (m : Parts) (f : ScriptFault) → IfOk r (IsPrepared (script_outcome f)) → OnOk r (f ≢ ScriptFault.Memory) → module_at profile input ≡ Ok m → (f ≢ ScriptFault.Memory → script_of script ≡ Err f) → IfOk r (IsPrepared (outcome_of profile input script))
+  script_ok (Ok p) m f is other read said = subst (λ (o : Outcome). IsPrepared o p) (sym (outcome_ran profile input script m (Err f) read (said other))) is
   script_ok (Err e) m f is other read said = tt

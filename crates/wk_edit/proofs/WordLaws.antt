@@ -12,8 +12,8 @@ use Rattle.std.proofs.lemmas.Str.{is_utf8-from_IsUtf8, IsUtf8-from_is_utf8}
 use Rattle.hex.specs.Hex.{decode_of, is_hex_digit}
 use Rattle.hex.specs.declared.error.FromHexError.{FromHexError}
 use Rattle.hex.proofs.HexLemmas.{decode_of-ok}
-use Rattle.wk_module.specs.declared.types.ValType.{ValType}
-use Rattle.wk_module.specs.declared.types.ValType.TheVariants.{I32, I64, F32, F64}
+use Rattle.wk_body.specs.declared.types.ValType.{ValType}
+use Rattle.wk_body.specs.declared.types.ValType.TheVariants.{I32, I64, F32, F64}
 use Rattle.wk_edit.specs.Pieces.{pieces}
 use Rattle.wk_edit.specs.Words.{◌>>=◌, type_named, all_named, types_of, is_graphic, is_plain, utf8_of, name_of, spelled_of, data_of}
 use Rattle.wk_edit.specs.ScriptGrammar.{type_name, types_word, IsPlainName, IsHexName, SpellsName, SpellsData}

@@ -5,7 +5,9 @@ use Rattle.std.specs.Io.KnownBytes.{Appends}
 use Rattle.wk_bytes.specs.declared.fault.ReadFault.{ReadFault}
 use Rattle.wk_bytes.specs.Taken.{TakesFront}
 use Rattle.wk_module.specs.declared.types.Parts.{Parts}
-use Rattle.wk_module.specs.Modules.{Spells, SpellsNone, StandsInModule}
+use Rattle.wk_bytes.specs.Stands.{StandsIn}
+use Rattle.wk_body.specs.declared.types.Profile.{Profile}
+use Rattle.wk_module.specs.Modules.{Spells, SpellsNone}
 use Rattle.wk_module.specs.Reading.{module_at}
 use Rattle.wk_module.specs.Writing.{encoded}
 use Rattle.wk_check.specs.declared.fault.Verdict.{Verdict}
@@ -68,8 +70,8 @@ outcome_by (Ok m) script = outcome_on m script
 outcome_by (Err fault) script = malformed_outcome fault
 
 -- the module is read first, then the script
-unfoldable pub outcome_of : List ℕ → List ℕ → Outcome
-outcome_of input script = outcome_by (module_at input) (script_of script)
+unfoldable pub outcome_of : Profile → List ℕ → List ℕ → Outcome
+outcome_of profile input script = outcome_by (module_at profile input) (script_of script)
 
 -- ---- in the words of the grammars
 
@@ -79,11 +81,11 @@ IsReportOn m script o =
     ((edits : List Edit) × IsScript script edits × (o ≡ run_outcome m edits))
     ⊎ ((fault : ScriptFault) × IsNoScript script × IsFaultOf script fault × (o ≡ script_outcome fault))
 
--- The input spells no module, and the report names a fault that stands in it; or it spells a module.
-abbrev pub IsReport : List ℕ → List ℕ → Outcome → Type 0
-IsReport input script o =
-    (SpellsNone input × ((fault : ReadFault) × StandsInModule input fault × (o ≡ malformed_outcome fault)))
-    ⊎ ((m : Parts) × Spells input m × IsReportOn m script o)
+-- The input spells no module of the profile, and the report names a fault that stands in it; or it spells a module.
+abbrev pub IsReport : Profile → List ℕ → List ℕ → Outcome → Type 0
+IsReport profile input script o =
+    (SpellsNone profile input × ((fault : ReadFault) × StandsIn input fault × (o ≡ malformed_outcome fault)))
+    ⊎ ((m : Parts) × (m.profile ≡ profile) × Spells input m × IsReportOn m script o)
 
 -- ---- statuses
 

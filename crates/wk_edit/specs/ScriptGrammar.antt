@@ -3,8 +3,8 @@ use Rattle.std.specs.Prelude.{◌≡◌, ◌≢◌, ◌⊎◌, ℕ, ◌+◌, Boo
 use Rattle.std.specs.List.{AllPass, join_with_byte, list_any}
 use Rattle.std.specs.Str.{IsUtf8}
 use Rattle.hex.specs.Hex.{decode_of}
-use Rattle.wk_module.specs.declared.types.ValType.{ValType}
-use Rattle.wk_module.specs.declared.types.ValType.TheVariants.{I32, I64, F32, F64}
+use Rattle.wk_body.specs.declared.types.ValType.{ValType}
+use Rattle.wk_body.specs.declared.types.ValType.TheVariants.{I32, I64, F32, F64}
 use Rattle.wk_session.specs.declared.edit.Edit.{Edit}
 use Rattle.wk_session.specs.declared.edit.Edit.TheVariants.{Ty, StripCustom, SetCustom, StripAll}
 use Rattle.wk_edit.specs.declared.fault.ScriptFault.{ScriptFault}

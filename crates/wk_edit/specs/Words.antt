@@ -4,8 +4,8 @@ use Rattle.std.specs.List.{list_all}
 use Rattle.std.specs.Str.{bytes_eq, is_utf8}
 use Rattle.hex.specs.Hex.{decode_of}
 use Rattle.hex.specs.declared.error.FromHexError.{FromHexError}
-use Rattle.wk_module.specs.declared.types.ValType.{ValType}
-use Rattle.wk_module.specs.declared.types.ValType.TheVariants.{I32, I64, F32, F64}
+use Rattle.wk_body.specs.declared.types.ValType.{ValType}
+use Rattle.wk_body.specs.declared.types.ValType.TheVariants.{I32, I64, F32, F64}
 use Rattle.wk_edit.specs.Pieces.{pieces}
 
 -- the `?` of options

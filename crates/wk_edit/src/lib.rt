@@ -12,7 +12,7 @@ mod script;
 mod word;
 
 pub use fault::{RunFault, ScriptFault, Status};
-pub use job::edit;
+pub use job::{edit, edit_in};
 pub use script::read_script;
 pub use word::read_name;
 

@@ -12,6 +12,7 @@ use crate::script::read_script;
 use std::alloc::Global;
 use wk_bytes::{ReadFault, ReadKind};
 use wk_check::Verdict;
+use wk_module::Profile;
 use wk_session::{Edit, EditFault, Reply, Session};
 
 /// What is to be written.
@@ -104,12 +105,17 @@ fn of_run(alloc: Global, session: Session, edits: &[Edit]) -> Result<Prepared, R
 }
 
 /// Reads the module and then the script, makes the edits, and puts the report together.
-pub(crate) fn prepare(alloc: Global, input: &[u8], script: &[u8]) -> Result<Prepared, RunFault>
-    ensures ok { IfOk result (IsPrepared (outcome_of input.now script.now)) }
-    ensures means { OnOk result (IsReport input.now script.now (outcome_of input.now script.now)) }
+pub(crate) fn prepare(
+    alloc: Global,
+    input: &[u8],
+    script: &[u8],
+    profile: Profile,
+) -> Result<Prepared, RunFault>
+    ensures ok { IfOk result (IsPrepared (outcome_of profile input.now script.now)) }
+    ensures means { OnOk result (IsReport profile input.now script.now (outcome_of profile input.now script.now)) }
     ensures memory { IfErr result (λ e. e ≡ RunFault.Memory) }
 {
-    let session = match Session::open(alloc, input) {
+    let session = match Session::open_in(alloc, input, profile) {
         Ok(session) => session,
         Err(fault) => return of_malformed(alloc, &fault),
     };
