@@ -2,8 +2,8 @@
 ghost use Rattle.std.specs.Prelude.{◌≡◌, IfOk, string_bytes};
 ghost use Rattle.std.specs.List.{list_any};
 ghost use Rattle.wk_bytes.specs.Frames.{sections_of};
-ghost use Rattle.wk_bytes.specs.Raw.{raw_view};
-ghost use Rattle.wasmkit.specs.Listing.{is_fault, listing, malformed_line, section_line, section_name};
+ghost use Rattle.wk_bytes.specs.Raw.{item_view, raw_view};
+ghost use Rattle.wasmkit.specs.Listing.{is_fault, item_line, listing, malformed_line, section_line, section_name};
 
 use std::alloc::{AllocError, Global};
 use wk_bytes::{RawSection, ReadFault, Sections};
@@ -55,6 +55,15 @@ pub fn malformed_line(alloc: Global, fault: &ReadFault) -> Result<String, AllocE
     format!(in alloc; "malformed {fault}\n")
 }
 
+fn item_line(alloc: Global, item: &Result<RawSection<'_>, ReadFault>) -> Result<String, AllocError>
+    ensures { IfOk result (λ line. string_bytes line ≡ item_line (item_view item.now)) }
+{
+    match item {
+        Ok(section) => section_line(alloc, section),
+        Err(fault) => malformed_line(alloc, fault),
+    }
+}
+
 /// Lists the sections that stand in the bytes, and then the fault of their frames.
 pub fn list_sections(alloc: Global, bytes: &[u8]) -> Result<Listing, AllocError>
     ensures text { IfOk result (λ l. string_bytes l.text ≡ listing (sections_of bytes.now)) }
@@ -63,14 +72,9 @@ pub fn list_sections(alloc: Global, bytes: &[u8]) -> Result<Listing, AllocError>
     let mut text = String::new(alloc);
     let mut has_fault = false;
     for item in Sections::new(bytes) {
-        let line = match &item {
-            Ok(section) => section_line(alloc, section)?,
-            Err(fault) => {
-                has_fault = true;
-                malformed_line(alloc, fault)?
-            }
-        };
+        let line = item_line(alloc, &item)?;
         text.push_str(line.as_str())?;
+        has_fault |= item.is_err();
     }
     Ok(Listing { text, has_fault })
 }
