@@ -5,6 +5,7 @@ use clap::{Arg, ArgAction, ArgMatches, Command};
 use std::alloc::{AllocError, Global};
 use wk_bytes::Text;
 use wk_edit::read_name;
+use wk_module::Profile;
 
 /// What the words ask for.
 #[derive(Drop)]
@@ -17,9 +18,11 @@ pub enum Asked<'a> {
     Strip(StripCommand<'a>),
 }
 
-/// `edit FILE SCRIPT OUT`: the names of files, as they stand.
+/// `edit [--extended] FILE SCRIPT OUT`: the names of files, as they stand.
 #[derive(Clone, Copy, Debug)]
 pub struct EditCommand<'a> {
+    /// The profile that the module is read in.
+    pub profile: Profile,
     /// The module.
     pub file: &'a str,
     /// The script.
@@ -33,8 +36,8 @@ pub struct EditCommand<'a> {
 pub struct StripCommand<'a> {
     /// The name of the custom sections that stay.
     pub keep: Option<Text>,
-    /// Whether the module is read with the instructions that came after WebAssembly 1.0.
-    pub is_extended: bool,
+    /// The profile that the module is read in.
+    pub profile: Profile,
     /// The module.
     pub file: &'a str,
     /// Where the stripped module goes.
@@ -48,9 +51,27 @@ fn word<'a>(alloc: Global, id: &'static str, help: &'static str) -> Arg<'a> {
         .help(help)
 }
 
+// `--extended`, the option of commands that read a module.
+fn extended<'a>(alloc: Global) -> Arg<'a> {
+    Arg::new(alloc, "extended")
+        .long("extended")
+        .action(ArgAction::SetTrue)
+        .help("reads sign extension, and blocks of any function type, as well")
+}
+
+// The profile that was asked for.
+fn profile_of(found: &ArgMatches<'_>) -> Profile {
+    if found.get_flag("extended") {
+        Profile::Extended
+    } else {
+        Profile::Core
+    }
+}
+
 fn edit_command<'a>(alloc: Global) -> Result<Command<'a>, AllocError> {
     Command::new(alloc, "edit")
         .about("Makes the edits of a script on a module")
+        .arg(extended(alloc))?
         .arg(word(alloc, "FILE", "the module"))?
         .arg(word(alloc, "SCRIPT", "the edits, one a line"))?
         .arg(word(alloc, "OUT", "where the edited module goes"))
@@ -67,16 +88,11 @@ fn strip_command<'a>(alloc: Global) -> Result<Command<'a>, AllocError> {
         .long("keep")
         .value_name("NAME")
         .action(ArgAction::Set)
-        .allow_hyphen_values(true)
         .help("keeps the custom sections of this name");
-    let extended = Arg::new(alloc, "extended")
-        .long("extended")
-        .action(ArgAction::SetTrue)
-        .help("knows the instructions that came after WebAssembly 1.0");
     Command::new(alloc, "strip")
         .about("Removes the custom sections of a module")
         .arg(keep)?
-        .arg(extended)?
+        .arg(extended(alloc))?
         .arg(word(alloc, "FILE", "the module"))?
         .arg(word(alloc, "OUT", "where the stripped module goes"))
 }
@@ -102,7 +118,12 @@ fn read_edit<'a>(found: &ArgMatches<'a>) -> Result<EditCommand<'a>, ProgramFault
     if out == file || out == script {
         return Err(ProgramFault::BadWords);
     }
-    Ok(EditCommand { file, script, out })
+    Ok(EditCommand {
+        profile: profile_of(found),
+        file,
+        script,
+        out,
+    })
 }
 
 // The name to keep, spelled as in a script.
@@ -128,7 +149,7 @@ fn read_strip<'a>(
     }
     Ok(StripCommand {
         keep: read_keep(alloc, found.get_str("keep"))?,
-        is_extended: found.get_flag("extended"),
+        profile: profile_of(found),
         file,
         out,
     })

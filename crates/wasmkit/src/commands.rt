@@ -1,6 +1,5 @@
 //! The commands.
-ghost use Rattle.std.specs.Prelude.{◌-◌, ◌<◌, ◌^◌, IfOk};
-ghost use Rattle.wk_module.specs.Writing.{Fits};
+ghost use Rattle.std.specs.Prelude.{◌-◌, ◌<◌, ◌^◌};
 
 use crate::command::{Asked, EditCommand, StripCommand, read_words};
 use crate::fault::ProgramFault;
@@ -8,8 +7,8 @@ use crate::listing::{Listing, list_sections, malformed_line};
 use crate::store::Store;
 use std::alloc::Global;
 use wk_bytes::{Out, ReadFault, ReadKind, Sink, put_all};
-use wk_edit::{Status, edit};
-use wk_module::{EncodeFault, Module, encode, read};
+use wk_edit::{Status, edit_in};
+use wk_module::{EncodeFault, encode, read_in};
 use wk_session::stripped;
 
 // Makes the edits of a script on a module: OUT is made once all is computed, and the report is printed behind it.
@@ -22,6 +21,7 @@ fn run_edit<'a, S: Store, X: Out>(
     requires { X.failed out.old < 2 ^ 64 - 1 }
 {
     let EditCommand {
+        profile,
         file,
         script: script_file,
         out: out_file,
@@ -34,7 +34,7 @@ fn run_edit<'a, S: Store, X: Out>(
         .map_err(|fault| ProgramFault::of_load(fault, script_file))?;
     let mut module = Sink::new(Vec::new(alloc));
     let mut report = Sink::new(Vec::new(alloc));
-    let status = edit(alloc, &input, &script, &mut module, &mut report)?;
+    let status = edit_in(alloc, &input, &script, profile, &mut module, &mut report)?;
     if let Status::Accepted | Status::Refused = status {
         let bytes = module.into_inner();
         store
@@ -61,13 +61,6 @@ fn run_sections<'a, S: Store, X: Out>(
     let Listing { text, has_fault } = list_sections(alloc, &input)?;
     put_all(out, text.as_bytes()).map_err(|_| ProgramFault::Output)?;
     Ok(if has_fault { 2 } else { 0 })
-}
-
-// Reads the module of a command: here each command says with which instructions.
-fn read_module(alloc: Global, input: &[u8], _is_extended: bool) -> Result<Module, ReadFault>
-    ensures { IfOk result (λ m. Fits m) }
-{
-    read(alloc, input)
 }
 
 // Prints why the input is no module.
@@ -97,14 +90,14 @@ fn run_strip<'a, S: Store, X: Out>(
 {
     let StripCommand {
         keep,
-        is_extended,
+        profile,
         file,
         out: out_file,
     } = command;
     let input = store
         .load(file)
         .map_err(|fault| ProgramFault::of_load(fault, file))?;
-    let module = match read_module(alloc, &input, is_extended) {
+    let module = match read_in(alloc, &input, profile) {
         Ok(module) => stripped(module, keep.as_ref()),
         Err(fault) => return refuse_module(alloc, &fault, out),
     };
