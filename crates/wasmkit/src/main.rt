@@ -44,3 +44,5 @@ fn main(rt: HostRuntime) -> io::Result<ExitCode> {
 
 #[cfg(test)]
 mod tests;
+#[cfg(test)]
+mod tests_strip;

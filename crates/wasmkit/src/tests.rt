@@ -4,26 +4,27 @@ use std::alloc::Global;
 use std::test::Fail;
 use wk_bytes::{Out, OutFault, Sink};
 
-const EMPTY: &[u8] = b"\0asm\x01\0\0\0";
+pub(crate) const EMPTY: &[u8] = b"\0asm\x01\0\0\0";
 
-const ONE_TYPE: &[u8] = b"\0asm\x01\0\0\0\x01\x04\x01\x60\0\0";
+pub(crate) const ONE_TYPE: &[u8] = b"\0asm\x01\0\0\0\x01\x04\x01\x60\0\0";
 
-const TWO_RESULTS: &[u8] = b"\0asm\x01\0\0\0\x01\x07\x01\x60\x01\x7f\x02\x7f\x7f";
+pub(crate) const TWO_RESULTS: &[u8] = b"\0asm\x01\0\0\0\x01\x07\x01\x60\x01\x7f\x02\x7f\x7f";
 
-const BAD_NAME: &[u8] = b"\0asm\x01\0\0\0\0\x02\x01\xff";
+pub(crate) const BAD_NAME: &[u8] = b"\0asm\x01\0\0\0\0\x02\x01\xff";
 
-const CUSTOMS: &[u8] = b"\0asm\x01\0\0\0\0\x03\x01d\x01\x01\x04\x01\x60\0\0\0\x02\x01e\0\x02\x01d";
+pub(crate) const CUSTOMS: &[u8] =
+    b"\0asm\x01\0\0\0\0\x03\x01d\x01\x01\x04\x01\x60\0\0\0\x02\x01e\0\x02\x01d";
 
 const WITHOUT_D: &[u8] = b"\0asm\x01\0\0\0\x01\x04\x01\x60\0\0\0\x02\x01e";
 
 // Two files, and what was saved.
 #[derive(Drop)]
-struct Shelf {
+pub(crate) struct Shelf {
     alloc: Global,
     module: &'static [u8],
     script: &'static str,
     is_full: bool,
-    saved: Option<Vec<u8>>,
+    pub saved: Option<Vec<u8>>,
 }
 
 impl Store for Shelf {
@@ -72,7 +73,7 @@ impl Out for Closed {
     }
 }
 
-fn stocked(alloc: Global, module: &'static [u8], script: &'static str) -> Shelf {
+pub(crate) fn stocked(alloc: Global, module: &'static [u8], script: &'static str) -> Shelf {
     Shelf {
         alloc,
         module,
@@ -82,7 +83,7 @@ fn stocked(alloc: Global, module: &'static [u8], script: &'static str) -> Shelf 
     }
 }
 
-fn owned(alloc: Global, words: &[&str]) -> Result<Vec<String>, Fail> {
+pub(crate) fn owned(alloc: Global, words: &[&str]) -> Result<Vec<String>, Fail> {
     let mut given = Vec::new(alloc);
     for word in words {
         given.push(String::from_str(alloc, word)?)?;
@@ -168,7 +169,7 @@ fn edits(rt: HostRuntime) -> Result<(), Fail> {
 #[test]
 fn refuses_words_and_files(rt: HostRuntime) -> Result<(), Fail> {
     let alloc = rt.alloc();
-    let rows: [(&[&str], u8, &str); 14] = [
+    let rows: [(&[&str], u8, &str); 35] = [
         (
             &["edit", "none", "script", "out.wasm"],
             4,
@@ -205,6 +206,55 @@ fn refuses_words_and_files(rt: HostRuntime) -> Result<(), Fail> {
             3,
             "",
         ),
+        (&["sections", "none"], 4, "cannot read none\n"),
+        (&["sections", "large"], 5, "out of memory\n"),
+        (&["sections"], 3, ""),
+        (&["sections", "in.wasm", "more"], 3, ""),
+        (&["sections", "--extended", "in.wasm"], 3, ""),
+        (&["strip", "none", "out.wasm"], 4, "cannot read none\n"),
+        (&["strip", "large", "out.wasm"], 5, "out of memory\n"),
+        (&["strip", "in.wasm", "in.wasm"], 3, "bad command line\n"),
+        (&["strip", "none", "none"], 3, "bad command line\n"),
+        (
+            &["strip", "--keep", "x:6", "in.wasm", "out.wasm"],
+            3,
+            "bad command line\n",
+        ),
+        (
+            &["strip", "--keep", "x:ff", "none", "out.wasm"],
+            3,
+            "bad command line\n",
+        ),
+        (
+            &["strip", "--keep", "x:6g", "in.wasm", "out.wasm"],
+            3,
+            "bad command line\n",
+        ),
+        (
+            &["strip", "--keep", "a b", "in.wasm", "out.wasm"],
+            3,
+            "bad command line\n",
+        ),
+        (
+            &["strip", "--keep", "\u{e9}", "in.wasm", "out.wasm"],
+            3,
+            "bad command line\n",
+        ),
+        (
+            &["strip", "--keep", "", "in.wasm", "out.wasm"],
+            3,
+            "bad command line\n",
+        ),
+        (&["strip", "in.wasm"], 3, ""),
+        (&["strip", "in.wasm", "out.wasm", "--keep"], 3, ""),
+        (
+            &["strip", "--keep", "a", "--keep", "b", "in.wasm", "out.wasm"],
+            3,
+            "",
+        ),
+        (&["strip", "in.wasm", "out.wasm", "more"], 3, ""),
+        (&["strip", "--keep", "-c", "in.wasm", "out.wasm"], 3, ""),
+        (&["strip", "--quiet", "in.wasm", "out.wasm"], 3, ""),
         (&["paint", "in.wasm"], 3, ""),
         (&["--help"], 3, ""),
     ];
@@ -255,6 +305,31 @@ fn says_what_fails(rt: HostRuntime) -> Result<(), Fail> {
     );
     assert_eq!(rt; store.saved.as_deref(), Some(ONE_TYPE));
 
+    let words = owned(alloc, &["strip", "in.wasm", "out.wasm"])?;
+    let mut store = stocked(alloc, EMPTY, "");
+    store.is_full = true;
+    let mut out = Sink::new(Vec::new(alloc));
+    let mut err = Sink::new(Vec::new(alloc));
+    assert_eq!(rt; program(alloc, &words, &mut store, &mut out, &mut err), 4);
+    assert!(rt; out.into_inner().is_empty());
+    assert_eq!(rt;
+        err.into_inner().as_slice(),
+        b"cannot write out.wasm\n".as_slice()
+    );
+
+    let words = owned(alloc, &["sections", "in.wasm"])?;
+    let mut store = stocked(alloc, CUSTOMS, "");
+    let mut closed = Closed { failures: 0 };
+    let mut err = Sink::new(Vec::new(alloc));
+    assert_eq!(rt;
+        program(alloc, &words, &mut store, &mut closed, &mut err),
+        4
+    );
+    assert_eq!(rt;
+        err.into_inner().as_slice(),
+        b"cannot write standard output\n".as_slice()
+    );
+
     let words = owned(alloc, &["edit", "none", "script", "out.wasm"])?;
     let mut store = stocked(alloc, EMPTY, "");
     let mut out = Sink::new(Vec::new(alloc));
@@ -264,5 +339,89 @@ fn says_what_fails(rt: HostRuntime) -> Result<(), Fail> {
         4
     );
     assert_eq!(rt; closed.failures(), 1);
+    Ok(())
+}
+
+const LISTED: &str = "  Custom start=0x0000000a end=0x0000000d size=0x00000003
+    Type start=0x0000000f end=0x00000013 size=0x00000004
+  Custom start=0x00000015 end=0x00000017 size=0x00000002
+  Custom start=0x00000019 end=0x0000001b size=0x00000002
+";
+
+const ALL_SECTIONS: &[u8] =
+    b"\0asm\x01\0\0\0\x01\0\x02\0\x03\0\x04\0\x05\0\x06\0\x07\0\x08\0\x09\0\x0a\0\x0b\0\0\0";
+
+const ALL_LISTED: &str = "    Type start=0x0000000a end=0x0000000a size=0x00000000
+  Import start=0x0000000c end=0x0000000c size=0x00000000
+Function start=0x0000000e end=0x0000000e size=0x00000000
+   Table start=0x00000010 end=0x00000010 size=0x00000000
+  Memory start=0x00000012 end=0x00000012 size=0x00000000
+  Global start=0x00000014 end=0x00000014 size=0x00000000
+  Export start=0x00000016 end=0x00000016 size=0x00000000
+   Start start=0x00000018 end=0x00000018 size=0x00000000
+    Elem start=0x0000001a end=0x0000001a size=0x00000000
+    Code start=0x0000001c end=0x0000001c size=0x00000000
+    Data start=0x0000001e end=0x0000001e size=0x00000000
+  Custom start=0x00000020 end=0x00000020 size=0x00000000
+";
+
+#[test]
+fn lists_sections(rt: HostRuntime) -> Result<(), Fail> {
+    let alloc = rt.alloc();
+    let words = owned(alloc, &["sections", "in.wasm"])?;
+    let rows: [(&[u8], u8, &str); 11] = [
+        (EMPTY, 0, ""),
+        (CUSTOMS, 0, LISTED),
+        (ALL_SECTIONS, 0, ALL_LISTED),
+        (
+            b"\0asm\x01\0\0\0\x03\x01\xff",
+            0,
+            "Function start=0x0000000a end=0x0000000b size=0x00000001\n",
+        ),
+        // what stands in a section is not read
+        (
+            BAD_NAME,
+            0,
+            "  Custom start=0x0000000a end=0x0000000c size=0x00000002\n",
+        ),
+        (
+            b"\0asm\x01\0\0\0\x01\x84\x80\x80\x80\0\x01\x60\0\0",
+            0,
+            "    Type start=0x0000000e end=0x00000012 size=0x00000004\n",
+        ),
+        (b"", 2, "malformed R3 UnexpectedEnd at 0x00000000\n"),
+        (
+            b"\0asm\x01\0\0\0\x01\x80\x80\x80\x80\x10",
+            2,
+            "malformed R5 IntTooLarge at 0x00000009\n",
+        ),
+        (
+            b"\0asm\x01\0\0\0\x0b\x01\0\x01\0",
+            2,
+            "    Data start=0x0000000a end=0x0000000b size=0x00000001\nmalformed R7 SectionOrder at 0x0000000b\n",
+        ),
+        (
+            b"\0asm\x01\0\0\0\0\0\x0c\0",
+            2,
+            "  Custom start=0x0000000a end=0x0000000a size=0x00000000\nmalformed R6 UnknownSection at 0x0000000a\n",
+        ),
+        (
+            b"\0asm\x02\0\0\0",
+            2,
+            "malformed R2 BadVersion at 0x00000004\n",
+        ),
+    ];
+    for (module, status, lines) in rows {
+        let mut store = stocked(alloc, module, "");
+        let mut out = Sink::new(Vec::new(alloc));
+        let mut err = Sink::new(Vec::new(alloc));
+        let found = program(alloc, &words, &mut store, &mut out, &mut err);
+        assert_eq!(rt; found, status, "{lines}");
+        assert_eq!(rt; out.into_inner().as_slice(), lines.as_bytes(), "{lines}");
+        assert!(rt;
+            err.into_inner().is_empty() && store.saved.is_none(),
+            "{lines}"
+        );
+    }
     Ok(())
 }

@@ -1,4 +1,4 @@
-use Rattle.std.proofs.Common.{◌<◌, ◌+◌, ◌^◌, length, arith}
+use Rattle.std.proofs.Common.{◌+◌, length, arith}
 use Rattle.wk_bytes.specs.HexDigitLaws.{padded_digits}
 use Rattle.wasmkit.proofs.listing.section_line.Goals as goal
 
