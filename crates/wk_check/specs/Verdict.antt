@@ -1,4 +1,4 @@
--- The verdict of a module (3.4.10): its first fault by section, then by item.
+-- The verdict of a module (3.4.10): the first fault of its type section. The other sections are not judged yet.
 use Rattle.std.specs.Prelude.{◌≡◌, ℕ, ◌+◌, ◌<◌, ◌≤◌, nat_lt, if◌then◌else◌, Option, Some, None, List, [], ◌∷◌, ◌++◌, length, All}
 use Rattle.wk_body.specs.declared.types.Profile.{Profile}
 use Rattle.wk_body.specs.declared.types.Profile.TheVariants.{Core, Extended}
@@ -35,7 +35,7 @@ module_verdict m = verdict_by (arity_in m.profile m.types)
 
 -- ---- in the standard's words
 
--- a function type of 1.0 is valid where it has at most one result (3.2.3)
+-- a function type of 1.0 is valid where it has at most one result (3.2.2)
 abbrev pub IsValidType : FuncType → Type 0
 IsValidType t = length t.results ≤ 1
 

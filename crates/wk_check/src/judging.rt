@@ -41,7 +41,7 @@ fn verdict_of(module: &Module) -> Verdict
     }
 }
 
-/// Judges a module: valid, or the first fault by section and then by item (3.4.10).
+/// Judges the types of a module: valid, or the first fault by item (3.4.10). The other sections are not judged yet.
 ///
 /// Want of memory is the only refusal.
 pub fn judge(_alloc: Global, module: &Module) -> Result<Verdict, OutOfMemory>

@@ -79,7 +79,7 @@ IsBound (Some max) = IsU32 max
 abbrev pub AreLimits : Limits → Type 0
 AreLimits l = IsU32 l.min × IsBound l.max
 
--- ---- table types (5.3.5): the element type `70`, which is the only one, and limits
+-- ---- table types (5.3.6): the element type `70`, which is the only one, and limits
 
 abbrev pub SpellsTableType : List ℕ → Limits → Type 0
 SpellsTableType = SpellsBehind 0x70 SpellsLimits
@@ -90,7 +90,7 @@ tabletype_at = behind_at 0x70 limits_at
 abbrev pub written_tabletype : Limits → List ℕ
 written_tabletype l = 0x70 ∷ written_limits l
 
--- ---- global types (5.3.6): a value type, and whether the global may be set
+-- ---- global types (5.3.7): a value type, and whether the global may be set
 
 abbrev pub SpellsGlobalType : List ℕ → GlobalType → Type 0
 SpellsGlobalType b t = SpellsBoth SpellsValType (SpellsCoded flag_byte) b (t.val, t.mutable)

@@ -1,4 +1,4 @@
-//! The ways in which items of vectors are spelled. Each is a name alone: `reading` and `writing` say what it does.
+//! The ways in which items of vectors are spelled. Each is a name alone: `readable` and `writable` say what it does.
 
 /// Value types (5.3.1).
 pub(crate) struct ValTypes;
@@ -12,10 +12,10 @@ pub(crate) struct Imports;
 /// Indices (5.5.1), of the types of functions and of functions.
 pub(crate) struct Indices;
 
-/// Table types (5.3.5).
+/// Table types (5.3.6).
 pub(crate) struct Tables;
 
-/// Memory types (5.3.7).
+/// Memory types (5.3.5).
 pub(crate) struct Memories;
 
 /// Globals (5.5.9).

@@ -1,4 +1,4 @@
-//! A WebAssembly 1.0 module: its lists, its binary format, and its one written form.
+//! A WebAssembly module of either profile: its lists, its binary format, and its one written form.
 #![tactic(auto)]
 
 mod format;

@@ -66,7 +66,7 @@ fn read_limits(cursor: &mut Cursor<'_>) -> Result<Limits, ReadFault>
     Ok(Limits { min, max })
 }
 
-// A table type (5.3.5), whose only element type is that of functions.
+// A table type (5.3.6), whose only element type is that of functions.
 #[tactic(auto, unfolding(crate::specs::Formats::behind_at))]
 fn read_table_type(cursor: &mut Cursor<'_>) -> Result<Limits, ReadFault>
     ensures { Parses (λ x. x) tabletype_at cursor.old result cursor.new }
@@ -75,7 +75,7 @@ fn read_table_type(cursor: &mut Cursor<'_>) -> Result<Limits, ReadFault>
     read_limits(cursor)
 }
 
-// A global type (5.3.6).
+// A global type (5.3.7).
 #[tactic(auto, unfolding(crate::specs::Formats::made_at, crate::specs::Formats::both_at))]
 fn read_global_type(cursor: &mut Cursor<'_>) -> Result<GlobalType, ReadFault>
     ensures { Parses (λ x. x) globaltype_at cursor.old result cursor.new }

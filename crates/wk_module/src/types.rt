@@ -38,7 +38,7 @@ pub struct Limits {
     pub max: Option<u32>,
 }
 
-/// The type of a global (2.3.6).
+/// The type of a global (2.3.7).
 #[derive(Clone, Copy, Debug, PartialEq, Eq)]
 pub struct GlobalType {
     /// The type of its value.

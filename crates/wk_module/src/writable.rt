@@ -20,7 +20,7 @@ use wk_bytes::{OutOfMemory, put_u32};
 /// The byte that begins a function type (5.3.3).
 const FUNC_TYPE: u8 = 0x60;
 
-/// The byte of the element type of tables (5.3.5).
+/// The byte of the element type of tables (5.3.6).
 const FUNC_REF: u8 = 0x70;
 
 // The byte of a flag.
@@ -96,7 +96,7 @@ fn put_limits(limits: Limits, bytes: &mut Vec<u8>) -> Result<(), OutOfMemory>
     Ok(())
 }
 
-// A table type (5.3.5).
+// A table type (5.3.6).
 fn put_table_type(limits: Limits, bytes: &mut Vec<u8>) -> Result<(), OutOfMemory>
     ensures { OnOk result (bytes.new.items ≡ bytes.old.items ++ written_tabletype limits) }
 {
@@ -104,7 +104,7 @@ fn put_table_type(limits: Limits, bytes: &mut Vec<u8>) -> Result<(), OutOfMemory
     put_limits(limits, bytes)
 }
 
-// A global type (5.3.6).
+// A global type (5.3.7).
 fn put_global_type(ty: GlobalType, bytes: &mut Vec<u8>) -> Result<(), OutOfMemory>
     ensures { OnOk result (bytes.new.items ≡ bytes.old.items ++ written_globaltype ty) }
 {

@@ -163,6 +163,7 @@ fn push_custom(
     ensures shaped { IsShaped «module».old }
 {
     let mut parts = take_parts(alloc, module);
+    // The text's contract says that it is UTF-8, which a module asks of its names.
     let _text = name.as_str();
     let appended = parts.customs.push(Custom {
         place: LAST,

@@ -20,7 +20,7 @@ use std::alloc::Global;
 use std::marker::Model;
 use wk_bytes::{Items, Out, OutFault, OutOfMemory, ReadFault, ReadKind, Text, put_all};
 use wk_check::{Verdict, judge};
-use wk_module::{EncodeFault, FuncType, Module, encode, encoded_len, Profile, read_in};
+use wk_module::{EncodeFault, FuncType, Module, Profile, encode, encoded_len, read_in};
 
 /// A module under edits, seen by contracts as its plain lists.
 #[derive(Drop)]
@@ -211,6 +211,8 @@ impl Session {
     pub fn apply(&mut self, edit: &Edit) -> Reply
         ensures reply { result ≡ reply_of edit.now (is_memory result) self.old }
         ensures module_is { self.new ≡ after_one edit.now (is_memory result) self.old }
+        // Stripping all takes no memory.
+        ensures always { edit.now ≡ Edit.StripAll → OnErr result ⊥ }
     {
         match edit {
             Edit::Ty(ty) => self.add_type(ty),

@@ -57,6 +57,27 @@ pub const STRIPPED: &[u8] = b"\0asm\x01\0\0\0\
     \x01\x11\x03\x60\x00\x00\x60\x02\x7f\x7e\x01\x7d\x60\x04\x7f\x7f\x7c\x7c\x00\
     \x00\x07\x06second";
 
+/// The module with one byte in the custom section `second`.
+pub const WITH_BYTES: &[u8] = b"\0asm\x01\0\0\0\
+    \x00\x06\x04name\x07\
+    \x01\x11\x03\x60\x00\x00\x60\x02\x7f\x7e\x01\x7d\x60\x04\x7f\x7f\x7c\x7c\x00\
+    \x00\x0a\x05first\x01\x02\x03\x04\
+    \x00\x08\x06second\x09\
+    \x00\x08\x05first\x05\x06";
+
+/// The module with one custom section more.
+pub const WITH_CUSTOM: &[u8] = b"\0asm\x01\0\0\0\
+    \x00\x06\x04name\x07\
+    \x01\x11\x03\x60\x00\x00\x60\x02\x7f\x7e\x01\x7d\x60\x04\x7f\x7f\x7c\x7c\x00\
+    \x00\x0a\x05first\x01\x02\x03\x04\
+    \x00\x07\x06second\
+    \x00\x08\x05first\x05\x06\
+    \x00\x05\x03new\x09";
+
+/// The module without custom sections.
+pub const WITHOUT_CUSTOMS: &[u8] = b"\0asm\x01\0\0\0\
+    \x01\x11\x03\x60\x00\x00\x60\x02\x7f\x7e\x01\x7d\x60\x04\x7f\x7f\x7c\x7c\x00";
+
 /// The module after the edits of `SCRIPT`: with two types more, the second one invalid, and without `first`.
 pub const EDITED: &[u8] = b"\0asm\x01\0\0\0\
     \x00\x06\x04name\x07\
@@ -103,6 +124,14 @@ pub fn add_type(alloc: Global) -> Result<Edit, AllocError> {
 /// The edit that strips the custom sections of a name.
 pub fn strip(alloc: Global, name: &str) -> Result<Edit, AllocError> {
     Ok(Edit::StripCustom(Text::from_string(String::from_str(alloc, name)?)))
+}
+
+/// The edit that gives the custom section of a name one byte.
+pub fn set(alloc: Global, name: &str) -> Result<Edit, AllocError> {
+    Ok(Edit::SetCustom {
+        name: Text::from_string(String::from_str(alloc, name)?),
+        bytes: Items::from_vec(Vec::from_slice(alloc, &[9])?),
+    })
 }
 
 /// The edits of `SCRIPT`.

@@ -1,11 +1,11 @@
 //! The scenarios and their names.
 
 use crate::outcome::Outcome;
-use crate::sample::{MODULE, STRIPPED, WHOLE, WITH_TYPE};
+use crate::sample::{MODULE, STRIPPED, WHOLE, WITH_BYTES, WITH_CUSTOM, WITH_TYPE, WITHOUT_CUSTOMS};
 use crate::sinks::Room;
 use crate::{bodies, bytes, jobs, modules, sample, sessions};
 use std::alloc::{AllocError, Global};
-use wk_session::EditFault;
+use wk_session::{Edit, EditFault};
 
 /// A call under test.
 #[derive(Clone, Copy, Debug, PartialEq, Eq)]
@@ -76,6 +76,12 @@ pub enum Scenario {
     ApplyType,
     /// `Session::apply` of a strip of two custom sections.
     ApplyStrip,
+    /// `Session::apply` of bytes for a custom section.
+    ApplySet,
+    /// `Session::apply` of a new custom section.
+    ApplySetNew,
+    /// `Session::apply` of a strip of all custom sections.
+    ApplyStripAll,
     /// `Session::apply` of a strip that finds no custom section.
     ApplyRefused,
     /// `Session::run` of four edits, one of them refused in any case.
@@ -100,7 +106,7 @@ pub enum Scenario {
 
 impl Scenario {
     /// All scenarios, in the order in which they are run.
-    pub const ALL: [Scenario; 43] = [
+    pub const ALL: [Scenario; 46] = [
         Scenario::PutU32,
         Scenario::PutS32,
         Scenario::PutS33,
@@ -134,6 +140,9 @@ impl Scenario {
         Scenario::Open,
         Scenario::ApplyType,
         Scenario::ApplyStrip,
+        Scenario::ApplySet,
+        Scenario::ApplySetNew,
+        Scenario::ApplyStripAll,
         Scenario::ApplyRefused,
         Scenario::Run,
         Scenario::Write,
@@ -182,6 +191,9 @@ impl Scenario {
             Scenario::Open => "open",
             Scenario::ApplyType => "apply-type",
             Scenario::ApplyStrip => "apply-strip-in-room",
+            Scenario::ApplySet => "apply-set",
+            Scenario::ApplySetNew => "apply-set-new",
+            Scenario::ApplyStripAll => "apply-strip-all-in-room",
             Scenario::ApplyRefused => "apply-refused-in-room",
             Scenario::Run => "run",
             Scenario::Write => "write",
@@ -243,6 +255,17 @@ impl Scenario {
                 &sample::strip(alloc, "first")?,
                 STRIPPED,
             ),
+            Scenario::ApplySet => sessions::applies(
+                alloc,
+                &sample::set(alloc, "second")?,
+                WITH_BYTES,
+            ),
+            Scenario::ApplySetNew => sessions::applies(
+                alloc,
+                &sample::set(alloc, "new")?,
+                WITH_CUSTOM,
+            ),
+            Scenario::ApplyStripAll => sessions::applies(alloc, &Edit::StripAll, WITHOUT_CUSTOMS),
             Scenario::ApplyRefused => sessions::declines(
                 alloc,
                 &sample::strip(alloc, "absent")?,

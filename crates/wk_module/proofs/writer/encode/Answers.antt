@@ -47,4 +47,3 @@ returns-clause-spells c = λ fits. written_spells (c.args.module.now).profile (l
 pub returns-clause-alone : goal.returns-clause-alone
 returns-clause-alone c = λ n fits same spelled.
     written_alone (c.args.module.now).profile (laws_done c (c.args.module.now).profile) (spell_one (laws_done c)) c.args.module.now n refl same c.parts-parts.ensures.shaped fits spelled
-
