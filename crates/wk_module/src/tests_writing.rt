@@ -1,11 +1,9 @@
 //! Modules, and the bytes that are written of them.
 
-ghost use Rattle.wk_module.specs.Listed.{IsListId};
-
 use super::*;
 use std::alloc::{AllocError, Global};
 use std::test::Fail;
-use wk_bytes::{Items, Text};
+use wk_bytes::Items;
 
 const HEADER: [u8; 8] = [0, 97, 115, 109, 1, 0, 0, 0];
 
@@ -32,29 +30,27 @@ fn written(alloc: Global, bytes: &[u8], profile: Profile) -> Result<Vec<u8>, Fai
 
 #[test]
 fn writes_what_is_shortest_already(rt: HostRuntime) -> Result<(), Fail> {
-    for bytes in [
-        [].as_slice(),
-        [1, 4, 1, 96, 0, 0].as_slice(),
-        [0, 1, 0].as_slice(),
-        [
-            0, 2, 1, 97, 1, 4, 1, 96, 0, 0, 0, 3, 1, 98, 7, 5, 3, 1, 0, 1,
-        ]
-        .as_slice(),
-        [0, 3, 1, 97, 7].as_slice(),
-        [2, 7, 1, 1, 97, 1, 102, 0, 0].as_slice(),
-        [2, 9, 1, 1, 97, 1, 116, 1, 112, 0, 1].as_slice(),
-        [2, 9, 1, 1, 97, 1, 109, 2, 1, 1, 2].as_slice(),
-        [2, 8, 1, 1, 97, 1, 103, 3, 124, 1].as_slice(),
-        [4, 5, 1, 112, 1, 1, 2].as_slice(),
-        [5, 5, 1, 0, 129, 128, 4].as_slice(),
-        [6, 6, 1, 125, 1, 35, 0, 11].as_slice(),
-        [7, 10, 2, 1, 97, 3, 0, 1, 97, 1, 200, 1].as_slice(),
-        [8, 1, 7].as_slice(),
-        [9, 8, 1, 1, 35, 0, 11, 2, 0, 1].as_slice(),
-        [11, 8, 1, 0, 65, 0, 11, 2, 170, 187].as_slice(),
-        [1, 4, 1, 96, 0, 0, 3, 2, 1, 0, 10, 4, 1, 2, 0, 11].as_slice(),
-        [3, 3, 2, 0, 1, 10, 9, 2, 4, 0, 16, 1, 11, 2, 0, 11].as_slice(),
-    ] {
+    let rows: [&[u8]; 18] = [
+        b"",
+        b"\x01\x04\x01\x60\x00\x00",
+        b"\x00\x01\x00",
+        b"\x00\x02\x01\x61\x01\x04\x01\x60\x00\x00\x00\x03\x01\x62\x07\x05\x03\x01\x00\x01",
+        b"\x00\x03\x01\x61\x07",
+        b"\x02\x07\x01\x01\x61\x01\x66\x00\x00",
+        b"\x02\x09\x01\x01\x61\x01\x74\x01\x70\x00\x01",
+        b"\x02\x09\x01\x01\x61\x01\x6d\x02\x01\x01\x02",
+        b"\x02\x08\x01\x01\x61\x01\x67\x03\x7c\x01",
+        b"\x04\x05\x01\x70\x01\x01\x02",
+        b"\x05\x05\x01\x00\x81\x80\x04",
+        b"\x06\x06\x01\x7d\x01\x23\x00\x0b",
+        b"\x07\x0a\x02\x01\x61\x03\x00\x01\x61\x01\xc8\x01",
+        b"\x08\x01\x07",
+        b"\x09\x08\x01\x01\x23\x00\x0b\x02\x00\x01",
+        b"\x0b\x08\x01\x00\x41\x00\x0b\x02\xaa\xbb",
+        b"\x01\x04\x01\x60\x00\x00\x03\x02\x01\x00\x0a\x04\x01\x02\x00\x0b",
+        b"\x03\x03\x02\x00\x01\x0a\x09\x02\x04\x00\x10\x01\x0b\x02\x00\x0b",
+    ];
+    for bytes in rows {
         let output = written(rt.alloc(), bytes, Profile::Core)?;
         assert_eq!(rt; output.as_slice(), bytes);
     }
@@ -63,27 +59,25 @@ fn writes_what_is_shortest_already(rt: HostRuntime) -> Result<(), Fail> {
 
 #[test]
 fn writes_the_shortest(rt: HostRuntime) -> Result<(), Fail> {
-    for (input, output) in [
+    let rows: [(&[u8], &[u8]); 7] = [
         // a padded size, an empty section, padded counts
         (
-            [1, 132, 128, 128, 128, 0, 1, 96, 0, 0].as_slice(),
-            [1, 4, 1, 96, 0, 0].as_slice(),
+            b"\x01\x84\x80\x80\x80\x00\x01\x60\x00\x00",
+            b"\x01\x04\x01\x60\x00\x00",
         ),
-        ([1, 1, 0].as_slice(), [].as_slice()),
-        ([3, 1, 0, 10, 2, 128, 0].as_slice(), [].as_slice()),
-        (
-            [1, 5, 129, 0, 96, 0, 0].as_slice(),
-            [1, 4, 1, 96, 0, 0].as_slice(),
-        ),
-        ([8, 2, 129, 0].as_slice(), [8, 1, 1].as_slice()),
+        (b"\x01\x01\x00", b""),
+        (b"\x03\x01\x00\x0a\x02\x80\x00", b""),
+        (b"\x01\x05\x81\x00\x60\x00\x00", b"\x01\x04\x01\x60\x00\x00"),
+        (b"\x08\x02\x81\x00", b"\x08\x01\x01"),
         // an empty else branch, and a padded size of its code
         (
-            [3, 2, 1, 0, 10, 11, 1, 136, 0, 0, 65, 0, 4, 64, 5, 11, 11].as_slice(),
-            [3, 2, 1, 0, 10, 9, 1, 7, 0, 65, 0, 4, 64, 11, 11].as_slice(),
+            b"\x03\x02\x01\x00\x0a\x0b\x01\x88\x00\x00\x41\x00\x04\x40\x05\x0b\x0b",
+            b"\x03\x02\x01\x00\x0a\x09\x01\x07\x00\x41\x00\x04\x40\x0b\x0b",
         ),
         // a custom section behind an empty section
-        ([1, 1, 0, 0, 1, 0, 7, 1, 0].as_slice(), [0, 1, 0].as_slice()),
-    ] {
+        (b"\x01\x01\x00\x00\x01\x00\x07\x01\x00", b"\x00\x01\x00"),
+    ];
+    for (input, output) in rows {
         let found = written(rt.alloc(), input, Profile::Core);
         assert_eq!(rt; found?.as_slice(), output);
     }
@@ -118,45 +112,6 @@ fn lists<'a>(parts: &'a Parts, funcs: &'a [u32]) -> Lists<'a> {
     }
 }
 
-// The contents of a section of the module that bytes behind a header spell, by its own encoder.
-fn contents(alloc: Global, bytes: &[u8], id: u8) -> Result<Vec<u8>, Fail>
-    requires { IsListId id }
-{
-    let input = after_header(alloc, bytes)?;
-    let module = read(alloc, input.as_slice())?;
-    let funcs = [0];
-    let lists = lists(module.parts(), &funcs);
-    let found = encode_section(alloc, &lists, id).ok().ok_or("bytes")?;
-    if id != 3 && section_len(&module, id) != Some(found.len() as u32) {
-        return Err(Fail::from("the length"));
-    }
-    Ok(found)
-}
-
-#[test]
-fn writes_sections_alone(rt: HostRuntime) -> Result<(), Fail> {
-    for (id, bytes) in [
-        (1, [1, 4, 1, 96, 0, 0].as_slice()),
-        (2, [2, 7, 1, 1, 97, 1, 102, 0, 0].as_slice()),
-        (4, [4, 5, 1, 112, 1, 1, 2].as_slice()),
-        (5, [5, 3, 1, 0, 1].as_slice()),
-        (6, [6, 6, 1, 125, 1, 35, 0, 11].as_slice()),
-        (7, [7, 5, 1, 1, 97, 3, 0].as_slice()),
-        (8, [8, 1, 7].as_slice()),
-        (9, [9, 8, 1, 1, 35, 0, 11, 2, 0, 1].as_slice()),
-        (11, [11, 8, 1, 0, 65, 0, 11, 2, 170, 187].as_slice()),
-    ] {
-        let found = contents(rt.alloc(), bytes, id)?;
-        let wanted = bytes.get(2..).ok_or("contents")?;
-        assert_eq!(rt; found.as_slice(), wanted, "section {id}");
-    }
-    let none = contents(rt.alloc(), &[], 5)?;
-    assert!(rt; none.as_slice().is_empty());
-    let indices = contents(rt.alloc(), &[], 3)?;
-    assert_eq!(rt; indices.as_slice(), [1, 0].as_slice());
-    Ok(())
-}
-
 #[test]
 fn measures_sections(rt: HostRuntime) -> Result<(), Fail> {
     let input = after_header(
@@ -178,7 +133,7 @@ fn measures_sections(rt: HostRuntime) -> Result<(), Fail> {
     let custom = module.parts().customs.as_slice().first().ok_or("a custom")?;
     assert_eq!(rt; custom_len(custom), Some(3));
     let bytes = encode_custom(rt.alloc(), custom).ok().ok_or("bytes")?;
-    assert_eq!(rt; bytes.as_slice(), [1, 97, 7].as_slice());
+    assert_eq!(rt; bytes.as_slice(), b"\x01\x61\x07".as_slice());
     Ok(())
 }
 
@@ -192,41 +147,10 @@ fn takes_customs_away(rt: HostRuntime) -> Result<(), Fail> {
     parts.customs = Items::new(rt.alloc());
     let bytes = encode(rt.alloc(), &Module::of(parts)).ok().ok_or("bytes")?;
     let rest = bytes.as_slice().get(8..).ok_or("a header")?;
-    assert_eq!(rt; rest, [1, 4, 1, 96, 0, 0, 5, 3, 1, 0, 1].as_slice());
-    Ok(())
-}
-
-#[test]
-fn settles(rt: HostRuntime) -> Result<(), Fail> {
-    // a custom section behind the one export, which goes
-    let input = after_header(
-        rt.alloc(),
-        &[1, 4, 1, 96, 0, 0, 7, 5, 1, 1, 102, 0, 0, 0, 2, 1, 99],
-    )?;
-    let mut parts = read(rt.alloc(), input.as_slice())?.into_parts();
-    parts.exports = Items::new(rt.alloc());
-    let module = Module::of(parts);
-    let custom = module.parts().customs.as_slice().first().ok_or("a custom")?;
-    assert_eq!(rt; custom.place, 1);
-    Ok(())
-}
-
-#[test]
-fn writes_a_long_section(rt: HostRuntime) -> Result<(), Fail> {
-    let alloc = rt.alloc();
-    let params = Vec::from_elem(alloc, ValType::F64, 200)?;
-    let ty = FuncType {
-        params: Items::from_vec(params),
-        results: Items::new(alloc),
-    };
-    let mut parts = Module::empty(alloc, Profile::Core).into_parts();
-    parts.types = Items::from_vec(vec![in alloc; ty]?);
-    let module = Module::of(parts);
-    let bytes = encode(alloc, &module).ok().ok_or("bytes")?;
-    // a size of 205, one type, the form, a count of 200
-    let start = bytes.as_slice().get(8..15).ok_or("a section")?;
-    assert_eq!(rt; start, [1, 205, 1, 1, 96, 200, 1].as_slice());
-    assert_eq!(rt; encoded_len(&module), Some(216));
+    assert_eq!(rt;
+        rest,
+        b"\x01\x04\x01\x60\x00\x00\x05\x03\x01\x00\x01".as_slice()
+    );
     Ok(())
 }
 
@@ -238,5 +162,15 @@ fn copies_a_type(rt: HostRuntime) -> Result<(), Fail> {
     let copy = ty.copy(rt.alloc())?;
     assert_eq!(rt; copy.params.as_slice(), [ValType::I32].as_slice());
     assert_eq!(rt; copy.results.as_slice(), [ValType::I64].as_slice());
+    Ok(())
+}
+
+#[test]
+fn writes_exports_alone(rt: HostRuntime) -> Result<(), Fail> {
+    let input = after_header(rt.alloc(), &[7, 5, 1, 1, 97, 3, 0])?;
+    let module = read(rt.alloc(), input.as_slice())?;
+    let lists = lists(module.parts(), &[]);
+    let found = encode_section(rt.alloc(), &lists, 7).ok().ok_or("bytes")?;
+    assert_eq!(rt; found.as_slice(), b"\x01\x01\x61\x03\x00".as_slice());
     Ok(())
 }
