@@ -7,7 +7,7 @@ use std::process::Abort;
 use std::test::Fail;
 use wk_bytes::{Items, Out, ReadFault, ReadKind, Sink, Text};
 use wk_check::{Fault, FaultKind, Place, Verdict};
-use wk_module::{FuncType, ValType, encode, read};
+use wk_module::{FuncType, ValType};
 
 const EMPTY: &[u8] = b"\0asm\x01\0\0\0";
 
@@ -109,12 +109,6 @@ fn refuses_bytes(rt: HostRuntime) -> Result<(), Fail> {
 enum Change {
     Ty(&'static [ValType], &'static [ValType]),
     StripCustom(&'static str),
-    SetCustom(&'static str, &'static [u8]),
-    StripAll,
-}
-
-fn text(alloc: Global, name: &str) -> Result<Text, AllocError> {
-    Ok(Text::from_string(String::from_str(alloc, name)?))
 }
 
 // The edit that makes the change.
@@ -124,12 +118,9 @@ fn edit_of(alloc: Global, change: Change) -> Result<Edit, AllocError> {
             params: Items::from_vec(Vec::from_slice(alloc, params)?),
             results: Items::from_vec(Vec::from_slice(alloc, results)?),
         }),
-        Change::StripCustom(name) => Edit::StripCustom(text(alloc, name)?),
-        Change::SetCustom(name, bytes) => Edit::SetCustom {
-            name: text(alloc, name)?,
-            bytes: Items::from_vec(Vec::from_slice(alloc, bytes)?),
-        },
-        Change::StripAll => Edit::StripAll,
+        Change::StripCustom(name) => {
+            Edit::StripCustom(Text::from_string(String::from_str(alloc, name)?))
+        }
     })
 }
 
@@ -199,77 +190,6 @@ fn no_types_steps() -> [Step; 2] {
     ]
 }
 
-// Changes of the customs of `MIXED`, and then of all.
-fn custom_steps() -> [Step; 7] {
-    let valid = Verdict::Valid;
-    [
-        (
-            Change::SetCustom("a", b"\xff"),
-            made(1),
-            b"\0asm\x01\0\0\0\0\x03\x01a\xff\0\x03\x01b\x01\x01\x04\x01\x60\0\0\0\x03\x01a\x02\0\x02\0\x03\0\x02\x01c\0\x02\x01a",
-            valid,
-        ),
-        (
-            Change::SetCustom("b", b""),
-            made(1),
-            b"\0asm\x01\0\0\0\0\x03\x01a\xff\0\x02\x01b\x01\x04\x01\x60\0\0\0\x03\x01a\x02\0\x02\0\x03\0\x02\x01c\0\x02\x01a",
-            valid,
-        ),
-        (
-            Change::SetCustom("d", b"\0\x80"),
-            made(1),
-            b"\0asm\x01\0\0\0\0\x03\x01a\xff\0\x02\x01b\x01\x04\x01\x60\0\0\0\x03\x01a\x02\0\x02\0\x03\0\x02\x01c\0\x02\x01a\0\x04\x01d\0\x80",
-            valid,
-        ),
-        (
-            Change::SetCustom("", b""),
-            made(1),
-            b"\0asm\x01\0\0\0\0\x03\x01a\xff\0\x02\x01b\x01\x04\x01\x60\0\0\0\x03\x01a\x02\0\x01\0\0\x02\x01c\0\x02\x01a\0\x04\x01d\0\x80",
-            valid,
-        ),
-        (Change::StripAll, made(0), ONE_TYPE, valid),
-        (Change::StripAll, made(0), ONE_TYPE, valid),
-        (
-            Change::SetCustom("\u{e9}", b"\x07"),
-            made(1),
-            b"\0asm\x01\0\0\0\x01\x04\x01\x60\0\0\0\x04\x02\xc3\xa9\x07",
-            valid,
-        ),
-    ]
-}
-
-// Changes of `EMPTY`, whose custom section stays in front of a type that comes later.
-fn empty_steps() -> [Step; 3] {
-    [
-        (
-            Change::SetCustom("c", b""),
-            made(1),
-            b"\0asm\x01\0\0\0\0\x02\x01c",
-            Verdict::Valid,
-        ),
-        (
-            Change::Ty(&[], &[]),
-            made(1),
-            b"\0asm\x01\0\0\0\0\x02\x01c\x01\x04\x01\x60\0\0",
-            Verdict::Valid,
-        ),
-        (Change::StripAll, made(0), ONE_TYPE, Verdict::Valid),
-    ]
-}
-
-// Changes of `TWO_RESULTS`, which leave it invalid.
-fn invalid_steps() -> [Step; 2] {
-    [
-        (
-            Change::SetCustom("c", b"\0"),
-            made(1),
-            b"\0asm\x01\0\0\0\x01\x07\x01\x60\x01\x7f\x02\x7f\x7f\0\x03\x01c\0",
-            arity(0),
-        ),
-        (Change::StripAll, made(0), TWO_RESULTS, arity(0)),
-    ]
-}
-
 // Makes the change, and looks at all that the session then says.
 fn make(rt: &impl Abort, alloc: Global, session: &mut Session, step: Step) -> Result<(), Fail> {
     let (change, reply, whole, verdict) = step;
@@ -293,41 +213,6 @@ fn applies(rt: HostRuntime) -> Result<(), Fail> {
     let mut session = Session::open(rt.alloc(), NO_TYPES)?;
     for step in no_types_steps() {
         make(&rt, rt.alloc(), &mut session, step)?;
-    }
-    let mut session = Session::open(rt.alloc(), MIXED)?;
-    for step in custom_steps() {
-        make(&rt, rt.alloc(), &mut session, step)?;
-    }
-    let mut session = Session::open(rt.alloc(), EMPTY)?;
-    for step in empty_steps() {
-        make(&rt, rt.alloc(), &mut session, step)?;
-    }
-    let mut session = Session::open(rt.alloc(), TWO_RESULTS)?;
-    for step in invalid_steps() {
-        make(&rt, rt.alloc(), &mut session, step)?;
-    }
-    Ok(())
-}
-
-#[test]
-fn strips_modules(rt: HostRuntime) -> Result<(), Fail> {
-    let rows: [(Option<&str>, &[u8]); 4] = [
-        (None, ONE_TYPE),
-        (Some("d"), ONE_TYPE),
-        (
-            Some("a"),
-            b"\0asm\x01\0\0\0\0\x02\x01a\x01\x04\x01\x60\0\0\0\x03\x01a\x02\0\x02\x01a",
-        ),
-        (Some(""), b"\0asm\x01\0\0\0\x01\x04\x01\x60\0\0\0\x02\0\x03"),
-    ];
-    for (name, whole) in rows {
-        let module = read(rt.alloc(), MIXED)?;
-        let module = match name {
-            Some(name) => stripped(module, Some(&text(rt.alloc(), name)?)),
-            None => stripped(module, None),
-        };
-        let bytes = encode(rt.alloc(), &module).ok().ok_or("bytes")?;
-        assert_eq!(rt; bytes.as_slice(), whole, "{name:?}");
     }
     Ok(())
 }
