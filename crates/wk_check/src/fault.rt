@@ -75,3 +75,49 @@ pub enum Verdict {
     /// This comes first.
     Invalid(Fault),
 }
+
+/// Whether a body is valid under its type (3.4.1).
+#[derive(Clone, Copy, Debug, PartialEq, Eq)]
+pub enum BodyVerdict {
+    /// Nothing is wrong.
+    Valid,
+    /// This comes first.
+    Invalid {
+        /// What is wrong.
+        kind: FaultKind,
+        /// The instruction, counted from 0 in written order with `else` and `end`.
+        token: u32,
+    },
+}
+
+/// What is wrong with an item of a section.
+#[derive(Clone, Copy, Debug, PartialEq, Eq)]
+pub(crate) struct Flaw {
+    /// What is wrong.
+    pub(crate) kind: FaultKind,
+    /// The instruction of a body or an expression.
+    pub(crate) token: Option<u32>,
+}
+
+impl Flaw {
+    /// A flaw of the whole item.
+    pub(crate) fn of(kind: FaultKind) -> Flaw
+        ensures { result ≡ record { kind = kind; token = None } }
+    {
+        Flaw { kind, token: None }
+    }
+
+    /// The flaw, at its place.
+    pub(crate) fn at(self, section: u8, item: u32) -> Fault
+        ensures { result ≡ fault_at section item self }
+    {
+        Fault {
+            kind: self.kind,
+            place: Place {
+                section,
+                item,
+                token: self.token,
+            },
+        }
+    }
+}

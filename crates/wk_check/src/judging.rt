@@ -1,52 +1,212 @@
-//! Judging a module.
-ghost use Rattle.std.specs.Prelude.{◌≡◌, ◌<◌, ◌^◌, length, IfOk};
-ghost use Rattle.wk_check.specs.Verdict.{module_verdict, types_fault, IsVerdict};
+//! Judging a module (3.4.10).
 
-use crate::fault::{Fault, FaultKind, Place, Verdict};
+ghost use Rattle.std.specs.Prelude.{◌≡◌, ◌<◌, ◌^◌, [], ◌∷◌, length, map, IfOk};
+ghost use Rattle.wk_body.specs.declared.types.Profile.{Profile};
+ghost use Rattle.wk_module.specs.Listed.{listed};
+ghost use Rattle.wk_module.specs.Shape.{lists_of};
+ghost use Rattle.wk_check.specs.Flaws.{first_in, first_fault};
+ghost use Rattle.wk_check.specs.Items.{start_flaws};
+ghost use Rattle.wk_check.specs.Spaces.{spaces_of};
+ghost use Rattle.wk_check.specs.Verdict.{type_flaws, import_flaws, func_flaws, table_flaws, memory_flaws, global_flaws, export_flaws, elem_flaws, code_flaws, data_flaws, flaws_before_code, verdict_around, module_verdict, IsVerdict, IsNotArity, extended};
+ghost use Rattle.wk_check.specs.Whole.{AreNumbered};
+
+use crate::exports::exports_fault;
+use crate::fault::{Fault, Verdict};
+use crate::rule::first_fault;
+use crate::rules::{
+    CodeRule, DataRule, ElemRule, FuncRule, GlobalRule, MemoryRule, TableRule, TypeRule,
+    flaw_of_start, imports_fault,
+};
+use crate::typing::Room;
+use crate::whole::Whole;
 use std::alloc::Global;
 use wk_bytes::OutOfMemory;
-use wk_module::{FuncType, Module, Profile};
+use wk_module::{Func, Lists, Module, Parts};
 
-// The first type with more than one result.
-fn types_fault(types: &[FuncType]) -> Option<Fault>
-    requires { length types.now < 2 ^ 32 }
-    ensures { result ≡ types_fault 0 types.now }
+// The first fault of the types, the imports and the functions.
+fn fault_of_types(lists: &Lists<'_>, room: &mut Room) -> Result<Option<Fault>, OutOfMemory>
+    requires { AreNumbered (listed lists.now) }
+    ensures { IfOk result (λ r. r ≡ first_fault 1 (type_flaws lists.now.profile (listed lists.now) ∷ import_flaws (listed lists.now) ∷ func_flaws (listed lists.now) ∷ [])) }
 {
-    for (item, ty) in types.iter().enumerate() {
-        if ty.results.len() > 1 {
-            return Some(Fault {
-                kind: FaultKind::TypeArity,
-                place: Place {
-                    section: 1,
-                    item: item as u32,
-                    token: None,
-                },
-            });
+    let rule = TypeRule {
+        profile: lists.profile,
+    };
+    if let Some(fault) = first_fault(&rule, 1, lists.types, room)? {
+        return Ok(Some(fault));
+    }
+    if let Some(fault) = imports_fault(lists.types, lists.imports) {
+        return Ok(Some(fault));
+    }
+    let rule = FuncRule {
+        types: lists.types.len(),
+    };
+    first_fault(&rule, 3, lists.funcs, room)
+}
+
+// The first fault of the tables, the memories and the globals.
+fn fault_of_storage(
+    lists: &Lists<'_>,
+    whole: &Whole<'_>,
+    room: &mut Room,
+) -> Result<Option<Fault>, OutOfMemory>
+    requires numbered { AreNumbered (listed lists.now) }
+    requires same { whole.now ≡ listed lists.now }
+    ensures { IfOk result (λ r. r ≡ first_fault 4 (table_flaws (listed lists.now) ∷ memory_flaws (listed lists.now) ∷ global_flaws (listed lists.now) ∷ [])) }
+{
+    let rule = TableRule {
+        imported: whole.imported_tables(),
+    };
+    if let Some(fault) = first_fault(&rule, 4, lists.tables, room)? {
+        return Ok(Some(fault));
+    }
+    let rule = MemoryRule {
+        imported: whole.imported_memories(),
+    };
+    if let Some(fault) = first_fault(&rule, 5, lists.memories, room)? {
+        return Ok(Some(fault));
+    }
+    first_fault(&GlobalRule { whole }, 6, lists.globals, room)
+}
+
+// The first fault of the exports, the start function and the element segments.
+fn fault_of_uses(
+    alloc: Global,
+    lists: &Lists<'_>,
+    whole: &Whole<'_>,
+    room: &mut Room,
+) -> Result<Option<Fault>, OutOfMemory>
+    requires numbered { AreNumbered (listed lists.now) }
+    requires same { whole.now ≡ listed lists.now }
+    ensures { IfOk result (λ r. r ≡ first_fault 7 (export_flaws (listed lists.now) ∷ start_flaws (spaces_of (listed lists.now)) lists.now.start ∷ elem_flaws (listed lists.now) ∷ [])) }
+{
+    if let Some(fault) = exports_fault(alloc, whole, lists.exports)? {
+        return Ok(Some(fault));
+    }
+    if let Some(start) = lists.start {
+        if let Some(flaw) = flaw_of_start(whole, start) {
+            return Ok(Some(flaw.at(8, 0)));
         }
     }
-    None
+    first_fault(&ElemRule { whole }, 9, lists.elems, room)
 }
 
-// The verdict, by the first fault.
-fn verdict_of(module: &Module) -> Verdict
-    ensures { result ≡ module_verdict «module».now }
+// The first fault of the sections in front of the code section.
+fn fault_before_code(
+    alloc: Global,
+    lists: &Lists<'_>,
+    whole: &Whole<'_>,
+    room: &mut Room,
+) -> Result<Option<Fault>, OutOfMemory>
+    requires numbered { AreNumbered (listed lists.now) }
+    requires same { whole.now ≡ listed lists.now }
+    ensures { IfOk result (λ r. r ≡ first_fault 1 (flaws_before_code lists.now.profile (listed lists.now))) }
 {
-    let parts = module.parts();
-    if parts.profile == Profile::Extended {
-        return Verdict::Valid;
+    if let Some(fault) = fault_of_types(lists, room)? {
+        return Ok(Some(fault));
     }
-    match types_fault(parts.types.as_slice()) {
-        Some(fault) => Verdict::Invalid(fault),
-        None => Verdict::Valid,
+    if let Some(fault) = fault_of_storage(lists, whole, room)? {
+        return Ok(Some(fault));
     }
+    fault_of_uses(alloc, lists, whole, room)
 }
 
-/// Judges the types of a module: valid, or the first fault by item (3.4.10). The other sections are not judged yet.
+// The first fault of the data segments.
+fn fault_of_datas(
+    lists: &Lists<'_>,
+    whole: &Whole<'_>,
+    room: &mut Room,
+) -> Result<Option<Fault>, OutOfMemory>
+    requires numbered { AreNumbered (listed lists.now) }
+    requires same { whole.now ≡ listed lists.now }
+    ensures { IfOk result (λ r. r ≡ first_in 11 0 (data_flaws (listed lists.now))) }
+{
+    first_fault(&DataRule { whole }, 11, lists.datas, room)
+}
+
+/// Judges a module with these lists whose first fault in the code section is `code`: valid, or the first fault by section, item,
+/// and what is looked at.
 ///
 /// Want of memory is the only refusal.
-pub fn judge(_alloc: Global, module: &Module) -> Result<Verdict, OutOfMemory>
+pub fn judge_around(
+    alloc: Global,
+    lists: &Lists<'_>,
+    code: Option<Fault>,
+) -> Result<Verdict, OutOfMemory>
+    requires { AreNumbered (listed lists.now) }
+    ensures { IfOk result (λ verdict. verdict ≡ verdict_around lists.now.profile (listed lists.now) code) }
+{
+    let whole = Whole::of(alloc, *lists)?;
+    let mut room = Room::new(alloc);
+    if let Some(fault) = fault_before_code(alloc, lists, &whole, &mut room)? {
+        return Ok(Verdict::Invalid(fault));
+    }
+    if let Some(fault) = code {
+        return Ok(Verdict::Invalid(fault));
+    }
+    match fault_of_datas(lists, &whole, &mut room)? {
+        Some(fault) => Ok(Verdict::Invalid(fault)),
+        None => Ok(Verdict::Valid),
+    }
+}
+
+// The types of functions.
+fn types_of(alloc: Global, funcs: &[Func]) -> Result<Vec<u32>, OutOfMemory>
+    ensures { IfOk result (λ types. types.items ≡ map (λ f. f.ty) funcs.now) }
+{
+    let mut types = Vec::with_capacity(alloc, funcs.len())?;
+    for func in funcs {
+        types.push_reserved(func.ty);
+    }
+    Ok(types)
+}
+
+// The lists of a module, with the types of its functions.
+fn lists_of<'a>(parts: &'a Parts, funcs: &'a [u32]) -> Lists<'a>
+    requires { funcs.now ≡ map (λ f. f.ty) parts.now.funcs }
+    ensures lists { listed result ≡ record (lists_of parts.now) { codes = [] } }
+    ensures profile { result.profile ≡ parts.now.profile }
+{
+    Lists {
+        profile: parts.profile,
+        types: parts.types.as_slice(),
+        imports: parts.imports.as_slice(),
+        funcs,
+        tables: parts.tables.as_slice(),
+        memories: parts.memories.as_slice(),
+        globals: parts.globals.as_slice(),
+        exports: parts.exports.as_slice(),
+        start: parts.start,
+        elems: parts.elems.as_slice(),
+        datas: parts.datas.as_slice(),
+    }
+}
+
+// The first fault of the code section: that of the first body that is not valid under its type.
+fn fault_of_codes(
+    alloc: Global,
+    parts: &Parts,
+    lists: &Lists<'_>,
+) -> Result<Option<Fault>, OutOfMemory>
+    requires { length parts.now.funcs < 2 ^ 32 }
+    ensures { IfOk result (λ r. r ≡ first_in 10 0 (code_flaws (listed lists.now) parts.now.funcs)) }
+{
+    let whole = Whole::of(alloc, *lists)?;
+    let rule = CodeRule { whole: &whole };
+    first_fault(&rule, 10, parts.funcs.as_slice(), &mut Room::new(alloc))
+}
+
+/// Judges a module: valid, or the first fault by section, item, and what is looked at.
+///
+/// Want of memory is the only refusal.
+pub fn judge(alloc: Global, module: &Module) -> Result<Verdict, OutOfMemory>
     ensures exact { IfOk result (λ verdict. verdict ≡ module_verdict «module».now) }
     ensures meaning { IfOk result (λ verdict. IsVerdict «module».now verdict) }
+    // Under the rules of the other profile the verdict is the same, unless the first fault was many results of a type.
+    ensures extended { IfOk result (λ verdict. IsNotArity verdict → module_verdict (extended «module».now) ≡ verdict) }
 {
-    Ok(verdict_of(module))
+    let parts = module.parts();
+    let types = types_of(alloc, parts.funcs.as_slice())?;
+    let lists = lists_of(parts, types.as_slice());
+    let code = fault_of_codes(alloc, parts, &lists)?;
+    judge_around(alloc, &lists, code)
 }

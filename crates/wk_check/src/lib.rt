@@ -1,12 +1,32 @@
-//! The verdict of a module: valid, or the first fault and its place.
+//! The typing of bodies and the verdict of a module: valid, or the first fault and its place.
 #![tactic(auto)]
 
+mod carry;
+mod constant;
+mod control;
 mod display;
+mod env;
+mod exports;
 mod fault;
 mod judging;
+mod locals;
+mod machine;
+mod meter;
+mod operand;
+mod operands;
+mod rule;
+mod rules;
+mod step;
+mod stop;
+mod typing;
+mod whole;
 
-pub use fault::{Fault, FaultKind, Place, Verdict};
-pub use judging::judge;
+pub use carry::{carry, carry_moved};
+pub use env::{Answer, Env};
+pub use fault::{BodyVerdict, Fault, FaultKind, Place, Verdict};
+pub use judging::{judge, judge_around};
+pub use meter::{Meter, judge_body};
+pub use whole::Whole;
 
 #[cfg(test)]
 mod tests;

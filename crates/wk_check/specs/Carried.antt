@@ -1,0 +1,23 @@
+-- Verdicts that are kept: what a body's references find, before and after an edit.
+use Rattle.std.specs.Prelude.{◌≡◌, ℕ, List}
+use Rattle.std.specs.List.{AllByRecursion}
+use Rattle.wk_body.specs.declared.moves.Moving.{Moving}
+use Rattle.wk_body.specs.declared.moves.Moving.TheVariants as moving
+use Rattle.wk_body.specs.declared.references.Ref.{Ref}
+use Rattle.wk_body.specs.declared.references.Ref.TheVariants.{Func, Global}
+use Rattle.wk_body.specs.References.{moved}
+use Rattle.wk_check.specs.Answers.{Found}
+
+-- a reference, as it stands after an import of the kind came in front of the index `from`
+abbrev pub moved_ref : Moving → ℕ → Ref → Ref
+moved_ref moving.Func from (Func x) = Func (moved from x)
+moved_ref moving.Global from (Global x) = Global (moved from x)
+moved_ref kind from r = r
+
+-- each reference finds what it found
+abbrev pub Agree : (Ref → Found) → (Ref → Found) → List Ref → Type 0
+Agree before now rs = AllByRecursion (λ r. now r ≡ before r) rs
+
+-- each reference, moved, finds what it found
+abbrev pub AgreeMoved : Moving → ℕ → (Ref → Found) → (Ref → Found) → List Ref → Type 0
+AgreeMoved kind from before now rs = AllByRecursion (λ r. now (moved_ref kind from r) ≡ before r) rs

@@ -1,0 +1,18 @@
+-- Locals by groups: where each group ends.
+use Rattle.std.specs.Prelude.{◌≡◌, ℕ, ◌+◌, ◌^◌, Bool, nat_lt, List, [], ◌∷◌}
+use Rattle.wk_body.specs.declared.types.ValType.{ValType}
+use Rattle.wk_body.specs.declared.types.LocalGroup.{LocalGroup}
+
+-- the parameters of a function and the groups of locals behind them
+pub record LocalsOf : Type 0 where
+  pub params : List ValType
+  pub groups : List LocalGroup
+
+-- behind the locals of each group, from a number of locals before them on
+abbrev pub ends_from : ℕ → List LocalGroup → List ℕ
+ends_from n [] = []
+ends_from n (g ∷ gs) = (n + g.count) ∷ ends_from (n + g.count) gs
+
+-- a power of two is above a number
+abbrev pub is_over : ℕ → ℕ → Bool
+is_over n exponent = nat_lt n (2 ^ exponent)

@@ -1,0 +1,206 @@
+//! The operand stack and the control frames.
+
+ghost use Rattle.std.specs.Prelude.{◌≡◌, OnOk, IsTrue};
+ghost use Rattle.wk_check.specs.Own.{popped_any, is_empty};
+ghost use Rattle.wk_check.specs.Moves.{pushed_on, entered_by, left_by, stopped_on, restarted_on, Pops, popped_on, body_of, own_is_empty, head_at};
+
+use crate::fault::FaultKind;
+use crate::operand::Operand;
+use std::alloc::Global;
+use std::marker::Model;
+use wk_bytes::OutOfMemory;
+use wk_module::BlockType;
+
+/// What opened a block.
+#[derive(Clone, Copy, Debug, PartialEq, Eq)]
+pub(crate) enum Opener {
+    /// None: it is the body, or the expression, itself.
+    Body,
+    /// A `block`.
+    Block,
+    /// A `loop`.
+    Loop,
+    /// An `if`, whose first branch is open.
+    If,
+    /// The `else` of an `if`.
+    Else,
+}
+
+/// A control frame: an open block.
+#[derive(Clone, Copy, Debug, PartialEq, Eq)]
+pub(crate) struct Frame {
+    /// What opened it.
+    pub(crate) opener: Opener,
+    /// Its type.
+    pub(crate) block: BlockType,
+    /// Whether it is behind an instruction that does not go on.
+    pub(crate) dead: bool,
+    /// The number of operands below its own.
+    pub(crate) height: usize,
+}
+
+/// The open blocks, each with its own stack, which a contract sees: one operand stack of all of them, cut by control frames.
+#[derive(Drop)]
+pub(crate) struct Machine {
+    operands: Vec<Operand>,
+    inner: Frame,
+    outer: Vec<Frame>,
+}
+
+impl Model for Machine {
+    ghost use Rattle.std.specs.Prelude.{List, reverse, ◌∷◌};
+    ghost use Rattle.wk_check.specs.Levels.{Blocks};
+
+    ghost Value = { Blocks };
+
+    ghost use Rattle.wk_check.specs.Cuts.{blocks_of, Cuts};
+
+    ghost view = { λ m. blocks_of m.inner (reverse m.outer.items) (reverse m.operands.items) };
+
+    ghost invariant = { λ m. Cuts (m.inner ∷ reverse m.outer.items) (reverse m.operands.items) };
+}
+
+impl Machine {
+    /// The machine at the begin of an expression of no type, without room yet.
+    pub(crate) fn new(alloc: Global) -> Self {
+        Machine {
+            operands: Vec::new(alloc),
+            inner: Frame {
+                opener: Opener::Body,
+                block: BlockType::Empty,
+                dead: false,
+                height: 0,
+            },
+            outer: Vec::new(alloc),
+        }
+    }
+
+    /// Begins a body, or an expression, with this type. The room stays.
+    pub(crate) fn begin(&mut self, block: BlockType)
+        ensures { self.new ≡ body_of block }
+    {
+        self.operands.clear();
+        self.outer.clear();
+        self.inner = Frame {
+            opener: Opener::Body,
+            block,
+            dead: false,
+            height: 0,
+        };
+    }
+
+    /// Pushes an operand.
+    #[inline(always)]
+    pub(crate) fn push(&mut self, x: Operand) -> Result<(), OutOfMemory>
+        ensures { OnOk result (self.new ≡ pushed_on x self.old) }
+    {
+        if self.operands.len() < self.operands.capacity() {
+            self.operands.push_reserved(x);
+        } else {
+            self.operands.push(x)?;
+        }
+        Ok(())
+    }
+
+    /// Pops any operand.
+    #[inline(always)]
+    pub(crate) fn pop(&mut self) -> Result<Operand, FaultKind>
+        ensures { Pops (popped_on popped_any self.old) result self.new }
+    {
+        if self.inner.height < self.operands.len() {
+            let Some(x) = self.operands.pop() else {
+                unreachable!()
+            };
+            return Ok(x);
+        }
+        if self.inner.dead {
+            Ok(Operand::any())
+        } else {
+            Err(FaultKind::StackUnderflow)
+        }
+    }
+
+    /// Whether the innermost block's own stack is empty.
+    pub(crate) fn is_clear(&self) -> bool
+        ensures { result ≡ own_is_empty self.now }
+    {
+        self.inner.height == self.operands.len()
+    }
+
+    /// Makes the innermost block dead.
+    pub(crate) fn stop(&mut self)
+        ensures { self.new ≡ stopped_on self.old }
+    {
+        self.operands.truncate(self.inner.height);
+        self.inner.dead = true;
+    }
+
+    /// Opens a block.
+    pub(crate) fn enter(&mut self, opener: Opener, block: BlockType) -> Result<(), OutOfMemory>
+        ensures { OnOk result (self.new ≡ entered_by opener block self.old) }
+    {
+        let height = self.operands.len();
+        self.outer.push(self.inner)?;
+        self.inner = Frame {
+            opener,
+            block,
+            dead: false,
+            height,
+        };
+        Ok(())
+    }
+
+    /// Closes the innermost block, whose own stack is empty, unless it is the only one.
+    pub(crate) fn leave(&mut self)
+        requires { IsTrue (own_is_empty self.old) }
+        ensures { self.new ≡ left_by self.old }
+    {
+        if let Some(frame) = self.outer.pop() {
+            self.inner = frame;
+        }
+    }
+
+    /// Begins an else branch in place of the innermost block, whose own stack is empty.
+    pub(crate) fn restart(&mut self)
+        requires { IsTrue (own_is_empty self.old) }
+        ensures { self.new ≡ restarted_on self.old }
+    {
+        self.inner.opener = Opener::Else;
+        self.inner.dead = false;
+    }
+
+    /// Whether the innermost block is the only one.
+    pub(crate) fn is_outermost(&self) -> bool
+        ensures { result ≡ is_empty self.now.outer }
+    {
+        self.outer.is_empty()
+    }
+
+    /// What opened the innermost block.
+    pub(crate) fn opener(&self) -> Opener
+        ensures { result ≡ self.now.inner.opener }
+    {
+        self.inner.opener
+    }
+
+    /// The type of the innermost block.
+    pub(crate) fn block(&self) -> BlockType
+        ensures { result ≡ self.now.inner.block }
+    {
+        self.inner.block
+    }
+
+    /// What opened the block at a depth, and its type.
+    pub(crate) fn head(&self, depth: usize) -> Option<(Opener, BlockType)>
+        ensures { result ≡ head_at self.now depth }
+    {
+        if depth == 0 {
+            return Some((self.inner.opener, self.inner.block));
+        }
+        if depth > self.outer.len() {
+            return None;
+        }
+        let frame = self.outer[self.outer.len() - depth];
+        Some((frame.opener, frame.block))
+    }
+}

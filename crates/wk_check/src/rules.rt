@@ -1,0 +1,333 @@
+//! What is asked of the items of each section (3.2, 3.4).
+
+ghost use Rattle.std.specs.Prelude.{◌≡◌, ◌+◌, ◌<◌, ◌^◌, ℕ, length, take, nat_lt};
+ghost use Rattle.wk_check.specs.Flaws.{numbered, first_in};
+ghost use Rattle.wk_check.specs.Items.{in_order, in_range, all_within, table_flaw, memory_flaw, type_flaw, global_flaw, elem_flaw, data_flaw, body_flaw, import_flaw, unless, import_flaw_by, is_start, start_flaw};
+ghost use Rattle.wk_check.specs.Spaces.{answer_in, spaces_of, initial_spaces};
+ghost use Rattle.wk_check.specs.Typing.{body_verdict};
+ghost use Rattle.wk_check.specs.Answers.{found};
+
+use crate::constant::constant_flaw;
+use crate::env::{Answer, Env};
+use crate::fault::{BodyVerdict, Fault, FaultKind, Flaw};
+use crate::rule::Rule;
+use crate::typing::{Room, type_body};
+use crate::whole::{Initial, Whole};
+use wk_bytes::OutOfMemory;
+use wk_module::{
+    DataSeg, Elem, Func, FuncType, GlobalDef, Import, ImportDesc, Limits, Profile, Ref, ValType,
+};
+
+/// The most pages that a memory may have, 4 GiB in all.
+const MOST_PAGES: u32 = 1 << 16;
+
+// Whether the least size is not above the greatest.
+fn are_in_order(limits: &Limits) -> bool
+    ensures { result ≡ in_order limits.now.min limits.now.max }
+{
+    match limits.max {
+        Some(max) => limits.min <= max,
+        None => true,
+    }
+}
+
+// Whether a memory may have these sizes.
+fn are_in_range(limits: &Limits) -> bool
+    ensures { result ≡ in_range limits.now.min limits.now.max }
+{
+    match limits.max {
+        Some(max) => limits.min <= MOST_PAGES && max <= MOST_PAGES,
+        None => limits.min <= MOST_PAGES,
+    }
+}
+
+// What is wrong with a table, which is the first in its space or not.
+fn flaw_of_table(limits: &Limits, is_first: bool) -> Option<Flaw>
+    ensures { (before : ℕ) → is_first ≡ nat_lt before 1 → result ≡ table_flaw before limits.now }
+{
+    if !are_in_order(limits) {
+        return Some(Flaw::of(FaultKind::LimitsOrder));
+    }
+    if !is_first {
+        return Some(Flaw::of(FaultKind::TooManyTables));
+    }
+    None
+}
+
+// What is wrong with a memory, which is the first in its space or not.
+fn flaw_of_memory(limits: &Limits, is_first: bool) -> Option<Flaw>
+    ensures { (before : ℕ) → is_first ≡ nat_lt before 1 → result ≡ memory_flaw before limits.now }
+{
+    if !are_in_order(limits) {
+        return Some(Flaw::of(FaultKind::LimitsOrder));
+    }
+    if !are_in_range(limits) {
+        return Some(Flaw::of(FaultKind::MemoryRange));
+    }
+    if !is_first {
+        return Some(Flaw::of(FaultKind::TooManyMemories));
+    }
+    None
+}
+
+/// A type has at most one result, in WebAssembly 1.0.
+#[derive(Clone, Copy)]
+pub(crate) struct TypeRule {
+    pub(crate) profile: Profile,
+}
+
+impl Rule for TypeRule {
+    type Item = FuncType;
+
+    ghost wrong = { λ rule _ t. type_flaw rule.profile t };
+
+    fn flaw(
+        &self,
+        _index: usize,
+        ty: &FuncType,
+        _room: &mut Room,
+    ) -> Result<Option<Flaw>, OutOfMemory> {
+        if self.profile == Profile::Core && ty.results.len() > 1 {
+            return Ok(Some(Flaw::of(FaultKind::TypeArity)));
+        }
+        Ok(None)
+    }
+}
+
+/// The type of a function is one of so many.
+#[derive(Clone, Copy)]
+pub(crate) struct FuncRule {
+    pub(crate) types: usize,
+}
+
+impl Rule for FuncRule {
+    type Item = u32;
+
+    ghost wrong = { λ rule _ x. unless FaultKind.UnknownType (nat_lt x rule.types) };
+
+    fn flaw(&self, _index: usize, ty: &u32, _room: &mut Room) -> Result<Option<Flaw>, OutOfMemory> {
+        if (*ty as usize) < self.types {
+            return Ok(None);
+        }
+        Ok(Some(Flaw::of(FaultKind::UnknownType)))
+    }
+}
+
+/// A table comes behind so many imported ones.
+#[derive(Clone, Copy)]
+pub(crate) struct TableRule {
+    pub(crate) imported: usize,
+}
+
+impl Rule for TableRule {
+    type Item = Limits;
+
+    ghost wrong = { λ rule index l. table_flaw (rule.imported + index) l };
+
+    fn flaw(
+        &self,
+        index: usize,
+        table: &Limits,
+        _room: &mut Room,
+    ) -> Result<Option<Flaw>, OutOfMemory> {
+        Ok(flaw_of_table(table, self.imported == 0 && index == 0))
+    }
+}
+
+/// A memory comes behind so many imported ones.
+#[derive(Clone, Copy)]
+pub(crate) struct MemoryRule {
+    pub(crate) imported: usize,
+}
+
+impl Rule for MemoryRule {
+    type Item = Limits;
+
+    ghost wrong = { λ rule index l. memory_flaw (rule.imported + index) l };
+
+    fn flaw(
+        &self,
+        index: usize,
+        memory: &Limits,
+        _room: &mut Room,
+    ) -> Result<Option<Flaw>, OutOfMemory> {
+        Ok(flaw_of_memory(memory, self.imported == 0 && index == 0))
+    }
+}
+
+/// The initialiser of a global is constant, of its type, and sees imported globals alone.
+#[derive(Clone, Copy)]
+pub(crate) struct GlobalRule<'a> {
+    pub(crate) whole: &'a Whole<'a>,
+}
+
+impl<'a> Rule for GlobalRule<'a> {
+    type Item = GlobalDef;
+
+    ghost wrong = { λ rule _ g. global_flaw (answer_in (initial_spaces rule.whole.now)) g };
+
+    fn flaw(
+        &self,
+        _index: usize,
+        global: &GlobalDef,
+        room: &mut Room,
+    ) -> Result<Option<Flaw>, OutOfMemory> {
+        let initial = Initial { whole: self.whole };
+        constant_flaw(&initial, global.ty.val, &global.init, room)
+    }
+}
+
+// Whether each function is there.
+fn are_there(whole: &Whole<'_>, funcs: &[u32]) -> bool
+    ensures { result ≡ all_within (length (spaces_of whole.now).funcs) funcs.now }
+{
+    for func in funcs {
+        if !whole.has_func(*func) {
+            return false;
+        }
+    }
+    true
+}
+
+/// The table of an element segment is there; its offset is a constant i32; its functions are there.
+#[derive(Clone, Copy)]
+pub(crate) struct ElemRule<'a> {
+    pub(crate) whole: &'a Whole<'a>,
+}
+
+impl<'a> Rule for ElemRule<'a> {
+    type Item = Elem;
+
+    ghost wrong = { λ rule _ e. elem_flaw (spaces_of rule.whole.now) e };
+
+    fn flaw(
+        &self,
+        _index: usize,
+        elem: &Elem,
+        room: &mut Room,
+    ) -> Result<Option<Flaw>, OutOfMemory> {
+        if !self.whole.has_table(elem.table) {
+            return Ok(Some(Flaw::of(FaultKind::UnknownTable)));
+        }
+        if let Some(flaw) = constant_flaw(self.whole, ValType::I32, &elem.offset, room)? {
+            return Ok(Some(flaw));
+        }
+        if are_there(self.whole, elem.funcs.as_slice()) {
+            return Ok(None);
+        }
+        Ok(Some(Flaw::of(FaultKind::UnknownFunc)))
+    }
+}
+
+/// The memory of a data segment is there; its offset is a constant i32.
+#[derive(Clone, Copy)]
+pub(crate) struct DataRule<'a> {
+    pub(crate) whole: &'a Whole<'a>,
+}
+
+impl<'a> Rule for DataRule<'a> {
+    type Item = DataSeg;
+
+    ghost wrong = { λ rule _ d. data_flaw (spaces_of rule.whole.now) d };
+
+    fn flaw(
+        &self,
+        _index: usize,
+        data: &DataSeg,
+        room: &mut Room,
+    ) -> Result<Option<Flaw>, OutOfMemory> {
+        if !self.whole.has_memory(data.memory) {
+            return Ok(Some(Flaw::of(FaultKind::UnknownMemory)));
+        }
+        constant_flaw(self.whole, ValType::I32, &data.offset, room)
+    }
+}
+
+/// A body is valid under the type of its function.
+#[derive(Clone, Copy)]
+pub(crate) struct CodeRule<'a> {
+    pub(crate) whole: &'a Whole<'a>,
+}
+
+impl<'a> Rule for CodeRule<'a> {
+    type Item = Func;
+
+    ghost wrong = { λ rule _ f. body_flaw (body_verdict (answer_in (spaces_of rule.whole.now)) f.ty f.body) };
+
+    fn flaw(
+        &self,
+        _index: usize,
+        func: &Func,
+        room: &mut Room,
+    ) -> Result<Option<Flaw>, OutOfMemory> {
+        match type_body(self.whole, func.ty, &func.body, room)? {
+            BodyVerdict::Valid => Ok(None),
+            BodyVerdict::Invalid { kind, token } => Ok(Some(Flaw {
+                kind,
+                token: Some(token),
+            })),
+        }
+    }
+}
+
+// What is wrong with an import, where there are so many types, and so many tables and memories are imported before it.
+fn flaw_of_import(types: usize, tables: usize, memories: usize, desc: &ImportDesc) -> Option<Flaw>
+    ensures { result ≡ import_flaw_by types tables memories desc.now }
+{
+    match desc {
+        ImportDesc::Func(ty) => {
+            if (*ty as usize) < types {
+                None
+            } else {
+                Some(Flaw::of(FaultKind::UnknownType))
+            }
+        }
+        ImportDesc::Table(limits) => flaw_of_table(limits, tables == 0),
+        ImportDesc::Memory(limits) => flaw_of_memory(limits, memories == 0),
+        ImportDesc::Global(_) => None,
+    }
+}
+
+/// The first fault of the import section.
+pub(crate) fn imports_fault(types: &[FuncType], imports: &[Import]) -> Option<Fault>
+    requires { length imports.now < 2 ^ 32 }
+    ensures { result ≡ first_in 2 0 (numbered (λ item i. import_flaw types.now (take item imports.now) i.desc) 0 imports.now) }
+{
+    let mut tables: usize = 0;
+    let mut memories: usize = 0;
+    for (index, import) in imports.iter().enumerate() {
+        if let Some(flaw) = flaw_of_import(types.len(), tables, memories, &import.desc) {
+            return Some(flaw.at(2, index as u32));
+        }
+        match import.desc {
+            ImportDesc::Func(_) => {}
+            ImportDesc::Table(_) => tables += 1,
+            ImportDesc::Memory(_) => memories += 1,
+            ImportDesc::Global(_) => {}
+        }
+    }
+    None
+}
+
+// Whether a function takes nothing and gives nothing.
+fn is_start(answer: &Answer<'_>) -> bool
+    ensures { result ≡ is_start (found answer.now) }
+{
+    match answer {
+        Answer::Func(ty) => ty.params.is_empty() && ty.results.is_empty(),
+        _ => false,
+    }
+}
+
+/// What is wrong with the start function.
+pub(crate) fn flaw_of_start(whole: &Whole<'_>, start: u32) -> Option<Flaw>
+    ensures { result ≡ start_flaw (spaces_of whole.now) start }
+{
+    if !whole.has_func(start) {
+        return Some(Flaw::of(FaultKind::UnknownFunc));
+    }
+    if !is_start(&whole.answer(Ref::Func(start))) {
+        return Some(Flaw::of(FaultKind::StartType));
+    }
+    None
+}

@@ -1,0 +1,254 @@
+//! A module as its code sees it.
+
+ghost use Rattle.std.specs.Prelude.{◌≡◌, IfOk, length, nat_lt, slice_get};
+ghost use Rattle.wk_module.specs.Listed.{listed};
+ghost use Rattle.wk_check.specs.Answers.{found};
+ghost use Rattle.wk_check.specs.Spaces.{answer_in, spaces_of, initial_spaces, imported, table_in, memory_in};
+ghost use Rattle.wk_body.specs.declared.references.Ref.{Ref};
+
+use crate::env::{Answer, Env};
+use std::alloc::Global;
+use std::marker::Model;
+use wk_bytes::OutOfMemory;
+use wk_module::{GlobalType, ImportDesc, Lists, Ref};
+
+/// The lists of a module with what its imports are, so that each reference is found in constant time: functions and globals that
+/// are imported come first in their spaces (2.5.1).
+#[derive(Drop)]
+pub struct Whole<'a> {
+    lists: Lists<'a>,
+    // the type of each imported function
+    funcs: Vec<u32>,
+    // the type of each imported global
+    globals: Vec<GlobalType>,
+    // how many tables are imported
+    tables: usize,
+    // how many memories are imported
+    memories: usize,
+}
+
+impl<'a> Model for Whole<'a> {
+    ghost use Rattle.std.specs.Coded.{codes};
+    ghost use Rattle.wk_body.specs.Bodies.{coded_body};
+    ghost use Rattle.wk_body.specs.TreeCode.{coded_instrs};
+    ghost use Rattle.wk_module.specs.Listed.{listed};
+    ghost use Rattle.wk_module.specs.Sections.{SectionLists};
+    ghost use Rattle.wk_check.specs.Whole.{AreImported};
+
+    ghost Value = { SectionLists };
+
+    ghost coded = { Prim.hlevel (codes, coded_instrs, coded_body) };
+
+    ghost view = { λ w. listed w.lists };
+
+    ghost invariant = { λ w. AreImported w.lists.imports.now w.funcs.items w.globals.items w.tables w.memories };
+}
+
+impl<'a> Whole<'a> {
+    /// What the code of a module with these lists sees. It takes memory for the imports alone.
+    ///
+    /// # Errors
+    ///
+    /// Want of memory.
+    pub fn of(alloc: Global, lists: Lists<'a>) -> Result<Whole<'a>, OutOfMemory>
+        ensures { IfOk result (λ w. w ≡ listed lists) }
+    {
+        let mut funcs = Vec::new(alloc);
+        let mut globals = Vec::new(alloc);
+        let mut tables: usize = 0;
+        let mut memories: usize = 0;
+        for import in lists.imports {
+            match import.desc {
+                ImportDesc::Func(ty) => funcs.push(ty)?,
+                ImportDesc::Table(_) => tables += 1,
+                ImportDesc::Memory(_) => memories += 1,
+                ImportDesc::Global(ty) => globals.push(ty)?,
+            }
+        }
+        Ok(Whole {
+            lists,
+            funcs,
+            globals,
+            tables,
+            memories,
+        })
+    }
+
+    // The index of the type of a function.
+    fn func(&self, x: u32) -> Option<u32>
+        ensures { result ≡ slice_get (spaces_of self.now).funcs x }
+    {
+        let x = x as usize;
+        if x < self.funcs.len() {
+            return Some(self.funcs[x]);
+        }
+        self.lists.funcs.get(x - self.funcs.len()).copied()
+    }
+
+    // The type of a global.
+    fn global(&self, x: u32) -> Option<GlobalType>
+        ensures { result ≡ slice_get (spaces_of self.now).globals x }
+    {
+        let x = x as usize;
+        if x < self.globals.len() {
+            return Some(self.globals[x]);
+        }
+        self.lists
+            .globals
+            .get(x - self.globals.len())
+            .map(|global| global.ty)
+    }
+
+    /// How many tables are imported.
+    pub(crate) fn imported_tables(&self) -> usize
+        ensures { result ≡ length (imported table_in self.now.imports) }
+    {
+        self.tables
+    }
+
+    /// How many memories are imported.
+    pub(crate) fn imported_memories(&self) -> usize
+        ensures { result ≡ length (imported memory_in self.now.imports) }
+    {
+        self.memories
+    }
+
+    /// Whether there is a function of that index.
+    pub(crate) fn has_func(&self, x: u32) -> bool
+        ensures { result ≡ nat_lt x (length (spaces_of self.now).funcs) }
+    {
+        let x = x as usize;
+        x < self.funcs.len() || x - self.funcs.len() < self.lists.funcs.len()
+    }
+
+    /// Whether there is a table of that index.
+    pub(crate) fn has_table(&self, x: u32) -> bool
+        ensures { result ≡ nat_lt x (length (spaces_of self.now).tables) }
+    {
+        let x = x as usize;
+        x < self.tables || x - self.tables < self.lists.tables.len()
+    }
+
+    /// Whether there is a memory of that index.
+    pub(crate) fn has_memory(&self, x: u32) -> bool
+        ensures { result ≡ nat_lt x (length (spaces_of self.now).memories) }
+    {
+        let x = x as usize;
+        x < self.memories || x - self.memories < self.lists.memories.len()
+    }
+
+    /// Whether there is a global of that index.
+    pub(crate) fn has_global(&self, x: u32) -> bool
+        ensures { result ≡ nat_lt x (length (spaces_of self.now).globals) }
+    {
+        let x = x as usize;
+        x < self.globals.len() || x - self.globals.len() < self.lists.globals.len()
+    }
+
+    // What a reference to the type of an index finds.
+    fn found_type(&self, x: u32) -> Answer<'_>
+        ensures { found result ≡ answer_in (spaces_of self.now) (Ref.Ty x) }
+    {
+        match self.lists.types.get(x as usize) {
+            Some(ty) => Answer::Ty(ty),
+            None => Answer::NoType,
+        }
+    }
+
+    // What a reference to a function finds.
+    fn found_func(&self, x: u32) -> Answer<'_>
+        ensures { found result ≡ answer_in (spaces_of self.now) (Ref.Func x) }
+    {
+        let Some(ty) = self.func(x) else {
+            return Answer::NoFunc;
+        };
+        match self.lists.types.get(ty as usize) {
+            Some(ty) => Answer::Func(ty),
+            None => Answer::FuncOfNoType,
+        }
+    }
+
+    // What a reference to a global finds.
+    fn found_global(&self, x: u32) -> Answer<'_>
+        ensures { found result ≡ answer_in (spaces_of self.now) (Ref.Global x) }
+    {
+        match self.global(x) {
+            Some(ty) => Answer::Global(ty),
+            None => Answer::NoGlobal,
+        }
+    }
+
+    // What a reference to the table finds.
+    fn found_table(&self) -> Answer<'_>
+        ensures { found result ≡ answer_in (spaces_of self.now) Ref.Table }
+    {
+        if self.tables == 0 && self.lists.tables.is_empty() {
+            return Answer::Absent;
+        }
+        Answer::Present
+    }
+
+    // What a reference to the memory finds.
+    fn found_memory(&self) -> Answer<'_>
+        ensures { found result ≡ answer_in (spaces_of self.now) Ref.Memory }
+    {
+        if self.memories == 0 && self.lists.memories.is_empty() {
+            return Answer::Absent;
+        }
+        Answer::Present
+    }
+}
+
+impl<'a> Env for Whole<'a> {
+    ghost use Rattle.wk_check.specs.Spaces.{answer_in, spaces_of, answers_of_kind};
+
+    ghost answers = { λ w r. answer_in (spaces_of w) r };
+
+    ghost of_kind = { λ w r. answers_of_kind (spaces_of w) r };
+
+    fn answer(&self, reference: Ref) -> Answer<'_> {
+        match reference {
+            Ref::Ty(x) => self.found_type(x),
+            Ref::Func(x) => self.found_func(x),
+            Ref::Global(x) => self.found_global(x),
+            Ref::Table => self.found_table(),
+            Ref::Memory => self.found_memory(),
+        }
+    }
+}
+
+/// The same module as the initialisers of its globals see it: of the globals they see the imported ones alone (3.4.10).
+#[derive(Clone, Copy)]
+pub(crate) struct Initial<'a> {
+    pub(crate) whole: &'a Whole<'a>,
+}
+
+impl<'a> Initial<'a> {
+    // What a reference to a global finds.
+    fn found_global(&self, x: u32) -> Answer<'_>
+        ensures { found result ≡ answer_in (initial_spaces self.now.whole.now) (Ref.Global x) }
+    {
+        match self.whole.globals.get(x as usize) {
+            Some(ty) => Answer::Global(*ty),
+            None => Answer::NoGlobal,
+        }
+    }
+}
+
+impl<'a> Env for Initial<'a> {
+    ghost use Rattle.wk_check.specs.Spaces.{answer_in, initial_spaces, answers_of_kind};
+
+    ghost answers = { λ i r. answer_in (initial_spaces i.whole.now) r };
+
+    ghost of_kind = { λ i r. answers_of_kind (initial_spaces i.whole.now) r };
+
+    fn answer(&self, reference: Ref) -> Answer<'_> {
+        match reference {
+            Ref::Ty(x) => self.whole.found_type(x),
+            Ref::Func(x) => self.whole.found_func(x),
+            Ref::Global(x) => self.found_global(x),
+            Ref::Table => self.whole.found_table(),
+            Ref::Memory => self.whole.found_memory(),
+        }
+    }
+}
