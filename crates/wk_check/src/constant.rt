@@ -1,6 +1,6 @@
 //! Constant expressions (3.3.7.2).
 
-ghost use Rattle.std.specs.Prelude.{◌≡◌, ◌<◌, ◌^◌, length, IfOk};
+ghost use Rattle.std.specs.Prelude.{◌≡◌, ◌<◌, ◌^◌, [], length, IfOk};
 ghost use Rattle.wk_body.specs.Kept.{told, all_told};
 ghost use Rattle.wk_check.specs.Constants.{constant_flaw, is_constant_tok, first_varying_tok};
 

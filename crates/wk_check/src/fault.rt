@@ -1,5 +1,8 @@
 //! What a verdict says.
 
+ghost use Rattle.std.specs.Prelude.{◌≡◌, None};
+ghost use Rattle.wk_check.specs.Flaws.{fault_at};
+
 /// What is wrong with a module, V1 to V21 in this order.
 #[derive(Clone, Copy, Debug, PartialEq, Eq)]
 pub enum FaultKind {

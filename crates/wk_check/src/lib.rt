@@ -1,7 +1,6 @@
 //! The typing of bodies and the verdict of a module: valid, or the first fault and its place.
 #![tactic(auto)]
 
-mod carry;
 mod constant;
 mod control;
 mod display;
@@ -9,6 +8,7 @@ mod env;
 mod exports;
 mod fault;
 mod judging;
+mod kept;
 mod locals;
 mod machine;
 mod meter;
@@ -21,10 +21,10 @@ mod stop;
 mod typing;
 mod whole;
 
-pub use carry::{carry, carry_moved};
 pub use env::{Answer, Env};
 pub use fault::{BodyVerdict, Fault, FaultKind, Place, Verdict};
 pub use judging::{judge, judge_around};
+pub use kept::{carry, carry_moved};
 pub use meter::{Meter, judge_body};
 pub use whole::Whole;
 

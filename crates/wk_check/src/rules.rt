@@ -103,7 +103,9 @@ pub(crate) struct FuncRule {
 impl Rule for FuncRule {
     type Item = u32;
 
-    ghost wrong = { λ rule _ x. unless FaultKind.UnknownType (nat_lt x rule.types) };
+    ghost use Rattle.wk_check.specs.declared.fault.FaultKind.TheVariants.{UnknownType};
+
+    ghost wrong = { λ rule _ x. unless UnknownType (nat_lt x rule.types) };
 
     fn flaw(&self, _index: usize, ty: &u32, _room: &mut Room) -> Result<Option<Flaw>, OutOfMemory> {
         if (*ty as usize) < self.types {

@@ -51,7 +51,7 @@ impl<'a> Whole<'a> {
     ///
     /// Want of memory.
     pub fn of(alloc: Global, lists: Lists<'a>) -> Result<Whole<'a>, OutOfMemory>
-        ensures { IfOk result (λ w. w ≡ listed lists) }
+        ensures { IfOk result (λ w. w ≡ listed lists.entry) }
     {
         let mut funcs = Vec::new(alloc);
         let mut globals = Vec::new(alloc);
@@ -228,7 +228,8 @@ impl<'a> Initial<'a> {
     fn found_global(&self, x: u32) -> Answer<'_>
         ensures { found result ≡ answer_in (initial_spaces self.now.whole.now) (Ref.Global x) }
     {
-        match self.whole.globals.get(x as usize) {
+        let whole = self.whole;
+        match whole.globals.get(x as usize) {
             Some(ty) => Answer::Global(*ty),
             None => Answer::NoGlobal,
         }
