@@ -342,27 +342,28 @@ fn replies_of(alloc: Global, steps: &[Step]) -> Result<Vec<Reply>, Fail> {
     Ok(replies)
 }
 
-// Runs the changes.
+// Runs the changes, and looks at all that the session then says.
 fn run_all(
     rt: &impl Abort,
     alloc: Global,
     session: &mut Session,
     steps: &[Step],
+    whole: &[u8],
+    verdict: Verdict,
 ) -> Result<(), Fail> {
     let edits = edits_of(alloc, steps)?;
     let replies = session.run(edits.as_slice())?;
     assert_eq!(rt; replies.as_slice(), replies_of(alloc, steps)?.as_slice());
-    Ok(())
+    looks(rt, alloc, session, whole, verdict)
 }
 
 #[test]
 fn runs(rt: HostRuntime) -> Result<(), Fail> {
-    let mut session = Session::open(rt.alloc(), MIXED)?;
-    run_all(&rt, rt.alloc(), &mut session, &[])?;
-    looks(&rt, rt.alloc(), &session, MIXED, Verdict::Valid)?;
     let steps = mixed_steps();
-    run_all(&rt, rt.alloc(), &mut session, &steps)?;
-    looks(&rt, rt.alloc(), &session, steps[7].2, arity(2))
+    let [.., (_, _, last, _)] = steps;
+    let mut session = Session::open(rt.alloc(), MIXED)?;
+    run_all(&rt, rt.alloc(), &mut session, &[], MIXED, Verdict::Valid)?;
+    run_all(&rt, rt.alloc(), &mut session, &steps, last, arity(2))
 }
 
 // The written form of `MIXED` without its custom sections, except those of a name.
