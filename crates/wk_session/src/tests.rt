@@ -163,7 +163,15 @@ fn edit_of(alloc: Global, change: Change) -> Result<Edit, AllocError> {
 // A change, what it is answered, and the module and the verdict that it leaves.
 type Step = (Change, Reply, &'static [u8], Verdict);
 
-// Changes of `MIXED`.
+// `MIXED` with a type from `i32` to `i64`, and without the custom sections `a`.
+const NO_A: &[u8] =
+    b"\0asm\x01\0\0\0\0\x03\x01b\x01\x01\x09\x02\x60\0\0\x60\x01\x7f\x01\x7e\0\x02\0\x03\0\x02\x01c";
+
+// `NO_A` with two more types, and without the custom section of the empty name.
+const FOUR_TYPES: &[u8] =
+    b"\0asm\x01\0\0\0\0\x03\x01b\x01\x01\x13\x04\x60\0\0\x60\x01\x7f\x01\x7e\x60\0\x02\x7f\x7f\x60\x02\x7d\x7c\0\0\x02\x01c";
+
+// Changes of `MIXED`, which end in `FOUR_TYPES`.
 fn mixed_steps() -> [Step; 8] {
     let missing = Err(EditFault::NoSuchCustom);
     [
@@ -174,18 +182,8 @@ fn mixed_steps() -> [Step; 8] {
             b"\0asm\x01\0\0\0\0\x02\x01a\0\x03\x01b\x01\x01\x09\x02\x60\0\0\x60\x01\x7f\x01\x7e\0\x03\x01a\x02\0\x02\0\x03\0\x02\x01c\0\x02\x01a",
             Verdict::Valid,
         ),
-        (
-            Change::StripCustom("a"),
-            made(0),
-            b"\0asm\x01\0\0\0\0\x03\x01b\x01\x01\x09\x02\x60\0\0\x60\x01\x7f\x01\x7e\0\x02\0\x03\0\x02\x01c",
-            Verdict::Valid,
-        ),
-        (
-            Change::StripCustom("a"),
-            missing,
-            b"\0asm\x01\0\0\0\0\x03\x01b\x01\x01\x09\x02\x60\0\0\x60\x01\x7f\x01\x7e\0\x02\0\x03\0\x02\x01c",
-            Verdict::Valid,
-        ),
+        (Change::StripCustom("a"), made(0), NO_A, Verdict::Valid),
+        (Change::StripCustom("a"), missing, NO_A, Verdict::Valid),
         (
             Change::Ty(&[], &[ValType::I32, ValType::I32]),
             made(1),
@@ -201,15 +199,10 @@ fn mixed_steps() -> [Step; 8] {
         (
             Change::Ty(&[ValType::F32, ValType::F64], &[]),
             made(1),
-            b"\0asm\x01\0\0\0\0\x03\x01b\x01\x01\x13\x04\x60\0\0\x60\x01\x7f\x01\x7e\x60\0\x02\x7f\x7f\x60\x02\x7d\x7c\0\0\x02\x01c",
+            FOUR_TYPES,
             arity(2),
         ),
-        (
-            Change::StripCustom("B"),
-            missing,
-            b"\0asm\x01\0\0\0\0\x03\x01b\x01\x01\x13\x04\x60\0\0\x60\x01\x7f\x01\x7e\x60\0\x02\x7f\x7f\x60\x02\x7d\x7c\0\0\x02\x01c",
-            arity(2),
-        ),
+        (Change::StripCustom("B"), missing, FOUR_TYPES, arity(2)),
     ]
 }
 
@@ -359,11 +352,16 @@ fn run_all(
 
 #[test]
 fn runs(rt: HostRuntime) -> Result<(), Fail> {
-    let steps = mixed_steps();
-    let [.., (_, _, last, _)] = steps;
     let mut session = Session::open(rt.alloc(), MIXED)?;
     run_all(&rt, rt.alloc(), &mut session, &[], MIXED, Verdict::Valid)?;
-    run_all(&rt, rt.alloc(), &mut session, &steps, last, arity(2))
+    run_all(
+        &rt,
+        rt.alloc(),
+        &mut session,
+        &mixed_steps(),
+        FOUR_TYPES,
+        arity(2),
+    )
 }
 
 // The written form of `MIXED` without its custom sections, except those of a name.
