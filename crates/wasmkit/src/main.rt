@@ -7,6 +7,7 @@ mod fault;
 mod files;
 mod listing;
 mod store;
+mod validation;
 
 use crate::commands::{program, tell};
 use crate::fault::ProgramFault;
