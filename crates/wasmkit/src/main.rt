@@ -47,3 +47,5 @@ fn main(rt: HostRuntime) -> io::Result<ExitCode> {
 mod tests;
 #[cfg(test)]
 mod tests_strip;
+#[cfg(test)]
+mod tests_validate;
