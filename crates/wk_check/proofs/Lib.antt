@@ -1,0 +1,4 @@
+pub mod Binds
+pub mod Bodies
+pub mod Labels
+pub mod Runs
