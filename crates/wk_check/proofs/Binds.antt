@@ -1,4 +1,4 @@
--- Faults end what comes after them.
+-- Laws of results that are put one after the other.
 use Rattle.std.proofs.Common.{◌≡◌, ℕ, Result, Ok, Err, refl}
 use Rattle.wk_bytes.specs.Leb.{◌>>=◌}
 use Rattle.wk_check.specs.declared.fault.FaultKind.{FaultKind}
@@ -12,7 +12,6 @@ pub bind_assoc : {A B C E : Type 0} (m : Result A E) (f : A → Result B E) (g :
 bind_assoc (Ok x) f g = refl
 bind_assoc (Err e) f g = refl
 
--- what one token does, and what comes after it
 pub at_bind : {A B C : Type 0} (k : ℕ) (m : Result A FaultKind) (f : A → B) (g : B → Result C TokenFault) → (at_token k (m >>= λ x. Ok (f x)) >>= g) ≡ (at_token k m >>= λ x. g (f x))
 at_bind k (Ok x) f g = refl
 at_bind k (Err e) f g = refl

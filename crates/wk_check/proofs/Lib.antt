@@ -1,4 +1,6 @@
 pub mod Binds
 pub mod Bodies
+pub mod Cuts
 pub mod Labels
+pub mod Popping
 pub mod Runs
