@@ -1,3 +1,4 @@
+pub mod Alignment
 pub mod Binds
 pub mod Bodies
 pub mod Cuts
