@@ -1,3 +1,7 @@
+pub mod Alignment
 pub mod Binds
+pub mod Bodies
 pub mod Cuts
+pub mod Labels
 pub mod Popping
+pub mod Runs
