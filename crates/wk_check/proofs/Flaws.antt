@@ -1,18 +1,25 @@
 -- The first flaw of a section, of sections that are put together, and of a module.
-use Rattle.std.proofs.Common.{◌≡◌, ℕ, suc, ◌+◌, ◌<◌, List, [], ◌∷◌, ◌++◌, length, get_or, take, drop, Option, Some, None, refl, ap, sym, ◌∙◌, add-zero, add-one, arith}
+use Rattle.std.proofs.Common.{◌≡◌, ℕ, suc, ◌+◌, ◌<◌, ◌^◌, List, [], ◌∷◌, ◌++◌, length, Bool, true, false, nat_lt, get_or, take, drop, Option, Some, None, refl, ap, sym, ◌∙◌, add-zero, add-one, arith}
 use Rattle.std.proofs.Math.Nat.{zero-add}
 use Rattle.std.proofs.Math.Seq.{take-suc, drop-cons}
+use Rattle.std.proofs.lemmas.List.{length-map}
 use Rattle.std.specs.List.{AllByRecursion}
 use Rattle.wk_module.specs.declared.types.Import.{Import}
 use Rattle.wk_module.specs.declared.types.ImportDesc.{ImportDesc}
 use Rattle.wk_module.specs.declared.types.Parts.{Parts}
-use Rattle.wk_module.specs.Shape.{lists_of}
+use Rattle.wk_module.specs.Sections.{TypeSection, ImportSection, FunctionSection, TableSection, MemorySection, GlobalSection, ExportSection, ElementSection, DataSection}
+use Rattle.wk_module.specs.Shape.{lists_of, IsShaped}
 use Rattle.wk_check.specs.declared.fault.Flaw.{Flaw}
 use Rattle.wk_check.specs.declared.fault.Fault.{Fault}
 use Rattle.wk_check.specs.Flaws.{fault_at, numbered, first_in, first_fault, verdict_by, AreFine, IsFirst, IsVerdictOn}
-use Rattle.wk_check.specs.Items.{earlier}
+use Rattle.wk_body.specs.declared.types.Profile.{Profile}
+use Rattle.wk_body.specs.declared.types.Profile.TheVariants.{Core, Extended}
+use Rattle.wk_module.specs.declared.types.FuncType.{FuncType}
+use Rattle.wk_check.specs.declared.fault.FaultKind.TheVariants.{TypeArity}
+use Rattle.wk_check.specs.Items.{earlier, unless, type_flaw, start_flaws}
 use Rattle.wk_check.specs.Spaces.{and_more, imported}
-use Rattle.wk_check.specs.Verdict.{code_flaws, data_flaws, flaws_before_code, module_flaws, module_verdict, IsVerdict}
+use Rattle.wk_check.specs.Verdict.{type_flaws, code_flaws, data_flaws, code_fault, flaws_before_code, module_flaws, module_verdict, IsVerdict, IsNotArity, extended}
+use Rattle.wk_check.specs.Whole.{AreNumbered}
 
 -- ---- steps of loops
 
@@ -129,3 +136,58 @@ module_flaws_are m =
 
 pub meaning : (m : Parts) → IsVerdict m (module_verdict m)
 meaning m = rw (module_flaws_are m) at (verdict_told (module_flaws m))
+
+-- ---- under the rules of the other profile
+
+-- nothing, or a type with many results
+abbrev IsOfArity : Option Fault → Type 0
+IsOfArity None = Unit {0}
+IsOfArity (Some fault) = fault.kind ≡ TypeArity
+
+arity_or : (few : Bool) (item : ℕ) (rest : List (Option Flaw)) → IsOfArity (first_in 1 (item + 1) rest) → IsOfArity (first_in 1 item (unless TypeArity few ∷ rest))
+arity_or true item rest behind = behind
+arity_or false item rest behind = refl
+
+type_fault_of_arity : (profile : Profile) (item from : ℕ) (types : List FuncType) → IsOfArity (first_in 1 item (numbered (λ at t. type_flaw profile t) from types))
+type_fault_of_arity profile item from [] = tt
+type_fault_of_arity Extended item from (t ∷ types) = type_fault_of_arity Extended (item + 1) (from + 1) types
+type_fault_of_arity Core item from (t ∷ types) =
+    arity_or (nat_lt (length t.results) 2) item (numbered (λ at u. type_flaw Core u) (from + 1) types) (type_fault_of_arity Core (item + 1) (from + 1) types)
+
+no_type_fault : (item from : ℕ) (types : List FuncType) → first_in 1 item (numbered (λ at t. type_flaw Extended t) from types) ≡ None
+no_type_fault item from [] = refl
+no_type_fault item from (t ∷ types) = no_type_fault (item + 1) (from + 1) types
+
+-- a fault that is not one of arity comes from what is behind the types
+kept_behind : (first other rest behind : Option Fault) → other ≡ None → IsOfArity first → IsNotArity (verdict_by (earlier (earlier first rest) behind))
+    → verdict_by (earlier (earlier other rest) behind) ≡ verdict_by (earlier (earlier first rest) behind)
+kept_behind None other rest behind none arity differs = rw none
+kept_behind (Some fault) other rest behind none arity differs = absurd (differs arity)
+
+pub verdict_extended : (m : Parts) → IsNotArity (module_verdict m) → module_verdict (extended m) ≡ module_verdict m
+verdict_extended m =
+    kept_behind
+    (first_in 1 0 (type_flaws m.profile (lists_of m)))
+    (first_in 1 0 (type_flaws Extended (lists_of m)))
+    _
+    (earlier (code_fault m) (first_in 11 0 (data_flaws (lists_of m))))
+    (no_type_fault 0 0 m.types)
+    (type_fault_of_arity m.profile 0 0 m.types)
+
+-- ---- a module's lists are short
+
+pub are_numbered : (m : Parts) → IsShaped m → AreNumbered (record (lists_of m) { codes = [] })
+are_numbered m shaped = record {
+  types = shaped.formed.valid TypeSection;
+  imports = (shaped.formed.valid ImportSection).0;
+  funcs = (shaped.formed.valid FunctionSection).0;
+  tables = (shaped.formed.valid TableSection).0;
+  memories = (shaped.formed.valid MemorySection).0;
+  globals = (shaped.formed.valid GlobalSection).0;
+  exports = (shaped.formed.valid ExportSection).0;
+  elems = (shaped.formed.valid ElementSection).0;
+  datas = (shaped.formed.valid DataSection).0;
+}
+
+pub funcs_numbered : (m : Parts) → IsShaped m → length m.funcs < 2 ^ 32
+funcs_numbered m shaped = rw length-map at (shaped.formed.valid FunctionSection).0
