@@ -2,6 +2,7 @@ pub mod Alignment
 pub mod Binds
 pub mod Bodies
 pub mod Cuts
+pub mod Flaws
 pub mod Imported
 pub mod Labels
 pub mod Popping
