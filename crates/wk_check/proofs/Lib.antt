@@ -3,6 +3,7 @@ pub mod Binds
 pub mod Bodies
 pub mod Cuts
 pub mod Flaws
+pub mod Frames
 pub mod Imported
 pub mod Labels
 pub mod Popping
