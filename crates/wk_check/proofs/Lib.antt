@@ -2,6 +2,9 @@ pub mod Alignment
 pub mod Binds
 pub mod Bodies
 pub mod Cuts
+pub mod Flaws
+pub mod Frames
+pub mod Imported
 pub mod Labels
 pub mod Popping
 pub mod Runs
