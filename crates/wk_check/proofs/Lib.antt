@@ -6,5 +6,6 @@ pub mod Flaws
 pub mod Frames
 pub mod Imported
 pub mod Labels
+pub mod LocalEnds
 pub mod Popping
 pub mod Runs
