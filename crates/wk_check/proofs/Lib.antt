@@ -1,1 +1,4 @@
+pub mod Fits
 pub mod Frames
+pub mod Sound
+pub mod Stacked
