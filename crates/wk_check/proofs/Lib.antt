@@ -2,6 +2,7 @@ pub mod Alignment
 pub mod Binds
 pub mod Bodies
 pub mod Cuts
+pub mod Fits
 pub mod Flaws
 pub mod Frames
 pub mod Imported
@@ -9,3 +10,5 @@ pub mod Labels
 pub mod LocalEnds
 pub mod Popping
 pub mod Runs
+pub mod Sound
+pub mod Stacked
