@@ -8,6 +8,7 @@ pub mod Frames
 pub mod Imported
 pub mod Labels
 pub mod LocalEnds
+pub mod Names
 pub mod Popping
 pub mod Runs
 pub mod Sound

@@ -1,0 +1,7 @@
+use Rattle.std.proofs.Common.{◌≡◌, ◌<◌, ◌^◌, [], length, IfOk, ℕ, ◌+◌, ◌-◌, ◌*◌, ◌≤◌}
+use Rattle.wk_body.specs.Kept.{told, all_told}
+use Rattle.wk_check.specs.Constants.{constant_flaw, is_constant_tok, first_varying_tok}
+use Rattle.wk_check.proofs.constant.first_varying.Given as goal
+
+abbrev pub invariant-loop-at : goal.invariant-loop-at
+invariant-loop-at g l = ?
