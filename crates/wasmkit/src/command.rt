@@ -16,6 +16,8 @@ pub enum Asked<'a> {
     Sections(&'a str),
     /// `strip`
     Strip(StripCommand<'a>),
+    /// `validate`
+    Validate(ValidateCommand<'a>),
 }
 
 /// `edit [--extended] FILE SCRIPT OUT`: the names of files, as they stand.
@@ -42,6 +44,15 @@ pub struct StripCommand<'a> {
     pub file: &'a str,
     /// Where the stripped module goes.
     pub out: &'a str,
+}
+
+/// `validate [--extended] FILE`: the name of the file, as it stands.
+#[derive(Clone, Copy, Debug)]
+pub struct ValidateCommand<'a> {
+    /// The profile that the module is read and judged in.
+    pub profile: Profile,
+    /// The module.
+    pub file: &'a str,
 }
 
 fn word<'a>(alloc: Global, id: &'static str, help: &'static str) -> Arg<'a> {
@@ -97,6 +108,13 @@ fn strip_command<'a>(alloc: Global) -> Result<Command<'a>, AllocError> {
         .arg(word(alloc, "OUT", "where the stripped module goes"))
 }
 
+fn validate_command<'a>(alloc: Global) -> Result<Command<'a>, AllocError> {
+    Command::new(alloc, "validate")
+        .about("Says whether a module is valid, or its first fault")
+        .arg(extended(alloc))?
+        .arg(word(alloc, "FILE", "the module"))
+}
+
 fn command<'a>(alloc: Global) -> Result<Command<'a>, AllocError> {
     Command::new(alloc, "wasmkit")
         .about("Reads, judges and edits WebAssembly 1.0 binary modules")
@@ -104,7 +122,8 @@ fn command<'a>(alloc: Global) -> Result<Command<'a>, AllocError> {
         .subcommand_required(true)
         .subcommand(edit_command(alloc)?)?
         .subcommand(sections_command(alloc)?)?
-        .subcommand(strip_command(alloc)?)
+        .subcommand(strip_command(alloc)?)?
+        .subcommand(validate_command(alloc)?)
 }
 
 fn read_edit<'a>(found: &ArgMatches<'a>) -> Result<EditCommand<'a>, ProgramFault<'a>> {
@@ -155,6 +174,16 @@ fn read_strip<'a>(
     })
 }
 
+fn read_validate<'a>(found: &ArgMatches<'a>) -> Result<ValidateCommand<'a>, ProgramFault<'a>> {
+    let Some(file) = found.get_str("FILE") else {
+        return Err(ProgramFault::BadWords);
+    };
+    Ok(ValidateCommand {
+        profile: profile_of(found),
+        file,
+    })
+}
+
 /// Reads the words after the program's name.
 ///
 /// # Errors
@@ -169,6 +198,7 @@ pub fn read_words<'a>(alloc: Global, words: &'a [String]) -> Result<Asked<'a>, P
             None => Err(ProgramFault::BadWords),
         },
         Some(("strip", found)) => Ok(Asked::Strip(read_strip(alloc, found)?)),
+        Some(("validate", found)) => Ok(Asked::Validate(read_validate(found)?)),
         _ => Err(ProgramFault::BadWords),
     }
 }

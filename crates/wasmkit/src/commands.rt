@@ -1,10 +1,11 @@
 //! The commands.
 ghost use Rattle.std.specs.Prelude.{◌-◌, ◌<◌, ◌^◌};
 
-use crate::command::{Asked, EditCommand, StripCommand, read_words};
+use crate::command::{Asked, EditCommand, StripCommand, ValidateCommand, read_words};
 use crate::fault::ProgramFault;
 use crate::listing::{Listing, list_sections, malformed_line};
 use crate::store::Store;
+use crate::validation::{Validation, validate};
 use std::alloc::Global;
 use wk_bytes::{Out, ReadFault, ReadKind, Sink, put_all};
 use wk_edit::{Status, edit_in};
@@ -112,6 +113,24 @@ fn run_strip<'a, S: Store, X: Out>(
     Ok(0)
 }
 
+// Prints whether a module is valid.
+fn run_validate<'a, S: Store, X: Out>(
+    alloc: Global,
+    command: ValidateCommand<'a>,
+    store: &mut S,
+    out: &mut X,
+) -> Result<u8, ProgramFault<'a>>
+    requires { X.failed out.old < 2 ^ 64 - 1 }
+{
+    let ValidateCommand { profile, file } = command;
+    let input = store
+        .load(file)
+        .map_err(|fault| ProgramFault::of_load(fault, file))?;
+    let Validation { line, status } = validate(alloc, &input, profile)?;
+    put_all(out, line.as_bytes()).map_err(|_| ProgramFault::Output)?;
+    Ok(status)
+}
+
 fn answer<'a, S: Store, X: Out>(
     alloc: Global,
     words: &'a [String],
@@ -124,6 +143,7 @@ fn answer<'a, S: Store, X: Out>(
         Asked::Edit(command) => run_edit(alloc, command, store, out),
         Asked::Sections(file) => run_sections(alloc, file, store, out),
         Asked::Strip(command) => run_strip(alloc, command, store, out),
+        Asked::Validate(command) => run_validate(alloc, command, store, out),
     }
 }
 
@@ -144,7 +164,7 @@ pub fn tell<Y: Out>(alloc: Global, fault: &ProgramFault<'_>, err: &mut Y) -> u8
 }
 
 /// Runs the command of these words, the ones after the program's name, and gives the exit status: 0 to 3 of a run
-/// (`Status`), 0 or 2 of the other commands, 3 for a bad command line, 4 where a file or standard output failed, 5 for want of memory.
+/// (`Status`) or of `validate`, 0 or 2 of the other commands, 3 for a bad command line, 4 where a file or standard output failed, 5 for want of memory.
 pub fn program<S: Store, X: Out, Y: Out>(
     alloc: Global,
     words: &[String],

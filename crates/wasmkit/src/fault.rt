@@ -4,6 +4,7 @@ use crate::store::StoreFault;
 use clap::error::ErrorKind;
 use std::alloc::{AllocError, AllocFailed};
 use thiserror::Error;
+use wk_bytes::OutOfMemory;
 use wk_edit::RunFault;
 
 /// Why a command gives no answer. Its text, which ends with LF, goes to standard error.
@@ -68,6 +69,12 @@ impl<'a> From<clap::Error> for ProgramFault<'a> {
 // The program's outputs of a run lie in memory, so that each of its faults is a growth that was refused.
 impl<'a> From<RunFault> for ProgramFault<'a> {
     fn from(_fault: RunFault) -> ProgramFault<'a> {
+        ProgramFault::Memory
+    }
+}
+
+impl<'a> From<OutOfMemory> for ProgramFault<'a> {
+    fn from(_error: OutOfMemory) -> ProgramFault<'a> {
         ProgramFault::Memory
     }
 }

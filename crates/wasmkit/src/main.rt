@@ -7,6 +7,7 @@ mod fault;
 mod files;
 mod listing;
 mod store;
+mod validation;
 
 use crate::commands::{program, tell};
 use crate::fault::ProgramFault;
@@ -46,3 +47,5 @@ fn main(rt: HostRuntime) -> io::Result<ExitCode> {
 mod tests;
 #[cfg(test)]
 mod tests_strip;
+#[cfg(test)]
+mod tests_validate;

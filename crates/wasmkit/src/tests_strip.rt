@@ -6,7 +6,7 @@ use std::test::Fail;
 use wk_bytes::Sink;
 
 // A block whose type is the index of a function type.
-const EXTENDED: &[u8] = b"\0asm\x01\0\0\0\x01\x09\x02\x60\0\0\x60\x01\x7f\x01\x7f\
+pub(crate) const EXTENDED: &[u8] = b"\0asm\x01\0\0\0\x01\x09\x02\x60\0\0\x60\x01\x7f\x01\x7f\
     \x03\x02\x01\0\x0a\x0b\x01\x09\0\x41\0\x02\x01\x45\x0b\x1a\x0b";
 
 // The same with one type more.

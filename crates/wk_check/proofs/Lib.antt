@@ -1,1 +1,14 @@
+pub mod Alignment
+pub mod Binds
+pub mod Bodies
+pub mod Cuts
+pub mod Fits
 pub mod Flaws
+pub mod Frames
+pub mod Imported
+pub mod Labels
+pub mod LocalEnds
+pub mod Popping
+pub mod Runs
+pub mod Sound
+pub mod Stacked

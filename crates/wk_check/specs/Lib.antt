@@ -3,6 +3,7 @@ pub mod Carried
 pub mod Constants
 pub mod Cuts
 pub mod Derives
+pub mod DerivesLaws
 pub mod Effects
 pub mod Flaws
 pub mod Items

@@ -6,7 +6,7 @@ ghost use Rattle.wk_check.specs.Own.{popped_one, popped, popped_any, pushed};
 ghost use Rattle.wk_check.specs.Effects.{same_types, Takes, Stops, Drops, Selects, after_effect};
 ghost use Rattle.wk_check.specs.Typing.{with_index};
 ghost use Rattle.wk_check.specs.Levels.{with_top};
-ghost use Rattle.wk_check.specs.Moves.{Pops, popped_on, Does, Steps, on_top};
+ghost use Rattle.wk_check.specs.Moves.{Pops, popped_on, pushed_on, Does, Steps, on_top};
 ghost use Rattle.wk_body.specs.declared.types.ValType.TheVariants.{I32};
 
 use crate::fault::FaultKind;
@@ -33,7 +33,7 @@ pub(crate) fn are_same(a: &[ValType], b: &[ValType]) -> bool
 
 /// Pops an operand that fits.
 #[inline(always)]
-pub(crate) fn pop_as(m: &mut Machine, want: Operand) -> Result<Operand, FaultKind>
+fn pop_as(m: &mut Machine, want: Operand) -> Result<Operand, FaultKind>
     ensures { Pops (popped_on (popped_one want) m.old) result m.new }
 {
     let x = m.pop()?;
@@ -44,12 +44,28 @@ pub(crate) fn pop_as(m: &mut Machine, want: Operand) -> Result<Operand, FaultKin
     }
 }
 
-/// Pops an operand of a type.
+// Pops an operand that fits a type.
 #[inline(always)]
-pub(crate) fn pop_type(m: &mut Machine, ty: ValType) -> Result<(), FaultKind>
+fn pop_known(m: &mut Machine, ty: ValType) -> Result<Operand, FaultKind>
+    ensures { Pops (popped_on (popped_one (Known ty)) m.old) result m.new }
+{
+    pop_as(m, Operand::known(ty))
+}
+
+// Pushes an operand of a type.
+#[inline(always)]
+fn push_known(m: &mut Machine, ty: ValType) -> Result<(), OutOfMemory>
+    ensures { OnOk result (m.new ≡ pushed_on (Known ty) m.old) }
+{
+    m.push(Operand::known(ty))
+}
+
+// Pops an operand of a type.
+#[inline(always)]
+fn pop_type(m: &mut Machine, ty: ValType) -> Result<(), FaultKind>
     ensures { Does (on_top (popped (ty ∷ [])) m.old) result m.new }
 {
-    pop_as(m, Operand::known(ty))?;
+    pop_known(m, ty)?;
     Ok(())
 }
 
@@ -60,7 +76,7 @@ pub(crate) fn pop_types(m: &mut Machine, types: &[ValType]) -> Result<(), FaultK
     let mut n = types.len();
     while n > 0 {
         n -= 1;
-        pop_as(m, Operand::known(types[n]))?;
+        pop_known(m, types[n])?;
     }
     Ok(())
 }
@@ -70,7 +86,7 @@ pub(crate) fn pop_indexed(m: &mut Machine, index: bool, types: &[ValType]) -> Re
     ensures { Does (on_top (popped (with_index index types.now)) m.old) result m.new }
 {
     if index {
-        pop_as(m, Operand::known(ValType::I32))?;
+        pop_known(m, ValType::I32)?;
         return pop_types(m, types);
     }
     pop_types(m, types)
@@ -81,7 +97,7 @@ pub(crate) fn push_types(m: &mut Machine, types: &[ValType]) -> Result<(), OutOf
     ensures { OnOk result (m.new ≡ with_top (pushed types.now m.old.inner.own) m.old) }
 {
     for ty in types {
-        m.push(Operand::known(*ty))?;
+        push_known(m, *ty)?;
     }
     Ok(())
 }
@@ -114,7 +130,7 @@ pub(crate) fn stop(m: &mut Machine, index: bool, operands: &[ValType]) -> Result
 pub(crate) fn give(m: &mut Machine, ty: ValType) -> Result<(), Stop>
     ensures { Steps (on_top (after_effect (Takes [] (ty ∷ []))) m.old) result m.new }
 {
-    m.push(Operand::known(ty))?;
+    push_known(m, ty)?;
     Ok(())
 }
 
@@ -167,7 +183,7 @@ pub(crate) fn drop_top(m: &mut Machine) -> Result<(), Stop>
 pub(crate) fn select(m: &mut Machine) -> Result<(), Stop>
     ensures { Steps (on_top (after_effect Selects) m.old) result m.new }
 {
-    pop_as(m, Operand::known(ValType::I32))?;
+    pop_known(m, ValType::I32)?;
     let second = m.pop()?;
     let first = pop_as(m, second)?;
     m.push(second.or(first))?;

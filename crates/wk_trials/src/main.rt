@@ -9,6 +9,7 @@
 mod bodies;
 mod bytes;
 mod jobs;
+mod judging;
 mod mark;
 mod modules;
 mod outcome;

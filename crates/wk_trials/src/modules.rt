@@ -2,10 +2,8 @@
 
 use crate::mark::{call_begins, call_ends};
 use crate::outcome::Outcome;
-use crate::sample::{EXPORTS, LAST_CUSTOM, MODULE, NO_MEMORY, WHOLE};
+use crate::sample::{EXPORTS, LAST_CUSTOM, NO_MEMORY, WHOLE};
 use std::alloc::{AllocError, Global};
-use wk_bytes::OutOfMemory;
-use wk_check::{Verdict, judge};
 use wk_module::{
     EncodeFault, Lists, Module, Parts, encode, encode_custom, encode_section, encoded_len, read,
     section_len,
@@ -52,13 +50,13 @@ pub fn encodes(alloc: Global, bytes: &[u8]) -> Result<Outcome, AllocError> {
     encoded(alloc, answer, bytes, &module, bytes)
 }
 
-// The lists of a module, but for its functions.
-fn lists(parts: &Parts) -> Lists<'_> {
+/// The lists of a module whose functions have these types.
+pub fn lists<'a>(parts: &'a Parts, funcs: &'a [u32]) -> Lists<'a> {
     Lists {
         profile: parts.profile,
         types: parts.types.as_slice(),
         imports: parts.imports.as_slice(),
-        funcs: &[],
+        funcs,
         tables: parts.tables.as_slice(),
         memories: parts.memories.as_slice(),
         globals: parts.globals.as_slice(),
@@ -71,7 +69,7 @@ fn lists(parts: &Parts) -> Lists<'_> {
 
 pub fn encodes_exports(alloc: Global) -> Result<Outcome, AllocError> {
     let module = read(alloc, WHOLE).map_err(|_| AllocError)?;
-    let lists = lists(module.parts());
+    let lists = lists(module.parts(), &[]);
     call_begins(alloc)?;
     let answer = encode_section(alloc, &lists, 7);
     call_ends(alloc)?;
@@ -105,15 +103,4 @@ pub fn settles(alloc: Global) -> Result<Outcome, AllocError> {
     let module = Module::of(module.into_parts());
     call_ends(alloc)?;
     Ok(Outcome::answered(is_written_as(alloc, &module, WHOLE)?))
-}
-
-pub fn judges(alloc: Global) -> Result<Outcome, AllocError> {
-    let module = read(alloc, MODULE).map_err(|_| AllocError)?;
-    call_begins(alloc)?;
-    let answer = judge(alloc, &module);
-    call_ends(alloc)?;
-    Ok(match answer {
-        Ok(verdict) => Outcome::answered(verdict == Verdict::Valid),
-        Err(OutOfMemory) => Outcome::refused(is_written_as(alloc, &module, MODULE)?),
-    })
 }

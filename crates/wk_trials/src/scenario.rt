@@ -1,9 +1,11 @@
 //! The scenarios and their names.
 
 use crate::outcome::Outcome;
-use crate::sample::{MODULE, STRIPPED, WHOLE, WITH_BYTES, WITH_CUSTOM, WITH_TYPE, WITHOUT_CUSTOMS};
+use crate::sample::{
+    MODULE, STRIPPED, VALID, WHOLE, WITH_BYTES, WITH_CUSTOM, WITH_TYPE, WITHOUT_CUSTOMS,
+};
 use crate::sinks::Room;
-use crate::{bodies, bytes, jobs, modules, sample, sessions};
+use crate::{bodies, bytes, jobs, judging, modules, sample, sessions};
 use std::alloc::{AllocError, Global};
 use wk_session::{Edit, EditFault};
 
@@ -68,8 +70,16 @@ pub enum Scenario {
     Lengths,
     /// `Module::of`.
     Settle,
-    /// `wk_check::judge`, which takes no memory so far.
+    /// `wk_check::judge`.
     Judge,
+    /// `wk_check::judge` of a module without imports, exports and code, which takes no memory.
+    JudgeTypes,
+    /// `wk_check::judge_around`.
+    JudgeAround,
+    /// `wk_check::judge_body`.
+    JudgeBody,
+    /// `Whole::of`.
+    SeeWhole,
     /// `Session::open`.
     Open,
     /// `Session::apply` of a type.
@@ -106,7 +116,7 @@ pub enum Scenario {
 
 impl Scenario {
     /// All scenarios, in the order in which they are run.
-    pub const ALL: [Scenario; 46] = [
+    pub const ALL: [Scenario; 50] = [
         Scenario::PutU32,
         Scenario::PutS32,
         Scenario::PutS33,
@@ -137,6 +147,10 @@ impl Scenario {
         Scenario::Lengths,
         Scenario::Settle,
         Scenario::Judge,
+        Scenario::JudgeTypes,
+        Scenario::JudgeAround,
+        Scenario::JudgeBody,
+        Scenario::SeeWhole,
         Scenario::Open,
         Scenario::ApplyType,
         Scenario::ApplyStrip,
@@ -187,7 +201,11 @@ impl Scenario {
             Scenario::EncodeCustom => "encode-custom",
             Scenario::Lengths => "lengths-in-room",
             Scenario::Settle => "settle-in-room",
-            Scenario::Judge => "judge-in-room",
+            Scenario::Judge => "judge",
+            Scenario::JudgeTypes => "judge-types-in-room",
+            Scenario::JudgeAround => "judge-around",
+            Scenario::JudgeBody => "judge-body",
+            Scenario::SeeWhole => "see-whole",
             Scenario::Open => "open",
             Scenario::ApplyType => "apply-type",
             Scenario::ApplyStrip => "apply-strip-in-room",
@@ -247,7 +265,11 @@ impl Scenario {
             Scenario::EncodeCustom => modules::encodes_custom(alloc),
             Scenario::Lengths => modules::measures(alloc),
             Scenario::Settle => modules::settles(alloc),
-            Scenario::Judge => modules::judges(alloc),
+            Scenario::Judge => judging::judges(alloc, VALID),
+            Scenario::JudgeTypes => judging::judges(alloc, MODULE),
+            Scenario::JudgeAround => judging::judges_around(alloc),
+            Scenario::JudgeBody => judging::judges_body(alloc),
+            Scenario::SeeWhole => judging::sees_whole(alloc),
             Scenario::Open => sessions::opens(alloc),
             Scenario::ApplyType => sessions::applies(alloc, &sample::add_type(alloc)?, WITH_TYPE),
             Scenario::ApplyStrip => sessions::applies(

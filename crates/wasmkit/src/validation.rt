@@ -1,0 +1,56 @@
+//! Judging the module that bytes spell.
+ghost use Rattle.std.specs.Prelude.{◌≡◌, IfOk, string_bytes};
+ghost use Rattle.wk_module.specs.Reading.{module_at};
+ghost use Rattle.wasmkit.specs.Validation.{printed, status_of, verdict_line};
+
+use crate::listing::malformed_line;
+use std::alloc::{AllocError, Global};
+use wk_bytes::{OutOfMemory, ReadKind};
+use wk_check::{Verdict, judge};
+use wk_module::{Profile, read_in};
+
+/// What `validate` prints, and its status.
+#[derive(Drop)]
+pub struct Validation {
+    /// The line of the verdict, or of bytes that are no module.
+    pub line: String,
+    /// 0 where the module is valid, 1 where it is not, 2 where the bytes are no module.
+    pub status: u8,
+}
+
+// The line of a verdict.
+fn verdict_line(alloc: Global, verdict: &Verdict) -> Result<String, AllocError>
+    ensures { IfOk result (λ line. string_bytes line ≡ verdict_line verdict.now) }
+{
+    format!(in alloc; "{verdict}\n")
+}
+
+/// Judges the module of a profile that the bytes spell.
+///
+/// Want of memory is the only refusal.
+pub fn validate(alloc: Global, bytes: &[u8], profile: Profile) -> Result<Validation, OutOfMemory>
+    ensures line { IfOk result (λ v. string_bytes v.line ≡ printed (module_at profile bytes.now)) }
+    ensures status { IfOk result (λ v. v.status ≡ status_of (module_at profile bytes.now)) }
+{
+    let module = match read_in(alloc, bytes, profile) {
+        Ok(module) => module,
+        Err(fault) => {
+            if let ReadKind::Memory = fault.kind {
+                return Err(OutOfMemory);
+            }
+            return Ok(Validation {
+                line: malformed_line(alloc, &fault)?,
+                status: 2,
+            });
+        }
+    };
+    let verdict = judge(alloc, &module)?;
+    let status = match verdict {
+        Verdict::Valid => 0,
+        Verdict::Invalid(_) => 1,
+    };
+    Ok(Validation {
+        line: verdict_line(alloc, &verdict)?,
+        status,
+    })
+}

@@ -1,0 +1,108 @@
+-- The result of code, and the verdict of a body, from the run of its tokens.
+use Rattle.std.proofs.Common.{◌≡◌, ℕ, suc, ◌+◌, List, [], ◌∷◌, ◌++◌, length, Result, Ok, Err, Option, refl, sym, ap, ◌∙◌, arith, length-append}
+use Rattle.std.proofs.lemmas.List.{length-map}
+use Rattle.wk_bytes.specs.Leb.{◌>>=◌}
+use Rattle.wk_body.specs.declared.types.ValType.{ValType}
+use Rattle.wk_body.specs.declared.types.BlockType.{BlockType}
+use Rattle.wk_body.specs.declared.types.BlockType.TheVariants.{Index}
+use Rattle.wk_body.specs.declared.types.LocalGroup.{LocalGroup}
+use Rattle.wk_body.specs.declared.references.Ref.{Ref}
+use Rattle.wk_body.specs.declared.token.Token.{Token}
+use Rattle.wk_body.specs.Bodies.{BodyOf}
+use Rattle.wk_body.specs.Tree.{Instrs, Finish, One, Block, If, Tok, Close, flatten, else_part, tokens_of}
+use Rattle.wk_body.specs.Kept.{told, all_told}
+use Rattle.wk_check.specs.declared.fault.FaultKind.{FaultKind}
+use Rattle.wk_check.specs.declared.fault.BodyVerdict.{BodyVerdict}
+use Rattle.wk_check.specs.declared.fault.BodyVerdict.TheVariants.{Valid, Invalid}
+use Rattle.wk_check.specs.Answers.{Found}
+use Rattle.wk_check.specs.Own.{TokenFault, at_token, fresh, ended}
+use Rattle.wk_check.specs.Effects.{known, params_of, results_of, local_type}
+use Rattle.wk_check.specs.Typing.{is_finish, else_count, count, typed, code_result, verdict_of, body_verdict}
+use Rattle.wk_check.specs.Levels.{Blocks, with_top, run}
+use Rattle.wk_check.specs.Moves.{body_of}
+use Rattle.wk_check.proofs.Binds.{bind_assoc}
+use Rattle.wk_check.proofs.Runs.{runs}
+
+-- ---- numbers of tokens
+
+length_else : (second : Instrs) → count second ≡ length (flatten second) → else_count (is_finish second) + count second ≡ length (else_part (flatten second))
+length_else Finish e = refl
+length_else (One p rest) e = omega (arith, e)
+length_else (Block kind bt inside rest) e = omega (arith, e)
+length_else (If bt first second rest) e = omega (arith, e)
+
+pub length_flatten : (is : Instrs) → count is ≡ length (flatten is)
+length_flatten Finish = refl
+length_flatten (One p rest) = ap suc (length_flatten rest)
+length_flatten (Block kind bt inside rest) =
+    omega (arith, length_flatten inside, length_flatten rest, length-append (flatten inside) (Close ∷ flatten rest))
+length_flatten (If bt first second rest) =
+    let other = else_part (flatten second) in
+    omega (arith, length_flatten first, length_else second (length_flatten second), length_flatten rest, length-append (flatten first) other, length-append (flatten first ++ other) (Close ∷ flatten rest))
+
+-- the last token is the end
+pub length_kept : (pool : List ℕ) (ts : List Token) (is : Instrs) → all_told pool ts ≡ tokens_of is → length ts ≡ count is + 1
+length_kept pool ts is e =
+    omega (arith, length-map ts (told pool), ap length e, length-append (flatten is) (Close ∷ []), length_flatten is)
+
+-- ---- code
+
+module _ (A : Ref → Found) (locals : ℕ → Option ValType) (bt : BlockType) (is : Instrs) where
+  -- the last end leaves the outermost block as it is
+  code_runs : run A locals (results_of A bt) 0 (tokens_of is) (body_of bt) ≡ (typed A locals (results_of A bt) (results_of A bt ∷ []) 0 is fresh >>= λ s. Ok (with_top s (body_of bt)))
+  code_runs =
+      let b = body_of bt in runs A locals (results_of A bt) is 0 (count is) (Close ∷ []) b.inner [] (omega arith)
+
+  -- the same of what the code has found
+  module _ (final : List ValType) (ts : List Tok) (start : Blocks) (ef : final ≡ results_of A bt) (et : ts ≡ tokens_of is) (es : start ≡ body_of bt) where
+    same_run : run A locals final 0 ts start ≡ run A locals (results_of A bt) 0 (tokens_of is) (body_of bt)
+    same_run =
+        ap (λ xs. run A locals xs 0 ts start) ef
+        ∙ ap (λ xs. run A locals (results_of A bt) 0 xs start) et
+        ∙ ap (λ b. run A locals (results_of A bt) 0 (tokens_of is) b) es
+
+    code_by_run : (r : Result Blocks TokenFault) → run A locals final 0 ts start ≡ r → code_result A locals final is ≡ (r >>= λ b. at_token (count is) (ended final b.inner.own))
+    code_by_run r h =
+        let end : Blocks → Result (Unit {0}) TokenFault = λ b. at_token (count is) (ended (results_of A bt) b.inner.own) in
+        ap (λ xs. code_result A locals xs is) ef
+        ∙ sym (bind_assoc (typed A locals (results_of A bt) (results_of A bt ∷ []) 0 is fresh) (λ s. Ok (with_top s (body_of bt))) end)
+        ∙ ap (λ m. m >>= end) (sym code_runs ∙ sym same_run ∙ h)
+        ∙ ap (λ xs. r >>= λ b. at_token (count is) (ended xs b.inner.own)) (sym ef)
+
+    pub code_fault : (kind : FaultKind) (k : ℕ) → run A locals final 0 ts start ≡ Err (record { kind = kind; token = k }) → code_result A locals final is ≡ Err (record { kind = kind; token = k })
+    code_fault kind k h = code_by_run (Err (record { kind = kind; token = k })) h
+
+    pub code_valid : (b : Blocks) → run A locals final 0 ts start ≡ Ok b → ended final b.inner.own ≡ Ok tt → code_result A locals final is ≡ Ok tt
+    code_valid b h e = code_by_run (Ok b) h ∙ ap (at_token (count is)) e
+
+    pub code_ended : (b : Blocks) (kind : FaultKind) (k : ℕ) → run A locals final 0 ts start ≡ Ok b → ended final b.inner.own ≡ Err kind → k ≡ count is → code_result A locals final is ≡ Err (record { kind = kind; token = k })
+    code_ended b kind k h e n =
+        code_by_run (Ok b) h ∙ ap (at_token (count is)) e ∙ ap (λ m. Err (record { kind = kind; token = m })) (sym n)
+
+-- ---- bodies
+
+module _ (A : Ref → Found) (t : ℕ) (b : BodyOf) where
+  abbrev judged : Result (Unit {0}) FaultKind → BodyVerdict
+  judged r =
+      verdict_of (at_token 0 r >>= λ u. code_result A (local_type (params_of A (Index t)) b.groups) (results_of A (Index t)) b.instrs)
+
+  pub body_unknown : (kind : FaultKind) → known A (Index t) ≡ Err kind → Invalid kind 0 ≡ body_verdict A t b
+  body_unknown kind e = ap judged (sym e)
+
+  -- the same of what the code has found
+  module _ (params results : List ValType) (groups : List LocalGroup) (instrs : Instrs) (ep : params ≡ params_of A (Index t)) (er : results ≡ results_of A (Index t)) (eg : groups ≡ b.groups) (ei : instrs ≡ b.instrs) (kn : known A (Index t) ≡ Ok tt) where
+    same_code : code_result A (local_type params groups) results instrs ≡ code_result A (local_type (params_of A (Index t)) b.groups) (results_of A (Index t)) b.instrs
+    same_code =
+        ap (λ xs. code_result A (local_type xs groups) results instrs) ep
+        ∙ ap (λ gs. code_result A (local_type (params_of A (Index t)) gs) results instrs) eg
+        ∙ ap (λ xs. code_result A (local_type (params_of A (Index t)) b.groups) xs instrs) er
+        ∙ ap (λ is. code_result A (local_type (params_of A (Index t)) b.groups) (results_of A (Index t)) is) ei
+
+    body_judged : (r : Result (Unit {0}) TokenFault) → code_result A (local_type params groups) results instrs ≡ r → verdict_of r ≡ body_verdict A t b
+    body_judged r h = ap verdict_of (sym h ∙ same_code) ∙ ap judged (sym kn)
+
+    pub body_valid : code_result A (local_type params groups) results instrs ≡ Ok tt → Valid ≡ body_verdict A t b
+    body_valid h = body_judged (Ok tt) h
+
+    pub body_fault : (kind : FaultKind) (k : ℕ) → code_result A (local_type params groups) results instrs ≡ Err (record { kind = kind; token = k }) → Invalid kind k ≡ body_verdict A t b
+    body_fault kind k h = body_judged (Err (record { kind = kind; token = k })) h

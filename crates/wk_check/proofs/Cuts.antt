@@ -1,0 +1,163 @@
+-- How the machine's moves cut the operand stack.
+use Rattle.std.proofs.Common.{◌≡◌, ℕ, zero, suc, ◌+◌, ◌-◌, ◌<◌, ◌≤◌, Bool, true, false, List, [], ◌∷◌, ◌++◌, length, take, drop, reverse, get_or, Result, Ok, Err, Option, Some, None, IsTrue, nat_eq, refl, sym, ap, ◌∙◌, subst, arith, length-append}
+use Rattle.std.specs.Prelude.{slice_get}
+use Rattle.std.proofs.lemmas.List.{reverse-append, length-reverse, take-append-drop, drop_at, nil_from_length, length-take, length-drop, get_or-reverse}
+use Rattle.std.proofs.lemmas.Option.{slice_get_past, slice_get-get_or}
+use Rattle.wk_bytes.specs.Leb.{◌>>=◌}
+use Rattle.wk_check.specs.Slots.{Slot, AnyType}
+use Rattle.wk_check.specs.declared.fault.FaultKind.TheVariants.{StackUnderflow}
+use Rattle.wk_check.specs.declared.machine.Opener.{Opener}
+use Rattle.wk_body.specs.declared.types.BlockType.{BlockType}
+use Rattle.wk_check.specs.declared.machine.Frame.{Frame}
+use Rattle.wk_check.specs.Own.{Own, pushed_one, stopped, is_empty, popped_any, top_of}
+use Rattle.std.proofs.lemmas.Bool.Decides.{nat_tests}
+use Rattle.wk_check.specs.Levels.{Level, Blocks, blocks, with_own, with_top}
+use Rattle.wk_check.specs.Cuts.{level_of, levels_of, blocks_of, Cuts}
+use Rattle.wk_check.specs.Moves.{pushed_on, entered_by, left_by, stopped_on, restarted_on, Pops, popped_on, popped_by, own_is_empty, head_in, head_at}
+
+pub reverse_push : {A : Type 0} (xs : List A) (x : A) → reverse (xs ++ x ∷ []) ≡ x ∷ reverse xs
+reverse_push xs x = reverse-append xs (x ∷ [])
+
+gap_pushed : (n h : ℕ) → h ≤ n → suc n - h ≡ suc (n - h)
+gap_pushed n h le = omega arith
+
+drop_pushed : (h : ℕ) (x : Slot) (xs : List Slot) → h ≤ length xs → drop (length (x ∷ xs) - h) (x ∷ xs) ≡ drop (length xs - h) xs
+drop_pushed h x xs le = ap (λ n. drop n (x ∷ xs)) (gap_pushed (length xs) h le)
+
+take_pushed : (h : ℕ) (x : Slot) (xs : List Slot) → h ≤ length xs → take (length (x ∷ xs) - h) (x ∷ xs) ≡ x ∷ take (length xs - h) xs
+take_pushed h x xs le = ap (λ n. take n (x ∷ xs)) (gap_pushed (length xs) h le)
+
+levels_pushed : (f : Frame) (fs : List Frame) (xs : List Slot) (x : Slot) → f.height ≤ length xs → blocks_of f fs (x ∷ xs) ≡ pushed_on x (blocks_of f fs xs)
+levels_pushed f fs xs x le =
+    ap (λ ys. blocks (level_of f ys) (levels_of fs (drop (length (x ∷ xs) - f.height) (x ∷ xs)))) (take_pushed f.height x xs le)
+    ∙ ap (λ ys. blocks (level_of f (x ∷ take (length xs - f.height) xs)) (levels_of fs ys)) (drop_pushed f.height x xs le)
+
+module _ (f : Frame) (fs : List Frame) (xs ys : List Slot) (x : Slot) (st : Blocks) (is : blocks_of f fs (reverse xs) ≡ st) (cuts : Cuts (f ∷ fs) (reverse xs)) where
+  -- a push
+  pub push_cuts : ys ≡ xs ++ x ∷ [] → Cuts (f ∷ fs) (reverse ys)
+  push_cuts e =
+      subst (Cuts (f ∷ fs)) (sym (ap reverse e ∙ reverse_push xs x)) (omega (arith, cuts.0), subst (Cuts fs) (sym (drop_pushed f.height x (reverse xs) cuts.0)) cuts.1)
+
+  pub push_levels : ys ≡ xs ++ x ∷ [] → blocks_of f fs (reverse ys) ≡ pushed_on x st
+  push_levels e =
+      ap (blocks_of f fs) (ap reverse e ∙ reverse_push xs x) ∙ levels_pushed f fs (reverse xs) x cuts.0 ∙ ap (pushed_on x) is
+
+  -- a pop
+  pop_height : xs ≡ ys ++ x ∷ [] → f.height < length xs → f.height ≤ length (reverse ys)
+  pop_height e lt = omega (arith, length-reverse ys, ap length e, length-append ys (x ∷ []))
+
+  pub pop_cuts : xs ≡ ys ++ x ∷ [] → f.height < length xs → Cuts (f ∷ fs) (reverse ys)
+  pop_cuts e lt =
+      let c = subst (Cuts (f ∷ fs)) (ap reverse e ∙ reverse_push ys x) cuts in
+      (pop_height e lt, subst (Cuts fs) (drop_pushed f.height x (reverse ys) (pop_height e lt)) c.1)
+
+  pub pop_levels : xs ≡ ys ++ x ∷ [] → f.height < length xs → Pops (popped_on popped_any st) (Ok x) (blocks_of f fs (reverse ys))
+  pop_levels e lt =
+      let new = blocks_of f fs (reverse ys) in
+      let was : pushed_on x new ≡ st = sym (ap (blocks_of f fs) (ap reverse e ∙ reverse_push ys x) ∙ levels_pushed f fs (reverse ys) x (pop_height e lt)) ∙ is in
+      let P : Blocks → Type 0 = λ s. Pops (popped_on popped_any s) (Ok x) new in
+      subst P was refl
+
+module _ (f : Frame) (fs : List Frame) (xs : List Slot) (st : Blocks) (is : blocks_of f fs (reverse xs) ≡ st) (le : length xs ≤ f.height) where
+  no_gap_left : length (reverse xs) - f.height ≡ 0
+  no_gap_left = omega (arith, length-reverse xs)
+
+  own_items : take (length (reverse xs) - f.height) (reverse xs) ≡ []
+  own_items = ap (λ n. take n (reverse xs)) no_gap_left
+
+  pub pop_dead : f.dead ≡ true → Pops (popped_on popped_any st) (Ok AnyType) st
+  pop_dead e =
+      let b = blocks_of f fs (reverse xs) in
+      let top : popped_any b.inner.own ≡ Ok (AnyType, stopped) = ap (λ ys. top_of f.dead ys) own_items ∙ ap (λ d. top_of d []) e in
+      let same : b ≡ with_top stopped b = ap (λ ys. with_top (record { items = ys; dead = f.dead }) b) own_items ∙ ap (λ d. with_top (record { items = []; dead = d }) b) e in
+      let P : Blocks → Type 0 = λ s. Pops (popped_on popped_any s) (Ok AnyType) s in
+      subst P is (ap (λ r. popped_by r b) top ∙ ap (λ z. Ok (AnyType, z)) (sym same))
+
+  pub pop_live : f.dead ≡ false → Pops (popped_on popped_any st) (Err StackUnderflow) st
+  pop_live e =
+      let b = blocks_of f fs (reverse xs) in
+      let top : popped_any b.inner.own ≡ Err StackUnderflow = ap (λ ys. top_of f.dead ys) own_items ∙ ap (λ d. top_of d []) e in
+      let P : Blocks → Type 0 = λ s. Pops (popped_on popped_any s) (Err StackUnderflow) s in
+      subst P is (ap (λ r. popped_by r b) top)
+
+-- the operands below a height
+reverse_take : (xs : List Slot) (h : ℕ) → h ≤ length xs → reverse (take h xs) ≡ drop (length (reverse xs) - h) (reverse xs)
+reverse_take xs h le =
+    let e : reverse xs ≡ reverse (drop h xs) ++ reverse (take h xs) = ap reverse (sym (take-append-drop h xs)) ∙ reverse-append (take h xs) (drop h xs) in
+    let n : length (reverse (drop h xs)) ≡ length (reverse xs) - h = omega (arith, length-reverse (drop h xs), length-reverse xs, length-drop h xs) in
+    sym (ap (drop (length (reverse xs) - h)) e ∙ drop_at (reverse (drop h xs)) (reverse (take h xs)) (length (reverse xs) - h) n)
+
+none_above : (xs : List Slot) (h : ℕ) → h ≤ length xs → length (reverse (take h xs)) - h ≡ 0
+none_above xs h le = omega (arith, length-reverse (take h xs), length-take h xs)
+
+module _ (f : Frame) (fs : List Frame) (xs : List Slot) (st : Blocks) (is : blocks_of f fs (reverse xs) ≡ st) (cuts : Cuts (f ∷ fs) (reverse xs)) where
+  -- becoming dead
+  height_le : f.height ≤ length xs
+  height_le = omega (arith, cuts.0, length-reverse xs)
+
+  abbrev pub dead_frame : Frame
+  dead_frame = record { opener = f.opener; block = f.block; dead = true; height = f.height }
+
+  pub stop_cuts : (ys : List Slot) → ys ≡ take f.height xs → Cuts (dead_frame ∷ fs) (reverse ys)
+  stop_cuts ys e =
+      let t = take f.height xs in
+      let none = none_above xs f.height height_le in
+      let same : drop (length (reverse t) - f.height) (reverse t) ≡ drop (length (reverse xs) - f.height) (reverse xs) = ap (λ n. drop n (reverse t)) none ∙ reverse_take xs f.height height_le in
+      let P : List Slot → Type 0 = λ z. Cuts (dead_frame ∷ fs) (reverse z) in
+      subst P (sym e) (omega (arith, length-reverse t, length-take f.height xs, height_le), subst (Cuts fs) (sym same) cuts.1)
+
+  pub stop_levels : (ys : List Slot) → ys ≡ take f.height xs → blocks_of dead_frame fs (reverse ys) ≡ stopped_on st
+  stop_levels ys e =
+      let t = take f.height xs in
+      let none = none_above xs f.height height_le in
+      let same : drop (length (reverse t) - f.height) (reverse t) ≡ drop (length (reverse xs) - f.height) (reverse xs) = ap (λ n. drop n (reverse t)) none ∙ reverse_take xs f.height height_le in
+      ap (λ z. blocks_of dead_frame fs (reverse z)) e
+      ∙ ap (λ n. blocks (level_of dead_frame (take n (reverse t))) (levels_of fs (drop (length (reverse t) - f.height) (reverse t)))) none
+      ∙ ap (λ z. blocks (level_of dead_frame []) (levels_of fs z)) same
+      ∙ ap stopped_on is
+
+  -- closing
+  pub leave_levels : (gs : List Frame) (g : Frame) → fs ≡ g ∷ gs → IsTrue (own_is_empty st) → blocks_of g gs (reverse xs) ≡ left_by st
+  leave_levels gs g e clear =
+      let clear' = subst (λ s. IsTrue (own_is_empty s)) (sym is) clear in
+      let zero_gap = no_gap (reverse xs) (length (reverse xs) - f.height) (omega arith) clear' in
+      ap (λ n. blocks_of g gs (drop n (reverse xs))) (sym zero_gap)
+      ∙ ap (λ hs. left_by (blocks_of f hs (reverse xs))) (sym e)
+      ∙ ap left_by is
+    where
+      no_gap : (zs : List Slot) (n : ℕ) → n ≤ length zs → IsTrue (is_empty (take n zs)) → n ≡ 0
+      no_gap zs zero le h = refl
+      no_gap [] (suc n) le h = absurd (omega arith)
+      no_gap (z ∷ zs) (suc n) le h = absurd (cc)
+
+-- looking at frames
+abbrev head_of : Option Frame → Option (Opener × BlockType)
+head_of None = None
+head_of (Some f) = Some (f.opener, f.block)
+
+head_levels : (fs : List Frame) (xs : List Slot) (n : ℕ) → head_in (levels_of fs xs) n ≡ head_of (slice_get fs n)
+head_levels [] xs n = refl
+head_levels (f ∷ fs) xs zero = refl
+head_levels (f ∷ fs) xs (suc n) = head_levels fs (drop (length xs - f.height) xs) n
+
+module _ (f : Frame) (os : List Frame) (xs : List Slot) (st : Blocks) (is : blocks_of f (reverse os) (reverse xs) ≡ st) where
+  pub head_none : (n : ℕ) → length os < n → None ≡ head_at st n
+  head_none zero lt = absurd (omega arith)
+  head_none (suc n) lt =
+      sym (ap (λ s. head_at s (suc n)) (sym is) ∙ head_levels (f ∷ reverse os) (reverse xs) (suc n) ∙ ap head_of (slice_get_past (reverse os) n (omega (arith, length-reverse os))))
+
+  pub head_some : (n : ℕ) (g : Frame) → n ≤ length os → 0 < n → g ≡ get_or os (length os - n) g → Some (g.opener, g.block) ≡ head_at st n
+  head_some zero g le pos e = absurd (omega arith)
+  head_some (suc n) g le pos e =
+      let place : length os - 1 - n ≡ length os - suc n = omega arith in
+      let lt : n < length os = omega arith in
+      let at : slice_get (reverse os) n ≡ Some g = slice_get-get_or (reverse os) n g (omega (arith, length-reverse os)) ∙ ap Some (get_or-reverse os n g lt ∙ ap (λ k. get_or os k g) place ∙ sym e) in
+      sym (ap (λ s. head_at s (suc n)) (sym is) ∙ head_levels (f ∷ reverse os) (reverse xs) (suc n) ∙ ap head_of at)
+
+no_levels : (fs : List Frame) (xs : List Slot) → is_empty (levels_of fs xs) ≡ nat_eq (length fs) 0
+no_levels [] xs = refl
+no_levels (f ∷ fs) xs = grind (arith, nat_tests)
+
+pub outermost : (f : Frame) (os : List Frame) (xs : List Slot) (st : Blocks) → blocks_of f (reverse os) xs ≡ st → nat_eq (length os) 0 ≡ is_empty st.outer
+outermost f os xs st is =
+    ap (λ n. nat_eq n 0) (sym (length-reverse os)) ∙ sym (no_levels (reverse os) (drop (length xs - f.height) xs)) ∙ ap (λ s. is_empty s.outer) is

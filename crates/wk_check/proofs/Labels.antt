@@ -1,0 +1,22 @@
+-- Labels and open blocks.
+use Rattle.std.proofs.Common.{◌≡◌, ℕ, zero, suc, List, [], ◌∷◌, Option, Some, None, refl, sym, ap, ◌∙◌}
+use Rattle.std.specs.Prelude.{slice_get}
+use Rattle.wk_body.specs.declared.types.ValType.{ValType}
+use Rattle.wk_body.specs.declared.types.BlockType.{BlockType}
+use Rattle.wk_body.specs.declared.references.Ref.{Ref}
+use Rattle.wk_check.specs.declared.machine.Opener.{Opener}
+use Rattle.wk_check.specs.Answers.{Found}
+use Rattle.wk_check.specs.Levels.{Level, Blocks, level_label, outer_labels, labels_of}
+use Rattle.wk_check.specs.Moves.{head_in, head_at}
+
+abbrev pub label_found : (Ref → Found) → Option (Opener × BlockType) → Option (List ValType)
+label_found A None = None
+label_found A (Some p) = Some (level_label A (p.0) (p.1))
+
+label_in : (A : Ref → Found) (ls : List Level) (n : ℕ) → slice_get (outer_labels A ls) n ≡ label_found A (head_in ls n)
+label_in A [] n = refl
+label_in A (l ∷ ls) zero = refl
+label_in A (l ∷ ls) (suc n) = label_in A ls n
+
+pub label_at : (A : Ref → Found) (b : Blocks) (n : ℕ) (r : Option (Opener × BlockType)) → r ≡ head_at b n → slice_get (labels_of A b) n ≡ label_found A r
+label_at A b n r e = label_in A (b.inner ∷ b.outer) n ∙ ap (label_found A) (sym e)

@@ -1,0 +1,9 @@
+use Rattle.std.proofs.Common.{Ok, ap, sym, ◌∙◌}
+use Rattle.wk_check.specs.Moves.{pushed_on}
+use Rattle.wk_check.proofs.Popping.{selects}
+use Rattle.wk_check.proofs.operands.select.Goals as goal
+
+pub returns : goal.returns
+returns c =
+    selects c.args.m.now c.pop_known.new.m c.pop.new.self c.pop_as.new.m _ c.in_ok-second.second c.in_ok-first.first c.in_ok-pop_known.ensures c.in_ok-second.ensures c.in_ok-first.ensures
+    ∙ ap Ok (ap (λ z. pushed_on z c.pop_as.new.m) (sym c.or.ensures) ∙ sym c.in_ok-push.ensures)

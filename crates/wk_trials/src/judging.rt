@@ -1,0 +1,71 @@
+//! Calls of `wk_check`.
+
+use crate::mark::{call_begins, call_ends};
+use crate::modules::lists;
+use crate::outcome::Outcome;
+use crate::sample::VALID;
+use std::alloc::{AllocError, Global};
+use wk_bytes::OutOfMemory;
+use wk_check::{BodyVerdict, Meter, Verdict, Whole, judge, judge_around, judge_body};
+use wk_module::{Module, read};
+
+// The types of the functions that `VALID` defines.
+const TYPES: &[u32] = &[1];
+
+fn module(alloc: Global, bytes: &[u8]) -> Result<Module, AllocError> {
+    read(alloc, bytes).map_err(|_| AllocError)
+}
+
+// What judging a valid module answered.
+fn judged(answer: Result<Verdict, OutOfMemory>) -> Outcome {
+    match answer {
+        Ok(verdict) => Outcome::answered(verdict == Verdict::Valid),
+        Err(OutOfMemory) => Outcome::refused(true),
+    }
+}
+
+pub fn judges(alloc: Global, bytes: &[u8]) -> Result<Outcome, AllocError> {
+    let module = module(alloc, bytes)?;
+    call_begins(alloc)?;
+    let answer = judge(alloc, &module);
+    call_ends(alloc)?;
+    Ok(judged(answer))
+}
+
+pub fn judges_around(alloc: Global) -> Result<Outcome, AllocError> {
+    let module = module(alloc, VALID)?;
+    let lists = lists(module.parts(), TYPES);
+    call_begins(alloc)?;
+    let answer = judge_around(alloc, &lists, None);
+    call_ends(alloc)?;
+    Ok(judged(answer))
+}
+
+pub fn judges_body(alloc: Global) -> Result<Outcome, AllocError> {
+    let module = module(alloc, VALID)?;
+    let parts = module.parts();
+    let Some(func) = parts.funcs.as_slice().first() else {
+        return Ok(Outcome::Wrong("functions"));
+    };
+    let whole = Whole::of(alloc, lists(parts, TYPES)).map_err(|_| AllocError)?;
+    let mut meter = Meter::new(alloc);
+    call_begins(alloc)?;
+    let answer = judge_body(&whole, func.ty, &func.body, &mut meter);
+    call_ends(alloc)?;
+    Ok(match answer {
+        Ok(verdict) => Outcome::answered(verdict == BodyVerdict::Valid && meter.typed() == 1),
+        Err(OutOfMemory) => Outcome::refused(meter.typed() == 1),
+    })
+}
+
+pub fn sees_whole(alloc: Global) -> Result<Outcome, AllocError> {
+    let module = module(alloc, VALID)?;
+    let lists = lists(module.parts(), TYPES);
+    call_begins(alloc)?;
+    let answer = Whole::of(alloc, lists);
+    call_ends(alloc)?;
+    Ok(match answer {
+        Ok(_) => Outcome::answered(true),
+        Err(OutOfMemory) => Outcome::refused(true),
+    })
+}
