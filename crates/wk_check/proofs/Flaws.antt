@@ -7,7 +7,7 @@ use Rattle.std.specs.List.{AllByRecursion}
 use Rattle.wk_module.specs.declared.types.Import.{Import}
 use Rattle.wk_module.specs.declared.types.ImportDesc.{ImportDesc}
 use Rattle.wk_module.specs.declared.types.Parts.{Parts}
-use Rattle.wk_module.specs.Sections.{TypeSection, ImportSection, FunctionSection, TableSection, MemorySection, GlobalSection, ExportSection, ElementSection, DataSection}
+use Rattle.wk_module.specs.Sections.{TypeSection, ImportSection, FunctionSection, TableSection, MemorySection, GlobalSection, ExportSection, ElementSection, DataSection, SectionLists}
 use Rattle.wk_module.specs.Shape.{lists_of, IsShaped}
 use Rattle.wk_check.specs.declared.fault.Flaw.{Flaw}
 use Rattle.wk_check.specs.declared.fault.Fault.{Fault}
@@ -18,7 +18,7 @@ use Rattle.wk_module.specs.declared.types.FuncType.{FuncType}
 use Rattle.wk_check.specs.declared.fault.FaultKind.TheVariants.{TypeArity}
 use Rattle.wk_check.specs.Items.{earlier, unless, type_flaw, start_flaws}
 use Rattle.wk_check.specs.Spaces.{and_more, imported}
-use Rattle.wk_check.specs.Verdict.{type_flaws, code_flaws, data_flaws, code_fault, flaws_before_code, module_flaws, module_verdict, IsVerdict, IsNotArity, extended}
+use Rattle.wk_check.specs.Verdict.{type_flaws, code_flaws, data_flaws, code_fault, flaws_before_code, module_flaws, verdict_around, module_verdict, IsVerdict, IsNotArity, extended}
 use Rattle.wk_check.specs.Whole.{AreNumbered}
 
 -- ---- steps of loops
@@ -133,6 +133,11 @@ module_flaws_are m =
     let codes = code_flaws (lists_of m) m.funcs in
     let datas = data_flaws (lists_of m) in
     ap verdict_by (first_fault_joined 1 before (codes ∷ datas ∷ []) ∙ ap (λ last. earlier (first_fault 1 before) (earlier (first_in 10 0 codes) last)) (earlier_none (first_in 11 0 datas)))
+
+-- the verdict around a module's code section is that of the module
+pub verdict_of_lists : (m : Parts) (profile : Profile) (l : SectionLists) (code : Option Fault) → profile ≡ m.profile → l ≡ record (lists_of m) { codes = [] } → code ≡ first_in 10 0 (code_flaws l m.funcs)
+    → verdict_around profile l code ≡ module_verdict m
+verdict_of_lists m profile l code profile_is lists_are code_is = rw (code_is, lists_are, profile_is)
 
 pub meaning : (m : Parts) → IsVerdict m (module_verdict m)
 meaning m = rw (module_flaws_are m) at (verdict_told (module_flaws m))
