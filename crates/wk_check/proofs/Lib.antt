@@ -1,2 +1,3 @@
 pub mod Imported
 pub mod LocalEnds
+pub mod Names
