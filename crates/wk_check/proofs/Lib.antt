@@ -1,3 +1,4 @@
+pub mod Constants
 pub mod Imported
 pub mod LocalEnds
 pub mod Names
