@@ -8,11 +8,15 @@ use Rattle.wk_body.specs.declared.token.Token.TheVariants as kept
 use Rattle.wk_body.specs.Kept.{told, all_told}
 use Rattle.wk_body.specs.Tree.{Instrs, Finish, One, Block, If, tokens_of}
 use Rattle.wk_check.specs.declared.fault.FaultKind.{FaultKind}
+use Rattle.wk_check.specs.declared.fault.FaultKind.TheVariants.{ConstantExpected}
+use Rattle.wk_check.specs.declared.fault.Flaw.{Flaw}
 use Rattle.wk_check.specs.Answers.{Found}
-use Rattle.wk_check.specs.Constants.{is_constant, is_constant_tok, first_varying, first_varying_tok, token_flaw, no_locals}
+use Rattle.wk_check.specs.Constants.{is_constant, is_constant_tok, first_varying, first_varying_tok, constant_flaw, constant_by, token_flaw, no_locals}
 use Rattle.wk_check.specs.Effects.{local_type}
+use Rattle.wk_check.specs.Locals.{LocalsOf}
 use Rattle.wk_check.specs.Moves.{JudgedAs}
 use Rattle.wk_check.specs.Own.{TokenFault}
+use Rattle.wk_check.specs.Typing.{code_result}
 
 -- ---- the first token that varies, token by token
 
@@ -69,5 +73,29 @@ no_local x = none_by (nat_lt x 0)
 no_locals_are : local_type [] [] ≡ no_locals
 no_locals_are = λ i x. no_local x i
 
-flaw_by : (r : Result (Unit {0}) TokenFault) (o : Option (FaultKind × ℕ)) → JudgedAs r o → token_flaw r ≡ token_flaw r
-flaw_by r o h = refl
+-- ---- the flaw of a constant expression
+
+-- the flaw that an answer of typing is
+abbrev pub flaw_of : Option (FaultKind × ℕ) → Option Flaw
+flaw_of None = None
+flaw_of (Some p) = Some (record { kind = p.0; token = Some (p.1) })
+
+by_judged : (r : Result (Unit {0}) TokenFault) (o : Option (FaultKind × ℕ)) → JudgedAs r o → flaw_of o ≡ token_flaw r
+by_judged r None h = sym (ap token_flaw h)
+by_judged r (Some p) h = sym (ap token_flaw h)
+
+-- a token varies
+pub constant_varies : (A : Ref → Found) (t : ValType) (is : Instrs) (pool : List ℕ) (ts : List Token) (k : ℕ) → all_told pool ts ≡ tokens_of is → Some k ≡ first_varying_tok A 0 (all_told [] ts)
+    → Some (record { kind = ConstantExpected; token = Some k }) ≡ constant_flaw A t is
+constant_varies A t is pool ts k written at =
+    ap (λ (o : Option ℕ). constant_by o (token_flaw (code_result A no_locals (t ∷ []) is))) (at ∙ varying_in A pool ts is written)
+
+-- no token varies, and the expression is typed as one without locals
+pub constant_typed : (A : Ref → Found) (t : ValType) (is : Instrs) (pool : List ℕ) (ts : List Token) (locals : LocalsOf) (final : List ValType) (o : Option (FaultKind × ℕ)) → all_told pool ts ≡ tokens_of is → None ≡ first_varying_tok A 0 (all_told [] ts)
+    → locals ≡ record { params = []; groups = [] } → final ≡ t ∷ [] → JudgedAs (code_result A (local_type locals.params locals.groups) final is) o → flaw_of o ≡ constant_flaw A t is
+constant_typed A t is pool ts locals final o written none without results judged =
+    by_judged (code_result A (local_type locals.params locals.groups) final is) o judged
+    ∙ ap (λ (l : LocalsOf). token_flaw (code_result A (local_type l.params l.groups) final is)) without
+    ∙ ap (λ (l : ℕ → Option ValType). token_flaw (code_result A l final is)) no_locals_are
+    ∙ ap (λ (us : List ValType). token_flaw (code_result A no_locals us is)) results
+    ∙ ap (λ (k : Option ℕ). constant_by k (token_flaw (code_result A no_locals (t ∷ []) is))) (none ∙ varying_in A pool ts is written)
