@@ -1,6 +1,7 @@
 pub mod Alignment
 pub mod Binds
 pub mod Bodies
+pub mod Constants
 pub mod Cuts
 pub mod Fits
 pub mod Flaws
