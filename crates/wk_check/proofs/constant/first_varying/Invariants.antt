@@ -1,12 +1,3 @@
-<<<<<<< HEAD
-use Rattle.std.proofs.Common.{◌≡◌, ◌<◌, ◌^◌, [], length, IfOk, ℕ, ◌+◌, ◌-◌, ◌*◌, ◌≤◌}
-use Rattle.wk_body.specs.Kept.{told, all_told}
-use Rattle.wk_check.specs.Constants.{constant_flaw, is_constant_tok, first_varying_tok}
-use Rattle.wk_check.proofs.constant.first_varying.Given as goal
-
-abbrev pub invariant-loop-at : goal.invariant-loop-at
-invariant-loop-at g l = ?
-=======
 use Rattle.std.proofs.Common.{◌≡◌, [], drop}
 use Rattle.wk_body.specs.Kept.{all_told}
 use Rattle.wk_check.specs.Constants.{first_varying_tok}
@@ -14,4 +5,3 @@ use Rattle.wk_check.proofs.constant.first_varying.Given as goal
 
 abbrev pub invariant-loop-at : goal.invariant-loop-at
 invariant-loop-at g l = first_varying_tok (g.E.Env.answers l.env) l.at (all_told [] (drop l.at l.tokens)) ≡ first_varying_tok (g.E.Env.answers l.env) 0 (all_told [] l.tokens)
->>>>>>> whole
