@@ -11,7 +11,7 @@ use crate::fault::BodyVerdict;
 use wk_module::{Body, Moving};
 
 /// The verdict of a body whose references find what they found, under types that are found to be the same: the verdict that it
-/// had, with its kind and token. `own_types` are the indices of the type before and now. It takes no memory.
+/// had, with its kind and token. `own_types` are the indexes of the type before and now. It takes no memory.
 pub fn carry<O: Env, N: Env>(
     _old: &O,
     _new: &N,
