@@ -1,23 +1,18 @@
--- The result of code, and the verdict of a body, from the run of its tokens.
+-- The result of code from the run of its tokens.
 use Rattle.std.proofs.Common.{◌≡◌, ℕ, suc, ◌+◌, List, [], ◌∷◌, ◌++◌, length, Result, Ok, Err, Option, refl, sym, ap, ◌∙◌, arith, length-append}
 use Rattle.std.proofs.lemmas.List.{length-map}
 use Rattle.wk_bytes.specs.Leb.{◌>>=◌}
 use Rattle.wk_body.specs.declared.types.ValType.{ValType}
 use Rattle.wk_body.specs.declared.types.BlockType.{BlockType}
-use Rattle.wk_body.specs.declared.types.BlockType.TheVariants.{Index}
-use Rattle.wk_body.specs.declared.types.LocalGroup.{LocalGroup}
 use Rattle.wk_body.specs.declared.references.Ref.{Ref}
 use Rattle.wk_body.specs.declared.token.Token.{Token}
-use Rattle.wk_body.specs.Bodies.{BodyOf}
 use Rattle.wk_body.specs.Tree.{Instrs, Finish, One, Block, If, Tok, Close, flatten, else_part, tokens_of}
 use Rattle.wk_body.specs.Kept.{told, all_told}
 use Rattle.wk_check.specs.declared.fault.FaultKind.{FaultKind}
-use Rattle.wk_check.specs.declared.fault.BodyVerdict.{BodyVerdict}
-use Rattle.wk_check.specs.declared.fault.BodyVerdict.TheVariants.{Valid, Invalid}
 use Rattle.wk_check.specs.Answers.{Found}
 use Rattle.wk_check.specs.Own.{TokenFault, at_token, fresh, ended}
-use Rattle.wk_check.specs.Effects.{known, params_of, results_of, local_type}
-use Rattle.wk_check.specs.Typing.{is_finish, else_count, count, typed, code_result, verdict_of, body_verdict}
+use Rattle.wk_check.specs.Effects.{results_of}
+use Rattle.wk_check.specs.Typing.{is_finish, else_count, count, typed, code_result}
 use Rattle.wk_check.specs.Levels.{Blocks, with_top, run}
 use Rattle.wk_check.specs.Moves.{body_of}
 use Rattle.wk_check.proofs.Binds.{bind_assoc}
@@ -78,31 +73,3 @@ module _ (A : Ref → Found) (locals : ℕ → Option ValType) (bt : BlockType) 
     pub code_ended : (b : Blocks) (kind : FaultKind) (k : ℕ) → run A locals final 0 ts start ≡ Ok b → ended final b.inner.own ≡ Err kind → k ≡ count is → code_result A locals final is ≡ Err (record { kind = kind; token = k })
     code_ended b kind k h e n =
         code_by_run (Ok b) h ∙ ap (at_token (count is)) e ∙ ap (λ m. Err (record { kind = kind; token = m })) (sym n)
-
--- ---- bodies
-
-module _ (A : Ref → Found) (t : ℕ) (b : BodyOf) where
-  abbrev judged : Result (Unit {0}) FaultKind → BodyVerdict
-  judged r =
-      verdict_of (at_token 0 r >>= λ u. code_result A (local_type (params_of A (Index t)) b.groups) (results_of A (Index t)) b.instrs)
-
-  pub body_unknown : (kind : FaultKind) → known A (Index t) ≡ Err kind → Invalid kind 0 ≡ body_verdict A t b
-  body_unknown kind e = ap judged (sym e)
-
-  -- the same of what the code has found
-  module _ (params results : List ValType) (groups : List LocalGroup) (instrs : Instrs) (ep : params ≡ params_of A (Index t)) (er : results ≡ results_of A (Index t)) (eg : groups ≡ b.groups) (ei : instrs ≡ b.instrs) (kn : known A (Index t) ≡ Ok tt) where
-    same_code : code_result A (local_type params groups) results instrs ≡ code_result A (local_type (params_of A (Index t)) b.groups) (results_of A (Index t)) b.instrs
-    same_code =
-        ap (λ xs. code_result A (local_type xs groups) results instrs) ep
-        ∙ ap (λ gs. code_result A (local_type (params_of A (Index t)) gs) results instrs) eg
-        ∙ ap (λ xs. code_result A (local_type (params_of A (Index t)) b.groups) xs instrs) er
-        ∙ ap (λ is. code_result A (local_type (params_of A (Index t)) b.groups) (results_of A (Index t)) is) ei
-
-    body_judged : (r : Result (Unit {0}) TokenFault) → code_result A (local_type params groups) results instrs ≡ r → verdict_of r ≡ body_verdict A t b
-    body_judged r h = ap verdict_of (sym h ∙ same_code) ∙ ap judged (sym kn)
-
-    pub body_valid : code_result A (local_type params groups) results instrs ≡ Ok tt → Valid ≡ body_verdict A t b
-    body_valid h = body_judged (Ok tt) h
-
-    pub body_fault : (kind : FaultKind) (k : ℕ) → code_result A (local_type params groups) results instrs ≡ Err (record { kind = kind; token = k }) → Invalid kind k ≡ body_verdict A t b
-    body_fault kind k h = body_judged (Err (record { kind = kind; token = k })) h

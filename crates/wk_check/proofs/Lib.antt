@@ -1,6 +1,7 @@
 pub mod Alignment
 pub mod Binds
 pub mod Bodies
+pub mod Constants
 pub mod Cuts
 pub mod Fits
 pub mod Flaws
@@ -8,6 +9,7 @@ pub mod Frames
 pub mod Imported
 pub mod Labels
 pub mod LocalEnds
+pub mod Names
 pub mod Popping
 pub mod Runs
 pub mod Sound

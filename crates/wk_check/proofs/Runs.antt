@@ -1,5 +1,5 @@
 -- The machine follows the tree.
-use Rattle.std.proofs.Common.{◌≡◌, ℕ, ◌+◌, true, false, List, [], ◌∷◌, ◌++◌, length, Option, refl, sym, ap, ◌∙◌, append_assoc, arith}
+use Rattle.std.proofs.Common.{◌≡◌, ℕ, ◌+◌, true, false, List, [], ◌∷◌, ◌++◌, length, Option, Result, Ok, Err, refl, ap, ◌∙◌, append_assoc, arith}
 use Rattle.wk_bytes.specs.Leb.{◌>>=◌}
 use Rattle.wk_body.specs.declared.types.ValType.{ValType}
 use Rattle.wk_body.specs.declared.types.BlockType.{BlockType}
@@ -14,7 +14,12 @@ use Rattle.wk_check.specs.Own.{Own, at_token, pushed, ended}
 use Rattle.wk_check.specs.Effects.{results_of, effect_of, after_effect}
 use Rattle.wk_check.specs.Typing.{is_finish, else_count, count, entered, begun, label_types, typed}
 use Rattle.wk_check.specs.Levels.{Level, Blocks, blocks, with_own, opened, opener_of, level_label, labels_of, closed, left, run}
-use Rattle.wk_check.proofs.Binds.{bind_ext, bind_assoc, at_bind, at_bind2}
+use Rattle.wk_check.proofs.Binds.{bind_ext, at_bind, at_bind2}
+
+-- the same after a part that both have
+bind_under : {A B C E : Type 0} (m : Result A E) (h : A → Result C E) (f : A → Result B E) (g : B → Result C E) → ((x : A) → h x ≡ (f x >>= g)) → (m >>= h) ≡ ((m >>= f) >>= g)
+bind_under (Ok x) h f g e = e x
+bind_under (Err x) h f g e = refl
 
 module _ (A : Ref → Found) (locals : ℕ → Option ValType) (final : List ValType) where
   -- these instructions take the machine from one own stack of the innermost block to the next
@@ -32,12 +37,10 @@ module _ (A : Ref → Found) (locals : ℕ → Option ValType) (final : List Val
       let ts = results_of A bt in
       let t = typed A locals final (level_label A o bt ∷ labels_of A (blocks l ls)) (k + 1) inside (begun A bt) in
       hi (k + 1) kb (Close ∷ behind) (opened A o bt) (with_own l s ∷ ls) refl
-      ∙ bind_ext t _ _ (λ s2.
+      ∙ bind_under t _ _ _ (λ s2.
       ap (λ r. at_token kb r >>= run A locals final (kb + 1) behind) (he (blocks (with_own (opened A o bt) s2) (with_own l s ∷ ls)))
       ∙ at_bind kb (ended ts s2) (λ u. blocks (with_own l (pushed ts s)) ls) (run A locals final (kb + 1) behind)
-      ∙ bind_ext (at_token kb (ended ts s2)) _ _ (λ u. hr (kb + 1) n after (with_own l (pushed ts s)) ls (omega arith))
-      ∙ sym (bind_assoc (at_token kb (ended ts s2)) _ _))
-      ∙ sym (bind_assoc t _ _)
+      ∙ bind_under (at_token kb (ended ts s2)) _ _ _ (λ u. hr (kb + 1) n after (with_own l (pushed ts s)) ls (omega arith)))
 
   kind_runs : (kind : BlockKind) (bt : BlockType) (inside rest : Instrs) → Follows inside → Follows rest → NestedFollows (opener_of kind) (label_types A kind bt) bt inside rest
   kind_runs kinds.Block bt inside rest hi hr = nested_runs openers.Block bt inside rest (λ b. refl) hi hr
@@ -85,18 +88,13 @@ module _ (A : Ref → Found) (locals : ℕ → Option ValType) (final : List Val
       let split : (((flatten first ++ other) ++ (Close ∷ flatten rest)) ++ after) ≡ (flatten first ++ (other ++ (Close ∷ behind))) = append_assoc (flatten first ++ other) (Close ∷ flatten rest) after ∙ append_assoc (flatten first) other (Close ∷ behind) in
       ap (λ ts. run A locals final k (OpenIf bt (length (flatten first ++ other)) ∷ ts) (blocks l ls)) split
       ∙ at_bind k m (λ s. blocks (opened A openers.If bt) (with_own l s ∷ ls)) (run A locals final (k + 1) (flatten first ++ (other ++ (Close ∷ behind))))
-      ∙ bind_ext (at_token k m) _ _ (λ s1.
+      ∙ bind_under (at_token k m) _ _ _ (λ s1.
       hf (k + 1) ka (other ++ (Close ∷ behind)) (opened A openers.If bt) (with_own l s1 ∷ ls) refl
-      ∙ bind_ext (typed A locals final labels (k + 1) first (begun A bt)) _ _ (λ s2.
+      ∙ bind_under (typed A locals final labels (k + 1) first (begun A bt)) _ _ _ (λ s2.
       else_runs second hs bt ka behind s2 (with_own l s1) ls
-      ∙ bind_ext (at_token ka (ended ts s2)) _ _ (λ u.
-      bind_ext (typed A locals final labels kb second (begun A bt)) _ _ (λ s3.
-      bind_ext (at_token kc (ended ts s3)) _ _ (λ v. hr (kc + 1) n after (with_own l (pushed ts s1)) ls (omega (arith, e)))
-      ∙ sym (bind_assoc (at_token kc (ended ts s3)) _ _))
-      ∙ sym (bind_assoc (typed A locals final labels kb second (begun A bt)) _ _))
-      ∙ sym (bind_assoc (at_token ka (ended ts s2)) _ _))
-      ∙ sym (bind_assoc (typed A locals final labels (k + 1) first (begun A bt)) _ _))
-      ∙ sym (bind_assoc (at_token k m) _ _)
+      ∙ bind_under (at_token ka (ended ts s2)) _ _ _ (λ u.
+      bind_under (typed A locals final labels kb second (begun A bt)) _ _ _ (λ s3.
+      bind_under (at_token kc (ended ts s3)) _ _ _ (λ v. hr (kc + 1) n after (with_own l (pushed ts s1)) ls (omega (arith, e)))))))
 
   -- the instructions of a tree take the machine from one own stack of the innermost block to the next
   pub runs : (is : Instrs) → Follows is
@@ -105,13 +103,11 @@ module _ (A : Ref → Found) (locals : ℕ → Option ValType) (final : List Val
   runs (One p rest) k n after l ls e =
       let m = effect_of A locals final (labels_of A (blocks l ls)) p >>= λ e. after_effect e l.own in
       at_bind k m (λ s. blocks (with_own l s) ls) (run A locals final (k + 1) (flatten rest ++ after))
-      ∙ bind_ext (at_token k m) _ _ (λ s. runs rest (k + 1) n after (with_own l s) ls (omega arith))
-      ∙ sym (bind_assoc (at_token k m) _ _)
+      ∙ bind_under (at_token k m) _ _ _ (λ s. runs rest (k + 1) n after (with_own l s) ls (omega arith))
   runs (Block kind bt inside rest) k n after l ls e =
       let m = entered A false bt l.own in
       ap (λ ts. run A locals final k (Open kind bt (length (flatten inside)) ∷ ts) (blocks l ls)) (append_assoc (flatten inside) (Close ∷ flatten rest) after)
       ∙ at_bind k m (λ s. blocks (opened A (opener_of kind) bt) (with_own l s ∷ ls)) (run A locals final (k + 1) (flatten inside ++ (Close ∷ (flatten rest ++ after))))
-      ∙ bind_ext (at_token k m) _ _ (λ s. kind_runs kind bt inside rest (runs inside) (runs rest) k n after l s ls (omega arith))
-      ∙ sym (bind_assoc (at_token k m) _ _)
+      ∙ bind_under (at_token k m) _ _ _ (λ s. kind_runs kind bt inside rest (runs inside) (runs rest) k n after l s ls (omega arith))
   runs (If bt first second rest) k n after l ls e =
       if_runs bt first second rest (runs first) (runs second) (runs rest) k n after l ls e

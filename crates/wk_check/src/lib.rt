@@ -30,3 +30,23 @@ pub use whole::Whole;
 
 #[cfg(test)]
 mod tests;
+#[cfg(test)]
+mod tests_answers;
+#[cfg(test)]
+mod tests_bodies;
+#[cfg(test)]
+mod tests_constants;
+#[cfg(test)]
+mod tests_deep;
+#[cfg(test)]
+mod tests_extended;
+#[cfg(test)]
+mod tests_kept;
+#[cfg(test)]
+mod tests_locals;
+#[cfg(test)]
+mod tests_order;
+#[cfg(test)]
+mod tests_references;
+#[cfg(test)]
+mod tests_sections;

@@ -1,4 +1,4 @@
-use Rattle.std.proofs.Common.{◌≢◌, rules, ◌∙◌, sym, ap}
+use Rattle.std.proofs.Common.{◌≢◌, rules, ◌∙◌, sym}
 use Rattle.wk_check.proofs.Alignment.{over, widest}
 use Rattle.wk_check.proofs.step.is_over.Goals as goal
 

@@ -1,0 +1,149 @@
+//! Bodies judged one by one, where references find other answers than those of a module.
+
+use crate::FaultKind::{
+    Alignment, GlobalImmutable, StackUnderflow, UnknownFunc, UnknownGlobal, UnknownMemory,
+    UnknownTable, UnknownType,
+};
+use crate::{Answer, BodyVerdict, Env, FaultKind, Meter, judge_body};
+use std::alloc::Global;
+use std::process::Abort;
+use std::test::Fail;
+use wk_module::{FuncType, GlobalType, Limits, Profile, Ref, ValType, read_body_in, read_in};
+
+// The types [] -> [], [i32] -> [i32] and [] -> [i32, i32].
+const TYPES: &[u8] = b"\0asm\x01\0\0\0\x01\x0e\x03\x60\0\0\x60\x01\x7f\x01\x7f\x60\0\x02\x7f\x7f";
+
+const PAGE: Limits = Limits { min: 1, max: None };
+
+// What references find in lists that are lent.
+#[derive(Clone, Copy)]
+struct Lent<'a> {
+    types: &'a [FuncType],
+    funcs: &'a [u32],
+    globals: &'a [GlobalType],
+    tables: &'a [Limits],
+    memories: &'a [Limits],
+}
+
+impl<'a> Env for Lent<'a> {
+    ghost use Rattle.wk_check.specs.Spaces.{Spaces, answer_in, answers_of_kind};
+
+    ghost answers = { λ l r. answer_in (record { types = l.types.now; funcs = l.funcs.now; tables = l.tables.now; memories = l.memories.now; globals = l.globals.now }) r };
+
+    ghost of_kind = { λ l r. answers_of_kind (record { types = l.types.now; funcs = l.funcs.now; tables = l.tables.now; memories = l.memories.now; globals = l.globals.now }) r };
+
+    fn answer(&self, reference: Ref) -> Answer<'_> {
+        match reference {
+            Ref::Ty(x) => match self.types.get(x as usize) {
+                Some(ty) => Answer::Ty(ty),
+                None => Answer::NoType,
+            },
+            Ref::Func(x) => match self.funcs.get(x as usize) {
+                Some(ty) => match self.types.get(*ty as usize) {
+                    Some(ty) => Answer::Func(ty),
+                    None => Answer::FuncOfNoType,
+                },
+                None => Answer::NoFunc,
+            },
+            Ref::Global(x) => match self.globals.get(x as usize) {
+                Some(ty) => Answer::Global(*ty),
+                None => Answer::NoGlobal,
+            },
+            Ref::Table if self.tables.is_empty() => Answer::Absent,
+            Ref::Table => Answer::Present,
+            Ref::Memory if self.memories.is_empty() => Answer::Absent,
+            Ref::Memory => Answer::Present,
+        }
+    }
+}
+
+// Judges bodies, each under the type of an index, with one meter: valid, or a fault and its token. The functions are one of the
+// second type and one of a type that is not there, the globals a constant i32 and an i64.
+fn judges(
+    rt: &impl Abort,
+    alloc: Global,
+    tables: &[Limits],
+    memories: &[Limits],
+    rows: &[(u32, &[u8], Option<(FaultKind, u32)>)],
+) -> Result<(), Fail> {
+    let module = read_in(alloc, TYPES, Profile::Extended)?;
+    let globals = [
+        GlobalType {
+            val: ValType::I32,
+            mutable: false,
+        },
+        GlobalType {
+            val: ValType::I64,
+            mutable: true,
+        },
+    ];
+    let env = Lent {
+        types: module.parts().types.as_slice(),
+        funcs: &[1, 9],
+        globals: &globals,
+        tables,
+        memories,
+    };
+    let mut meter = Meter::new(alloc);
+    for (count, (own_type, code, fault)) in rows.iter().enumerate() {
+        assert_eq!(rt; meter.typed(), count as u64);
+        let body = read_body_in(alloc, code, Profile::Extended)?;
+        let verdict = judge_body(&env, *own_type, &body, &mut meter)?;
+        let wanted = match *fault {
+            None => BodyVerdict::Valid,
+            Some((kind, token)) => BodyVerdict::Invalid { kind, token },
+        };
+        assert_eq!(rt; verdict, wanted, "{code:?}");
+    }
+    Ok(())
+}
+
+#[test]
+fn judges_valid_bodies(rt: HostRuntime) -> Result<(), Fail> {
+    let rows: [(u32, &[u8], Option<(FaultKind, u32)>); 8] = [
+        (0, b"\0\x0b", None),
+        (1, b"\0\x20\0\x0b", None),
+        (2, b"\0\x41\0\x41\x01\x0b", None),
+        (0, b"\0\x41\0\x10\0\x1a\x0b", None),
+        (1, b"\0\x41\0\x41\0\x11\x01\0\x0b", None),
+        (0, b"\0\x41\0\x28\x02\0\x1a\x0b", None),
+        (0, b"\0\x42\0\x24\x01\x23\0\x1a\x0b", None),
+        (0, b"\0\x41\0\x02\x01\x45\x0b\x1a\x0b", None),
+    ];
+    judges(&rt, rt.alloc(), &[PAGE], &[PAGE], &rows)
+}
+
+#[test]
+fn judges_faulty_bodies(rt: HostRuntime) -> Result<(), Fail> {
+    let rows: [(u32, &[u8], Option<(FaultKind, u32)>); 8] = [
+        // under a type that is not there
+        (3, b"\0\x1a\x0b", Some((UnknownType, 0))),
+        // a function of a type that is not there, and no function
+        (0, b"\0\x10\x01\x0b", Some((UnknownType, 0))),
+        (0, b"\0\x10\x02\x0b", Some((UnknownFunc, 0))),
+        (0, b"\0\x41\0\x11\x03\0\x0b", Some((UnknownType, 1))),
+        (0, b"\0\x41\0\x24\0\x0b", Some((GlobalImmutable, 1))),
+        (0, b"\0\x23\x02\x1a\x0b", Some((UnknownGlobal, 0))),
+        (0, b"\0\x41\0\x28\x03\0\x1a\x0b", Some((Alignment, 1))),
+        (2, b"\0\x41\0\x0b", Some((StackUnderflow, 1))),
+    ];
+    judges(&rt, rt.alloc(), &[PAGE], &[PAGE], &rows)
+}
+
+// The meter is as good after a fault as before.
+#[test]
+fn judges_one_after_the_other(rt: HostRuntime) -> Result<(), Fail> {
+    let rows: [(u32, &[u8], Option<(FaultKind, u32)>); 6] = [
+        (0, b"\0\x41\0\x11\x01\0\x0b", Some((UnknownTable, 1))),
+        (0, b"\0\x0b", None),
+        (
+            2,
+            b"\0\x41\0\x02\x40\x41\0\x3f\0\x0b\x0b",
+            Some((UnknownMemory, 3)),
+        ),
+        (2, b"\0\x41\0\x0b", Some((StackUnderflow, 1))),
+        (0, b"\x01\x02\x7f\x20\x01\x1a\x0b", None),
+        (0, b"\0\x1a\x0b", Some((StackUnderflow, 0))),
+    ];
+    judges(&rt, rt.alloc(), &[], &[], &rows)
+}
