@@ -24,7 +24,7 @@ pub fn carry<O: Env, N: Env>(
     requires was { verdict ≡ body_verdict (O.answers _old.now) own_types.0 _body.now }
     ensures { result ≡ body_verdict (N.answers _new.now) own_types.1 _body.now }
 {
-    verdict
+    verdict // its references find what they found
 }
 
 /// The verdict of a body after an import of the kind came in front of the index `from`, where each reference, moved, finds what it
@@ -43,5 +43,5 @@ pub fn carry_moved<O: Env, N: Env>(
     requires was { verdict ≡ body_verdict (O.answers _old.now) own_types.0 _body.now }
     ensures { result ≡ body_verdict (N.answers _new.now) own_types.1 (shift_body _kind _from _body.now) }
 {
-    verdict
+    verdict // its references, moved, find what they found
 }
