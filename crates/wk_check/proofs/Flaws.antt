@@ -178,21 +178,3 @@ verdict_extended m =
     (earlier (code_fault m) (first_in 11 0 (data_flaws (lists_of m))))
     (no_type_fault 0 0 m.types)
     (type_fault_of_arity m.profile 0 0 m.types)
-
--- ---- a module's lists are short
-
-pub are_numbered : (m : Parts) → IsShaped m → AreNumbered (record (lists_of m) { codes = [] })
-are_numbered m shaped = record {
-  types = shaped.formed.valid TypeSection;
-  imports = (shaped.formed.valid ImportSection).0;
-  funcs = (shaped.formed.valid FunctionSection).0;
-  tables = (shaped.formed.valid TableSection).0;
-  memories = (shaped.formed.valid MemorySection).0;
-  globals = (shaped.formed.valid GlobalSection).0;
-  exports = (shaped.formed.valid ExportSection).0;
-  elems = (shaped.formed.valid ElementSection).0;
-  datas = (shaped.formed.valid DataSection).0;
-}
-
-pub funcs_numbered : (m : Parts) → IsShaped m → length m.funcs < 2 ^ 32
-funcs_numbered m shaped = rw length-map at (shaped.formed.valid FunctionSection).0

@@ -18,3 +18,4 @@ pub mod Typing
 pub mod Verdict
 pub mod VerdictText
 pub mod Whole
+pub mod WholeLaws

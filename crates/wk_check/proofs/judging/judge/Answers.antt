@@ -4,7 +4,8 @@ use Rattle.wk_module.specs.Listed.{listed}
 use Rattle.wk_module.specs.declared.types.Parts.{Parts}
 use Rattle.wk_check.specs.declared.fault.Verdict.{Verdict}
 use Rattle.wk_check.specs.Verdict.{module_verdict, IsVerdict, IsNotArity, extended}
-use Rattle.wk_check.proofs.Flaws.{verdict_of_lists, meaning, verdict_extended, are_numbered, funcs_numbered}
+use Rattle.wk_check.proofs.Flaws.{verdict_of_lists, meaning, verdict_extended}
+use Rattle.wk_check.specs.WholeLaws.{are_numbered, funcs_numbered}
 use Rattle.wk_check.proofs.judging.judge.Goals as goal
 
 abbrev IsKept : Parts → Verdict → Type 0

@@ -1,0 +1,11 @@
+-- What a refused reading says of what bytes spell.
+use Rattle.std.proofs.Common.{◌≡◌, ◌≢◌, Result, Ok, Err, refl}
+use Rattle.wk_bytes.specs.declared.fault.ReadKind.{ReadKind}
+use Rattle.wk_bytes.specs.declared.fault.ReadKind.TheVariants as kinds
+use Rattle.wk_bytes.specs.declared.fault.ReadFault.{ReadFault}
+use Rattle.wk_body.specs.Reads.{FailsAs}
+
+-- a refusal for another cause than memory is that of reading on lists
+pub other_fault : {Y : Type 0} (e : ReadFault) (k : ReadKind) (read : Result Y ReadFault) → k ≢ kinds.Memory → FailsAs e k read → read ≡ Err e
+other_fault e kinds.Memory read other fails = absurd (other refl)
+other_fault e _ read other fails = fails
