@@ -1,7 +1,7 @@
 //! Judging the module that bytes spell.
 ghost use Rattle.std.specs.Prelude.{◌≡◌, IfOk, string_bytes};
 ghost use Rattle.wk_module.specs.Reading.{module_at};
-ghost use Rattle.wasmkit.specs.Validation.{printed, status_of, verdict_line};
+ghost use Rattle.wasmkit.specs.Validation.{printed, status_of, verdict_line, Means};
 
 use crate::listing::malformed_line;
 use std::alloc::{AllocError, Global};
@@ -30,6 +30,7 @@ fn verdict_line(alloc: Global, verdict: &Verdict) -> Result<String, AllocError>
 /// Want of memory is the only refusal.
 pub fn validate(alloc: Global, bytes: &[u8], profile: Profile) -> Result<Validation, OutOfMemory>
     ensures line { IfOk result (λ v. string_bytes v.line ≡ printed (module_at profile bytes.now)) }
+    ensures means { IfOk result (λ v. Means profile bytes.now (string_bytes v.line) v.status) }
     ensures status { IfOk result (λ v. v.status ≡ status_of (module_at profile bytes.now)) }
 {
     let module = match read_in(alloc, bytes, profile) {

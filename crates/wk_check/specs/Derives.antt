@@ -1,5 +1,5 @@
 -- The standard's declarative rules (3.3): which operand stacks instructions may take to which. A stack is a list of value types
--- in the order in which they are written, the top last. Nothing here is of any type, and nothing is dead.
+-- in the order in which they are written, the top last. No operand is of an open type, and no stack is dead.
 use Rattle.std.specs.Prelude.{◌≡◌, ℕ, List, [], ◌∷◌, ◌++◌, Option, Result, Ok}
 use Rattle.wk_body.specs.declared.types.ValType.{ValType}
 use Rattle.wk_body.specs.declared.types.ValType.TheVariants.{I32}
@@ -28,7 +28,7 @@ label_of A kinds.Block bt = results_of A bt
 label_of A kinds.Loop bt = params_of A bt
 
 -- Instructions have the type `[p] → [q]`, where references find A, locals have these types, the function these results, and the
--- labels these types. No instructions leave a stack as it is. An instruction changes the top of a stack and leaves what is
+-- labels these types. An empty list leaves a stack as it is. An instruction changes the top of a stack and leaves what is
 -- below; the ones behind it go on from there. A block is one instruction, whose type is known and inside which its code, with
 -- its label in front, has that type; so is an if, with both branches.
 abbrev pub Derives : (Ref → Found) → (ℕ → Option ValType) → List ValType → List (List ValType) → Instrs → List ValType → List ValType → Type 0

@@ -34,7 +34,7 @@ pub data Effect : Type 0 where
 
 -- ---- what immediates name
 
--- a local: the parameters come first, then the groups (3.3.3)
+-- a local: the parameters come first, then the groups (3.4.1)
 abbrev pub type_in_groups : List LocalGroup → ℕ → Option ValType
 type_in_groups [] x = None
 type_in_groups (g ∷ gs) x = if nat_lt x g.count then Some g.ty else type_in_groups gs (x - g.count)
@@ -174,7 +174,7 @@ after_effect Drops s = popped_any s >>= λ p. Ok (p.1)
 after_effect Selects s =
     popped (I32 ∷ []) s >>= λ s1. (popped_any s1 >>= λ p. (popped_one (p.0) (p.1) >>= λ q. Ok (pushed_one (selected (p.0) (q.0)) (q.1))))
 
--- ---- block types (3.2.2): parameters and results, none where the type is unknown
+-- ---- block types (2.3.2; those of an index belong to the other profile): parameters and results, none where the type is unknown
 
 abbrev pub params_found : Found → List ValType
 params_found (TypeIs t) = t.params

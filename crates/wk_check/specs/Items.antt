@@ -46,13 +46,13 @@ unless kind false = flaw kind
 abbrev pub within : {X : Type 0} → FaultKind → List X → ℕ → Option Flaw
 within kind space x = unless kind (nat_lt x (length space))
 
--- ---- types (3.2.3): at most one result, in 1.0
+-- ---- types (3.2.2): at most one result, in 1.0
 
 abbrev pub type_flaw : Profile → FuncType → Option Flaw
 type_flaw Core t = unless TypeArity (nat_lt (length t.results) 2)
 type_flaw Extended t = None
 
--- ---- tables and memories (3.2.1, 3.2.4, 3.2.5, 3.4.10)
+-- ---- tables and memories (3.2.1, 3.2.3, 3.2.4, 3.4.10)
 
 -- the least size is not above the greatest
 abbrev pub in_order : ℕ → Option ℕ → Bool
@@ -79,7 +79,7 @@ abbrev pub memory_flaw : ℕ → Limits → Option Flaw
 memory_flaw before l =
     earlier (unless LimitsOrder (in_order l.min l.max)) (earlier (unless MemoryRange (in_range l.min l.max)) (alone TooManyMemories before))
 
--- ---- imports (3.4.8), with those that come before
+-- ---- imports (3.4.9), with those that come before
 
 -- where there are so many types, and so many tables and memories are imported before it
 abbrev pub import_flaw_by : ℕ → ℕ → ℕ → ImportDesc → Option Flaw
@@ -109,7 +109,7 @@ elem_flaw s e =
 abbrev pub data_flaw : Spaces → DataSeg → Option Flaw
 data_flaw s d = earlier (within UnknownMemory s.memories d.memory) (constant_flaw (answer_in s) I32 d.offset)
 
--- ---- exports (3.4.7, 3.4.10), with those that come before
+-- ---- exports (3.4.8, 3.4.10), with those that come before
 
 abbrev pub index_flaw : Spaces → Kind → ℕ → Option Flaw
 index_flaw s kinds.Func x = within UnknownFunc s.funcs x
@@ -121,7 +121,7 @@ abbrev pub export_flaw : Spaces → List Export → Export → Option Flaw
 export_flaw s before e =
     earlier (index_flaw s e.kind e.index) (if list_any (λ d. bytes_eq d.name e.name) before then flaw DuplicateExport else None)
 
--- ---- the start function (3.4.9): it takes nothing and gives nothing
+-- ---- the start function (3.4.7): it takes nothing and gives nothing
 
 abbrev pub is_start : Found → Bool
 is_start (FuncIs t) = is_empty t.params && is_empty t.results

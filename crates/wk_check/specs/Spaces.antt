@@ -38,7 +38,7 @@ abbrev pub global_in : ImportDesc → Option GlobalType
 global_in (desc.Global g) = Some g
 global_in _ = None
 
--- ---- the spaces: imports come first, then what the module defines. Functions stand as the indices of their types.
+-- ---- the spaces: imports come first, then what the module defines. Functions stand as the indexes of their types.
 
 pub record Spaces : Type 0 where
   pub types : List FuncType

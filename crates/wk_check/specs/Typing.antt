@@ -53,7 +53,7 @@ entered A test bt s = known A bt >>= λ u. popped (with_index test (params_of A 
 abbrev pub begun : (Ref → Found) → BlockType → Own
 begun A bt = pushed (params_of A bt) fresh
 
--- what a branch to a block takes: to a block's end its results, to a loop's begin its parameters
+-- what a branch to a block takes: to a block's end its results, to a loop's beginning its parameters
 abbrev pub label_types : (Ref → Found) → BlockKind → BlockType → List ValType
 label_types A kinds.Block bt = results_of A bt
 label_types A kinds.Loop bt = params_of A bt

@@ -200,7 +200,7 @@ pub(crate) fn check_memory<E: Env>(env: &E) -> Result<(), FaultKind>
     }
 }
 
-/// Opens a block of this type, after popping a test where there is one.
+/// Opens a block of this type, which has to be known, after popping a test, where there is one, and its parameters.
 pub(crate) fn enter<E: Env>(
     env: &E,
     m: &mut Machine,

@@ -1,4 +1,4 @@
-//! Exports (3.4.7, 3.4.10): what they name is there, and no two have one name.
+//! Exports (3.4.8, 3.4.10): what they name is there, and no two have one name.
 
 ghost use Rattle.std.specs.Prelude.{◌≡◌, ◌<◌, ◌^◌, length, take, IfOk};
 ghost use Rattle.wk_check.specs.Flaws.{numbered, first_in};

@@ -11,7 +11,7 @@ use crate::fault::BodyVerdict;
 use wk_module::{Body, Moving};
 
 /// The verdict of a body whose references find what they found, under types that are found to be the same: the verdict that it
-/// had, with its kind and token. `own_types` are the indices of the type before and now. It takes no memory.
+/// had, with its kind and token. `own_types` are the indexes of the type before and now. It takes no memory.
 pub fn carry<O: Env, N: Env>(
     _old: &O,
     _new: &N,
@@ -24,7 +24,7 @@ pub fn carry<O: Env, N: Env>(
     requires was { verdict ≡ body_verdict (O.answers _old.now) own_types.0 _body.now }
     ensures { result ≡ body_verdict (N.answers _new.now) own_types.1 _body.now }
 {
-    verdict
+    verdict // its references find what they found
 }
 
 /// The verdict of a body after an import of the kind came in front of the index `from`, where each reference, moved, finds what it
@@ -43,5 +43,5 @@ pub fn carry_moved<O: Env, N: Env>(
     requires was { verdict ≡ body_verdict (O.answers _old.now) own_types.0 _body.now }
     ensures { result ≡ body_verdict (N.answers _new.now) own_types.1 (shift_body _kind _from _body.now) }
 {
-    verdict
+    verdict // its references, moved, find what they found
 }

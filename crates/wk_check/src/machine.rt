@@ -61,7 +61,7 @@ impl Model for Machine {
 }
 
 impl Machine {
-    /// The machine at the begin of an expression of no type, without room yet.
+    /// The machine at the beginning of an expression of no type, without room yet.
     pub(crate) fn new(alloc: Global) -> Self {
         Machine {
             operands: Vec::new(alloc),
