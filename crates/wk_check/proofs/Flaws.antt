@@ -4,19 +4,19 @@ use Rattle.std.proofs.Math.Nat.{zero-add}
 use Rattle.std.proofs.Math.Seq.{take-suc, drop-cons}
 use Rattle.std.proofs.lemmas.List.{length-map}
 use Rattle.std.specs.List.{AllByRecursion}
+use Rattle.wk_body.specs.declared.types.Profile.{Profile}
+use Rattle.wk_body.specs.declared.types.Profile.TheVariants.{Core, Extended}
 use Rattle.wk_module.specs.declared.types.Import.{Import}
 use Rattle.wk_module.specs.declared.types.ImportDesc.{ImportDesc}
 use Rattle.wk_module.specs.declared.types.Parts.{Parts}
+use Rattle.wk_module.specs.declared.types.FuncType.{FuncType}
 use Rattle.wk_module.specs.Sections.{TypeSection, ImportSection, FunctionSection, TableSection, MemorySection, GlobalSection, ExportSection, ElementSection, DataSection, SectionLists}
 use Rattle.wk_module.specs.Shape.{lists_of, IsShaped}
 use Rattle.wk_check.specs.declared.fault.Flaw.{Flaw}
 use Rattle.wk_check.specs.declared.fault.Fault.{Fault}
-use Rattle.wk_check.specs.Flaws.{fault_at, numbered, first_in, first_fault, verdict_by, AreFine, IsFirst, IsVerdictOn}
-use Rattle.wk_body.specs.declared.types.Profile.{Profile}
-use Rattle.wk_body.specs.declared.types.Profile.TheVariants.{Core, Extended}
-use Rattle.wk_module.specs.declared.types.FuncType.{FuncType}
 use Rattle.wk_check.specs.declared.fault.FaultKind.TheVariants.{TypeArity}
-use Rattle.wk_check.specs.Items.{earlier, unless, type_flaw, start_flaws}
+use Rattle.wk_check.specs.Flaws.{fault_at, numbered, first_in, first_fault, verdict_by, AreFine, IsFirst, IsVerdictOn}
+use Rattle.wk_check.specs.Items.{earlier, unless, type_flaw}
 use Rattle.wk_check.specs.Spaces.{and_more, imported}
 use Rattle.wk_check.specs.Verdict.{type_flaws, code_flaws, data_flaws, code_fault, flaws_before_code, module_flaws, verdict_around, module_verdict, IsVerdict, IsNotArity, extended}
 use Rattle.wk_check.specs.Whole.{AreNumbered}
@@ -139,8 +139,9 @@ pub verdict_of_lists : (m : Parts) (profile : Profile) (l : SectionLists) (code 
     → verdict_around profile l code ≡ module_verdict m
 verdict_of_lists m profile l code profile_is lists_are code_is = rw (code_is, lists_are, profile_is)
 
-pub meaning : (m : Parts) → IsVerdict m (module_verdict m)
-meaning m = rw (module_flaws_are m) at (verdict_told (module_flaws m))
+-- the verdict of a module is the one that words tell
+pub module_verdict_told : (m : Parts) → IsVerdict m (module_verdict m)
+module_verdict_told m = rw (module_flaws_are m) at (verdict_told (module_flaws m))
 
 -- ---- under the rules of the other profile
 
@@ -169,6 +170,7 @@ kept_behind : (first other rest behind : Option Fault) → other ≡ None → Is
 kept_behind None other rest behind none arity differs = rw none
 kept_behind (Some fault) other rest behind none arity differs = absurd (differs arity)
 
+-- so it is that of the same module under the rules of the other profile
 pub verdict_extended : (m : Parts) → IsNotArity (module_verdict m) → module_verdict (extended m) ≡ module_verdict m
 verdict_extended m =
     kept_behind

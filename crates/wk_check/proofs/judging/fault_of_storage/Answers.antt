@@ -1,7 +1,7 @@
 use Rattle.std.proofs.Common.{◌≡◌, None, sym, ◌∙◌}
 use Rattle.wk_module.specs.Listed.{listed}
 use Rattle.wk_check.specs.Flaws.{first_in}
-use Rattle.wk_check.specs.Verdict.{table_flaws, memory_flaws, global_flaws}
+use Rattle.wk_check.specs.Verdict.{table_flaws, memory_flaws}
 use Rattle.wk_check.proofs.Flaws.{earlier_none}
 use Rattle.wk_check.proofs.judging.fault_of_storage.Goals as goal
 

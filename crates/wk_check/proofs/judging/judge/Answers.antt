@@ -1,10 +1,10 @@
-use Rattle.std.proofs.Common.{◌≡◌, IfOk, sym, ap, ◌∙◌, subst}
+use Rattle.std.proofs.Common.{◌≡◌, sym, ap, ◌∙◌, subst}
 use Rattle.std.proofs.lemmas.Result.{IfOk-weaker}
 use Rattle.wk_module.specs.Listed.{listed}
 use Rattle.wk_module.specs.declared.types.Parts.{Parts}
 use Rattle.wk_check.specs.declared.fault.Verdict.{Verdict}
 use Rattle.wk_check.specs.Verdict.{module_verdict, IsVerdict, IsNotArity, extended}
-use Rattle.wk_check.proofs.Flaws.{verdict_of_lists, meaning, verdict_extended}
+use Rattle.wk_check.proofs.Flaws.{verdict_of_lists, module_verdict_told, verdict_extended}
 use Rattle.wk_check.specs.WholeLaws.{are_numbered, funcs_numbered}
 use Rattle.wk_check.proofs.judging.judge.Goals as goal
 
@@ -26,7 +26,7 @@ returns-clause-exact c =
 pub returns-clause-meaning : goal.returns-clause-meaning
 returns-clause-meaning c =
     let m = c.args.module.now in
-    IfOk-weaker c.judge_around.result (λ v. v ≡ module_verdict m) (IsVerdict m) (λ v e. subst (IsVerdict m) (sym e) (meaning m)) (returns-clause-exact c)
+    IfOk-weaker c.judge_around.result (λ v. v ≡ module_verdict m) (IsVerdict m) (λ v e. subst (IsVerdict m) (sym e) (module_verdict_told m)) (returns-clause-exact c)
 
 pub returns-clause-extended : goal.returns-clause-extended
 returns-clause-extended c =

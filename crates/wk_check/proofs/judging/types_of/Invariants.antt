@@ -1,4 +1,4 @@
-use Rattle.std.proofs.Common.{◌≡◌, ◌≤◌, ◌+◌, ◌-◌, map, take, length, vec_len}
+use Rattle.std.proofs.Common.{◌≡◌, ◌≤◌, map, take, length}
 use Rattle.wk_check.proofs.judging.types_of.Given as goal
 
 abbrev pub invariant-loop-func : goal.invariant-loop-func
