@@ -1,4 +1,5 @@
 pub mod Reads
+pub mod ReadsLaws
 pub mod ValTypes
 pub mod Vectors
 pub mod Numeric
