@@ -8,6 +8,7 @@ mod length;
 mod memory;
 mod moves;
 mod numeric;
+mod numeric_name;
 mod reader;
 mod reading;
 mod references;
