@@ -21,3 +21,4 @@ pub mod Building
 pub mod Meaning
 pub mod Lengths
 pub mod Names
+pub mod FaultText

@@ -2,6 +2,7 @@
 #![tactic(auto)]
 
 mod body;
+mod display;
 mod expr;
 mod fault;
 mod length;
