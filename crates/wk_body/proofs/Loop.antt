@@ -3,6 +3,7 @@ use Rattle.std.proofs.Common.{◌≡◌, ℕ, zero, suc, ◌+◌, ◌<◌, ◌�
 use Rattle.wk_bytes.specs.declared.fault.ReadFault.{ReadFault}
 use Rattle.wk_bytes.specs.LebLaws.{IsBytes}
 use Rattle.wk_bytes.specs.Span.{Span}
+use Rattle.wk_bytes.specs.SpanLaws.{IsBytes-before}
 use Rattle.wk_body.specs.declared.types.Profile.{Profile}
 use Rattle.wk_body.specs.declared.scratch.Scratch.{Scratch}
 use Rattle.wk_body.specs.Tree.{Tok, Close, Part, over, before}
@@ -10,10 +11,10 @@ use Rattle.wk_body.specs.Kept.{IsKept, tree_kept}
 use Rattle.wk_body.specs.Reads.{FailsAs}
 use Rattle.wk_body.specs.Reading.{token_at, after, With, in_front, parts_at, expr_at}
 use Rattle.wk_body.specs.Building.{Good, ReadsToken, toks_of, kinds_of, size_of}
-use Rattle.wk_body.proofs.Faults.{fails_on}
+use Rattle.wk_body.specs.ReadsLaws.{fails_on}
 use Rattle.wk_body.proofs.GrammarParts.{expr_takes}
 use Rattle.wk_body.proofs.Grammar.{changed, changed-changed}
-use Rattle.wk_body.proofs.Spelled.{expr_shaped, IsBytes-before}
+use Rattle.wk_body.proofs.Spelled.{expr_shaped}
 use Rattle.wk_body.proofs.Tokens.{token_shorter}
 
 -- Of what is read from the cursor `from`, the scratch holds what stands in front of the cursor `at`.

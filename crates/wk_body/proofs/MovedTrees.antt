@@ -141,9 +141,6 @@ pub free_more : (kind : Moving) (from : ℕ) (xs : List Token) (x : Token) → a
 free_more kind from xs x p q =
     rw (map-append (told []) xs (x ∷ []), flat_map-append tok_refs (all_told [] xs) (told [] x ∷ []), append-nil (tok_refs (told [] x)), any_stuck_append kind from (flat_map tok_refs (all_told [] xs)) (tok_refs (told [] x)), p) q
 
-pub moved_none : (kind : Moving) (from : ℕ) → AreMoved kind from [] []
-moved_none kind from = record { fits = refl; told_moved = λ pool. refl; within = λ len h. h }
-
 pub moved_more : (kind : Moving) (from : ℕ) (xs ms : List Token) (x m : Token) → AreMoved kind from xs ms → IsMoved kind from x m → AreMoved kind from (xs ++ x ∷ []) (ms ++ m ∷ [])
 moved_more kind from xs ms x m p q = record {
   fits = free_more kind from xs x p.fits q.fits;

@@ -1,5 +1,5 @@
 -- What calls that read promise in terms of the grammar, from what they answer.
-use Rattle.std.proofs.Common.{◌≡◌, ◌≢◌, ℕ, ◌<◌, ◌≤◌, List, [], ◌∷◌, ◌++◌, length, Result, Ok, Err, refl, sym, ap, subst, ◌∙◌, arith, inl, inr}
+use Rattle.std.proofs.Common.{◌≡◌, ◌≢◌, ℕ, ◌≤◌, List, [], ◌∷◌, ◌++◌, length, Result, Ok, Err, refl, sym, ap, subst, ◌∙◌, inl, inr}
 use Rattle.std.specs.Prelude.{IfOk, IfErr}
 use Rattle.std.proofs.lemmas.List.{append-nil}
 use Rattle.wk_bytes.specs.declared.fault.ReadKind.{ReadKind}
@@ -21,7 +21,7 @@ use Rattle.wk_body.specs.Written.{Fits}
 use Rattle.wk_body.specs.Reads.{FailsAs, Parses, Reads}
 use Rattle.wk_body.specs.Meaning.{FindsOnly, Takes, TakesOnly, IsReadAs, IsAllReadAs}
 use Rattle.wk_body.specs.Reading.{expr_at, body_at, taking_all, all_expr_at, all_body_at}
-use Rattle.wk_body.proofs.Faults.{fails_on}
+use Rattle.wk_body.specs.ReadsLaws.{fails_on}
 use Rattle.wk_body.proofs.Pieces.{Took}
 use Rattle.wk_body.proofs.GrammarParts.{expr_takes}
 use Rattle.wk_body.proofs.Grammar.{expr_again, body_takes, body_again}
@@ -101,10 +101,6 @@ module _ {V : Type 0} (Spells : V → List ℕ → Type 0) (read : ℕ → List 
   pub finds_only : {X : Type 0} (view : X → V) (end : ℕ) (bytes : List ℕ) (result : Result X ReadFault) → IsBytes bytes → Fits bytes → Reads view result (all_at end bytes) → FindsOnly view Spells bytes result
   finds_only view end bytes (Ok x) fits few given = ((few, all_takes end bytes (view x) fits given), λ w s. ok_is w (view x) (sym (all_again end bytes w s.1) ∙ given))
   finds_only view end bytes (Err e) fits few given = λ other w s. not_both (all_at end bytes) e w (fails_with e.kind e _ other given) (all_again end bytes w s.1)
-
--- a longer input than a module may have spells nothing
-pub long_none : {X V : Type 0} (view : X → V) (Spells : V → List ℕ → Type 0) (bytes : List ℕ) (e : ReadFault) → 2147483647 < length bytes → FindsOnly view Spells bytes (Err e)
-long_none view Spells bytes e long = λ other w s. absurd (omega (arith, s.0, long))
 
 -- ---- expressions and bodies
 

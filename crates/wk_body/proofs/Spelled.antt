@@ -1,8 +1,8 @@
 -- What the grammar spells: shaped trees of the profile, each in one way.
-use Rattle.std.proofs.Common.{◌≡◌, ℕ, zero, suc, List, [], ◌∷◌, ◌++◌, ap, ◌∙◌, arith, inl, inr, append_assoc}
+use Rattle.std.proofs.Common.{◌≡◌, ℕ, List, [], ◌∷◌, ◌++◌, refl, ap, ◌∙◌, inl, inr, append_assoc}
 use Rattle.std.specs.Prelude.{◌⊎◌}
 use Rattle.wk_bytes.specs.LebLaws.{IsBytes}
-use Rattle.wk_bytes.specs.SpanLaws.{IsBytes-after}
+use Rattle.wk_bytes.specs.SpanLaws.{IsBytes-after, IsBytes-before}
 use Rattle.wk_bytes.specs.PieceLaws.{read_prefix_free}
 use Rattle.wk_body.specs.declared.types.Profile.{Profile}
 use Rattle.wk_body.specs.declared.types.Profile.TheVariants.{Core, Extended}
@@ -16,17 +16,9 @@ use Rattle.wk_body.proofs.Grammar.{expr_again, body_again}
 
 -- ---- numbers are in their ranges
 
--- what stands in front of other bytes is bytes too
-IsBytes-front : (front later : List ℕ) → IsBytes (front ++ later) → IsBytes front
-IsBytes-front [] later fits i = omega arith
-IsBytes-front (x ∷ front) later fits zero = fits zero
-IsBytes-front (x ∷ front) later fits (suc i) = IsBytes-front front later (λ k. fits (suc k)) i
-
-pub IsBytes-before : (front later bytes : List ℕ) → bytes ≡ front ++ later → IsBytes bytes → IsBytes front
-IsBytes-before front later bytes e fits = IsBytes-front front later (λ i. rw (← e) (fits i))
-
+-- what stands between other bytes is bytes too
 pub IsBytes-between : (front mid later bytes : List ℕ) → bytes ≡ front ++ (mid ++ later) → IsBytes bytes → IsBytes mid
-IsBytes-between front mid later bytes e fits = IsBytes-front mid later (IsBytes-after front (mid ++ later) bytes e fits)
+IsBytes-between front mid later bytes e fits = IsBytes-before mid later (mid ++ later) refl (IsBytes-after front (mid ++ later) bytes e fits)
 
 past_end : (a b e : List ℕ) → a ++ (b ++ 0x0B ∷ e) ≡ (a ++ (b ++ 0x0B ∷ [])) ++ e
 past_end a b e = simp append_assoc

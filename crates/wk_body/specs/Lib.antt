@@ -1,4 +1,5 @@
 pub mod Reads
+pub mod ReadsLaws
 pub mod ValTypes
 pub mod Vectors
 pub mod Numeric
@@ -20,3 +21,4 @@ pub mod Building
 pub mod Meaning
 pub mod Lengths
 pub mod Names
+pub mod FaultText

@@ -5,7 +5,6 @@ use Rattle.wk_bytes.specs.Leb.{IsSignedOf}
 use Rattle.wk_body.specs.declared.types.Profile.{Profile}
 use Rattle.wk_body.specs.declared.types.Profile.TheVariants.{Extended}
 use Rattle.wk_body.specs.declared.types.BlockType.{BlockType}
-use Rattle.wk_body.specs.declared.types.BlockType.TheVariants.{Empty, Value}
 use Rattle.wk_body.specs.declared.types.BlockType.TheVariants as types
 use Rattle.wk_body.specs.Instructions.{Immediates, Nothing, Reserved, Index, IndexReserved, Labels, Memarg, Signed, Word, immediates, Allows}
 use Rattle.wk_body.specs.Tree.{Instrs, Finish, One, Block, If}

@@ -2,12 +2,14 @@
 #![tactic(auto)]
 
 mod body;
+mod display;
 mod expr;
 mod fault;
 mod length;
 mod memory;
 mod moves;
 mod numeric;
+mod numeric_name;
 mod reader;
 mod reading;
 mod references;

@@ -1,8 +1,8 @@
 //! Each call once, with an answer that was worked out by hand.
 
 use crate::{
-    BlockType, MemoryOp, NumericOp, NumericType, Profile, Scratch, Token, ValType, append_body,
-    append_expr, expr_len, next_expr, read_body_in, read_expr,
+    BlockType, EncodeFault, MemoryOp, NumericOp, NumericType, Profile, Scratch, ShiftFault, Token,
+    ValType, append_body, append_expr, expr_len, next_expr, read_body_in, read_expr,
 };
 use std::test::Fail;
 use wk_bytes::Cursor;
@@ -43,48 +43,51 @@ fn names_tokens(rt: HostRuntime) -> Result<(), Fail> {
     Ok(())
 }
 
+// Tokens, and the lengths of their written forms.
+const MEASURED: [(Token, u64); 12] = [
+    (Token::End, 1),
+    (
+        Token::If {
+            ty: BlockType::Value(ValType::F64),
+            skip: 9,
+        },
+        2,
+    ),
+    (
+        Token::Loop {
+            ty: BlockType::Index(63),
+            skip: 9,
+        },
+        2,
+    ),
+    (
+        Token::Block {
+            ty: BlockType::Index(64),
+            skip: 9,
+        },
+        3,
+    ),
+    (Token::Call(128), 3),
+    (Token::CallIndirect(0), 3),
+    (
+        Token::Access {
+            op: MemoryOp::I32Load,
+            align: 2,
+            offset: 128,
+        },
+        4,
+    ),
+    (Token::MemoryGrow, 2),
+    (Token::I32Const(-65), 3),
+    (Token::I64Const(63), 2),
+    (Token::F32Const(0), 5),
+    (Token::F64Const(0), 9),
+];
+
 #[test]
 fn measures_tokens(rt: HostRuntime) -> Result<(), Fail> {
     let labels = [1, 200];
-    for (token, len) in [
-        (Token::End, 1),
-        (
-            Token::If {
-                ty: BlockType::Value(ValType::F64),
-                skip: 9,
-            },
-            2,
-        ),
-        (
-            Token::Loop {
-                ty: BlockType::Index(63),
-                skip: 9,
-            },
-            2,
-        ),
-        (
-            Token::Block {
-                ty: BlockType::Index(64),
-                skip: 9,
-            },
-            3,
-        ),
-        (Token::Call(128), 3),
-        (Token::CallIndirect(0), 3),
-        (
-            Token::Access {
-                op: MemoryOp::I32Load,
-                align: 2,
-                offset: 128,
-            },
-            4,
-        ),
-        (Token::MemoryGrow, 2),
-        (Token::I32Const(-65), 3),
-        (Token::I64Const(63), 2),
-        (Token::F32Const(0), 5),
-        (Token::F64Const(0), 9),
-    ] {
+    for (token, len) in MEASURED {
         assert_eq!(rt; token.head_len(&labels), len);
     }
     let table = Token::BrTable {
@@ -223,5 +226,22 @@ fn tells_loads_and_stores(rt: HostRuntime) -> Result<(), Fail> {
     }
     assert_eq!(rt; MemoryOp::from_opcode(0x27), None);
     assert_eq!(rt; MemoryOp::from_opcode(0x3F), None);
+    Ok(())
+}
+
+#[test]
+fn says_faults(rt: HostRuntime) -> Result<(), Fail> {
+    for (fault, text) in [
+        (EncodeFault::TooLarge, "too large"),
+        (EncodeFault::Memory, "out of memory"),
+    ] {
+        assert_eq!(rt; format!(in rt.alloc(); "{fault}")?.as_str(), text);
+    }
+    for (fault, text) in [
+        (ShiftFault::Overflow, "index overflow"),
+        (ShiftFault::Memory, "out of memory"),
+    ] {
+        assert_eq!(rt; format!(in rt.alloc(); "{fault}")?.as_str(), text);
+    }
     Ok(())
 }

@@ -78,53 +78,56 @@ fn shortens(rt: HostRuntime) -> Result<(), Fail> {
     Ok(())
 }
 
+// Bytes that are no body in either profile, and what is wrong where.
+const REFUSED: [(&[u8], ReadKind, u32); 18] = [
+    (&[], ReadKind::UnexpectedEnd, 0),
+    (&[0x00], ReadKind::UnexpectedEnd, 1),
+    // locals
+    (
+        &[0x02, 0xFF, 0xFF, 0xFF, 0xFF, 0x0F, 0x7F, 0x01, 0x7E, 0x0B],
+        ReadKind::TooManyLocals,
+        7,
+    ),
+    (
+        &[0x02, 0xFF, 0xFF, 0xFF, 0xFF, 0x0F, 0x7F, 0x01],
+        ReadKind::TooManyLocals,
+        7,
+    ),
+    (&[0x01, 0x01, 0x40, 0x0B], ReadKind::BadByte, 2),
+    (&[0x01, 0x01], ReadKind::UnexpectedEnd, 2),
+    (&[0xFF, 0xFF, 0xFF, 0xFF, 0x0F], ReadKind::UnexpectedEnd, 5),
+    // an else where none may come
+    (&[0x00, 0x05, 0x0B], ReadKind::UnknownOpcode, 1),
+    (
+        &[0x00, 0x04, 0x40, 0x05, 0x05, 0x0B, 0x0B],
+        ReadKind::UnknownOpcode,
+        4,
+    ),
+    (
+        &[0x00, 0x04, 0x40, 0x02, 0x40, 0x05, 0x0B, 0x0B, 0x0B],
+        ReadKind::UnknownOpcode,
+        5,
+    ),
+    // reserved bytes, which are no integers
+    (&[0x00, 0x11, 0x00, 0x01, 0x0B], ReadKind::BadByte, 3),
+    (&[0x00, 0x11, 0x00, 0x80, 0x00, 0x0B], ReadKind::BadByte, 3),
+    (&[0x00, 0x3F, 0x01, 0x0B], ReadKind::BadByte, 2),
+    (&[0x00, 0x40, 0x80, 0x00, 0x0B], ReadKind::BadByte, 2),
+    // a count of labels makes no room
+    (
+        &[0x00, 0x0E, 0xFF, 0xFF, 0xFF, 0xFF, 0x0F, 0x0B],
+        ReadKind::UnexpectedEnd,
+        8,
+    ),
+    // what comes behind the end
+    (&[0x00, 0x0B, 0x01, 0x0B], ReadKind::BodySize, 2),
+    (&[0x00, 0x02, 0x40, 0x0B], ReadKind::UnexpectedEnd, 4),
+    (&[0x00, 0x43, 0x00, 0x00, 0x00], ReadKind::UnexpectedEnd, 2),
+];
+
 #[test]
 fn refuses(rt: HostRuntime) -> Result<(), Fail> {
-    for (bytes, kind, at) in [
-        ([].as_slice(), ReadKind::UnexpectedEnd, 0),
-        (&[0x00], ReadKind::UnexpectedEnd, 1),
-        // locals
-        (
-            &[0x02, 0xFF, 0xFF, 0xFF, 0xFF, 0x0F, 0x7F, 0x01, 0x7E, 0x0B],
-            ReadKind::TooManyLocals,
-            7,
-        ),
-        (
-            &[0x02, 0xFF, 0xFF, 0xFF, 0xFF, 0x0F, 0x7F, 0x01],
-            ReadKind::TooManyLocals,
-            7,
-        ),
-        (&[0x01, 0x01, 0x40, 0x0B], ReadKind::BadByte, 2),
-        (&[0x01, 0x01], ReadKind::UnexpectedEnd, 2),
-        (&[0xFF, 0xFF, 0xFF, 0xFF, 0x0F], ReadKind::UnexpectedEnd, 5),
-        // an else where none may come
-        (&[0x00, 0x05, 0x0B], ReadKind::UnknownOpcode, 1),
-        (
-            &[0x00, 0x04, 0x40, 0x05, 0x05, 0x0B, 0x0B],
-            ReadKind::UnknownOpcode,
-            4,
-        ),
-        (
-            &[0x00, 0x04, 0x40, 0x02, 0x40, 0x05, 0x0B, 0x0B, 0x0B],
-            ReadKind::UnknownOpcode,
-            5,
-        ),
-        // reserved bytes, which are no integers
-        (&[0x00, 0x11, 0x00, 0x01, 0x0B], ReadKind::BadByte, 3),
-        (&[0x00, 0x11, 0x00, 0x80, 0x00, 0x0B], ReadKind::BadByte, 3),
-        (&[0x00, 0x3F, 0x01, 0x0B], ReadKind::BadByte, 2),
-        (&[0x00, 0x40, 0x80, 0x00, 0x0B], ReadKind::BadByte, 2),
-        // a count of labels makes no room
-        (
-            &[0x00, 0x0E, 0xFF, 0xFF, 0xFF, 0xFF, 0x0F, 0x0B],
-            ReadKind::UnexpectedEnd,
-            8,
-        ),
-        // what comes behind the end
-        (&[0x00, 0x0B, 0x01, 0x0B], ReadKind::BodySize, 2),
-        (&[0x00, 0x02, 0x40, 0x0B], ReadKind::UnexpectedEnd, 4),
-        (&[0x00, 0x43, 0x00, 0x00, 0x00], ReadKind::UnexpectedEnd, 2),
-    ] {
+    for (bytes, kind, at) in REFUSED {
         for profile in [Profile::Core, Profile::Extended] {
             let fault = read_body_in(rt.alloc(), bytes, profile)
                 .err()

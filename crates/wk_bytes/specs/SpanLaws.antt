@@ -1,7 +1,7 @@
 -- What each reader takes from the front, and what its faults are.
 use Rattle.std.proofs.Common.{◌≡◌, ℤ, ℕ, ◌+◌, ◌-◌, ◌<◌, ◌≤◌, true, cond, leb, ltb, inl, inr, List, [], ◌∷◌, ◌++◌, length, take, drop, Result, Ok, Err, Option, refl, sym, ap, ◌∙◌, length-append, arith}
-use Rattle.std.proofs.lemmas.Bool.{leb-true, le-leb}
-use Rattle.std.proofs.lemmas.List.{take-append-drop, take_at, drop_at, get_or-append-add, length-take-le}
+use Rattle.std.proofs.lemmas.Bool.{cases_lt, leb-true, le-leb}
+use Rattle.std.proofs.lemmas.List.{take-append-drop, take_at, drop_at, get_or-append-add, get_or_append_left, get_or_past, length-take-le}
 use Rattle.std.specs.Str.{is_utf8}
 use Rattle.byteorder.specs.Endian.{little_number}
 use Rattle.wk_bytes.specs.declared.fault.ReadKind.{ReadKind}
@@ -42,6 +42,14 @@ placed_err (Err k) end bytes e h = (k, refl, cc)
 -- what is left after a front is bytes too
 pub IsBytes-after : (front later bytes : List ℕ) → bytes ≡ front ++ later → IsBytes bytes → IsBytes later
 IsBytes-after front later bytes e fits i = rw (← get_or-append-add front later i 0, ← e) (fits (length front + i))
+
+-- and so is the front
+pub IsBytes-before : (front later bytes : List ℕ) → bytes ≡ front ++ later → IsBytes bytes → IsBytes front
+IsBytes-before front later bytes e fits i =
+    elim (cases_lt i (length front)) [
+      | inl lt ↦ rw (← get_or_append_left front later 0 i lt, ← e) (fits i)
+      | inr le ↦ rw (get_or_past front i 0 le) (omega arith)
+    ]
 
 -- ---- what is taken
 

@@ -2,6 +2,7 @@ use super::*;
 use std::alloc::{AllocError, Global};
 use std::io;
 use std::io::Write;
+use std::process::Abort;
 use std::test::Fail;
 
 const HEADER: [u8; 8] = [0x00, 0x61, 0x73, 0x6d, 0x01, 0x00, 0x00, 0x00];
@@ -49,9 +50,19 @@ fn reads_headers(rt: HostRuntime) -> Result<(), Fail> {
     Ok(())
 }
 
+// Bytes behind a header list their sections, and a fault behind them.
+fn lists(rt: &impl Abort, alloc: Global, rows: &[(&[u8], &[Item])]) -> Result<(), Fail> {
+    for (tail, want) in rows {
+        let mut input = Vec::from_slice(alloc, &HEADER)?;
+        input.extend_from_slice(tail)?;
+        assert_eq!(rt; items_of(alloc, &input)?.as_slice(), *want, "{tail:?}");
+    }
+    Ok(())
+}
+
 #[test]
 fn reads_frames(rt: HostRuntime) -> Result<(), Fail> {
-    let rows: [(&[u8], &[Item]); 13] = [
+    let rows: [(&[u8], &[Item]); 4] = [
         (&[], &[]),
         (&[1, 4, 1, 0x60, 0, 0], &[Ok((1, 10))]),
         (
@@ -68,6 +79,13 @@ fn reads_frames(rt: HostRuntime) -> Result<(), Fail> {
                 Ok((0, 22)),
             ],
         ),
+    ];
+    lists(&rt, rt.alloc(), &rows)
+}
+
+#[test]
+fn refuses_frames(rt: HostRuntime) -> Result<(), Fail> {
+    let rows: [(&[u8], &[Item]); 9] = [
         (&[12, 0], &[Err(fault(ReadKind::UnknownSection, 8))]),
         (&[0x80, 0], &[Err(fault(ReadKind::UnknownSection, 8))]),
         (
@@ -97,12 +115,7 @@ fn reads_frames(rt: HostRuntime) -> Result<(), Fail> {
             &[Err(fault(ReadKind::IntTooLong, 9))],
         ),
     ];
-    for (tail, want) in rows {
-        let mut input = Vec::from_slice(rt.alloc(), &HEADER)?;
-        input.extend_from_slice(tail)?;
-        assert_eq!(rt; items_of(rt.alloc(), &input)?.as_slice(), want, "{tail:?}");
-    }
-    Ok(())
+    lists(&rt, rt.alloc(), &rows)
 }
 
 #[test]

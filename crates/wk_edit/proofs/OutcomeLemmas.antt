@@ -1,8 +1,7 @@
 -- What is prepared is the outcome.
-use Rattle.std.proofs.Common.{◌≡◌, ◌≢◌, ℕ, Bool, true, false, ◌||◌, List, [], ◌∷◌, Option, Some, None, Result, Ok, Err, refl, sym, ap, subst, ◌∙◌, inl, inr}
+use Rattle.std.proofs.Common.{◌≡◌, ◌≢◌, ℕ, Bool, true, false, ◌||◌, List, [], ◌∷◌, Result, Ok, Err, refl, sym, ap, subst, ◌∙◌, inl, inr}
 use Rattle.std.specs.Prelude.{IfOk, OnOk}
 use Rattle.std.specs.List.{list_any}
-use Rattle.std.proofs.lemmas.Bool.{or_left, or_right}
 use Rattle.wk_bytes.specs.declared.fault.ReadKind.{ReadKind}
 use Rattle.wk_bytes.specs.declared.fault.ReadKind.TheVariants as ReadKind
 use Rattle.wk_bytes.specs.declared.fault.ReadFault.{ReadFault}
@@ -28,7 +27,7 @@ use Rattle.wk_edit.specs.Script.{script_of}
 use Rattle.wk_edit.specs.ScriptGrammar.{IsScript, IsNoScript, IsFaultOf}
 use Rattle.wk_edit.specs.ReportText.{report_text}
 use Rattle.wk_edit.specs.Outcome.{Outcome, malformed_outcome, run_status, run_outcome, script_outcome, outcome_on, outcome_of, IsReport}
-use Rattle.wk_edit.specs.Prepared.{IsPrepared, bytes_of}
+use Rattle.wk_edit.specs.Prepared.{IsPrepared}
 
 -- ---- no edit was refused for want of memory
 

@@ -324,10 +324,6 @@ whole_told bytes Memory w = w
 script_refused : (bytes : List ℕ) (f : ScriptFault) → script_of bytes ≡ Err f → IsFaultOf bytes f
 script_refused bytes f h = whole_told bytes f (lines_refused 1 (pieces 10 bytes) f h)
 
--- want of memory is no fault of a script
-pub script_of-not_memory : (bytes : List ℕ) → script_of bytes ≢ Err Memory
-script_of-not_memory bytes h = script_refused bytes Memory h
-
 -- ---- what was read, and what was refused
 
 module _ {X : Type 0} (view : X → List Edit) where

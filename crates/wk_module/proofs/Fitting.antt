@@ -1,7 +1,5 @@
 -- The written form of a module is no longer than any bytes that spell it.
-use Rattle.std.proofs.Common.{◌≡◌, ◌≢◌, ℕ, zero, suc, ◌+◌, ◌/◌, ◌<◌, ◌≤◌, ◌==◌, max, inl, inr, List, [], Result, Ok, Err, ◌∷◌, ◌++◌, length, refl, sym, ap, subst, arith, length-append}
-use Rattle.std.specs.Prelude.{IfOk}
-use Rattle.wk_bytes.specs.declared.fault.ReadFault.{ReadFault}
+use Rattle.std.proofs.Common.{◌≡◌, ◌≢◌, ℕ, zero, suc, ◌+◌, ◌/◌, ◌<◌, ◌≤◌, ◌==◌, max, inl, inr, List, [], ◌∷◌, ◌++◌, length, refl, sym, ap, subst, arith, length-append}
 use Rattle.std.specs.List.{filter, flat_map}
 use Rattle.std.proofs.lemmas.Bool.{cases_Bool, cases_eq, cases_lt, eq-eqb, ne_eqb}
 use Rattle.wk_bytes.specs.Short.{short}
@@ -184,7 +182,3 @@ module _ (profile : Profile) (sections : SectionLaws profile) where
   -- a module that is spelled fits
   pub fits_spelled : (b : List ℕ) (m : Parts) → m.profile ≡ profile → Spells b m → Fits m
   fits_spelled b m same spelled = omega (arith, written_least b m same spelled, spelled.framing.fits)
-
-  pub answer_fits : (b : List ℕ) (r : Result Parts ReadFault) → IfOk r (λ m. Spells b m × (m.profile ≡ profile)) → IfOk r (λ m. Fits m)
-  answer_fits b (Ok m) found = fits_spelled b m found.1 found.0
-  answer_fits b (Err e) found = tt

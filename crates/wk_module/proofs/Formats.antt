@@ -1,7 +1,6 @@
 -- The formats of integers, names and bytes, and of things spelled one behind the other.
 use Rattle.std.proofs.Common.{◌≡◌, ℕ, zero, suc, ◌+◌, ◌-◌, ◌/◌, ◌^◌, ◌<◌, ◌≤◌, Bool, true, false, cond, eqb, List, [], ◌∷◌, ◌++◌, length, Option, Some, None, Result, Ok, Err, refl, sym, ap, subst, ◌∙◌, inl, inr, append_assoc, length-append, arith}
 use Rattle.std.proofs.lemmas.Bool.{eqb-true, eq-eqb, cases_lt}
-use Rattle.std.proofs.lemmas.List.{get_or_append_left, get_or_past}
 use Rattle.std.specs.List.{flat_map, AllByRecursion}
 use Rattle.std.specs.Str.{IsUtf8}
 use Rattle.wk_bytes.specs.declared.fault.ReadKind.TheVariants.{BadByte}
@@ -11,7 +10,7 @@ use Rattle.wk_bytes.specs.LebLaws.{IsBytes, bind_ok, chosen, or_fail_ok, SpellsU
 use Rattle.wk_bytes.specs.Short.{short}
 use Rattle.wk_bytes.specs.ShortLaws.{short-some, short-spells, short-least, short-last, short-more}
 use Rattle.wk_bytes.specs.Span.{fault, byte_at, piece_at, u32_at, name_at}
-use Rattle.wk_bytes.specs.SpanLaws.{ok_is, IsBytes-after, byte_at-takes, piece_at-takes, piece_at-again}
+use Rattle.wk_bytes.specs.SpanLaws.{ok_is, IsBytes-after, IsBytes-before, byte_at-takes, piece_at-takes, piece_at-again}
 use Rattle.wk_bytes.specs.Pieces.{SpellsName}
 use Rattle.wk_bytes.specs.PieceLaws.{u32_at-found, u32_at-again, name_at-found, name_at-again}
 use Rattle.wk_bytes.specs.Stands.{Stands}
@@ -42,14 +41,6 @@ same_read {A = A} x y a b e =
 
 pub behind : (bytes front a b : List ℕ) → bytes ≡ front ++ a → a ≡ b → bytes ≡ front ++ b
 behind bytes front a b e f = e ∙ ap (λ (c : List ℕ). front ++ c) f
-
--- the front of bytes is bytes
-pub IsBytes-before : (front later bytes : List ℕ) → bytes ≡ front ++ later → IsBytes bytes → IsBytes front
-IsBytes-before front later bytes e fits i =
-    elim (cases_lt i (length front)) [
-      | inl lt ↦ rw (← get_or_append_left front later 0 i lt, ← e) (fits i)
-      | inr le ↦ rw (get_or_past front i 0 le) (omega arith)
-    ]
 
 -- a larger number has no shorter spelling
 short_grows_by : (k m n : ℕ) → n ≤ k → m ≤ n → length (short m) ≤ length (short n)

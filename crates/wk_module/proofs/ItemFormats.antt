@@ -9,7 +9,7 @@ use Rattle.wk_bytes.specs.LebLaws.{IsBytes, bind_ok, chosen, some_is}
 use Rattle.wk_bytes.specs.Short.{short}
 use Rattle.wk_bytes.specs.ShortLaws.{short-least}
 use Rattle.wk_bytes.specs.Span.{u32_at}
-use Rattle.wk_bytes.specs.SpanLaws.{good, IsBytes-after}
+use Rattle.wk_bytes.specs.SpanLaws.{good, IsBytes-after, IsBytes-before}
 use Rattle.wk_bytes.specs.Stands.{Stands}
 use Rattle.wk_bytes.specs.StandsLaws.{ReadsFront, Stands-within}
 use Rattle.wk_body.specs.declared.types.Profile.{Profile}
@@ -30,7 +30,7 @@ use Rattle.wk_module.specs.Formats.{SpellsBoth, both_at, SpellsCoded, coded_at, 
 use Rattle.wk_module.specs.Types.{written_valtype, SpellsFuncType, func_type, functype_at, written_functype, flag_byte, flag_of, has_max, SpellsBounds, SpellsLimits, without_max, with_max, bounds_at, limits_at, written_bounds, written_limits, IsBound, AreLimits, SpellsTableType, tabletype_at, written_tabletype, SpellsGlobalType, global_type, globaltype_at, written_globaltype, kind_byte, kind_of}
 use Rattle.wk_module.specs.Items.{desc_kind, SpellsDescRest, SpellsDesc, desc_rest_at, desc_at, written_desc_rest, written_desc, IsDesc, SpellsImport, import_of, import_at, written_import, IsImport, SpellsInit, IsInit, SpellsGlobal, global_of, global_at, written_global, IsGlobal, SpellsExport, export_of, export_at, written_export, IsExport, SpellsElem, elem_of, elem_at, written_elem, IsElem, SpellsCode, code_at, written_code, IsCode, SpellsData, data_of, data_at, written_data, IsData}
 use Rattle.wk_module.proofs.Laws.{CodeLaws, IsFormat}
-use Rattle.wk_module.proofs.Formats.{IsRest, u32_format, name_format, bytes_format, both_format, made_format, made_front, made_again, made_found, valid_as, vector_format, coded_format, behind_format, keyed_format, read_to, same_read, IsBytes-before, bytes_parts, short_grows}
+use Rattle.wk_module.proofs.Formats.{IsRest, u32_format, name_format, bytes_format, both_format, made_format, made_front, made_again, made_found, valid_as, vector_format, coded_format, behind_format, keyed_format, read_to, same_read, bytes_parts, short_grows}
 
 -- ---- value types
 

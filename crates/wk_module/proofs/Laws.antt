@@ -1,5 +1,5 @@
 -- What laws of formats say: of the code that lies in a module, of an item of a list, and of the contents of a section.
-use Rattle.std.proofs.Common.{◌≡◌, ◌≢◌, ℕ, ◌<◌, ◌≤◌, ◌^◌, Bool, true, false, List, ◌++◌, length, Result, Ok, Err}
+use Rattle.std.proofs.Common.{◌≡◌, ◌≢◌, ℕ, ◌<◌, ◌≤◌, ◌^◌, true, false, List, ◌++◌, length, Ok}
 use Rattle.wk_bytes.specs.Leb.{SpellsU}
 use Rattle.wk_bytes.specs.LebLaws.{IsBytes}
 use Rattle.wk_bytes.specs.StandsLaws.{ReadsFront}

@@ -1,6 +1,6 @@
 -- Lengths up to the limit, and of sections.
-use Rattle.std.proofs.Common.{◌≡◌, ℕ, ◌+◌, ◌<◌, ◌≤◌, ◌⊎◌, Bool, true, false, not, if◌then◌else◌, Option, Some, None, List, [], ◌∷◌, ◌++◌, length, map, take, get_or, eqb, refl, sym, ap, ◌∙◌, ◌==◌, arith, inl, inr, nat_le, length-append}
-use Rattle.std.proofs.lemmas.Bool.{cases_Bool, cond-true, cond-false, leb-true, leb-false, lt-leb, eqb-true, eqb-false}
+use Rattle.std.proofs.Common.{◌≡◌, ℕ, ◌+◌, ◌<◌, ◌≤◌, ◌⊎◌, Bool, true, false, if◌then◌else◌, Option, Some, None, List, [], ◌∷◌, ◌++◌, length, map, take, get_or, eqb, refl, sym, ap, ◌∙◌, ◌==◌, arith, inl, inr, nat_le, length-append}
+use Rattle.std.proofs.lemmas.Bool.{cases_Bool, cond-true, cond-false, leb-true, leb-false, eqb-true, eqb-false}
 use Rattle.std.specs.Option.{option_eq}
 use Rattle.std.specs.List.{flat_map}
 use Rattle.std.proofs.lemmas.List.{flat_map_more, take_more, length-map}
@@ -10,11 +10,10 @@ use Rattle.wk_bytes.specs.Short.{short}
 use Rattle.wk_bytes.specs.ShortLaws.{short-some}
 use Rattle.wk_bytes.specs.Frames.{limit}
 use Rattle.wk_body.specs.Lengths.{limited}
-use Rattle.wk_body.specs.Vectors.{written_vector}
 use Rattle.wk_module.specs.Sections.{SectionId, TypeSection, ImportSection, FunctionSection, TableSection, MemorySection, GlobalSection, ExportSection, StartSection, ElementSection, CodeSection, DataSection, number, of_number, ContentsOf, SectionLists, contents, is_full, written_contents}
 use Rattle.wk_module.specs.Types.{written_functype, written_tabletype, written_limits}
 use Rattle.wk_module.specs.Items.{written_import, written_global, written_export, written_elem, written_code, written_data}
-use Rattle.wk_module.specs.Writing.{framed, list_contents, section_contents, written_section, section_by, contents_by}
+use Rattle.wk_module.specs.Writing.{framed, list_contents, section_contents, section_by, contents_by}
 use Rattle.wk_module.specs.WritingLaws.{some_vector}
 
 abbrev some : ℕ → Option ℕ
@@ -22,10 +21,6 @@ some n = Some n
 
 some_is : (m n : ℕ) → some m ≡ some n → m ≡ n
 some_is m n e = cc
-
--- past the limit there is nothing
-pub limited_past : (n : ℕ) → limit < n → None ≡ limited n
-limited_past n past = sym (cond-false (nat_le n limit) (Some n) None (lt-leb n limit past))
 
 pub limited_none : (n : ℕ) → None ≡ limited n → limit < n
 limited_none n e =

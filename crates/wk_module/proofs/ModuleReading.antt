@@ -1,7 +1,7 @@
 -- Modules are read as they are spelled.
-use Rattle.std.proofs.Common.{◌≡◌, ◌≢◌, ◌<◌, ◌≤◌, ℕ, Bool, cond, eqb, MatchBool, Some, None, List, [], ◌∷◌, ◌++◌, length, map, max, Result, Ok, Err, refl, sym, ap, subst, ◌∙◌, append_assoc, inl, inr, ◌⊎◌, arith}
-use Rattle.std.proofs.lemmas.Bool.{eqb-true, ne_eqb, eq-eqb, cases_Bool, cases_lt, cond-true, cond-false, MatchBool-at_true, MatchBool-at_false}
-use Rattle.std.proofs.lemmas.List.{append-nil, get_or_append_left, get_or_past}
+use Rattle.std.proofs.Common.{◌≡◌, ◌≢◌, ◌≤◌, ℕ, Bool, cond, eqb, MatchBool, Some, None, List, [], ◌∷◌, ◌++◌, length, map, max, Result, Ok, Err, refl, sym, ap, subst, ◌∙◌, append_assoc, inl, inr, arith}
+use Rattle.std.proofs.lemmas.Bool.{eqb-true, ne_eqb, eq-eqb, cases_Bool, cond-true, cond-false, MatchBool-at_true, MatchBool-at_false}
+use Rattle.std.proofs.lemmas.List.{append-nil}
 use Rattle.std.specs.Prelude.{IfOk, IfErr}
 use Rattle.wk_bytes.specs.declared.fault.ReadKind.{ReadKind}
 use Rattle.wk_bytes.specs.declared.fault.ReadKind.TheVariants.{FuncCodeCount, Memory}
@@ -10,9 +10,9 @@ use Rattle.wk_bytes.specs.LebLaws.{IsBytes, bind_ok, chosen, done, ok_is}
 use Rattle.wk_bytes.specs.Pieces.{SpellsName}
 use Rattle.wk_bytes.specs.PieceLaws.{name_at-found, name_at-again}
 use Rattle.wk_bytes.specs.Span.{name_at}
-use Rattle.wk_bytes.specs.SpanLaws.{IsBytes-after}
-use Rattle.wk_bytes.specs.Frames.{Frame, Section, MayCome, frame_of, SpellsFrame, SpellsFrames, SpellsFraming, magic, version, sections_of, without_fault}
-use Rattle.wk_bytes.specs.FrameLaws.{sections_of-found, sections_of-again}
+use Rattle.wk_bytes.specs.SpanLaws.{IsBytes-after, IsBytes-before}
+use Rattle.wk_bytes.specs.Frames.{Frame, Section, MayCome, frame_of, SpellsFrames, SpellsFraming, magic, version, sections_of, without_fault}
+use Rattle.wk_bytes.specs.FrameLaws.{contents_bytes, sections_of-found, sections_of-again}
 use Rattle.wk_body.specs.declared.types.Profile.{Profile}
 use Rattle.wk_body.specs.Bodies.{BodyOf}
 use Rattle.wk_body.specs.Reads.{FailsAs, Reads}
@@ -27,19 +27,9 @@ use Rattle.wk_module.specs.Modules.{SpellsSection, Spells, SpellsNone}
 use Rattle.wk_module.specs.ModuleLaws.{SpellOne}
 use Rattle.wk_module.specs.Reading.{Progress, at_start, section_end, with_custom, with_lists, section_by, with_section, sections_read, zipped, module_of, joined, module_at}
 use Rattle.wk_module.proofs.Laws.{CountIs, SectionLaws}
+use Rattle.wk_module.proofs.Formats.{behind}
+use Rattle.wk_module.proofs.Shaped.{section_stays}
 use Rattle.wk_module.proofs.SectionIds.{of_number-none, of_number-is, has_id, HasId, number_some, same_or_other, other_number, contents-here, contents-elsewhere, contents-none, same_lists}
-
--- ---- bytes
-
-IsBytes-before : (front later bytes : List ℕ) → bytes ≡ front ++ later → IsBytes bytes → IsBytes front
-IsBytes-before front later bytes e fits i =
-    elim (cases_lt i (length front)) [
-      | inl lt ↦ rw (← get_or_append_left front later 0 i lt, ← e) (fits i)
-      | inr le ↦ rw (get_or_past front i 0 le) (omega arith)
-    ]
-
-behind : (bytes front a b : List ℕ) → bytes ≡ front ++ a → a ≡ b → bytes ≡ front ++ b
-behind bytes front a b e f = e ∙ ap (λ (c : List ℕ). front ++ c) f
 
 -- ---- custom sections
 
@@ -82,13 +72,6 @@ module _ {A : Type 0} (id : ℕ) (Spells : List ℕ → A → Type 0) (omitted x
 
   pub section_is_later : f.id ≢ id → SpellsSection id Spells omitted (f ∷ fs) x → Later
   section_is_later e h = MatchBool-at_false Here Later (ne_eqb f.id id e) h
-
--- behind ids up to its own it does not come again
-pub section_stays : {A : Type 0} (Spells : List ℕ → A → Type 0) (id last : ℕ) (b : List ℕ) (fs : List Frame) (x y : A) → 0 < id → id ≤ last → SpellsFrames last b fs → SpellsSection id Spells x fs y → y ≡ x
-section_stays Spells id last b [] x y some came framed e = e
-section_stays Spells id last b (f ∷ fs) x y some came framed e =
-    let other : f.id ≢ id = elim framed.3 [ inl p ↦ omega arith | inr p ↦ omega arith ] in
-    section_stays Spells id (max last f.id) framed.1 fs x y some (omega arith) framed.5 (section_is_later id Spells x y f fs other e)
 
 -- ---- functions, and their types and codes
 
@@ -154,9 +137,6 @@ unfolding sections_read
 sections_again profile p [] last r = ap (λ (q : Progress). done q) r
 sections_again profile p (s ∷ ss) last r = rw r.1 (sections_again profile r.0 ss last r.2)
 
-frame_bytes : (b : List ℕ) (f : Frame) → IsBytes b → SpellsFrame b f → IsBytes f.contents
-frame_bytes b f fits s = IsBytes-after (f.id ∷ s.size) f.contents b s.parts fits
-
 may_come_small : (last id : ℕ) → MayCome last id → id ≤ 11
 may_come_small last id (inl p) = omega arith
 may_come_small last id (inr p) = p.1
@@ -171,10 +151,6 @@ joined_is profile end p m e =
 
 pub joined_again : (profile : Profile) (end : ℕ) (p : Progress) → length p.lists.funcs ≡ length p.lists.codes → joined profile end p ≡ Ok (module_of profile p)
 joined_again profile end p e = rw (eq-eqb (length p.lists.funcs) (length p.lists.codes) e) refl
-
-pub memory_or_other : (k : ReadKind) → (k ≡ Memory) ⊎ (k ≢ Memory)
-memory_or_other Memory = inl refl
-memory_or_other _ = inr (λ same. absurd cc)
 
 pub unless_memory : {Y : Type 0} (e : ReadFault) (k : ReadKind) (read : Result Y ReadFault) → k ≢ Memory → FailsAs e k read → read ≡ Err e
 unless_memory e Memory read other fails = absurd (other refl)
@@ -395,7 +371,7 @@ module _ (profile : Profile) (sections : SectionLaws profile) where
     customs = refl;
   }
   sections_complete p (s ∷ ss) end last b fits framed r =
-      let here = frame_bytes framed.0 (frame_of s) (IsBytes-before framed.0 framed.1 b framed.2 fits) framed.4 in
+      let here = contents_bytes framed.0 (frame_of s) (IsBytes-before framed.0 framed.1 b framed.2 fits) framed.4 in
       let rest = sections_complete r.0 ss end (max last s.id) framed.1 (IsBytes-after framed.0 framed.1 b framed.2 fits) framed.5 r.2 in
       step_completes p s r.0 (map frame_of ss) end.lists end.customs here (has_id s.id (may_come_small last s.id framed.3)) r.1 rest
 

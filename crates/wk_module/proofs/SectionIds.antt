@@ -108,19 +108,6 @@ number_some ElementSection = λ e. omega arith
 number_some CodeSection = λ e. omega arith
 number_some DataSection = λ e. omega arith
 
-pub number_small : (k : SectionId) → number k ≤ 11
-number_small TypeSection = omega arith
-number_small ImportSection = omega arith
-number_small FunctionSection = omega arith
-number_small TableSection = omega arith
-number_small MemorySection = omega arith
-number_small GlobalSection = omega arith
-number_small ExportSection = omega arith
-number_small StartSection = omega arith
-number_small ElementSection = omega arith
-number_small CodeSection = omega arith
-number_small DataSection = omega arith
-
 -- ---- what each holds
 
 pub pick_same : (k : SectionId) (x old : ContentsOf k) → pick k k x old ≡ x

@@ -1,11 +1,11 @@
 -- What is spelled is in shape.
-use Rattle.std.proofs.Common.{◌≡◌, ◌≢◌, ℕ, zero, suc, ◌<◌, ◌≤◌, ◌==◌, max, Bool, true, ◌⊎◌, inl, inr, List, [], ◌∷◌, ◌++◌, length, map, refl, sym, ap, subst, ◌∙◌, arith}
-use Rattle.std.proofs.lemmas.Bool.{eqb-true, eqb-false, ne_eqb, cases_Bool, cases_lt}
-use Rattle.std.proofs.lemmas.List.{get_or_append_left, get_or_past}
+use Rattle.std.proofs.Common.{◌≡◌, ◌≢◌, ℕ, zero, suc, ◌<◌, ◌≤◌, ◌==◌, max, Bool, true, ◌⊎◌, inl, inr, List, [], ◌∷◌, ◌++◌, map, refl, sym, ap, subst, ◌∙◌, arith}
+use Rattle.std.proofs.lemmas.Bool.{eqb-true, eqb-false, ne_eqb, cases_Bool}
 use Rattle.std.specs.Str.{IsUtf8}
 use Rattle.wk_bytes.specs.LebLaws.{IsBytes}
-use Rattle.wk_bytes.specs.SpanLaws.{IsBytes-after}
-use Rattle.wk_bytes.specs.Frames.{Frame, SpellsFrame, SpellsFrames, magic, version}
+use Rattle.wk_bytes.specs.SpanLaws.{IsBytes-after, IsBytes-before}
+use Rattle.wk_bytes.specs.FrameLaws.{contents_bytes}
+use Rattle.wk_bytes.specs.Frames.{Frame, SpellsFrames, magic, version}
 use Rattle.wk_body.specs.declared.types.Profile.{Profile}
 use Rattle.wk_module.specs.declared.types.Custom.{Custom}
 use Rattle.wk_module.specs.declared.types.Parts.{Parts}
@@ -19,15 +19,6 @@ use Rattle.wk_module.proofs.Laws.{SectionLaws}
 -- ---- one section
 
 module _ {A : Type 0} (Spells : List ℕ → A → Type 0) (id : ℕ) where
-  -- what holds of all that is spelled, and of what an omitted section has, holds of the section
-  pub section_keeps : (P : A → Type 0) → ((b : List ℕ) (x : A) → Spells b x → P x) → (fs : List Frame) (x y : A) → P x → SpellsSection id Spells x fs y → P y
-  section_keeps P spelled [] x y p e = subst P (sym e) p
-  section_keeps P spelled (f ∷ fs) x y p e =
-      elim (cases_Bool (f.id == id)) [
-        | inl is ↦ let s = rw is at e in section_keeps P spelled fs s.0 y (spelled f.contents s.0 s.1) s.2
-        | inr is ↦ section_keeps P spelled fs x y p (rw is at e)
-      ]
-
   -- an id comes once
   pub section_stays : (last : ℕ) (b : List ℕ) (fs : List Frame) (x y : A) → 0 < id → id ≤ last → SpellsFrames last b fs → SpellsSection id Spells x fs y → y ≡ x
   section_stays last b [] x y some came framed e = e
@@ -40,20 +31,10 @@ abbrev pub HaveBytes : List Frame → Type 0
 HaveBytes [] = Unit {0}
 HaveBytes (f ∷ fs) = IsBytes f.contents × HaveBytes fs
 
-IsBytes-before : (front later bytes : List ℕ) → bytes ≡ front ++ later → IsBytes bytes → IsBytes front
-IsBytes-before front later bytes e fits i =
-    elim (cases_lt i (length front)) [
-      | inl lt ↦ rw (← get_or_append_left front later 0 i lt, ← e) (fits i)
-      | inr le ↦ rw (get_or_past front i 0 le) (omega arith)
-    ]
-
-frame_bytes : (b : List ℕ) (f : Frame) → IsBytes b → SpellsFrame b f → IsBytes f.contents
-frame_bytes b f fits s = IsBytes-after (f.id ∷ s.size) f.contents b s.parts fits
-
 pub frames_bytes : (last : ℕ) (b : List ℕ) (fs : List Frame) → IsBytes b → SpellsFrames last b fs → HaveBytes fs
 frames_bytes last b [] fits s = tt
 frames_bytes last b (f ∷ fs) fits s =
-    (frame_bytes s.0 f (IsBytes-before s.0 s.1 b s.2 fits) s.4, frames_bytes (max last f.id) s.1 fs (IsBytes-after s.0 s.1 b s.2 fits) s.5)
+    (contents_bytes s.0 f (IsBytes-before s.0 s.1 b s.2 fits) s.4, frames_bytes (max last f.id) s.1 fs (IsBytes-after s.0 s.1 b s.2 fits) s.5)
 
 module _ {A : Type 0} (Spells : List ℕ → A → Type 0) (id : ℕ) where
   -- the same of what bytes spell

@@ -1,9 +1,8 @@
 -- Items read one after the other, as a loop reads them.
-use Rattle.std.proofs.Common.{◌≡◌, ℕ, zero, suc, ◌+◌, ◌-◌, ◌<◌, ◌≤◌, List, [], ◌∷◌, ◌++◌, length, get_or, Result, Ok, Err, refl, sym, ap, ◌∙◌, inl, inr, append_assoc, arith}
+use Rattle.std.proofs.Common.{◌≡◌, ℕ, suc, ◌+◌, ◌-◌, ◌<◌, ◌≤◌, List, [], ◌∷◌, ◌++◌, length, get_or, Result, Ok, Err, refl, sym, ap, ◌∙◌, inl, inr, append_assoc, arith}
 use Rattle.std.proofs.lemmas.Bool.{cases_lt, lt-ltb}
 use Rattle.std.proofs.lemmas.List.{append-nil}
-use Rattle.wk_bytes.specs.declared.fault.ReadKind.{ReadKind}
-use Rattle.wk_bytes.specs.declared.fault.ReadKind.TheVariants.{LongInput, Memory}
+use Rattle.wk_bytes.specs.declared.fault.ReadKind.TheVariants.{LongInput}
 use Rattle.wk_bytes.specs.declared.fault.ReadFault.{ReadFault}
 use Rattle.wk_bytes.specs.Leb.{◌>>=◌}
 use Rattle.wk_bytes.specs.LebLaws.{done}
@@ -12,7 +11,8 @@ use Rattle.wk_bytes.specs.Frames.{limit, header_at, sections_of}
 use Rattle.wk_body.specs.declared.types.Profile.{Profile}
 use Rattle.wk_body.specs.Bodies.{BodyOf}
 use Rattle.wk_body.specs.Reading.{all_body_at}
-use Rattle.wk_body.specs.Reads.{FailsAs, Parses, Reads}
+use Rattle.wk_body.specs.Reads.{Parses, Reads}
+use Rattle.wk_body.specs.ReadsLaws.{fails_on}
 use Rattle.wk_body.specs.Vectors.{items_at}
 use Rattle.wk_module.specs.declared.types.Func.{Func}
 use Rattle.wk_module.specs.Formats.{Reader, bytes_at, all_at}
@@ -51,11 +51,6 @@ module _ {A : Type 0} (read : ℕ → List ℕ → Result (A × List ℕ) ReadFa
 
 abbrev failed : (A : Type 0) → ReadFault → Result A ReadFault
 failed A e = Err e
-
--- a fault of a step is one of the whole
-pub fails_on : {Y Z : Type 0} (e : ReadFault) (kind : ReadKind) (step : Result Y ReadFault) (whole : Result Z ReadFault) → (step ≡ Err e → whole ≡ Err e) → FailsAs e kind step → FailsAs e kind whole
-fails_on e Memory step whole f h = h
-fails_on e _ step whole f h = f h
 
 -- what fails does not reach the end
 pub all_fails : {A : Type 0} (read : Reader A) (end : ℕ) (bytes : List ℕ) (e : ReadFault) → read end bytes ≡ Err e → all_at read end bytes ≡ Err e

@@ -1,7 +1,7 @@
 -- The custom sections, in the frames of the written form.
 use Rattle.std.proofs.Common.{◌≡◌, ◌≢◌, ℕ, zero, suc, ◌+◌, ◌^◌, ◌<◌, ◌≤◌, ◌==◌, Bool, false, inl, inr, List, [], ◌∷◌, ◌++◌, length, map, refl, sym, ap, subst, ◌∙◌, append-nil, append_assoc, length-append, arith}
 use Rattle.std.specs.List.{filter, flat_map}
-use Rattle.std.proofs.lemmas.Bool.{ne_eqb, eq-eqb, cases_eq, cases_Bool}
+use Rattle.std.proofs.lemmas.Bool.{ne_eqb, eq-eqb, cases_eq}
 use Rattle.std.proofs.lemmas.List.Elements.{filter-append}
 use Rattle.std.specs.Str.{IsUtf8}
 use Rattle.wk_bytes.specs.Short.{short}
@@ -10,6 +10,8 @@ use Rattle.wk_bytes.specs.Frames.{Frame}
 use Rattle.wk_module.specs.declared.types.Custom.{Custom}
 use Rattle.wk_module.specs.Customs.{SpellsCustom, SpellsCustoms, written_custom}
 use Rattle.wk_module.specs.Shape.{lowered, settled_custom, IsInOrderFrom, AreNamed}
+use Rattle.wk_module.specs.ShapeLaws.{lowered_le}
+use Rattle.wk_module.proofs.Shaped.{AreSettled}
 use Rattle.wk_module.proofs.WrittenFrames.{AreSmall, small_front, small_later, custom_frame, customs_frames, up_from, IsSectionAt, frames_at}
 
 -- ---- one custom
@@ -79,11 +81,6 @@ customs_here place (c ∷ front) later rest at named small spelled =
 
 -- ---- settled places
 
--- each place stays where it is
-abbrev pub AreSettled : (ℕ → Bool) → List Custom → Type 0
-AreSettled passes [] = Unit {0}
-AreSettled passes (c ∷ cs) = (lowered passes c.place ≡ c.place) × AreSettled passes cs
-
 pub parts_settled : (passes : ℕ → Bool) (cs : List Custom) → map (settled_custom passes) cs ≡ cs → AreSettled passes cs
 parts_settled passes [] e = tt
 parts_settled passes (c ∷ cs) e =
@@ -100,18 +97,10 @@ module _ (passes : ℕ → Bool) where
   settled_later [] later settled = settled
   settled_later (c ∷ front) later settled = settled_later front later settled.1
 
-  lowered_le : (p : ℕ) → lowered passes p ≤ p
-  lowered_le zero = omega arith
-  lowered_le (suc p) =
-      elim (cases_Bool (passes (suc p))) [
-        | inl is ↦ rw is (omega arith)
-        | inr is ↦ rw is (omega (arith, lowered_le p))
-      ]
-
   -- a settled place whose id doesn't pass is 0
   not_above : (p : ℕ) → passes p ≡ false → lowered passes p ≡ p → p ≡ 0
   not_above zero is settled = refl
-  not_above (suc p) is settled = absurd (omega (arith, rw is at settled, lowered_le p))
+  not_above (suc p) is settled = absurd (omega (arith, rw is at settled, lowered_le passes p))
 
   none_but_first : (place p : ℕ) (cs : List Custom) → passes p ≡ false → (p ≡ 0 → place ≡ 0) → AreAt p cs → AreSettled passes cs → AreAt place cs
   none_but_first place p [] is first at settled = tt

@@ -1,11 +1,11 @@
 -- What the lists of a module hold (5.5): imports, globals, exports, element segments, codes and data segments.
-use Rattle.std.specs.Prelude.{◌≡◌, ◌≤◌, ◌<◌, ◌^◌, ℕ, ◌-◌, List, [], ◌∷◌, ◌++◌, length, Result, Ok}
+use Rattle.std.specs.Prelude.{◌≡◌, ℕ, ◌-◌, List, ◌∷◌, ◌++◌, length, Ok}
 use Rattle.std.specs.Str.{IsUtf8}
 use Rattle.std.specs.List.{AllByRecursion}
 use Rattle.wk_bytes.specs.Leb.{◌>>=◌, SpellsU}
 use Rattle.wk_bytes.specs.Short.{short}
 use Rattle.wk_bytes.specs.Pieces.{SpellsName}
-use Rattle.wk_bytes.specs.Span.{u32_at, piece_at, name_at}
+use Rattle.wk_bytes.specs.Span.{u32_at, name_at}
 use Rattle.wk_body.specs.declared.types.Profile.{Profile}
 use Rattle.wk_body.specs.Bodies.{BodyOf, AreGroups}
 use Rattle.wk_body.specs.Reading.{expr_at, all_body_at}
@@ -14,7 +14,6 @@ use Rattle.wk_body.specs.Spelling.{SpellsExpr, SpellsBody}
 use Rattle.wk_body.specs.Tree.{Instrs}
 use Rattle.wk_body.specs.Vectors.{SpellsVector, vector_at, written_vector}
 use Rattle.wk_body.specs.Written.{written_expr, written_body}
-use Rattle.wk_module.specs.declared.types.Limits.{Limits}
 use Rattle.wk_module.specs.declared.types.GlobalType.{GlobalType}
 use Rattle.wk_module.specs.declared.types.Kind.{Kind}
 use Rattle.wk_module.specs.declared.types.Kind.TheVariants as kinds

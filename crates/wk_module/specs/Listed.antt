@@ -1,5 +1,5 @@
 -- The lists that are lent, as those of sections.
-use Rattle.std.specs.Prelude.{◌≡◌, ◌≤◌, ◌≢◌, ℕ, []}
+use Rattle.std.specs.Prelude.{◌≤◌, ◌≢◌, ℕ, []}
 use Rattle.wk_module.specs.declared.lists.Lists.{Lists}
 use Rattle.wk_module.specs.declared.types.Parts.{Parts}
 use Rattle.wk_module.specs.Sections.{SectionLists}

@@ -1,8 +1,7 @@
 -- The sections of a module but its custom ones (5.5.2): what each holds, and how that is spelled, read and written.
-use Rattle.std.specs.Prelude.{◌≡◌, ℕ, ◌<◌, ◌==◌, if◌then◌else◌, Bool, true, false, not, Option, Some, None, List, [], ◌∷◌, ◌++◌, length, Result, Ok, Err}
+use Rattle.std.specs.Prelude.{ℕ, ◌==◌, if◌then◌else◌, Bool, true, false, not, Option, Some, None, List, [], length, Err}
 use Rattle.std.specs.List.{AllByRecursion}
 use Rattle.wk_bytes.specs.declared.fault.ReadKind.TheVariants.{FuncCodeCount}
-use Rattle.wk_bytes.specs.declared.fault.ReadFault.{ReadFault}
 use Rattle.wk_bytes.specs.Leb.{◌>>=◌, SpellsU}
 use Rattle.wk_bytes.specs.ListWords.{is_empty}
 use Rattle.wk_bytes.specs.Short.{short}

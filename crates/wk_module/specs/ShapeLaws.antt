@@ -1,5 +1,5 @@
 -- Laws of settling, and what keeps a module shaped.
-use Rattle.std.proofs.Common.{◌≡◌, ℕ, zero, suc, ◌^◌, ◌<◌, ◌+◌, ◌≤◌, Bool, true, false, not, inl, inr, List, [], ◌∷◌, ◌++◌, length, map, drop, filter, refl, ap, ◌∙◌, arith, length-append}
+use Rattle.std.proofs.Common.{◌≡◌, ℕ, zero, suc, ◌^◌, ◌<◌, ◌+◌, ◌≤◌, Bool, true, false, not, inl, inr, List, [], ◌∷◌, ◌++◌, length, map, drop, filter, refl, ap, ◌∙◌, arith}
 use Rattle.std.proofs.lemmas.Bool.{cases_Bool, cases_lt, cond-true, cond-false, cond_both}
 use Rattle.std.proofs.Common.{slice_index_or}
 use Rattle.std.specs.Str.{IsUtf8}
@@ -208,13 +208,6 @@ pub settle-type : (t : FuncType) (m : Parts) → settle m ≡ m → settle (reco
 settle-type t m settled =
     let more : Parts = record m { types = m.types ++ t ∷ [] } in
     ap (λ (cs : List Custom). record more { customs = cs }) (settled_more (is_filled m) (is_filled more) (filled_type t m) m.customs (ap (λ (n : Parts). n.customs) settled))
-
--- a module with one more type is shaped, where it has few
-pub type_shaped : (t : FuncType) (m : Parts) → length m.types + 1 < 2 ^ 32 → IsShaped m → IsShaped (record m { types = m.types ++ t ∷ [] })
-type_shaped t m few s = record {
-  formed = record { valid = types_valid (m.types ++ t ∷ []) m (omega (arith, length-append m.types (t ∷ []), few)) s.formed.valid; order = s.formed.order; names = s.formed.names };
-  settled = settle-type t m s.settled;
-}
 
 -- a module with one more custom of the greatest place is formed
 pub push_formed : (c : Custom) (m : Parts) → c.place ≡ 11 → IsUtf8 c.name → IsFormed m → IsFormed (record m { customs = m.customs ++ c ∷ [] })

@@ -1,5 +1,5 @@
 -- Types (5.3) and import and export kinds (5.5.5, 5.5.10).
-use Rattle.std.specs.Prelude.{◌≡◌, ℕ, ◌<◌, ◌^◌, ◌==◌, if◌then◌else◌, Bool, true, false, Option, Some, None, List, [], ◌∷◌, ◌++◌}
+use Rattle.std.specs.Prelude.{ℕ, ◌==◌, if◌then◌else◌, Bool, true, false, Option, Some, None, List, [], ◌∷◌, ◌++◌}
 use Rattle.wk_bytes.specs.Leb.{SpellsU}
 use Rattle.wk_bytes.specs.Short.{short}
 use Rattle.wk_bytes.specs.Span.{u32_at}

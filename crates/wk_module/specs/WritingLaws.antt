@@ -28,9 +28,6 @@ use Rattle.wk_module.specs.Writing.{framed, section_of, customs_at, section_and_
 pub some_vector : {A : Type 0} (written : A → List ℕ) (xs : List A) → 0 < length (written_vector written xs)
 some_vector written xs = omega (arith, length-append (short (length xs)) (flat_map written xs), short-some (length xs))
 
-pub some_custom : (c : Custom) → 0 < length (written_custom c)
-some_custom c = omega (arith, length-append (short (length c.name)) (c.name ++ c.bytes), short-some (length c.name))
-
 pub some_functype : (t : FuncType) → 0 < length (written_functype t)
 some_functype t = omega arith
 

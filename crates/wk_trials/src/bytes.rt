@@ -19,6 +19,7 @@ fn after_put(answer: Result<(), OutOfMemory>, bytes: &[u8], spelling: &[u8]) -> 
     }
 }
 
+/// `put_u32` to a full vector.
 pub fn puts_u32(alloc: Global) -> Result<Outcome, AllocError> {
     let mut bytes = Vec::from_slice(alloc, &BEFORE)?;
     call_begins(alloc)?;
@@ -27,6 +28,7 @@ pub fn puts_u32(alloc: Global) -> Result<Outcome, AllocError> {
     Ok(after_put(answer, &bytes, &SPELLING))
 }
 
+/// `put_s32` to a full vector.
 pub fn puts_s32(alloc: Global) -> Result<Outcome, AllocError> {
     let mut bytes = Vec::from_slice(alloc, &BEFORE)?;
     call_begins(alloc)?;
@@ -35,6 +37,7 @@ pub fn puts_s32(alloc: Global) -> Result<Outcome, AllocError> {
     Ok(after_put(answer, &bytes, &[0xc0, 0xbb, 0x78]))
 }
 
+/// `put_s33` to a full vector.
 pub fn puts_s33(alloc: Global) -> Result<Outcome, AllocError> {
     let mut bytes = Vec::from_slice(alloc, &BEFORE)?;
     call_begins(alloc)?;
@@ -43,6 +46,7 @@ pub fn puts_s33(alloc: Global) -> Result<Outcome, AllocError> {
     Ok(after_put(answer, &bytes, &[0x80, 0x80, 0x80, 0x80, 0x70]))
 }
 
+/// `put_s64` to a full vector.
 pub fn puts_s64(alloc: Global) -> Result<Outcome, AllocError> {
     let mut bytes = Vec::from_slice(alloc, &BEFORE)?;
     call_begins(alloc)?;
@@ -64,6 +68,7 @@ fn after_out(answer: Result<(), OutFault>, sink: Sink, taken: &[u8]) -> Outcome 
     }
 }
 
+/// `put_all` to a sink with that much room.
 pub fn puts_all(alloc: Global, room: Room) -> Result<Outcome, AllocError> {
     let mut sink = sink(alloc, room)?;
     call_begins(alloc)?;
@@ -72,6 +77,7 @@ pub fn puts_all(alloc: Global, room: Room) -> Result<Outcome, AllocError> {
     Ok(after_out(answer, sink, b"more bytes"))
 }
 
+/// `out_u32` to a sink with that much room.
 pub fn outs_u32(alloc: Global, room: Room) -> Result<Outcome, AllocError> {
     let mut sink = sink(alloc, room)?;
     call_begins(alloc)?;
@@ -80,6 +86,7 @@ pub fn outs_u32(alloc: Global, room: Room) -> Result<Outcome, AllocError> {
     Ok(after_out(answer, sink, &SPELLING))
 }
 
+/// `Items::push`, which hands back what it refuses.
 pub fn pushes_item(alloc: Global) -> Result<Outcome, AllocError> {
     let mut items = Items::from_vec(Vec::from_slice(alloc, &BEFORE)?);
     call_begins(alloc)?;
@@ -93,6 +100,7 @@ pub fn pushes_item(alloc: Global) -> Result<Outcome, AllocError> {
     })
 }
 
+/// `Items::copy`.
 pub fn copies_items(alloc: Global) -> Result<Outcome, AllocError> {
     let items = Items::from_vec(Vec::from_slice(alloc, &BEFORE)?);
     call_begins(alloc)?;
@@ -104,6 +112,7 @@ pub fn copies_items(alloc: Global) -> Result<Outcome, AllocError> {
     })
 }
 
+/// `Text::copy`.
 pub fn copies_text(alloc: Global) -> Result<Outcome, AllocError> {
     let text = Text::from_string(String::from_str(alloc, "text")?);
     call_begins(alloc)?;

@@ -9,6 +9,7 @@ use wk_bytes::Out;
 use wk_edit::{RunFault, ScriptFault, Status, edit, read_script};
 use wk_session::Edit;
 
+/// `read_script`.
 pub fn reads_script(alloc: Global) -> Result<Outcome, AllocError> {
     call_begins(alloc)?;
     let answer = read_script(alloc, SCRIPT);
@@ -30,11 +31,15 @@ pub fn reads_script(alloc: Global) -> Result<Outcome, AllocError> {
 /// A run, and what it gives where memory is ample.
 #[derive(Clone, Copy)]
 pub struct Job {
+    /// The bytes of the module.
     pub input: &'static [u8],
+    /// The edits.
     pub script: &'static [u8],
+    /// How it ends.
     pub status: Status,
     /// What it writes to the output of the module.
     pub module: &'static [u8],
+    /// What it writes to the output of the report.
     pub report: &'static [u8],
 }
 

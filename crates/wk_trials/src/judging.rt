@@ -24,6 +24,7 @@ fn judged(answer: Result<Verdict, OutOfMemory>) -> Outcome {
     }
 }
 
+/// `judge` of the valid module that these bytes spell.
 pub fn judges(alloc: Global, bytes: &[u8]) -> Result<Outcome, AllocError> {
     let module = module(alloc, bytes)?;
     call_begins(alloc)?;
@@ -32,6 +33,7 @@ pub fn judges(alloc: Global, bytes: &[u8]) -> Result<Outcome, AllocError> {
     Ok(judged(answer))
 }
 
+/// `judge_around`.
 pub fn judges_around(alloc: Global) -> Result<Outcome, AllocError> {
     let module = module(alloc, VALID)?;
     let lists = lists(module.parts(), TYPES);
@@ -41,6 +43,7 @@ pub fn judges_around(alloc: Global) -> Result<Outcome, AllocError> {
     Ok(judged(answer))
 }
 
+/// `judge_body`, which counts the body also where it refuses.
 pub fn judges_body(alloc: Global) -> Result<Outcome, AllocError> {
     let module = module(alloc, VALID)?;
     let parts = module.parts();
@@ -58,6 +61,7 @@ pub fn judges_body(alloc: Global) -> Result<Outcome, AllocError> {
     })
 }
 
+/// `Whole::of`.
 pub fn sees_whole(alloc: Global) -> Result<Outcome, AllocError> {
     let module = module(alloc, VALID)?;
     let lists = lists(module.parts(), TYPES);

@@ -17,6 +17,7 @@ fn is_written_as(alloc: Global, module: &Module, bytes: &[u8]) -> Result<bool, A
     }
 }
 
+/// `read` of the module that these bytes spell.
 pub fn reads(alloc: Global, bytes: &[u8]) -> Result<Outcome, AllocError> {
     call_begins(alloc)?;
     let answer = read(alloc, bytes);
@@ -42,6 +43,7 @@ fn encoded(
     })
 }
 
+/// `encode` of the module whose written form these bytes are.
 pub fn encodes(alloc: Global, bytes: &[u8]) -> Result<Outcome, AllocError> {
     let module = read(alloc, bytes).map_err(|_| AllocError)?;
     call_begins(alloc)?;
@@ -67,6 +69,7 @@ pub fn lists<'a>(parts: &'a Parts, funcs: &'a [u32]) -> Lists<'a> {
     }
 }
 
+/// `encode_section` of exports.
 pub fn encodes_exports(alloc: Global) -> Result<Outcome, AllocError> {
     let module = read(alloc, WHOLE).map_err(|_| AllocError)?;
     let lists = lists(module.parts(), &[]);
@@ -76,6 +79,7 @@ pub fn encodes_exports(alloc: Global) -> Result<Outcome, AllocError> {
     encoded(alloc, answer, EXPORTS, &module, WHOLE)
 }
 
+/// `encode_custom`.
 pub fn encodes_custom(alloc: Global) -> Result<Outcome, AllocError> {
     let module = read(alloc, WHOLE).map_err(|_| AllocError)?;
     let Some(custom) = module.parts().customs.as_slice().last() else {
@@ -87,6 +91,7 @@ pub fn encodes_custom(alloc: Global) -> Result<Outcome, AllocError> {
     encoded(alloc, answer, LAST_CUSTOM, &module, WHOLE)
 }
 
+/// `encoded_len` and `section_len`.
 pub fn measures(alloc: Global) -> Result<Outcome, AllocError> {
     let module = read(alloc, WHOLE).map_err(|_| AllocError)?;
     call_begins(alloc)?;
@@ -97,6 +102,7 @@ pub fn measures(alloc: Global) -> Result<Outcome, AllocError> {
     Ok(Outcome::answered(is_right))
 }
 
+/// `Module::of`.
 pub fn settles(alloc: Global) -> Result<Outcome, AllocError> {
     let module = read(alloc, WHOLE).map_err(|_| AllocError)?;
     call_begins(alloc)?;

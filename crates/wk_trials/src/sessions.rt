@@ -34,6 +34,7 @@ fn is_as_before(alloc: Global, session: &Session) -> Result<bool, AllocError> {
     holds(alloc, session, MODULE, Verdict::Valid)
 }
 
+/// `Session::open`.
 pub fn opens(alloc: Global) -> Result<Outcome, AllocError> {
     call_begins(alloc)?;
     let answer = Session::open(alloc, MODULE);
@@ -98,6 +99,7 @@ fn after_run(
     Ok(Outcome::refused(refusals == 1 && is_same && is_left))
 }
 
+/// `Session::run` of four edits, one of them refused in any case.
 pub fn runs(alloc: Global) -> Result<Outcome, AllocError> {
     let edits = edits(alloc)?;
     let mut session = opened(alloc)?;
@@ -110,6 +112,7 @@ pub fn runs(alloc: Global) -> Result<Outcome, AllocError> {
     }
 }
 
+/// `Session::write` to a sink with that much room.
 pub fn writes(alloc: Global, room: Room) -> Result<Outcome, AllocError> {
     let session = opened(alloc)?;
     let mut sink = sink(alloc, room)?;

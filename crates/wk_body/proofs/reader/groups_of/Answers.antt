@@ -3,7 +3,8 @@ use Rattle.std.proofs.lemmas.Result.{err_from_is_err_and}
 use Rattle.wk_bytes.specs.Leb.{lastU}
 use Rattle.wk_body.specs.ValTypes.{valtype_at}
 use Rattle.wk_body.specs.Reading.{groups_at}
-use Rattle.wk_body.proofs.Faults.{fails_int, fails_on}
+use Rattle.wk_body.specs.ReadsLaws.{fails_on}
+use Rattle.wk_body.proofs.Faults.{fails_int}
 use Rattle.wk_body.proofs.GroupLoop.{groups_uncounted, groups_too_many, groups_untyped, groups_go_on, groups_end}
 use Rattle.wk_body.proofs.reader.groups_of.Goals as goal
 

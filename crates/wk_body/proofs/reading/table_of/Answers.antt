@@ -4,7 +4,8 @@ use Rattle.wk_bytes.specs.Leb.{lastU}
 use Rattle.wk_bytes.specs.Span.{u32_at}
 use Rattle.wk_body.specs.Vectors.{items_at}
 use Rattle.wk_body.specs.Reading.{labels_at}
-use Rattle.wk_body.proofs.Faults.{fails_on, fails_int}
+use Rattle.wk_body.specs.ReadsLaws.{fails_on}
+use Rattle.wk_body.proofs.Faults.{fails_int}
 use Rattle.wk_body.proofs.Labels.{table_fits, table_reads, table_count_fails, table_labels_fail, table_other_fails}
 use Rattle.wk_body.proofs.reading.table_of.Goals as goal
 

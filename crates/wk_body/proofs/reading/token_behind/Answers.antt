@@ -2,7 +2,7 @@ use Rattle.std.proofs.Common.{arith}
 use Rattle.std.proofs.lemmas.Result.{err_from_is_err_and}
 use Rattle.wk_body.specs.Reading.{labels_at, behind_at}
 use Rattle.wk_body.specs.Building.{kinds_of}
-use Rattle.wk_body.proofs.Faults.{fails_on}
+use Rattle.wk_body.specs.ReadsLaws.{fails_on}
 use Rattle.wk_body.proofs.Tokens.{reads_block, reads_loop, reads_if, reads_table, table_fails, simple_told, reads_simple}
 use Rattle.wk_body.proofs.reading.token_behind.Goals as goal
 

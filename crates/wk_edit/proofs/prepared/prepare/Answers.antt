@@ -1,4 +1,4 @@
-use Rattle.std.proofs.Common.{◌∙◌, ap, sym, Ok}
+use Rattle.std.proofs.Common.{Ok}
 use Rattle.wk_edit.proofs.OutcomeLemmas.{malformed_ok, malformed_means, ran_ok, ran_means, script_ok, script_means}
 use Rattle.wk_edit.proofs.prepared.prepare.Goals as goal
 

@@ -4,7 +4,8 @@ use Rattle.wk_module.specs.Formats.{all_at}
 use Rattle.wk_module.specs.Items.{code_at}
 use Rattle.wk_module.specs.Reading.{section_end}
 use Rattle.wk_module.specs.Sections.{codes_at}
-use Rattle.wk_module.proofs.VectorReading.{fails_on, stops_all, all_fails}
+use Rattle.wk_body.specs.ReadsLaws.{fails_on}
+use Rattle.wk_module.proofs.VectorReading.{stops_all, all_fails}
 use Rattle.wk_module.proofs.reader.read_codes.Goals as goal
 
 pub returns-in_err-read : goal.returns-in_err-read

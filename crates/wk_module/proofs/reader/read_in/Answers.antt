@@ -1,10 +1,7 @@
-use Rattle.std.proofs.Common.{◌≡◌, ℕ, ◌<◌, Ok, Err, sym, subst, slice_index_or, arith}
+use Rattle.std.proofs.Common.{◌≡◌, Ok, Err, arith}
 use Rattle.std.proofs.lemmas.Result.{err_from_is_err_and}
-use Rattle.wk_module.specs.declared.types.Parts.{Parts}
-use Rattle.wk_module.specs.Modules.{Spells}
 use Rattle.wk_module.specs.Reading.{module_at}
 use Rattle.wk_module.specs.Shape.{IsShaped}
-use Rattle.wk_module.specs.Writing.{Fits}
 use Rattle.wk_module.proofs.Laws.{SectionLaws, code_laws}
 use Rattle.wk_module.proofs.SectionFormats.{section_laws}
 use Rattle.wk_module.proofs.ModuleReading.{read_settled, module_found, answer_found, answer_profile, answer_only, answer_refused}

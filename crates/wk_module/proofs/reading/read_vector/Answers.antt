@@ -1,6 +1,7 @@
 use Rattle.std.proofs.lemmas.Result.{err_from_is_err_and}
 use Rattle.wk_body.specs.Vectors.{vector_at}
-use Rattle.wk_module.proofs.VectorReading.{fails_on, stops_all}
+use Rattle.wk_body.specs.ReadsLaws.{fails_on}
+use Rattle.wk_module.proofs.VectorReading.{stops_all}
 use Rattle.wk_module.proofs.reading.read_vector.Goals as goal
 
 pub returns-in_err-read : goal.returns-in_err-read

@@ -1,6 +1,4 @@
-use Rattle.std.proofs.Common.{◌≡◌, sym, refl}
-use Rattle.wk_module.specs.Shape.{IsShaped}
-use Rattle.wk_module.specs.ModuleLaws.{SpellOne}
+use Rattle.std.proofs.Common.{refl}
 use Rattle.wk_module.proofs.Laws.{SectionLaws, code_laws}
 use Rattle.wk_module.proofs.SectionFormats.{section_laws}
 use Rattle.wk_module.proofs.ModuleReading.{spell_one}

@@ -1,4 +1,4 @@
-use Rattle.std.proofs.Common.{◌≡◌, ℕ, length, arith, sym, ◌∙◌}
+use Rattle.std.proofs.Common.{◌≡◌, length, arith, sym, ◌∙◌}
 use Rattle.wk_session.proofs.RunSteps.{replies_more, after_more}
 use Rattle.wk_session.proofs.session.Session.run.Goals as goal
 
