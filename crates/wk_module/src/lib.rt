@@ -32,6 +32,10 @@ pub use wk_body::{
 pub use writer::{encode, encode_custom, encode_section};
 
 #[cfg(test)]
+mod tests_places;
+#[cfg(test)]
 mod tests_reading;
+#[cfg(test)]
+mod tests_whole;
 #[cfg(test)]
 mod tests_writing;

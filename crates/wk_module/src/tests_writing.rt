@@ -96,7 +96,7 @@ fn writes_the_other_profile(rt: HostRuntime) -> Result<(), Fail> {
 }
 
 // The lists of a module but its functions, and the indexes of their types.
-fn lists<'a>(parts: &'a Parts, funcs: &'a [u32]) -> Lists<'a> {
+pub(crate) fn lists<'a>(parts: &'a Parts, funcs: &'a [u32]) -> Lists<'a> {
     Lists {
         profile: parts.profile,
         types: parts.types.as_slice(),
