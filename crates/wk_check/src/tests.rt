@@ -4,7 +4,7 @@ use super::*;
 use std::alloc::Global;
 use std::process::Abort;
 use std::test::Fail;
-use wk_bytes::{leb_len_u32, put_u32};
+use wk_bytes::put_u32;
 use wk_module::{Profile, read_in};
 
 const HEADER: &[u8] = b"\0asm\x01\0\0\0";
@@ -12,7 +12,7 @@ const HEADER: &[u8] = b"\0asm\x01\0\0\0";
 /// A function that takes nothing and gives nothing, up to its code.
 pub(crate) const NOTHING: &[u8] = b"\x01\x04\x01\x60\0\0\x03\x02\x01\0";
 
-/// The code of a test has fewer bytes.
+/// A code section of a test has fewer bytes.
 const MANY: usize = 100_000;
 
 /// The verdict of a module of a profile, which is given by what comes behind its header.
@@ -64,14 +64,16 @@ pub(crate) fn with_code(
     code: &[u8],
 ) -> Result<Vec<u8>, Fail> {
     assert!(rt; code.len() < MANY);
-    let len = code.len() as u32;
+    let mut contents = Vec::new(alloc);
+    contents.push(0x01)?;
+    put_u32(&mut contents, code.len() as u32)?;
+    contents.extend_from_slice(code)?;
+    assert!(rt; contents.len() < MANY);
     let mut bytes = Vec::new(alloc);
     bytes.extend_from_slice(front)?;
     bytes.push(0x0A)?;
-    put_u32(&mut bytes, 1 + leb_len_u32(len) as u32 + len)?;
-    bytes.push(0x01)?;
-    put_u32(&mut bytes, len)?;
-    bytes.extend_from_slice(code)?;
+    put_u32(&mut bytes, contents.len() as u32)?;
+    bytes.extend_from_slice(contents.as_slice())?;
     Ok(bytes)
 }
 
