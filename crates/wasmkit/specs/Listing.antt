@@ -1,8 +1,9 @@
 -- The lines that list the sections of a module.
 use Rattle.std.specs.Prelude.{ℕ, ◌+◌, Bool, true, false, List, [], ◌∷◌, ◌++◌, length, Result, Ok, Err, codes, slice_index_or}
 use Rattle.wk_bytes.specs.declared.fault.ReadFault.{ReadFault}
-use Rattle.wk_bytes.specs.FaultText.{offset_text, read_fault_text}
+use Rattle.wk_bytes.specs.FaultText.{offset_text}
 use Rattle.wk_bytes.specs.Frames.{Section}
+use Rattle.wk_edit.specs.ReportText.{malformed_text}
 
 -- the names of the sections by their ids, each in eight places
 abbrev pub section_names : List (List ℕ)
@@ -19,13 +20,9 @@ section_line s =
     section_name s.id ++ (codes " start=" ++ (offset_text s.at ++ (codes " end=" ++ (offset_text (s.at + length s.contents)
     ++ (codes " size=" ++ (offset_text (length s.contents) ++ codes "\n"))))))
 
--- the line of bytes that are no module
-abbrev pub malformed_line : ReadFault → List ℕ
-malformed_line fault = codes "malformed " ++ (read_fault_text fault ++ codes "\n")
-
 abbrev pub item_line : Result Section ReadFault → List ℕ
 item_line (Ok s) = section_line s
-item_line (Err fault) = malformed_line fault
+item_line (Err fault) = malformed_text fault
 
 -- a line for each section, and for the fault
 unfoldable pub listing : List (Result Section ReadFault) → List ℕ

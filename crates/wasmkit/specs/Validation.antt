@@ -1,5 +1,5 @@
 -- What `validate` prints of bytes, by what reading them gives, and its status.
-use Rattle.std.specs.Prelude.{◌≡◌, ℕ, ◌⊎◌, List, ◌++◌, Result, Ok, Err, codes}
+use Rattle.std.specs.Prelude.{◌≡◌, ℕ, ◌⊎◌, List, Result, Ok, Err}
 use Rattle.wk_bytes.specs.declared.fault.ReadFault.{ReadFault}
 use Rattle.wk_bytes.specs.Stands.{StandsIn}
 use Rattle.wk_body.specs.declared.types.Profile.{Profile}
@@ -8,16 +8,12 @@ use Rattle.wk_module.specs.Modules.{Spells, SpellsNone}
 use Rattle.wk_check.specs.declared.fault.Verdict.{Verdict}
 use Rattle.wk_check.specs.declared.fault.Verdict.TheVariants.{Valid, Invalid}
 use Rattle.wk_check.specs.Verdict.{module_verdict}
-use Rattle.wk_check.specs.VerdictText.{verdict_text}
-use Rattle.wasmkit.specs.Listing.{malformed_line}
-
-abbrev pub verdict_line : Verdict → List ℕ
-verdict_line verdict = verdict_text verdict ++ codes "\n"
+use Rattle.wk_edit.specs.ReportText.{malformed_text, verdict_line}
 
 -- the verdict of the module that the bytes spell, or their first fault where they spell none
 abbrev pub printed : Result Parts ReadFault → List ℕ
 printed (Ok m) = verdict_line (module_verdict m)
-printed (Err fault) = malformed_line fault
+printed (Err fault) = malformed_text fault
 
 abbrev pub verdict_status : Verdict → ℕ
 verdict_status Valid = 0

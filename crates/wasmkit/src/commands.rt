@@ -3,12 +3,12 @@ ghost use Rattle.std.specs.Prelude.{◌-◌, ◌<◌, ◌^◌};
 
 use crate::command::{Asked, EditCommand, StripCommand, ValidateCommand, read_words};
 use crate::fault::ProgramFault;
-use crate::listing::{Listing, list_sections, malformed_line};
+use crate::listing::{Listing, list_sections};
 use crate::store::Store;
 use crate::validation::{Validation, validate};
 use std::alloc::Global;
 use wk_bytes::{Out, ReadFault, ReadKind, Sink, put_all};
-use wk_edit::{Status, edit_in};
+use wk_edit::{Status, edit_in, malformed_line};
 use wk_module::{EncodeFault, encode, read_in};
 use wk_session::stripped;
 

@@ -3,10 +3,11 @@ ghost use Rattle.std.specs.Prelude.{◌≡◌, IfOk, string_bytes};
 ghost use Rattle.std.specs.List.{list_any};
 ghost use Rattle.wk_bytes.specs.Frames.{sections_of};
 ghost use Rattle.wk_bytes.specs.Raw.{item_view, raw_view};
-ghost use Rattle.wasmkit.specs.Listing.{is_fault, item_line, listing, malformed_line, section_line, section_name};
+ghost use Rattle.wasmkit.specs.Listing.{is_fault, item_line, listing, section_line, section_name};
 
 use std::alloc::{AllocError, Global};
 use wk_bytes::{RawSection, ReadFault, Sections};
+use wk_edit::malformed_line;
 
 /// A line for each section, and one for the fault behind them, if there is one.
 #[derive(Drop)]
@@ -46,13 +47,6 @@ fn section_line(alloc: Global, section: &RawSection<'_>) -> Result<String, Alloc
     let size = section.contents.len() as u32;
     let end = start + size;
     format!(in alloc; "{name} start=0x{start:08x} end=0x{end:08x} size=0x{size:08x}\n")
-}
-
-/// The line of bytes that are no module.
-pub fn malformed_line(alloc: Global, fault: &ReadFault) -> Result<String, AllocError>
-    ensures { IfOk result (λ line. string_bytes line ≡ malformed_line fault.now) }
-{
-    format!(in alloc; "malformed {fault}\n")
 }
 
 fn item_line(alloc: Global, item: &Result<RawSection<'_>, ReadFault>) -> Result<String, AllocError>

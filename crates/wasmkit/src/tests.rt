@@ -93,67 +93,69 @@ pub(crate) fn owned(alloc: Global, words: &[&str]) -> Result<Vec<String>, Fail> 
 
 const EDIT: [&str; 4] = ["edit", "in.wasm", "script", "out.wasm"];
 
+// A module, a script, the status, the report and what is saved.
+const EDITS: [(&[u8], &str, u8, &str, Option<&[u8]>); 12] = [
+    (EMPTY, "type - -\n", 0, "1 ok\nvalid\n", Some(ONE_TYPE)),
+    (EMPTY, "", 0, "valid\n", Some(EMPTY)),
+    (
+        EMPTY,
+        "type i32 i32,i32\n",
+        1,
+        "1 ok\ninvalid V1 TypeArity at section 1 item 0\n",
+        Some(TWO_RESULTS),
+    ),
+    (
+        EMPTY,
+        "custom strip d\ntype - -\n",
+        1,
+        "1 refused E3 NoSuchCustom\n2 ok\nvalid\n",
+        Some(ONE_TYPE),
+    ),
+    (
+        CUSTOMS,
+        "custom strip d",
+        0,
+        "1 ok\nvalid\n",
+        Some(WITHOUT_D),
+    ),
+    (CUSTOMS, "\n", 0, "valid\n", Some(CUSTOMS)),
+    (
+        TWO_RESULTS,
+        "",
+        1,
+        "invalid V1 TypeArity at section 1 item 0\n",
+        Some(TWO_RESULTS),
+    ),
+    (EMPTY, "type i32\n", 3, "script S1 BadWord line 1\n", None),
+    (
+        EMPTY,
+        "type - -\nstrip d\n",
+        3,
+        "script S1 BadWord line 2\n",
+        None,
+    ),
+    (EMPTY, "\u{e9}\n", 3, "script S2 NotAscii line 1\n", None),
+    (
+        BAD_NAME,
+        "type - -\n",
+        2,
+        "malformed R9 BadUtf8 at 0x0000000b\n",
+        None,
+    ),
+    (
+        b"",
+        "no edit\n",
+        2,
+        "malformed R3 UnexpectedEnd at 0x00000000\n",
+        None,
+    ),
+];
+
 #[test]
 fn edits(rt: HostRuntime) -> Result<(), Fail> {
     let alloc = rt.alloc();
     let words = owned(alloc, &EDIT)?;
-    let rows: [(&[u8], &str, u8, &str, Option<&[u8]>); 12] = [
-        (EMPTY, "type - -\n", 0, "1 ok\nvalid\n", Some(ONE_TYPE)),
-        (EMPTY, "", 0, "valid\n", Some(EMPTY)),
-        (
-            EMPTY,
-            "type i32 i32,i32\n",
-            1,
-            "1 ok\ninvalid V1 TypeArity at section 1 item 0\n",
-            Some(TWO_RESULTS),
-        ),
-        (
-            EMPTY,
-            "custom strip d\ntype - -\n",
-            1,
-            "1 refused E3 NoSuchCustom\n2 ok\nvalid\n",
-            Some(ONE_TYPE),
-        ),
-        (
-            CUSTOMS,
-            "custom strip d",
-            0,
-            "1 ok\nvalid\n",
-            Some(WITHOUT_D),
-        ),
-        (CUSTOMS, "\n", 0, "valid\n", Some(CUSTOMS)),
-        (
-            TWO_RESULTS,
-            "",
-            1,
-            "invalid V1 TypeArity at section 1 item 0\n",
-            Some(TWO_RESULTS),
-        ),
-        (EMPTY, "type i32\n", 3, "script S1 BadWord line 1\n", None),
-        (
-            EMPTY,
-            "type - -\nstrip d\n",
-            3,
-            "script S1 BadWord line 2\n",
-            None,
-        ),
-        (EMPTY, "\u{e9}\n", 3, "script S2 NotAscii line 1\n", None),
-        (
-            BAD_NAME,
-            "type - -\n",
-            2,
-            "malformed R9 BadUtf8 at 0x0000000b\n",
-            None,
-        ),
-        (
-            b"",
-            "no edit\n",
-            2,
-            "malformed R3 UnexpectedEnd at 0x00000000\n",
-            None,
-        ),
-    ];
-    for (module, script, status, report, saved) in rows {
+    for (module, script, status, report, saved) in EDITS {
         let mut store = stocked(alloc, module, script);
         let mut out = Sink::new(Vec::new(alloc));
         let mut err = Sink::new(Vec::new(alloc));
@@ -166,99 +168,101 @@ fn edits(rt: HostRuntime) -> Result<(), Fail> {
     Ok(())
 }
 
+// Words, the status, and what is said.
+const REFUSED: [(&[&str], u8, &str); 35] = [
+    (
+        &["edit", "none", "script", "out.wasm"],
+        4,
+        "cannot read none\n",
+    ),
+    (
+        &["edit", "in.wasm", "none", "out.wasm"],
+        4,
+        "cannot read none\n",
+    ),
+    (&["edit", "", "script", "out.wasm"], 4, "cannot read \n"),
+    (
+        &["edit", "large", "script", "out.wasm"],
+        5,
+        "out of memory\n",
+    ),
+    (
+        &["edit", "in.wasm", "script", "in.wasm"],
+        3,
+        "bad command line\n",
+    ),
+    (
+        &["edit", "in.wasm", "script", "script"],
+        3,
+        "bad command line\n",
+    ),
+    (&["edit", "none", "none", "none"], 3, "bad command line\n"),
+    (&[], 3, ""),
+    (&["edit"], 3, ""),
+    (&["edit", "in.wasm", "script"], 3, ""),
+    (&["edit", "in.wasm", "script", "out.wasm", "more"], 3, ""),
+    (
+        &["edit", "--keep-valid", "in.wasm", "script", "out.wasm"],
+        3,
+        "",
+    ),
+    (&["sections", "none"], 4, "cannot read none\n"),
+    (&["sections", "large"], 5, "out of memory\n"),
+    (&["sections"], 3, ""),
+    (&["sections", "in.wasm", "more"], 3, ""),
+    (&["sections", "--extended", "in.wasm"], 3, ""),
+    (&["strip", "none", "out.wasm"], 4, "cannot read none\n"),
+    (&["strip", "large", "out.wasm"], 5, "out of memory\n"),
+    (&["strip", "in.wasm", "in.wasm"], 3, "bad command line\n"),
+    (&["strip", "none", "none"], 3, "bad command line\n"),
+    (
+        &["strip", "--keep", "x:6", "in.wasm", "out.wasm"],
+        3,
+        "bad command line\n",
+    ),
+    (
+        &["strip", "--keep", "x:ff", "none", "out.wasm"],
+        3,
+        "bad command line\n",
+    ),
+    (
+        &["strip", "--keep", "x:6g", "in.wasm", "out.wasm"],
+        3,
+        "bad command line\n",
+    ),
+    (
+        &["strip", "--keep", "a b", "in.wasm", "out.wasm"],
+        3,
+        "bad command line\n",
+    ),
+    (
+        &["strip", "--keep", "\u{e9}", "in.wasm", "out.wasm"],
+        3,
+        "bad command line\n",
+    ),
+    (
+        &["strip", "--keep", "", "in.wasm", "out.wasm"],
+        3,
+        "bad command line\n",
+    ),
+    (&["strip", "in.wasm"], 3, ""),
+    (&["strip", "in.wasm", "out.wasm", "--keep"], 3, ""),
+    (
+        &["strip", "--keep", "a", "--keep", "b", "in.wasm", "out.wasm"],
+        3,
+        "",
+    ),
+    (&["strip", "in.wasm", "out.wasm", "more"], 3, ""),
+    (&["strip", "--keep", "-c", "in.wasm", "out.wasm"], 3, ""),
+    (&["strip", "--quiet", "in.wasm", "out.wasm"], 3, ""),
+    (&["paint", "in.wasm"], 3, ""),
+    (&["--help"], 3, ""),
+];
+
 #[test]
 fn refuses_words_and_files(rt: HostRuntime) -> Result<(), Fail> {
     let alloc = rt.alloc();
-    let rows: [(&[&str], u8, &str); 35] = [
-        (
-            &["edit", "none", "script", "out.wasm"],
-            4,
-            "cannot read none\n",
-        ),
-        (
-            &["edit", "in.wasm", "none", "out.wasm"],
-            4,
-            "cannot read none\n",
-        ),
-        (&["edit", "", "script", "out.wasm"], 4, "cannot read \n"),
-        (
-            &["edit", "large", "script", "out.wasm"],
-            5,
-            "out of memory\n",
-        ),
-        (
-            &["edit", "in.wasm", "script", "in.wasm"],
-            3,
-            "bad command line\n",
-        ),
-        (
-            &["edit", "in.wasm", "script", "script"],
-            3,
-            "bad command line\n",
-        ),
-        (&["edit", "none", "none", "none"], 3, "bad command line\n"),
-        (&[], 3, ""),
-        (&["edit"], 3, ""),
-        (&["edit", "in.wasm", "script"], 3, ""),
-        (&["edit", "in.wasm", "script", "out.wasm", "more"], 3, ""),
-        (
-            &["edit", "--keep-valid", "in.wasm", "script", "out.wasm"],
-            3,
-            "",
-        ),
-        (&["sections", "none"], 4, "cannot read none\n"),
-        (&["sections", "large"], 5, "out of memory\n"),
-        (&["sections"], 3, ""),
-        (&["sections", "in.wasm", "more"], 3, ""),
-        (&["sections", "--extended", "in.wasm"], 3, ""),
-        (&["strip", "none", "out.wasm"], 4, "cannot read none\n"),
-        (&["strip", "large", "out.wasm"], 5, "out of memory\n"),
-        (&["strip", "in.wasm", "in.wasm"], 3, "bad command line\n"),
-        (&["strip", "none", "none"], 3, "bad command line\n"),
-        (
-            &["strip", "--keep", "x:6", "in.wasm", "out.wasm"],
-            3,
-            "bad command line\n",
-        ),
-        (
-            &["strip", "--keep", "x:ff", "none", "out.wasm"],
-            3,
-            "bad command line\n",
-        ),
-        (
-            &["strip", "--keep", "x:6g", "in.wasm", "out.wasm"],
-            3,
-            "bad command line\n",
-        ),
-        (
-            &["strip", "--keep", "a b", "in.wasm", "out.wasm"],
-            3,
-            "bad command line\n",
-        ),
-        (
-            &["strip", "--keep", "\u{e9}", "in.wasm", "out.wasm"],
-            3,
-            "bad command line\n",
-        ),
-        (
-            &["strip", "--keep", "", "in.wasm", "out.wasm"],
-            3,
-            "bad command line\n",
-        ),
-        (&["strip", "in.wasm"], 3, ""),
-        (&["strip", "in.wasm", "out.wasm", "--keep"], 3, ""),
-        (
-            &["strip", "--keep", "a", "--keep", "b", "in.wasm", "out.wasm"],
-            3,
-            "",
-        ),
-        (&["strip", "in.wasm", "out.wasm", "more"], 3, ""),
-        (&["strip", "--keep", "-c", "in.wasm", "out.wasm"], 3, ""),
-        (&["strip", "--quiet", "in.wasm", "out.wasm"], 3, ""),
-        (&["paint", "in.wasm"], 3, ""),
-        (&["--help"], 3, ""),
-    ];
-    for (words, status, said) in rows {
+    for (words, status, said) in REFUSED {
         let words = owned(alloc, words)?;
         let mut store = stocked(alloc, EMPTY, "");
         let mut out = Sink::new(Vec::new(alloc));
@@ -278,66 +282,60 @@ fn refuses_words_and_files(rt: HostRuntime) -> Result<(), Fail> {
 }
 
 #[test]
-fn says_what_fails(rt: HostRuntime) -> Result<(), Fail> {
+fn says_what_is_not_saved(rt: HostRuntime) -> Result<(), Fail> {
     let alloc = rt.alloc();
-    let words = owned(alloc, &EDIT)?;
-    let mut store = stocked(alloc, EMPTY, "type - -");
-    store.is_full = true;
-    let mut out = Sink::new(Vec::new(alloc));
-    let mut err = Sink::new(Vec::new(alloc));
-    assert_eq!(rt; program(alloc, &words, &mut store, &mut out, &mut err), 4);
-    assert!(rt; out.into_inner().is_empty());
-    assert_eq!(rt;
-        err.into_inner().as_slice(),
-        b"cannot write out.wasm\n".as_slice()
-    );
+    let rows: [&[&str]; 2] = [&EDIT, &["strip", "in.wasm", "out.wasm"]];
+    for words in rows {
+        let words = owned(alloc, words)?;
+        let mut store = stocked(alloc, EMPTY, "type - -");
+        store.is_full = true;
+        let mut out = Sink::new(Vec::new(alloc));
+        let mut err = Sink::new(Vec::new(alloc));
+        let found = program(alloc, &words, &mut store, &mut out, &mut err);
+        assert_eq!(rt; found, 4, "{words:?}");
+        assert!(rt; out.into_inner().is_empty(), "{words:?}");
+        assert_eq!(rt;
+            err.into_inner().as_slice(),
+            b"cannot write out.wasm\n".as_slice(),
+            "{words:?}"
+        );
+    }
+    Ok(())
+}
 
-    let mut store = stocked(alloc, EMPTY, "type - -");
-    let mut closed = Closed { failures: 0 };
-    let mut err = Sink::new(Vec::new(alloc));
-    assert_eq!(rt;
-        program(alloc, &words, &mut store, &mut closed, &mut err),
-        4
-    );
-    assert_eq!(rt;
-        err.into_inner().as_slice(),
-        b"cannot write standard output\n".as_slice()
-    );
-    assert_eq!(rt; store.saved.as_deref(), Some(ONE_TYPE));
+#[test]
+fn says_what_is_not_printed(rt: HostRuntime) -> Result<(), Fail> {
+    let alloc = rt.alloc();
+    let rows: [(&[&str], &[u8], Option<&[u8]>); 2] = [
+        (&EDIT, EMPTY, Some(ONE_TYPE)),
+        (&["sections", "in.wasm"], CUSTOMS, None),
+    ];
+    for (words, module, saved) in rows {
+        let words = owned(alloc, words)?;
+        let mut store = stocked(alloc, module, "type - -");
+        let mut closed = Closed { failures: 0 };
+        let mut err = Sink::new(Vec::new(alloc));
+        let found = program(alloc, &words, &mut store, &mut closed, &mut err);
+        assert_eq!(rt; found, 4, "{words:?}");
+        assert_eq!(rt;
+            err.into_inner().as_slice(),
+            b"cannot write standard output\n".as_slice(),
+            "{words:?}"
+        );
+        assert_eq!(rt; store.saved.as_deref(), saved, "{words:?}");
+    }
+    Ok(())
+}
 
-    let words = owned(alloc, &["strip", "in.wasm", "out.wasm"])?;
-    let mut store = stocked(alloc, EMPTY, "");
-    store.is_full = true;
-    let mut out = Sink::new(Vec::new(alloc));
-    let mut err = Sink::new(Vec::new(alloc));
-    assert_eq!(rt; program(alloc, &words, &mut store, &mut out, &mut err), 4);
-    assert!(rt; out.into_inner().is_empty());
-    assert_eq!(rt;
-        err.into_inner().as_slice(),
-        b"cannot write out.wasm\n".as_slice()
-    );
-
-    let words = owned(alloc, &["sections", "in.wasm"])?;
-    let mut store = stocked(alloc, CUSTOMS, "");
-    let mut closed = Closed { failures: 0 };
-    let mut err = Sink::new(Vec::new(alloc));
-    assert_eq!(rt;
-        program(alloc, &words, &mut store, &mut closed, &mut err),
-        4
-    );
-    assert_eq!(rt;
-        err.into_inner().as_slice(),
-        b"cannot write standard output\n".as_slice()
-    );
-
+#[test]
+fn ends_where_it_can_say_nothing(rt: HostRuntime) -> Result<(), Fail> {
+    let alloc = rt.alloc();
     let words = owned(alloc, &["edit", "none", "script", "out.wasm"])?;
     let mut store = stocked(alloc, EMPTY, "");
     let mut out = Sink::new(Vec::new(alloc));
     let mut closed = Closed { failures: 0 };
-    assert_eq!(rt;
-        program(alloc, &words, &mut store, &mut out, &mut closed),
-        4
-    );
+    let found = program(alloc, &words, &mut store, &mut out, &mut closed);
+    assert_eq!(rt; found, 4);
     assert_eq!(rt; closed.failures(), 1);
     Ok(())
 }
@@ -365,53 +363,55 @@ Function start=0x0000000e end=0x0000000e size=0x00000000
   Custom start=0x00000020 end=0x00000020 size=0x00000000
 ";
 
+// A module, the status, and what is printed.
+const LISTS: [(&[u8], u8, &str); 11] = [
+    (EMPTY, 0, ""),
+    (CUSTOMS, 0, LISTED),
+    (ALL_SECTIONS, 0, ALL_LISTED),
+    (
+        b"\0asm\x01\0\0\0\x03\x01\xff",
+        0,
+        "Function start=0x0000000a end=0x0000000b size=0x00000001\n",
+    ),
+    // what stands in a section is not read
+    (
+        BAD_NAME,
+        0,
+        "  Custom start=0x0000000a end=0x0000000c size=0x00000002\n",
+    ),
+    (
+        b"\0asm\x01\0\0\0\x01\x84\x80\x80\x80\0\x01\x60\0\0",
+        0,
+        "    Type start=0x0000000e end=0x00000012 size=0x00000004\n",
+    ),
+    (b"", 2, "malformed R3 UnexpectedEnd at 0x00000000\n"),
+    (
+        b"\0asm\x01\0\0\0\x01\x80\x80\x80\x80\x10",
+        2,
+        "malformed R5 IntTooLarge at 0x00000009\n",
+    ),
+    (
+        b"\0asm\x01\0\0\0\x0b\x01\0\x01\0",
+        2,
+        "    Data start=0x0000000a end=0x0000000b size=0x00000001\nmalformed R7 SectionOrder at 0x0000000b\n",
+    ),
+    (
+        b"\0asm\x01\0\0\0\0\0\x0c\0",
+        2,
+        "  Custom start=0x0000000a end=0x0000000a size=0x00000000\nmalformed R6 UnknownSection at 0x0000000a\n",
+    ),
+    (
+        b"\0asm\x02\0\0\0",
+        2,
+        "malformed R2 BadVersion at 0x00000004\n",
+    ),
+];
+
 #[test]
 fn lists_sections(rt: HostRuntime) -> Result<(), Fail> {
     let alloc = rt.alloc();
     let words = owned(alloc, &["sections", "in.wasm"])?;
-    let rows: [(&[u8], u8, &str); 11] = [
-        (EMPTY, 0, ""),
-        (CUSTOMS, 0, LISTED),
-        (ALL_SECTIONS, 0, ALL_LISTED),
-        (
-            b"\0asm\x01\0\0\0\x03\x01\xff",
-            0,
-            "Function start=0x0000000a end=0x0000000b size=0x00000001\n",
-        ),
-        // what stands in a section is not read
-        (
-            BAD_NAME,
-            0,
-            "  Custom start=0x0000000a end=0x0000000c size=0x00000002\n",
-        ),
-        (
-            b"\0asm\x01\0\0\0\x01\x84\x80\x80\x80\0\x01\x60\0\0",
-            0,
-            "    Type start=0x0000000e end=0x00000012 size=0x00000004\n",
-        ),
-        (b"", 2, "malformed R3 UnexpectedEnd at 0x00000000\n"),
-        (
-            b"\0asm\x01\0\0\0\x01\x80\x80\x80\x80\x10",
-            2,
-            "malformed R5 IntTooLarge at 0x00000009\n",
-        ),
-        (
-            b"\0asm\x01\0\0\0\x0b\x01\0\x01\0",
-            2,
-            "    Data start=0x0000000a end=0x0000000b size=0x00000001\nmalformed R7 SectionOrder at 0x0000000b\n",
-        ),
-        (
-            b"\0asm\x01\0\0\0\0\0\x0c\0",
-            2,
-            "  Custom start=0x0000000a end=0x0000000a size=0x00000000\nmalformed R6 UnknownSection at 0x0000000a\n",
-        ),
-        (
-            b"\0asm\x02\0\0\0",
-            2,
-            "malformed R2 BadVersion at 0x00000004\n",
-        ),
-    ];
-    for (module, status, lines) in rows {
+    for (module, status, lines) in LISTS {
         let mut store = stocked(alloc, module, "");
         let mut out = Sink::new(Vec::new(alloc));
         let mut err = Sink::new(Vec::new(alloc));

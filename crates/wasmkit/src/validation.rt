@@ -1,12 +1,12 @@
 //! Judging the module that bytes spell.
 ghost use Rattle.std.specs.Prelude.{◌≡◌, IfOk, string_bytes};
 ghost use Rattle.wk_module.specs.Reading.{module_at};
-ghost use Rattle.wasmkit.specs.Validation.{printed, status_of, verdict_line, Means};
+ghost use Rattle.wasmkit.specs.Validation.{printed, status_of, Means};
 
-use crate::listing::malformed_line;
-use std::alloc::{AllocError, Global};
+use std::alloc::Global;
 use wk_bytes::{OutOfMemory, ReadKind};
 use wk_check::{Verdict, judge};
+use wk_edit::{malformed_line, verdict_line};
 use wk_module::{Profile, read_in};
 
 /// What `validate` prints, and its status.
@@ -16,13 +16,6 @@ pub struct Validation {
     pub line: String,
     /// 0 where the module is valid, 1 where it is not, 2 where the bytes are no module.
     pub status: u8,
-}
-
-// The line of a verdict.
-fn verdict_line(alloc: Global, verdict: &Verdict) -> Result<String, AllocError>
-    ensures { IfOk result (λ line. string_bytes line ≡ verdict_line verdict.now) }
-{
-    format!(in alloc; "{verdict}\n")
 }
 
 /// Judges the module of a profile that the bytes spell.

@@ -13,6 +13,7 @@ mod word;
 
 pub use fault::{RunFault, ScriptFault, Status};
 pub use job::{edit, edit_in};
+pub use lines::{malformed_line, verdict_line};
 pub use script::read_script;
 pub use word::read_name;
 

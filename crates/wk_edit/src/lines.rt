@@ -19,14 +19,19 @@ fn put_reply(alloc: Global, text: &mut String, number: u64, reply: &Reply) -> Re
     text.push_str(line.as_str())
 }
 
-fn verdict_line(alloc: Global, verdict: &Verdict) -> Result<String, AllocError>
+/// The line of a verdict: `valid`, or `invalid` and the fault, as in `invalid V1 TypeArity at section 1 item 0`.
+///
+/// Want of memory is the only refusal.
+pub fn verdict_line(alloc: Global, verdict: &Verdict) -> Result<String, AllocError>
     ensures { IfOk result (λ line. string_bytes line ≡ verdict_line verdict.now) }
 {
     format!(in alloc; "{verdict}\n")
 }
 
-/// The report of a module that cannot be read: `malformed R5 IntTooLarge at 0x00000009`.
-pub(crate) fn malformed(alloc: Global, fault: &ReadFault) -> Result<String, AllocError>
+/// The line of bytes that are no module: `malformed R5 IntTooLarge at 0x00000009`. It is the report of such a module.
+///
+/// Want of memory is the only refusal.
+pub fn malformed_line(alloc: Global, fault: &ReadFault) -> Result<String, AllocError>
     ensures { IfOk result (λ line. string_bytes line ≡ malformed_text fault.now) }
 {
     format!(in alloc; "malformed {fault}\n")

@@ -7,7 +7,7 @@ ghost use Rattle.wk_edit.specs.Outcome.{is_accepted, is_valid, malformed_outcome
 ghost use Rattle.wk_edit.specs.Prepared.{IsPrepared};
 
 use crate::fault::{RunFault, ScriptFault, Status};
-use crate::lines::{malformed, refused_script, report};
+use crate::lines::{malformed_line, refused_script, report};
 use crate::script::read_script;
 use std::alloc::Global;
 use wk_bytes::{ReadFault, ReadKind};
@@ -37,7 +37,7 @@ fn of_malformed(alloc: Global, fault: &ReadFault) -> Result<Prepared, RunFault>
     }
     Ok(Prepared {
         session: None,
-        text: malformed(alloc, fault)?,
+        text: malformed_line(alloc, fault)?,
         status: Status::Malformed,
     })
 }

@@ -1,7 +1,7 @@
 //! The texts of faults and of reports.
 
 use crate::fault::{RunFault, ScriptFault};
-use crate::lines::{malformed, refused_script, report};
+use crate::lines::{malformed_line, refused_script, report, verdict_line};
 use std::test::Fail;
 use wk_bytes::{OutFault, OutOfMemory, ReadFault, ReadKind};
 use wk_check::{Fault, FaultKind, Place, Verdict};
@@ -154,7 +154,7 @@ fn names_ends(rt: HostRuntime) -> Result<(), Fail> {
 
 #[test]
 fn reports_refused_input(rt: HostRuntime) -> Result<(), Fail> {
-    let line = malformed(rt.alloc(), &UNKNOWN_OPCODE)?;
+    let line = malformed_line(rt.alloc(), &UNKNOWN_OPCODE)?;
     assert_eq!(rt;
         line.as_str(),
         "malformed R11 UnknownOpcode at 0x00000001\n"
@@ -170,6 +170,11 @@ fn reports_refused_input(rt: HostRuntime) -> Result<(), Fail> {
 fn reports_runs(rt: HostRuntime) -> Result<(), Fail> {
     let text = report(rt.alloc(), &[], &Verdict::Valid)?;
     assert_eq!(rt; text.as_str(), "valid\n");
+    let line = verdict_line(rt.alloc(), &Verdict::Invalid(STACK_HEIGHT))?;
+    assert_eq!(rt;
+        line.as_str(),
+        "invalid V15 StackHeight at section 10 item 0 token 1\n"
+    );
     let work = Work {
         typed: 0,
         encoded: 0,
