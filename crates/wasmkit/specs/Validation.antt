@@ -39,7 +39,7 @@ pub record TellsFault (profile : Profile) (bytes line : List ℕ) (status : ℕ)
   pub none : SpellsNone profile bytes
   pub fault : ReadFault
   pub stands : StandsIn bytes fault
-  pub line_is : line ≡ malformed_line fault
+  pub line_is : line ≡ malformed_text fault
   pub status_is : status ≡ 2
 
 abbrev pub Means : Profile → List ℕ → List ℕ → ℕ → Type 0
