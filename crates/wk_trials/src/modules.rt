@@ -1,5 +1,9 @@
 //! Calls of `wk_module` and `wk_check`.
 
+ghost use Rattle.std.specs.Prelude.{◌≡◌, []};
+ghost use Rattle.wk_module.specs.Listed.{listed};
+ghost use Rattle.wk_module.specs.Shape.{lists_of};
+
 use crate::mark::{call_begins, call_ends};
 use crate::outcome::Outcome;
 use crate::sample::{EXPORTS, LAST_CUSTOM, NO_MEMORY, WHOLE};
@@ -53,7 +57,9 @@ pub fn encodes(alloc: Global, bytes: &[u8]) -> Result<Outcome, AllocError> {
 }
 
 /// The lists of a module whose functions have these types.
-pub fn lists<'a>(parts: &'a Parts, funcs: &'a [u32]) -> Lists<'a> {
+pub fn lists<'a>(parts: &'a Parts, funcs: &'a [u32]) -> Lists<'a>
+    ensures { listed result ≡ record (lists_of parts.now) { funcs = funcs.now; codes = [] } }
+{
     Lists {
         profile: parts.profile,
         types: parts.types.as_slice(),
