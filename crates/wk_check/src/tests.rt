@@ -1,7 +1,7 @@
 //! Small modules, and their verdicts.
 
 use super::*;
-use std::alloc::Global;
+use std::alloc::{AllocError, Global};
 use std::process::Abort;
 use std::test::Fail;
 use wk_bytes::put_u32;
@@ -15,13 +15,24 @@ pub(crate) const NOTHING: &[u8] = b"\x01\x04\x01\x60\0\0\x03\x02\x01\0";
 /// A code section of a test has fewer bytes.
 const MANY: usize = 100_000;
 
-/// The verdict of a module of a profile, which is given by what comes behind its header.
-pub(crate) fn judged(alloc: Global, sections: &[u8], profile: Profile) -> Result<Verdict, Fail> {
+// The header, and then these sections.
+fn behind_header(alloc: Global, sections: &[u8]) -> Result<Vec<u8>, AllocError> {
     let mut bytes = Vec::new(alloc);
     bytes.extend_from_slice(HEADER)?;
     bytes.extend_from_slice(sections)?;
-    let module = read_in(alloc, bytes.as_slice(), profile)?;
+    Ok(bytes)
+}
+
+// The verdict of a module of a profile.
+fn judged_whole(alloc: Global, bytes: &[u8], profile: Profile) -> Result<Verdict, Fail> {
+    let module = read_in(alloc, bytes, profile)?;
     Ok(judge(alloc, &module)?)
+}
+
+/// The verdict of a module of a profile, which is given by what comes behind its header.
+pub(crate) fn judged(alloc: Global, sections: &[u8], profile: Profile) -> Result<Verdict, Fail> {
+    let bytes = behind_header(alloc, sections)?;
+    judged_whole(alloc, bytes.as_slice(), profile)
 }
 
 // The fault of a module that is not valid.

@@ -1,5 +1,7 @@
 //! Bodies judged one by one, where references find other answers than those of a module.
 
+ghost use Rattle.std.specs.Prelude.{◌+◌, ◌<◌, ◌≤◌};
+
 use crate::FaultKind::{
     Alignment, GlobalImmutable, StackUnderflow, UnknownFunc, UnknownGlobal, UnknownMemory,
     UnknownTable, UnknownType,
@@ -12,6 +14,17 @@ use wk_module::{FuncType, GlobalType, Limits, Profile, Ref, ValType, read_body_i
 
 // The types [] -> [], [i32] -> [i32] and [] -> [i32, i32].
 const TYPES: &[u8] = b"\0asm\x01\0\0\0\x01\x0e\x03\x60\0\0\x60\x01\x7f\x01\x7f\x60\0\x02\x7f\x7f";
+
+const GLOBALS: [GlobalType; 2] = [
+    GlobalType {
+        val: ValType::I32,
+        mutable: false,
+    },
+    GlobalType {
+        val: ValType::I64,
+        mutable: true,
+    },
+];
 
 const PAGE: Limits = Limits { min: 1, max: None };
 
@@ -57,8 +70,47 @@ impl<'a> Env for Lent<'a> {
     }
 }
 
-// Judges bodies, each under the type of an index, with one meter: valid, or a fault and its token. The functions are one of the
-// second type and one of a type that is not there, the globals a constant i32 and an i64.
+// The verdict of a body under the type of an index.
+fn judged(
+    alloc: Global,
+    env: &Lent<'_>,
+    own_type: u32,
+    code: &[u8],
+    meter: &mut Meter,
+) -> Result<BodyVerdict, Fail>
+    requires { meter.old < 100 }
+    ensures { meter.new ≤ meter.old + 1 }
+{
+    let body = read_body_in(alloc, code, Profile::Extended)?;
+    Ok(judge_body(env, own_type, &body, meter)?)
+}
+
+// Judges bodies, each under the type of an index, with one meter: valid, or a fault and its token.
+fn looks(
+    rt: &impl Abort,
+    alloc: Global,
+    env: &Lent<'_>,
+    rows: &[(u32, &[u8], Option<(FaultKind, u32)>)],
+) -> Result<(), Fail> {
+    let mut meter = Meter::new(alloc);
+    let mut count = 0;
+    for &(own_type, code, fault) in rows {
+        assert_eq!(rt; meter.typed(), count);
+        assert!(rt; count < 100);
+        count += 1;
+        let verdict = judged(alloc, env, own_type, code, &mut meter)?;
+        let wanted = match fault {
+            None => BodyVerdict::Valid,
+            Some((kind, token)) => BodyVerdict::Invalid { kind, token },
+        };
+        assert_eq!(rt; verdict, wanted, "{code:?}");
+    }
+    assert_eq!(rt; meter.typed(), count);
+    Ok(())
+}
+
+// The same where the functions are one of the second type and one of a type that is not there, and the globals a constant i32
+// and an i64.
 fn judges(
     rt: &impl Abort,
     alloc: Global,
@@ -67,35 +119,14 @@ fn judges(
     rows: &[(u32, &[u8], Option<(FaultKind, u32)>)],
 ) -> Result<(), Fail> {
     let module = read_in(alloc, TYPES, Profile::Extended)?;
-    let globals = [
-        GlobalType {
-            val: ValType::I32,
-            mutable: false,
-        },
-        GlobalType {
-            val: ValType::I64,
-            mutable: true,
-        },
-    ];
     let env = Lent {
         types: module.parts().types.as_slice(),
         funcs: &[1, 9],
-        globals: &globals,
+        globals: &GLOBALS,
         tables,
         memories,
     };
-    let mut meter = Meter::new(alloc);
-    for (count, (own_type, code, fault)) in rows.iter().enumerate() {
-        assert_eq!(rt; meter.typed(), count as u64);
-        let body = read_body_in(alloc, code, Profile::Extended)?;
-        let verdict = judge_body(&env, *own_type, &body, &mut meter)?;
-        let wanted = match *fault {
-            None => BodyVerdict::Valid,
-            Some((kind, token)) => BodyVerdict::Invalid { kind, token },
-        };
-        assert_eq!(rt; verdict, wanted, "{code:?}");
-    }
-    Ok(())
+    looks(rt, alloc, &env, rows)
 }
 
 #[test]

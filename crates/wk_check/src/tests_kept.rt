@@ -5,7 +5,7 @@ use std::alloc::Global;
 use std::process::Abort;
 use std::test::Fail;
 use wk_bytes::Items;
-use wk_module::{FuncType, GlobalType, Moving, Profile, Ref, ValType, read_body_in, shift};
+use wk_module::{FuncType, GlobalType, Moving, Profile, Ref, ValType, read_body_in};
 
 // References find one type of functions, at any index, and one type of globals. There are a table and a memory.
 #[derive(Drop)]
@@ -31,32 +31,40 @@ impl Env for Alike {
     }
 }
 
-// Judges a body, and keeps its verdict under another type and behind a new import.
+// The verdict of a body, and what is kept of it under another type.
+fn kept(alloc: Global, env: &Alike, code: &[u8]) -> Result<(BodyVerdict, BodyVerdict), Fail> {
+    let body = read_body_in(alloc, code, Profile::Core)?;
+    let verdict = judge_body(env, 0, &body, &mut Meter::new(alloc))?;
+    Ok((verdict, carry(env, env, (0, 7), &body, verdict)))
+}
+
+// What is kept of the verdict of a body behind a new import of a kind.
+fn kept_behind(alloc: Global, env: &Alike, kind: Moving, code: &[u8]) -> Result<BodyVerdict, Fail> {
+    let body = read_body_in(alloc, code, Profile::Core)?;
+    let verdict = judge_body(env, 0, &body, &mut Meter::new(alloc))?;
+    Ok(carry_moved(env, env, (0, 7), kind, 2, &body, verdict))
+}
+
+// Looks at what is kept of the verdicts of bodies.
 fn keeps(
     rt: &impl Abort,
-    env: &Alike,
     alloc: Global,
-    code: &[u8],
-    wanted: BodyVerdict,
+    env: &Alike,
+    rows: &[(&[u8], BodyVerdict)],
 ) -> Result<(), Fail> {
-    let mut meter = Meter::new(alloc);
-    let body = read_body_in(alloc, code, Profile::Core)?;
-    let verdict = judge_body(env, 0, &body, &mut meter)?;
-    assert_eq!(rt; verdict, wanted, "{code:?}");
-    assert_eq!(rt; carry(env, env, (0, 7), &body, verdict), wanted);
-    assert_eq!(rt;
-        carry_moved(env, env, (0, 7), Moving::Func, 0, &body, verdict),
-        wanted
-    );
-    assert_eq!(rt;
-        carry_moved(env, env, (0, 7), Moving::Global, 3, &body, verdict),
-        wanted
-    );
-    assert_eq!(rt; meter.typed(), 1);
-    let moved = shift(alloc, &body, Moving::Func, 0)
-        .ok()
-        .ok_or("it is moved")?;
-    assert_eq!(rt; judge_body(env, 7, &moved, &mut meter)?, wanted);
+    for &(code, wanted) in rows {
+        assert_eq!(rt; kept(alloc, env, code)?, (wanted, wanted), "{code:?}");
+        assert_eq!(rt;
+            kept_behind(alloc, env, Moving::Func, code)?,
+            wanted,
+            "{code:?}"
+        );
+        assert_eq!(rt;
+            kept_behind(alloc, env, Moving::Global, code)?,
+            wanted,
+            "{code:?}"
+        );
+    }
     Ok(())
 }
 
@@ -72,21 +80,16 @@ fn keeps_verdicts(rt: HostRuntime) -> Result<(), Fail> {
             mutable: false,
         },
     };
-    keeps(&rt, &env, rt.alloc(), b"\0\x0b", BodyVerdict::Valid)?;
-    keeps(
-        &rt,
-        &env,
-        rt.alloc(),
-        b"\0\x10\x05\x23\x02\x1a\x0b",
-        BodyVerdict::Valid,
-    )?;
-    let kind = FaultKind::TypeMismatch;
-    let wanted = BodyVerdict::Invalid { kind, token: 2 };
-    keeps(
-        &rt,
-        &env,
-        rt.alloc(),
-        b"\0\x10\x05\x23\x02\x50\x1a\x0b",
-        wanted,
-    )
+    let rows: [(&[u8], BodyVerdict); 3] = [
+        (b"\0\x0b", BodyVerdict::Valid),
+        (b"\0\x10\x05\x23\x02\x1a\x0b", BodyVerdict::Valid),
+        (
+            b"\0\x10\x05\x23\x02\x50\x1a\x0b",
+            BodyVerdict::Invalid {
+                kind: FaultKind::TypeMismatch,
+                token: 2,
+            },
+        ),
+    ];
+    keeps(&rt, rt.alloc(), &env, &rows)
 }

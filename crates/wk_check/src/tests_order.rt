@@ -5,7 +5,7 @@ use crate::{Fault, FaultKind, Place, Verdict, judge_around};
 use std::alloc::Global;
 use std::process::Abort;
 use std::test::Fail;
-use wk_module::{Lists, Profile, read};
+use wk_module::{Lists, Parts, Profile, read};
 
 // A section of each id that is right, where the others are.
 const RIGHT: [&[u8]; 11] = [
@@ -130,15 +130,13 @@ fn tells_the_first_item_and_step(rt: HostRuntime) -> Result<(), Fail> {
     refuses(&rt, rt.alloc(), &rows)
 }
 
-// The verdict of a module with one function, whose code has this first fault, by the lists of this module.
-fn around(
+// The verdict by lists of a module with one function, whose code has this first fault.
+fn by_lists(
     rt: &impl Abort,
     alloc: Global,
-    bytes: &[u8],
+    parts: &Parts,
     code: Option<Fault>,
 ) -> Result<Verdict, Fail> {
-    let module = read(alloc, bytes)?;
-    let parts = module.parts();
     let lists = Lists {
         profile: parts.profile,
         types: parts.types.as_slice(),
@@ -156,6 +154,17 @@ fn around(
     assert!(rt; lists.memories.len() < 10);
     assert!(rt; lists.datas.len() < 10);
     Ok(judge_around(alloc, &lists, code)?)
+}
+
+// The verdict of a module with one function, whose code has this first fault.
+fn around(
+    rt: &impl Abort,
+    alloc: Global,
+    bytes: &[u8],
+    code: Option<Fault>,
+) -> Result<Verdict, Fail> {
+    let module = read(alloc, bytes)?;
+    by_lists(rt, alloc, module.parts(), code)
 }
 
 // Looks at verdicts without a fault of the code, and with this one.
