@@ -11,7 +11,7 @@ use std::alloc::Global;
 use std::process::Abort;
 use std::test::Fail;
 use wk_module::{
-    FuncType, GlobalType, Limits, Lists, Profile, Ref, ValType, read_body_in, read_in,
+    FuncType, GlobalType, Limits, Lists, Parts, Profile, Ref, ValType, read_body_in, read_in,
 };
 
 // The types [] -> [], [i32] -> [i32] and [] -> [i32, i32].
@@ -185,21 +185,14 @@ fn judges_one_after_the_other(rt: HostRuntime) -> Result<(), Fail> {
     judges(&rt, rt.alloc(), &[], &[], &rows)
 }
 
-// What the code of a module sees, whose own functions are one of the first type and one of a type that is not there.
-#[test]
-fn judges_by_lists(rt: HostRuntime) -> Result<(), Fail> {
-    let rows: [(u32, &[u8], Option<(FaultKind, u32)>); 8] = [
-        (1, b"\0\x20\0\x10\0\x10\x02\x0b", None),
-        (2, b"\0\x23\0\x10\x01\x0b", None),
-        (0, b"\0\x41\0\x11\0\0\x3f\0\x1a\x0b", None),
-        (0, b"\0\x10\x03\x0b", Some((UnknownType, 0))),
-        (0, b"\0\x10\x04\x0b", Some((UnknownFunc, 0))),
-        (0, b"\0\x23\0\x24\0\x0b", Some((GlobalImmutable, 1))),
-        (0, b"\0\x23\x02\x1a\x0b", Some((UnknownGlobal, 0))),
-        (3, b"\0\x0b", Some((UnknownType, 0))),
-    ];
-    let module = read_in(rt.alloc(), IMPORTS, Profile::Core)?;
-    let parts = module.parts();
+// Judges bodies by what the code of a module sees, which has these types and imports. Its own functions are one of the first type
+// and one of a type that is not there.
+fn judges_by_parts(
+    rt: &impl Abort,
+    alloc: Global,
+    parts: &Parts,
+    rows: &[(u32, &[u8], Option<(FaultKind, u32)>)],
+) -> Result<(), Fail> {
     let lists = Lists {
         profile: parts.profile,
         types: parts.types.as_slice(),
@@ -213,6 +206,22 @@ fn judges_by_lists(rt: HostRuntime) -> Result<(), Fail> {
         elems: &[],
         datas: &[],
     };
-    let whole = Whole::of(rt.alloc(), lists)?;
-    looks(&rt, rt.alloc(), &whole, &rows)
+    let whole = Whole::of(alloc, lists)?;
+    looks(rt, alloc, &whole, rows)
+}
+
+#[test]
+fn judges_by_lists(rt: HostRuntime) -> Result<(), Fail> {
+    let rows: [(u32, &[u8], Option<(FaultKind, u32)>); 8] = [
+        (1, b"\0\x20\0\x10\0\x10\x02\x0b", None),
+        (2, b"\0\x23\0\x10\x01\x0b", None),
+        (0, b"\0\x41\0\x11\0\0\x3f\0\x1a\x0b", None),
+        (0, b"\0\x10\x03\x0b", Some((UnknownType, 0))),
+        (0, b"\0\x10\x04\x0b", Some((UnknownFunc, 0))),
+        (0, b"\0\x23\0\x24\0\x0b", Some((GlobalImmutable, 1))),
+        (0, b"\0\x23\x02\x1a\x0b", Some((UnknownGlobal, 0))),
+        (3, b"\0\x0b", Some((UnknownType, 0))),
+    ];
+    let module = read_in(rt.alloc(), IMPORTS, Profile::Core)?;
+    judges_by_parts(&rt, rt.alloc(), module.parts(), &rows)
 }
