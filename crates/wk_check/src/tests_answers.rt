@@ -1,19 +1,26 @@
 //! Bodies judged one by one, where references find other answers than those of a module.
 
-ghost use Rattle.std.specs.Prelude.{◌+◌, ◌<◌, ◌≤◌};
+ghost use Rattle.std.specs.Prelude.{◌<◌};
 
 use crate::FaultKind::{
     Alignment, GlobalImmutable, StackUnderflow, UnknownFunc, UnknownGlobal, UnknownMemory,
     UnknownTable, UnknownType,
 };
-use crate::{Answer, BodyVerdict, Env, FaultKind, Meter, judge_body};
+use crate::{Answer, BodyVerdict, Env, FaultKind, Meter, Whole, judge_body};
 use std::alloc::Global;
 use std::process::Abort;
 use std::test::Fail;
-use wk_module::{FuncType, GlobalType, Limits, Profile, Ref, ValType, read_body_in, read_in};
+use wk_module::{
+    FuncType, GlobalType, Limits, Lists, Parts, Profile, Ref, ValType, read_body_in, read_in,
+};
 
 // The types [] -> [], [i32] -> [i32] and [] -> [i32, i32].
 const TYPES: &[u8] = b"\0asm\x01\0\0\0\x01\x0e\x03\x60\0\0\x60\x01\x7f\x01\x7f\x60\0\x02\x7f\x7f";
+
+// The types [] -> [], [i32] -> [] and [i64] -> [f64], and imported a table, a function of the second type, a memory, a constant
+// i64, a function of the third type and an f32.
+const IMPORTS: &[u8] =
+    b"\0\x61\x73\x6d\x01\0\0\0\x01\x0d\x03\x60\0\0\x60\x01\x7f\0\x60\x01\x7e\x01\x7c\x02\x1e\x06\0\0\x01\x70\0\0\0\0\0\x01\0\0\x02\0\0\0\0\x03\x7e\0\0\0\0\x02\0\0\x03\x7d\x01";
 
 const GLOBALS: [GlobalType; 2] = [
     GlobalType {
@@ -71,25 +78,24 @@ impl<'a> Env for Lent<'a> {
 }
 
 // The verdict of a body under the type of an index.
-fn judged(
+fn judged<E: Env>(
     alloc: Global,
-    env: &Lent<'_>,
+    env: &E,
     own_type: u32,
     code: &[u8],
     meter: &mut Meter,
 ) -> Result<BodyVerdict, Fail>
     requires { meter.old < 100 }
-    ensures { meter.new ≤ meter.old + 1 }
 {
     let body = read_body_in(alloc, code, Profile::Extended)?;
     Ok(judge_body(env, own_type, &body, meter)?)
 }
 
 // Judges bodies, each under the type of an index, with one meter: valid, or a fault and its token.
-fn looks(
+fn looks<E: Env>(
     rt: &impl Abort,
     alloc: Global,
-    env: &Lent<'_>,
+    env: &E,
     rows: &[(u32, &[u8], Option<(FaultKind, u32)>)],
 ) -> Result<(), Fail> {
     let mut meter = Meter::new(alloc);
@@ -177,4 +183,45 @@ fn judges_one_after_the_other(rt: HostRuntime) -> Result<(), Fail> {
         (0, b"\0\x1a\x0b", Some((StackUnderflow, 0))),
     ];
     judges(&rt, rt.alloc(), &[], &[], &rows)
+}
+
+// Judges bodies by what the code of a module sees, which has these types and imports. Its own functions are one of the first type
+// and one of a type that is not there.
+fn judges_by_parts(
+    rt: &impl Abort,
+    alloc: Global,
+    parts: &Parts,
+    rows: &[(u32, &[u8], Option<(FaultKind, u32)>)],
+) -> Result<(), Fail> {
+    let lists = Lists {
+        profile: parts.profile,
+        types: parts.types.as_slice(),
+        imports: parts.imports.as_slice(),
+        funcs: &[0, 9],
+        tables: &[],
+        memories: &[],
+        globals: &[],
+        exports: &[],
+        start: None,
+        elems: &[],
+        datas: &[],
+    };
+    let whole = Whole::of(alloc, lists)?;
+    looks(rt, alloc, &whole, rows)
+}
+
+#[test]
+fn judges_by_lists(rt: HostRuntime) -> Result<(), Fail> {
+    let rows: [(u32, &[u8], Option<(FaultKind, u32)>); 8] = [
+        (1, b"\0\x20\0\x10\0\x10\x02\x0b", None),
+        (2, b"\0\x23\0\x10\x01\x0b", None),
+        (0, b"\0\x41\0\x11\0\0\x3f\0\x1a\x0b", None),
+        (0, b"\0\x10\x03\x0b", Some((UnknownType, 0))),
+        (0, b"\0\x10\x04\x0b", Some((UnknownFunc, 0))),
+        (0, b"\0\x23\0\x24\0\x0b", Some((GlobalImmutable, 1))),
+        (0, b"\0\x23\x02\x1a\x0b", Some((UnknownGlobal, 0))),
+        (3, b"\0\x0b", Some((UnknownType, 0))),
+    ];
+    let module = read_in(rt.alloc(), IMPORTS, Profile::Core)?;
+    judges_by_parts(&rt, rt.alloc(), module.parts(), &rows)
 }

@@ -183,7 +183,7 @@ fn refuses_branches(rt: HostRuntime) -> Result<(), Fail> {
 
 #[test]
 fn refuses_branch_tables(rt: HostRuntime) -> Result<(), Fail> {
-    let rows: [(&[u8], FaultKind, u32); 8] = [
+    let rows: [(&[u8], FaultKind, u32); 3] = [
         // labels of two types
         (
             b"\0\x02\x7f\x41\0\x41\0\x0e\x01\0\x01\x0b\x1a\x0b",
@@ -201,6 +201,13 @@ fn refuses_branch_tables(rt: HostRuntime) -> Result<(), Fail> {
             LabelTypes,
             3,
         ),
+    ];
+    refuses_codes(&rt, rt.alloc(), Core, NOTHING, &rows)
+}
+
+#[test]
+fn refuses_labels_of_branch_tables_first(rt: HostRuntime) -> Result<(), Fail> {
+    let rows: [(&[u8], FaultKind, u32); 5] = [
         // labels that are not there come before those of two types
         (
             b"\0\x02\x7f\x41\0\x0e\x02\0\x01\x07\x0b\x1a\x0b",

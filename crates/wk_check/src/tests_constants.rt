@@ -187,7 +187,7 @@ fn takes_data(rt: HostRuntime) -> Result<(), Fail> {
 
 #[test]
 fn refuses_data(rt: HostRuntime) -> Result<(), Fail> {
-    let rows: [(&[u8], &str); 8] = [
+    let rows: [(&[u8], &str); 7] = [
         // no memory, and one more
         (
             b"\x0b\x06\x01\0\x41\0\x0b\0",
@@ -208,10 +208,6 @@ fn refuses_data(rt: HostRuntime) -> Result<(), Fail> {
         ),
         (
             b"\x05\x03\x01\0\0\x06\x06\x01\x7f\x01\x41\0\x0b\x0b\x06\x01\0\x23\0\x0b\0",
-            "V19 ConstantExpected at section 11 item 0 token 0",
-        ),
-        (
-            b"\x05\x03\x01\0\0\x0b\x06\x01\0\x3f\0\x0b\0",
             "V19 ConstantExpected at section 11 item 0 token 0",
         ),
         (
