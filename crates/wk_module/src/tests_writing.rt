@@ -2,6 +2,7 @@
 
 use super::*;
 use std::alloc::{AllocError, Global};
+use std::process::Abort;
 use std::test::Fail;
 use wk_bytes::Items;
 
@@ -154,15 +155,20 @@ fn takes_customs_away(rt: HostRuntime) -> Result<(), Fail> {
     Ok(())
 }
 
+// Copies a type from i32 to i64.
+fn copies(rt: &impl Abort, alloc: Global, ty: &FuncType) -> Result<(), Fail> {
+    let copy = ty.copy(alloc)?;
+    assert_eq!(rt; copy.params.as_slice(), [ValType::I32].as_slice());
+    assert_eq!(rt; copy.results.as_slice(), [ValType::I64].as_slice());
+    Ok(())
+}
+
 #[test]
 fn copies_a_type(rt: HostRuntime) -> Result<(), Fail> {
     let input = after_header(rt.alloc(), &[1, 6, 1, 96, 1, 127, 1, 126])?;
     let module = read(rt.alloc(), input.as_slice())?;
     let ty = module.parts().types.as_slice().first().ok_or("a type")?;
-    let copy = ty.copy(rt.alloc())?;
-    assert_eq!(rt; copy.params.as_slice(), [ValType::I32].as_slice());
-    assert_eq!(rt; copy.results.as_slice(), [ValType::I64].as_slice());
-    Ok(())
+    copies(&rt, rt.alloc(), ty)
 }
 
 #[test]
