@@ -48,18 +48,15 @@ fn looks(
 }
 
 // Reads a module, and looks for the custom section at a place.
-fn reads(rt: &impl Abort, alloc: Global, bytes: &[u8], place: u8) -> Result<Module, Fail> {
-    let module = read(alloc, bytes)?;
-    looks(rt, alloc, &module, place, bytes)?;
-    Ok(module)
+fn reads(rt: &impl Abort, alloc: Global, bytes: &[u8], place: u8) -> Result<(), Fail> {
+    looks(rt, alloc, &read(alloc, bytes)?, place, bytes)
 }
 
 #[test]
 fn lowers_the_place_of_a_custom(rt: HostRuntime) -> Result<(), Fail> {
     assert_eq!(rt; PRIVATE.len(), 29);
-    let exported = reads(&rt, rt.alloc(), EXPORTED, 7)?;
-    let private = without_exports(rt.alloc(), exported);
-    looks(&rt, rt.alloc(), &private, 3, PRIVATE)?;
+    reads(&rt, rt.alloc(), EXPORTED, 7)?;
     reads(&rt, rt.alloc(), PRIVATE, 3)?;
-    Ok(())
+    let private = without_exports(rt.alloc(), read(rt.alloc(), EXPORTED)?);
+    looks(&rt, rt.alloc(), &private, 3, PRIVATE)
 }

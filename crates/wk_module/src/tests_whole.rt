@@ -90,13 +90,8 @@ fn writes_section(
     Ok(())
 }
 
-// Writes each section of the whole module alone, and of a module that has none of them.
-fn writes_both(
-    rt: &impl Abort,
-    alloc: Global,
-    whole: &Lists<'_>,
-    none: &Lists<'_>,
-) -> Result<(), Fail> {
+// Writes each section of the whole module alone, but that of the codes.
+fn writes_sections(rt: &impl Abort, alloc: Global, lists: &Lists<'_>) -> Result<(), Fail> {
     let rows: [(u8, &[u8]); 10] = [
         (1, b"\x02\x60\x00\x00\x60\x01\x7f\x01\x7e"),
         (
@@ -113,8 +108,7 @@ fn writes_both(
         (11, b"\x01\x00\x41\x00\x0b\x02\xaa\xbb"),
     ];
     for (id, contents) in rows {
-        writes_section(rt, alloc, whole, id, contents)?;
-        writes_section(rt, alloc, none, id, b"")?;
+        writes_section(rt, alloc, lists, id, contents)?;
     }
     Ok(())
 }
@@ -122,13 +116,21 @@ fn writes_both(
 #[test]
 fn writes_sections_alone(rt: HostRuntime) -> Result<(), Fail> {
     let whole = read(rt.alloc(), WHOLE)?;
+    writes_sections(&rt, rt.alloc(), &lists(whole.parts(), &[0]))
+}
+
+// Writes no bytes of each section but that of the codes.
+fn leaves_out(rt: &impl Abort, alloc: Global, lists: &Lists<'_>) -> Result<(), Fail> {
+    for id in [1, 2, 3, 4, 5, 6, 7, 8, 9, 11] {
+        writes_section(rt, alloc, lists, id, b"")?;
+    }
+    Ok(())
+}
+
+#[test]
+fn leaves_sections_out(rt: HostRuntime) -> Result<(), Fail> {
     let none = Module::empty(rt.alloc(), Profile::Core);
-    writes_both(
-        &rt,
-        rt.alloc(),
-        &lists(whole.parts(), &[0]),
-        &lists(none.parts(), &[]),
-    )
+    leaves_out(&rt, rt.alloc(), &lists(none.parts(), &[]))
 }
 
 // Writes each custom section of the whole module alone.

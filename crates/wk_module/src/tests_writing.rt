@@ -2,6 +2,7 @@
 
 use super::*;
 use std::alloc::{AllocError, Global};
+use std::process::Abort;
 use std::test::Fail;
 use wk_bytes::Items;
 
@@ -15,17 +16,21 @@ fn after_header(alloc: Global, bytes: &[u8]) -> Result<Vec<u8>, AllocError> {
     Ok(all)
 }
 
-// What is written, behind the header, of the module that bytes behind a header spell.
-fn written(alloc: Global, bytes: &[u8], profile: Profile) -> Result<Vec<u8>, Fail> {
-    let input = after_header(alloc, bytes)?;
-    let module = read_in(alloc, input.as_slice(), profile)?;
-    let output = encode(alloc, &module).ok().ok_or("bytes")?;
-    let len = encoded_len(&module).ok_or("a length")?;
+// What is written of a module behind the header.
+fn written_of(alloc: Global, module: &Module) -> Result<Vec<u8>, Fail> {
+    let output = encode(alloc, module).ok().ok_or("bytes")?;
+    let len = encoded_len(module).ok_or("a length")?;
     if len as usize != output.len() {
         return Err(Fail::from("the length"));
     }
     let rest = output.as_slice().get(8..).ok_or("a header")?;
     Ok(Vec::from_slice(alloc, rest)?)
+}
+
+// What is written, behind the header, of the module that bytes behind a header spell.
+fn written(alloc: Global, bytes: &[u8], profile: Profile) -> Result<Vec<u8>, Fail> {
+    let input = after_header(alloc, bytes)?;
+    written_of(alloc, &read_in(alloc, input.as_slice(), profile)?)
 }
 
 #[test]
@@ -112,13 +117,8 @@ pub(crate) fn lists<'a>(parts: &'a Parts, funcs: &'a [u32]) -> Lists<'a> {
     }
 }
 
-#[test]
-fn measures_sections(rt: HostRuntime) -> Result<(), Fail> {
-    let input = after_header(
-        rt.alloc(),
-        &[3, 2, 1, 0, 8, 1, 0, 10, 4, 1, 2, 0, 11, 0, 3, 1, 97, 7],
-    )?;
-    let module = read(rt.alloc(), input.as_slice())?;
+// Measures the sections of a module with a function, a start function and a custom section.
+fn measures(rt: &impl Abort, alloc: Global, module: &Module) -> Result<(), Fail> {
     for (id, len) in [
         (0, None),
         (1, Some(0)),
@@ -128,13 +128,22 @@ fn measures_sections(rt: HostRuntime) -> Result<(), Fail> {
         (11, Some(0)),
         (12, None),
     ] {
-        assert_eq!(rt; section_len(&module, id), len, "section {id}");
+        assert_eq!(rt; section_len(module, id), len, "section {id}");
     }
     let custom = module.parts().customs.as_slice().first().ok_or("a custom")?;
     assert_eq!(rt; custom_len(custom), Some(3));
-    let bytes = encode_custom(rt.alloc(), custom).ok().ok_or("bytes")?;
+    let bytes = encode_custom(alloc, custom).ok().ok_or("bytes")?;
     assert_eq!(rt; bytes.as_slice(), b"\x01\x61\x07".as_slice());
     Ok(())
+}
+
+#[test]
+fn measures_sections(rt: HostRuntime) -> Result<(), Fail> {
+    let input = after_header(
+        rt.alloc(),
+        &[3, 2, 1, 0, 8, 1, 0, 10, 4, 1, 2, 0, 11, 0, 3, 1, 97, 7],
+    )?;
+    measures(&rt, rt.alloc(), &read(rt.alloc(), input.as_slice())?)
 }
 
 #[test]
@@ -154,15 +163,20 @@ fn takes_customs_away(rt: HostRuntime) -> Result<(), Fail> {
     Ok(())
 }
 
+// Copies a type from i32 to i64.
+fn copies(rt: &impl Abort, alloc: Global, ty: &FuncType) -> Result<(), Fail> {
+    let copy = ty.copy(alloc)?;
+    assert_eq!(rt; copy.params.as_slice(), [ValType::I32].as_slice());
+    assert_eq!(rt; copy.results.as_slice(), [ValType::I64].as_slice());
+    Ok(())
+}
+
 #[test]
 fn copies_a_type(rt: HostRuntime) -> Result<(), Fail> {
     let input = after_header(rt.alloc(), &[1, 6, 1, 96, 1, 127, 1, 126])?;
     let module = read(rt.alloc(), input.as_slice())?;
     let ty = module.parts().types.as_slice().first().ok_or("a type")?;
-    let copy = ty.copy(rt.alloc())?;
-    assert_eq!(rt; copy.params.as_slice(), [ValType::I32].as_slice());
-    assert_eq!(rt; copy.results.as_slice(), [ValType::I64].as_slice());
-    Ok(())
+    copies(&rt, rt.alloc(), ty)
 }
 
 #[test]
