@@ -1,19 +1,18 @@
 -- How the machine's moves cut the operand stack.
-use Rattle.std.proofs.Common.{◌≡◌, ℕ, zero, suc, ◌+◌, ◌-◌, ◌<◌, ◌≤◌, Bool, true, false, List, [], ◌∷◌, ◌++◌, length, take, drop, reverse, get_or, Result, Ok, Err, Option, Some, None, IsTrue, nat_eq, refl, sym, ap, ◌∙◌, subst, arith, length-append}
+use Rattle.std.proofs.Common.{◌≡◌, ℕ, zero, suc, ◌-◌, ◌<◌, ◌≤◌, true, false, List, [], ◌∷◌, ◌++◌, length, take, drop, reverse, get_or, Ok, Err, Option, Some, None, IsTrue, nat_eq, refl, sym, ap, ◌∙◌, subst, arith, length-append}
 use Rattle.std.specs.Prelude.{slice_get}
-use Rattle.std.proofs.lemmas.List.{reverse-append, length-reverse, take-append-drop, drop_at, nil_from_length, length-take, length-drop, get_or-reverse}
+use Rattle.std.proofs.lemmas.List.{reverse-append, length-reverse, take-append-drop, drop_at, length-take, length-drop, get_or-reverse}
 use Rattle.std.proofs.lemmas.Option.{slice_get_past, slice_get-get_or}
-use Rattle.wk_bytes.specs.Leb.{◌>>=◌}
 use Rattle.wk_check.specs.Slots.{Slot, AnyType}
 use Rattle.wk_check.specs.declared.fault.FaultKind.TheVariants.{StackUnderflow}
 use Rattle.wk_check.specs.declared.machine.Opener.{Opener}
 use Rattle.wk_body.specs.declared.types.BlockType.{BlockType}
 use Rattle.wk_check.specs.declared.machine.Frame.{Frame}
-use Rattle.wk_check.specs.Own.{Own, pushed_one, stopped, is_empty, popped_any, top_of}
+use Rattle.wk_check.specs.Own.{stopped, is_empty, popped_any, top_of}
 use Rattle.std.proofs.lemmas.Bool.Decides.{nat_tests}
-use Rattle.wk_check.specs.Levels.{Level, Blocks, blocks, with_own, with_top}
+use Rattle.wk_check.specs.Levels.{Blocks, blocks, with_top}
 use Rattle.wk_check.specs.Cuts.{level_of, levels_of, blocks_of, Cuts}
-use Rattle.wk_check.specs.Moves.{pushed_on, entered_by, left_by, stopped_on, restarted_on, Pops, popped_on, popped_by, own_is_empty, head_in, head_at}
+use Rattle.wk_check.specs.Moves.{pushed_on, left_by, stopped_on, Pops, popped_on, popped_by, own_is_empty, head_in, head_at}
 
 pub reverse_push : {A : Type 0} (xs : List A) (x : A) → reverse (xs ++ x ∷ []) ≡ x ∷ reverse xs
 reverse_push xs x = reverse-append xs (x ∷ [])

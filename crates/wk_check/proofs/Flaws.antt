@@ -1,8 +1,7 @@
 -- The first flaw of a section, of sections that are put together, and of a module.
-use Rattle.std.proofs.Common.{◌≡◌, ℕ, suc, ◌+◌, ◌<◌, ◌^◌, List, [], ◌∷◌, ◌++◌, length, Bool, true, false, nat_lt, get_or, take, drop, Option, Some, None, refl, ap, sym, ◌∙◌, add-zero, add-one, arith}
+use Rattle.std.proofs.Common.{◌≡◌, ℕ, suc, ◌+◌, ◌<◌, List, [], ◌∷◌, ◌++◌, length, Bool, true, false, nat_lt, get_or, take, drop, Option, Some, None, refl, ap, sym, ◌∙◌, add-zero, add-one, arith}
 use Rattle.std.proofs.Math.Nat.{zero-add}
 use Rattle.std.proofs.Math.Seq.{take-suc, drop-cons}
-use Rattle.std.proofs.lemmas.List.{length-map}
 use Rattle.std.specs.List.{AllByRecursion}
 use Rattle.wk_body.specs.declared.types.Profile.{Profile}
 use Rattle.wk_body.specs.declared.types.Profile.TheVariants.{Core, Extended}
@@ -10,8 +9,8 @@ use Rattle.wk_module.specs.declared.types.Import.{Import}
 use Rattle.wk_module.specs.declared.types.ImportDesc.{ImportDesc}
 use Rattle.wk_module.specs.declared.types.Parts.{Parts}
 use Rattle.wk_module.specs.declared.types.FuncType.{FuncType}
-use Rattle.wk_module.specs.Sections.{TypeSection, ImportSection, FunctionSection, TableSection, MemorySection, GlobalSection, ExportSection, ElementSection, DataSection, SectionLists}
-use Rattle.wk_module.specs.Shape.{lists_of, IsShaped}
+use Rattle.wk_module.specs.Sections.{SectionLists}
+use Rattle.wk_module.specs.Shape.{lists_of}
 use Rattle.wk_check.specs.declared.fault.Flaw.{Flaw}
 use Rattle.wk_check.specs.declared.fault.Fault.{Fault}
 use Rattle.wk_check.specs.declared.fault.FaultKind.TheVariants.{TypeArity}
@@ -19,7 +18,6 @@ use Rattle.wk_check.specs.Flaws.{fault_at, numbered, first_in, first_fault, verd
 use Rattle.wk_check.specs.Items.{earlier, unless, type_flaw}
 use Rattle.wk_check.specs.Spaces.{and_more, imported}
 use Rattle.wk_check.specs.Verdict.{type_flaws, code_flaws, data_flaws, code_fault, flaws_before_code, module_flaws, verdict_around, module_verdict, IsVerdict, IsNotArity, extended}
-use Rattle.wk_check.specs.Whole.{AreNumbered}
 
 -- ---- steps of loops
 

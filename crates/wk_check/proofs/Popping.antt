@@ -1,16 +1,16 @@
 -- Laws of faults, and of operands in lists.
-use Rattle.std.proofs.Common.{◌≡◌, ◌≢◌, ℕ, zero, suc, ◌+◌, ◌-◌, ◌<◌, ◌≤◌, Bool, true, false, if◌then◌else◌, List, [], ◌∷◌, ◌++◌, length, take, drop, get_or, Result, Ok, Err, refl, sym, ap, subst, ◌∙◌, arith}
+use Rattle.std.proofs.Common.{◌≡◌, ◌≢◌, ℕ, suc, ◌+◌, ◌-◌, ◌<◌, ◌≤◌, Bool, true, false, if◌then◌else◌, List, [], ◌∷◌, ◌++◌, length, take, get_or, Result, Ok, Err, refl, sym, ap, subst, ◌∙◌, arith}
 use Rattle.wk_body.specs.declared.types.ValType.{ValType}
 use Rattle.wk_check.specs.declared.fault.FaultKind.{FaultKind}
 use Rattle.wk_check.specs.declared.stop.Stop.{Stop}
 use Rattle.wk_bytes.specs.Leb.{◌>>=◌}
 use Rattle.wk_check.proofs.Binds.{bind_assoc}
-use Rattle.wk_check.specs.Slots.{Slot, AnyType, Known, same, selected}
+use Rattle.wk_check.specs.Slots.{Slot, Known, same, selected}
 use Rattle.wk_check.specs.Own.{Own, popped, popped_any, popped_one, pushed, pushed_one}
 use Rattle.wk_body.specs.declared.types.ValType.TheVariants.{I32}
 use Rattle.wk_check.specs.Effects.{same_types, after_effect, Takes, Selects}
 use Rattle.wk_check.specs.Levels.{Blocks, with_top}
-use Rattle.wk_check.specs.Moves.{popped_on, popped_by, pushed_on, on_top, Pops, Steps}
+use Rattle.wk_check.specs.Moves.{popped_on, popped_by, pushed_on, on_top, Steps}
 use Rattle.std.proofs.lemmas.List.{take_more}
 
 pub popped_push : (ts : List ValType) (t : ValType) (s : Own) → popped (ts ++ t ∷ []) s ≡ (popped_one (Known t) s >>= λ p. popped ts (p.1))

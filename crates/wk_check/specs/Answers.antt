@@ -1,5 +1,4 @@
 -- What references find in a module (3.1.1, contexts).
-use Rattle.std.specs.Prelude.{ℕ}
 use Rattle.wk_body.specs.declared.references.Ref.{Ref}
 use Rattle.wk_body.specs.declared.references.Ref.TheVariants.{Ty, Func, Global, Table, Memory}
 use Rattle.wk_module.specs.declared.types.FuncType.{FuncType}

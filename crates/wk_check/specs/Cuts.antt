@@ -1,5 +1,5 @@
 -- One operand stack, cut by frames into the stacks of the open blocks.
-use Rattle.std.specs.Prelude.{◌≡◌, ℕ, ◌-◌, ◌≤◌, List, [], ◌∷◌, length, take, drop}
+use Rattle.std.specs.Prelude.{◌≡◌, ◌-◌, ◌≤◌, List, [], ◌∷◌, length, take, drop}
 use Rattle.wk_check.specs.declared.machine.Frame.{Frame}
 use Rattle.wk_check.specs.Slots.{Slot}
 use Rattle.wk_check.specs.Levels.{Level, Blocks, blocks}

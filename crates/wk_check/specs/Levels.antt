@@ -1,5 +1,5 @@
 -- The open blocks, each with its own stack: what one token does to them.
-use Rattle.std.specs.Prelude.{◌≡◌, ℕ, ◌+◌, Bool, true, false, List, [], ◌∷◌, Result, Ok, Err, Option}
+use Rattle.std.specs.Prelude.{ℕ, ◌+◌, Bool, true, false, List, [], ◌∷◌, Result, Ok, Option}
 use Rattle.wk_bytes.specs.Leb.{◌>>=◌}
 use Rattle.wk_body.specs.declared.types.ValType.{ValType}
 use Rattle.wk_body.specs.declared.types.BlockType.{BlockType}

@@ -1,6 +1,6 @@
 -- The typing of instructions, by recursion on their tree: each block has an operand stack of its own (3.3, and the algorithm of
 -- the standard's appendix "Validation Algorithm" told on trees).
-use Rattle.std.specs.Prelude.{◌≡◌, ℕ, suc, ◌+◌, Bool, true, false, if◌then◌else◌, List, [], ◌∷◌, ◌++◌, Result, Ok, Err, Option}
+use Rattle.std.specs.Prelude.{ℕ, suc, ◌+◌, Bool, true, false, List, [], ◌∷◌, ◌++◌, Result, Ok, Err, Option}
 use Rattle.wk_bytes.specs.Leb.{◌>>=◌}
 use Rattle.wk_body.specs.declared.types.ValType.{ValType}
 use Rattle.wk_body.specs.declared.types.ValType.TheVariants.{I32}
@@ -10,7 +10,6 @@ use Rattle.wk_body.specs.declared.types.BlockKind.{BlockKind}
 use Rattle.wk_body.specs.declared.types.BlockKind.TheVariants as kinds
 use Rattle.wk_body.specs.declared.references.Ref.{Ref}
 use Rattle.wk_body.specs.Bodies.{BodyOf}
-use Rattle.wk_body.specs.Instructions.{Plain}
 use Rattle.wk_body.specs.Tree.{Instrs, Finish, One, Block, If}
 use Rattle.wk_check.specs.declared.fault.FaultKind.{FaultKind}
 use Rattle.wk_check.specs.declared.fault.BodyVerdict.{BodyVerdict}

@@ -1,7 +1,7 @@
 -- The verdict of a module (3.4.10): the first fault by section, item, what is looked at, and number.
-use Rattle.std.specs.Prelude.{◌≡◌, ◌≢◌, ℕ, ◌+◌, Option, Some, None, List, [], ◌∷◌, ◌++◌, length, take}
+use Rattle.std.specs.Prelude.{◌≢◌, ◌+◌, Option, List, [], ◌∷◌, ◌++◌, length, take}
 use Rattle.wk_body.specs.declared.types.Profile.{Profile}
-use Rattle.wk_body.specs.declared.types.Profile.TheVariants.{Core, Extended}
+use Rattle.wk_body.specs.declared.types.Profile.TheVariants.{Extended}
 use Rattle.wk_module.specs.declared.types.Func.{Func}
 use Rattle.wk_module.specs.declared.types.Parts.{Parts}
 use Rattle.wk_module.specs.Sections.{SectionLists}
@@ -12,7 +12,7 @@ use Rattle.wk_check.specs.declared.fault.Fault.{Fault}
 use Rattle.wk_check.specs.declared.fault.Verdict.{Verdict}
 use Rattle.wk_check.specs.declared.fault.Verdict.TheVariants.{Valid, Invalid}
 use Rattle.wk_check.specs.Typing.{body_verdict}
-use Rattle.wk_check.specs.Spaces.{Spaces, answer_in, spaces_of, initial_spaces, imported, table_in, memory_in}
+use Rattle.wk_check.specs.Spaces.{answer_in, spaces_of, initial_spaces, imported, table_in, memory_in}
 use Rattle.wk_check.specs.Items.{earlier, within, type_flaw, import_flaw, table_flaw, memory_flaw, global_flaw, export_flaw, start_flaws, elem_flaw, data_flaw, body_flaw}
 use Rattle.wk_check.specs.Flaws.{numbered, first_in, first_fault, verdict_by, IsVerdictOn}
 

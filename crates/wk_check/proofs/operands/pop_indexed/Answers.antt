@@ -1,4 +1,4 @@
-use Rattle.std.proofs.Common.{Bool, Ok, Err, ap, sym, subst, ◌∙◌}
+use Rattle.std.proofs.Common.{Bool, sym, subst}
 use Rattle.std.proofs.lemmas.Result.{err_from_is_err_and}
 use Rattle.wk_check.specs.Own.{popped}
 use Rattle.wk_check.specs.Moves.{Does, on_top}
