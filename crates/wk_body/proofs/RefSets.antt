@@ -98,6 +98,14 @@ same_insert k (x ∷ xs) = by_place k x xs (cmp k x) (cmp_is k x) (same_insert k
 pub gains_key : (k : Ref) (old new : List Ref) → new ≡ insert_key cmp old k → IsStrictlySortedBy cmp new → Gains old new (k ∷ [])
 gains_key k old new e s = record { rising = λ h. sorted_rises new s; same = subst (λ (ks : List Ref). AreSame ks (old ++ k ∷ [])) (sym e) (same_insert k old) }
 
+-- one more, told in front of the others
+pub same_more : (k : Ref) (xs old new : List Ref) → AreSame old xs → Gains old new (k ∷ []) → AreSame new (k ∷ xs)
+same_more k xs old new p g r =
+    let q = same_then new (old ++ k ∷ []) (xs ++ k ∷ []) g.same (same_front old xs (k ∷ []) p) in (
+      λ h. elim (among_parts r xs (k ∷ []) ((q r).0 h)) [ inl a ↦ inr a | inr b ↦ elim b [ inl e ↦ inl e | inr never ↦ absurd never ] ],
+      λ h. (q r).1 (elim h [ inl e ↦ among_right r xs (k ∷ []) (inl e) | inr a ↦ among_left r xs (k ∷ []) a ]),
+    )
+
 pub gains_none : (old new : List Ref) → new ≡ old → Gains old new []
 gains_none old new e = record { rising = λ h. subst AreRising (sym e) h; same = subst (λ (ks : List Ref). AreSame new ks) (e ∙ sym (append-nil old)) (same_self new) }
 

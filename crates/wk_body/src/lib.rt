@@ -30,7 +30,7 @@ pub use reader::{
     read_expr_in, reading_of_code,
 };
 pub use reading::MAX_DEPTH;
-pub use references::{Ref, refs};
+pub use references::{Ref, refs, uses};
 pub use scratch::Scratch;
 pub use token::Token;
 pub use types::{BlockKind, BlockType, LocalGroup, Profile, ValType};

@@ -85,3 +85,13 @@ pub fn refs(alloc: Global, body: &Body) -> Result<BTreeSet<Ref>, OutOfMemory>
     let (tokens, _) = body.tokens();
     refs_among(alloc, tokens)
 }
+
+/// What a function refers to: the references of its body and its own type, each once, in the order of [`Ref`].
+pub fn uses(alloc: Global, own_type: u32, body: &Body) -> Result<BTreeSet<Ref>, OutOfMemory>
+    ensures rising { IfOk result (λ s. AreRising s.keys) }
+    ensures exact { IfOk result (λ s. AreSame s.keys (Ref.Ty own_type ∷ refs_of body.now.instrs)) }
+{
+    let mut found = refs(alloc, body)?;
+    add(&mut found, Ref::Ty(own_type))?;
+    Ok(found)
+}

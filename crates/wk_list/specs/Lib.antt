@@ -1,0 +1,10 @@
+pub mod Taken
+pub mod FaultText
+pub mod Text
+pub mod Spaces
+pub mod Headers
+pub mod Details
+pub mod CodeText
+pub mod TokenText
+pub mod Uses
+pub mod Listing

@@ -1,0 +1,255 @@
+//! The details listing.
+
+ghost use Rattle.std.specs.Prelude.{◌≡◌, ◌+◌, ◌<◌, ◌-◌, ◌^◌, ◌++◌, List, ℕ, length, take, decimal, codes, OnOk, OnErr};
+ghost use Rattle.std.specs.List.{flat_map};
+ghost use Rattle.wk_bytes.specs.Taken.{TakesFront};
+ghost use Rattle.wk_module.specs.declared.types.Kind.TheVariants.{Func as FuncKind};
+ghost use Rattle.wk_module.specs.Sections.{of_number};
+ghost use Rattle.wk_list.specs.Taken.{Leaves, failed_after};
+ghost use Rattle.wk_list.specs.Text.{numbered};
+ghost use Rattle.wk_list.specs.Spaces.{count_of};
+ghost use Rattle.wk_list.specs.Headers.{section_name, customs_of};
+ghost use Rattle.wk_list.specs.Details.{heading, group, with_heading, import_lines, code_size_line, start_line, custom_details, details_by, details_of, details_text};
+
+use crate::fault::ListFault;
+use crate::headers::LAST;
+use crate::imports::list_imports;
+use crate::lines::{Lines, list_lines};
+use crate::page::spill;
+use crate::rows::{
+    DataRows, ElemRows, ExportRows, FuncRows, GlobalRows, MemoryRows, TableRows, TypeRows, put_field, put_item,
+};
+use crate::shape::Shape;
+use crate::spaces::count_of;
+use crate::text::{put_hex, put_indexed, put_name, put_number};
+use std::alloc::Global;
+use wk_bytes::{Items, Out, OutOfMemory};
+use wk_module::{Custom, Import, Kind};
+
+// The name of the sections with an id.
+fn section_name(id: u8) -> &'static str
+    ensures { result.now ≡ section_name id }
+{
+    match id {
+        0 => "Custom",
+        1 => "Type",
+        2 => "Import",
+        3 => "Function",
+        4 => "Table",
+        5 => "Memory",
+        6 => "Global",
+        7 => "Export",
+        8 => "Start",
+        9 => "Elem",
+        10 => "Code",
+        11 => "Data",
+        _ => "",
+    }
+}
+
+// The heading of a section of so many items.
+fn put_heading(text: &mut Vec<u8>, id: u8, count: usize) -> Result<(), OutOfMemory>
+    ensures { OnOk result (text.new.items ≡ text.old.items ++ heading id count) }
+{
+    put_indexed(text, section_name(id), count as u64)?;
+    text.extend_from_slice(b":\n")?;
+    Ok(())
+}
+
+// A section of these items: its heading, and a line for each. Nothing where there are none.
+fn list_group<L: Lines, W: Out>(
+    alloc: Global,
+    id: u8,
+    lines: &L,
+    items: &[L::Item],
+    text: &mut Vec<u8>,
+    out: &mut W,
+) -> Result<(), ListFault>
+    requires room { W.failed out.old < 2 ^ 64 - 1 }
+    requires few { length items.now < 2 ^ 32 }
+    ensures ok { OnOk result (Leaves (W.taken out.old) (W.taken out.new) (text.old.items ++ group id (L.line lines.now) items.now) text.new.items) }
+    ensures err { OnErr result (TakesFront (W.taken out.old) (W.taken out.new) (text.old.items ++ group id (L.line lines.now) items.now)) }
+    ensures failures { W.failed out.new ≡ failed_after (W.failed out.old) result }
+{
+    if items.is_empty() {
+        return Ok(());
+    }
+    put_heading(text, id, items.len())?;
+    list_lines(alloc, lines, items, text, out)
+}
+
+// The import section.
+fn list_import_group<W: Out>(
+    alloc: Global,
+    id: u8,
+    imports: &[Import],
+    text: &mut Vec<u8>,
+    out: &mut W,
+) -> Result<(), ListFault>
+    requires room { W.failed out.old < 2 ^ 64 - 1 }
+    requires few { length imports.now < 2 ^ 32 }
+    ensures ok { OnOk result (Leaves (W.taken out.old) (W.taken out.new) (text.old.items ++ with_heading id imports.now (import_lines [] imports.now)) text.new.items) }
+    ensures err { OnErr result (TakesFront (W.taken out.old) (W.taken out.new) (text.old.items ++ with_heading id imports.now (import_lines [] imports.now))) }
+    ensures failures { W.failed out.new ≡ failed_after (W.failed out.old) result }
+{
+    if imports.is_empty() {
+        return Ok(());
+    }
+    put_heading(text, id, imports.len())?;
+    list_imports(alloc, imports, text, out)
+}
+
+// The length of each code, of functions behind so many imported ones.
+fn list_sizes<S: Shape, W: Out>(
+    shape: &S,
+    imported: u32,
+    text: &mut Vec<u8>,
+    out: &mut W,
+) -> Result<(), ListFault>
+    requires room { W.failed out.old < 2 ^ 64 - 1 }
+    requires few { length (S.seen shape.now).funcs < 2 ^ 32 }
+    ensures ok { OnOk result (Leaves (W.taken out.old) (W.taken out.new) (text.old.items ++ numbered (λ n. code_size_line (imported + n)) 0 (S.seen shape.now).funcs) text.new.items) }
+    ensures err { OnErr result (TakesFront (W.taken out.old) (W.taken out.new) (text.old.items ++ numbered (λ n. code_size_line (imported + n)) 0 (S.seen shape.now).funcs)) }
+    ensures failures { W.failed out.new ≡ failed_after (W.failed out.old) result }
+{
+    let count = shape.parts().funcs.len();
+    for index in 0..count {
+        put_item(text, "func", u64::from(imported) + index as u64)?;
+        put_field(text, " size=", shape.body_len(index))?;
+        text.extend_from_slice(b"\n")?;
+        spill(text, out)?;
+    }
+    Ok(())
+}
+
+// The code section.
+fn list_code_group<S: Shape, W: Out>(
+    id: u8,
+    shape: &S,
+    imported: u32,
+    text: &mut Vec<u8>,
+    out: &mut W,
+) -> Result<(), ListFault>
+    requires room { W.failed out.old < 2 ^ 64 - 1 }
+    requires few { length (S.seen shape.now).funcs < 2 ^ 32 }
+    ensures ok { OnOk result (Leaves (W.taken out.old) (W.taken out.new) (text.old.items ++ group id (λ n. code_size_line (imported + n)) (S.seen shape.now).funcs) text.new.items) }
+    ensures err { OnErr result (TakesFront (W.taken out.old) (W.taken out.new) (text.old.items ++ group id (λ n. code_size_line (imported + n)) (S.seen shape.now).funcs)) }
+    ensures failures { W.failed out.new ≡ failed_after (W.failed out.old) result }
+{
+    let funcs = shape.parts().funcs.as_slice();
+    if funcs.is_empty() {
+        return Ok(());
+    }
+    put_heading(text, id, funcs.len())?;
+    list_sizes(shape, imported, text, out)
+}
+
+// The start section.
+fn put_start(text: &mut Vec<u8>, start: Option<u32>) -> Result<(), OutOfMemory>
+    ensures { OnOk result (text.new.items ≡ text.old.items ++ start_line start) }
+{
+    let Some(index) = start else {
+        return Ok(());
+    };
+    text.extend_from_slice(b"Start:\n - start ")?;
+    put_number(text, u64::from(index))?;
+    text.extend_from_slice(b"\n")?;
+    Ok(())
+}
+
+// The section of an id.
+fn list_section<S: Shape, W: Out>(
+    alloc: Global,
+    shape: &S,
+    id: u8,
+    text: &mut Vec<u8>,
+    out: &mut W,
+) -> Result<(), ListFault>
+    requires room { W.failed out.old < 2 ^ 64 - 1 }
+    ensures ok { OnOk result (Leaves (W.taken out.old) (W.taken out.new) (text.old.items ++ details_by (S.seen shape.now) (of_number id)) text.new.items) }
+    ensures err { OnErr result (TakesFront (W.taken out.old) (W.taken out.new) (text.old.items ++ details_by (S.seen shape.now) (of_number id))) }
+    ensures failures { W.failed out.new ≡ failed_after (W.failed out.old) result }
+{
+    let parts = shape.parts();
+    let imports = parts.imports.as_slice();
+    match id {
+        1 => list_group(alloc, id, &TypeRows, parts.types.as_slice(), text, out),
+        2 => list_import_group(alloc, id, imports, text, out),
+        3 => {
+            let imported = count_of(Kind::Func, imports);
+            list_group(alloc, id, &FuncRows { imported }, parts.funcs.as_slice(), text, out)
+        }
+        4 => {
+            let imported = count_of(Kind::Table, imports);
+            list_group(alloc, id, &TableRows { imported }, parts.tables.as_slice(), text, out)
+        }
+        5 => {
+            let imported = count_of(Kind::Memory, imports);
+            list_group(alloc, id, &MemoryRows { imported }, parts.memories.as_slice(), text, out)
+        }
+        6 => {
+            let imported = count_of(Kind::Global, imports);
+            list_group(alloc, id, &GlobalRows { imported }, parts.globals.as_slice(), text, out)
+        }
+        7 => list_group(alloc, id, &ExportRows, parts.exports.as_slice(), text, out),
+        8 => Ok(put_start(text, parts.start)?),
+        9 => list_group(alloc, id, &ElemRows, parts.elems.as_slice(), text, out),
+        10 => list_code_group(id, shape, count_of(Kind::Func, imports), text, out),
+        11 => list_group(alloc, id, &DataRows, parts.datas.as_slice(), text, out),
+        _ => Ok(()),
+    }
+}
+
+// A custom section.
+fn put_custom(alloc: Global, text: &mut Vec<u8>, custom: &Custom) -> Result<(), OutOfMemory>
+    ensures { OnOk result (text.new.items ≡ text.old.items ++ custom_details custom.now) }
+{
+    text.extend_from_slice(b"Custom:\n - custom ")?;
+    put_name(alloc, text, custom.name.as_str())?;
+    text.extend_from_slice(b" bytes=")?;
+    put_hex(alloc, text, custom.bytes.as_slice())?;
+    text.extend_from_slice(b"\n")?;
+    Ok(())
+}
+
+// The custom sections of a place.
+fn list_customs<W: Out>(
+    alloc: Global,
+    customs: &Items<Custom>,
+    place: u8,
+    text: &mut Vec<u8>,
+    out: &mut W,
+) -> Result<(), ListFault>
+    requires room { W.failed out.old < 2 ^ 64 - 1 }
+    ensures ok { OnOk result (Leaves (W.taken out.old) (W.taken out.new) (text.old.items ++ flat_map custom_details (customs_of place customs.now)) text.new.items) }
+    ensures err { OnErr result (TakesFront (W.taken out.old) (W.taken out.new) (text.old.items ++ flat_map custom_details (customs_of place customs.now))) }
+    ensures failures { W.failed out.new ≡ failed_after (W.failed out.old) result }
+{
+    for custom in customs.as_slice() {
+        if custom.place == place {
+            put_custom(alloc, text, custom)?;
+            spill(text, out)?;
+        }
+    }
+    Ok(())
+}
+
+/// All sections, each with its items.
+pub(crate) fn list_details<S: Shape, W: Out>(
+    alloc: Global,
+    shape: &S,
+    text: &mut Vec<u8>,
+    out: &mut W,
+) -> Result<(), ListFault>
+    requires room { W.failed out.old < 2 ^ 64 - 1 }
+    ensures ok { OnOk result (Leaves (W.taken out.old) (W.taken out.new) (text.old.items ++ details_text (S.seen shape.now)) text.new.items) }
+    ensures err { OnErr result (TakesFront (W.taken out.old) (W.taken out.new) (text.old.items ++ details_text (S.seen shape.now))) }
+    ensures failures { W.failed out.new ≡ failed_after (W.failed out.old) result }
+{
+    let parts = shape.parts();
+    for id in 0..=LAST {
+        list_section(alloc, shape, id, text, out)?;
+        list_customs(alloc, &parts.customs, id, text, out)?;
+    }
+    Ok(())
+}

@@ -1,0 +1,56 @@
+//! The line of a section: its name, where it is, and how long.
+
+ghost use Rattle.std.specs.Prelude.{◌≡◌, ◌+◌, ◌<◌, ◌^◌, ◌++◌, OnOk};
+ghost use Rattle.wk_bytes.specs.FaultText.{offset_text};
+ghost use Rattle.wk_list.specs.Headers.{in_eight, section_name, header_text};
+
+use crate::text::put_hex8;
+use wk_bytes::OutOfMemory;
+
+// The name of the sections with an id, right-aligned in eight places.
+fn aligned_name(id: u8) -> &'static str
+    ensures { result.now ≡ in_eight (section_name id) }
+{
+    match id {
+        0 => "  Custom",
+        1 => "    Type",
+        2 => "  Import",
+        3 => "Function",
+        4 => "   Table",
+        5 => "  Memory",
+        6 => "  Global",
+        7 => "  Export",
+        8 => "   Start",
+        9 => "    Elem",
+        10 => "    Code",
+        11 => "    Data",
+        _ => "        ",
+    }
+}
+
+// An offset or a size, as `0x` and eight hexadecimal digits.
+fn put_offset(text: &mut Vec<u8>, n: u32) -> Result<(), OutOfMemory>
+    ensures { OnOk result (text.new.items ≡ text.old.items ++ offset_text n) }
+{
+    text.extend_from_slice(b"0x")?;
+    put_hex8(text, n)
+}
+
+/// Appends the line of a section as far as its size, as `    Type start=0x0000000a end=0x0000000e size=0x00000004`: where its
+/// contents start, where they end, and how many bytes they are. A section's id is 0 to 11; other ids have no name.
+///
+/// # Errors
+///
+/// Want of memory: some of the line may stand there.
+pub fn put_header(text: &mut Vec<u8>, id: u8, start: u32, size: u32) -> Result<(), OutOfMemory>
+    requires { start + size < 2 ^ 32 }
+    ensures { OnOk result (text.new.items ≡ text.old.items ++ header_text id start size) }
+{
+    text.extend_from_slice(aligned_name(id).as_bytes())?;
+    text.extend_from_slice(b" start=")?;
+    put_offset(text, start)?;
+    text.extend_from_slice(b" end=")?;
+    put_offset(text, start + size)?;
+    text.extend_from_slice(b" size=")?;
+    put_offset(text, size)
+}

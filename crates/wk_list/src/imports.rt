@@ -1,0 +1,69 @@
+//! The lines of imports in the details listing.
+
+ghost use Rattle.std.specs.Prelude.{◌≡◌, ◌<◌, ◌-◌, ◌^◌, ◌++◌, [], length, OnOk, OnErr};
+ghost use Rattle.wk_bytes.specs.Taken.{TakesFront};
+ghost use Rattle.wk_list.specs.Taken.{Leaves, failed_after};
+ghost use Rattle.wk_list.specs.Details.{desc_text, import_head, import_lines};
+
+use crate::fault::ListFault;
+use crate::page::spill;
+use crate::rows::{put_field, put_item, put_named};
+use crate::spaces::{Counts, kind_of};
+use crate::text::put_indexed;
+use crate::typetext::{kind_name, put_globaltype, put_limits};
+use std::alloc::Global;
+use wk_bytes::{Out, OutOfMemory};
+use wk_module::{Import, ImportDesc};
+
+// What is imported, behind its kind and its index.
+fn put_desc(text: &mut Vec<u8>, desc: &ImportDesc) -> Result<(), OutOfMemory>
+    ensures { OnOk result (text.new.items ≡ text.old.items ++ desc_text desc.now) }
+{
+    match desc {
+        ImportDesc::Func(ty) => put_field(text, " type=", *ty),
+        ImportDesc::Table(limits) => put_limits(text, limits),
+        ImportDesc::Memory(limits) => put_limits(text, limits),
+        ImportDesc::Global(ty) => put_globaltype(text, *ty),
+    }
+}
+
+// The import at an index, as far as its two names.
+fn put_head(
+    alloc: Global,
+    text: &mut Vec<u8>,
+    index: u64,
+    import: &Import,
+) -> Result<(), OutOfMemory>
+    ensures { OnOk result (text.new.items ≡ text.old.items ++ import_head index import.now) }
+{
+    put_item(text, "import", index)?;
+    put_named(alloc, text, import.from.as_str())?;
+    put_named(alloc, text, import.name.as_str())?;
+    text.extend_from_slice(b" ")?;
+    Ok(())
+}
+
+/// The lines of all imports.
+pub(crate) fn list_imports<W: Out>(
+    alloc: Global,
+    imports: &[Import],
+    text: &mut Vec<u8>,
+    out: &mut W,
+) -> Result<(), ListFault>
+    requires room { W.failed out.old < 2 ^ 64 - 1 }
+    requires few { length imports.now < 2 ^ 32 }
+    ensures ok { OnOk result (Leaves (W.taken out.old) (W.taken out.new) (text.old.items ++ import_lines [] imports.now) text.new.items) }
+    ensures err { OnErr result (TakesFront (W.taken out.old) (W.taken out.new) (text.old.items ++ import_lines [] imports.now)) }
+    ensures failures { W.failed out.new ≡ failed_after (W.failed out.old) result }
+{
+    let mut counts = Counts::new();
+    for (index, import) in imports.iter().enumerate() {
+        let own = counts.take(&import.desc);
+        put_head(alloc, text, index as u64, import)?;
+        put_indexed(text, kind_name(kind_of(&import.desc)), own)?;
+        put_desc(text, &import.desc)?;
+        text.extend_from_slice(b"\n")?;
+        spill(text, out)?;
+    }
+    Ok(())
+}

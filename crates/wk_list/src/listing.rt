@@ -1,0 +1,73 @@
+//! The parts of a listing.
+
+ghost use Rattle.std.specs.Prelude.{◌≡◌, ◌<◌, ◌-◌, ◌^◌, ◌++◌, OnOk, OnErr};
+ghost use Rattle.std.specs.Io.KnownBytes.{Appends};
+ghost use Rattle.wk_bytes.specs.Taken.{TakesFront};
+ghost use Rattle.wk_list.specs.Taken.{Leaves, failed_after};
+ghost use Rattle.wk_list.specs.Listing.{listing};
+
+use crate::code::list_code;
+use crate::details::list_details;
+use crate::fault::ListFault;
+use crate::headers::list_headers;
+use crate::page::flush;
+use crate::shape::Shape;
+use crate::uses::list_uses;
+use std::alloc::Global;
+use wk_bytes::Out;
+
+/// What is listed of a module. All offsets are those of its written form.
+#[derive(Clone, Copy, Debug, PartialEq, Eq)]
+pub enum Part {
+    /// A line for each section: where its contents start and end, and how many items they are.
+    Headers,
+    /// A line for each item of each section.
+    Details,
+    /// The instructions of each function that the module defines, each with its offset.
+    Code,
+    /// What each function that the module defines refers to, with its own type.
+    Uses,
+}
+
+// Gathers the lines of a part, and puts out those that are many.
+fn list_part<S: Shape, W: Out>(
+    alloc: Global,
+    shape: &S,
+    part: Part,
+    text: &mut Vec<u8>,
+    out: &mut W,
+) -> Result<(), ListFault>
+    requires room { W.failed out.old < 2 ^ 64 - 1 }
+    ensures ok { OnOk result (Leaves (W.taken out.old) (W.taken out.new) (text.old.items ++ listing (S.seen shape.now) part) text.new.items) }
+    ensures err { OnErr result (TakesFront (W.taken out.old) (W.taken out.new) (text.old.items ++ listing (S.seen shape.now) part)) }
+    ensures failures { W.failed out.new ≡ failed_after (W.failed out.old) result }
+{
+    match part {
+        Part::Headers => list_headers(alloc, shape, text, out),
+        Part::Details => list_details(alloc, shape, text, out),
+        Part::Code => list_code(shape, text, out),
+        Part::Uses => list_uses(alloc, shape, text, out),
+    }
+}
+
+/// Writes a part of the listing of a module.
+///
+/// # Errors
+///
+/// `Write` only where the [`Out`] failed in this call, and else `Memory` where a growth was refused. After either a beginning of the
+/// text was taken.
+pub fn list<S: Shape, W: Out>(
+    alloc: Global,
+    shape: &S,
+    part: Part,
+    out: &mut W,
+) -> Result<(), ListFault>
+    requires room { W.failed out.old < 2 ^ 64 - 1 }
+    ensures ok { OnOk result (Appends (W.taken out.old) (W.taken out.new) (listing (S.seen shape.now) part)) }
+    ensures err { OnErr result (TakesFront (W.taken out.old) (W.taken out.new) (listing (S.seen shape.now) part)) }
+    ensures failures { W.failed out.new ≡ failed_after (W.failed out.old) result }
+{
+    let mut text = Vec::new(alloc);
+    list_part(alloc, shape, part, &mut text, out)?;
+    flush(&text, out)
+}

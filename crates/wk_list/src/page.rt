@@ -1,0 +1,40 @@
+//! Text on its way out: it is gathered, and goes in large pieces.
+
+ghost use Rattle.std.specs.Prelude.{◌≡◌, ◌<◌, ◌-◌, ◌^◌, [], OnOk, OnErr};
+ghost use Rattle.std.specs.Io.KnownBytes.{Appends};
+ghost use Rattle.wk_bytes.specs.Taken.{TakesFront};
+ghost use Rattle.wk_list.specs.Taken.{Leaves, failed_after};
+
+use crate::fault::ListFault;
+use wk_bytes::{Out, put_all};
+
+/// How many bytes of text are worth a call of the [`Out`].
+const PIECE: usize = 1 << 16;
+
+/// Puts out the text that was gathered, if it is long.
+///
+/// What is left of it stays. After a fault a beginning of it was taken.
+pub(crate) fn spill<W: Out>(text: &mut Vec<u8>, out: &mut W) -> Result<(), ListFault>
+    requires { W.failed out.old < 2 ^ 64 - 1 }
+    ensures ok { OnOk result (Leaves (W.taken out.old) (W.taken out.new) text.old.items text.new.items) }
+    ensures err { OnErr result (TakesFront (W.taken out.old) (W.taken out.new) text.old.items) }
+    ensures failures { W.failed out.new ≡ failed_after (W.failed out.old) result }
+{
+    if text.len() < PIECE {
+        return Ok(());
+    }
+    flush(text, out)?;
+    text.clear();
+    Ok(())
+}
+
+/// Puts out all of the text that was gathered. After a fault a beginning of it was taken.
+pub(crate) fn flush<W: Out>(text: &[u8], out: &mut W) -> Result<(), ListFault>
+    requires { W.failed out.old < 2 ^ 64 - 1 }
+    ensures ok { OnOk result (Appends (W.taken out.old) (W.taken out.new) text.now) }
+    ensures err { OnErr result (TakesFront (W.taken out.old) (W.taken out.new) text.now) }
+    ensures failures { W.failed out.new ≡ failed_after (W.failed out.old) result }
+{
+    put_all(out, text)?;
+    Ok(())
+}

@@ -1,0 +1,128 @@
+//! The line of a token in the code listing.
+
+ghost use Rattle.std.specs.Prelude.{◌≡◌, ◌<◌, ◌≤◌, ◌+◌, ◌^◌, ◌++◌, ◌*◌, [], List, ℕ, length, OnOk};
+ghost use Rattle.wk_body.specs.Instructions.{Memarg};
+ghost use Rattle.wk_body.specs.Kept.{told, IsWithin};
+ghost use Rattle.wk_list.specs.CodeText.{immediates_text, type_text, code_line};
+ghost use Rattle.wk_list.specs.TokenText.{tok_text, behind_name, stands_at, open_after};
+
+use crate::rows::put_field;
+use crate::text::{put_all_spaced, put_hex8, put_hex16, put_signed, put_spaced, put_spaces};
+use crate::typetext::valtype_name;
+use wk_bytes::OutOfMemory;
+use wk_module::{BlockType, Token};
+
+// The type of a block.
+fn put_type(text: &mut Vec<u8>, ty: BlockType) -> Result<(), OutOfMemory>
+    ensures { OnOk result (text.new.items ≡ text.old.items ++ type_text ty) }
+{
+    match ty {
+        BlockType::Empty => Ok(()),
+        BlockType::Value(ty) => {
+            text.extend_from_slice(b" ")?;
+            text.extend_from_slice(valtype_name(ty).as_bytes())?;
+            Ok(())
+        }
+        BlockType::Index(x) => put_field(text, " type=", x),
+    }
+}
+
+// An alignment and an offset.
+fn put_memarg(text: &mut Vec<u8>, align: u32, offset: u32) -> Result<(), OutOfMemory>
+    ensures { OnOk result (text.new.items ≡ text.old.items ++ immediates_text (Memarg align offset)) }
+{
+    put_field(text, " align=", align)?;
+    put_field(text, " offset=", offset)
+}
+
+// What stands behind the name of a token.
+fn put_immediates(text: &mut Vec<u8>, labels: &[u32], token: &Token) -> Result<(), OutOfMemory>
+    requires { IsWithin (length labels.now) token.now }
+    ensures { OnOk result (text.new.items ≡ text.old.items ++ behind_name (told labels.now token.now)) }
+{
+    match *token {
+        Token::Block { ty, .. } | Token::Loop { ty, .. } | Token::If { ty, .. } => {
+            put_type(text, ty)
+        }
+        Token::Br(x)
+        | Token::BrIf(x)
+        | Token::Call(x)
+        | Token::LocalGet(x)
+        | Token::LocalSet(x)
+        | Token::LocalTee(x)
+        | Token::GlobalGet(x)
+        | Token::GlobalSet(x) => put_spaced(text, x),
+        Token::BrTable { start, len, other } => {
+            let start = start as usize;
+            let end = start + len as usize;
+            put_all_spaced(text, &labels[start..end])?;
+            put_spaced(text, other)
+        }
+        Token::CallIndirect(x) => put_field(text, " type=", x),
+        Token::Access { align, offset, .. } => put_memarg(text, align, offset),
+        Token::I32Const(z) => {
+            text.extend_from_slice(b" ")?;
+            put_signed(text, i64::from(z))
+        }
+        Token::I64Const(z) => {
+            text.extend_from_slice(b" ")?;
+            put_signed(text, z)
+        }
+        Token::F32Const(word) => {
+            text.extend_from_slice(b" 0x")?;
+            put_hex8(text, word)
+        }
+        Token::F64Const(word) => {
+            text.extend_from_slice(b" 0x")?;
+            put_hex16(text, word)
+        }
+        Token::Unreachable
+        | Token::Nop
+        | Token::Else { .. }
+        | Token::End
+        | Token::Return
+        | Token::Drop
+        | Token::Select
+        | Token::MemorySize
+        | Token::MemoryGrow
+        | Token::Numeric(_) => Ok(()),
+    }
+}
+
+/// The depth at which a token stands inside so many open blocks, and how many are open behind it.
+pub(crate) fn depths(token: &Token, depth: usize) -> (usize, usize)
+    requires { depth < 2 ^ 32 }
+    ensures here { (pool : List ℕ) → result.0 ≡ stands_at depth (told pool token.now) }
+    ensures behind { (pool : List ℕ) → result.1 ≡ open_after depth (told pool token.now) }
+    ensures near { (result.0 ≤ depth) × (result.1 ≤ depth + 1) }
+{
+    match *token {
+        Token::Block { .. } | Token::Loop { .. } | Token::If { .. } => (depth, depth + 1),
+        Token::Else { .. } => (depth.saturating_sub(1), depth),
+        Token::End => (depth.saturating_sub(1), depth.saturating_sub(1)),
+        _ => (depth, depth),
+    }
+}
+
+/// The line of a token at an offset and a depth. Its labels lie in the pool.
+#[tactic(auto, unfolding(crate::specs::CodeText::code_line))]
+pub(crate) fn put_line(
+    text: &mut Vec<u8>,
+    labels: &[u32],
+    token: &Token,
+    at: u32,
+    depth: usize,
+) -> Result<(), OutOfMemory>
+    requires within { IsWithin (length labels.now) token.now }
+    requires shallow { depth < 2 ^ 32 }
+    ensures { OnOk result (text.new.items ≡ text.old.items ++ code_line at depth (tok_text (told labels.now token.now))) }
+{
+    text.extend_from_slice(b" ")?;
+    put_hex8(text, at)?;
+    text.extend_from_slice(b": ")?;
+    put_spaces(text, 2 * depth)?;
+    text.extend_from_slice(token.name().as_bytes())?;
+    put_immediates(text, labels, token)?;
+    text.extend_from_slice(b"\n")?;
+    Ok(())
+}

@@ -1,0 +1,88 @@
+//! The uses listing.
+
+ghost use Rattle.std.specs.Prelude.{◌≡◌, ◌<◌, ◌-◌, ◌^◌, ◌++◌, ◌∷◌, IfOk, OnOk, OnErr};
+ghost use Rattle.std.specs.List.{flat_map};
+ghost use Rattle.wk_bytes.specs.Taken.{TakesFront};
+ghost use Rattle.wk_body.specs.References.{refs_of};
+ghost use Rattle.wk_list.specs.Taken.{Leaves, failed_after};
+ghost use Rattle.wk_list.specs.Uses.{in_order, ref_text, uses_text};
+
+use crate::fault::ListFault;
+use crate::lines::{Lines, list_lines};
+use crate::shape::Shape;
+use crate::spaces::count_of;
+use crate::text::put_indexed;
+use std::alloc::Global;
+use std::collections::BTreeSet;
+use wk_bytes::{Out, OutOfMemory};
+use wk_module::{Func, Kind, Ref, uses};
+
+// A reference after a space.
+fn put_ref(text: &mut Vec<u8>, reference: Ref) -> Result<(), OutOfMemory>
+    ensures { OnOk result (text.new.items ≡ text.old.items ++ ref_text reference) }
+{
+    match reference {
+        Ref::Ty(x) => put_indexed(text, " type", u64::from(x)),
+        Ref::Func(x) => put_indexed(text, " func", u64::from(x)),
+        Ref::Global(x) => put_indexed(text, " global", u64::from(x)),
+        Ref::Table => Ok(text.extend_from_slice(b" table")?),
+        Ref::Memory => Ok(text.extend_from_slice(b" memory")?),
+    }
+}
+
+// References, in their order.
+fn put_refs(text: &mut Vec<u8>, references: &BTreeSet<Ref>) -> Result<(), OutOfMemory>
+    ensures { OnOk result (text.new.items ≡ text.old.items ++ flat_map ref_text references.now.keys) }
+{
+    for reference in references.iter() {
+        put_ref(text, *reference)?;
+    }
+    Ok(())
+}
+
+/// What functions refer to, which come behind so many imported ones.
+#[derive(Clone, Copy)]
+struct UseRows {
+    imported: u32,
+}
+
+impl Lines for UseRows {
+    type Item = Func;
+
+    ghost use Rattle.std.specs.Prelude.{◌+◌};
+    ghost use Rattle.wk_list.specs.Uses.{use_line};
+
+    ghost line = { λ rows index f. use_line (rows.imported + index) f };
+
+    fn put(
+        &self,
+        alloc: Global,
+        text: &mut Vec<u8>,
+        index: u32,
+        func: &Func,
+    ) -> Result<(), OutOfMemory> {
+        let references = uses(alloc, func.ty, &func.body)?;
+        put_indexed(text, "func", u64::from(self.imported) + u64::from(index))?;
+        text.extend_from_slice(b":")?;
+        put_refs(text, &references)?;
+        text.extend_from_slice(b"\n")?;
+        Ok(())
+    }
+}
+
+/// The lines of all functions.
+pub(crate) fn list_uses<S: Shape, W: Out>(
+    alloc: Global,
+    shape: &S,
+    text: &mut Vec<u8>,
+    out: &mut W,
+) -> Result<(), ListFault>
+    requires room { W.failed out.old < 2 ^ 64 - 1 }
+    ensures ok { OnOk result (Leaves (W.taken out.old) (W.taken out.new) (text.old.items ++ uses_text (S.seen shape.now)) text.new.items) }
+    ensures err { OnErr result (TakesFront (W.taken out.old) (W.taken out.new) (text.old.items ++ uses_text (S.seen shape.now))) }
+    ensures failures { W.failed out.new ≡ failed_after (W.failed out.old) result }
+{
+    let parts = shape.parts();
+    let imported = count_of(Kind::Func, parts.imports.as_slice());
+    list_lines(alloc, &UseRows { imported }, parts.funcs.as_slice(), text, out)
+}
