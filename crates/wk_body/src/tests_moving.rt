@@ -5,10 +5,11 @@ use crate::expr::Expr;
 use crate::memory::MemoryOp;
 use crate::moves::{Moving, ShiftFault, shift, shift_expr};
 use crate::reader::{read_body, read_body_in, read_expr};
-use crate::references::{Ref, refs};
+use crate::references::{Ref, refs, uses};
 use crate::token::Token;
 use crate::types::{BlockType, LocalGroup, Profile, ValType};
 use std::alloc::Global;
+use std::collections::BTreeSet;
 use std::test::Fail;
 
 // A block with a type of an index, and in it a call, a call by the table, two globals, a load and the call again.
@@ -16,15 +17,42 @@ const MANY: [u8; 22] = [
     0, 2, 3, 16, 5, 17, 4, 0, 36, 7, 35, 2, 40, 2, 0, 16, 5, 16, 1, 11, 26, 11,
 ];
 
-// The references of a body, in the order of the set.
-fn found(alloc: Global, bytes: &[u8]) -> Result<Vec<Ref>, Fail> {
-    let body = read_body_in(alloc, bytes, Profile::Extended)?;
-    let set = refs(alloc, &body).ok().ok_or("a set")?;
+// References in the order of the set.
+fn gathered(alloc: Global, set: &BTreeSet<Ref>) -> Result<Vec<Ref>, Fail> {
     let mut all = Vec::new(alloc);
     for r in set.iter() {
         all.push(*r)?;
     }
     Ok(all)
+}
+
+// The references of a body.
+fn found(alloc: Global, bytes: &[u8]) -> Result<Vec<Ref>, Fail> {
+    let body = read_body_in(alloc, bytes, Profile::Extended)?;
+    let set = refs(alloc, &body).ok().ok_or("a set")?;
+    gathered(alloc, &set)
+}
+
+// What a function of that type with the body refers to.
+fn used(alloc: Global, own_type: u32, bytes: &[u8]) -> Result<Vec<Ref>, Fail> {
+    let body = read_body(alloc, bytes)?;
+    let set = uses(alloc, own_type, &body).ok().ok_or("a set")?;
+    gathered(alloc, &set)
+}
+
+#[test]
+fn uses_its_own_type_once(rt: HostRuntime) -> Result<(), Fail> {
+    let alloc = rt.alloc();
+    let bytes = [0, 17, 6, 0, 11];
+    assert_eq!(rt;
+        used(alloc, 7, &bytes)?.as_slice(),
+        [Ref::Ty(6), Ref::Ty(7), Ref::Table].as_slice()
+    );
+    assert_eq!(rt;
+        used(alloc, 6, &bytes)?.as_slice(),
+        [Ref::Ty(6), Ref::Table].as_slice()
+    );
+    Ok(())
 }
 
 #[test]
