@@ -11,3 +11,5 @@ pub mod Listed
 pub mod ShapeLaws
 pub mod ModuleLaws
 pub mod WritingLaws
+pub mod Moving
+pub mod MovingLaws
