@@ -2,12 +2,10 @@
 use Rattle.std.proofs.Common.{◌≡◌, ℕ, Bool, true, false, not, Option, Some, None, List, [], ◌∷◌, map, slice_index_or, refl, ap, ◌∙◌}
 use Rattle.wk_bytes.specs.ListWords.{is_empty}
 use Rattle.wk_body.specs.declared.types.Profile.TheVariants.{Core}
-use Rattle.wk_body.specs.declared.types.ValType.TheVariants.{I32}
 use Rattle.wk_body.specs.Instructions.{Call, GlobalGet, CallIndirect}
 use Rattle.wk_body.specs.Tree.{Instrs, Finish, One}
 use Rattle.wk_module.specs.declared.types.Kind.{Kind}
-use Rattle.wk_module.specs.declared.types.Kind.TheVariants.{Func, Table, Memory, Global}
-use Rattle.wk_module.specs.declared.types.Func.{Func as FuncOf}
+use Rattle.wk_module.specs.declared.types.Kind.TheVariants.{Func, Table}
 use Rattle.wk_module.specs.declared.types.Custom.{Custom}
 use Rattle.wk_module.specs.declared.types.Parts.{Parts}
 use Rattle.wk_module.specs.Sections.{is_some}
