@@ -78,7 +78,7 @@ fn list_expr<W: Out>(
 
 // How many bytes local groups are, without their count.
 fn groups_len(groups: &[LocalGroup]) -> u64
-    requires { length groups.now < 2 ^ 32 }
+    requires { length (flat_map written_group groups.now) ≤ limit }
     ensures { result ≡ length (flat_map written_group groups.now) }
 {
     let mut total = 0;
