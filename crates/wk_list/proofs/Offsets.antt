@@ -1,11 +1,12 @@
 -- Where the pieces of the written form stand.
-use Rattle.std.proofs.Common.{◌≡◌, ℕ, ◌+◌, ◌<◌, ◌≤◌, ◌==◌, Bool, true, false, List, [], ◌∷◌, ◌++◌, length, map, take, drop, get_or, slice_index_or, refl, sym, ap, ◌∙◌, arith, length-append}
+use Rattle.std.proofs.Common.{◌≡◌, ℕ, ◌+◌, ◌<◌, ◌≤◌, ◌^◌, ◌==◌, Bool, true, false, List, [], ◌∷◌, ◌++◌, length, map, take, drop, get_or, slice_index_or, refl, sym, ap, ◌∙◌, arith, length-append}
 use Rattle.std.proofs.lemmas.Bool.{eq-eqb, ne_eqb}
 use Rattle.std.specs.List.{flat_map}
 use Rattle.std.proofs.lemmas.List.{flat_map_more, take_more, drop_more, length-map}
 use Rattle.std.proofs.lemmas.List.Folds.{length-flat_map-take, flat_map-map}
 use Rattle.std.proofs.lemmas.List.FromFn.{get_or-range_with_len}
 use Rattle.wk_bytes.specs.Frames.{limit, magic, version}
+use Rattle.wk_bytes.specs.ListWords.{is_empty}
 use Rattle.wk_bytes.specs.Short.{short}
 use Rattle.wk_body.specs.declared.types.LocalGroup.{LocalGroup}
 use Rattle.wk_body.specs.Bodies.{BodyOf}
@@ -14,14 +15,18 @@ use Rattle.wk_body.specs.Vectors.{written_vector}
 use Rattle.wk_body.specs.Written.{written_group, written_expr, written_body}
 use Rattle.wk_module.specs.declared.types.Custom.{Custom}
 use Rattle.wk_module.specs.declared.types.Func.{Func}
+use Rattle.wk_module.specs.declared.types.Import.{Import}
+use Rattle.wk_module.specs.declared.types.Kind.TheVariants.{Func as FuncKind}
 use Rattle.wk_module.specs.declared.types.Parts.{Parts}
 use Rattle.wk_module.specs.Customs.{written_custom}
 use Rattle.wk_module.specs.Items.{written_code}
-use Rattle.wk_module.specs.Sections.{CodeSection}
+use Rattle.wk_module.specs.Sections.{ImportSection, CodeSection, contents}
+use Rattle.wk_module.specs.Shape.{lists_of, IsShaped}
 use Rattle.wk_module.specs.Writing.{section_contents, written_section, section_of, customs_at, section_and_customs, ids, encoded, Fits}
 use Rattle.wk_module.specs.WritingLaws.{at_place, written_frame, customs_at-cons}
 use Rattle.wk_list.specs.Headers.{contents_start}
-use Rattle.wk_list.specs.CodeText.{instrs_start, code_start, first_code}
+use Rattle.wk_list.specs.Spaces.{count_of}
+use Rattle.wk_list.specs.CodeText.{entries_text, instrs_start, code_start, first_code, code_text}
 use Rattle.wk_list.proofs.Entries.{codes_of}
 
 -- ---- in a code
@@ -120,6 +125,33 @@ code_section (f ∷ fs) at some =
     let all = written_vector written_code (bodies (f ∷ fs)) in
     omega (arith, length_bodies (f ∷ fs), length-append (short (length all)) all)
 
+-- where the first code begins, by the lengths of what stands before it
+pub first_is : (m parts : Parts) (start size at n count : ℕ) → parts ≡ m → start ≡ code_start m → size ≡ length (section_contents CodeSection (contents (lists_of m) CodeSection)) → at ≡ contents_start start size
+  → n ≡ length (short count) → count ≡ length parts.funcs → at + n ≡ first_code m
+first_is m parts start size at n count same start_is size_is at_is n_is count_is =
+    let all : count ≡ length m.funcs = count_is ∙ ap (λ (p : Parts). length p.funcs) same in
+    omega (arith, start_is, at_is, n_is, ap (λ (k : ℕ). length (short k)) size_is, ap (λ (k : ℕ). length (short k)) all)
+
+some_items : (fs : List Func) → false ≡ is_empty fs → 0 < length fs
+some_items [] some = absurd cc
+some_items (f ∷ fs) some = omega arith
+
 -- in a module that fits, the codes stay within the limit
-pub codes_fit : (m : Parts) → Fits m → 0 < length m.funcs → first_code m + length (codes_of m.funcs) ≤ limit
-codes_fit m fits some = omega (arith, sections_fit m 10 (omega arith) fits, code_section m.funcs (code_start m) some)
+pub codes_fit : (m parts : Parts) (first : ℕ) → parts ≡ m → false ≡ is_empty parts.funcs → Fits m → first ≡ first_code m → first + length (codes_of m.funcs) ≤ limit
+codes_fit m parts first same some fits is =
+    let any : 0 < length m.funcs = some_items m.funcs (some ∙ ap (λ (p : Parts). is_empty p.funcs) same) in
+    omega (arith, is, sections_fit m 10 (omega arith) fits, code_section m.funcs (code_start m) any)
+
+-- the text of all functions
+pub text_is : (m parts : Parts) (imports : List Import) (imported first : ℕ) → parts ≡ m → imports ≡ parts.imports → imported ≡ count_of FuncKind imports → first ≡ first_code m → entries_text imported first m.funcs ≡ code_text m
+text_is m parts imports imported first same is count place =
+    let counted : imported ≡ count_of FuncKind m.imports = count ∙ ap (count_of FuncKind) (is ∙ ap (λ (p : Parts). p.imports) same) in
+    ap (λ (n : ℕ). entries_text n first m.funcs) counted ∙ ap (λ (n : ℕ). entries_text (count_of FuncKind m.imports) n m.funcs) place
+
+-- ---- as many items as indexes count
+
+pub few_imports : (m parts : Parts) → parts ≡ m → IsShaped m → length parts.imports < 2 ^ 32
+few_imports m parts same shaped = let few = shaped.formed.valid ImportSection in omega (arith, few.0, ap (λ (p : Parts). length p.imports) same)
+
+pub few_funcs : (m : Parts) → IsShaped m → length m.funcs < 2 ^ 32
+few_funcs m shaped = let few = shaped.formed.valid CodeSection in omega (arith, few.0, length-map m.funcs (λ (f : Func). f.body))
