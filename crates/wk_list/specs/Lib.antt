@@ -1,10 +1,10 @@
-pub mod Taken
-pub mod FaultText
-pub mod Text
-pub mod Spaces
-pub mod Headers
-pub mod Details
 pub mod CodeText
+pub mod Details
+pub mod FaultText
+pub mod Headers
+pub mod Listing
+pub mod Spaces
+pub mod Taken
+pub mod Text
 pub mod TokenText
 pub mod Uses
-pub mod Listing

@@ -78,7 +78,7 @@ fn list_expr<W: Out>(
 
 // How many bytes local groups are, without their count.
 fn groups_len(groups: &[LocalGroup]) -> u64
-    requires { length groups.now < 2 ^ 32 }
+    requires { length (flat_map written_group groups.now) ≤ limit }
     ensures { result ≡ length (flat_map written_group groups.now) }
 {
     let mut total = 0;
@@ -180,12 +180,14 @@ fn list_entries<S: Shape, W: Out>(
 
 // How many bytes the custom sections of a place are.
 fn customs_len<S: Shape>(shape: &S, place: u8) -> u32
+    requires { place < 12 }
     ensures { result ≡ length (customs_at place (S.seen shape.now).customs) }
 {
     let mut total = 0;
     for (index, custom) in shape.parts().customs.as_slice().iter().enumerate() {
         if custom.place == place {
-            total = contents_start(total, shape.custom_len(index)) + shape.custom_len(index);
+            let size = shape.custom_len(index);
+            total = contents_start(total, size) + size;
         }
     }
     total
