@@ -1,2 +1,4 @@
 pub mod TakenLemmas
 pub mod Digits
+pub mod Walk
+pub mod Sections
