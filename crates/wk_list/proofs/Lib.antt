@@ -2,3 +2,4 @@ pub mod TakenLemmas
 pub mod Digits
 pub mod Walk
 pub mod Sections
+pub mod HeaderSteps

@@ -57,11 +57,11 @@ drop-others place i c cs within is other =
     let split : drop i cs ≡ c ∷ drop (i + 1) cs = rw (add-one i) (drop-cons cs i c within ∙ ap (λ (d : Custom). d ∷ drop (suc i) cs) (sym is)) in
     rw split (rw other refl)
 
--- they are the bytes that stand at the place
-pub length-customs_of : (place : ℕ) (cs : List Custom) → flat_map custom_frame (customs_of place cs) ≡ customs_at place cs
-length-customs_of place cs = refl
+-- the bytes that stand at the place, in the same two cases
+pub length-of : (place i : ℕ) (c : Custom) (cs : List Custom) → i < length cs → c ≡ get_or cs i c → c.place ≡ place → length (customs_at place (drop i cs)) ≡ length (custom_frame c) + length (customs_at place (drop (i + 1) cs))
+length-of place i c cs within is same =
+    ap (λ (ds : List Custom). length (flat_map custom_frame ds)) (drop-of place i c cs within is same) ∙ length-append (custom_frame c) (customs_at place (drop (i + 1) cs))
 
--- ---- pieces of lines
-
-pub joined_six : (t a b c d e f g : List ℕ) → (((((((t ++ a) ++ b) ++ c) ++ d) ++ e) ++ f) ++ g) ≡ t ++ (a ++ (b ++ (c ++ (d ++ (e ++ (f ++ g))))))
-joined_six t a b c d e f g = simp append_assoc
+pub length-others : (place i : ℕ) (c : Custom) (cs : List Custom) → i < length cs → c ≡ get_or cs i c → (c.place == place) ≡ false → length (customs_at place (drop i cs)) ≡ length (customs_at place (drop (i + 1) cs))
+length-others place i c cs within is other =
+    ap (λ (ds : List Custom). length (flat_map custom_frame ds)) (drop-others place i c cs within is other)
