@@ -3,3 +3,4 @@ pub mod Digits
 pub mod Walk
 pub mod Sections
 pub mod HeaderSteps
+pub mod Told

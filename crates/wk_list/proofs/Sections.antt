@@ -40,7 +40,7 @@ named id n j k rest is later e =
       | inr f ↦ later (sym (cond-false (id == n) (Some j) rest f) ∙ e)
     ]
 
-number_of : (id : ℕ) (k : SectionId) → of_number id ≡ Some k → number k ≡ id
+pub number_of : (id : ℕ) (k : SectionId) → of_number id ≡ Some k → number k ≡ id
 number_of id k =
     named id 1 TypeSection k _ refl (named id 2 ImportSection k _ refl (named id 3 FunctionSection k _ refl (named id 4 TableSection k _ refl
     (named id 5 MemorySection k _ refl (named id 6 GlobalSection k _ refl (named id 7 ExportSection k _ refl (named id 8 StartSection k _ refl
