@@ -4,3 +4,4 @@ pub mod Walk
 pub mod Sections
 pub mod HeaderSteps
 pub mod Told
+pub mod Listings

@@ -1,18 +1,17 @@
 -- Sections as they stand in the written form and in the listing of headers: none without contents, and else one with its own id.
-use Rattle.std.proofs.Common.{◌≡◌, ℕ, ◌+◌, ◌<◌, ◌≤◌, ◌==◌, Bool, true, false, if◌then◌else◌, Option, Some, None, List, [], ◌∷◌, ◌++◌, length, refl, sym, ap, ◌∙◌, arith, inl, inr, append_assoc, append-nil, length-append}
+use Rattle.std.proofs.Common.{◌≡◌, ℕ, ◌+◌, ◌<◌, ◌==◌, Bool, true, false, if◌then◌else◌, Option, Some, None, List, [], ◌++◌, length, refl, sym, ap, ◌∙◌, arith, inl, inr, append_assoc, append-nil}
 use Rattle.std.specs.Prelude.{codes}
 use Rattle.std.proofs.lemmas.Bool.{cases_Bool, cond-true, cond-false, eqb-true}
 use Rattle.wk_bytes.specs.Short.{short}
 use Rattle.wk_bytes.specs.ShortLaws.{short-some}
 use Rattle.wk_module.specs.declared.types.Parts.{Parts}
-use Rattle.wk_module.specs.Sections.{SectionId, TypeSection, ImportSection, FunctionSection, TableSection, MemorySection, GlobalSection, ExportSection, StartSection, ElementSection, CodeSection, DataSection, number, of_number, ContentsOf, SectionLists, contents, is_full, written_contents}
+use Rattle.wk_module.specs.Sections.{SectionId, TypeSection, ImportSection, FunctionSection, TableSection, MemorySection, GlobalSection, ExportSection, StartSection, ElementSection, CodeSection, DataSection, number, of_number, ContentsOf, contents, is_full, written_contents}
 use Rattle.wk_module.specs.Shape.{lists_of}
 use Rattle.wk_module.specs.Types.{written_functype, written_tabletype, written_limits}
 use Rattle.wk_module.specs.Items.{written_import, written_global, written_export, written_elem, written_code, written_data}
-use Rattle.wk_module.specs.Writing.{framed, section_contents, section_of, section_by, contents_by}
+use Rattle.wk_module.specs.Writing.{section_contents, section_by, contents_by}
 use Rattle.wk_module.specs.WritingLaws.{some_vector}
 use Rattle.wk_list.specs.Headers.{header_text, header_line, header_tail, header_by, tail_by, contents_start}
-use Rattle.wk_list.proofs.Walk.{length-framed}
 
 -- no section that is written has empty contents
 some_contents : (k : SectionId) (x : ContentsOf k) → is_full k x ≡ true → 0 < length (written_contents k x)
@@ -69,17 +68,6 @@ put_in : {A : Type 0} (k : SectionId) (x : ContentsOf k) (full : Bool) (some : L
 put_in k x true some few = refl
 put_in k x false some few = absurd (omega arith)
 
-contents_some : (k : SectionId) (x : ContentsOf k) (full : Bool) → 0 < length (if full then written_contents k x else []) → (if full then written_contents k x else []) ≡ written_contents k x
-contents_some k x full few = put_in k x full (written_contents k x) few
-
-pub section_some : (m : Parts) (id : ℕ) (k : Option SectionId) → of_number id ≡ k → 0 < length (contents_by (lists_of m) k) → section_by (lists_of m) k ≡ framed id (contents_by (lists_of m) k)
-section_some m id None is some = absurd (omega arith)
-section_some m id (Some k) is some =
-    let x = contents (lists_of m) k in
-    put_in k x (is_full k x) (framed (number k) (written_contents k x)) some
-    ∙ ap (framed (number k)) (sym (contents_some k x (is_full k x) some))
-    ∙ ap (λ (n : ℕ). framed n (section_contents k x)) (number_of id k is)
-
 header_some : (m : Parts) (at id : ℕ) (k : Option SectionId) → of_number id ≡ k → 0 < length (contents_by (lists_of m) k) → header_by m at k ≡ header_line id at (length (contents_by (lists_of m) k)) (tail_by m k)
 header_some m at id None is some = absurd (omega arith)
 header_some m at id (Some k) is some =
@@ -87,21 +75,13 @@ header_some m at id (Some k) is some =
     put_in k x (is_full k x) (header_line (number k) at (length (section_contents k x)) (header_tail m k)) some
     ∙ ap (λ (n : ℕ). header_line n at (length (section_contents k x)) (header_tail m k)) (number_of id k is)
 
--- ---- lengths
-
--- where a section ends that begins at an offset, and that its contents start not far behind it
-pub section_end : (m : Parts) (id size : ℕ) → size ≡ length (contents_by (lists_of m) (of_number id)) → 0 < size → length (section_of m id) ≡ 1 + length (short size) + size
-section_end m id size is some =
-    let whole = section_some m id (of_number id) refl (omega (arith, is, some)) in
-    omega (arith, ap length whole, length-framed id (contents_by (lists_of m) (of_number id)), ap (λ (n : ℕ). length (short n)) is, is)
-
 -- ---- lines
 
 three : (t a b c : List ℕ) → ((t ++ a) ++ b) ++ c ≡ t ++ (a ++ (b ++ c))
 three t a b c = simp append_assoc
 
 -- a line that was gathered piece by piece
-pub line : (id at size start : ℕ) (t tail a b c : List ℕ) → start ≡ contents_start at size → a ≡ t ++ header_text id start size → b ≡ a ++ tail → c ≡ b ++ codes "\n" → c ≡ t ++ header_line id at size tail
+line : (id at size start : ℕ) (t tail a b c : List ℕ) → start ≡ contents_start at size → a ≡ t ++ header_text id start size → b ≡ a ++ tail → c ≡ b ++ codes "\n" → c ≡ t ++ header_line id at size tail
 line id at size start t tail a b c is head behind end =
     end ∙ ap (λ (x : List ℕ). x ++ codes "\n") (behind ∙ ap (λ (x : List ℕ). x ++ tail) (head ∙ ap (λ (s : ℕ). t ++ header_text id s size) is))
     ∙ three t (header_text id (contents_start at size) size) tail (codes "\n")

@@ -1,17 +1,17 @@
 -- The written form piece by piece: where each piece begins, and that all of them stay within the limit.
-use Rattle.std.proofs.Common.{◌≡◌, ℕ, zero, suc, ◌+◌, ◌<◌, ◌≤◌, ◌^◌, ◌==◌, ◌⊎◌, Bool, true, false, if◌then◌else◌, Option, Some, None, List, [], ◌∷◌, ◌++◌, length, filter, drop, get_or, refl, sym, ap, ◌∙◌, arith, inl, inr, nat_le, add-one, append_assoc, drop-cons, length-append}
+use Rattle.std.proofs.Common.{◌≡◌, ℕ, suc, ◌+◌, ◌<◌, ◌≤◌, ◌^◌, ◌==◌, false, Option, Some, None, List, ◌∷◌, ◌++◌, length, drop, get_or, refl, sym, ap, ◌∙◌, arith, nat_le, add-one, drop-cons, length-append}
 use Rattle.std.specs.Prelude.{unwrap_or}
-use Rattle.std.proofs.lemmas.Bool.{cases_Bool, cond-true, cond-false, le-leb, eqb-true, eq-eqb, ne_eqb}
+use Rattle.std.proofs.lemmas.Bool.{cond-true, le-leb, eq-eqb}
 use Rattle.std.proofs.lemmas.List.FromFn.{get_or-range_with_len}
 use Rattle.std.specs.List.{flat_map}
 use Rattle.wk_bytes.specs.Short.{short}
-use Rattle.wk_bytes.specs.ShortLaws.{short-some, short-few}
+use Rattle.wk_bytes.specs.ShortLaws.{short-few}
 use Rattle.wk_bytes.specs.Frames.{limit, magic, version}
 use Rattle.wk_body.specs.Lengths.{limited}
 use Rattle.wk_module.specs.declared.types.Parts.{Parts}
 use Rattle.wk_module.specs.declared.types.Custom.{Custom}
-use Rattle.wk_module.specs.Writing.{framed, section_of, customs_at, section_and_customs, ids, encoded, Fits}
-use Rattle.wk_list.specs.Headers.{placed, custom_frame, customs_of, headers_of, custom_header}
+use Rattle.wk_module.specs.Writing.{framed, section_of, customs_at, section_and_customs, ids, encoded}
+use Rattle.wk_list.specs.Headers.{custom_frame, customs_of}
 
 -- ---- lengths
 

@@ -35,7 +35,7 @@ loop-index-preserved g c =
           let end = custom_end c.loop-index.next w.contents_start.result w.custom_len-size.result _ custom w.contents_start.ensures long w.next-is in
           record {
             so_far = rw (w.text-is, w.out-is) (custom_taken _ _ _ _ _ _ _ c.args.place c.loop-index.next c.loop-index.index c.if-custom-place.next custom cs within is w.if-custom-place.true c.loop-index.invariant.so_far w.in_ok-put_custom.ensures w.in_ok-spill.ensures.ok end);
-            failures = rw w.out-is (w.in_ok-spill.ensures.failures ∙ c.loop-index.invariant.failures);
+            failures = rw (w.out-is, w.in_ok-spill.ensures.failures) c.loop-index.invariant.failures;
             place = omega (arith, end, length-of c.args.place c.loop-index.index custom cs within is w.if-custom-place.true, c.loop-index.invariant.place);
           }
       | else-custom-place w ↦

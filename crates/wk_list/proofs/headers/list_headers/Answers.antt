@@ -1,4 +1,4 @@
-use Rattle.std.proofs.Common.{◌<◌, refl, ◌∙◌, arith}
+use Rattle.std.proofs.Common.{◌<◌, refl, arith}
 use Rattle.wk_list.proofs.TakenLemmas.{on_err_known, leaves_same, stops_here}
 use Rattle.wk_list.proofs.Walk.{length-all}
 use Rattle.wk_list.proofs.HeaderSteps.{section_taken, section_stopped, section_fits, customs_fit, place_after}
@@ -39,6 +39,6 @@ loop-id-preserved g c =
     record {
       so_far = section_taken c.parts-parts.result.now m c.loop-id.at c.loop-id.id c.section_end-at.result c.in_ok-at.at _ _ _ _ _ _ _ c.parts-parts.ensures.value lt c.loop-id.invariant.so_far
         c.in_ok-put_section.ensures c.section_end-at.ensures c.in_ok-at.ensures.ok c.in_ok-at.ensures.end;
-      failures = c.in_ok-at.ensures.failures ∙ c.loop-id.invariant.failures;
+      failures = rw c.in_ok-at.ensures.failures c.loop-id.invariant.failures;
       place = place_after c.parts-parts.result.now m c.loop-id.at c.loop-id.id c.section_end-at.result c.in_ok-at.at c.parts-parts.ensures.value lt c.loop-id.invariant.place c.section_end-at.ensures c.in_ok-at.ensures.end;
     }

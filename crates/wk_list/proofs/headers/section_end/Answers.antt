@@ -1,4 +1,4 @@
-use Rattle.std.proofs.Common.{◌+◌, length, ap, arith}
+use Rattle.std.proofs.Common.{length, ap, arith}
 use Rattle.wk_module.specs.Sections.{of_number}
 use Rattle.wk_list.proofs.Sections.{section_none}
 use Rattle.wk_list.proofs.headers.section_end.Goals as goal

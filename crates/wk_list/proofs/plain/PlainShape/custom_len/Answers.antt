@@ -1,6 +1,5 @@
 use Rattle.std.proofs.Common.{◌≡◌, ◌∙◌, ◌<◌, length, get_or, ap}
 use Rattle.wk_module.specs.declared.types.Parts.{Parts}
-use Rattle.wk_module.specs.declared.types.Custom.{Custom}
 use Rattle.wk_list.proofs.Told.{told_custom}
 use Rattle.wk_list.proofs.plain.PlainShape.custom_len.Goals as goal
 
