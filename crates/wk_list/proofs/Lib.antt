@@ -1,6 +1,11 @@
 pub mod CodeLoop
 pub mod Digits
 pub mod Entries
+pub mod HeaderSteps
+pub mod Listings
 pub mod Offsets
+pub mod Sections
 pub mod TakenLemmas
+pub mod Told
 pub mod Trees
+pub mod Walk

@@ -32,8 +32,8 @@ impl<'a> Model for Plain<'a> {
 impl<'a> Plain<'a> {
     /// The module, or nothing exactly where it does not fit: its written form has more than 2,147,483,647 bytes. It takes no memory.
     pub fn of(whole: &'a Module) -> Option<Plain<'a>>
-        ensures some { IfSome result (λ p. (p ≡ whole.entry) × Fits whole.entry) }
-        ensures none { IfNone result (Fits whole.entry → ⊥) }
+        ensures some { IfSome result (λ p. (p ≡ whole.now) × Fits whole.now) }
+        ensures none { IfNone result (Fits whole.now → ⊥) }
     {
         encoded_len(whole)?;
         Some(Plain { whole })

@@ -1,0 +1,9 @@
+use Rattle.std.proofs.Common.{length, ap, arith}
+use Rattle.wk_module.specs.Sections.{of_number}
+use Rattle.wk_list.proofs.Sections.{section_none}
+use Rattle.wk_list.proofs.headers.section_end.Goals as goal
+
+pub returns-then-size-eq0 : goal.returns-then-size-eq0
+returns-then-size-eq0 c =
+    let none = section_none c.args.parts.now (of_number c.args.id) (omega (arith, c.requires.size, c.if-size-eq0.true)) in
+    omega (arith, ap length none)
