@@ -1,3 +1,4 @@
 pub mod TakenLemmas
 pub mod Digits
 pub mod LineSteps
+pub mod Counting
