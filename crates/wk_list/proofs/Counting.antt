@@ -2,6 +2,7 @@
 use Rattle.std.proofs.Common.{◌≡◌, ℕ, ◌+◌, ◌<◌, ◌≤◌, Bool, true, false, if◌then◌else◌, List, [], ◌∷◌, ◌++◌, length, get_or, take, sym, ap, ◌∙◌, arith}
 use Rattle.std.proofs.lemmas.List.{take_more}
 use Rattle.wk_module.specs.declared.types.Import.{Import}
+use Rattle.wk_module.specs.declared.types.ImportDesc.{ImportDesc}
 use Rattle.wk_module.specs.declared.types.Kind.{Kind}
 use Rattle.wk_list.specs.Spaces.{is_of, count_of}
 
@@ -27,3 +28,8 @@ count_more kind is at i within found =
 pub count_le : (kind : Kind) (is : List Import) → count_of kind is ≤ length is
 count_le kind [] = omega arith
 count_le kind (i ∷ is) = omega (arith, once_le (is_of kind i.desc), count_le kind is)
+
+-- a count with one import more
+pub counted_behind : (kind : Kind) (before : List Import) (i : Import) (d : ImportDesc) (old new : ℕ) → i.desc ≡ d → old ≡ count_of kind before → new ≡ old + once (is_of kind d)
+    → new ≡ count_of kind (before ++ i ∷ [])
+counted_behind kind before i d old new same counted one = omega (arith, count_behind kind before i, ap (λ (e : ImportDesc). once (is_of kind e)) same)
