@@ -2,3 +2,4 @@ pub mod TakenLemmas
 pub mod Digits
 pub mod LineSteps
 pub mod Counting
+pub mod ImportSteps
