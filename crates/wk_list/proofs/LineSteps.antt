@@ -1,5 +1,5 @@
 -- Texts of lists, item after item.
-use Rattle.std.proofs.Common.{◌≡◌, ℕ, ◌+◌, ◌<◌, Option, List, ◌++◌, length, get_or, drop, sym, ap, ◌∙◌, subst}
+use Rattle.std.proofs.Common.{◌≡◌, ℕ, zero, suc, ◌+◌, ◌<◌, Option, List, [], ◌∷◌, ◌++◌, length, get_or, slice_index_or, drop, refl, sym, ap, ◌∙◌, subst, arith}
 use Rattle.std.proofs.lemmas.List.{at_drop_more}
 use Rattle.wk_bytes.specs.Taken.{TakesFront}
 use Rattle.wk_list.specs.Taken.{Leaves}
@@ -22,3 +22,9 @@ pub step_stopped : (a b c : Option (List ℕ)) (all t rest x later between : Lis
   → Leaves a b all (t ++ rest) → rest ≡ x ++ later → between ≡ t ++ x → TakesFront b c between → TakesFront a c all
 step_stopped a b c all t rest x later between so_far e put p =
     stops_spilled a b c all t x later between (subst (λ (r : List ℕ). Leaves a b all (t ++ r)) e so_far) put p
+
+-- an index of a list is that of an item
+pub item_at : {A : Type 0} (items : List A) (i : ℕ) → i < length items → (x : A) × ((other : A) → slice_index_or items i other ≡ x)
+item_at [] i within = absurd (omega arith)
+item_at (x ∷ xs) zero within = (x, λ other. refl)
+item_at (x ∷ xs) (suc i) within = item_at xs i (omega arith)
