@@ -3,3 +3,4 @@ pub mod Digits
 pub mod LineSteps
 pub mod Counting
 pub mod ImportSteps
+pub mod Headings
