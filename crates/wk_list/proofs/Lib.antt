@@ -4,3 +4,4 @@ pub mod LineSteps
 pub mod Counting
 pub mod ImportSteps
 pub mod Headings
+pub mod CustomSteps
