@@ -1,7 +1,12 @@
 pub mod CodeLoop
+pub mod Counting
+pub mod CustomSteps
 pub mod Digits
 pub mod Entries
 pub mod HeaderSteps
+pub mod Headings
+pub mod ImportSteps
+pub mod LineSteps
 pub mod Listings
 pub mod Offsets
 pub mod Sections

@@ -1,9 +1,10 @@
 //! The details listing.
 
-ghost use Rattle.std.specs.Prelude.{◌≡◌, ◌+◌, ◌<◌, ◌-◌, ◌^◌, ◌++◌, List, ℕ, length, take, decimal, codes, OnOk, OnErr};
+ghost use Rattle.std.specs.Prelude.{◌≡◌, ◌+◌, ◌<◌, ◌-◌, ◌^◌, ◌++◌, [], length, OnOk, OnErr};
 ghost use Rattle.std.specs.List.{flat_map};
 ghost use Rattle.wk_bytes.specs.Taken.{TakesFront};
-ghost use Rattle.wk_module.specs.declared.types.Kind.TheVariants.{Func as FuncKind};
+ghost use Rattle.wk_body.specs.Written.{written_body};
+ghost use Rattle.wk_module.specs.declared.types.Func.{Func as Function};
 ghost use Rattle.wk_module.specs.Sections.{of_number};
 ghost use Rattle.wk_list.specs.Taken.{Leaves, failed_after};
 ghost use Rattle.wk_list.specs.Text.{numbered};
@@ -99,6 +100,16 @@ fn list_import_group<W: Out>(
     list_imports(alloc, imports, text, out)
 }
 
+// The line of the code of a function, whose code has that length.
+fn put_size(text: &mut Vec<u8>, index: u64, size: u32) -> Result<(), OutOfMemory>
+    ensures { (f : Function) → size ≡ length (written_body f.body) → OnOk result (text.new.items ≡ text.old.items ++ code_size_line index f) }
+{
+    put_item(text, "func", index)?;
+    put_field(text, " size=", size)?;
+    text.extend_from_slice(b"\n")?;
+    Ok(())
+}
+
 // The length of each code, of functions behind so many imported ones.
 fn list_sizes<S: Shape, W: Out>(
     shape: &S,
@@ -114,9 +125,7 @@ fn list_sizes<S: Shape, W: Out>(
 {
     let count = shape.parts().funcs.len();
     for index in 0..count {
-        put_item(text, "func", u64::from(imported) + index as u64)?;
-        put_field(text, " size=", shape.body_len(index))?;
-        text.extend_from_slice(b"\n")?;
+        put_size(text, u64::from(imported) + index as u64, shape.body_len(index))?;
         spill(text, out)?;
     }
     Ok(())

@@ -1,9 +1,12 @@
 //! The lines of imports in the details listing.
 
-ghost use Rattle.std.specs.Prelude.{◌≡◌, ◌<◌, ◌-◌, ◌^◌, ◌++◌, [], length, OnOk, OnErr};
+ghost use Rattle.std.specs.Prelude.{◌≡◌, ◌<◌, ◌-◌, ◌^◌, ◌++◌, [], List, length, OnOk, OnErr};
 ghost use Rattle.wk_bytes.specs.Taken.{TakesFront};
+ghost use Rattle.wk_module.specs.declared.types.Import.{Import as Imported};
+ghost use Rattle.wk_module.specs.Items.{desc_kind};
 ghost use Rattle.wk_list.specs.Taken.{Leaves, failed_after};
-ghost use Rattle.wk_list.specs.Details.{desc_text, import_head, import_lines};
+ghost use Rattle.wk_list.specs.Spaces.{count_of};
+ghost use Rattle.wk_list.specs.Details.{desc_text, import_head, import_line, import_lines};
 
 use crate::fault::ListFault;
 use crate::page::spill;
@@ -43,6 +46,23 @@ fn put_head(
     Ok(())
 }
 
+// The line of the import at an index, which has an index of its own in the space of its kind.
+fn put_import(
+    alloc: Global,
+    text: &mut Vec<u8>,
+    index: u64,
+    own: u64,
+    import: &Import,
+) -> Result<(), OutOfMemory>
+    ensures { (before : List Imported) → index ≡ length before → own ≡ count_of (desc_kind (import.now).desc) before → OnOk result (text.new.items ≡ text.old.items ++ import_line before import.now) }
+{
+    put_head(alloc, text, index, import)?;
+    put_indexed(text, kind_name(kind_of(&import.desc)), own)?;
+    put_desc(text, &import.desc)?;
+    text.extend_from_slice(b"\n")?;
+    Ok(())
+}
+
 /// The lines of all imports.
 pub(crate) fn list_imports<W: Out>(
     alloc: Global,
@@ -59,10 +79,7 @@ pub(crate) fn list_imports<W: Out>(
     let mut counts = Counts::new();
     for (index, import) in imports.iter().enumerate() {
         let own = counts.take(&import.desc);
-        put_head(alloc, text, index as u64, import)?;
-        put_indexed(text, kind_name(kind_of(&import.desc)), own)?;
-        put_desc(text, &import.desc)?;
-        text.extend_from_slice(b"\n")?;
+        put_import(alloc, text, index as u64, own, import)?;
         spill(text, out)?;
     }
     Ok(())

@@ -97,7 +97,8 @@ impl Lines for FuncRows {
         index: u32,
         func: &Func,
     ) -> Result<(), OutOfMemory> {
-        put_item(text, "func", u64::from(self.imported) + u64::from(index))?;
+        let FuncRows { imported } = *self;
+        put_item(text, "func", u64::from(imported) + u64::from(index))?;
         put_field(text, " type=", func.ty)?;
         text.extend_from_slice(b"\n")?;
         Ok(())
@@ -125,7 +126,8 @@ impl Lines for TableRows {
         index: u32,
         table: &Limits,
     ) -> Result<(), OutOfMemory> {
-        put_item(text, "table", u64::from(self.imported) + u64::from(index))?;
+        let TableRows { imported } = *self;
+        put_item(text, "table", u64::from(imported) + u64::from(index))?;
         put_limits(text, table)?;
         text.extend_from_slice(b"\n")?;
         Ok(())
@@ -153,7 +155,8 @@ impl Lines for MemoryRows {
         index: u32,
         memory: &Limits,
     ) -> Result<(), OutOfMemory> {
-        put_item(text, "memory", u64::from(self.imported) + u64::from(index))?;
+        let MemoryRows { imported } = *self;
+        put_item(text, "memory", u64::from(imported) + u64::from(index))?;
         put_limits(text, memory)?;
         text.extend_from_slice(b"\n")?;
         Ok(())
@@ -181,7 +184,8 @@ impl Lines for GlobalRows {
         index: u32,
         global: &GlobalDef,
     ) -> Result<(), OutOfMemory> {
-        put_item(text, "global", u64::from(self.imported) + u64::from(index))?;
+        let GlobalRows { imported } = *self;
+        put_item(text, "global", u64::from(imported) + u64::from(index))?;
         put_globaltype(text, global.ty)?;
         put_code(alloc, text, " init=", &global.init)?;
         text.extend_from_slice(b"\n")?;

@@ -1,6 +1,6 @@
 //! Index spaces: what is imported of a kind comes first in the space of that kind (2.5.1).
 
-ghost use Rattle.std.specs.Prelude.{◌≡◌, ◌<◌, ◌^◌, ◌++◌, ◌∷◌, [], List, length};
+ghost use Rattle.std.specs.Prelude.{◌≡◌, ◌<◌, ◌+◌, ◌-◌, ◌^◌, ◌++◌, ◌∷◌, [], List, length};
 ghost use Rattle.wk_module.specs.declared.types.Import.{Import as Imported};
 ghost use Rattle.wk_module.specs.Items.{desc_kind};
 ghost use Rattle.wk_list.specs.Spaces.{is_of, count_of, AreCounted};
@@ -49,6 +49,17 @@ pub(crate) fn count_of(kind: Kind, imports: &[Import]) -> u32
     count
 }
 
+// Counts one more. Answers how many there were before.
+fn one_more(count: &mut u64) -> u64
+    requires { count.old < 2 ^ 64 - 1 }
+    ensures before { result ≡ count.old }
+    ensures counted { count.new ≡ count.old + 1 }
+{
+    let before = *count;
+    *count += 1;
+    before
+}
+
 impl Counts {
     /// Before any import.
     pub(crate) fn new() -> Counts
@@ -68,14 +79,11 @@ impl Counts {
         ensures index { (before : List Imported) → AreCounted self.old before → result ≡ count_of (desc_kind desc.now) before }
         ensures counted { (before : List Imported) (import : Imported) → import.desc ≡ desc.now → AreCounted self.old before → AreCounted self.new (before ++ import ∷ []) }
     {
-        let count = match desc {
-            ImportDesc::Func(_) => &mut self.funcs,
-            ImportDesc::Table(_) => &mut self.tables,
-            ImportDesc::Memory(_) => &mut self.memories,
-            ImportDesc::Global(_) => &mut self.globals,
-        };
-        let index = *count;
-        *count += 1;
-        index
+        match desc {
+            ImportDesc::Func(_) => one_more(&mut self.funcs),
+            ImportDesc::Table(_) => one_more(&mut self.tables),
+            ImportDesc::Memory(_) => one_more(&mut self.memories),
+            ImportDesc::Global(_) => one_more(&mut self.globals),
+        }
     }
 }

@@ -1,0 +1,12 @@
+use Rattle.std.proofs.Common.{[], sym, ◌∙◌}
+use Rattle.std.proofs.lemmas.Result.{on_err_weaker}
+use Rattle.wk_list.specs.Details.{import_lines}
+use Rattle.wk_list.proofs.Headings.{heading_stopped}
+use Rattle.wk_list.proofs.details.list_import_group.Goals as goal
+
+pub returns-clause-err : goal.returns-clause-err
+returns-clause-err g c =
+    let some = sym c.is_empty.ensures ∙ c.if-is_empty.false in
+    on_err_weaker c.list_imports.result (
+        heading_stopped _ _ c.args.id c.args.imports.now (import_lines [] c.args.imports.now) c.args.text.now.items _ some c.in_ok-put_heading.ensures)
+        c.list_imports.ensures.err
