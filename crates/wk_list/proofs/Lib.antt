@@ -1,2 +1,3 @@
 pub mod TakenLemmas
 pub mod Digits
+pub mod HexText
