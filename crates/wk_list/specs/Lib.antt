@@ -7,4 +7,5 @@ pub mod Details
 pub mod CodeText
 pub mod TokenText
 pub mod Uses
+pub mod UsesLaws
 pub mod Listing
