@@ -1,6 +1,6 @@
 -- Hexadecimal digits from the highest on.
-use Rattle.std.proofs.Common.{◌≡◌, ℕ, zero, suc, ◌+◌, ◌*◌, ◌/◌, ◌%◌, ◌^◌, List, [], ◌∷◌, ◌++◌, refl, sym, ap, ◌∙◌, append_assoc, arith}
-use native.Mathlib.Nat.{pow-suc, div-div-eq-div-mul, div-one, mul_comm}
+use Rattle.std.proofs.Common.{◌≡◌, ℕ, zero, suc, ◌+◌, ◌*◌, ◌/◌, ◌%◌, ◌^◌, ◌<◌, List, [], ◌∷◌, ◌++◌, refl, sym, ap, ◌∙◌, append_assoc, append-nil, arith}
+use native.Mathlib.Nat.{pow-suc, div-div-eq-div-mul, div-one, mul_comm, mul_assoc, mod-lt, mod-eq_of_lt, mul-add-mod_self_left, div-add-mod}
 use Rattle.wk_bytes.specs.HexDigits.{hex_digit, hex_digits}
 
 -- the highest digit comes first
@@ -15,7 +15,58 @@ first_digit (suc k) n =
 pub eight : (n : ℕ) → hex_digits 8 n
     ≡ hex_digit (n / 0x10000000 % 16) ∷ hex_digit (n / 0x1000000 % 16) ∷ hex_digit (n / 0x100000 % 16) ∷ hex_digit (n / 0x10000 % 16)
     ∷ hex_digit (n / 0x1000 % 16) ∷ hex_digit (n / 0x100 % 16) ∷ hex_digit (n / 0x10 % 16) ∷ hex_digit (n % 16) ∷ []
-eight n = ?
+unfolding hex_digits
+eight n = rw (first_digit 7 n, first_digit 6 n, first_digit 5 n, first_digit 4 n, first_digit 3 n, first_digit 2 n, first_digit 1 n) refl
+
+-- ---- a number's digits in two halves
+
+pow_pos : (j : ℕ) → 0 < 16 ^ j
+pow_pos zero = omega arith
+pow_pos (suc j) = let h : 0 < 16 ^ j = pow_pos j in rw (pow-suc 16 j) (omega arith)
+
+-- what is left behind the higher digits
+left_over : (j n : ℕ) → n % 16 ^ suc j ≡ 16 * (n / 16 % 16 ^ j) + n % 16
+left_over j n =
+    let m : ℕ = 16 ^ j in
+    let r : ℕ = 16 * (n / 16 % m) + n % 16 in
+    let below : n / 16 % m < m = mod-lt (n / 16) (pow_pos j) in
+    let parts : m * (n / 16 / m) + n / 16 % m ≡ n / 16 = div-add-mod (n / 16) m in
+    let size : 16 ^ suc j ≡ 16 * m = pow-suc 16 j ∙ mul_comm m 16 in
+    let small : r < 16 * m = omega arith in
+    let regroup : 16 * m * (n / 16 / m) ≡ 16 * (m * (n / 16 / m)) = mul_assoc 16 m (n / 16 / m) in
+    let whole : 16 * m * (n / 16 / m) + r ≡ n = omega arith in
+    ap (λ (k : ℕ). n % k) size ∙ ap (λ (k : ℕ). k % (16 * m)) (sym whole) ∙ mul-add-mod_self_left (16 * m) (n / 16 / m) r ∙ mod-eq_of_lt small
+
+low_digits : (j n : ℕ) → hex_digits j (n % 16 ^ j) ≡ hex_digits j n
+unfolding hex_digits
+low_digits zero n = refl
+low_digits (suc j) n =
+    let e : n % 16 ^ suc j ≡ 16 * (n / 16 % 16 ^ j) + n % 16 = left_over j n in
+    let above : n % 16 ^ suc j / 16 ≡ n / 16 % 16 ^ j = omega arith in
+    let last : n % 16 ^ suc j % 16 ≡ n % 16 = omega arith in
+    ap (λ (k : ℕ). hex_digits j k ++ hex_digit (n % 16 ^ suc j % 16) ∷ []) above
+    ∙ ap (λ (k : ℕ). hex_digits j (n / 16 % 16 ^ j) ++ hex_digit k ∷ []) last
+    ∙ ap (λ (ds : List ℕ). ds ++ hex_digit (n % 16) ∷ []) (low_digits j (n / 16))
+
+split_digits : (j k n : ℕ) → hex_digits (j + k) n ≡ hex_digits k (n / 16 ^ j) ++ hex_digits j n
+unfolding hex_digits
+split_digits zero k n =
+    let same : 0 + k ≡ k = omega arith in
+    ap (λ (m : ℕ). hex_digits m n) same ∙ ap (λ (m : ℕ). hex_digits k m) (sym (div-one n)) ∙ sym (append-nil (hex_digits k (n / 1)))
+split_digits (suc j) k n =
+    let next : suc j + k ≡ suc (j + k) = omega arith in
+    let deeper : n / 16 / 16 ^ j ≡ n / 16 ^ suc j = div-div-eq-div-mul n 16 (16 ^ j) ∙ ap (λ (m : ℕ). n / m) (mul_comm 16 (16 ^ j) ∙ sym (pow-suc 16 j)) in
+    ap (λ (m : ℕ). hex_digits m n) next
+    ∙ ap (λ (ds : List ℕ). ds ++ hex_digit (n % 16) ∷ []) (split_digits j k (n / 16))
+    ∙ append_assoc (hex_digits k (n / 16 / 16 ^ j)) (hex_digits j (n / 16)) (hex_digit (n % 16) ∷ [])
+    ∙ ap (λ (m : ℕ). hex_digits k m ++ (hex_digits j (n / 16) ++ hex_digit (n % 16) ∷ [])) deeper
 
 pub sixteen : (n : ℕ) → hex_digits 16 n ≡ hex_digits 8 (n / 0x100000000) ++ hex_digits 8 (n % 0x100000000)
-sixteen n = ?
+sixteen n = split_digits 8 8 n ∙ ap (λ (ds : List ℕ). hex_digits 8 (n / 0x100000000) ++ ds) (sym (low_digits 8 n))
+
+-- the one half behind the other
+pub halves : (n : ℕ) (old between : List ℕ) → between ≡ old ++ hex_digits 8 (n / 0x100000000) → between ++ hex_digits 8 (n % 0x100000000) ≡ old ++ hex_digits 16 n
+halves n old between e =
+    ap (λ (ds : List ℕ). ds ++ hex_digits 8 (n % 0x100000000)) e
+    ∙ append_assoc old (hex_digits 8 (n / 0x100000000)) (hex_digits 8 (n % 0x100000000))
+    ∙ ap (λ (ds : List ℕ). old ++ ds) (sym (sixteen n))

@@ -5,6 +5,7 @@ pub mod Digits
 pub mod Entries
 pub mod HeaderSteps
 pub mod Headings
+pub mod HexText
 pub mod ImportSteps
 pub mod LineSteps
 pub mod Listings

@@ -8,3 +8,4 @@ pub mod Taken
 pub mod Text
 pub mod TokenText
 pub mod Uses
+pub mod UsesLaws

@@ -1,6 +1,6 @@
 //! Pieces of text, each put behind what was gathered.
 
-ghost use Rattle.std.specs.Prelude.{◌≡◌, ◌<◌, ◌++◌, codes, decimal, replicate, OnOk};
+ghost use Rattle.std.specs.Prelude.{◌≡◌, ◌<◌, ◌^◌, ◌++◌, codes, decimal, replicate, OnOk};
 ghost use Rattle.std.specs.Fmt.{signed_decimal};
 ghost use Rattle.std.specs.List.{flat_map};
 ghost use Rattle.hex.specs.Hex.{encode_lower};
@@ -43,7 +43,6 @@ pub(crate) fn put_hex8(text: &mut Vec<u8>, n: u32) -> Result<(), OutOfMemory>
 }
 
 /// A word of 64 bits in sixteen hexadecimal digits.
-#[tactic(auto, using(crate::proofs::Digits::sixteen))]
 pub(crate) fn put_hex16(text: &mut Vec<u8>, word: u64) -> Result<(), OutOfMemory>
     ensures { OnOk result (text.new.items ≡ text.old.items ++ hex_digits 16 word) }
 {

@@ -61,8 +61,9 @@ impl Lines for UseRows {
         index: u32,
         func: &Func,
     ) -> Result<(), OutOfMemory> {
+        let UseRows { imported } = *self;
         let references = uses(alloc, func.ty, &func.body)?;
-        put_indexed(text, "func", u64::from(self.imported) + u64::from(index))?;
+        put_indexed(text, "func", u64::from(imported) + u64::from(index))?;
         text.extend_from_slice(b":")?;
         put_refs(text, &references)?;
         text.extend_from_slice(b"\n")?;
