@@ -122,7 +122,11 @@ fn edit_command<'a>(alloc: Global) -> Result<Command<'a>, AllocError> {
 fn objdump_command<'a>(alloc: Global) -> Result<Command<'a>, AllocError> {
     Command::new(alloc, "objdump")
         .about("Lists parts of a module, by its written form")
-        .arg(flag(alloc, "headers", "lists the sections; so it is without any of these options"))?
+        .arg(flag(
+            alloc,
+            "headers",
+            "lists the sections; so it is without any of these options",
+        ))?
         .arg(flag(alloc, "details", "lists the items of each section"))?
         .arg(flag(alloc, "code", "lists the instructions of each function"))?
         .arg(flag(alloc, "uses", "lists what each function refers to"))?

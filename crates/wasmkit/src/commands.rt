@@ -1,7 +1,9 @@
 //! The commands.
 ghost use Rattle.std.specs.Prelude.{◌-◌, ◌<◌, ◌^◌};
 
-use crate::command::{Asked, EditCommand, ObjdumpCommand, StripCommand, ValidateCommand, read_words};
+use crate::command::{
+    Asked, EditCommand, ObjdumpCommand, StripCommand, ValidateCommand, read_words,
+};
 use crate::dumping::list_parts;
 use crate::fault::ProgramFault;
 use crate::listing::{Listing, list_sections};
