@@ -5,6 +5,7 @@ use clap::{Arg, ArgAction, ArgMatches, Command};
 use std::alloc::{AllocError, Global};
 use wk_bytes::Text;
 use wk_edit::read_name;
+use wk_list::Part;
 use wk_module::Profile;
 
 /// What the words ask for.
@@ -12,6 +13,8 @@ use wk_module::Profile;
 pub enum Asked<'a> {
     /// `edit`
     Edit(EditCommand<'a>),
+    /// `objdump`
+    Objdump(ObjdumpCommand<'a>),
     /// `sections FILE`: the name of the file, as it stands.
     Sections(&'a str),
     /// `strip`
@@ -31,6 +34,17 @@ pub struct EditCommand<'a> {
     pub script: &'a str,
     /// Where the edited module goes.
     pub out: &'a str,
+}
+
+/// `objdump [--headers] [--details] [--code] [--uses] [--extended] FILE`: the name of the file, as it stands.
+#[derive(Debug, Drop)]
+pub struct ObjdumpCommand<'a> {
+    /// The parts that are listed, in their order.
+    pub parts: Vec<Part>,
+    /// The profile that the module is read in.
+    pub profile: Profile,
+    /// The module.
+    pub file: &'a str,
 }
 
 /// `strip [--keep NAME] [--extended] FILE OUT`: the names of files, as they stand.
@@ -55,6 +69,14 @@ pub struct ValidateCommand<'a> {
     pub file: &'a str,
 }
 
+/// The parts of a listing, in their order, each with the option that asks for it.
+const PARTS: [(&str, Part); 4] = [
+    ("headers", Part::Headers),
+    ("details", Part::Details),
+    ("code", Part::Code),
+    ("uses", Part::Uses),
+];
+
 fn word<'a>(alloc: Global, id: &'static str, help: &'static str) -> Arg<'a> {
     Arg::new(alloc, id)
         .required(true)
@@ -62,12 +84,21 @@ fn word<'a>(alloc: Global, id: &'static str, help: &'static str) -> Arg<'a> {
         .help(help)
 }
 
+// An option without a value.
+fn flag<'a>(alloc: Global, id: &'static str, help: &'static str) -> Arg<'a> {
+    Arg::new(alloc, id)
+        .long(id)
+        .action(ArgAction::SetTrue)
+        .help(help)
+}
+
 // `--extended`, the option of commands that read a module.
 fn extended<'a>(alloc: Global) -> Arg<'a> {
-    Arg::new(alloc, "extended")
-        .long("extended")
-        .action(ArgAction::SetTrue)
-        .help("reads sign extension, and blocks of any function type, as well")
+    flag(
+        alloc,
+        "extended",
+        "reads sign extension, and blocks of any function type, as well",
+    )
 }
 
 // The profile that was asked for.
@@ -86,6 +117,21 @@ fn edit_command<'a>(alloc: Global) -> Result<Command<'a>, AllocError> {
         .arg(word(alloc, "FILE", "the module"))?
         .arg(word(alloc, "SCRIPT", "the edits, one a line"))?
         .arg(word(alloc, "OUT", "where the edited module goes"))
+}
+
+fn objdump_command<'a>(alloc: Global) -> Result<Command<'a>, AllocError> {
+    Command::new(alloc, "objdump")
+        .about("Lists parts of a module, by its written form")
+        .arg(flag(
+            alloc,
+            "headers",
+            "lists the sections; so it is without any of these options",
+        ))?
+        .arg(flag(alloc, "details", "lists the items of each section"))?
+        .arg(flag(alloc, "code", "lists the instructions of each function"))?
+        .arg(flag(alloc, "uses", "lists what each function refers to"))?
+        .arg(extended(alloc))?
+        .arg(word(alloc, "FILE", "the module"))
 }
 
 fn sections_command<'a>(alloc: Global) -> Result<Command<'a>, AllocError> {
@@ -117,10 +163,11 @@ fn validate_command<'a>(alloc: Global) -> Result<Command<'a>, AllocError> {
 
 fn command<'a>(alloc: Global) -> Result<Command<'a>, AllocError> {
     Command::new(alloc, "wasmkit")
-        .about("Reads, judges and edits WebAssembly 1.0 binary modules")
+        .about("Reads, judges, lists and edits WebAssembly 1.0 binary modules")
         .no_binary_name(true)
         .subcommand_required(true)
         .subcommand(edit_command(alloc)?)?
+        .subcommand(objdump_command(alloc)?)?
         .subcommand(sections_command(alloc)?)?
         .subcommand(strip_command(alloc)?)?
         .subcommand(validate_command(alloc)?)
@@ -142,6 +189,34 @@ fn read_edit<'a>(found: &ArgMatches<'a>) -> Result<EditCommand<'a>, ProgramFault
         file,
         script,
         out,
+    })
+}
+
+// The parts that were asked for: the headers where there are none.
+fn read_parts(alloc: Global, found: &ArgMatches<'_>) -> Result<Vec<Part>, AllocError> {
+    let mut parts = Vec::new(alloc);
+    for (option, part) in PARTS {
+        if found.get_flag(option) {
+            parts.push(part)?;
+        }
+    }
+    if parts.is_empty() {
+        parts.push(Part::Headers)?;
+    }
+    Ok(parts)
+}
+
+fn read_objdump<'a>(
+    alloc: Global,
+    found: &ArgMatches<'a>,
+) -> Result<ObjdumpCommand<'a>, ProgramFault<'a>> {
+    let Some(file) = found.get_str("FILE") else {
+        return Err(ProgramFault::BadWords);
+    };
+    Ok(ObjdumpCommand {
+        parts: read_parts(alloc, found)?,
+        profile: profile_of(found),
+        file,
     })
 }
 
@@ -193,6 +268,7 @@ pub fn read_words<'a>(alloc: Global, words: &'a [String]) -> Result<Asked<'a>, P
     let matches = command(alloc)?.try_get_matches_from(words)?;
     match matches.subcommand() {
         Some(("edit", found)) => Ok(Asked::Edit(read_edit(found)?)),
+        Some(("objdump", found)) => Ok(Asked::Objdump(read_objdump(alloc, found)?)),
         Some(("sections", found)) => match found.get_str("FILE") {
             Some(file) => Ok(Asked::Sections(file)),
             None => Err(ProgramFault::BadWords),

@@ -1,7 +1,10 @@
 //! The commands.
 ghost use Rattle.std.specs.Prelude.{◌-◌, ◌<◌, ◌^◌};
 
-use crate::command::{Asked, EditCommand, StripCommand, ValidateCommand, read_words};
+use crate::command::{
+    Asked, EditCommand, ObjdumpCommand, StripCommand, ValidateCommand, read_words,
+};
+use crate::dumping::list_parts;
 use crate::fault::ProgramFault;
 use crate::listing::{Listing, list_sections};
 use crate::store::Store;
@@ -9,6 +12,7 @@ use crate::validation::{Validation, validate};
 use std::alloc::Global;
 use wk_bytes::{Out, ReadFault, ReadKind, Sink, put_all};
 use wk_edit::{Status, edit_in, malformed_line};
+use wk_list::Plain;
 use wk_module::{EncodeFault, encode, read_in};
 use wk_session::stripped;
 
@@ -60,7 +64,7 @@ fn run_sections<'a, S: Store, X: Out>(
         .load(file)
         .map_err(|fault| ProgramFault::of_load(fault, file))?;
     let Listing { text, has_fault } = list_sections(alloc, &input)?;
-    put_all(out, text.as_bytes()).map_err(|_| ProgramFault::Output)?;
+    put_all(out, &text).map_err(|_| ProgramFault::Output)?;
     Ok(if has_fault { 2 } else { 0 })
 }
 
@@ -78,6 +82,34 @@ fn refuse_module<'a, X: Out>(
     let line = malformed_line(alloc, fault)?;
     put_all(out, line.as_bytes()).map_err(|_| ProgramFault::Output)?;
     Ok(2)
+}
+
+// Lists parts of a module: they go out as they are worked out.
+fn run_objdump<'a, S: Store, X: Out>(
+    alloc: Global,
+    command: ObjdumpCommand<'a>,
+    store: &mut S,
+    out: &mut X,
+) -> Result<u8, ProgramFault<'a>>
+    requires { X.failed out.old < 2 ^ 64 - 1 }
+{
+    let ObjdumpCommand {
+        parts,
+        profile,
+        file,
+    } = command;
+    let input = store
+        .load(file)
+        .map_err(|fault| ProgramFault::of_load(fault, file))?;
+    let module = match read_in(alloc, &input, profile) {
+        Ok(module) => module,
+        Err(fault) => return refuse_module(alloc, &fault, out),
+    };
+    let Some(plain) = Plain::of(&module) else {
+        unreachable!()
+    };
+    list_parts(alloc, &plain, &parts, out)?;
+    Ok(0)
 }
 
 // Removes the custom sections of a module: OUT is made once all is computed, and nothing is printed.
@@ -141,6 +173,7 @@ fn answer<'a, S: Store, X: Out>(
 {
     match read_words(alloc, words)? {
         Asked::Edit(command) => run_edit(alloc, command, store, out),
+        Asked::Objdump(command) => run_objdump(alloc, command, store, out),
         Asked::Sections(file) => run_sections(alloc, file, store, out),
         Asked::Strip(command) => run_strip(alloc, command, store, out),
         Asked::Validate(command) => run_validate(alloc, command, store, out),

@@ -6,6 +6,7 @@ use std::alloc::{AllocError, AllocFailed};
 use thiserror::Error;
 use wk_bytes::OutOfMemory;
 use wk_edit::RunFault;
+use wk_list::ListFault;
 
 /// Why a command gives no answer. Its text, which ends with LF, goes to standard error.
 #[derive(Debug, Drop, Error)]
@@ -70,6 +71,15 @@ impl<'a> From<clap::Error> for ProgramFault<'a> {
 impl<'a> From<RunFault> for ProgramFault<'a> {
     fn from(_fault: RunFault) -> ProgramFault<'a> {
         ProgramFault::Memory
+    }
+}
+
+impl<'a> From<ListFault> for ProgramFault<'a> {
+    fn from(fault: ListFault) -> ProgramFault<'a> {
+        match fault {
+            ListFault::Write => ProgramFault::Output,
+            ListFault::Memory => ProgramFault::Memory,
+        }
     }
 }
 

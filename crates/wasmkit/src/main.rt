@@ -1,8 +1,9 @@
-//! `wasmkit`: reads, judges and edits WebAssembly 1.0 binary modules.
+//! `wasmkit`: reads, judges, lists and edits WebAssembly 1.0 binary modules.
 #![tactic(auto)]
 
 mod command;
 mod commands;
+mod dumping;
 mod fault;
 mod files;
 mod listing;
@@ -45,6 +46,8 @@ fn main(rt: HostRuntime) -> io::Result<ExitCode> {
 
 #[cfg(test)]
 mod tests;
+#[cfg(test)]
+mod tests_objdump;
 #[cfg(test)]
 mod tests_strip;
 #[cfg(test)]

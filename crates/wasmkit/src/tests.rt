@@ -169,7 +169,7 @@ fn edits(rt: HostRuntime) -> Result<(), Fail> {
 }
 
 // Words, the status, and what is said.
-const REFUSED: [(&[&str], u8, &str); 35] = [
+const REFUSED: [(&[&str], u8, &str); 41] = [
     (
         &["edit", "none", "script", "out.wasm"],
         4,
@@ -206,6 +206,12 @@ const REFUSED: [(&[&str], u8, &str); 35] = [
         3,
         "",
     ),
+    (&["objdump", "none"], 4, "cannot read none\n"),
+    (&["objdump", "--code", "large"], 5, "out of memory\n"),
+    (&["objdump", "--code"], 3, ""),
+    (&["objdump", "in.wasm", "more"], 3, ""),
+    (&["objdump", "--uses", "--uses", "in.wasm"], 3, ""),
+    (&["objdump", "--symbols", "in.wasm"], 3, ""),
     (&["sections", "none"], 4, "cannot read none\n"),
     (&["sections", "large"], 5, "out of memory\n"),
     (&["sections"], 3, ""),
@@ -306,9 +312,10 @@ fn says_what_is_not_saved(rt: HostRuntime) -> Result<(), Fail> {
 #[test]
 fn says_what_is_not_printed(rt: HostRuntime) -> Result<(), Fail> {
     let alloc = rt.alloc();
-    let rows: [(&[&str], &[u8], Option<&[u8]>); 2] = [
+    let rows: [(&[&str], &[u8], Option<&[u8]>); 3] = [
         (&EDIT, EMPTY, Some(ONE_TYPE)),
         (&["sections", "in.wasm"], CUSTOMS, None),
+        (&["objdump", "in.wasm"], CUSTOMS, None),
     ];
     for (words, module, saved) in rows {
         let words = owned(alloc, words)?;

@@ -20,11 +20,11 @@ const NO_FUNCTION: &[u8] =
     b"\0asm\x01\0\0\0\x01\x04\x01\x60\0\0\x03\x02\x01\0\x04\x04\x01\x70\0\x01\
     \x08\x01\0\x09\x07\x01\0\x41\0\x0b\x01\x05\x0a\x04\x01\x02\0\x0b";
 
-// What a command answers: its status, what it prints, and what it says on standard error.
-type Answer = (u8, &'static [u8], &'static [u8]);
+/// What a command answers: its status, what it prints, and what it says on standard error.
+pub(crate) type Answer = (u8, &'static [u8], &'static [u8]);
 
-// Runs a command on a module, and says what is not as wanted.
-fn wrong_in(
+/// Runs a command on a module, and says what is not as wanted.
+pub(crate) fn wrong_in(
     alloc: Global,
     words: &[&str],
     module: &'static [u8],

@@ -10,6 +10,7 @@ mod bodies;
 mod bytes;
 mod jobs;
 mod judging;
+mod listings;
 mod mark;
 mod modules;
 mod outcome;

@@ -5,7 +5,7 @@ use crate::sample::{
     MODULE, STRIPPED, VALID, WHOLE, WITH_BYTES, WITH_CUSTOM, WITH_TYPE, WITHOUT_CUSTOMS,
 };
 use crate::sinks::Room;
-use crate::{bodies, bytes, jobs, judging, modules, sample, sessions};
+use crate::{bodies, bytes, jobs, judging, listings, modules, sample, sessions};
 use std::alloc::{AllocError, Global};
 use wk_session::{Edit, EditFault};
 
@@ -80,6 +80,18 @@ pub enum Scenario {
     JudgeBody,
     /// `Whole::of`.
     SeeWhole,
+    /// `Plain::of`.
+    Plain,
+    /// `list` of the headers of a module with every section.
+    ListHeaders,
+    /// `list` of its details.
+    ListDetails,
+    /// `list` of code.
+    ListCode,
+    /// `list` of what code refers to.
+    ListUses,
+    /// `list` of code to a full `Sink`.
+    ListToFull,
     /// `Session::open`.
     Open,
     /// `Session::apply` of a type.
@@ -116,7 +128,7 @@ pub enum Scenario {
 
 impl Scenario {
     /// All scenarios, in the order in which they are run.
-    pub const ALL: [Scenario; 50] = [
+    pub const ALL: [Scenario; 56] = [
         Scenario::PutU32,
         Scenario::PutS32,
         Scenario::PutS33,
@@ -151,6 +163,12 @@ impl Scenario {
         Scenario::JudgeAround,
         Scenario::JudgeBody,
         Scenario::SeeWhole,
+        Scenario::Plain,
+        Scenario::ListHeaders,
+        Scenario::ListDetails,
+        Scenario::ListCode,
+        Scenario::ListUses,
+        Scenario::ListToFull,
         Scenario::Open,
         Scenario::ApplyType,
         Scenario::ApplyStrip,
@@ -206,6 +224,12 @@ impl Scenario {
             Scenario::JudgeAround => "judge-around",
             Scenario::JudgeBody => "judge-body",
             Scenario::SeeWhole => "see-whole",
+            Scenario::Plain => "plain-in-room",
+            Scenario::ListHeaders => "list-headers",
+            Scenario::ListDetails => "list-details",
+            Scenario::ListCode => "list-code",
+            Scenario::ListUses => "list-uses",
+            Scenario::ListToFull => "list-to-full",
             Scenario::Open => "open",
             Scenario::ApplyType => "apply-type",
             Scenario::ApplyStrip => "apply-strip-in-room",
@@ -270,6 +294,12 @@ impl Scenario {
             Scenario::JudgeAround => judging::judges_around(alloc),
             Scenario::JudgeBody => judging::judges_body(alloc),
             Scenario::SeeWhole => judging::sees_whole(alloc),
+            Scenario::Plain => listings::sees_plain(alloc),
+            Scenario::ListHeaders => listings::lists(alloc, listings::HEADERS, Room::Ample),
+            Scenario::ListDetails => listings::lists(alloc, listings::DETAILS, Room::Ample),
+            Scenario::ListCode => listings::lists(alloc, listings::CODE, Room::Ample),
+            Scenario::ListUses => listings::lists(alloc, listings::USES, Room::Ample),
+            Scenario::ListToFull => listings::lists(alloc, listings::CODE, Room::Full),
             Scenario::Open => sessions::opens(alloc),
             Scenario::ApplyType => sessions::applies(alloc, &sample::add_type(alloc)?, WITH_TYPE),
             Scenario::ApplyStrip => sessions::applies(

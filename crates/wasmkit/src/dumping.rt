@@ -1,0 +1,29 @@
+//! Listing parts of a module.
+ghost use Rattle.std.specs.Prelude.{◌≡◌, ◌-◌, ◌<◌, ◌^◌, OnOk, OnErr};
+ghost use Rattle.std.specs.Io.KnownBytes.{Appends};
+ghost use Rattle.std.specs.List.{flat_map};
+ghost use Rattle.wk_bytes.specs.Taken.{TakesFront};
+ghost use Rattle.wk_list.specs.Listing.{listing};
+ghost use Rattle.wk_list.specs.Taken.{failed_after};
+
+use std::alloc::Global;
+use wk_bytes::Out;
+use wk_list::{ListFault, Part, Plain, list};
+
+/// Lists these parts of a module, one behind the other. After a fault a beginning of them was taken.
+pub fn list_parts<X: Out>(
+    alloc: Global,
+    plain: &Plain<'_>,
+    parts: &[Part],
+    out: &mut X,
+) -> Result<(), ListFault>
+    requires { X.failed out.old < 2 ^ 64 - 1 }
+    ensures ok { OnOk result (Appends (X.taken out.old) (X.taken out.new) (flat_map (listing plain.now) parts.now)) }
+    ensures err { OnErr result (TakesFront (X.taken out.old) (X.taken out.new) (flat_map (listing plain.now) parts.now)) }
+    ensures failures { X.failed out.new ≡ failed_after (X.failed out.old) result }
+{
+    for part in parts {
+        list(alloc, plain, *part, out)?;
+    }
+    Ok(())
+}
