@@ -1,6 +1,6 @@
 -- Where the pieces of the written form stand.
-use Rattle.std.proofs.Common.{◌≡◌, ℕ, ◌+◌, ◌<◌, ◌≤◌, ◌^◌, ◌==◌, Bool, true, false, List, [], ◌∷◌, ◌++◌, length, map, take, drop, get_or, slice_index_or, refl, sym, ap, ◌∙◌, arith, length-append}
-use Rattle.std.proofs.lemmas.Bool.{eq-eqb, ne_eqb}
+use Rattle.std.proofs.Common.{◌≡◌, ℕ, ◌+◌, ◌<◌, ◌≤◌, ◌^◌, ◌==◌, false, List, [], ◌∷◌, ◌++◌, length, map, take, drop, get_or, slice_index_or, refl, sym, ap, ◌∙◌, arith, length-append}
+use Rattle.std.proofs.lemmas.Bool.{eq-eqb}
 use Rattle.std.specs.List.{flat_map}
 use Rattle.std.proofs.lemmas.List.{flat_map_more, take_more, drop_more, length-map}
 use Rattle.std.proofs.lemmas.List.Folds.{length-flat_map-take, flat_map-map}
@@ -63,7 +63,7 @@ length_from place customs items i c same is within =
     ap (λ (ds : List Custom). length (customs_at place ds)) (drop_custom customs items i c same is within)
     ∙ ap length (customs_at-cons c (drop (i + 1) customs) place) ∙ length-append (at_place c.place (written_frame c) place) (customs_at place (drop (i + 1) customs))
 
--- one of the place, and one of another place
+-- one more of the place
 pub custom_counted : (place : ℕ) (customs items : List Custom) (i total whole size : ℕ) (c : Custom) → items ≡ customs → c ≡ get_or items i c → i < length items
   → ((other : Custom) → size ≡ length (written_custom (slice_index_or customs i other))) → c.place ≡ place
   → total + length (customs_at place (drop i customs)) ≡ whole → (contents_start total size + size) + length (customs_at place (drop (i + 1) customs)) ≡ whole
@@ -72,13 +72,6 @@ custom_counted place customs items i total whole size c same is within len here 
     let stands : length (at_place c.place (written_frame c) place) ≡ length (written_frame c) = rw (eq-eqb c.place place here) refl in
     omega (arith, length_from place customs items i c same is within, stands, so_far, size_is, ap (λ (k : ℕ). length (short k)) size_is,
         length-append (short (length (written_custom c))) (written_custom c))
-
-pub custom_passed : (place : ℕ) (customs items : List Custom) (i total whole : ℕ) (c : Custom) → items ≡ customs → c ≡ get_or items i c → i < length items
-  → (c.place == place) ≡ false
-  → total + length (customs_at place (drop i customs)) ≡ whole → total + length (customs_at place (drop (i + 1) customs)) ≡ whole
-custom_passed place customs items i total whole c same is within other so_far =
-    let none : length (at_place c.place (written_frame c) place) ≡ 0 = rw other refl in
-    omega (arith, length_from place customs items i c same is within, none, so_far)
 
 -- ---- sections one after the other
 
@@ -107,11 +100,10 @@ sections_fit m id lt fits =
 
 -- ---- the code section
 
-bodies : List Func → List BodyOf
+abbrev bodies : List Func → List BodyOf
 bodies fs = map (λ (f : Func). f.body) fs
 
 length_bodies : (fs : List Func) → length (written_vector written_code (bodies fs)) ≡ length (short (length fs)) + length (codes_of fs)
-unfolding bodies
 length_bodies fs =
     omega (arith, length-append (short (length (bodies fs))) (flat_map written_code (bodies fs)), ap (λ (n : ℕ). length (short n)) (length-map fs (λ (f : Func). f.body)),
         ap length (flat_map-map written_code (λ (f : Func). f.body) fs))
@@ -119,7 +111,6 @@ length_bodies fs =
 -- where there are codes, they end where their section does
 code_section : (fs : List Func) (at : ℕ) → 0 < length fs
   → contents_start at (length (section_contents CodeSection (map (λ f. f.body) fs))) + length (short (length fs)) + length (codes_of fs) ≡ at + length (written_section CodeSection (map (λ f. f.body) fs))
-unfolding bodies
 code_section [] at some = absurd (omega arith)
 code_section (f ∷ fs) at some =
     let all = written_vector written_code (bodies (f ∷ fs)) in

@@ -1,9 +1,6 @@
 -- Listing token by token is listing the tree.
 use Rattle.std.proofs.Common.{◌≡◌, ℕ, suc, ◌+◌, ◌-◌, ◌<◌, List, [], ◌∷◌, ◌++◌, length, refl, sym, ap, ◌∙◌, append_assoc, arith, length-append, append-nil}
 use Rattle.std.specs.Prelude.{codes}
-use Rattle.wk_body.specs.declared.types.BlockType.{BlockType}
-use Rattle.wk_body.specs.declared.types.BlockKind.{BlockKind}
-use Rattle.wk_body.specs.Instructions.{Plain}
 use Rattle.wk_body.specs.Tree.{Instrs, Finish, One, Block, If, Tok, Simple, Open, OpenIf, Otherwise, Close, flatten, else_part, tokens_of}
 use Rattle.wk_body.specs.Spelling.{kind_byte}
 use Rattle.wk_body.specs.Written.{plain_bytes, type_bytes, enc, else_bytes, tok_bytes, written_expr}
@@ -48,7 +45,7 @@ length_block x t a b = rw (length-append (x ∷ t) (a ++ 0x0B ∷ b), length-app
 length_if : (x : ℕ) (t a b c : List ℕ) → length ((x ∷ t) ++ (a ++ (b ++ 0x0B ∷ c))) ≡ 1 + length t + length a + length b + 1 + length c
 length_if x t a b c = rw (length-append (x ∷ t) (a ++ (b ++ 0x0B ∷ c)), length-append a (b ++ 0x0B ∷ c), length-append b (0x0B ∷ c)) (omega arith)
 
-pub listed : (at depth : ℕ) (t : Instrs) (ts : List Tok) → toks_text at depth (flatten t ++ ts) ≡ instrs_text at depth t ++ toks_text (at + length (enc t)) depth ts
+listed : (at depth : ℕ) (t : Instrs) (ts : List Tok) → toks_text at depth (flatten t ++ ts) ≡ instrs_text at depth t ++ toks_text (at + length (enc t)) depth ts
 unfolding instrs_text
 listed at depth Finish ts = from_place depth ts (omega arith)
 listed at depth (One p rest) ts =
@@ -100,7 +97,7 @@ else_flat (One p rest) h = omega (arith, h)
 else_flat (Block kind ty inside rest) h = omega (arith, h)
 else_flat (If ty first second rest) h = omega (arith, h)
 
-pub length_flat : (t : Instrs) → toks_length (flatten t) ≡ length (enc t)
+length_flat : (t : Instrs) → toks_length (flatten t) ≡ length (enc t)
 length_flat Finish = refl
 length_flat (One p rest) = omega (arith, length_flat rest, length-append (plain_bytes p) (enc rest))
 length_flat (Block kind ty inside rest) =

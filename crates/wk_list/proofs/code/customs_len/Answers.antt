@@ -1,4 +1,4 @@
-use Rattle.std.proofs.Common.{◌≡◌, ◌∙◌, ap, arith}
+use Rattle.std.proofs.Common.{◌∙◌, ap, arith}
 use Rattle.wk_module.specs.declared.types.Parts.{Parts}
 use Rattle.wk_list.proofs.Offsets.{custom_counted, sections_fit}
 use Rattle.wk_list.proofs.code.customs_len.Goals as goal

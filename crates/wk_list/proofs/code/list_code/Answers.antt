@@ -1,9 +1,8 @@
-use Rattle.std.proofs.Common.{◌≡◌, ◌+◌, ◌++◌, ap, arith, length, List, ℕ, subst}
+use Rattle.std.proofs.Common.{◌+◌, ◌++◌, ap, arith, length, List, ℕ, subst}
 use Rattle.std.proofs.lemmas.Result.{on_ok_weaker, on_err_weaker}
 use Rattle.wk_bytes.specs.Taken.{TakesFront}
 use Rattle.wk_module.specs.declared.types.Parts.{Parts}
 use Rattle.wk_list.specs.Taken.{Leaves}
-use Rattle.wk_list.specs.CodeText.{first_code, entries_text, code_text}
 use Rattle.wk_list.proofs.Offsets.{sections_fit, first_is, codes_fit, text_is, few_imports, few_funcs}
 use Rattle.wk_list.proofs.code.list_code.Goals as goal
 

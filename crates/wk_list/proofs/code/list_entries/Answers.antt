@@ -1,6 +1,6 @@
-use Rattle.std.proofs.Common.{◌≡◌, ◌∙◌, ap, arith}
+use Rattle.std.proofs.Common.{◌+◌, ◌∙◌, ap, arith, length}
 use Rattle.wk_module.specs.declared.types.Parts.{Parts}
-use Rattle.wk_list.proofs.Entries.{entry_more, entry_stops, next_place}
+use Rattle.wk_list.proofs.Entries.{codes_of, entry_more, entry_stops, next_place}
 use Rattle.wk_list.proofs.TakenLemmas.{on_err_known}
 use Rattle.wk_list.proofs.code.list_entries.Goals as goal
 
@@ -17,7 +17,7 @@ loop-index-preserved g c =
     record {
       so_far = entry_more _ _ c.loop-index.index c.args.imported _ c.loop-index.at _ _ c.func-item.result _ _ _ _ c.loop-index.text.items _ c.from.ensures same c.func-item.is c.loop-index-test.true
         c.body_len-size.ensures c.leb_len_u32.ensures c.loop-index.invariant.so_far c.in_ok-list_entry.ensures.ok;
-      failures = c.in_ok-list_entry.ensures.failures ∙ c.loop-index.invariant.failures;
-      place = next_place _ _ c.loop-index.index c.loop-index.at _ _ _ c.func-item.result same c.func-item.is c.loop-index-test.true
+      failures = omega (arith, c.in_ok-list_entry.ensures.failures, c.loop-index.invariant.failures);
+      place = next_place _ _ c.loop-index.index c.loop-index.at (c.args.start + length (codes_of (g.S.Shape.seen c.args.shape.now).funcs)) _ _ c.func-item.result same c.func-item.is c.loop-index-test.true
         c.body_len-size.ensures c.leb_len_u32.ensures c.loop-index.invariant.place;
     }

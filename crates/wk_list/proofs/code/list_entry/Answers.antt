@@ -1,6 +1,6 @@
-use Rattle.std.proofs.Common.{◌≡◌, ◌+◌, arith}
+use Rattle.std.proofs.Common.{arith}
 use Rattle.std.proofs.lemmas.Result.{on_ok_weaker, on_err_weaker}
-use Rattle.wk_list.specs.CodeText.{entry_head, instrs_start}
+use Rattle.wk_list.specs.CodeText.{entry_head}
 use Rattle.wk_list.proofs.Entries.{head_leaves, head_stops}
 use Rattle.wk_list.proofs.Offsets.{length_code, starts_at}
 use Rattle.wk_list.proofs.code.list_entry.Goals as goal

@@ -1,4 +1,4 @@
-use Rattle.std.proofs.Common.{◌≡◌, ◌++◌, ℕ, List, subst, arith}
+use Rattle.std.proofs.Common.{◌++◌, ℕ, List, subst, arith}
 use Rattle.std.proofs.lemmas.Result.{on_ok_weaker, on_err_weaker}
 use Rattle.wk_bytes.specs.Taken.{TakesFront}
 use Rattle.wk_list.specs.Taken.{Leaves}

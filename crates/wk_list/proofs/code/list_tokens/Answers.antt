@@ -1,6 +1,5 @@
-use Rattle.std.proofs.Common.{◌≡◌, ◌∙◌, ◌∷◌, ◌++◌, arith}
-use Rattle.wk_body.specs.Kept.{told, all_told}
-use Rattle.wk_list.specs.TokenText.{toks_text}
+use Rattle.std.proofs.Common.{◌∙◌, arith}
+use Rattle.wk_body.specs.Kept.{told}
 use Rattle.wk_list.proofs.CodeLoop.{line_more, line_stops}
 use Rattle.wk_list.proofs.TakenLemmas.{on_err_known, stops_here}
 use Rattle.wk_list.proofs.Trees.{some_token}
