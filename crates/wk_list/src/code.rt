@@ -170,7 +170,14 @@ fn list_entries<S: Shape, W: Out>(
     let mut at = start;
     for (index, func) in shape.parts().funcs.as_slice().iter().enumerate() {
         let size = shape.body_len(index);
-        list_entry(u64::from(imported) + index as u64, func, at, size, text, out)?;
+        list_entry(
+            u64::from(imported) + index as u64,
+            func,
+            at,
+            size,
+            text,
+            out,
+        )?;
         at += leb_len_u32(size) as u32 + size;
     }
     Ok(())
