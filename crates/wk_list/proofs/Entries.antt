@@ -49,33 +49,33 @@ code_is size n f e count =
     omega (arith, e, count, ap (λ (k : ℕ). length (short k)) e, length-append (short (length (written_body f.body))) (written_body f.body))
 
 pub next_place : (funcs items : List Func) (i at whole size n : ℕ) (f : Func) → items ≡ funcs → f ≡ get_or items i f → i < length items
-  → ((other : Func) → size ≡ length (written_body (slice_index_or funcs i other).body)) → n ≡ length (short size)
-  → at + length (codes_of (drop i funcs)) ≡ whole → (at + (n + size)) + length (codes_of (drop (i + 1) funcs)) ≡ whole
+    → ((other : Func) → size ≡ length (written_body (slice_index_or funcs i other).body)) → n ≡ length (short size)
+    → at + length (codes_of (drop i funcs)) ≡ whole → (at + (n + size)) + length (codes_of (drop (i + 1) funcs)) ≡ whole
 next_place funcs items i at whole size n f same is within len count place =
     omega (arith, length_from funcs items i f same is within, place, code_is size n f (size_is funcs items i size f same is len) count)
 
 -- the text from one on
 text_from : (funcs items : List Func) (i imported at : ℕ) (f : Func) (a b : Option (List ℕ)) (all t : List ℕ) → items ≡ funcs → f ≡ get_or items i f → i < length items
-  → Leaves a b all (t ++ entries_text (imported + i) at (drop i funcs))
-  → Leaves a b all (t ++ (entry_text (imported + i) at f ++ entries_text ((imported + i) + 1) (at + length (written_code f.body)) (drop (i + 1) funcs)))
+    → Leaves a b all (t ++ entries_text (imported + i) at (drop i funcs))
+    → Leaves a b all (t ++ (entry_text (imported + i) at f ++ entries_text ((imported + i) + 1) (at + length (written_code f.body)) (drop (i + 1) funcs)))
 text_from funcs items i imported at f a b all t same is within so_far =
     subst (λ (fs : List Func). Leaves a b all (t ++ entries_text (imported + i) at fs)) (from_one funcs items i f same is within) so_far
 
 pub entry_more : (funcs items : List Func) (i imported before at size n : ℕ) (f : Func) (a b c : Option (List ℕ)) (all t new : List ℕ) → before ≡ imported → items ≡ funcs → f ≡ get_or items i f → i < length items
-  → ((other : Func) → size ≡ length (written_body (slice_index_or funcs i other).body)) → n ≡ length (short size)
-  → Leaves a b all (t ++ entries_text (imported + i) at (drop i funcs))
-  → Leaves b c (t ++ entry_text (before + i) at f) new
-  → Leaves a c all (new ++ entries_text (imported + (i + 1)) (at + (n + size)) (drop (i + 1) funcs))
+    → ((other : Func) → size ≡ length (written_body (slice_index_or funcs i other).body)) → n ≡ length (short size)
+    → Leaves a b all (t ++ entries_text (imported + i) at (drop i funcs))
+    → Leaves b c (t ++ entry_text (before + i) at f) new
+    → Leaves a c all (new ++ entries_text (imported + (i + 1)) (at + (n + size)) (drop (i + 1) funcs))
 entry_more funcs items i imported before at size n f a b c all t new first same is within len count so_far p =
     let index : imported + (i + 1) ≡ (imported + i) + 1 = omega arith in
     rw (index, code_is size n f (size_is funcs items i size f same is len) count)
     (leaves_then a b c all t (entry_text (imported + i) at f) (entries_text ((imported + i) + 1) (at + length (written_code f.body)) (drop (i + 1) funcs)) new
-        (text_from funcs items i imported at f a b all t same is within so_far) (subst (λ (k : ℕ). Leaves b c (t ++ entry_text (k + i) at f) new) first p))
+    (text_from funcs items i imported at f a b all t same is within so_far) (subst (λ (k : ℕ). Leaves b c (t ++ entry_text (k + i) at f) new) first p))
 
 pub entry_stops : (funcs items : List Func) (i imported before at : ℕ) (f : Func) (a b c : Option (List ℕ)) (all t : List ℕ) → before ≡ imported → items ≡ funcs → f ≡ get_or items i f → i < length items
-  → Leaves a b all (t ++ entries_text (imported + i) at (drop i funcs))
-  → TakesFront b c (t ++ entry_text (before + i) at f)
-  → TakesFront a c all
+    → Leaves a b all (t ++ entries_text (imported + i) at (drop i funcs))
+    → TakesFront b c (t ++ entry_text (before + i) at f)
+    → TakesFront a c all
 entry_stops funcs items i imported before at f a b c all t first same is within so_far p =
     stops_then a b c all t (entry_text (imported + i) at f) (entries_text ((imported + i) + 1) (at + length (written_code f.body)) (drop (i + 1) funcs))
-        (text_from funcs items i imported at f a b all t same is within so_far) (subst (λ (k : ℕ). TakesFront b c (t ++ entry_text (k + i) at f)) first p)
+    (text_from funcs items i imported at f a b all t same is within so_far) (subst (λ (k : ℕ). TakesFront b c (t ++ entry_text (k + i) at f)) first p)

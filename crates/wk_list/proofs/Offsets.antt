@@ -58,20 +58,27 @@ drop_custom customs items i c same is within =
     drop_more customs i c lt ∙ ap (λ (d : Custom). d ∷ drop (i + 1) customs) (sym (is ∙ ap (λ (ds : List Custom). get_or ds i c) same))
 
 length_from : (place : ℕ) (customs items : List Custom) (i : ℕ) (c : Custom) → items ≡ customs → c ≡ get_or items i c → i < length items
-  → length (customs_at place (drop i customs)) ≡ length (at_place c.place (written_frame c) place) + length (customs_at place (drop (i + 1) customs))
+    → length (customs_at place (drop i customs)) ≡ length (at_place c.place (written_frame c) place) + length (customs_at place (drop (i + 1) customs))
 length_from place customs items i c same is within =
     ap (λ (ds : List Custom). length (customs_at place ds)) (drop_custom customs items i c same is within)
     ∙ ap length (customs_at-cons c (drop (i + 1) customs) place) ∙ length-append (at_place c.place (written_frame c) place) (customs_at place (drop (i + 1) customs))
 
 -- one more of the place
 pub custom_counted : (place : ℕ) (customs items : List Custom) (i total whole size : ℕ) (c : Custom) → items ≡ customs → c ≡ get_or items i c → i < length items
-  → ((other : Custom) → size ≡ length (written_custom (slice_index_or customs i other))) → c.place ≡ place
-  → total + length (customs_at place (drop i customs)) ≡ whole → (contents_start total size + size) + length (customs_at place (drop (i + 1) customs)) ≡ whole
+    → ((other : Custom) → size ≡ length (written_custom (slice_index_or customs i other))) → c.place ≡ place
+    → total + length (customs_at place (drop i customs)) ≡ whole → (contents_start total size + size) + length (customs_at place (drop (i + 1) customs)) ≡ whole
 custom_counted place customs items i total whole size c same is within len here so_far =
     let size_is : size ≡ length (written_custom c) = len c ∙ ap (λ (d : Custom). length (written_custom d)) (sym (is ∙ ap (λ (ds : List Custom). get_or ds i c) same)) in
     let stands : length (at_place c.place (written_frame c) place) ≡ length (written_frame c) = rw (eq-eqb c.place place here) refl in
-    omega (arith, length_from place customs items i c same is within, stands, so_far, size_is, ap (λ (k : ℕ). length (short k)) size_is,
-        length-append (short (length (written_custom c))) (written_custom c))
+    omega (
+      arith,
+      length_from place customs items i c same is within,
+      stands,
+      so_far,
+      size_is,
+      ap (λ (k : ℕ). length (short k)) size_is,
+      length-append (short (length (written_custom c))) (written_custom c),
+    )
 
 -- ---- sections one after the other
 
@@ -105,12 +112,16 @@ bodies fs = map (λ (f : Func). f.body) fs
 
 length_bodies : (fs : List Func) → length (written_vector written_code (bodies fs)) ≡ length (short (length fs)) + length (codes_of fs)
 length_bodies fs =
-    omega (arith, length-append (short (length (bodies fs))) (flat_map written_code (bodies fs)), ap (λ (n : ℕ). length (short n)) (length-map fs (λ (f : Func). f.body)),
-        ap length (flat_map-map written_code (λ (f : Func). f.body) fs))
+    omega (
+      arith,
+      length-append (short (length (bodies fs))) (flat_map written_code (bodies fs)),
+      ap (λ (n : ℕ). length (short n)) (length-map fs (λ (f : Func). f.body)),
+      ap length (flat_map-map written_code (λ (f : Func). f.body) fs),
+    )
 
 -- where there are codes, they end where their section does
 code_section : (fs : List Func) (at : ℕ) → 0 < length fs
-  → contents_start at (length (section_contents CodeSection (map (λ f. f.body) fs))) + length (short (length fs)) + length (codes_of fs) ≡ at + length (written_section CodeSection (map (λ f. f.body) fs))
+    → contents_start at (length (section_contents CodeSection (map (λ f. f.body) fs))) + length (short (length fs)) + length (codes_of fs) ≡ at + length (written_section CodeSection (map (λ f. f.body) fs))
 code_section [] at some = absurd (omega arith)
 code_section (f ∷ fs) at some =
     let all = written_vector written_code (bodies (f ∷ fs)) in
@@ -118,7 +129,7 @@ code_section (f ∷ fs) at some =
 
 -- where the first code begins, by the lengths of what stands before it
 pub first_is : (m parts : Parts) (start size at n count : ℕ) → parts ≡ m → start ≡ code_start m → size ≡ length (section_contents CodeSection (contents (lists_of m) CodeSection)) → at ≡ contents_start start size
-  → n ≡ length (short count) → count ≡ length parts.funcs → at + n ≡ first_code m
+    → n ≡ length (short count) → count ≡ length parts.funcs → at + n ≡ first_code m
 first_is m parts start size at n count same start_is size_is at_is n_is count_is =
     let all : count ≡ length m.funcs = count_is ∙ ap (λ (p : Parts). length p.funcs) same in
     omega (arith, start_is, at_is, n_is, ap (λ (k : ℕ). length (short k)) size_is, ap (λ (k : ℕ). length (short k)) all)

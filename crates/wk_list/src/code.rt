@@ -3,15 +3,13 @@
 ghost use Rattle.std.specs.Prelude.{◌≡◌, ◌<◌, ◌≤◌, ◌+◌, ◌-◌, ◌^◌, ◌++◌, length, OnOk, OnErr};
 ghost use Rattle.std.specs.List.{AllByRecursion, flat_map};
 ghost use Rattle.wk_bytes.specs.Frames.{limit};
-ghost use Rattle.wk_bytes.specs.Short.{short};
 ghost use Rattle.wk_bytes.specs.Taken.{TakesFront};
 ghost use Rattle.wk_body.specs.Kept.{all_told, IsWithin};
-ghost use Rattle.wk_body.specs.Vectors.{written_vector};
 ghost use Rattle.wk_body.specs.Written.{written_expr, written_group, written_body};
 ghost use Rattle.wk_module.specs.Items.{written_code};
 ghost use Rattle.wk_module.specs.Writing.{customs_at};
 ghost use Rattle.wk_list.specs.Taken.{Leaves, failed_after};
-ghost use Rattle.wk_list.specs.CodeText.{group_text, locals_text, entry_head, entry_text, entries_text, expr_text, code_start, first_code, code_text};
+ghost use Rattle.wk_list.specs.CodeText.{group_text, locals_text, entry_head, entry_text, entries_text, expr_text, code_start, code_text};
 ghost use Rattle.wk_list.specs.TokenText.{toks_text, toks_length};
 
 use crate::fault::ListFault;
@@ -172,7 +170,14 @@ fn list_entries<S: Shape, W: Out>(
     let mut at = start;
     for (index, func) in shape.parts().funcs.as_slice().iter().enumerate() {
         let size = shape.body_len(index);
-        list_entry(u64::from(imported) + index as u64, func, at, size, text, out)?;
+        list_entry(
+            u64::from(imported) + index as u64,
+            func,
+            at,
+            size,
+            text,
+            out,
+        )?;
         at += leb_len_u32(size) as u32 + size;
     }
     Ok(())

@@ -1,6 +1,6 @@
 //! The line of a token in the code listing.
 
-ghost use Rattle.std.specs.Prelude.{◌≡◌, ◌<◌, ◌≤◌, ◌+◌, ◌^◌, ◌++◌, ◌*◌, [], List, ℕ, length, OnOk};
+ghost use Rattle.std.specs.Prelude.{◌≡◌, ◌<◌, ◌≤◌, ◌+◌, ◌^◌, ◌++◌, List, ℕ, length, OnOk};
 ghost use Rattle.wk_body.specs.Instructions.{Memarg};
 ghost use Rattle.wk_body.specs.Kept.{told, IsWithin};
 ghost use Rattle.wk_list.specs.CodeText.{immediates_text, type_text, code_line};

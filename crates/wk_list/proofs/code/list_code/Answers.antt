@@ -17,8 +17,11 @@ overflow_cast-len g c = omega (arith, few_funcs _ c.parts-parts.ensures.shaped, 
 
 pub overflow_add-first : goal.overflow_add-first
 overflow_add-first g c =
-    omega (arith, codes_fit (g.S.Shape.seen c.args.shape.now) _ _ c.parts-parts.ensures.value c.if-is_empty.ensures c.parts-parts.ensures.fits
-        (first_is (g.S.Shape.seen c.args.shape.now) _ _ _ _ _ _ c.parts-parts.ensures.value c.code_start.ensures c.section_len.ensures c.contents_start-contents.ensures c.leb_len_u32.ensures c.len.ensures))
+    omega (
+      arith,
+      codes_fit (g.S.Shape.seen c.args.shape.now) _ _ c.parts-parts.ensures.value c.if-is_empty.ensures c.parts-parts.ensures.fits
+          (first_is (g.S.Shape.seen c.args.shape.now) _ _ _ _ _ _ c.parts-parts.ensures.value c.code_start.ensures c.section_len.ensures c.contents_start-contents.ensures c.leb_len_u32.ensures c.len.ensures),
+    )
 
 pub list_entries-requires-clause-few : goal.list_entries-requires-clause-few
 list_entries-requires-clause-few g c = few_funcs _ c.parts-parts.ensures.shaped
@@ -26,18 +29,18 @@ list_entries-requires-clause-few g c = few_funcs _ c.parts-parts.ensures.shaped
 pub list_entries-requires-clause-fits : goal.list_entries-requires-clause-fits
 list_entries-requires-clause-fits g c =
     codes_fit (g.S.Shape.seen c.args.shape.now) _ _ c.parts-parts.ensures.value c.if-is_empty.ensures c.parts-parts.ensures.fits
-        (first_is (g.S.Shape.seen c.args.shape.now) _ _ _ _ _ _ c.parts-parts.ensures.value c.code_start.ensures c.section_len.ensures c.contents_start-contents.ensures c.leb_len_u32.ensures c.len.ensures)
+    (first_is (g.S.Shape.seen c.args.shape.now) _ _ _ _ _ _ c.parts-parts.ensures.value c.code_start.ensures c.section_len.ensures c.contents_start-contents.ensures c.leb_len_u32.ensures c.len.ensures)
 
 pub returns-clause-ok : goal.returns-clause-ok
 returns-clause-ok g c =
     on_ok_weaker c.list_entries.result (λ p. subst (λ (text : List ℕ). Leaves (g.W.Out.taken c.args.out.now) (g.W.Out.taken c.list_entries.new.out) (c.args.text.now.items ++ text) c.list_entries.new.text.items)
-        (text_is (g.S.Shape.seen c.args.shape.now) _ _ _ _ c.parts-parts.ensures.value c.as_slice.ensures c.count_of-imported.ensures
-            (first_is (g.S.Shape.seen c.args.shape.now) _ _ _ _ _ _ c.parts-parts.ensures.value c.code_start.ensures c.section_len.ensures c.contents_start-contents.ensures c.leb_len_u32.ensures c.len.ensures)) p)
-        c.list_entries.ensures.ok
+    (text_is (g.S.Shape.seen c.args.shape.now) _ _ _ _ c.parts-parts.ensures.value c.as_slice.ensures c.count_of-imported.ensures
+    (first_is (g.S.Shape.seen c.args.shape.now) _ _ _ _ _ _ c.parts-parts.ensures.value c.code_start.ensures c.section_len.ensures c.contents_start-contents.ensures c.leb_len_u32.ensures c.len.ensures)) p)
+    c.list_entries.ensures.ok
 
 pub returns-clause-err : goal.returns-clause-err
 returns-clause-err g c =
     on_err_weaker c.list_entries.result (λ p. subst (λ (text : List ℕ). TakesFront (g.W.Out.taken c.args.out.now) (g.W.Out.taken c.list_entries.new.out) (c.args.text.now.items ++ text))
-        (text_is (g.S.Shape.seen c.args.shape.now) _ _ _ _ c.parts-parts.ensures.value c.as_slice.ensures c.count_of-imported.ensures
-            (first_is (g.S.Shape.seen c.args.shape.now) _ _ _ _ _ _ c.parts-parts.ensures.value c.code_start.ensures c.section_len.ensures c.contents_start-contents.ensures c.leb_len_u32.ensures c.len.ensures)) p)
-        c.list_entries.ensures.err
+    (text_is (g.S.Shape.seen c.args.shape.now) _ _ _ _ c.parts-parts.ensures.value c.as_slice.ensures c.count_of-imported.ensures
+    (first_is (g.S.Shape.seen c.args.shape.now) _ _ _ _ _ _ c.parts-parts.ensures.value c.code_start.ensures c.section_len.ensures c.contents_start-contents.ensures c.leb_len_u32.ensures c.len.ensures)) p)
+    c.list_entries.ensures.err

@@ -8,16 +8,16 @@ pub returns-in_err-list_entry-clause-err : goal.returns-in_err-list_entry-clause
 returns-in_err-list_entry-clause-err g c =
     let same = c.as_slice-func-items.ensures ∙ ap (λ (m : Parts). m.funcs) c.parts.ensures.value in
     on_err_known c.from_residual.result (
-        entry_stops _ _ c.loop-index.index c.args.imported _ c.loop-index.at c.func-item.result _ _ _ _ c.loop-index.text.items c.from.ensures same c.func-item.is c.loop-index-test.true
-            c.loop-index.invariant.so_far c.in_err-list_entry.ensures.err)
+    entry_stops _ _ c.loop-index.index c.args.imported _ c.loop-index.at c.func-item.result _ _ _ _ c.loop-index.text.items c.from.ensures same c.func-item.is c.loop-index-test.true
+    c.loop-index.invariant.so_far c.in_err-list_entry.ensures.err)
 
 pub loop-index-preserved : goal.loop-index-preserved
 loop-index-preserved g c =
     let same = c.as_slice-func-items.ensures ∙ ap (λ (m : Parts). m.funcs) c.parts.ensures.value in
     record {
       so_far = entry_more _ _ c.loop-index.index c.args.imported _ c.loop-index.at _ _ c.func-item.result _ _ _ _ c.loop-index.text.items _ c.from.ensures same c.func-item.is c.loop-index-test.true
-        c.body_len-size.ensures c.leb_len_u32.ensures c.loop-index.invariant.so_far c.in_ok-list_entry.ensures.ok;
+          c.body_len-size.ensures c.leb_len_u32.ensures c.loop-index.invariant.so_far c.in_ok-list_entry.ensures.ok;
       failures = omega (arith, c.in_ok-list_entry.ensures.failures, c.loop-index.invariant.failures);
       place = next_place _ _ c.loop-index.index c.loop-index.at (c.args.start + length (codes_of (g.S.Shape.seen c.args.shape.now).funcs)) _ _ c.func-item.result same c.func-item.is c.loop-index-test.true
-        c.body_len-size.ensures c.leb_len_u32.ensures c.loop-index.invariant.place;
+          c.body_len-size.ensures c.leb_len_u32.ensures c.loop-index.invariant.place;
     }

@@ -11,9 +11,9 @@ groups_len-requires g c = rw c.groups-groups.ensures.value (omega (arith, length
 pub returns-clause-ok : goal.returns-clause-ok
 returns-clause-ok g c = on_ok_weaker c.list_expr.result
     (λ p. head_leaves _ _ c.args.text.now.items (entry_head c.args.index c.args.func.now) _ _ _ _ _ _ c.in_ok-put_entry_head.ensures
-        (starts_at c.args.at _ _ _ _ c.args.func.now _ c.groups-groups.ensures.value c.requires.size c.leb_len_u32-2.ensures c.leb_len_u32.ensures c.groups_len.ensures) c.expr.ensures p) c.list_expr.ensures.ok
+    (starts_at c.args.at _ _ _ _ c.args.func.now _ c.groups-groups.ensures.value c.requires.size c.leb_len_u32-2.ensures c.leb_len_u32.ensures c.groups_len.ensures) c.expr.ensures p) c.list_expr.ensures.ok
 
 pub returns-clause-err : goal.returns-clause-err
 returns-clause-err g c = on_err_weaker c.list_expr.result
     (λ p. head_stops _ _ c.args.text.now.items (entry_head c.args.index c.args.func.now) _ _ _ _ _ c.in_ok-put_entry_head.ensures
-        (starts_at c.args.at _ _ _ _ c.args.func.now _ c.groups-groups.ensures.value c.requires.size c.leb_len_u32-2.ensures c.leb_len_u32.ensures c.groups_len.ensures) c.expr.ensures p) c.list_expr.ensures.err
+    (starts_at c.args.at _ _ _ _ c.args.func.now _ c.groups-groups.ensures.value c.requires.size c.leb_len_u32-2.ensures c.leb_len_u32.ensures c.groups_len.ensures) c.expr.ensures p) c.list_expr.ensures.err
