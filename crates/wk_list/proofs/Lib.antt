@@ -5,3 +5,4 @@ pub mod Counting
 pub mod ImportSteps
 pub mod Headings
 pub mod CustomSteps
+pub mod SectionTexts
