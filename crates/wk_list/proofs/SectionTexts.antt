@@ -87,8 +87,3 @@ imports_section m p id xs same is here = rw (here, is, same) refl
 pub codes_section : (m p : Parts) (id imported : ℕ) (imports : List Import) → p ≡ m → imports ≡ p.imports → imported ≡ count_of kinds.Func imports → id ≡ 10
   → group id (λ n. code_size_line (imported + n)) m.funcs ≡ details_by m (of_number id)
 codes_section m p id imported imports same are counted here = rw (here, counted, are, same) refl
-
--- other ids are of no section
-pub no_section : (m : Parts) (id : ℕ) → id ≢ 1 → id ≢ 2 → id ≢ 3 → id ≢ 4 → id ≢ 5 → id ≢ 6 → id ≢ 7 → id ≢ 8 → id ≢ 9 → id ≢ 10 → id ≢ 11 → details_by m (of_number id) ≡ []
-no_section m id n1 n2 n3 n4 n5 n6 n7 n8 n9 n10 n11 =
-    rw (ne_eqb id 1 n1, ne_eqb id 2 n2, ne_eqb id 3 n3, ne_eqb id 4 n4, ne_eqb id 5 n5, ne_eqb id 6 n6, ne_eqb id 7 n7, ne_eqb id 8 n8, ne_eqb id 9 n9, ne_eqb id 10 n10, ne_eqb id 11 n11) refl

@@ -1,5 +1,8 @@
-use Rattle.std.proofs.Common.{refl}
-use Rattle.wk_list.proofs.SectionTexts.{few_types, few_imports, few_funcs, few_tables, few_memories, few_globals, few_exports, few_elems, few_datas, types_section, funcs_section, tables_section, memories_section, globals_section, exports_section, elems_section, datas_section, imports_section, codes_section, no_section, stopped_in}
+use Rattle.std.proofs.Common.{◌≡◌, ℕ, List, [], ◌++◌, refl, ap, ◌∙◌, append-nil, rules}
+use Rattle.wk_module.specs.Sections.{of_number}
+use Rattle.wk_list.specs.Details.{details_by}
+use Rattle.wk_list.proofs.TakenLemmas.{leaves_same}
+use Rattle.wk_list.proofs.SectionTexts.{few_types, few_imports, few_funcs, few_tables, few_memories, few_globals, few_exports, few_elems, few_datas, types_section, funcs_section, tables_section, memories_section, globals_section, exports_section, elems_section, datas_section, imports_section, codes_section, stopped_in}
 use Rattle.wk_list.proofs.details.list_section.Goals as goal
 
 pub list_group-requires-clause-few : goal.list_group-requires-clause-few
@@ -78,4 +81,7 @@ pub returns-in-11-clause-err : goal.returns-in-11-clause-err
 returns-in-11-clause-err g c = stopped_in c.list_group-in-11.result _ _ c.args.text.now.items _ _ (datas_section (g.S.Shape.seen c.args.shape.now) c.parts-parts.result.now c.args.id c.as_slice-in-11.result.now c.parts-parts.ensures.value c.as_slice-in-11.ensures c.in-11.is) c.list_group-in-11.ensures.err
 
 pub returns-in_default-clause-ok : goal.returns-in_default-clause-ok
-returns-in_default-clause-ok g c = ?
+returns-in_default-clause-ok g c =
+    let none : details_by (g.S.Shape.seen c.args.shape.now) (of_number c.args.id) ≡ [] = search rules in
+    leaves_same (g.W.Out.taken c.args.out.now) (c.args.text.now.items ++ details_by (g.S.Shape.seen c.args.shape.now) (of_number c.args.id)) c.args.text.now.items
+        (ap (λ (r : List ℕ). c.args.text.now.items ++ r) none ∙ append-nil c.args.text.now.items)
