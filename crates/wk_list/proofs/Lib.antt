@@ -6,3 +6,4 @@ pub mod ImportSteps
 pub mod Headings
 pub mod CustomSteps
 pub mod SectionTexts
+pub mod IdSteps
