@@ -8,9 +8,8 @@ ghost use Rattle.wk_module.specs.declared.types.Func.{Func as Function};
 ghost use Rattle.wk_module.specs.Sections.{of_number};
 ghost use Rattle.wk_list.specs.Taken.{Leaves, failed_after};
 ghost use Rattle.wk_list.specs.Text.{numbered};
-ghost use Rattle.wk_list.specs.Spaces.{count_of};
 ghost use Rattle.wk_list.specs.Headers.{section_name, customs_of};
-ghost use Rattle.wk_list.specs.Details.{heading, group, with_heading, import_lines, code_size_line, start_line, custom_details, details_by, details_of, details_text};
+ghost use Rattle.wk_list.specs.Details.{heading, group, with_heading, import_lines, code_size_line, start_line, custom_details, details_by, details_text};
 
 use crate::fault::ListFault;
 use crate::headers::LAST;

@@ -1,7 +1,6 @@
 //! The lines of the details listing, one for each item of a section.
 
-ghost use Rattle.std.specs.Prelude.{◌≡◌, ◌++◌, decimal, codes, OnOk};
-ghost use Rattle.hex.specs.Hex.{encode_lower};
+ghost use Rattle.std.specs.Prelude.{◌≡◌, ◌++◌, OnOk};
 ghost use Rattle.wk_list.specs.Details.{item_text, field, code_field, named};
 
 use crate::lines::Lines;

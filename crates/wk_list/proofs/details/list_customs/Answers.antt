@@ -1,4 +1,4 @@
-use Rattle.std.proofs.Common.{◌≡◌, ℕ, ◌+◌, ◌<◌, List, ◌++◌, length, drop, ap, ◌∙◌, subst, arith}
+use Rattle.std.proofs.Common.{ℕ, ◌+◌, ◌<◌, List, ◌++◌, length, drop, ap, ◌∙◌, subst, arith}
 use Rattle.wk_list.specs.Taken.{Leaves}
 use Rattle.wk_list.specs.Details.{custom_details}
 use Rattle.wk_list.proofs.TakenLemmas.{on_err_known, stops_here}
