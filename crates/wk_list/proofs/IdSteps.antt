@@ -33,11 +33,11 @@ here m id a b all t lt so_far = subst (λ (r : List ℕ). Leaves a b all (t ++ r
 
 -- one more section, and the customs behind it
 pub section_listed : (m p : Parts) (id : ℕ) (a b c d : Option (List ℕ)) (all t between new : List ℕ) → id < 12 → p ≡ m → Leaves a b all (t ++ details_from m id)
-  → Leaves b c (t ++ details_by m (of_number id)) between → Leaves c d (between ++ customs_text p id) new → Leaves a d all (new ++ details_from m (id + 1))
+    → Leaves b c (t ++ details_by m (of_number id)) between → Leaves c d (between ++ customs_text p id) new → Leaves a d all (new ++ details_from m (id + 1))
 section_listed m p id a b c d all t between new lt same so_far section customs =
     let behind : Leaves c d (between ++ customs_text m id) new = subst (λ (q : Parts). Leaves c d (between ++ customs_text q id) new) same customs in
     leaves_then a b d all t (details_of m id) (details_from m (id + 1)) new (here m id a b all t lt so_far)
-        (leaves_both b c d t (details_by m (of_number id)) (customs_text m id) between new section behind)
+    (leaves_both b c d t (details_by m (of_number id)) (customs_text m id) between new section behind)
 
 -- a fault in the section
 pub section_stopped : (m : Parts) (id : ℕ) (a b c : Option (List ℕ)) (all t : List ℕ) → id < 12 → Leaves a b all (t ++ details_from m id) → TakesFront b c (t ++ details_by m (of_number id)) → TakesFront a c all
@@ -46,8 +46,8 @@ section_stopped m id a b c all t lt so_far section =
 
 -- a fault in the customs behind it
 pub customs_stopped : (m p : Parts) (id : ℕ) (a b c d : Option (List ℕ)) (all t between : List ℕ) → id < 12 → p ≡ m → Leaves a b all (t ++ details_from m id)
-  → Leaves b c (t ++ details_by m (of_number id)) between → TakesFront c d (between ++ customs_text p id) → TakesFront a d all
+    → Leaves b c (t ++ details_by m (of_number id)) between → TakesFront c d (between ++ customs_text p id) → TakesFront a d all
 customs_stopped m p id a b c d all t between lt same so_far section customs =
     let behind : TakesFront c d (between ++ customs_text m id) = subst (λ (q : Parts). TakesFront c d (between ++ customs_text q id)) same customs in
     stops_then a b d all t (details_of m id) (details_from m (id + 1)) (here m id a b all t lt so_far)
-        (stops_second b c d t (details_by m (of_number id)) (customs_text m id) between section behind)
+    (stops_second b c d t (details_by m (of_number id)) (customs_text m id) between section behind)

@@ -7,3 +7,4 @@ pub mod Headings
 pub mod CustomSteps
 pub mod SectionTexts
 pub mod IdSteps
+pub mod SizeSteps

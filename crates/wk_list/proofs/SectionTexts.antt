@@ -56,19 +56,19 @@ pub types_section : (m p : Parts) (id : ℕ) (xs : List FuncType) → p ≡ m �
 types_section m p id xs same is here = rw (here, is, same) refl
 
 pub funcs_section : (m p : Parts) (id imported : ℕ) (xs : List Func) (imports : List Import) → p ≡ m → xs ≡ p.funcs → imports ≡ p.imports → imported ≡ count_of kinds.Func imports → id ≡ 3
-  → group id (λ n. func_line (imported + n)) xs ≡ details_by m (of_number id)
+    → group id (λ n. func_line (imported + n)) xs ≡ details_by m (of_number id)
 funcs_section m p id imported xs imports same is are counted here = rw (here, counted, is, are, same) refl
 
 pub tables_section : (m p : Parts) (id imported : ℕ) (xs : List Limits) (imports : List Import) → p ≡ m → xs ≡ p.tables → imports ≡ p.imports → imported ≡ count_of kinds.Table imports → id ≡ 4
-  → group id (λ n. table_line (imported + n)) xs ≡ details_by m (of_number id)
+    → group id (λ n. table_line (imported + n)) xs ≡ details_by m (of_number id)
 tables_section m p id imported xs imports same is are counted here = rw (here, counted, is, are, same) refl
 
 pub memories_section : (m p : Parts) (id imported : ℕ) (xs : List Limits) (imports : List Import) → p ≡ m → xs ≡ p.memories → imports ≡ p.imports → imported ≡ count_of kinds.Memory imports → id ≡ 5
-  → group id (λ n. memory_line (imported + n)) xs ≡ details_by m (of_number id)
+    → group id (λ n. memory_line (imported + n)) xs ≡ details_by m (of_number id)
 memories_section m p id imported xs imports same is are counted here = rw (here, counted, is, are, same) refl
 
 pub globals_section : (m p : Parts) (id imported : ℕ) (xs : List GlobalDef) (imports : List Import) → p ≡ m → xs ≡ p.globals → imports ≡ p.imports → imported ≡ count_of kinds.Global imports → id ≡ 6
-  → group id (λ n. global_line (imported + n)) xs ≡ details_by m (of_number id)
+    → group id (λ n. global_line (imported + n)) xs ≡ details_by m (of_number id)
 globals_section m p id imported xs imports same is are counted here = rw (here, counted, is, are, same) refl
 
 pub exports_section : (m p : Parts) (id : ℕ) (xs : List Export) → p ≡ m → xs ≡ p.exports → id ≡ 7 → group id export_line xs ≡ details_by m (of_number id)
@@ -84,5 +84,5 @@ pub imports_section : (m p : Parts) (id : ℕ) (xs : List Import) → p ≡ m �
 imports_section m p id xs same is here = rw (here, is, same) refl
 
 pub codes_section : (m p : Parts) (id imported : ℕ) (imports : List Import) → p ≡ m → imports ≡ p.imports → imported ≡ count_of kinds.Func imports → id ≡ 10
-  → group id (λ n. code_size_line (imported + n)) m.funcs ≡ details_by m (of_number id)
+    → group id (λ n. code_size_line (imported + n)) m.funcs ≡ details_by m (of_number id)
 codes_section m p id imported imports same are counted here = rw (here, counted, are, same) refl

@@ -35,12 +35,7 @@ pub(crate) fn put_named(alloc: Global, text: &mut Vec<u8>, name: &str) -> Result
 }
 
 // An expression behind its label, in its written form.
-fn put_code(
-    alloc: Global,
-    text: &mut Vec<u8>,
-    label: &str,
-    expr: &Expr,
-) -> Result<(), OutOfMemory>
+fn put_code(alloc: Global, text: &mut Vec<u8>, label: &str, expr: &Expr) -> Result<(), OutOfMemory>
     ensures { OnOk result (text.new.items ≡ text.old.items ++ code_field label.now expr.now) }
 {
     let mut bytes = Vec::new(alloc);

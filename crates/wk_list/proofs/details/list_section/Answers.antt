@@ -84,4 +84,4 @@ pub returns-in_default-clause-ok : goal.returns-in_default-clause-ok
 returns-in_default-clause-ok g c =
     let none : details_by (g.S.Shape.seen c.args.shape.now) (of_number c.args.id) ≡ [] = search rules in
     leaves_same (g.W.Out.taken c.args.out.now) (c.args.text.now.items ++ details_by (g.S.Shape.seen c.args.shape.now) (of_number c.args.id)) c.args.text.now.items
-        (ap (λ (r : List ℕ). c.args.text.now.items ++ r) none ∙ append-nil c.args.text.now.items)
+    (ap (λ (r : List ℕ). c.args.text.now.items ++ r) none ∙ append-nil c.args.text.now.items)
