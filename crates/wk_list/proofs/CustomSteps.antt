@@ -22,10 +22,10 @@ from_here cs i place c within is = at_drop_more (details_at place) cs i c within
 
 -- the next one is of the place
 pub custom_here : (cs : List Custom) (i place : ℕ) (c : Custom) → i < length cs → c ≡ get_or cs i c → c.place ≡ place
-  → details_at place (drop i cs) ≡ custom_details c ++ details_at place (drop (i + 1) cs)
+    → details_at place (drop i cs) ≡ custom_details c ++ details_at place (drop (i + 1) cs)
 custom_here cs i place c within is here = from_here cs i place c within is ∙ kept c (drop (i + 1) cs) place here
 
 -- the next one is of another place
 pub custom_elsewhere : (cs : List Custom) (i place : ℕ) (c : Custom) → i < length cs → c ≡ get_or cs i c → c.place ≢ place
-  → details_at place (drop i cs) ≡ details_at place (drop (i + 1) cs)
+    → details_at place (drop i cs) ≡ details_at place (drop (i + 1) cs)
 custom_elsewhere cs i place c within is there = from_here cs i place c within is ∙ left_out c (drop (i + 1) cs) place there

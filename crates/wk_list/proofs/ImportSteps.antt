@@ -10,7 +10,7 @@ before_are is at within = sym (length-take-le at is (omega arith))
 
 -- the lines from an index on
 pub imports_step : (is : List Import) (at : ℕ) (i : Import) → at < length is → i ≡ get_or is at i
-  → import_lines (take at is) (drop at is) ≡ import_line (take at is) i ++ import_lines (take (at + 1) is) (drop (at + 1) is)
+    → import_lines (take at is) (drop at is) ≡ import_line (take at is) i ++ import_lines (take (at + 1) is) (drop (at + 1) is)
 imports_step is at i within found =
     at_drop_more (import_lines (take at is)) is at i within
     ∙ ap (λ (j : Import). import_line (take at is) j ++ import_lines (take at is ++ j ∷ []) (drop (at + 1) is)) (sym found)

@@ -6,11 +6,14 @@ pub mod Entries
 pub mod HeaderSteps
 pub mod Headings
 pub mod HexText
+pub mod IdSteps
 pub mod ImportSteps
 pub mod LineSteps
 pub mod Listings
 pub mod Offsets
+pub mod SectionTexts
 pub mod Sections
+pub mod SizeSteps
 pub mod TakenLemmas
 pub mod Told
 pub mod Trees

@@ -8,9 +8,8 @@ ghost use Rattle.wk_module.specs.declared.types.Func.{Func as Function};
 ghost use Rattle.wk_module.specs.Sections.{of_number};
 ghost use Rattle.wk_list.specs.Taken.{Leaves, failed_after};
 ghost use Rattle.wk_list.specs.Text.{numbered};
-ghost use Rattle.wk_list.specs.Spaces.{count_of};
 ghost use Rattle.wk_list.specs.Headers.{section_name, customs_of};
-ghost use Rattle.wk_list.specs.Details.{heading, group, with_heading, import_lines, code_size_line, start_line, custom_details, details_by, details_of, details_text};
+ghost use Rattle.wk_list.specs.Details.{heading, group, with_heading, import_lines, code_size_line, start_line, custom_details, details_by, details_text};
 
 use crate::fault::ListFault;
 use crate::headers::LAST;
@@ -18,7 +17,8 @@ use crate::imports::list_imports;
 use crate::lines::{Lines, list_lines};
 use crate::page::spill;
 use crate::rows::{
-    DataRows, ElemRows, ExportRows, FuncRows, GlobalRows, MemoryRows, TableRows, TypeRows, put_field, put_item,
+    DataRows, ElemRows, ExportRows, FuncRows, GlobalRows, MemoryRows, TableRows, TypeRows,
+    put_field, put_item,
 };
 use crate::shape::Shape;
 use crate::spaces::count_of;
@@ -125,7 +125,11 @@ fn list_sizes<S: Shape, W: Out>(
 {
     let count = shape.parts().funcs.len();
     for index in 0..count {
-        put_size(text, u64::from(imported) + index as u64, shape.body_len(index))?;
+        put_size(
+            text,
+            u64::from(imported) + index as u64,
+            shape.body_len(index),
+        )?;
         spill(text, out)?;
     }
     Ok(())
@@ -186,19 +190,47 @@ fn list_section<S: Shape, W: Out>(
         2 => list_import_group(alloc, id, imports, text, out),
         3 => {
             let imported = count_of(Kind::Func, imports);
-            list_group(alloc, id, &FuncRows { imported }, parts.funcs.as_slice(), text, out)
+            list_group(
+                alloc,
+                id,
+                &FuncRows { imported },
+                parts.funcs.as_slice(),
+                text,
+                out,
+            )
         }
         4 => {
             let imported = count_of(Kind::Table, imports);
-            list_group(alloc, id, &TableRows { imported }, parts.tables.as_slice(), text, out)
+            list_group(
+                alloc,
+                id,
+                &TableRows { imported },
+                parts.tables.as_slice(),
+                text,
+                out,
+            )
         }
         5 => {
             let imported = count_of(Kind::Memory, imports);
-            list_group(alloc, id, &MemoryRows { imported }, parts.memories.as_slice(), text, out)
+            list_group(
+                alloc,
+                id,
+                &MemoryRows { imported },
+                parts.memories.as_slice(),
+                text,
+                out,
+            )
         }
         6 => {
             let imported = count_of(Kind::Global, imports);
-            list_group(alloc, id, &GlobalRows { imported }, parts.globals.as_slice(), text, out)
+            list_group(
+                alloc,
+                id,
+                &GlobalRows { imported },
+                parts.globals.as_slice(),
+                text,
+                out,
+            )
         }
         7 => list_group(alloc, id, &ExportRows, parts.exports.as_slice(), text, out),
         8 => Ok(put_start(text, parts.start)?),

@@ -1,7 +1,6 @@
 //! The lines of the details listing, one for each item of a section.
 
-ghost use Rattle.std.specs.Prelude.{◌≡◌, ◌++◌, decimal, codes, OnOk};
-ghost use Rattle.hex.specs.Hex.{encode_lower};
+ghost use Rattle.std.specs.Prelude.{◌≡◌, ◌++◌, OnOk};
 ghost use Rattle.wk_list.specs.Details.{item_text, field, code_field, named};
 
 use crate::lines::Lines;
@@ -36,12 +35,7 @@ pub(crate) fn put_named(alloc: Global, text: &mut Vec<u8>, name: &str) -> Result
 }
 
 // An expression behind its label, in its written form.
-fn put_code(
-    alloc: Global,
-    text: &mut Vec<u8>,
-    label: &str,
-    expr: &Expr,
-) -> Result<(), OutOfMemory>
+fn put_code(alloc: Global, text: &mut Vec<u8>, label: &str, expr: &Expr) -> Result<(), OutOfMemory>
     ensures { OnOk result (text.new.items ≡ text.old.items ++ code_field label.now expr.now) }
 {
     let mut bytes = Vec::new(alloc);

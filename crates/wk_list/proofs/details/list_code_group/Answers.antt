@@ -14,5 +14,5 @@ returns-clause-err g c =
     let some = ap (λ (fs : List Func). length fs == 0) (sym same) ∙ sym c.is_empty.ensures ∙ c.if-is_empty.false in
     let put = c.in_ok-put_heading.ensures ∙ ap (λ (fs : List Func). c.args.text.now.items ++ heading c.args.id (length fs)) same in
     on_err_weaker c.list_sizes.result (
-        heading_stopped _ _ c.args.id funcs (numbered (λ (n : ℕ). code_size_line (c.args.imported + n)) 0 funcs) c.args.text.now.items _ some put)
-        c.list_sizes.ensures.err
+    heading_stopped _ _ c.args.id funcs (numbered (λ (n : ℕ). code_size_line (c.args.imported + n)) 0 funcs) c.args.text.now.items _ some put)
+    c.list_sizes.ensures.err

@@ -1,4 +1,4 @@
-use Rattle.std.proofs.Common.{◌≡◌, ℕ, ◌+◌, ◌<◌, List, ◌++◌, length, drop, ap, ◌∙◌, subst, arith}
+use Rattle.std.proofs.Common.{ℕ, ◌+◌, ◌<◌, List, ◌++◌, length, drop, ap, ◌∙◌, subst, arith}
 use Rattle.wk_list.specs.Taken.{Leaves}
 use Rattle.wk_list.specs.Details.{custom_details}
 use Rattle.wk_list.proofs.TakenLemmas.{on_err_known, stops_here}
@@ -20,7 +20,7 @@ returns-in_err-spill-clause-err g c =
     let is = rw c.as_slice-custom-items.ensures at c.custom-item.is in
     let more = custom_here customs at place custom within is c.if-custom-place.true in
     on_err_known c.from_residual-in_err-spill.result (
-        step_stopped _ _ _ _ c.loop-custom.text.items (details_at place (drop at customs)) (custom_details custom) (details_at place (drop (at + 1) customs)) _ c.loop-custom.invariant.so_far more c.in_ok-put_custom.ensures c.in_err-spill.ensures.err)
+    step_stopped _ _ _ _ c.loop-custom.text.items (details_at place (drop at customs)) (custom_details custom) (details_at place (drop (at + 1) customs)) _ c.loop-custom.invariant.so_far more c.in_ok-put_custom.ensures c.in_err-spill.ensures.err)
 
 pub loop-custom-preserved : goal.loop-custom-preserved
 loop-custom-preserved g c =
@@ -32,11 +32,11 @@ loop-custom-preserved g c =
     let is = rw c.as_slice-custom-items.ensures at c.custom-item.is in
     elim c.if-custom-place.branch [
       | then-custom-place+in_ok-put_custom+in_ok-spill w ↦ rw (w.text-is, w.out-is) (record {
-          so_far = step_spilled _ _ _ _ c.loop-custom.text.items (details_at place (drop at customs)) (custom_details custom) (details_at place (drop (at + 1) customs)) _ _ c.loop-custom.invariant.so_far (custom_here customs at place custom within is w.if-custom-place.true) w.in_ok-put_custom.ensures w.in_ok-spill.ensures.ok;
-          failures = w.in_ok-spill.ensures.failures ∙ c.loop-custom.invariant.failures;
-        })
+        so_far = step_spilled _ _ _ _ c.loop-custom.text.items (details_at place (drop at customs)) (custom_details custom) (details_at place (drop (at + 1) customs)) _ _ c.loop-custom.invariant.so_far (custom_here customs at place custom within is w.if-custom-place.true) w.in_ok-put_custom.ensures w.in_ok-spill.ensures.ok;
+        failures = w.in_ok-spill.ensures.failures ∙ c.loop-custom.invariant.failures;
+      })
       | else-custom-place w ↦ rw (w.text-is, w.out-is) (record {
-          so_far = subst (λ (r : List ℕ). Leaves (g.W.Out.taken c.args.out.now) (g.W.Out.taken c.loop-custom.out) (c.args.text.now.items ++ details_at place customs) (c.loop-custom.text.items ++ r)) (custom_elsewhere customs at place custom within is w.if-custom-place.false) c.loop-custom.invariant.so_far;
-          failures = c.loop-custom.invariant.failures;
-        })
+        so_far = subst (λ (r : List ℕ). Leaves (g.W.Out.taken c.args.out.now) (g.W.Out.taken c.loop-custom.out) (c.args.text.now.items ++ details_at place customs) (c.loop-custom.text.items ++ r)) (custom_elsewhere customs at place custom within is w.if-custom-place.false) c.loop-custom.invariant.so_far;
+        failures = c.loop-custom.invariant.failures;
+      })
     ]

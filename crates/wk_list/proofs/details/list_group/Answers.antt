@@ -8,5 +8,5 @@ pub returns-clause-err : goal.returns-clause-err
 returns-clause-err g c =
     let some = sym c.is_empty.ensures ∙ c.if-is_empty.false in
     on_err_weaker c.list_lines.result (
-        heading_stopped _ _ c.args.id c.args.items.now (numbered (g.L.Lines.line c.args.lines.now) 0 c.args.items.now) c.args.text.now.items _ some c.in_ok-put_heading.ensures)
-        c.list_lines.ensures.err
+    heading_stopped _ _ c.args.id c.args.items.now (numbered (g.L.Lines.line c.args.lines.now) 0 c.args.items.now) c.args.text.now.items _ some c.in_ok-put_heading.ensures)
+    c.list_lines.ensures.err

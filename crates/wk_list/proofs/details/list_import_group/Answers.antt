@@ -8,5 +8,5 @@ pub returns-clause-err : goal.returns-clause-err
 returns-clause-err g c =
     let some = sym c.is_empty.ensures ∙ c.if-is_empty.false in
     on_err_weaker c.list_imports.result (
-        heading_stopped _ _ c.args.id c.args.imports.now (import_lines [] c.args.imports.now) c.args.text.now.items _ some c.in_ok-put_heading.ensures)
-        c.list_imports.ensures.err
+    heading_stopped _ _ c.args.id c.args.imports.now (import_lines [] c.args.imports.now) c.args.text.now.items _ some c.in_ok-put_heading.ensures)
+    c.list_imports.ensures.err

@@ -20,7 +20,7 @@ returns-in_err-spill-clause-err g c =
     let own = c.take-own.ensures.index before c.loop-index.invariant.counted in
     let put = c.in_ok-put_import.ensures before (before_are imports at c.loop-index-test.true) own in
     on_err_known c.from_residual-in_err-spill.result (
-        step_stopped _ _ _ _ c.loop-index.text.items (import_lines before (drop at imports)) (import_line before import) (import_lines (take (at + 1) imports) (drop (at + 1) imports)) _ c.loop-index.invariant.so_far (imports_step imports at import c.loop-index-test.true c.index-imports-index.is) put c.in_err-spill.ensures.err)
+    step_stopped _ _ _ _ c.loop-index.text.items (import_lines before (drop at imports)) (import_line before import) (import_lines (take (at + 1) imports) (drop (at + 1) imports)) _ c.loop-index.invariant.so_far (imports_step imports at import c.loop-index-test.true c.index-imports-index.is) put c.in_err-spill.ensures.err)
 
 pub loop-index-preserved : goal.loop-index-preserved
 loop-index-preserved g c =

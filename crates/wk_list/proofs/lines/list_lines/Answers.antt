@@ -15,7 +15,7 @@ returns-in_err-spill-clause-err g c =
     let item = c.index-items-index.result in
     let more = numbered_step line items index item c.loop-index-test.true c.index-items-index.is in
     on_err_known c.from_residual-in_err-spill.result (
-        step_stopped _ _ _ _ c.loop-index.text.items (numbered line index (drop index items)) (line index item) (numbered line (index + 1) (drop (index + 1) items)) _ c.loop-index.invariant.so_far more c.in_ok-put.ensures c.in_err-spill.ensures.err)
+    step_stopped _ _ _ _ c.loop-index.text.items (numbered line index (drop index items)) (line index item) (numbered line (index + 1) (drop (index + 1) items)) _ c.loop-index.invariant.so_far more c.in_ok-put.ensures c.in_err-spill.ensures.err)
 
 pub loop-index-preserved : goal.loop-index-preserved
 loop-index-preserved g c =

@@ -1,5 +1,4 @@
-use Rattle.std.proofs.Common.{◌≡◌, ap, ◌∙◌, sym, arith}
-use Rattle.wk_list.specs.Spaces.{is_of}
+use Rattle.std.proofs.Common.{ap, arith}
 use Rattle.wk_list.proofs.Counting.{once, count_more}
 use Rattle.wk_list.proofs.spaces.count_of.Goals as goal
 use Rattle.wk_list.proofs.spaces.count_of.Goals.{then-is_of, else-is_of}
