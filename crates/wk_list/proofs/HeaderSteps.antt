@@ -66,7 +66,7 @@ section_put : (m : Parts) (at id : ℕ) (a b : Option (List ℕ)) (all t between
     → Leaves a b all (t ++ later m at id) → between ≡ t ++ header_by m at (of_number id) → Leaves a b all (between ++ (behind m at id ++ later m (at + length (section_and_customs m id)) (id + 1)))
 section_put m at id a b all t between lt so_far put =
     leaves_put a b all t (header_by m at (of_number id)) (behind m at id ++ later m (at + length (section_and_customs m id)) (id + 1)) between
-      (subst (λ (r : List ℕ). Leaves a b all (t ++ r)) (later_is m at id lt) so_far) put
+    (subst (λ (r : List ℕ). Leaves a b all (t ++ r)) (later_is m at id lt) so_far) put
 
 pub section_taken : (p m : Parts) (at id middle after : ℕ) (a b c : Option (List ℕ)) (all t between new : List ℕ) → p ≡ m → id < 12
     → Leaves a b all (t ++ later m at id) → between ≡ t ++ header_by p at (of_number id) → middle ≡ at + length (section_of p id)
@@ -78,7 +78,7 @@ section_taken p m at id middle after a b c all t between new same lt so_far put 
     let end_m : after ≡ at + length (section_and_customs m id) = omega (arith, end, ends_m, length-append (section_of m id) (customs_at id m.customs)) in
     let listed_m = subst (λ (n : ℕ). Leaves b c (between ++ placed custom_frame custom_header n (customs_of id m.customs)) new) ends_m listed in
     subst (λ (n : ℕ). Leaves a c all (new ++ later m n (id + 1))) (sym end_m)
-      (leaves_then a b c all between (behind m at id) (later m (at + length (section_and_customs m id)) (id + 1)) new (section_put m at id a b all t between lt so_far put_m) listed_m)
+    (leaves_then a b c all between (behind m at id) (later m (at + length (section_and_customs m id)) (id + 1)) new (section_put m at id a b all t between lt so_far put_m) listed_m)
 
 pub section_stopped : (p m : Parts) (at id middle : ℕ) (a b c : Option (List ℕ)) (all t between : List ℕ) → p ≡ m → id < 12
     → Leaves a b all (t ++ later m at id) → between ≡ t ++ header_by p at (of_number id) → middle ≡ at + length (section_of p id)

@@ -77,8 +77,12 @@ code_le : (funcs : List Func) (i : ℕ) (f : Func) → i < length funcs → f �
 code_le [] i f within is = absurd (omega arith)
 code_le (g ∷ gs) i f within is =
     let bodies = map (λ (h : Func). h.body) (g ∷ gs) in
-    omega (arith, piece_le (λ (h : Func). written_code h.body) (g ∷ gs) i f within is, ap length (flat_map-map written_code (λ (h : Func). h.body) (g ∷ gs)),
-        length-append (short (length bodies)) (flat_map written_code bodies))
+    omega (
+      arith,
+      piece_le (λ (h : Func). written_code h.body) (g ∷ gs) i f within is,
+      ap length (flat_map-map written_code (λ (h : Func). h.body) (g ∷ gs)),
+      length-append (short (length bodies)) (flat_map written_code bodies),
+    )
 
 body_fits : (m : Parts) (i : ℕ) (f : Func) → i < length m.funcs → f ≡ get_or m.funcs i f → Fits m → length (written_body f.body) ≤ limit
 body_fits m i f within is fits =

@@ -37,8 +37,12 @@ drop-ids id lt =
 pub length-ids : (m : Parts) (id : ℕ) → id < 12
     → length (flat_map (section_and_customs m) (drop id ids)) ≡ length (section_of m id) + length (customs_at id m.customs) + length (flat_map (section_and_customs m) (drop (id + 1) ids))
 length-ids m id lt =
-    omega (arith, ap (λ (xs : List ℕ). length (flat_map (section_and_customs m) xs)) (drop-ids id lt),
-        length-append (section_and_customs m id) (flat_map (section_and_customs m) (drop (id + 1) ids)), length-append (section_of m id) (customs_at id m.customs))
+    omega (
+      arith,
+      ap (λ (xs : List ℕ). length (flat_map (section_and_customs m) xs)) (drop-ids id lt),
+      length-append (section_and_customs m id) (flat_map (section_and_customs m) (drop (id + 1) ids)),
+      length-append (section_of m id) (customs_at id m.customs),
+    )
 
 pub length-all : (m : Parts) → 8 + length (flat_map (section_and_customs m) ids) ≡ length (encoded m)
 unfolding encoded

@@ -79,7 +79,7 @@ instrs_text at depth (If ty first second rest) =
     code_line at depth (codes "if" ++ type_text ty)
     ++ (instrs_text (at + length (0x04 ∷ type_bytes ty)) (depth + 1) first
     ++ (else_text (at + length (0x04 ∷ type_bytes ty) + length (enc first)) depth second
-        (instrs_text (at + length (0x04 ∷ type_bytes ty) + length (enc first) + 1) (depth + 1) second)
+    (instrs_text (at + length (0x04 ∷ type_bytes ty) + length (enc first) + 1) (depth + 1) second)
     ++ (code_line (at + length (0x04 ∷ type_bytes ty) + length (enc first) + length (else_bytes second (enc second))) depth (codes "end")
     ++ instrs_text (at + length (0x04 ∷ type_bytes ty) + length (enc first) + length (else_bytes second (enc second)) + 1) depth rest)))
 

@@ -69,12 +69,12 @@ in_its_place r x xs =
     elim (three_ways (rank r) (rank x)) [
       | inl p ↦ goes_front r x xs (inl p)
       | inr other ↦ elim other [
-          | inl e ↦ elim (three_ways (index r) (index x)) [
-              | inl p ↦ goes_front r x xs (inr (e, p))
-              | inr more ↦ elim more [ inl d ↦ goes_nowhere r x xs (same_ref r x e d) | inr p ↦ goes_behind r x xs (inr (sym e, p)) ]
-            ]
-          | inr p ↦ goes_behind r x xs (inl p)
+        | inl e ↦ elim (three_ways (index r) (index x)) [
+          | inl p ↦ goes_front r x xs (inr (e, p))
+          | inr more ↦ elim more [ inl d ↦ goes_nowhere r x xs (same_ref r x e d) | inr p ↦ goes_behind r x xs (inr (sym e, p)) ]
         ]
+        | inr p ↦ goes_behind r x xs (inl p)
+      ]
     ]
 
 all_at : (P : Ref → Type 0) (r : Ref) (xs : List Ref) → AllByRecursion P xs → IsAmong r xs → P r
@@ -94,9 +94,9 @@ all_placed P r (x ∷ xs) p h =
     elim (in_its_place r x xs) [
       | inl front ↦ subst (AllByRecursion P) (sym front.1) (p, h)
       | inr other ↦ elim other [
-          | inl same ↦ subst (AllByRecursion P) (sym same.1) h
-          | inr behind ↦ subst (AllByRecursion P) (sym behind.1) (h.0, all_placed P r xs p h.1)
-        ]
+        | inl same ↦ subst (AllByRecursion P) (sym same.1) h
+        | inr behind ↦ subst (AllByRecursion P) (sym behind.1) (h.0, all_placed P r xs p h.1)
+      ]
     ]
 
 placed_rises : (r : Ref) (xs : List Ref) → AreRising xs → AreRising (placed_in r xs)
@@ -105,9 +105,9 @@ placed_rises r (x ∷ xs) h =
     elim (in_its_place r x xs) [
       | inl front ↦ subst AreRising (sym front.1) ((front.0, all_before r x xs front.0 h.0), h)
       | inr other ↦ elim other [
-          | inl same ↦ subst AreRising (sym same.1) h
-          | inr behind ↦ subst AreRising (sym behind.1) (all_placed (IsBelow x) r xs behind.0 h.0, placed_rises r xs h.1)
-        ]
+        | inl same ↦ subst AreRising (sym same.1) h
+        | inr behind ↦ subst AreRising (sym behind.1) (all_placed (IsBelow x) r xs behind.0 h.0, placed_rises r xs h.1)
+      ]
     ]
 
 pub in_order_rises : (xs : List Ref) → AreRising (in_order xs)
@@ -122,12 +122,12 @@ same_placed r (x ∷ xs) q =
     elim (in_its_place r x xs) [
       | inl front ↦ subst (λ (ks : List Ref). IsAmong q ks ↔ IsAmong q (r ∷ x ∷ xs)) (sym front.1) (λ h. h, λ h. h)
       | inr other ↦ elim other [
-          | inl same ↦ subst (λ (ks : List Ref). IsAmong q ks ↔ IsAmong q (r ∷ x ∷ xs)) (sym same.1) (λ h. inr h, λ h. elim h [ inl e ↦ inl (e ∙ same.0) | inr a ↦ a ])
-          | inr behind ↦ subst (λ (ks : List Ref). IsAmong q ks ↔ IsAmong q (r ∷ x ∷ xs)) (sym behind.1) (
-              λ h. elim h [ inl e ↦ inr (inl e) | inr a ↦ elim ((same_placed r xs q).0 a) [ inl e ↦ inl e | inr b ↦ inr (inr b) ] ],
-              λ h. elim h [ inl e ↦ inr ((same_placed r xs q).1 (inl e)) | inr a ↦ elim a [ inl e ↦ inl e | inr b ↦ inr ((same_placed r xs q).1 (inr b)) ] ],
-            )
-        ]
+        | inl same ↦ subst (λ (ks : List Ref). IsAmong q ks ↔ IsAmong q (r ∷ x ∷ xs)) (sym same.1) (λ h. inr h, λ h. elim h [ inl e ↦ inl (e ∙ same.0) | inr a ↦ a ])
+        | inr behind ↦ subst (λ (ks : List Ref). IsAmong q ks ↔ IsAmong q (r ∷ x ∷ xs)) (sym behind.1) (
+          λ h. elim h [ inl e ↦ inr (inl e) | inr a ↦ elim ((same_placed r xs q).0 a) [ inl e ↦ inl e | inr b ↦ inr (inr b) ] ],
+          λ h. elim h [ inl e ↦ inr ((same_placed r xs q).1 (inl e)) | inr a ↦ elim a [ inl e ↦ inl e | inr b ↦ inr ((same_placed r xs q).1 (inr b)) ] ],
+        )
+      ]
     ]
 
 pub in_order_same : (xs : List Ref) → AreSame (in_order xs) xs
@@ -144,9 +144,9 @@ one_first k l ks ls p q s =
     elim ((s k).0 (inl refl)) [
       | inl e ↦ e
       | inr a ↦ elim ((s l).1 (inl refl)) [
-          | inl e ↦ sym e
-          | inr b ↦ absurd (never_below_self k (below_then k l k (all_at (IsBelow k) l ks p.0 b) (all_at (IsBelow l) k ls q.0 a)))
-        ]
+        | inl e ↦ sym e
+        | inr b ↦ absurd (never_below_self k (below_then k l k (all_at (IsBelow k) l ks p.0 b) (all_at (IsBelow l) k ls q.0 a)))
+      ]
     ]
 
 among_others : (k r : Ref) (ks ls : List Ref) → AllByRecursion (IsBelow k) ks → (IsAmong r (k ∷ ks) → IsAmong r (k ∷ ls)) → IsAmong r ks → IsAmong r ls

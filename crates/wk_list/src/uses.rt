@@ -85,5 +85,11 @@ pub(crate) fn list_uses<S: Shape, W: Out>(
 {
     let parts = shape.parts();
     let imported = count_of(Kind::Func, parts.imports.as_slice());
-    list_lines(alloc, &UseRows { imported }, parts.funcs.as_slice(), text, out)
+    list_lines(
+        alloc,
+        &UseRows { imported },
+        parts.funcs.as_slice(),
+        text,
+        out,
+    )
 }

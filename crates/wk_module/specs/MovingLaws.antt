@@ -30,8 +30,18 @@ moved_filled kind from m =
     let moved_types = as_full (λ f. f.ty) (map (moved_func kind from) m.funcs) in
     let moved_codes = as_full (λ f. f.body) (map (moved_func kind from) m.funcs) in
     let funcs = as_full (moved_func kind from) m.funcs in
-    rw (moved_types, moved_codes, funcs, types, codes, as_full (moved_global kind from) m.globals, as_full (moved_export kind from) m.exports, start_as_full kind from m.start,
-        as_full (moved_elem kind from) m.elems, as_full (moved_data kind from) m.datas) refl
+    rw (
+      moved_types,
+      moved_codes,
+      funcs,
+      types,
+      codes,
+      as_full (moved_global kind from) m.globals,
+      as_full (moved_export kind from) m.exports,
+      start_as_full kind from m.start,
+      as_full (moved_elem kind from) m.elems,
+      as_full (moved_data kind from) m.datas,
+    ) refl
 
 -- moving leaves customs settled
 pub moved_settled : (kind : Kind) (from : ℕ) (m : Parts) → settle m ≡ m → settle (moved_parts kind from m) ≡ moved_parts kind from m

@@ -20,7 +20,7 @@ returns-in_err-spill-clause-err g c =
     let within : c.loop-index.index < length cs = omega (arith, c.loop-index-test.true, ap length items) in
     let is : c.custom-item.result ≡ get_or cs c.loop-index.index c.custom-item.result = rw items at c.custom-item.is in
     on_err_known c.from_residual-in_err-spill.result
-      (custom_stopped _ _ _ _ _ _ c.args.place c.loop-index.next c.loop-index.index c.custom-item.result cs within is c.if-custom-place.true c.loop-index.invariant.so_far c.in_ok-put_custom.ensures c.in_err-spill.ensures.err)
+    (custom_stopped _ _ _ _ _ _ c.args.place c.loop-index.next c.loop-index.index c.custom-item.result cs within is c.if-custom-place.true c.loop-index.invariant.so_far c.in_ok-put_custom.ensures c.in_err-spill.ensures.err)
 
 pub loop-index-preserved : goal.loop-index-preserved
 loop-index-preserved g c =

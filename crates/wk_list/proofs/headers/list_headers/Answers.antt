@@ -29,8 +29,8 @@ pub returns-in_err-at-clause-err : goal.returns-in_err-at-clause-err
 returns-in_err-at-clause-err g c =
     let lt : c.loop-id.id < 12 = omega (arith, c.loop-id-test.true) in
     on_err_known c.from_residual-in_err-at.result
-      (section_stopped c.parts-parts.result.now (g.S.Shape.seen c.args.shape.now) c.loop-id.at c.loop-id.id _ _ _ _ _ _ _ c.parts-parts.ensures.value lt c.loop-id.invariant.so_far
-        c.in_ok-put_section.ensures c.section_end-at.ensures c.in_err-at.ensures.err)
+    (section_stopped c.parts-parts.result.now (g.S.Shape.seen c.args.shape.now) c.loop-id.at c.loop-id.id _ _ _ _ _ _ _ c.parts-parts.ensures.value lt c.loop-id.invariant.so_far
+    c.in_ok-put_section.ensures c.section_end-at.ensures c.in_err-at.ensures.err)
 
 pub loop-id-preserved : goal.loop-id-preserved
 loop-id-preserved g c =
@@ -38,7 +38,7 @@ loop-id-preserved g c =
     let m = g.S.Shape.seen c.args.shape.now in
     record {
       so_far = section_taken c.parts-parts.result.now m c.loop-id.at c.loop-id.id c.section_end-at.result c.in_ok-at.at _ _ _ _ _ _ _ c.parts-parts.ensures.value lt c.loop-id.invariant.so_far
-        c.in_ok-put_section.ensures c.section_end-at.ensures c.in_ok-at.ensures.ok c.in_ok-at.ensures.end;
+          c.in_ok-put_section.ensures c.section_end-at.ensures c.in_ok-at.ensures.ok c.in_ok-at.ensures.end;
       failures = rw c.in_ok-at.ensures.failures c.loop-id.invariant.failures;
       place = place_after c.parts-parts.result.now m c.loop-id.at c.loop-id.id c.section_end-at.result c.in_ok-at.at c.parts-parts.ensures.value lt c.loop-id.invariant.place c.section_end-at.ensures c.in_ok-at.ensures.end;
     }

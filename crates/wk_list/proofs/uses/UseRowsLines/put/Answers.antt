@@ -21,5 +21,5 @@ returns c =
     let order : c.in_ok-references.references.keys ≡ in_order all = in_order_is c.in_ok-references.references.keys all c.in_ok-references.ensures.rising c.in_ok-references.ensures.exact in
     let put : c.put_indexed.new.text.items ≡ c.args.text.now.items ++ name = search rules in
     four_pieces c.args.text.now.items c.put_indexed.new.text.items c.extend_from_slice.new.self.items c.put_refs.new.text.items c.extend_from_slice-2.new.self.items
-        name (codes ":") (flat_map ref_text (in_order all)) (codes "\n")
-        put c.in_ok-extend_from_slice.ensures.items (c.in_ok-put_refs.ensures ∙ ap (λ (ks : List Ref). c.extend_from_slice.new.self.items ++ flat_map ref_text ks) order) c.in_ok-extend_from_slice-2.ensures.items
+    name (codes ":") (flat_map ref_text (in_order all)) (codes "\n")
+    put c.in_ok-extend_from_slice.ensures.items (c.in_ok-put_refs.ensures ∙ ap (λ (ks : List Ref). c.extend_from_slice.new.self.items ++ flat_map ref_text ks) order) c.in_ok-extend_from_slice-2.ensures.items
