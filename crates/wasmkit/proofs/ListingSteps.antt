@@ -8,10 +8,10 @@ use Rattle.wk_bytes.specs.Frames.{Section}
 use Rattle.wk_bytes.specs.Raw.{item_view}
 use Rattle.wasmkit.specs.Listing.{is_fault, item_line, listing}
 
-pub text_more : (old new line whole : List ℕ) (item : Result Section ReadFault) (it items : List (Result Section ReadFault)) → it ≡ item ∷ items → new ≡ old ++ line → line ≡ item_line item → old ++ listing it ≡ whole → new ++ listing items ≡ whole
+pub text_more : (old new whole : List ℕ) (item : Result Section ReadFault) (it items : List (Result Section ReadFault)) → it ≡ item ∷ items → new ≡ old ++ item_line item → old ++ listing it ≡ whole → new ++ listing items ≡ whole
 unfolding listing
-text_more old new line whole item it items steps put is e =
-    ap (λ (t : List ℕ). t ++ listing items) (put ∙ ap (λ (t : List ℕ). old ++ t) is)
+text_more old new whole item it items steps put e =
+    ap (λ (t : List ℕ). t ++ listing items) put
     ∙ (append_assoc old (item_line item) (listing items)
     ∙ (ap (λ (rest : List (Result Section ReadFault)). old ++ listing rest) (sym steps) ∙ e))
 

@@ -1,10 +1,9 @@
-use Rattle.std.proofs.Common.{◌∙◌}
 use Rattle.wasmkit.proofs.ListingSteps.{text_more, text_done, fault_more}
 use Rattle.wasmkit.proofs.listing.list_sections.Goals as goal
 
 pub loop-item-preserved : goal.loop-item-preserved
 loop-item-preserved c = record {
-  text = text_more _ _ _ _ _ _ _ c.in-Some.ensures.steps c.in_ok-push_str.ensures.bytes (c.as_str.ensures.value ∙ c.in_ok-line.ensures) c.loop-item.invariant.text;
+  text = text_more _ _ _ _ _ _ c.in-Some.ensures.steps c.in_ok-put_item.ensures c.loop-item.invariant.text;
   fault = fault_more _ _ _ _ _ _ c.in-Some.ensures.steps c.is_err-has_fault.ensures.value c.loop-item.invariant.fault;
 }
 

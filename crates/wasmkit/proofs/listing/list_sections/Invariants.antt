@@ -1,4 +1,4 @@
-use Rattle.std.proofs.Common.{◌≡◌, ◌++◌, ◌||◌, string_bytes}
+use Rattle.std.proofs.Common.{◌≡◌, ◌++◌, ◌||◌}
 use Rattle.std.specs.List.{list_any}
 use Rattle.wk_bytes.specs.Frames.{sections_of}
 use Rattle.wasmkit.specs.Listing.{is_fault, listing}
@@ -6,6 +6,6 @@ use Rattle.wasmkit.proofs.listing.list_sections.Given as goal
 
 abbrev pub invariant-loop-item : goal.invariant-loop-item
 invariant-loop-item l = record {
-  text : string_bytes l.text ++ listing l.item-iterator ≡ listing (sections_of l.bytes);
+  text : l.text.items ++ listing l.item-iterator ≡ listing (sections_of l.bytes);
   fault : (l.has_fault || list_any is_fault l.item-iterator) ≡ list_any is_fault (sections_of l.bytes);
 }
