@@ -41,7 +41,7 @@ fn put_offset(text: &mut Vec<u8>, n: u32) -> Result<(), OutOfMemory>
 ///
 /// # Errors
 ///
-/// Want of memory: some of the line may stand there.
+/// Want of memory. Nothing is said of `text` then.
 pub fn put_header(text: &mut Vec<u8>, id: u8, start: u32, size: u32) -> Result<(), OutOfMemory>
     requires { start + size < 2 ^ 32 }
     ensures { OnOk result (text.new.items ≡ text.old.items ++ header_text id start size) }

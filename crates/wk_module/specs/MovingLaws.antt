@@ -2,10 +2,11 @@
 use Rattle.std.proofs.Common.{◌≡◌, ℕ, Bool, true, false, not, Option, Some, None, List, [], ◌∷◌, map, slice_index_or, refl, ap, ◌∙◌}
 use Rattle.wk_bytes.specs.ListWords.{is_empty}
 use Rattle.wk_body.specs.declared.types.Profile.TheVariants.{Core}
+use Rattle.wk_body.specs.declared.types.ValType.TheVariants.{I32}
 use Rattle.wk_body.specs.Instructions.{Call, GlobalGet, CallIndirect}
 use Rattle.wk_body.specs.Tree.{Instrs, Finish, One}
 use Rattle.wk_module.specs.declared.types.Kind.{Kind}
-use Rattle.wk_module.specs.declared.types.Kind.TheVariants.{Func, Table}
+use Rattle.wk_module.specs.declared.types.Kind.TheVariants.{Func, Table, Memory, Global}
 use Rattle.wk_module.specs.declared.types.Custom.{Custom}
 use Rattle.wk_module.specs.declared.types.Parts.{Parts}
 use Rattle.wk_module.specs.Sections.{is_some}
@@ -75,6 +76,54 @@ table_stays = refl
 start_moves : moved_parts Func 0 (record (nothing Core) { start = Some 0 }) ≡ record (nothing Core) { start = Some 1 }
 start_moves = refl
 
+-- the functions of an element segment move with their kind, and its table with its own
+abbrev of_elem : ℕ → List ℕ → Parts
+of_elem table funcs = record (nothing Core) { elems = record { table = table; offset = Finish; funcs = funcs } ∷ [] }
+
+elem_funcs_move : moved_parts Func 1 (of_elem 2 (0 ∷ 1 ∷ [])) ≡ of_elem 2 (0 ∷ 2 ∷ [])
+elem_funcs_move = refl
+
+elem_table_moves : moved_parts Table 1 (of_elem 2 (0 ∷ 1 ∷ [])) ≡ of_elem 3 (0 ∷ 1 ∷ [])
+elem_table_moves = refl
+
+-- the memory of a data segment moves with its kind, and a global in its offset with its own; a call in an offset stays
+abbrev of_data : ℕ → Instrs → Parts
+of_data memory offset = record (nothing Core) { datas = record { memory = memory; offset = offset; bytes = [] } ∷ [] }
+
+data_memory_moves : moved_parts Memory 0 (of_data 0 (One (GlobalGet 0) Finish)) ≡ of_data 1 (One (GlobalGet 0) Finish)
+data_memory_moves = refl
+
+offset_moves : moved_parts Global 0 (of_data 0 (One (GlobalGet 0) Finish)) ≡ of_data 0 (One (GlobalGet 1) Finish)
+offset_moves = refl
+
+call_in_offset_stays : moved_parts Func 0 (of_data 0 (One (Call 0) Finish)) ≡ of_data 0 (One (Call 0) Finish)
+call_in_offset_stays = refl
+
+-- an initialiser moves with the globals that it reads
+abbrev of_init : Instrs → Parts
+of_init t = record (nothing Core) { globals = record { ty = record { val = I32; mutable = false }; init = t } ∷ [] }
+
+init_moves : moved_parts Global 0 (of_init (One (GlobalGet 3) Finish)) ≡ of_init (One (GlobalGet 4) Finish)
+init_moves = refl
+
+-- an export moves with its own kind alone
+abbrev of_export : ℕ → Parts
+of_export index = record (nothing Core) { exports = record { name = []; kind = Memory; index = index } ∷ [] }
+
+export_moves : moved_parts Memory 0 (of_export 0) ≡ of_export 1
+export_moves = refl
+
+export_stays : moved_parts Func 0 (of_export 0) ≡ of_export 0
+export_stays = refl
+
 -- the greatest index can't move
 greatest_is_stuck : are_parts_stuck Func 0 (record (nothing Core) { start = Some 0xffff_ffff }) ≡ true
 greatest_is_stuck = refl
+
+-- that of another kind is not asked to
+other_is_not_stuck : are_parts_stuck Global 0 (record (nothing Core) { start = Some 0xffff_ffff }) ≡ false
+other_is_not_stuck = refl
+
+-- nor is one in front of those that move
+front_is_not_stuck : are_parts_stuck Func 1 (record (nothing Core) { start = Some 0 }) ≡ false
+front_is_not_stuck = refl
