@@ -1,6 +1,5 @@
 -- The sections of the details listing, one id after the other.
-use Rattle.std.proofs.Common.{◌≡◌, ℕ, suc, ◌+◌, ◌<◌, List, ◌∷◌, ◌++◌, Option, drop, get_or, ap, ◌∙◌, subst, arith, add-one, drop-cons}
-use Rattle.std.proofs.lemmas.List.FromFn.{get_or-range_with_len}
+use Rattle.std.proofs.Common.{◌≡◌, ℕ, ◌+◌, ◌<◌, List, ◌++◌, Option, drop, ap, subst}
 use Rattle.std.specs.List.{flat_map}
 use Rattle.wk_bytes.specs.Taken.{TakesFront}
 use Rattle.wk_module.specs.declared.types.Parts.{Parts}
@@ -9,13 +8,8 @@ use Rattle.wk_module.specs.Writing.{ids}
 use Rattle.wk_list.specs.Taken.{Leaves}
 use Rattle.wk_list.specs.Headers.{customs_of}
 use Rattle.wk_list.specs.Details.{custom_details, details_by, details_of}
+use Rattle.wk_list.proofs.Walk.{drop-ids}
 use Rattle.wk_list.proofs.TakenLemmas.{leaves_then, stops_then, leaves_both, stops_first, stops_second}
-
--- the ids from one on
-pub drop-ids : (id : ℕ) → id < 12 → drop id ids ≡ id ∷ drop (id + 1) ids
-drop-ids id lt =
-    let here : get_or ids id 0 ≡ id = omega (arith, get_or-range_with_len 0 12 id 0 lt) in
-    rw (add-one id) (drop-cons ids id 0 lt ∙ ap (λ (n : ℕ). n ∷ drop (suc id) ids) here)
 
 -- the details from an id on
 abbrev pub details_from : Parts → ℕ → List ℕ

@@ -1,5 +1,5 @@
 -- Where the pieces of the written form stand.
-use Rattle.std.proofs.Common.{◌≡◌, ℕ, ◌+◌, ◌<◌, ◌≤◌, ◌^◌, ◌==◌, false, List, [], ◌∷◌, ◌++◌, length, map, take, drop, get_or, slice_index_or, refl, sym, ap, ◌∙◌, arith, length-append}
+use Rattle.std.proofs.Common.{◌≡◌, ℕ, ◌+◌, ◌<◌, ◌≤◌, false, List, [], ◌∷◌, ◌++◌, length, map, take, drop, get_or, slice_index_or, refl, sym, ap, ◌∙◌, arith, length-append}
 use Rattle.std.proofs.lemmas.Bool.{eq-eqb}
 use Rattle.std.specs.List.{flat_map}
 use Rattle.std.proofs.lemmas.List.{flat_map_more, take_more, drop_more, length-map}
@@ -20,8 +20,8 @@ use Rattle.wk_module.specs.declared.types.Kind.TheVariants.{Func as FuncKind}
 use Rattle.wk_module.specs.declared.types.Parts.{Parts}
 use Rattle.wk_module.specs.Customs.{written_custom}
 use Rattle.wk_module.specs.Items.{written_code}
-use Rattle.wk_module.specs.Sections.{ImportSection, CodeSection, contents}
-use Rattle.wk_module.specs.Shape.{lists_of, IsShaped}
+use Rattle.wk_module.specs.Sections.{CodeSection, contents}
+use Rattle.wk_module.specs.Shape.{lists_of}
 use Rattle.wk_module.specs.Writing.{section_contents, written_section, section_of, customs_at, section_and_customs, ids, encoded, Fits}
 use Rattle.wk_module.specs.WritingLaws.{at_place, written_frame, customs_at-cons}
 use Rattle.wk_list.specs.Headers.{contents_start}
@@ -149,11 +149,3 @@ pub text_is : (m parts : Parts) (imports : List Import) (imported first : ℕ) �
 text_is m parts imports imported first same is count place =
     let counted : imported ≡ count_of FuncKind m.imports = count ∙ ap (count_of FuncKind) (is ∙ ap (λ (p : Parts). p.imports) same) in
     ap (λ (n : ℕ). entries_text n first m.funcs) counted ∙ ap (λ (n : ℕ). entries_text (count_of FuncKind m.imports) n m.funcs) place
-
--- ---- as many items as indexes count
-
-pub few_imports : (m parts : Parts) → parts ≡ m → IsShaped m → length parts.imports < 2 ^ 32
-few_imports m parts same shaped = let few = shaped.formed.valid ImportSection in omega (arith, few.0, ap (λ (p : Parts). length p.imports) same)
-
-pub few_funcs : (m : Parts) → IsShaped m → length m.funcs < 2 ^ 32
-few_funcs m shaped = let few = shaped.formed.valid CodeSection in omega (arith, few.0, length-map m.funcs (λ (f : Func). f.body))

@@ -1,5 +1,5 @@
 -- What an `Out` takes of a text, piece after piece.
-use Rattle.std.proofs.Common.{◌≡◌, ℕ, List, ◌++◌, take, drop, refl, [], append-nil, Option, Some, None, sym, ap, ◌∙◌, subst, append_assoc}
+use Rattle.std.proofs.Common.{◌≡◌, ℕ, List, ◌++◌, refl, [], append-nil, Option, Some, None, sym, ap, ◌∙◌, subst, append_assoc}
 use Rattle.std.specs.Prelude.{Result, Ok, Err, OnErr}
 use Rattle.std.specs.Io.KnownBytes.{Appends}
 use Rattle.wk_bytes.specs.Taken.{TakesFront}
@@ -56,10 +56,6 @@ leaves_put a b all t x rest new so_far e = leaves_spilled a b b all t x rest new
 -- memory was refused
 pub stops_here : (a b : Option (List ℕ)) (all left : List ℕ) → Leaves a b all left → TakesFront a b all
 stops_here a b all left so_far = (so_far.0, left, so_far.1, so_far.2)
-
--- nothing comes any more
-pub leaves_done : (a b : Option (List ℕ)) (all t rest : List ℕ) → rest ≡ [] → Leaves a b all (t ++ rest) → Leaves a b all t
-leaves_done a b all t rest none so_far = subst (λ (r : List ℕ). Leaves a b all r) (ap (λ (r : List ℕ). t ++ r) none ∙ append-nil t) so_far
 
 -- ---- two calls, one after the other
 

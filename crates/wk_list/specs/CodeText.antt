@@ -1,5 +1,5 @@
 -- The code listing: the instructions of each function, each with its offset in the written form.
-use Rattle.std.specs.Prelude.{ℕ, ℤ, ◌+◌, ◌*◌, List, [], ◌∷◌, ◌++◌, length, replicate, codes, decimal, take}
+use Rattle.std.specs.Prelude.{ℕ, ◌+◌, ◌*◌, List, [], ◌∷◌, ◌++◌, length, replicate, codes, decimal, take}
 use Rattle.std.specs.Fmt.{signed_decimal}
 use Rattle.std.specs.List.{flat_map}
 use Rattle.wk_bytes.specs.HexDigits.{hex_digits}

@@ -8,10 +8,11 @@ ghost use Rattle.wk_module.specs.declared.types.Func.{Func as Function};
 ghost use Rattle.wk_module.specs.Sections.{of_number};
 ghost use Rattle.wk_list.specs.Taken.{Leaves, failed_after};
 ghost use Rattle.wk_list.specs.Text.{numbered};
-ghost use Rattle.wk_list.specs.Headers.{section_name, customs_of};
+ghost use Rattle.wk_list.specs.Headers.{customs_of};
 ghost use Rattle.wk_list.specs.Details.{heading, group, with_heading, import_lines, code_size_line, start_line, custom_details, details_by, details_text};
 
 use crate::fault::ListFault;
+use crate::header::section_name;
 use crate::headers::LAST;
 use crate::imports::list_imports;
 use crate::lines::{Lines, list_lines};
@@ -26,27 +27,6 @@ use crate::text::{put_hex, put_indexed, put_name, put_number};
 use std::alloc::Global;
 use wk_bytes::{Items, Out, OutOfMemory};
 use wk_module::{Custom, Import, Kind};
-
-// The name of the sections with an id.
-fn section_name(id: u8) -> &'static str
-    ensures { result.now ≡ section_name id }
-{
-    match id {
-        0 => "Custom",
-        1 => "Type",
-        2 => "Import",
-        3 => "Function",
-        4 => "Table",
-        5 => "Memory",
-        6 => "Global",
-        7 => "Export",
-        8 => "Start",
-        9 => "Elem",
-        10 => "Code",
-        11 => "Data",
-        _ => "",
-    }
-}
 
 // The heading of a section of so many items.
 fn put_heading(text: &mut Vec<u8>, id: u8, count: usize) -> Result<(), OutOfMemory>

@@ -4,28 +4,38 @@ ghost use Rattle.std.specs.Prelude.{◌≡◌, ◌+◌, ◌<◌, ◌^◌, ◌++�
 ghost use Rattle.wk_bytes.specs.FaultText.{offset_text};
 ghost use Rattle.wk_list.specs.Headers.{in_eight, section_name, header_text};
 
-use crate::text::put_hex8;
+use crate::text::{put_hex8, put_spaces};
 use wk_bytes::OutOfMemory;
 
-// The name of the sections with an id, right-aligned in eight places.
-fn aligned_name(id: u8) -> &'static str
-    ensures { result.now ≡ in_eight (section_name id) }
+/// The name of the sections with an id: nothing past 11.
+pub(crate) fn section_name(id: u8) -> &'static str
+    ensures { result.now ≡ section_name id }
 {
     match id {
-        0 => "  Custom",
-        1 => "    Type",
-        2 => "  Import",
+        0 => "Custom",
+        1 => "Type",
+        2 => "Import",
         3 => "Function",
-        4 => "   Table",
-        5 => "  Memory",
-        6 => "  Global",
-        7 => "  Export",
-        8 => "   Start",
-        9 => "    Elem",
-        10 => "    Code",
-        11 => "    Data",
-        _ => "        ",
+        4 => "Table",
+        5 => "Memory",
+        6 => "Global",
+        7 => "Export",
+        8 => "Start",
+        9 => "Elem",
+        10 => "Code",
+        11 => "Data",
+        _ => "",
     }
+}
+
+// The name of the sections with an id, right-aligned in eight places.
+fn put_aligned_name(text: &mut Vec<u8>, id: u8) -> Result<(), OutOfMemory>
+    ensures { OnOk result (text.new.items ≡ text.old.items ++ in_eight (section_name id)) }
+{
+    let name = section_name(id);
+    put_spaces(text, 8usize.saturating_sub(name.len()))?;
+    text.extend_from_slice(name.as_bytes())?;
+    Ok(())
 }
 
 // An offset or a size, as `0x` and eight hexadecimal digits.
@@ -46,7 +56,7 @@ pub fn put_header(text: &mut Vec<u8>, id: u8, start: u32, size: u32) -> Result<(
     requires { start + size < 2 ^ 32 }
     ensures { OnOk result (text.new.items ≡ text.old.items ++ header_text id start size) }
 {
-    text.extend_from_slice(aligned_name(id).as_bytes())?;
+    put_aligned_name(text, id)?;
     text.extend_from_slice(b" start=")?;
     put_offset(text, start)?;
     text.extend_from_slice(b" end=")?;
