@@ -19,21 +19,23 @@ appends_then (Some s) (Some t) (Some u) xs ys p q = q ∙ ap (λ (r : List ℕ).
 
 -- the text of the item at an index was taken
 pub more_taken : {A : Type 0} (text : A → List ℕ) (items : List A) (i : ℕ) (other : A) (a b c : Option (List ℕ)) (all : List ℕ)
-  → i < length items → Leaves a b all (flat_map text (drop i items)) → Appends b c (text (get_or items i other)) → Leaves a c all (flat_map text (drop (i + 1) items))
+    → i < length items → Leaves a b all (flat_map text (drop i items)) → Appends b c (text (get_or items i other)) → Leaves a c all (flat_map text (drop (i + 1) items))
 more_taken text items i other a b c all within so_far p =
     let x = text (get_or items i other) in
-    let later = flat_map text (drop (i + 1) items) in
-    (so_far.0 ++ x,
-     so_far.1 ∙ ap (λ (r : List ℕ). so_far.0 ++ r) (at_drop_more (flat_map text) items i other within) ∙ sym (append_assoc so_far.0 x later),
-     appends_then a b c so_far.0 x so_far.2 p)
+    let later = flat_map text (drop (i + 1) items) in (
+      so_far.0 ++ x,
+      so_far.1 ∙ ap (λ (r : List ℕ). so_far.0 ++ r) (at_drop_more (flat_map text) items i other within) ∙ sym (append_assoc so_far.0 x later),
+      appends_then a b c so_far.0 x so_far.2 p,
+    )
 
 -- some of it was
 pub some_taken : {A : Type 0} (text : A → List ℕ) (items : List A) (i : ℕ) (other : A) (a b c : Option (List ℕ)) (all : List ℕ)
-  → i < length items → Leaves a b all (flat_map text (drop i items)) → TakesFront b c (text (get_or items i other)) → TakesFront a c all
+    → i < length items → Leaves a b all (flat_map text (drop i items)) → TakesFront b c (text (get_or items i other)) → TakesFront a c all
 some_taken text items i other a b c all within so_far p =
-    let later = flat_map text (drop (i + 1) items) in
-    (so_far.0 ++ p.0,
-     p.1 ++ later,
-     so_far.1 ∙ ap (λ (r : List ℕ). so_far.0 ++ r) (at_drop_more (flat_map text) items i other within ∙ ap (λ (r : List ℕ). r ++ later) p.2 ∙ append_assoc p.0 p.1 later)
-       ∙ sym (append_assoc so_far.0 p.0 (p.1 ++ later)),
-     appends_then a b c so_far.0 p.0 so_far.2 p.3)
+    let later = flat_map text (drop (i + 1) items) in (
+      so_far.0 ++ p.0,
+      p.1 ++ later,
+      so_far.1 ∙ ap (λ (r : List ℕ). so_far.0 ++ r) (at_drop_more (flat_map text) items i other within ∙ ap (λ (r : List ℕ). r ++ later) p.2 ∙ append_assoc p.0 p.1 later)
+          ∙ sym (append_assoc so_far.0 p.0 (p.1 ++ later)),
+      appends_then a b c so_far.0 p.0 so_far.2 p.3,
+    )

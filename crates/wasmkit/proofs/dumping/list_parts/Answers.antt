@@ -6,7 +6,7 @@ use Rattle.wasmkit.proofs.dumping.list_parts.Goals as goal
 pub returns-in_err-list-clause-err : goal.returns-in_err-list-clause-err
 returns-in_err-list-clause-err g c =
     on_err_known c.from_residual.result (
-        some_taken (listing c.args.plain.now) c.args.parts.now c.loop-part.part-index _ _ _ _ _ c.loop-part-test.true c.loop-part.invariant.so_far c.in_err-list.ensures.err)
+    some_taken (listing c.args.plain.now) c.args.parts.now c.loop-part.part-index _ _ _ _ _ c.loop-part-test.true c.loop-part.invariant.so_far c.in_err-list.ensures.err)
 
 pub loop-part-preserved : goal.loop-part-preserved
 loop-part-preserved g c = record {
