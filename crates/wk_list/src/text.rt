@@ -91,10 +91,7 @@ pub(crate) fn put_spaces(text: &mut Vec<u8>, count: usize) -> Result<(), OutOfMe
     requires { count < 2 ^ 33 }
     ensures { OnOk result (text.new.items ≡ text.old.items ++ replicate count 32) }
 {
-    let Some(len) = text.len().checked_add(count) else {
-        return Err(OutOfMemory);
-    };
-    text.resize(len, b' ')?;
+    text.resize(text.len() + count, b' ')?;
     Ok(())
 }
 
