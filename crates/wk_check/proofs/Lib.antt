@@ -13,4 +13,5 @@ pub mod Names
 pub mod Popping
 pub mod Runs
 pub mod Sound
+pub mod Spelled
 pub mod Stacked

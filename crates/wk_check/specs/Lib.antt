@@ -13,6 +13,7 @@ pub mod Moves
 pub mod Own
 pub mod Slots
 pub mod Spaces
+pub mod Spelled
 pub mod Tests
 pub mod Typing
 pub mod Verdict

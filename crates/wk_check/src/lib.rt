@@ -17,6 +17,7 @@ mod operands;
 mod rule;
 mod rules;
 mod step;
+mod spelled;
 mod stop;
 mod typing;
 mod whole;
@@ -26,6 +27,7 @@ pub use fault::{BodyVerdict, Fault, FaultKind, Place, Verdict};
 pub use judging::{judge, judge_around};
 pub use kept::{carry, carry_moved};
 pub use meter::{Meter, judge_body};
+pub use spelled::judge_bytes;
 pub use whole::Whole;
 
 #[cfg(test)]

@@ -1,5 +1,6 @@
 pub mod SectionIds
 pub mod ModuleReading
+pub mod ListReading
 pub mod Alike
 pub mod VectorReading
 pub mod Laws

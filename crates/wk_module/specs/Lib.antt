@@ -6,6 +6,7 @@ pub mod Sections
 pub mod Shape
 pub mod Modules
 pub mod Reading
+pub mod ListReading
 pub mod Writing
 pub mod Listed
 pub mod ShapeLaws

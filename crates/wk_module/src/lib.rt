@@ -8,6 +8,7 @@ mod module;
 mod readable;
 mod reader;
 mod reading;
+mod section_reader;
 mod settle;
 mod types;
 mod writable;
@@ -17,7 +18,8 @@ mod writing;
 pub use length::{custom_len, encoded_len, section_len};
 pub use lists::Lists;
 pub use module::Module;
-pub use reader::{one_module, read, read_in};
+pub use reader::{one_module, read, read_in, reading_of_module};
+pub use section_reader::{CodeReader, SectionReader};
 pub use types::{
     Custom, DataSeg, Elem, Export, Func, FuncType, GlobalDef, GlobalType, Import, ImportDesc, Kind,
     Limits, Parts,

@@ -10,6 +10,7 @@ ghost use Rattle.wk_module.specs.Customs.{custom_at};
 ghost use Rattle.wk_module.specs.Formats.{all_at};
 ghost use Rattle.wk_module.specs.ModuleLaws.{SpellOne, SpellAlike};
 ghost use Rattle.wk_module.specs.Modules.{Spells, SpellsNone};
+ghost use Rattle.wk_module.specs.ListReading.{AreListsOfModule, IsReading, Rise};
 ghost use Rattle.wk_module.specs.Writing.{Fits};
 ghost use Rattle.wk_module.specs.Sections.{contents_at, StartSection, CodeSection};
 ghost use Rattle.wk_module.specs.Reading.{at_start, section_end, with_section, sections_read, joined, zipped, module_at};
@@ -30,9 +31,9 @@ use wk_bytes::{Items, OutOfMemory, RawSection, ReadFault, ReadKind, Sections};
 // What was read so far: the lists, where the functions are parted into their types and their bodies, and the id of the last
 // section that is not empty.
 #[derive(Drop)]
-struct SoFar {
-    parts: Parts,
-    indices: Items<u32>,
+pub(crate) struct SoFar {
+    pub(crate) parts: Parts,
+    pub(crate) indices: Items<u32>,
     bodies: Items<Body>,
     place: u8,
 }
@@ -125,7 +126,7 @@ fn place_behind(place: u8, id: u8, full: bool) -> u8
 
 impl SoFar {
     // Before the first section.
-    fn new(alloc: Global, profile: Profile) -> SoFar
+    pub(crate) fn new(alloc: Global, profile: Profile) -> SoFar
         ensures { result ≡ at_start }
     {
         SoFar {
@@ -138,7 +139,7 @@ impl SoFar {
 
     // Reads a section of the ids 1 to 5.
     #[tactic(auto, unfolding(crate::specs::Reading::section_by))]
-    fn with_low_section(
+    pub(crate) fn with_low_section(
         mut self,
         alloc: Global,
         scratch: &mut Scratch,
@@ -177,7 +178,7 @@ impl SoFar {
 
     // Reads a section of the ids 6 to 11.
     #[tactic(auto, unfolding(crate::specs::Reading::section_by))]
-    fn with_high_section(
+    pub(crate) fn with_high_section(
         mut self,
         alloc: Global,
         scratch: &mut Scratch,
@@ -347,4 +348,15 @@ pub fn one_module()
     reading_of_code();
     written_form_of_code();
     one_spelling_of_code();
+}
+
+/// The laws of reading a module: what is read is the one module that the bytes spell, or none and the fault stands; its lists are
+/// those that are read one after the other; and sections come by rising ids. It does nothing.
+pub fn reading_of_module(bytes: &[u8], profile: Profile)
+    ensures is { IsReading profile bytes.now (module_at profile bytes.now) }
+    ensures lists { AreListsOfModule profile bytes.now }
+    ensures rise { Rise 0 (sections_of bytes.now) }
+{
+    reading_of_code();
+    written_form_of_code();
 }

@@ -1,0 +1,37 @@
+-- The verdict of the module that bytes spell, and of bodies that are judged while they are read.
+use Rattle.std.specs.Prelude.{ℕ, Option, List, length, Result, Ok, Err}
+use Rattle.wk_bytes.specs.declared.fault.ReadFault.{ReadFault}
+use Rattle.wk_bytes.specs.Leb.{◌>>=◌}
+use Rattle.wk_bytes.specs.Frames.{Section}
+use Rattle.wk_body.specs.declared.types.Profile.{Profile}
+use Rattle.wk_module.specs.declared.types.Func.{Func}
+use Rattle.wk_module.specs.declared.types.Parts.{Parts}
+use Rattle.wk_module.specs.Formats.{all_at}
+use Rattle.wk_module.specs.Reading.{section_end, zipped}
+use Rattle.wk_module.specs.Sections.{SectionLists, codes_at}
+use Rattle.wk_check.specs.declared.fault.Flaw.{Flaw}
+use Rattle.wk_check.specs.declared.fault.Fault.{Fault}
+use Rattle.wk_check.specs.declared.fault.Verdict.{Verdict}
+use Rattle.wk_check.specs.Flaws.{numbered, first_in}
+use Rattle.wk_check.specs.Items.{body_flaw}
+use Rattle.wk_check.specs.Spaces.{answer_in, spaces_of}
+use Rattle.wk_check.specs.Typing.{body_verdict}
+use Rattle.wk_check.specs.Verdict.{module_verdict}
+
+-- the verdict of what reading gives, or its fault
+abbrev pub judged : Result Parts ReadFault → Result Verdict ReadFault
+judged (Ok m) = Ok (module_verdict m)
+judged (Err e) = Err e
+
+-- what is wrong with a function of a module with these lists
+abbrev pub func_flaw : SectionLists → Func → Option Flaw
+func_flaw l f = body_flaw (body_verdict (answer_in (spaces_of l)) f.ty f.body)
+
+-- the first fault of the functions of these types and bodies, from an index on
+abbrev pub first_of : SectionLists → ℕ → List Func → Option Fault
+first_of l item funcs = first_in 10 item (numbered (λ at f. func_flaw l f) item funcs)
+
+-- The first fault of a code section, where functions of these types were declared; or the fault of reading it.
+abbrev pub codes_judged : Profile → SectionLists → List ℕ → Section → Result (Option Fault) ReadFault
+codes_judged profile l types s =
+    all_at (codes_at profile (length types)) (section_end s) s.contents >>= λ bodies. Ok (first_of l 0 (zipped types bodies))

@@ -1,0 +1,16 @@
+use Rattle.std.proofs.Common.{Ok, Err}
+use Rattle.wk_bytes.specs.Raw.{raw_view}
+use Rattle.wk_module.proofs.ListReading.{reads_listed, codes_kept}
+use Rattle.wk_module.proofs.reader.SoFar.with_listed.Goals as goal
+
+pub returns-in-1-to-5-clause-read : goal.returns-in-1-to-5-clause-read
+returns-in-1-to-5-clause-read c = reads_listed c.args.profile c.args.self (raw_view c.args.section.now) c.with_low_section.result c.with_low_section.ensures
+
+pub returns-in-1-to-5-clause-codes : goal.returns-in-1-to-5-clause-codes
+returns-in-1-to-5-clause-codes c = codes_kept c.args.profile c.args.self.lists (raw_view c.args.section.now) c.with_low_section.result (reads_listed c.args.profile c.args.self (raw_view c.args.section.now) c.with_low_section.result c.with_low_section.ensures)
+
+pub returns-in-6-to-11-clause-read : goal.returns-in-6-to-11-clause-read
+returns-in-6-to-11-clause-read c = reads_listed c.args.profile c.args.self (raw_view c.args.section.now) c.with_high_section.result c.with_high_section.ensures
+
+pub returns-in-6-to-11-clause-codes : goal.returns-in-6-to-11-clause-codes
+returns-in-6-to-11-clause-codes c = codes_kept c.args.profile c.args.self.lists (raw_view c.args.section.now) c.with_high_section.result (reads_listed c.args.profile c.args.self (raw_view c.args.section.now) c.with_high_section.result c.with_high_section.ensures)

@@ -1,0 +1,5 @@
+use Rattle.wk_module.proofs.ListReading.{some_rise}
+use Rattle.wk_module.proofs.section_reader.SectionReader.new.Goals as goal
+
+pub invariant_of-result : goal.invariant_of-result
+invariant_of-result c = rw c.new-2.ensures.items (some_rise c.args.bytes.now)

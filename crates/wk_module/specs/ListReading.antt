@@ -1,0 +1,77 @@
+-- The lists of a module as they are read where its custom sections are let go, and which sections may still come.
+use Rattle.std.specs.Prelude.{◌≡◌, ◌==◌, ℕ, max, if◌then◌else◌, Option, Some, None, List, [], ◌∷◌, length, Result, Ok, Err}
+use Rattle.wk_bytes.specs.declared.raw.RawSection.{RawSection}
+use Rattle.wk_bytes.specs.declared.fault.ReadKind.{ReadKind}
+use Rattle.wk_bytes.specs.declared.fault.ReadKind.TheVariants.{FuncCodeCount, Memory}
+use Rattle.wk_bytes.specs.declared.fault.ReadFault.{ReadFault}
+use Rattle.wk_bytes.specs.Leb.{◌>>=◌}
+use Rattle.wk_bytes.specs.Raw.{raw_view}
+use Rattle.wk_bytes.specs.Span.{name_at}
+use Rattle.wk_bytes.specs.Frames.{Section, MayCome, sections_of}
+use Rattle.wk_bytes.specs.Stands.{StandsIn}
+use Rattle.wk_body.specs.declared.types.Profile.{Profile}
+use Rattle.wk_module.specs.declared.types.Parts.{Parts}
+use Rattle.wk_module.specs.Formats.{all_at}
+use Rattle.wk_module.specs.Modules.{Spells, SpellsNone}
+use Rattle.wk_module.specs.Reading.{section_end, module_at}
+use Rattle.wk_module.specs.Sections.{SectionId, of_number, SectionLists, with_contents, no_lists, contents_at}
+use Rattle.wk_module.specs.Shape.{lists_of, IsShaped}
+
+-- one more section: a custom one, of which the name is read and nothing is kept, or that of an id
+unfoldable pub listed_by : Profile → SectionLists → Section → Option SectionId → Result SectionLists ReadFault
+listed_by profile l s None = name_at (section_end s) s.contents >>= λ name. Ok l
+listed_by profile l s (Some k) = all_at (contents_at profile (length l.funcs) k) (section_end s) s.contents >>= λ x. Ok (with_contents k x l)
+
+abbrev pub with_listed : Profile → SectionLists → Section → Result SectionLists ReadFault
+with_listed profile l s = listed_by profile l s (of_number s.id)
+
+-- the lists after some sections, or the first fault
+unfoldable pub lists_read : Profile → SectionLists → List (Result Section ReadFault) → Result SectionLists ReadFault
+lists_read profile l [] = Ok l
+lists_read profile l (Err e ∷ items) = Err e
+lists_read profile l (Ok s ∷ items) = with_listed profile l s >>= λ q. lists_read profile q items
+
+-- a fault that bytes may have: where it is want of memory it lies at 0
+abbrev pub IsFair : ReadFault → ReadKind → Type 0
+IsFair e Memory = e.at ≡ 0
+IsFair e _ = Unit {0}
+
+-- Of the sections to come, those that are not custom rise from above an id on. A fault that comes is one that bytes may have.
+abbrev pub Rise : ℕ → List (Result Section ReadFault) → Type 0
+Rise last [] = Unit {0}
+Rise last (Err e ∷ items) = IsFair e e.kind
+Rise last (Ok s ∷ items) = MayCome last s.id × Rise (max last s.id) items
+
+-- ---- a module of which some sections are read
+
+pub record PartlyRead : Type 0 where
+  pub profile : Profile
+  pub lists : SectionLists
+  pub left : List (Result Section ReadFault)
+
+-- what reading the sections that are left gives
+abbrev pub rest_read : PartlyRead → Result SectionLists ReadFault
+rest_read r = lists_read r.profile r.lists r.left
+
+-- Reading on went to the code section, which comes next, or to the end. No codes were read, and what is still to be read is
+-- what was.
+abbrev pub GoesTo : PartlyRead → PartlyRead → Option RawSection → Type 0
+GoesTo old new None = (new.profile ≡ old.profile) × (new.lists.codes ≡ old.lists.codes) × (new.left ≡ []) × (rest_read old ≡ Ok new.lists)
+GoesTo old new (Some s) =
+    (new.profile ≡ old.profile) × (new.lists.codes ≡ old.lists.codes) × (s.id ≡ 10) × (rest_read old ≡ lists_read new.profile new.lists (Ok (raw_view s) ∷ new.left))
+    × Rise 10 new.left
+
+-- ---- what that has to do with modules
+
+-- The lists of all that was read. Where there is no code section for the functions, that is a fault at the end of the input.
+abbrev pub joined_lists : ℕ → SectionLists → Result SectionLists ReadFault
+joined_lists end l = if length l.funcs == length l.codes then Ok l else Err (record { kind = FuncCodeCount; at = end })
+
+-- the lists that are read are those of the module that the bytes spell, and the fault is the same
+abbrev pub AreListsOfModule : Profile → List ℕ → Type 0
+AreListsOfModule profile b = (module_at profile b >>= λ m. Ok (lists_of m)) ≡ (lists_read profile no_lists (sections_of b) >>= joined_lists (length b))
+
+-- What is read is the one module of the profile that the bytes spell. Where there is a fault it stands in them, and they spell none.
+abbrev pub IsReading : Profile → List ℕ → Result Parts ReadFault → Type 0
+IsReading profile b (Ok m) = (m.profile ≡ profile) × Spells b m × ((n : Parts) → n.profile ≡ profile → Spells b n → n ≡ m) × IsShaped m
+IsReading profile b (Err e) = SpellsNone profile b × StandsIn b e

@@ -1,0 +1,232 @@
+//! Reading the lists of a module section by section, where its bodies are the caller's to read and its custom sections are let go.
+
+ghost use Rattle.std.specs.Prelude.{◌≡◌, ◌≢◌, ◌<◌, ◌^◌, [], None, Ok, IfOk, MatchResult};
+ghost use Rattle.wk_bytes.specs.Frames.{sections_of};
+ghost use Rattle.wk_bytes.specs.Raw.{raw_view};
+ghost use Rattle.wk_bytes.specs.Span.{fault};
+ghost use Rattle.wk_body.specs.Reads.{FailsAs, Parses, Reads};
+ghost use Rattle.wk_body.specs.Vectors.{items_at};
+ghost use Rattle.wk_module.specs.Items.{code_at};
+ghost use Rattle.wk_module.specs.Listed.{listed};
+ghost use Rattle.wk_module.specs.ListReading.{GoesTo, listed_by, lists_read, rest_read, with_listed};
+ghost use Rattle.wk_module.specs.Reading.{section_end};
+ghost use Rattle.wk_module.specs.Sections.{SectionLists, codes_at, no_lists};
+
+use crate::format::Codes;
+use crate::lists::Lists;
+use crate::reader::SoFar;
+use crate::reading::{Readable, at_end};
+use std::alloc::Global;
+use std::marker::Model;
+use wk_body::{Body, Profile, Scratch};
+use wk_bytes::{Cursor, RawSection, ReadFault, ReadKind, Sections};
+
+/// The id of the code section.
+const CODE: u8 = 10;
+
+/// The lists of a module of which some sections are read, and the sections that are left.
+#[derive(Drop)]
+pub struct SectionReader<'a> {
+    so_far: SoFar,
+    left: Sections<'a>,
+    profile: Profile,
+}
+
+impl<'a> Model for SectionReader<'a> {
+    ghost use Rattle.std.specs.Coded.{codes};
+    ghost use Rattle.wk_body.specs.Bodies.{coded_body};
+    ghost use Rattle.wk_body.specs.TreeCode.{coded_instrs};
+    ghost use Rattle.wk_module.specs.ListReading.{PartlyRead};
+
+    ghost Value = { PartlyRead };
+
+    ghost coded = { Prim.hlevel (codes, coded_instrs, coded_body) };
+
+    ghost view = { λ r. record { profile = r.profile; lists = r.so_far.lists; left = r.left } };
+
+    ghost use Rattle.std.specs.Prelude.{ℕ};
+    ghost use Rattle.wk_module.specs.ListReading.{Rise};
+
+    ghost invariant = { λ r. (last : ℕ) × Rise last r.left };
+}
+
+impl SoFar {
+    // Reads one more section, and keeps nothing of a custom one.
+    #[tactic(auto, unfolding(crate::specs::ListReading::listed_by))]
+    fn with_listed(
+        self,
+        alloc: Global,
+        scratch: &mut Scratch,
+        profile: Profile,
+        section: &RawSection<'_>,
+    ) -> Result<SoFar, ReadFault>
+        ensures read { Reads (λ p. p.lists) result (with_listed profile self.lists (raw_view section.now)) }
+        ensures codes { section.now.id ≢ 10 → IfOk result (λ p. p.lists.codes ≡ self.lists.codes) }
+    {
+        match section.id {
+            1..=5 => self.with_low_section(alloc, scratch, profile, section),
+            6..=11 => self.with_high_section(alloc, scratch, profile, section),
+            _ => {
+                let mut cursor = section.cursor();
+                let _name = cursor.name()?;
+                Ok(self)
+            }
+        }
+    }
+}
+
+impl<'a> SectionReader<'a> {
+    /// The sections of these bytes, of which none is read yet. It takes no memory.
+    pub fn new(alloc: Global, bytes: &'a [u8], profile: Profile) -> SectionReader<'a>
+        ensures { result ≡ record { profile = profile; lists = no_lists; left = sections_of bytes.now } }
+    {
+        SectionReader {
+            so_far: SoFar::new(alloc, profile),
+            left: Sections::new(bytes),
+            profile,
+        }
+    }
+
+    /// Reads up to the code section, which it gives unread, or to the end where there is none.
+    ///
+    /// # Errors
+    ///
+    /// The first fault of the sections in front of it, or `Memory` at 0 where a growth was refused.
+    #[tactic(auto, unfolding(crate::specs::ListReading::lists_read))]
+    pub fn up_to_code(
+        self,
+        alloc: Global,
+        scratch: &mut Scratch,
+    ) -> Result<(SectionReader<'a>, Option<RawSection<'a>>), ReadFault>
+        ensures { MatchResult result (λ r. GoesTo self.entry r.0 r.1) (λ e. FailsAs e e.kind (rest_read self.entry)) }
+    {
+        let SectionReader {
+            mut so_far,
+            mut left,
+            profile,
+        } = self;
+        while let Some(section) = left.next() {
+            let section = section?;
+            if section.id == CODE {
+                let reader = SectionReader {
+                    so_far,
+                    left,
+                    profile,
+                };
+                return Ok((reader, Some(section)));
+            }
+            so_far = so_far.with_listed(alloc, scratch, profile, &section)?;
+        }
+        let reader = SectionReader {
+            so_far,
+            left,
+            profile,
+        };
+        Ok((reader, None))
+    }
+
+    /// Reads all sections that are left.
+    ///
+    /// # Errors
+    ///
+    /// Their first fault, or `Memory` at 0 where a growth was refused.
+    #[tactic(auto, unfolding(crate::specs::ListReading::lists_read))]
+    pub fn to_end(self, alloc: Global, scratch: &mut Scratch) -> Result<SectionReader<'a>, ReadFault>
+        ensures read { Reads (λ r. r.lists) result (rest_read self.entry) }
+        ensures profile { IfOk result (λ r. r.profile ≡ self.entry.profile) }
+        ensures left { IfOk result (λ r. r.left ≡ []) }
+    {
+        let SectionReader {
+            mut so_far,
+            mut left,
+            profile,
+        } = self;
+        while let Some(section) = left.next() {
+            so_far = so_far.with_listed(alloc, scratch, profile, &section?)?;
+        }
+        Ok(SectionReader {
+            so_far,
+            left,
+            profile,
+        })
+    }
+
+    /// The lists that are read, but for codes.
+    pub fn lists(&self) -> Lists<'_>
+        ensures lists { listed result ≡ record self.now.lists { codes = [] } }
+        ensures profile { result.profile ≡ self.now.profile }
+    {
+        Lists {
+            profile: self.profile,
+            funcs: self.so_far.indices.as_slice(),
+            ..Lists::but_funcs(&self.so_far.parts)
+        }
+    }
+}
+
+/// The codes of a code section, one after the other (5.5.13).
+#[derive(Drop)]
+pub struct CodeReader<'a> {
+    cursor: Cursor<'a>,
+}
+
+impl<'a> Model for CodeReader<'a> {
+    ghost use Rattle.wk_bytes.specs.Span.{Span};
+
+    ghost Value = { Span };
+
+    ghost view = { λ r. r.cursor };
+}
+
+impl<'a> CodeReader<'a> {
+    /// Begins to read a code section, where that many functions were declared.
+    ///
+    /// # Errors
+    ///
+    /// Its count is spelled badly, or is another one.
+    #[tactic(auto, unfolding(crate::specs::Sections::codes_at))]
+    pub fn open(section: &RawSection<'a>, funcs: usize) -> Result<CodeReader<'a>, ReadFault>
+        ensures read { (profile : Profile) → MatchResult result
+            (λ r. codes_at profile funcs (section_end (raw_view section.now)) section.now.contents.now ≡ items_at (code_at profile) funcs r.end r.rest)
+            (λ e. FailsAs e e.kind (codes_at profile funcs (section_end (raw_view section.now)) section.now.contents.now)) }
+        ensures end { IfOk result (λ r. r.end ≡ section_end (raw_view section.now)) }
+        ensures few { IfOk result (λ r. funcs < 2 ^ 32) }
+    {
+        let mut cursor = section.cursor();
+        let mismatch = cursor.fault(ReadKind::FuncCodeCount);
+        let count = cursor.u32()?;
+        if count as usize != funcs {
+            return Err(mismatch);
+        }
+        Ok(CodeReader { cursor })
+    }
+
+    /// Reads the next code, of a profile.
+    ///
+    /// # Errors
+    ///
+    /// Its first fault, or `Memory` at 0 where a growth was refused.
+    pub fn next(
+        &mut self,
+        alloc: Global,
+        scratch: &mut Scratch,
+        profile: Profile,
+    ) -> Result<Body, ReadFault>
+        ensures { Parses (λ b. b) (code_at profile) self.old result self.new }
+    {
+        Codes::read(alloc, scratch, profile, &mut self.cursor)
+    }
+
+    /// The section ends here.
+    ///
+    /// # Errors
+    ///
+    /// Bytes are left over.
+    pub fn end(&self) -> Result<(), ReadFault>
+        ensures { MatchResult result
+            (λ u. self.now.rest ≡ [])
+            (λ e. (e ≡ fault ReadKind.SectionSize self.now.end self.now.rest) × (self.now.rest ≢ [])) }
+    {
+        at_end(&self.cursor)
+    }
+}
