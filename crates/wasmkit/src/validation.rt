@@ -5,9 +5,9 @@ ghost use Rattle.wasmkit.specs.Validation.{printed, status_of, Means};
 
 use std::alloc::Global;
 use wk_bytes::{OutOfMemory, ReadKind};
-use wk_check::{Verdict, judge};
+use wk_check::{Verdict, judge_bytes};
 use wk_edit::{malformed_line, verdict_line};
-use wk_module::{Profile, read_in};
+use wk_module::Profile;
 
 /// What `validate` prints, and its status.
 #[derive(Drop)]
@@ -26,25 +26,25 @@ pub fn validate(alloc: Global, bytes: &[u8], profile: Profile) -> Result<Validat
     ensures means { IfOk result (λ v. Means profile bytes.now (string_bytes v.line) v.status) }
     ensures status { IfOk result (λ v. v.status ≡ status_of (module_at profile bytes.now)) }
 {
-    let module = match read_in(alloc, bytes, profile) {
-        Ok(module) => module,
+    match judge_bytes(alloc, bytes, profile) {
+        Ok(verdict) => {
+            let status = match verdict {
+                Verdict::Valid => 0,
+                Verdict::Invalid(_) => 1,
+            };
+            Ok(Validation {
+                line: verdict_line(alloc, &verdict)?,
+                status,
+            })
+        }
         Err(fault) => {
             if let ReadKind::Memory = fault.kind {
                 return Err(OutOfMemory);
             }
-            return Ok(Validation {
+            Ok(Validation {
                 line: malformed_line(alloc, &fault)?,
                 status: 2,
-            });
+            })
         }
-    };
-    let verdict = judge(alloc, &module)?;
-    let status = match verdict {
-        Verdict::Valid => 0,
-        Verdict::Invalid(_) => 1,
-    };
-    Ok(Validation {
-        line: verdict_line(alloc, &verdict)?,
-        status,
-    })
+    }
 }

@@ -7,11 +7,11 @@ pub mod Fits
 pub mod Flaws
 pub mod Frames
 pub mod Imported
+pub mod JudgedCodes
 pub mod Labels
 pub mod LocalEnds
 pub mod Names
 pub mod Popping
 pub mod Runs
 pub mod Sound
-pub mod Spelled
 pub mod Stacked

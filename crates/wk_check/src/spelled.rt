@@ -1,13 +1,11 @@
 //! Judging the module that bytes spell: each body is judged when it is read, and not kept.
 
-ghost use Rattle.std.specs.Prelude.{◌≡◌, ◌≢◌, ◌<◌, ◌^◌, [], ◌∷◌, Ok, None, length, IfOk, IfErr};
+ghost use Rattle.std.specs.Prelude.{◌≡◌, [], ◌∷◌, Ok, IfOk};
 ghost use Rattle.wk_bytes.specs.Frames.{sections_of};
 ghost use Rattle.wk_bytes.specs.Raw.{raw_view};
-ghost use Rattle.wk_bytes.specs.Stands.{StandsIn};
 ghost use Rattle.wk_body.specs.Reads.{Reads};
 ghost use Rattle.wk_module.specs.Listed.{listed};
-ghost use Rattle.wk_module.specs.Modules.{SpellsNone};
-ghost use Rattle.wk_module.specs.ListReading.{AreListsOfModule, IsReading, PartlyRead, Rise, lists_read, rest_read};
+ghost use Rattle.wk_module.specs.ListReading.{IsReading, Rise, lists_read};
 ghost use Rattle.wk_module.specs.Reading.{module_at};
 ghost use Rattle.wk_module.specs.Sections.{no_lists};
 ghost use Rattle.wk_check.specs.Items.{earlier};
@@ -65,21 +63,67 @@ fn fault_of_section(
     Ok(fault)
 }
 
-// Judges the module whose code section comes next, and was given.
+// Judges the module of these bytes, of which the sections in front of the code section are read.
 fn judge_from_code(
     alloc: Global,
     scratch: &mut Scratch,
+    bytes: &[u8],
     reader: SectionReader<'_>,
     section: &RawSection<'_>,
 ) -> Result<Verdict, ReadFault>
     requires code { section.now.id ≡ 10 }
     requires none { reader.lists.codes ≡ [] }
     requires rise { Rise 10 reader.left }
-    ensures { (bytes : List ℕ) → IsReading reader.profile bytes (module_at reader.profile bytes) → AreListsOfModule reader.profile bytes
-        → lists_read reader.profile no_lists (sections_of bytes) ≡ lists_read reader.profile reader.lists (Ok (raw_view section.now) ∷ reader.left)
-        → Reads (λ v. v) result (judged (module_at reader.profile bytes)) }
+    requires read { lists_read reader.profile no_lists (sections_of bytes.now) ≡ lists_read reader.profile reader.lists (Ok (raw_view section.now) ∷ reader.left) }
+    ensures { Reads (λ v. v) result (judged (module_at reader.entry.profile bytes.now)) }
 {
+    reading_of_module(bytes, reader.lists().profile);
     let code = fault_of_section(alloc, scratch, &reader.lists(), section)?;
     let reader = reader.to_end(alloc, scratch)?;
     Ok(judge_around(alloc, &reader.lists(), code)?)
+}
+
+// Judges the module of these bytes, which are read and hold no code section.
+fn judge_without_code(
+    alloc: Global,
+    bytes: &[u8],
+    reader: &SectionReader<'_>,
+) -> Result<Verdict, ReadFault>
+    requires none { reader.now.lists.codes ≡ [] }
+    requires read { lists_read reader.now.profile no_lists (sections_of bytes.now) ≡ Ok reader.now.lists }
+    ensures { Reads (λ v. v) result (judged (module_at reader.now.profile bytes.now)) }
+{
+    let lists = reader.lists();
+    reading_of_module(bytes, lists.profile);
+    if !lists.funcs.is_empty() {
+        return Err(ReadFault {
+            kind: ReadKind::FuncCodeCount,
+            at: bytes.len() as u32,
+        });
+    }
+    Ok(judge_around(alloc, &lists, None)?)
+}
+
+/// Judges the module of a profile that bytes spell (5.5.15, 3.4.10): valid, or the first fault by section, item, and what is
+/// looked at.
+///
+/// The verdict is that of the module that [`read_in`](wk_module::read_in) reads of these bytes. Each body is judged when it is
+/// read and then let go, so that the memory taken is that of the module without its bodies and custom sections.
+///
+/// # Errors
+///
+/// Where the bytes spell no module of the profile, the first fault from left to right, at its offset; where a growth is refused,
+/// `Memory` at 0.
+pub fn judge_bytes(alloc: Global, bytes: &[u8], profile: Profile) -> Result<Verdict, ReadFault>
+    ensures exact { Reads (λ v. v) result (judged (module_at profile bytes.now)) }
+    ensures is { IsReading profile bytes.now (module_at profile bytes.now) }
+{
+    reading_of_module(bytes, profile);
+    let mut scratch = Scratch::new(alloc);
+    let (reader, section) =
+        SectionReader::new(alloc, bytes, profile).up_to_code(alloc, &mut scratch)?;
+    match section {
+        Some(section) => judge_from_code(alloc, &mut scratch, bytes, reader, &section),
+        None => judge_without_code(alloc, bytes, &reader),
+    }
 }
