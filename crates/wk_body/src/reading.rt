@@ -201,6 +201,7 @@ fn table_of(scratch: &mut Scratch, cursor: &mut Cursor<'_>) -> Result<(), ReadFa
 }
 
 // The type of a block that opens here, behind its opcode, which stands at `at`.
+// It is in line down to the integer: the room of a result that is called for is cleared at each token, of whatever kind.
 #[tactic(auto, unfolding(crate::specs::Reading::type_here))]
 #[inline(always)]
 fn opening_of(
