@@ -49,6 +49,7 @@ fn reserved(cursor: &mut Cursor<'_>) -> Result<u8, ReadFault>
 
 // A type index, which is a signed integer of 33 bits that is not negative.
 #[tactic(auto, unfolding(crate::specs::Reading::index_at))]
+#[inline(always)]
 fn type_index(profile: Profile, cursor: &mut Cursor<'_>) -> Result<BlockType, ReadFault>
     ensures { Parses (λ x. x) (index_at profile) cursor.old result cursor.new }
 {
@@ -69,6 +70,7 @@ fn type_index(profile: Profile, cursor: &mut Cursor<'_>) -> Result<BlockType, Re
 
 // A block type (5.3.2).
 #[tactic(auto, unfolding(crate::specs::Reading::type_at))]
+#[inline(always)]
 fn block_type(profile: Profile, cursor: &mut Cursor<'_>) -> Result<BlockType, ReadFault>
     ensures { Parses (λ x. x) (type_at profile) cursor.old result cursor.new }
 {
@@ -199,7 +201,9 @@ fn table_of(scratch: &mut Scratch, cursor: &mut Cursor<'_>) -> Result<(), ReadFa
 }
 
 // The type of a block that opens here, behind its opcode, which stands at `at`.
+// It is in line down to the integer: the room of a result that is called for is cleared at each token, of whatever kind.
 #[tactic(auto, unfolding(crate::specs::Reading::type_here))]
+#[inline(always)]
 fn opening_of(
     scratch: &Scratch,
     profile: Profile,
