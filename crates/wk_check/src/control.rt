@@ -74,14 +74,12 @@ fn branch_types<E: Env>(env: &E, opener: Opener, block: BlockType) -> &[ValType]
 {
     match opener {
         Opener::Loop => params(env, block),
-        Opener::Body => results(env, block),
-        Opener::Block => results(env, block),
-        Opener::If => results(env, block),
-        Opener::Else => results(env, block),
+        _ => results(env, block),
     }
 }
 
 // The types of a label.
+#[inline(always)]
 fn label<'a, E: Env>(env: &'a E, m: &Machine, label: u32) -> Option<&'a [ValType]>
     ensures { MatchOption
         result
@@ -201,15 +199,17 @@ pub(crate) fn check_memory<E: Env>(env: &E) -> Result<(), FaultKind>
 }
 
 /// Opens a block of this type, which has to be known, after popping a test, where there is one, and its parameters.
+#[inline(never)]
 pub(crate) fn enter<E: Env>(
     env: &E,
     m: &mut Machine,
     test: bool,
     opener: Opener,
-    block: BlockType,
+    block: &BlockType,
 ) -> Result<(), Stop>
-    ensures { Steps (entering (E.answers env.now) test opener block m.old) result m.new }
+    ensures { Steps (entering (E.answers env.now) test opener block.now m.old) result m.new }
 {
+    let block = *block;
     check_known(env, block)?;
     pop_indexed(m, test, params(env, block))?;
     m.enter(opener, block)?;

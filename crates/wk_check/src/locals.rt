@@ -2,7 +2,7 @@
 
 ghost use Rattle.std.specs.Prelude.{◌≡◌, ◌<◌, ◌^◌, [], OnOk};
 ghost use Rattle.wk_body.specs.Bodies.{AreGroups};
-ghost use Rattle.wk_check.specs.Effects.{local_type};
+ghost use Rattle.wk_check.specs.Effects.{local_type, type_in_groups};
 ghost use Rattle.wk_check.specs.Locals.{ends_from};
 
 use std::marker::Model;
@@ -63,8 +63,17 @@ impl<'a> Locals<'a> {
         Locals::of(&[], &[], &[])
     }
 
-    /// The type of a local, or nothing where there is none of that index.
-    #[inline]
+    // The type of a local behind the parameters, by where the groups end.
+    #[inline(never)]
+    fn ty_by_ends(&self, at: usize) -> Option<ValType>
+        ensures { result ≡ type_in_groups self.now.groups at }
+    {
+        let group = self.ends.partition_point(|end| *end as usize <= at);
+        self.groups.get(group).map(|found| found.ty)
+    }
+
+    /// The type of a local, or nothing where there is none of that index. Most are parameters or of the first group.
+    #[inline(always)]
     pub(crate) fn ty(&self, x: u32) -> Option<ValType>
         ensures { result ≡ local_type self.now.params self.now.groups x }
     {
@@ -73,7 +82,9 @@ impl<'a> Locals<'a> {
             return Some(self.params[x]);
         }
         let at = x - self.params.len();
-        let group = self.ends.partition_point(|end| *end as usize <= at);
-        self.groups.get(group).map(|found| found.ty)
+        if !self.groups.is_empty() && at < self.groups[0].count as usize {
+            return Some(self.groups[0].ty);
+        }
+        self.ty_by_ends(at)
     }
 }

@@ -89,6 +89,16 @@ impl Machine {
         };
     }
 
+    // Pushes an operand where there may be no room.
+    #[cold]
+    #[inline(never)]
+    fn push_growing(&mut self, x: Operand) -> Result<(), OutOfMemory>
+        ensures { OnOk result (self.new ≡ pushed_on x self.old) }
+    {
+        self.operands.push(x)?;
+        Ok(())
+    }
+
     /// Pushes an operand.
     #[inline(always)]
     pub(crate) fn push(&mut self, x: Operand) -> Result<(), OutOfMemory>
@@ -96,10 +106,9 @@ impl Machine {
     {
         if self.operands.len() < self.operands.capacity() {
             self.operands.push_reserved(x);
-        } else {
-            self.operands.push(x)?;
+            return Ok(());
         }
-        Ok(())
+        self.push_growing(x)
     }
 
     /// Pops any operand.
@@ -121,6 +130,7 @@ impl Machine {
     }
 
     /// Whether the innermost block's own stack is empty.
+    #[inline(always)]
     pub(crate) fn is_clear(&self) -> bool
         ensures { result ≡ own_is_empty self.now }
     {
@@ -128,6 +138,7 @@ impl Machine {
     }
 
     /// Makes the innermost block dead.
+    #[inline(always)]
     pub(crate) fn stop(&mut self)
         ensures { self.new ≡ stopped_on self.old }
     {
@@ -136,11 +147,16 @@ impl Machine {
     }
 
     /// Opens a block.
+    #[inline(always)]
     pub(crate) fn enter(&mut self, opener: Opener, block: BlockType) -> Result<(), OutOfMemory>
         ensures { OnOk result (self.new ≡ entered_by opener block self.old) }
     {
         let height = self.operands.len();
-        self.outer.push(self.inner)?;
+        if self.outer.len() < self.outer.capacity() {
+            self.outer.push_reserved(self.inner);
+        } else {
+            self.outer.push(self.inner)?;
+        }
         self.inner = Frame {
             opener,
             block,
@@ -151,6 +167,7 @@ impl Machine {
     }
 
     /// Closes the innermost block, whose own stack is empty, unless it is the only one.
+    #[inline(always)]
     pub(crate) fn leave(&mut self)
         requires { IsTrue (own_is_empty self.old) }
         ensures { self.new ≡ left_by self.old }
@@ -161,6 +178,7 @@ impl Machine {
     }
 
     /// Begins an else branch in place of the innermost block, whose own stack is empty.
+    #[inline(always)]
     pub(crate) fn restart(&mut self)
         requires { IsTrue (own_is_empty self.old) }
         ensures { self.new ≡ restarted_on self.old }
@@ -170,6 +188,7 @@ impl Machine {
     }
 
     /// Whether the innermost block is the only one.
+    #[inline(always)]
     pub(crate) fn is_outermost(&self) -> bool
         ensures { result ≡ is_empty self.now.outer }
     {
@@ -177,6 +196,7 @@ impl Machine {
     }
 
     /// What opened the innermost block.
+    #[inline(always)]
     pub(crate) fn opener(&self) -> Opener
         ensures { result ≡ self.now.inner.opener }
     {
@@ -184,6 +204,7 @@ impl Machine {
     }
 
     /// The type of the innermost block.
+    #[inline(always)]
     pub(crate) fn block(&self) -> BlockType
         ensures { result ≡ self.now.inner.block }
     {
@@ -191,6 +212,7 @@ impl Machine {
     }
 
     /// What opened the block at a depth, and its type.
+    #[inline(always)]
     pub(crate) fn head(&self, depth: usize) -> Option<(Opener, BlockType)>
         ensures { result ≡ head_at self.now depth }
     {

@@ -82,6 +82,7 @@ pub(crate) fn pop_types(m: &mut Machine, types: &[ValType]) -> Result<(), FaultK
 }
 
 /// Pops operands of these types, and before them an i32 where there is a test or an index.
+#[inline(always)]
 pub(crate) fn pop_indexed(m: &mut Machine, index: bool, types: &[ValType]) -> Result<(), FaultKind>
     ensures { Does (on_top (popped (with_index index types.now)) m.old) result m.new }
 {

@@ -1,13 +1,13 @@
 //! What each instruction does to the open blocks (3.3).
 
-ghost use Rattle.std.specs.Prelude.{◌≡◌, ◌∷◌, [], length};
+ghost use Rattle.std.specs.Prelude.{◌≡◌, ◌∷◌, [], length, ◌^◌};
 ghost use Rattle.wk_body.specs.Kept.{told, IsWithin};
 ghost use Rattle.wk_body.specs.Numeric.{numeric_type};
 ghost use Rattle.wk_body.specs.MemoryOps.{memory_width};
 ghost use Rattle.wk_body.specs.declared.references.Ref.{Ref};
 ghost use Rattle.wk_body.specs.declared.types.ValType.TheVariants.{I32};
 ghost use Rattle.wk_check.specs.Effects.{Takes, local_type, local_get, local_set, local_tee, global_get, global_set, with_memory, access_effect, numeric_effect, after_effect};
-ghost use Rattle.wk_check.specs.Levels.{step};
+ghost use Rattle.wk_check.specs.Levels.{step, entering, halved};
 ghost use Rattle.wk_check.specs.Locals.{is_over};
 ghost use Rattle.wk_check.specs.Moves.{Steps, acting, on_top};
 
@@ -20,7 +20,7 @@ use crate::locals::Locals;
 use crate::machine::{Machine, Opener};
 use crate::operands::{drop_top, give, join, remove, remove_two, select, stop, turn};
 use crate::stop::Stop;
-use wk_module::{MemoryOp, NumericOp, NumericType, Ref, Token, ValType};
+use wk_module::{BlockType, MemoryOp, NumericOp, NumericType, Ref, Token, ValType};
 
 /// What instructions see of their function.
 #[derive(Drop)]
@@ -90,17 +90,25 @@ fn set_global<E: Env>(env: &E, m: &mut Machine, x: u32) -> Result<(), Stop>
     }
 }
 
+// The exponent of the width of an access.
+#[inline(always)]
+fn most_align(op: MemoryOp) -> u32
+    ensures { memory_width op ≡ 2 ^ result }
+{
+    match op.width() {
+        1 => 0,
+        2 => 1,
+        4 => 2,
+        _ => 3,
+    }
+}
+
 // Whether the power of two with this exponent is above the width of the access.
 #[inline(always)]
 fn is_over(op: MemoryOp, align: u32) -> bool
     ensures { result ≡ is_over (memory_width op) align }
 {
-    match op.width() {
-        1 => align > 0,
-        2 => align > 1,
-        4 => align > 2,
-        _ => align > 3,
-    }
+    align > most_align(op)
 }
 
 // A load or a store.
@@ -134,6 +142,31 @@ fn memory_grow<E: Env>(env: &E, m: &mut Machine) -> Result<(), Stop>
     turn(m, ValType::I32, ValType::I32)
 }
 
+// The beginning of a block. (Its answer comes through memory, into a place that is this function's own: so the loop over the
+// tokens keeps its answers in registers.)
+#[inline(always)]
+fn open<E: Env>(
+    env: &E,
+    m: &mut Machine,
+    test: bool,
+    opener: Opener,
+    ty: &BlockType,
+) -> Result<(), Stop>
+    ensures { Steps (entering (E.answers env.now) test opener ty.now m.old) result m.new }
+{
+    enter(env, m, test, opener, ty)?;
+    Ok(())
+}
+
+// An `else`, with a place of its own as well.
+#[inline(always)]
+fn otherwise<E: Env>(env: &E, m: &mut Machine) -> Result<(), Stop>
+    ensures { Steps (halved (E.answers env.now) m.old) result m.new }
+{
+    halve(env, m)?;
+    Ok(())
+}
+
 // A numeric instruction.
 #[inline(always)]
 fn numeric(m: &mut Machine, op: NumericOp) -> Result<(), Stop>
@@ -163,37 +196,37 @@ pub(crate) fn type_token<E: Env>(
     requires { IsWithin (length pool.now) token.now }
     ensures { Steps (step (E.answers env.now) (local_type f.now.locals.params f.now.locals.groups) f.now.results.now (told pool.now token.now) m.old) result m.new }
 {
-    match *token {
+    match token {
         Token::Unreachable => stop(m, false, &[]),
         Token::Nop => Ok(()),
-        Token::Block { ty, .. } => enter(env, m, false, Opener::Block, ty),
-        Token::Loop { ty, .. } => enter(env, m, false, Opener::Loop, ty),
-        Token::If { ty, .. } => enter(env, m, true, Opener::If, ty),
-        Token::Else { .. } => halve(env, m),
+        Token::Block { ty, .. } => open(env, m, false, Opener::Block, ty),
+        Token::Loop { ty, .. } => open(env, m, false, Opener::Loop, ty),
+        Token::If { ty, .. } => open(env, m, true, Opener::If, ty),
+        Token::Else { .. } => otherwise(env, m),
         Token::End => close(env, m),
-        Token::Br(to) => branch(env, m, to),
-        Token::BrIf(to) => branch_if(env, m, to),
+        Token::Br(to) => branch(env, m, *to),
+        Token::BrIf(to) => branch_if(env, m, *to),
         Token::BrTable { start, len, other } => {
-            let start = start as usize;
-            branch_table(env, m, &pool[start..start + len as usize], other)
+            let start = *start as usize;
+            branch_table(env, m, &pool[start..start + *len as usize], *other)
         }
         Token::Return => stop(m, false, f.results),
-        Token::Call(x) => call(env, m, x),
-        Token::CallIndirect(x) => call_indirect(env, m, x),
+        Token::Call(x) => call(env, m, *x),
+        Token::CallIndirect(x) => call_indirect(env, m, *x),
         Token::Drop => drop_top(m),
         Token::Select => select(m),
-        Token::LocalGet(x) => get_local(&f.locals, m, x),
-        Token::LocalSet(x) => set_local(&f.locals, m, x),
-        Token::LocalTee(x) => tee_local(&f.locals, m, x),
-        Token::GlobalGet(x) => get_global(env, m, x),
-        Token::GlobalSet(x) => set_global(env, m, x),
-        Token::Access { op, align, .. } => access(env, m, op, align),
+        Token::LocalGet(x) => get_local(&f.locals, m, *x),
+        Token::LocalSet(x) => set_local(&f.locals, m, *x),
+        Token::LocalTee(x) => tee_local(&f.locals, m, *x),
+        Token::GlobalGet(x) => get_global(env, m, *x),
+        Token::GlobalSet(x) => set_global(env, m, *x),
+        Token::Access { op, align, .. } => access(env, m, *op, *align),
         Token::MemorySize => memory_size(env, m),
         Token::MemoryGrow => memory_grow(env, m),
         Token::I32Const(_) => give(m, ValType::I32),
         Token::I64Const(_) => give(m, ValType::I64),
         Token::F32Const(_) => give(m, ValType::F32),
         Token::F64Const(_) => give(m, ValType::F64),
-        Token::Numeric(op) => numeric(m, op),
+        Token::Numeric(op) => numeric(m, *op),
     }
 }
