@@ -52,3 +52,5 @@ mod tests_order;
 mod tests_references;
 #[cfg(test)]
 mod tests_sections;
+#[cfg(test)]
+mod tests_spelled;

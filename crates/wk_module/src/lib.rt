@@ -38,6 +38,8 @@ mod tests_places;
 #[cfg(test)]
 mod tests_reading;
 #[cfg(test)]
+mod tests_sections;
+#[cfg(test)]
 mod tests_whole;
 #[cfg(test)]
 mod tests_writing;
