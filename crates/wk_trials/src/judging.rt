@@ -3,11 +3,11 @@
 use crate::mark::{call_begins, call_ends};
 use crate::modules::lists;
 use crate::outcome::Outcome;
-use crate::sample::VALID;
+use crate::sample::{NO_MEMORY, VALID};
 use std::alloc::{AllocError, Global};
 use wk_bytes::OutOfMemory;
-use wk_check::{BodyVerdict, Meter, Verdict, Whole, judge, judge_around, judge_body};
-use wk_module::{Module, read};
+use wk_check::{BodyVerdict, Meter, Verdict, Whole, judge, judge_around, judge_body, judge_bytes};
+use wk_module::{Module, Profile, read};
 
 // The types of the functions that `VALID` defines.
 const TYPES: &[u32] = &[1];
@@ -41,6 +41,17 @@ pub fn judges_around(alloc: Global) -> Result<Outcome, AllocError> {
     let answer = judge_around(alloc, &lists, None);
     call_ends(alloc)?;
     Ok(judged(answer))
+}
+
+/// `judge_bytes`.
+pub fn judges_bytes(alloc: Global) -> Result<Outcome, AllocError> {
+    call_begins(alloc)?;
+    let answer = judge_bytes(alloc, VALID, Profile::Core);
+    call_ends(alloc)?;
+    Ok(match answer {
+        Ok(verdict) => Outcome::answered(verdict == Verdict::Valid),
+        Err(fault) => Outcome::refused(fault == NO_MEMORY),
+    })
 }
 
 /// `judge_body`, which counts the body also where it refuses.

@@ -76,6 +76,8 @@ pub enum Scenario {
     JudgeTypes,
     /// `wk_check::judge_around`.
     JudgeAround,
+    /// `wk_check::judge_bytes`.
+    JudgeBytes,
     /// `wk_check::judge_body`.
     JudgeBody,
     /// `Whole::of`.
@@ -128,7 +130,7 @@ pub enum Scenario {
 
 impl Scenario {
     /// All scenarios, in the order in which they are run.
-    pub const ALL: [Scenario; 56] = [
+    pub const ALL: [Scenario; 57] = [
         Scenario::PutU32,
         Scenario::PutS32,
         Scenario::PutS33,
@@ -161,6 +163,7 @@ impl Scenario {
         Scenario::Judge,
         Scenario::JudgeTypes,
         Scenario::JudgeAround,
+        Scenario::JudgeBytes,
         Scenario::JudgeBody,
         Scenario::SeeWhole,
         Scenario::Plain,
@@ -222,6 +225,7 @@ impl Scenario {
             Scenario::Judge => "judge",
             Scenario::JudgeTypes => "judge-types-in-room",
             Scenario::JudgeAround => "judge-around",
+            Scenario::JudgeBytes => "judge-bytes",
             Scenario::JudgeBody => "judge-body",
             Scenario::SeeWhole => "see-whole",
             Scenario::Plain => "plain-in-room",
@@ -292,6 +296,7 @@ impl Scenario {
             Scenario::Judge => judging::judges(alloc, VALID),
             Scenario::JudgeTypes => judging::judges(alloc, MODULE),
             Scenario::JudgeAround => judging::judges_around(alloc),
+            Scenario::JudgeBytes => judging::judges_bytes(alloc),
             Scenario::JudgeBody => judging::judges_body(alloc),
             Scenario::SeeWhole => judging::sees_whole(alloc),
             Scenario::Plain => listings::sees_plain(alloc),
