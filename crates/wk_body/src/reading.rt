@@ -308,7 +308,7 @@ pub(crate) fn read_front(
     scratch.clear();
     loop {
         if token_of(scratch, profile, cursor)? {
-            return Ok(scratch.copied(alloc)?);
+            return Ok(scratch.finished(alloc)?);
         }
     }
 }
