@@ -1,6 +1,8 @@
 //! The machine's files.
 
 use crate::store::{Store, StoreFault};
+use std::fs::OpenFile;
+use std::io::Read;
 use std::rt::Files;
 use std::{fs, io};
 
@@ -24,9 +26,19 @@ fn fault_of(error: io::Error) -> StoreFault {
     }
 }
 
+// All bytes of a file. Room is made at once for the length that the machine tells, with a byte for the read that finds the end:
+// `fs::read`, which is told no length, touches as much memory again.
+fn read_whole<R: Files + AllocGlobal>(rt: &R, name: &str) -> io::Result<Vec<u8>> {
+    let mut file = fs::File::open(rt, name)?;
+    let len = usize::try_from(file.metadata()?.len()).unwrap_or(0);
+    let mut bytes = Vec::with_capacity(rt.alloc(), len.saturating_add(1))?;
+    file.read_to_end(&mut bytes)?;
+    Ok(bytes)
+}
+
 impl<'a, R: Files + AllocGlobal> Store for MachineFiles<'a, R> {
     fn load(&mut self, name: &str) -> Result<Vec<u8>, StoreFault> {
-        fs::read(self.rt, name).map_err(fault_of)
+        read_whole(self.rt, name).map_err(fault_of)
     }
 
     fn save(&mut self, name: &str, bytes: &[u8]) -> Result<(), StoreFault> {

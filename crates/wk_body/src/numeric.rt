@@ -149,6 +149,7 @@ pub enum NumericType {
 }
 
 impl NumericType {
+    #[inline(always)]
     fn unary(operand: ValType, given: ValType) -> NumericType
         ensures { result ≡ Unary operand given }
     {
@@ -158,6 +159,7 @@ impl NumericType {
         }
     }
 
+    #[inline(always)]
     fn binary(operand: ValType, given: ValType) -> NumericType
         ensures { result ≡ Binary operand given }
     {
@@ -305,6 +307,7 @@ const FIRST: u8 = 0x45;
 
 impl NumericOp {
     /// The opcode (5.4.5).
+    #[inline(always)]
     pub fn opcode(self) -> u8
         ensures { result ≡ numeric_opcode self }
     {
@@ -323,29 +326,32 @@ impl NumericOp {
     }
 
     /// The type (3.3.1).
+    // The rows stand in the order of how often code has them: they are tried one after the other, in line, at each token that
+    // is typed.
+    #[inline(always)]
     pub fn ty(self) -> NumericType
         ensures { result ≡ numeric_type self }
     {
         use ValType::{F32, F64, I32, I64};
         match self.opcode() {
-            0x45 => NumericType::unary(I32, I32),
+            0x6A..=0x78 => NumericType::binary(I32, I32),
             0x46..=0x4F => NumericType::binary(I32, I32),
-            0x50 => NumericType::unary(I64, I32),
+            0x45 => NumericType::unary(I32, I32),
+            0x7C..=0x8A => NumericType::binary(I64, I64),
+            0x92..=0x98 => NumericType::binary(F32, F32),
+            0xA0..=0xA6 => NumericType::binary(F64, F64),
             0x51..=0x5A => NumericType::binary(I64, I32),
             0x5B..=0x60 => NumericType::binary(F32, I32),
             0x61..=0x66 => NumericType::binary(F64, I32),
-            0x67..=0x69 => NumericType::unary(I32, I32),
-            0x6A..=0x78 => NumericType::binary(I32, I32),
-            0x79..=0x7B => NumericType::unary(I64, I64),
-            0x7C..=0x8A => NumericType::binary(I64, I64),
-            0x8B..=0x91 => NumericType::unary(F32, F32),
-            0x92..=0x98 => NumericType::binary(F32, F32),
-            0x99..=0x9F => NumericType::unary(F64, F64),
-            0xA0..=0xA6 => NumericType::binary(F64, F64),
             0xA7 => NumericType::unary(I64, I32),
+            0xAC..=0xAD => NumericType::unary(I32, I64),
+            0x50 => NumericType::unary(I64, I32),
+            0x67..=0x69 => NumericType::unary(I32, I32),
+            0x79..=0x7B => NumericType::unary(I64, I64),
+            0x8B..=0x91 => NumericType::unary(F32, F32),
+            0x99..=0x9F => NumericType::unary(F64, F64),
             0xA8..=0xA9 => NumericType::unary(F32, I32),
             0xAA..=0xAB => NumericType::unary(F64, I32),
-            0xAC..=0xAD => NumericType::unary(I32, I64),
             0xAE..=0xAF => NumericType::unary(F32, I64),
             0xB0..=0xB1 => NumericType::unary(F64, I64),
             0xB2..=0xB3 => NumericType::unary(I32, F32),

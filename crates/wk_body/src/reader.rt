@@ -137,6 +137,7 @@ impl Scratch {
         are_bytes(cursor.rest());
         let _at = cursor.at();
         let mut ahead = cursor.ahead();
+        self.make_room(cursor.rest().len())?;
         let body = body_front(alloc, self, profile, &mut ahead)?;
         at_end(&ahead)?;
         Ok(body)

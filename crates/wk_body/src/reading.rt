@@ -105,6 +105,25 @@ fn memory_of(opcode: u8, cursor: &mut Cursor<'_>) -> Result<Token, ReadFault>
     Ok(Token::Access { op, align, offset })
 }
 
+// The constant of an `i64.const` behind its opcode. It stands apart, as `double_of` does, since the room of a result that has
+// 64 bits is cleared where the function that holds it begins, and no other token is to pay for it.
+#[tactic(auto, unfolding(crate::specs::Reading::plain_at, crate::specs::Reading::behind_form, crate::specs::Instructions::form_of))]
+fn long_of(cursor: &mut Cursor<'_>) -> Result<Token, ReadFault>
+    ensures read { (profile : Profile) (e : ReadFault) → Parses (λ x. told [] x) (tok_at (plain_at profile e 0x42)) cursor.old result cursor.new }
+    ensures within { IfOk result (IsWithin 0) }
+{
+    Ok(Token::I64Const(cursor.s64()?))
+}
+
+// The constant of an `f64.const` behind its opcode.
+#[tactic(auto, unfolding(crate::specs::Reading::plain_at, crate::specs::Reading::behind_form, crate::specs::Instructions::form_of))]
+fn double_of(cursor: &mut Cursor<'_>) -> Result<Token, ReadFault>
+    ensures read { (profile : Profile) (e : ReadFault) → Parses (λ x. told [] x) (tok_at (plain_at profile e 0x44)) cursor.old result cursor.new }
+    ensures within { IfOk result (IsWithin 0) }
+{
+    Ok(Token::F64Const(cursor.word64()?))
+}
+
 // The numeric instruction of an opcode.
 fn numeric_of(profile: Profile, opcode: u8) -> Option<NumericOp>
     ensures { result ≡ numeric_in profile opcode }
@@ -156,9 +175,9 @@ fn simple_of(
             Ok(Token::MemoryGrow)
         }
         0x41 => Ok(Token::I32Const(cursor.s32()?)),
-        0x42 => Ok(Token::I64Const(cursor.s64()?)),
+        0x42 => long_of(cursor),
         0x43 => Ok(Token::F32Const(cursor.word32()?)),
-        0x44 => Ok(Token::F64Const(cursor.word64()?)),
+        0x44 => double_of(cursor),
         _ => match numeric_of(profile, opcode) {
             Some(op) => Ok(Token::Numeric(op)),
             None => Err(ReadFault {
@@ -306,9 +325,12 @@ pub(crate) fn read_front(
     are_bytes(cursor.rest());
     let _at = cursor.at();
     scratch.clear();
+    // A cursor of its own, which stays in registers from token to token.
+    let mut ahead = cursor.ahead();
     loop {
-        if token_of(scratch, profile, cursor)? {
-            return Ok(scratch.copied(alloc)?);
+        if token_of(scratch, profile, &mut ahead)? {
+            *cursor = ahead;
+            return Ok(scratch.finished(alloc)?);
         }
     }
 }

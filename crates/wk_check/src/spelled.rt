@@ -43,7 +43,6 @@ fn fault_up_to(
 // The first fault of a code section in a module with these lists, each body judged when it is read.
 fn fault_of_section(
     alloc: Global,
-    scratch: &mut Scratch,
     lists: &Lists<'_>,
     section: &RawSection<'_>,
 ) -> Result<Option<Fault>, ReadFault>
@@ -52,12 +51,15 @@ fn fault_of_section(
     let mut codes = CodeReader::open(section, lists.funcs.len())?;
     let whole = Whole::of(alloc, *lists)?;
     let rule = CodeRule { whole: &whole };
+    let mut scratch = Scratch::lending(alloc);
     let mut room = Room::new(alloc);
     let mut fault = None;
     for (index, ty) in lists.funcs.iter().enumerate() {
-        let body = codes.next(alloc, scratch, lists.profile)?;
+        let body = codes.next(alloc, &mut scratch, lists.profile)?;
         let func = Func { ty: *ty, body };
         fault = fault_up_to(&rule, fault, index as u32, &func, &mut room)?;
+        let Func { body, .. } = func;
+        scratch.take_back(body);
     }
     codes.end()?;
     Ok(fault)
@@ -78,7 +80,7 @@ fn judge_from_code(
     ensures { Reads (λ v. v) result (judged (module_at reader.entry.profile bytes.now)) }
 {
     reading_of_module(bytes, reader.lists().profile);
-    let code = fault_of_section(alloc, scratch, &reader.lists(), section)?;
+    let code = fault_of_section(alloc, &reader.lists(), section)?;
     let reader = reader.to_end(alloc, scratch)?;
     Ok(judge_around(alloc, &reader.lists(), code)?)
 }

@@ -1,20 +1,30 @@
-use Rattle.std.proofs.Common.{◌≡◌, Err, refl, sym, ap, inr, ◌∙◌}
+use Rattle.std.proofs.Common.{◌≡◌, Result, Ok, Err, refl, sym, ap, subst, inl, inr, ◌∙◌}
+use Rattle.wk_bytes.specs.declared.fault.ReadFault.{ReadFault}
+use Rattle.wk_module.specs.declared.types.Parts.{Parts}
+use Rattle.wk_module.specs.ListReading.{IsReading}
 use Rattle.wk_module.specs.Reading.{module_at}
+use Rattle.wk_check.specs.Spelled.{judged}
 use Rattle.wasmkit.specs.Validation.{printed, status_of}
 use Rattle.wasmkit.proofs.Refusals.{other_fault}
 use Rattle.wasmkit.proofs.validation.validate.Goals as goal
 
-pub returns-in-Err : goal.returns-in-Err
-returns-in-Err c =
+-- where there is no verdict, there is no module
+no_module : (read : Result Parts ReadFault) (e : ReadFault) → judged read ≡ Err e → read ≡ Err e
+no_module (Ok m) e is = absurd cc
+no_module (Err d) e is = cc
+
+pub returns-in_ok-malformed_line-in-Err : goal.returns-in_ok-malformed_line-in-Err
+returns-in_ok-malformed_line-in-Err c =
     let fault = c.in-Err.fault in
     let read = module_at c.args.profile c.args.bytes.now in
-    let is : read ≡ Err fault = other_fault fault fault.kind read c.in_default.not-Memory c.in-Err.ensures.exact in
+    let is : read ≡ Err fault = no_module read fault (other_fault fault fault.kind (judged read) c.in_default.not-Memory c.in-Err.ensures.exact) in
+    let told : IsReading c.args.profile c.args.bytes.now (Err fault) = subst (IsReading c.args.profile c.args.bytes.now) is c.in-Err.ensures.is in
     record {
       line = c.in_ok-malformed_line-in-Err.ensures ∙ sym (ap printed is);
       means = inr (record {
-        none = c.in-Err.ensures.refused c.in_default.not-Memory;
+        none = told.0;
         fault = fault;
-        stands = c.in-Err.ensures.fault;
+        stands = told.1;
         line_is = c.in_ok-malformed_line-in-Err.ensures;
         status_is = refl;
       });

@@ -2,8 +2,8 @@ use Rattle.std.proofs.Common.{length}
 use Rattle.wk_body.proofs.Loop.{Underway}
 use Rattle.wk_body.proofs.reading.read_front.Given as goal
 
-abbrev pub invariant-loop-scratch : goal.invariant-loop-scratch
-invariant-loop-scratch l = Underway l.profile l.fn.cursor l.scratch l.cursor
+abbrev pub invariant-loop-ahead : goal.invariant-loop-ahead
+invariant-loop-ahead l = Underway l.profile l.fn.cursor l.scratch l.ahead
 
-abbrev pub decreases-loop-scratch : goal.decreases-loop-scratch
-decreases-loop-scratch l = length l.cursor.rest
+abbrev pub decreases-loop-ahead : goal.decreases-loop-ahead
+decreases-loop-ahead l = length l.ahead.rest
