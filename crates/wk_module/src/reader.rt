@@ -16,10 +16,11 @@ ghost use Rattle.wk_module.specs.Sections.{contents_at, StartSection, CodeSectio
 ghost use Rattle.wk_module.specs.Reading.{at_start, section_end, with_section, sections_read, joined, zipped, module_at};
 
 use crate::format::{
-    Codes, Datas, Elems, Exports, FuncTypes, Globals, Imports, Indices, Memories, Tables,
+    Datas, Elems, Exports, FuncTypes, Globals, Imports, Indices, Memories, Tables,
 };
 use crate::module::Module;
-use crate::reading::{Readable, at_end, read_contents, read_name};
+use crate::reading::{at_end, read_contents, read_name};
+use crate::section_reader::CodeReader;
 use crate::types::{Custom, Func, Parts};
 use std::alloc::Global;
 use std::marker::Model;
@@ -103,17 +104,12 @@ fn read_codes(
 ) -> Result<Items<Body>, ReadFault>
     ensures { Reads (λ x. x) result (all_at (contents_at profile funcs CodeSection) (section_end (raw_view section.now)) section.now.contents.now) }
 {
-    let mut cursor = section.cursor();
-    let mismatch = cursor.fault(ReadKind::FuncCodeCount);
-    let count = cursor.u32()?;
-    if count as usize != funcs {
-        return Err(mismatch);
-    }
+    let mut codes = CodeReader::open(section, funcs)?;
     let mut bodies = Items::new(alloc);
-    for _ in 0..count {
-        bodies.push(Codes::read(alloc, scratch, profile, &mut cursor)?)?;
+    for _ in 0..funcs {
+        bodies.push(codes.next(alloc, scratch, profile)?)?;
     }
-    at_end(&cursor)?;
+    codes.end()?;
     Ok(bodies)
 }
 

@@ -9,6 +9,6 @@ use Rattle.wk_module.proofs.reader.read_codes.Given as goal
 
 abbrev pub invariant-loop : goal.invariant-loop
 invariant-loop l = record {
-  reads : with_front l.bodies (items_at (code_at l.profile) (l.count - l.counter) l.cursor.end l.cursor.rest) ≡ codes_at l.profile l.funcs (section_end (raw_view l.section)) l.section.contents.now;
-  end : l.cursor.end ≡ section_end (raw_view l.section);
+  reads : with_front l.bodies (items_at (code_at l.profile) (l.funcs - l.counter) l.codes.end l.codes.rest) ≡ codes_at l.profile l.funcs (section_end (raw_view l.section)) l.section.contents.now;
+  end : l.codes.end ≡ section_end (raw_view l.section);
 }
