@@ -26,12 +26,16 @@ fn fault_of(error: io::Error) -> StoreFault {
     }
 }
 
-// All bytes of a file. Room is made at once for the length that the machine tells, with a byte for the read that finds the end:
-// `fs::read`, which is told no length, touches as much memory again.
+// All bytes of a file. Where the machine tells its length, room is made for that at once, with a byte for the read that finds the
+// end, so that none is made in vain. A pipe, and a file that is made as it is read, tell none.
 fn read_whole<R: Files + AllocGlobal>(rt: &R, name: &str) -> io::Result<Vec<u8>> {
     let mut file = fs::File::open(rt, name)?;
-    let len = usize::try_from(file.metadata()?.len()).unwrap_or(0);
-    let mut bytes = Vec::with_capacity(rt.alloc(), len.saturating_add(1))?;
+    let told = file.metadata().map_or(0, |metadata| metadata.len());
+    let room = match usize::try_from(told) {
+        Ok(0) | Err(_) => 0,
+        Ok(len) => len.saturating_add(1),
+    };
+    let mut bytes = Vec::with_capacity(rt.alloc(), room)?;
     file.read_to_end(&mut bytes)?;
     Ok(bytes)
 }

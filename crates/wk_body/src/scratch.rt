@@ -35,6 +35,9 @@ pub struct Scratch {
     lends: bool,
 }
 
+// The most tokens that room is made for before a body is read: 1 MiB.
+const MOST_AHEAD: usize = 1 << 16;
+
 // The token with another distance to its end.
 fn with_skip(token: Token, n: u32) -> Token
     ensures { result ≡ skipping token n }
@@ -95,7 +98,8 @@ impl Scratch {
     }
 
     /// An empty room that goes with each body that is read in it, so that nothing is copied: for bodies that are looked at and
-    /// let go. [`take_back`](Scratch::take_back) gives it the memory back. It takes no memory yet.
+    /// let go. [`take_back`](Scratch::take_back) gives it the memory back. It takes no memory yet; then at most 1 MiB before a body
+    /// is read. An expression that is read in it keeps the room.
     pub fn lending(alloc: Global) -> Scratch {
         Scratch {
             lends: true,
@@ -103,7 +107,8 @@ impl Scratch {
         }
     }
 
-    /// Lets go of a body whose room was lent, and reads the next one in its room.
+    /// Lets go of a body whose room was lent, and reads the next one in its room. Where the room is not one that lends, the body
+    /// is let go alone.
     pub fn take_back(&mut self, body: Body) {
         if self.lends {
             (self.tokens, self.labels) = body.into_room();
@@ -111,11 +116,11 @@ impl Scratch {
     }
 
     // Makes room for a body of so many bytes, where it goes with the body: a token has one at least. So no room is grown, and left,
-    // step by step.
+    // step by step. For a long body it grows from there, as for one that is kept.
     pub(crate) fn make_room(&mut self, bytes: usize) -> Result<(), OutOfMemory> {
         if self.lends {
             self.tokens.clear();
-            self.tokens.reserve(bytes)?;
+            self.tokens.reserve_exact(bytes.min(MOST_AHEAD))?;
         }
         Ok(())
     }

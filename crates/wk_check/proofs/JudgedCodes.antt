@@ -1,5 +1,5 @@
 -- The verdict of a module whose bodies are judged while they are read.
-use Rattle.std.proofs.Common.{◌≡◌, ℕ, zero, suc, ◌+◌, ◌<◌, ◌≤◌, ◌-◌, max, List, [], ◌∷◌, length, map, drop, get_or, add-one, eqb, cond, Bool, true, false, Result, Ok, Err, Option, Some, None, ◌⊎◌, ◌≢◌, refl, sym, ap, subst, ◌∙◌, inl, inr, arith}
+use Rattle.std.proofs.Common.{◌≡◌, ℕ, zero, suc, ◌+◌, ◌<◌, ◌≤◌, ◌-◌, max, List, [], ◌∷◌, length, map, drop, get_or, add-one, eqb, cond, true, Result, Ok, Err, IfOk, Option, Some, None, ◌⊎◌, ◌≢◌, refl, sym, ap, subst, ◌∙◌, inl, inr, arith}
 use Rattle.std.proofs.lemmas.Bool.{cases_lt, lt-ltb, eq-eqb, ne_eqb, eqb-true}
 use Rattle.std.proofs.Math.Seq.{drop-cons}
 use Rattle.wk_bytes.specs.declared.fault.ReadKind.TheVariants.{LongInput, FuncCodeCount}
@@ -11,6 +11,7 @@ use Rattle.wk_bytes.specs.Span.{u32_at, name_at, fault}
 use Rattle.wk_bytes.specs.Frames.{Section, MayCome, limit, header_at, sections_of}
 use Rattle.wk_body.specs.declared.types.Profile.{Profile}
 use Rattle.wk_body.specs.Bodies.{BodyOf}
+use Rattle.wk_body.specs.Reads.{Reads}
 use Rattle.wk_body.specs.Vectors.{items_at}
 use Rattle.wk_module.specs.declared.types.DataSeg.{DataSeg}
 use Rattle.wk_module.specs.declared.types.Func.{Func}
@@ -20,18 +21,18 @@ use Rattle.wk_module.specs.Listed.{listed}
 use Rattle.wk_module.specs.Formats.{taking_all, all_at}
 use Rattle.wk_module.specs.Items.{code_at}
 use Rattle.wk_module.specs.Reading.{section_end, zipped, module_at}
-use Rattle.wk_module.specs.Sections.{SectionLists, SectionId, CodeSection, DataSection, of_number, with_contents, no_lists, codes_at, contents_at}
+use Rattle.wk_module.specs.Sections.{SectionLists, SectionId, DataSection, of_number, with_contents, no_lists, codes_at, contents_at}
 use Rattle.wk_module.specs.Shape.{lists_of}
 use Rattle.wk_module.specs.ListReading.{PartlyRead, listed_by, with_listed, lists_read, Rise, joined_lists, AreListsOfModule, IsReading}
 use Rattle.wk_check.specs.declared.fault.Flaw.{Flaw}
 use Rattle.wk_check.specs.declared.fault.Fault.{Fault}
 use Rattle.wk_check.specs.declared.fault.Verdict.{Verdict}
 use Rattle.wk_check.specs.Items.{earlier}
-use Rattle.wk_check.specs.Spelled.{judged, func_flaw, first_of, codes_judged}
-use Rattle.wk_check.specs.Verdict.{verdict_around, module_verdict}
+use Rattle.wk_check.specs.Spelled.{judged, IsVerdictOf, func_flaw, first_of, codes_judged}
+use Rattle.wk_check.specs.Verdict.{verdict_around, module_verdict, IsVerdict}
 use Rattle.wk_check.specs.Whole.{AreNumbered}
 use Rattle.wk_check.specs.WholeLaws.{are_numbered}
-use Rattle.wk_check.proofs.Flaws.{earlier_none}
+use Rattle.wk_check.proofs.Flaws.{earlier_none, module_verdict_told}
 
 -- ---- one body after the other
 
@@ -249,8 +250,7 @@ lacking end l (t ∷ types) is none some = rw (is, none, ne_eqb (suc (length typ
 module _ (profile : Profile) (b : List ℕ) (is : IsReading profile b (module_at profile b)) (lists : AreListsOfModule profile b) where
   judged_by : (l : SectionLists) → (read_lists profile b >>= joined_lists (length b)) ≡ Ok l → (judged (module_at profile b) ≡ Ok (lists_verdict profile l)) × AreNumbered (record l { codes = [] })
   judged_by l read =
-      let found = found_by profile b (module_at profile b) l is (lists ∙ read) in
-      (
+      let found = found_by profile b (module_at profile b) l is (lists ∙ read) in (
         ap judged found.read ∙ ap (λ (v : Verdict). done v) (verdict_by_lists profile found.module_is found.is.0 ∙ ap (lists_verdict profile) found.lists_are),
         subst (λ (x : SectionLists). AreNumbered (record x { codes = [] })) found.lists_are (are_numbered found.module_is found.is.3),
       )
@@ -339,3 +339,9 @@ pub judged_in_parts : (r : PartlyRead) (b : List ℕ) (s : Section) (lent : List
 judged_in_parts r b s lent law q code law_is is lists profile_is lent_is code_is none rise read codes ends =
     let told = told_codes r.profile lent.profile r.lists (listed lent) s profile_is lent_is in
     judged_with_code r.profile b (rw law_is at is) (rw law_is at lists) r.lists s r.left code_is none rise read q code (sym told ∙ codes) ends
+
+-- a verdict that is answered is the one that words tell
+pub told_meaning : (read : Result Parts ReadFault) (answer : Result Verdict ReadFault) → Reads (λ v. v) answer (judged read) → IfOk answer (λ v. IsVerdictOf read v)
+told_meaning (Ok m) (Ok v) reads = subst (IsVerdict m) (ok_is (module_verdict m) v reads) (module_verdict_told m)
+told_meaning (Err e) (Ok v) reads = absurd cc
+told_meaning read (Err e) reads = tt

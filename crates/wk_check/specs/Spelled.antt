@@ -16,12 +16,17 @@ use Rattle.wk_check.specs.Flaws.{numbered, first_in}
 use Rattle.wk_check.specs.Items.{body_flaw}
 use Rattle.wk_check.specs.Spaces.{answer_in, spaces_of}
 use Rattle.wk_check.specs.Typing.{body_verdict}
-use Rattle.wk_check.specs.Verdict.{module_verdict}
+use Rattle.wk_check.specs.Verdict.{module_verdict, IsVerdict}
 
 -- the verdict of what reading gives, or its fault
 abbrev pub judged : Result Parts ReadFault → Result Verdict ReadFault
 judged (Ok m) = Ok (module_verdict m)
 judged (Err e) = Err e
+
+-- a verdict of the module that is read, as words tell it
+abbrev pub IsVerdictOf : Result Parts ReadFault → Verdict → Type 0
+IsVerdictOf (Ok m) verdict = IsVerdict m verdict
+IsVerdictOf (Err e) verdict = ⊥
 
 -- what is wrong with a function of a module with these lists
 abbrev pub func_flaw : SectionLists → Func → Option Flaw

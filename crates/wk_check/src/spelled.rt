@@ -9,7 +9,7 @@ ghost use Rattle.wk_module.specs.ListReading.{IsReading, Rise, lists_read};
 ghost use Rattle.wk_module.specs.Reading.{module_at};
 ghost use Rattle.wk_module.specs.Sections.{no_lists};
 ghost use Rattle.wk_check.specs.Items.{earlier};
-ghost use Rattle.wk_check.specs.Spelled.{judged, first_of, codes_judged};
+ghost use Rattle.wk_check.specs.Spelled.{judged, IsVerdictOf, first_of, codes_judged};
 
 use crate::fault::{Fault, Verdict};
 use crate::judging::judge_around;
@@ -110,20 +110,25 @@ fn judge_without_code(
 /// looked at.
 ///
 /// The verdict is that of the module that [`read_in`](wk_module::read_in) reads of these bytes. Each body is judged when it is
-/// read and then let go, so that the memory taken is that of the module without its bodies and custom sections.
+/// read and then let go, so that the memory taken is that of the module without its bodies and custom sections, and the room of
+/// the largest body or 1 MiB.
 ///
 /// # Errors
 ///
 /// Where the bytes spell no module of the profile, the first fault from left to right, at its offset; where a growth is refused,
 /// `Memory` at 0.
+#[tactic(auto, using(crate::proofs::JudgedCodes::told_meaning))]
 pub fn judge_bytes(alloc: Global, bytes: &[u8], profile: Profile) -> Result<Verdict, ReadFault>
     ensures exact { Reads (λ v. v) result (judged (module_at profile bytes.now)) }
+    ensures meaning { IfOk result (λ verdict. IsVerdictOf (module_at profile bytes.now) verdict) }
     ensures is { IsReading profile bytes.now (module_at profile bytes.now) }
 {
     reading_of_module(bytes, profile);
     let mut scratch = Scratch::new(alloc);
-    let (reader, section) =
-        SectionReader::new(alloc, bytes, profile).up_to_code(alloc, &mut scratch)?;
+    let (reader, section) = SectionReader::new(alloc, bytes, profile).up_to_code(
+        alloc,
+        &mut scratch,
+    )?;
     match section {
         Some(section) => judge_from_code(alloc, &mut scratch, bytes, reader, &section),
         None => judge_without_code(alloc, bytes, &reader),

@@ -1,5 +1,5 @@
 -- Lists that are read without custom sections are those of the module that is read.
-use Rattle.std.proofs.Common.{◌≡◌, ◌≢◌, ℕ, zero, suc, All, Bool, true, false, ◌==◌, eqb, ◌<◌, ◌≤◌, max, List, [], ◌∷◌, length, Option, Some, None, Result, Ok, Err, IfOk, refl, sym, ap, ◌∙◌, inl, inr, arith, subst}
+use Rattle.std.proofs.Common.{◌≡◌, ◌≢◌, ℕ, zero, suc, All, Bool, true, false, eqb, max, List, [], ◌∷◌, length, Option, Some, None, Result, Ok, Err, IfOk, refl, sym, ap, ◌∙◌, inl, inr, arith, subst}
 use Rattle.std.proofs.lemmas.Bool.{eqb-true}
 use Rattle.std.proofs.lemmas.List.Elements.{All-head, All-tail}
 use Rattle.wk_bytes.specs.declared.fault.ReadKind.{ReadKind}
@@ -14,13 +14,12 @@ use Rattle.wk_bytes.specs.SpanLaws.{ok_is}
 use Rattle.wk_bytes.specs.Frames.{Section, MayCome, header_at, framing, section_at, sections_within, sections_from, sections_of, each_then}
 use Rattle.wk_bytes.specs.FrameLaws.{steps_of, id_at-takes}
 use Rattle.wk_body.specs.declared.types.Profile.{Profile}
-use Rattle.wk_body.specs.Bodies.{BodyOf}
 use Rattle.wk_body.specs.Reads.{FailsAs, Reads}
 use Rattle.wk_body.specs.ReadsLaws.{fails_on}
 use Rattle.wk_module.specs.Formats.{all_at}
 use Rattle.wk_module.specs.Reading.{Progress, at_start, section_end, with_section, section_by, sections_read, joined, module_at}
 use Rattle.wk_module.specs.Shape.{lists_of}
-use Rattle.wk_module.specs.Sections.{SectionId, CodeSection, DataSection, of_number, SectionLists, ContentsOf, with_contents, contents_at}
+use Rattle.wk_module.specs.Sections.{SectionId, CodeSection, of_number, SectionLists, ContentsOf, with_contents, contents_at}
 use Rattle.wk_module.specs.Customs.{custom_at}
 use Rattle.wk_module.specs.ListReading.{listed_by, with_listed, lists_read, IsFair, Rise, joined_lists, AreListsOfModule}
 use Rattle.wk_module.proofs.SectionIds.{number-of_number, pick_other}
@@ -77,14 +76,14 @@ codes_kept profile l s (Err e) reads other = tt
 
 -- ---- ids rise
 
--- behind the code section come sections of greater ids
 -- a fault that comes next is that of reading on
 pub fair_fails : {Y : Type 0} (e : ReadFault) (kind : ReadKind) (read : Result Y ReadFault) → IsFair e kind → read ≡ Err e → FailsAs e kind read
 fair_fails e Memory read fair is = fair
 fair_fails e _ read fair is = is
 
+-- behind the code section come sections of greater ids
 pub rise_behind : (last : ℕ) (s : Section) (items : List (Result Section ReadFault)) → s.id ≡ 10 → Rise last (Ok s ∷ items) → Rise 10 items
-rise_behind last s items is rise = subst (λ (n : ℕ). Rise n items) (elim rise.0 [ | inl zero_is ↦ absurd (omega (arith, is, zero_is)) | inr above ↦ omega (arith, is, above.0) ]) rise.1
+rise_behind last s items is rise = subst (λ (n : ℕ). Rise n items) (elim rise.0 [ inl zero_is ↦ absurd (omega (arith, is, zero_is)) | inr above ↦ omega (arith, is, above.0) ]) rise.1
 
 -- the same, whatever the fault is
 abbrev AreOrdered : ℕ → List (Result Section ReadFault) → Type 0

@@ -6,7 +6,7 @@ use Rattle.wk_bytes.specs.declared.fault.ReadKind.TheVariants.{FuncCodeCount, Me
 use Rattle.wk_bytes.specs.declared.fault.ReadFault.{ReadFault}
 use Rattle.wk_bytes.specs.Leb.{◌>>=◌}
 use Rattle.wk_bytes.specs.Raw.{raw_view}
-use Rattle.wk_bytes.specs.Span.{name_at}
+use Rattle.wk_bytes.specs.Span.{fault, u32_at, name_at}
 use Rattle.wk_bytes.specs.Frames.{Section, MayCome, sections_of}
 use Rattle.wk_bytes.specs.Stands.{StandsIn}
 use Rattle.wk_body.specs.declared.types.Profile.{Profile}
@@ -16,6 +16,12 @@ use Rattle.wk_module.specs.Modules.{Spells, SpellsNone}
 use Rattle.wk_module.specs.Reading.{section_end, module_at}
 use Rattle.wk_module.specs.Sections.{SectionId, of_number, SectionLists, with_contents, no_lists, contents_at}
 use Rattle.wk_module.specs.Shape.{lists_of, IsShaped}
+
+-- what is read in front of the code section
+pub record Front : Type 0 where
+  pub lists : SectionLists
+  pub code : Option Section
+  pub behind : List (Result Section ReadFault)
 
 -- one more section: a custom one, of which the name is read and nothing is kept, or that of an id
 unfoldable pub listed_by : Profile → SectionLists → Section → Option SectionId → Result SectionLists ReadFault
@@ -31,7 +37,7 @@ lists_read profile l [] = Ok l
 lists_read profile l (Err e ∷ items) = Err e
 lists_read profile l (Ok s ∷ items) = with_listed profile l s >>= λ q. lists_read profile q items
 
--- a fault that bytes may have: where it is want of memory it lies at 0
+-- a fault as a reader may answer it: where it is want of memory it lies at 0
 abbrev pub IsFair : ReadFault → ReadKind → Type 0
 IsFair e Memory = e.at ≡ 0
 IsFair e _ = Unit {0}
@@ -41,6 +47,19 @@ abbrev pub Rise : ℕ → List (Result Section ReadFault) → Type 0
 Rise last [] = Unit {0}
 Rise last (Err e ∷ items) = IsFair e e.kind
 Rise last (Ok s ∷ items) = MayCome last s.id × Rise (max last s.id) items
+
+-- The lists of the sections in front of the code section, that section unread, and what is left behind it; or all lists, where
+-- there is no code section; or the first fault.
+unfoldable pub front_read : Profile → SectionLists → List (Result Section ReadFault) → Result Front ReadFault
+front_read profile l [] = Ok (record { lists = l; code = None; behind = [] })
+front_read profile l (Err e ∷ items) = Err e
+front_read profile l (Ok s ∷ items) = if s.id == 10 then Ok (record { lists = l; code = Some s; behind = items }) else (with_listed profile l s >>= λ q. front_read profile q items)
+
+-- where the codes begin, if the count is that of the functions
+unfoldable pub opened_at : ℕ → ℕ → List ℕ → Result (List ℕ) ReadFault
+opened_at funcs end bytes = do
+  n ← u32_at end bytes
+  if n.0 == funcs then Ok n.1 else Err (fault FuncCodeCount end bytes)
 
 -- ---- a module of which some sections are read
 
@@ -53,8 +72,15 @@ pub record PartlyRead : Type 0 where
 abbrev pub rest_read : PartlyRead → Result SectionLists ReadFault
 rest_read r = lists_read r.profile r.lists r.left
 
--- Reading on went to the code section, which comes next, or to the end. No codes were read, and what is still to be read is
--- what was.
+-- A section without where it lies in memory, if there is one.
+abbrev pub code_view : Option RawSection → Option Section
+code_view None = None
+code_view (Some s) = Some (raw_view s)
+
+abbrev pub front_of : PartlyRead → Option RawSection → Front
+front_of r s = record { lists = r.lists; code = code_view s; behind = r.left }
+
+-- What follows from it, of the sections in front read: no codes were read, and reading on from there gives what reading all gives.
 abbrev pub GoesTo : PartlyRead → PartlyRead → Option RawSection → Type 0
 GoesTo old new None = (new.profile ≡ old.profile) × (new.lists.codes ≡ old.lists.codes) × (new.left ≡ []) × (rest_read old ≡ Ok new.lists)
 GoesTo old new (Some s) =

@@ -1,6 +1,6 @@
 //! Reading the lists of a module section by section, where its bodies are the caller's to read and its custom sections are let go.
 
-ghost use Rattle.std.specs.Prelude.{◌≡◌, ◌≢◌, ◌<◌, ◌^◌, [], None, Ok, IfOk, MatchResult};
+ghost use Rattle.std.specs.Prelude.{◌≡◌, ◌≢◌, ◌<◌, ◌^◌, [], Ok, Err, IfOk, MatchResult};
 ghost use Rattle.wk_bytes.specs.Frames.{sections_of};
 ghost use Rattle.wk_bytes.specs.Raw.{raw_view};
 ghost use Rattle.wk_bytes.specs.Span.{fault};
@@ -8,9 +8,9 @@ ghost use Rattle.wk_body.specs.Reads.{FailsAs, Parses, Reads};
 ghost use Rattle.wk_body.specs.Vectors.{items_at};
 ghost use Rattle.wk_module.specs.Items.{code_at};
 ghost use Rattle.wk_module.specs.Listed.{listed};
-ghost use Rattle.wk_module.specs.ListReading.{GoesTo, listed_by, lists_read, rest_read, with_listed};
+ghost use Rattle.wk_module.specs.ListReading.{GoesTo, front_of, front_read, opened_at, rest_read, with_listed};
 ghost use Rattle.wk_module.specs.Reading.{section_end};
-ghost use Rattle.wk_module.specs.Sections.{SectionLists, codes_at, no_lists};
+ghost use Rattle.wk_module.specs.Sections.{codes_at, no_lists};
 
 use crate::format::Codes;
 use crate::lists::Lists;
@@ -87,18 +87,20 @@ impl<'a> SectionReader<'a> {
         }
     }
 
-    /// Reads up to the code section, which it gives unread, or to the end where there is none.
+    /// Reads up to the code section, which it gives unread, or to the end where there is none. Then functions that were declared
+    /// have no codes, and the bytes spell no module.
     ///
     /// # Errors
     ///
     /// The first fault of the sections in front of it, or `Memory` at 0 where a growth was refused.
-    #[tactic(auto, unfolding(crate::specs::ListReading::lists_read))]
+    #[tactic(auto, unfolding(crate::specs::ListReading::lists_read, crate::specs::ListReading::front_read))]
     pub fn up_to_code(
         self,
         alloc: Global,
         scratch: &mut Scratch,
     ) -> Result<(SectionReader<'a>, Option<RawSection<'a>>), ReadFault>
-        ensures { MatchResult result (λ r. GoesTo self.entry r.0 r.1) (λ e. FailsAs e e.kind (rest_read self.entry)) }
+        ensures exact { Reads (λ r. front_of r.0 r.1) result (front_read self.entry.profile self.entry.lists self.entry.left) }
+        ensures goes { MatchResult result (λ r. GoesTo self.entry r.0 r.1) (λ e. FailsAs e e.kind (rest_read self.entry)) }
     {
         let SectionReader {
             mut so_far,
@@ -125,13 +127,20 @@ impl<'a> SectionReader<'a> {
         Ok((reader, None))
     }
 
-    /// Reads all sections that are left.
+    /// Reads all sections that are left, a code section among them if there is one: its codes are kept, and [`lists`] does not
+    /// lend them.
+    ///
+    /// [`lists`]: SectionReader::lists
     ///
     /// # Errors
     ///
     /// Their first fault, or `Memory` at 0 where a growth was refused.
     #[tactic(auto, unfolding(crate::specs::ListReading::lists_read))]
-    pub fn to_end(self, alloc: Global, scratch: &mut Scratch) -> Result<SectionReader<'a>, ReadFault>
+    pub fn to_end(
+        self,
+        alloc: Global,
+        scratch: &mut Scratch,
+    ) -> Result<SectionReader<'a>, ReadFault>
         ensures read { Reads (λ r. r.lists) result (rest_read self.entry) }
         ensures profile { IfOk result (λ r. r.profile ≡ self.entry.profile) }
         ensures left { IfOk result (λ r. r.left ≡ []) }
@@ -179,16 +188,20 @@ impl<'a> Model for CodeReader<'a> {
 }
 
 impl<'a> CodeReader<'a> {
-    /// Begins to read a code section, where that many functions were declared.
+    /// Begins to read a code section, where that many functions were declared. The id of the section is not looked at.
     ///
     /// # Errors
     ///
-    /// Its count is spelled badly, or is another one.
-    #[tactic(auto, unfolding(crate::specs::Sections::codes_at))]
+    /// `UnexpectedEnd`, `IntTooLong` or `IntTooLarge` where its count is spelled badly; `FuncCodeCount`, at the first byte of its
+    /// contents, where it is another one.
+    #[tactic(auto, unfolding(crate::specs::Sections::codes_at, crate::specs::ListReading::opened_at))]
     pub fn open(section: &RawSection<'a>, funcs: usize) -> Result<CodeReader<'a>, ReadFault>
         ensures read { (profile : Profile) → MatchResult result
             (λ r. codes_at profile funcs (section_end (raw_view section.now)) section.now.contents.now ≡ items_at (code_at profile) funcs r.end r.rest)
             (λ e. FailsAs e e.kind (codes_at profile funcs (section_end (raw_view section.now)) section.now.contents.now)) }
+        ensures exact { MatchResult result
+            (λ r. opened_at funcs (section_end (raw_view section.now)) section.now.contents.now ≡ Ok r.rest)
+            (λ e. opened_at funcs (section_end (raw_view section.now)) section.now.contents.now ≡ Err e) }
         ensures end { IfOk result (λ r. r.end ≡ section_end (raw_view section.now)) }
         ensures few { IfOk result (λ r. funcs < 2 ^ 32) }
     {
@@ -205,7 +218,8 @@ impl<'a> CodeReader<'a> {
     ///
     /// # Errors
     ///
-    /// Its first fault, or `Memory` at 0 where a growth was refused.
+    /// Its first fault, at its offset in the whole input, or `Memory` at 0 where a growth was refused. After a refusal the reader
+    /// stands anywhere in the section.
     pub fn next(
         &mut self,
         alloc: Global,
@@ -221,7 +235,7 @@ impl<'a> CodeReader<'a> {
     ///
     /// # Errors
     ///
-    /// Bytes are left over.
+    /// `SectionSize` at the first byte that is left over.
     pub fn end(&self) -> Result<(), ReadFault>
         ensures { MatchResult result
             (λ u. self.now.rest ≡ [])

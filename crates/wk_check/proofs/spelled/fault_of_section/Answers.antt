@@ -1,11 +1,9 @@
-use Rattle.std.proofs.Common.{refl, sym, ◌∙◌}
+use Rattle.std.proofs.Common.{refl, ◌∙◌}
 use Rattle.std.proofs.lemmas.Result.{err_from_is_err_and}
 use Rattle.wk_bytes.specs.Raw.{raw_view}
 use Rattle.wk_body.specs.ReadsLaws.{fails_on}
 use Rattle.wk_module.specs.Items.{code_at}
 use Rattle.wk_module.specs.Listed.{listed}
-use Rattle.wk_module.specs.Reading.{section_end}
-use Rattle.wk_module.specs.Sections.{codes_at}
 use Rattle.wk_check.specs.Spelled.{codes_judged}
 use Rattle.wk_check.proofs.JudgedCodes.{body_step, body_stops, section_stops, section_judged}
 use Rattle.wk_check.proofs.spelled.fault_of_section.Goals as goal

@@ -1,4 +1,4 @@
-use Rattle.std.proofs.Common.{sym, ap, subst, ◌∙◌, Ok, Option}
+use Rattle.std.proofs.Common.{sym, ap, subst, ◌∙◌}
 use Rattle.std.proofs.lemmas.Result.{err_from_is_err_and}
 use Rattle.wk_bytes.specs.LebLaws.{done}
 use Rattle.wk_bytes.specs.Raw.{raw_view}
@@ -6,7 +6,6 @@ use Rattle.wk_body.specs.ReadsLaws.{fails_on}
 use Rattle.wk_module.specs.Listed.{listed}
 use Rattle.wk_module.specs.ListReading.{IsReading, AreListsOfModule, lists_read}
 use Rattle.wk_module.specs.Reading.{module_at}
-use Rattle.wk_module.specs.Sections.{SectionLists}
 use Rattle.wk_check.specs.declared.fault.Verdict.{Verdict}
 use Rattle.wk_check.specs.Spelled.{judged, codes_judged}
 use Rattle.wk_check.specs.Whole.{AreNumbered}

@@ -1,5 +1,4 @@
-use Rattle.std.proofs.Common.{◌≡◌, [], None, sym, ap, subst, ◌∙◌, arith}
-use Rattle.wk_module.specs.Listed.{listed}
+use Rattle.std.proofs.Common.{◌≡◌, None, sym, ap, subst, ◌∙◌, arith}
 use Rattle.wk_module.specs.ListReading.{IsReading, AreListsOfModule}
 use Rattle.wk_module.specs.Reading.{module_at}
 use Rattle.wk_module.specs.Sections.{SectionLists, no_lists}

@@ -1,4 +1,3 @@
-use Rattle.std.proofs.Common.{Ok, Err}
 use Rattle.wk_bytes.specs.Raw.{raw_view}
 use Rattle.wk_module.proofs.ListReading.{reads_listed, codes_kept}
 use Rattle.wk_module.proofs.reader.SoFar.with_listed.Goals as goal

@@ -1,5 +1,5 @@
 use Rattle.std.proofs.Common.{◌≡◌, ℕ}
-use Rattle.wk_module.specs.ListReading.{lists_read, rest_read, Rise}
+use Rattle.wk_module.specs.ListReading.{lists_read, front_read, rest_read, Rise}
 use Rattle.wk_module.proofs.section_reader.SectionReader.up_to_code.Given as goal
 
 abbrev pub invariant-loop-section : goal.invariant-loop-section
@@ -9,5 +9,6 @@ invariant-loop-section l = record {
   reads : lists_read l.profile l.so_far.lists l.left ≡ rest_read l.fn.self;
   rise : (last : ℕ) × Rise last l.left;
   same : l.profile ≡ l.fn.self.profile;
+  front : front_read l.profile l.so_far.lists l.left ≡ front_read l.fn.self.profile l.fn.self.lists l.fn.self.left;
   no_codes : l.so_far.lists.codes ≡ l.fn.self.lists.codes;
 }
