@@ -123,11 +123,11 @@ pub record InLabels (fn now : Scratch) (left : ℕ) (from at : Span) (whole : Re
   pub reads : with_front labels (items_at u32_at left from.end at.rest) ≡ whole
   pub size : length labels + length at.rest ≤ length from.rest
 
-regroup : (front : List ℕ) (n : ℕ) (read : Result (List ℕ × List ℕ) ReadFault) → with_front front (read >>= λ x. Ok (n ∷ x.0, x.1)) ≡ with_front (front ++ n ∷ []) read
+pub regroup : (front : List ℕ) (n : ℕ) (read : Result (List ℕ × List ℕ) ReadFault) → with_front front (read >>= λ x. Ok (n ∷ x.0, x.1)) ≡ with_front (front ++ n ∷ []) read
 regroup front n (Ok x) = ap (λ (ns : List ℕ). Ok (ns, x.1)) (simp append_assoc)
 regroup front n (Err f) = refl
 
-front-nil : (read : Result (List ℕ × List ℕ) ReadFault) → with_front [] read ≡ read
+pub front-nil : (read : Result (List ℕ × List ℕ) ReadFault) → with_front [] read ≡ read
 front-nil (Ok x) = refl
 front-nil (Err f) = refl
 
@@ -164,7 +164,7 @@ labels_end fn now count i from at le g =
 
 -- ---- a token with labels
 
-items_length : (n end : ℕ) (bytes : List ℕ) (x : List ℕ × List ℕ) → items_at u32_at n end bytes ≡ Ok x → length x.0 ≡ n
+pub items_length : (n end : ℕ) (bytes : List ℕ) (x : List ℕ × List ℕ) → items_at u32_at n end bytes ≡ Ok x → length x.0 ≡ n
 items_length zero end bytes x e = ap (λ (r : List ℕ × List ℕ). length r.0) (sym (ok_is ([], bytes) x e))
 items_length (suc n) end bytes x e =
     let a = bind_ok (u32_at end bytes) _ x e in

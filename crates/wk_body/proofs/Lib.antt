@@ -19,6 +19,7 @@ pub mod Least
 pub mod Lengths
 pub mod GroupLoop
 pub mod Tokens
+pub mod TokenSteps
 pub mod Loop
 pub mod TreeRefs
 pub mod MovedTrees

@@ -15,7 +15,7 @@ use Rattle.wk_body.specs.ReadsLaws.{fails_on}
 use Rattle.wk_body.proofs.GrammarParts.{expr_takes}
 use Rattle.wk_body.proofs.Grammar.{changed, changed-changed}
 use Rattle.wk_body.proofs.Spelled.{expr_shaped}
-use Rattle.wk_body.proofs.Tokens.{token_shorter}
+use Rattle.wk_body.specs.TokenReadingLaws.{token_shorter}
 
 -- Of what is read from the cursor `from`, the scratch holds what stands in front of the cursor `at`.
 pub record Underway (profile : Profile) (from : Span) (now : Scratch) (at : Span) : Type 0 where

@@ -1,5 +1,5 @@
 -- One token that is read.
-use Rattle.std.proofs.Common.{◌≡◌, ℕ, suc, ◌<◌, ◌≤◌, Bool, false, ltb, eqb, List, [], ◌∷◌, ◌++◌, length, Ok, Err, refl, sym, ap, subst, ◌∙◌, arith, inl, inr, length-append}
+use Rattle.std.proofs.Common.{◌≡◌, ℕ, suc, ◌≤◌, Bool, false, ltb, eqb, List, [], ◌∷◌, ◌++◌, length, Ok, Err, refl, sym, ap, subst, ◌∙◌, arith, inl, inr, length-append}
 use Rattle.std.proofs.lemmas.Bool.{ne_eqb}
 use Rattle.wk_bytes.specs.declared.fault.ReadKind.TheVariants.{UnexpectedEnd, UnknownOpcode, TooDeep}
 use Rattle.wk_bytes.specs.declared.fault.ReadFault.{ReadFault}
@@ -20,7 +20,6 @@ use Rattle.wk_body.specs.Reads.{FailsAs}
 use Rattle.wk_body.specs.Reading.{labels_at, behind_form, plain_at, tok_at, type_at, type_here, behind_at, token_at}
 use Rattle.wk_body.specs.Building.{Adds, Step, ReadsPlain, ReadsToken, kinds_of}
 use Rattle.wk_body.proofs.PieceStands.{ReadsFront-type_at, plain_at-takes}
-use Rattle.wk_body.proofs.Standing.{token_behind}
 use Rattle.wk_body.proofs.Labels.{told-grow}
 
 -- ---- how many bytes are taken
@@ -35,13 +34,6 @@ here_shorter profile ks d end bytes rest ty e =
       | inl p ↦ let t = (ReadsFront-type_at profile).takes end bytes ty rest p.1 in no_longer t.0 bytes rest t.1
       | inr p ↦ absurd cc
     ]
-
-pub token_shorter : (profile : Profile) (ks : List Bool) (end : ℕ) (bytes : List ℕ) (x : Tok × List ℕ) → token_at profile ks end bytes ≡ Ok x → length x.1 < length bytes
-token_shorter profile ks end [] x e = absurd cc
-token_shorter profile ks end (opcode ∷ bytes) x e =
-    let t = (token_behind profile ks opcode end bytes).takes x e in
-    let le = no_longer t.0 bytes x.1 t.1 in
-    omega (arith, le)
 
 -- ---- a token that opens a block
 
@@ -78,7 +70,7 @@ reads_if profile old new opcode at from to ty h e a = opened_reads profile old n
 
 -- ---- a token with labels
 
-table_found : (profile : Profile) (e : ReadFault) (end : ℕ) (bytes : List ℕ) (x : (List ℕ × ℕ) × List ℕ) → labels_at end bytes ≡ Ok x → plain_at profile e 0x0E end bytes ≡ Ok (BrTable x.0.0 x.0.1, x.1)
+pub table_found : (profile : Profile) (e : ReadFault) (end : ℕ) (bytes : List ℕ) (x : (List ℕ × ℕ) × List ℕ) → labels_at end bytes ≡ Ok x → plain_at profile e 0x0E end bytes ≡ Ok (BrTable x.0.0 x.0.1, x.1)
 unfolding plain_at behind_form form_of
 table_found Core e end bytes x h = rw h refl
 table_found Extended e end bytes x h = rw h refl

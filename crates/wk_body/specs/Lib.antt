@@ -18,6 +18,9 @@ pub mod Written
 pub mod References
 pub mod Moved
 pub mod Building
+pub mod TokenReading
+pub mod TokenReadingLaws
+pub mod TokenSteps
 pub mod Meaning
 pub mod Lengths
 pub mod Names

@@ -54,12 +54,6 @@ impl Body {
         Body { groups, instrs }
     }
 
-    // The room of its tokens and of their labels.
-    pub(crate) fn into_room(self) -> (Vec<Token>, Vec<u32>) {
-        let Body { instrs, .. } = self;
-        instrs.into_room()
-    }
-
     /// The local groups.
     pub fn groups(&self) -> &[LocalGroup]
         ensures value { result.now ≡ self.now.groups }

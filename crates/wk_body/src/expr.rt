@@ -56,12 +56,6 @@ impl Expr {
         Expr { tokens, labels }
     }
 
-    // The room of its tokens and of their labels.
-    pub(crate) fn into_room(self) -> (Vec<Token>, Vec<u32>) {
-        let Expr { tokens, labels } = self;
-        (tokens, labels)
-    }
-
     /// The tokens in the order in which they are written, the last `end` among them, and the pool of their labels.
     ///
     /// A token's number is its place here. Each one that opens a block, and each `Else`, has the distance to the matching `End`.

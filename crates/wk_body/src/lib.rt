@@ -15,6 +15,7 @@ mod reading;
 mod references;
 mod scratch;
 mod token;
+mod token_reader;
 mod types;
 mod writing;
 
@@ -33,6 +34,7 @@ pub use reading::MAX_DEPTH;
 pub use references::{Ref, refs, uses};
 pub use scratch::Scratch;
 pub use token::Token;
+pub use token_reader::{TokenReader, next_groups};
 pub use types::{BlockKind, BlockType, LocalGroup, Profile, ValType};
 pub use writing::{append_body, append_expr, encode_body, encode_expr, written_form_of_code};
 
@@ -44,5 +46,7 @@ mod tests_deep;
 mod tests_moving;
 #[cfg(test)]
 mod tests_reading;
+#[cfg(test)]
+mod tests_tokens;
 #[cfg(test)]
 mod tests_values;

@@ -6,7 +6,7 @@ ghost use Rattle.wk_bytes.specs.Fault.{long_input};
 ghost use Rattle.wk_bytes.specs.Span.{fault};
 ghost use Rattle.wk_bytes.specs.Stands.{StandsIn, StandsOrMemory};
 ghost use Rattle.wk_body.specs.ValTypes.{valtype_at};
-ghost use Rattle.wk_body.specs.Reads.{Parses, Reads};
+ghost use Rattle.wk_body.specs.Reads.{FailsAs, Parses, Reads};
 ghost use Rattle.wk_body.specs.Reading.{groups_at, body_at, expr_at, all_expr_at, all_body_at, whole_at};
 ghost use Rattle.wk_body.specs.Shape.{IsOf, IsShaped};
 ghost use Rattle.wk_body.specs.Spelling.{SpellsExpr, SpellsBody};
@@ -60,15 +60,17 @@ fn local_type(cursor: &mut Cursor<'_>) -> Result<ValType, ReadFault>
     })
 }
 
-// So many local groups. No room is made for a count.
-fn groups_of(
-    alloc: Global,
+// So many local groups, which are all that the room holds then. No room is made for a count.
+pub(crate) fn groups_of(
+    groups: &mut Vec<LocalGroup>,
     count: u32,
     cursor: &mut Cursor<'_>,
-) -> Result<Vec<LocalGroup>, ReadFault>
-    ensures { Parses (λ v. v.items) (groups_at count 0) cursor.old result cursor.new }
+) -> Result<(), ReadFault>
+    ensures { MatchResult result
+        (λ _. (groups_at count 0 cursor.old.end cursor.old.rest ≡ Ok (groups.new.items, cursor.new.rest)) × (cursor.new.end ≡ cursor.old.end))
+        (λ e. FailsAs e e.kind (groups_at count 0 cursor.old.end cursor.old.rest)) }
 {
-    let mut groups = Vec::new(alloc);
+    groups.clear();
     let mut declared: u32 = 0;
     for _ in 0..count {
         let at = cursor.at();
@@ -83,7 +85,7 @@ fn groups_of(
         groups.push(LocalGroup { count, ty })?;
         declared = sum;
     }
-    Ok(groups)
+    Ok(())
 }
 
 // A body at the front.
@@ -99,7 +101,8 @@ fn body_front(
     let count = cursor.u32()?;
     // The proof asks what this says: each byte is below 256.
     are_bytes(cursor.rest());
-    let groups = groups_of(alloc, count, cursor)?;
+    let mut groups = Vec::new(alloc);
+    groups_of(&mut groups, count, cursor)?;
     let instrs = read_front(alloc, scratch, profile, cursor)?;
     Ok(Body::of(groups, instrs))
 }
@@ -137,7 +140,6 @@ impl Scratch {
         are_bytes(cursor.rest());
         let _at = cursor.at();
         let mut ahead = cursor.ahead();
-        self.make_room(cursor.rest().len())?;
         let body = body_front(alloc, self, profile, &mut ahead)?;
         at_end(&ahead)?;
         Ok(body)

@@ -33,6 +33,7 @@ pub(crate) fn are_bytes(bytes: &[u8])
 
 // A reserved byte, which is 00.
 #[tactic(auto, unfolding(crate::specs::Reading::reserved_at))]
+#[inline(always)]
 fn reserved(cursor: &mut Cursor<'_>) -> Result<u8, ReadFault>
     ensures { Parses (λ x. x) reserved_at cursor.old result cursor.new }
 {
@@ -71,7 +72,7 @@ fn type_index(profile: Profile, cursor: &mut Cursor<'_>) -> Result<BlockType, Re
 // A block type (5.3.2).
 #[tactic(auto, unfolding(crate::specs::Reading::type_at))]
 #[inline(always)]
-fn block_type(profile: Profile, cursor: &mut Cursor<'_>) -> Result<BlockType, ReadFault>
+pub(crate) fn block_type(profile: Profile, cursor: &mut Cursor<'_>) -> Result<BlockType, ReadFault>
     ensures { Parses (λ x. x) (type_at profile) cursor.old result cursor.new }
 {
     let mut ahead = cursor.ahead();
@@ -91,6 +92,7 @@ fn block_type(profile: Profile, cursor: &mut Cursor<'_>) -> Result<BlockType, Re
 
 // A load or store behind its opcode.
 #[tactic(auto, unfolding(crate::specs::Reading::plain_at, crate::specs::Reading::behind_form, crate::specs::Instructions::form_of))]
+#[inline(always)]
 fn memory_of(opcode: u8, cursor: &mut Cursor<'_>) -> Result<Token, ReadFault>
     requires low { 0x28 ≤ opcode }
     requires high { opcode ≤ 0x3E }
@@ -105,9 +107,10 @@ fn memory_of(opcode: u8, cursor: &mut Cursor<'_>) -> Result<Token, ReadFault>
     Ok(Token::Access { op, align, offset })
 }
 
-// The constant of an `i64.const` behind its opcode. It stands apart, as `double_of` does, since the room of a result that has
-// 64 bits is cleared where the function that holds it begins, and no other token is to pay for it.
+// The constant of an `i64.const` behind its opcode. It is a function of its own, as `double_of` is, since the room of a result that
+// has 64 bits is cleared where the function that holds it begins, and no other token is to pay for it.
 #[tactic(auto, unfolding(crate::specs::Reading::plain_at, crate::specs::Reading::behind_form, crate::specs::Instructions::form_of))]
+#[inline(always)]
 fn long_of(cursor: &mut Cursor<'_>) -> Result<Token, ReadFault>
     ensures read { (profile : Profile) (e : ReadFault) → Parses (λ x. told [] x) (tok_at (plain_at profile e 0x42)) cursor.old result cursor.new }
     ensures within { IfOk result (IsWithin 0) }
@@ -117,6 +120,7 @@ fn long_of(cursor: &mut Cursor<'_>) -> Result<Token, ReadFault>
 
 // The constant of an `f64.const` behind its opcode.
 #[tactic(auto, unfolding(crate::specs::Reading::plain_at, crate::specs::Reading::behind_form, crate::specs::Instructions::form_of))]
+#[inline(always)]
 fn double_of(cursor: &mut Cursor<'_>) -> Result<Token, ReadFault>
     ensures read { (profile : Profile) (e : ReadFault) → Parses (λ x. told [] x) (tok_at (plain_at profile e 0x44)) cursor.old result cursor.new }
     ensures within { IfOk result (IsWithin 0) }
@@ -125,6 +129,7 @@ fn double_of(cursor: &mut Cursor<'_>) -> Result<Token, ReadFault>
 }
 
 // The numeric instruction of an opcode.
+#[inline(always)]
 fn numeric_of(profile: Profile, opcode: u8) -> Option<NumericOp>
     ensures { result ≡ numeric_in profile opcode }
 {
@@ -136,7 +141,8 @@ fn numeric_of(profile: Profile, opcode: u8) -> Option<NumericOp>
 
 // An instruction that holds no others and has no labels, behind its opcode, which stands at `at`.
 #[tactic(auto, unfolding(crate::specs::Reading::plain_at, crate::specs::Reading::behind_form, crate::specs::Instructions::form_of))]
-fn simple_of(
+#[inline(always)]
+pub(crate) fn simple_of(
     profile: Profile,
     opcode: u8,
     at: u32,
@@ -330,7 +336,7 @@ pub(crate) fn read_front(
     loop {
         if token_of(scratch, profile, &mut ahead)? {
             *cursor = ahead;
-            return Ok(scratch.finished(alloc)?);
+            return Ok(scratch.copied(alloc)?);
         }
     }
 }

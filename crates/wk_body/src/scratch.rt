@@ -6,12 +6,10 @@ ghost use Rattle.wk_body.specs.Reading.{may_else};
 ghost use Rattle.wk_body.specs.Kept.{told, skipping, ended, else_ended, IsWithin, IsKept, tree_kept};
 ghost use Rattle.wk_body.specs.Building.{Good, Adds, AddsEnd, Closes, GoodWith, IsSimple, Labelled, toks_of, kinds_of, size_of};
 
-use crate::body::Body;
 use crate::expr::Expr;
 use crate::token::Token;
 use crate::types::{BlockKind, BlockType};
 use std::alloc::Global;
-use std::mem;
 use wk_bytes::OutOfMemory;
 
 /// A block that is open, and where its tokens stand.
@@ -22,8 +20,7 @@ pub(crate) enum Opened {
     Else { opened: u32, other: u32 },
 }
 
-/// Room in which bodies and expressions are read, one after the other, before each is copied to a room of its own size, or is
-/// lent the room itself.
+/// Room in which bodies and expressions are read, one after the other, before each is copied to a room of its own size.
 ///
 /// What it holds of one read is forgotten by the next; only its memory stays. A call that reads many bodies is given one of these and grows it once.
 #[derive(Drop)]
@@ -31,12 +28,7 @@ pub struct Scratch {
     pub(crate) tokens: Vec<Token>,
     pub(crate) labels: Vec<u32>,
     pub(crate) blocks: Vec<Opened>,
-    // whether what is read takes the room with it
-    lends: bool,
 }
-
-// The most tokens that room is made for before a body is read: 1 MiB.
-const MOST_AHEAD: usize = 1 << 16;
 
 // The token with another distance to its end.
 fn with_skip(token: Token, n: u32) -> Token
@@ -93,36 +85,7 @@ impl Scratch {
             tokens: Vec::new(alloc),
             labels: Vec::new(alloc),
             blocks: Vec::new(alloc),
-            lends: false,
         }
-    }
-
-    /// An empty room that goes with each body that is read in it, so that nothing is copied: for bodies that are looked at and
-    /// let go. [`take_back`](Scratch::take_back) gives it the memory back. It takes no memory yet; then at most 1 MiB before a body
-    /// is read. An expression that is read in it keeps the room.
-    pub fn lending(alloc: Global) -> Scratch {
-        Scratch {
-            lends: true,
-            ..Scratch::new(alloc)
-        }
-    }
-
-    /// Lets go of a body whose room was lent, and reads the next one in its room. Where the room is not one that lends, the body
-    /// is let go alone.
-    pub fn take_back(&mut self, body: Body) {
-        if self.lends {
-            (self.tokens, self.labels) = body.into_room();
-        }
-    }
-
-    // Makes room for a body of so many bytes, where it goes with the body: a token has one at least. So no room is grown, and left,
-    // step by step. For a long body it grows from there, as for one that is kept.
-    pub(crate) fn make_room(&mut self, bytes: usize) -> Result<(), OutOfMemory> {
-        if self.lends {
-            self.tokens.clear();
-            self.tokens.reserve_exact(bytes.min(MOST_AHEAD))?;
-        }
-        Ok(())
     }
 
     // Forgets what was read.
@@ -248,33 +211,12 @@ impl Scratch {
     }
 
     // A copy of the instructions that were put together, after their last end.
-    fn copied(&self, alloc: Global) -> Result<Expr, OutOfMemory>
+    pub(crate) fn copied(&self, alloc: Global) -> Result<Expr, OutOfMemory>
         requires { IsKept self.now.labels.items self.now.tokens.items }
         ensures { IfOk result (λ e. e ≡ tree_kept self.now.labels.items self.now.tokens.items) }
     {
         let tokens = Vec::from_slice(alloc, &self.tokens)?;
         let labels = Vec::from_slice(alloc, &self.labels)?;
         Ok(Expr::of(tokens, labels))
-    }
-
-    // The instructions that were put together, after their last end, in the room itself.
-    fn taken(&mut self, alloc: Global) -> Expr
-        requires { IsKept self.old.labels.items self.old.tokens.items }
-        ensures { result ≡ tree_kept self.old.labels.items self.old.tokens.items }
-    {
-        let tokens = mem::replace(&mut self.tokens, Vec::new(alloc));
-        let labels = mem::replace(&mut self.labels, Vec::new(alloc));
-        Expr::of(tokens, labels)
-    }
-
-    // The instructions that were put together, after their last end.
-    pub(crate) fn finished(&mut self, alloc: Global) -> Result<Expr, OutOfMemory>
-        requires { IsKept self.old.labels.items self.old.tokens.items }
-        ensures { IfOk result (λ e. e ≡ tree_kept self.old.labels.items self.old.tokens.items) }
-    {
-        if self.lends {
-            return Ok(self.taken(alloc));
-        }
-        self.copied(alloc)
     }
 }

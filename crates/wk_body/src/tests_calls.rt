@@ -124,24 +124,6 @@ fn appends(rt: HostRuntime) -> Result<(), Fail> {
 
 // One room for a body, a fault, an expression and a body again.
 #[test]
-fn lends_one_room(rt: HostRuntime) -> Result<(), Fail> {
-    let mut scratch = Scratch::lending(rt.alloc());
-    let long = [0x00, 0x0E, 0x01, 0x05, 0x06, 0x02, 0x40, 0x0B, 0x0B];
-    let first = scratch.read_body(rt.alloc(), &Cursor::new(&long), Profile::Core)?;
-    assert_eq!(rt; first.tokens().0.len(), 4);
-    assert_eq!(rt; first.tokens().1.len(), 1);
-    scratch.take_back(first);
-    let short = [0x00, 0x01, 0x0B];
-    let second = scratch.read_body(rt.alloc(), &Cursor::new(&short), Profile::Core)?;
-    assert_eq!(rt; second.tokens().0, [Token::Nop, Token::End].as_slice());
-    assert_eq!(rt; second.tokens().1.len(), 0);
-    let kept = Scratch::new(rt.alloc()).read_body(rt.alloc(), &Cursor::new(&short), Profile::Core)?;
-    scratch.take_back(kept);
-    assert_eq!(rt; second.tokens().0.len(), 2);
-    Ok(())
-}
-
-#[test]
 fn reads_in_one_room(rt: HostRuntime) -> Result<(), Fail> {
     let mut scratch = Scratch::new(rt.alloc());
     let long = [0x00, 0x0E, 0x01, 0x05, 0x06, 0x02, 0x40, 0x0B, 0x0B];

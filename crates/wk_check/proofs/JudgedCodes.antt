@@ -2,15 +2,16 @@
 use Rattle.std.proofs.Common.{◌≡◌, ℕ, zero, suc, ◌+◌, ◌<◌, ◌≤◌, ◌-◌, max, List, [], ◌∷◌, length, map, drop, get_or, add-one, eqb, cond, true, Result, Ok, Err, IfOk, Option, Some, None, ◌⊎◌, ◌≢◌, refl, sym, ap, subst, ◌∙◌, inl, inr, arith}
 use Rattle.std.proofs.lemmas.Bool.{cases_lt, lt-ltb, eq-eqb, ne_eqb, eqb-true}
 use Rattle.std.proofs.Math.Seq.{drop-cons}
-use Rattle.wk_bytes.specs.declared.fault.ReadKind.TheVariants.{LongInput, FuncCodeCount}
+use Rattle.wk_bytes.specs.declared.fault.ReadKind.TheVariants.{LongInput, FuncCodeCount, SectionSize}
 use Rattle.wk_bytes.specs.declared.fault.ReadFault.{ReadFault}
 use Rattle.wk_bytes.specs.Leb.{◌>>=◌}
 use Rattle.wk_bytes.specs.LebLaws.{bind_ok, chosen, done}
 use Rattle.wk_bytes.specs.SpanLaws.{ok_is}
-use Rattle.wk_bytes.specs.Span.{u32_at, name_at, fault}
+use Rattle.wk_bytes.specs.Span.{Span, u32_at, name_at, fault}
 use Rattle.wk_bytes.specs.Frames.{Section, MayCome, limit, header_at, sections_of}
 use Rattle.wk_body.specs.declared.types.Profile.{Profile}
 use Rattle.wk_body.specs.Bodies.{BodyOf}
+use Rattle.wk_body.specs.Reading.{all_body_at}
 use Rattle.wk_body.specs.Reads.{Reads}
 use Rattle.wk_body.specs.Vectors.{items_at}
 use Rattle.wk_module.specs.declared.types.DataSeg.{DataSeg}
@@ -18,7 +19,7 @@ use Rattle.wk_module.specs.declared.types.Func.{Func}
 use Rattle.wk_module.specs.declared.types.Parts.{Parts}
 use Rattle.wk_module.specs.declared.lists.Lists.{Lists}
 use Rattle.wk_module.specs.Listed.{listed}
-use Rattle.wk_module.specs.Formats.{taking_all, all_at}
+use Rattle.wk_module.specs.Formats.{bytes_at, taking_all, all_at}
 use Rattle.wk_module.specs.Items.{code_at}
 use Rattle.wk_module.specs.Reading.{section_end, zipped, module_at}
 use Rattle.wk_module.specs.Sections.{SectionLists, SectionId, DataSection, of_number, with_contents, no_lists, codes_at, contents_at}
@@ -28,7 +29,7 @@ use Rattle.wk_check.specs.declared.fault.Flaw.{Flaw}
 use Rattle.wk_check.specs.declared.fault.Fault.{Fault}
 use Rattle.wk_check.specs.declared.fault.Verdict.{Verdict}
 use Rattle.wk_check.specs.Items.{earlier}
-use Rattle.wk_check.specs.Spelled.{judged, IsVerdictOf, func_flaw, first_of, codes_judged}
+use Rattle.wk_check.specs.Spelled.{judged, IsVerdictOf, func_flaw, first_of, fault_read, codes_judged}
 use Rattle.wk_check.specs.Verdict.{verdict_around, module_verdict, IsVerdict}
 use Rattle.wk_check.specs.Whole.{AreNumbered}
 use Rattle.wk_check.specs.WholeLaws.{are_numbered}
@@ -84,6 +85,32 @@ pub body_step : (profile : Profile) (l w : SectionLists) (types : List ℕ) (bef
 body_step profile l w types before next item t end end_now bytes after body whole here is read end_is lists_are next_is so_far =
     rw (end_is, next_is, lists_are) (sym (body_judged profile l types before item t end bytes after body here is read) ∙ so_far)
 
+code_by : (profile : Profile) (end : ℕ) (bytes after : List ℕ) (code : Span) (body : BodyOf) → bytes_at end bytes ≡ Ok (code.rest, after) → code.end ≡ end - length after → all_body_at profile code.end code.rest ≡ Ok body → code_at profile end bytes ≡ Ok (body, after)
+unfolding code_at
+code_by profile end bytes after code body taken place read = rw (taken, ← place, read) refl
+
+-- a code that is taken by its size and read, to the next fault or none
+pub code_is_read : (profile : Profile) (l : SectionLists) (before next : Option Fault) (item ty end : ℕ) (bytes after : List ℕ) (code : Span) → bytes_at end bytes ≡ Ok (code.rest, after) → code.end ≡ end - length after
+    → fault_read profile l before item ty code ≡ Ok next → (body : BodyOf) × (code_at profile end bytes ≡ Ok (body, after)) × (next ≡ earlier before (first_of l item (record { ty = ty; body = body } ∷ [])))
+code_is_read profile l before next item ty end bytes after code taken place read =
+    let a = bind_ok (all_body_at profile code.end code.rest) (λ body. done (earlier before (first_of l item (record { ty = ty; body = body } ∷ [])))) next read in
+    (a.0, code_by profile end bytes after code a.0 taken place a.1, sym (ok_is _ _ a.2))
+
+-- a code that cannot be taken
+pub code_not_taken : (profile : Profile) (end : ℕ) (bytes : List ℕ) (e : ReadFault) → bytes_at end bytes ≡ Err e → code_at profile end bytes ≡ Err e
+unfolding code_at
+code_not_taken profile end bytes e bad = rw bad refl
+
+unread : (l : SectionLists) (before : Option Fault) (item ty : ℕ) (e : ReadFault) (r : Result BodyOf ReadFault) → (r >>= λ body. Ok (earlier before (first_of l item (record { ty = ty; body = body } ∷ [])))) ≡ Err e → r ≡ Err e
+unread l before item ty e (Ok body) h = absurd cc
+unread l before item ty e (Err d) h = cc
+
+-- and one that is no body
+pub code_not_read : (profile : Profile) (l : SectionLists) (before : Option Fault) (item ty end : ℕ) (bytes after : List ℕ) (code : Span) (e : ReadFault) → bytes_at end bytes ≡ Ok (code.rest, after) → code.end ≡ end - length after
+    → fault_read profile l before item ty code ≡ Err e → code_at profile end bytes ≡ Err e
+unfolding code_at
+code_not_read profile l before item ty end bytes after code e taken place bad = rw (taken, ← place, unread l before item ty e (all_body_at profile code.end code.rest) bad) refl
+
 stopped : (l : SectionLists) (types : List ℕ) (whole : Result (List BodyOf × List ℕ) ReadFault) (e : ReadFault) → Err e ≡ all_judged l types whole → whole ≡ Err e
 stopped l types (Ok x) e h = absurd cc
 stopped l types (Err d) e h = cc
@@ -117,6 +144,19 @@ pub section_judged : (profile : Profile) (l : SectionLists) (types : List ℕ) (
 section_judged profile l types s before item end bytes le none so_far =
     let count : length types - item ≡ 0 = omega arith in
     finished l types (section_end s) before (codes_at profile (length types) (section_end s) s.contents) (rw (count, none, zipped_none, earlier_none) at so_far)
+
+left_over : (l : SectionLists) (types : List ℕ) (end : ℕ) (before : Option Fault) (rest : List ℕ) (whole : Result (List BodyOf × List ℕ) ReadFault) → answered before rest ≡ all_judged l types whole → rest ≢ []
+    → (whole >>= taking_all end >>= λ bodies. Ok (first_of l 0 (zipped types bodies))) ≡ Err (fault SectionSize end rest)
+left_over l types end before rest (Ok (bodies, [])) h some = absurd (some (ap (λ (y : Option Fault × List ℕ). y.1) (ok_is _ _ h)))
+left_over l types end before rest (Ok (bodies, x ∷ more)) h some = ap (λ (y : List ℕ). Err (fault SectionSize end y)) (sym (ap (λ (y : Option Fault × List ℕ). y.1) (ok_is _ _ h)))
+left_over l types end before rest (Err e) h some = absurd cc
+
+-- or the section goes on behind them
+pub section_goes_on : (profile : Profile) (l : SectionLists) (types : List ℕ) (s : Section) (before : Option Fault) (item end : ℕ) (bytes : List ℕ) → length types ≤ item → bytes ≢ [] → end ≡ section_end s
+    → rest_judged profile l (drop item types) before item (length types - item) end bytes ≡ all_judged l types (codes_at profile (length types) (section_end s) s.contents) → codes_judged profile l types s ≡ Err (fault SectionSize end bytes)
+section_goes_on profile l types s before item end bytes le some same so_far =
+    let count : length types - item ≡ 0 = omega arith in
+    rw same (left_over l types (section_end s) before bytes (codes_at profile (length types) (section_end s) s.contents) (rw (count, zipped_none, earlier_none) at so_far) some)
 
 err_ok : (q : SectionLists) (e : ReadFault) → (Err e ≡ done q) → ⊥
 err_ok q e is = absurd cc

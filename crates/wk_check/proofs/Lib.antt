@@ -1,6 +1,7 @@
 pub mod Alignment
 pub mod Binds
 pub mod Bodies
+pub mod Completing
 pub mod Constants
 pub mod Cuts
 pub mod Fits
@@ -15,3 +16,4 @@ pub mod Popping
 pub mod Runs
 pub mod Sound
 pub mod Stacked
+pub mod Streamed

@@ -14,6 +14,7 @@ pub mod Own
 pub mod Slots
 pub mod Spaces
 pub mod Spelled
+pub mod Streaming
 pub mod Tests
 pub mod Typing
 pub mod Verdict

@@ -1,9 +1,11 @@
 -- The verdict of the module that bytes spell, and of bodies that are judged while they are read.
-use Rattle.std.specs.Prelude.{ℕ, Option, List, length, Result, Ok, Err}
+use Rattle.std.specs.Prelude.{ℕ, Option, List, [], ◌∷◌, length, Result, Ok, Err}
 use Rattle.wk_bytes.specs.declared.fault.ReadFault.{ReadFault}
 use Rattle.wk_bytes.specs.Leb.{◌>>=◌}
+use Rattle.wk_bytes.specs.Span.{Span}
 use Rattle.wk_bytes.specs.Frames.{Section}
 use Rattle.wk_body.specs.declared.types.Profile.{Profile}
+use Rattle.wk_body.specs.Reading.{all_body_at}
 use Rattle.wk_module.specs.declared.types.Func.{Func}
 use Rattle.wk_module.specs.declared.types.Parts.{Parts}
 use Rattle.wk_module.specs.Formats.{all_at}
@@ -13,7 +15,7 @@ use Rattle.wk_check.specs.declared.fault.Flaw.{Flaw}
 use Rattle.wk_check.specs.declared.fault.Fault.{Fault}
 use Rattle.wk_check.specs.declared.fault.Verdict.{Verdict}
 use Rattle.wk_check.specs.Flaws.{numbered, first_in}
-use Rattle.wk_check.specs.Items.{body_flaw}
+use Rattle.wk_check.specs.Items.{earlier, body_flaw}
 use Rattle.wk_check.specs.Spaces.{answer_in, spaces_of}
 use Rattle.wk_check.specs.Typing.{body_verdict}
 use Rattle.wk_check.specs.Verdict.{module_verdict, IsVerdict}
@@ -35,6 +37,12 @@ func_flaw l f = body_flaw (body_verdict (answer_in (spaces_of l)) f.ty f.body)
 -- the first fault of the functions of these types and bodies, from an index on
 abbrev pub first_of : SectionLists → ℕ → List Func → Option Fault
 first_of l item funcs = first_in 10 item (numbered (λ at f. func_flaw l f) item funcs)
+
+-- The first fault of the functions up to one of this type whose code is all of the bytes, where that of those before it is given;
+-- or the fault of reading it.
+abbrev pub fault_read : Profile → SectionLists → Option Fault → ℕ → ℕ → Span → Result (Option Fault) ReadFault
+fault_read profile l before item ty code =
+    all_body_at profile code.end code.rest >>= λ body. Ok (earlier before (first_of l item (record { ty = ty; body = body } ∷ [])))
 
 -- The first fault of a code section, where functions of these types were declared; or the fault of reading it.
 abbrev pub codes_judged : Profile → SectionLists → List ℕ → Section → Result (Option Fault) ReadFault

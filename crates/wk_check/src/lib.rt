@@ -19,6 +19,7 @@ mod rules;
 mod spelled;
 mod step;
 mod stop;
+mod streaming;
 mod typing;
 mod whole;
 
@@ -54,3 +55,5 @@ mod tests_references;
 mod tests_sections;
 #[cfg(test)]
 mod tests_spelled;
+#[cfg(test)]
+mod tests_streaming;

@@ -9,20 +9,38 @@ ghost use Rattle.wk_module.specs.ListReading.{IsReading, Rise, lists_read};
 ghost use Rattle.wk_module.specs.Reading.{module_at};
 ghost use Rattle.wk_module.specs.Sections.{no_lists};
 ghost use Rattle.wk_check.specs.Items.{earlier};
-ghost use Rattle.wk_check.specs.Spelled.{judged, IsVerdictOf, first_of, codes_judged};
+ghost use Rattle.wk_check.specs.Spelled.{judged, IsVerdictOf, first_of, fault_read, codes_judged};
 
 use crate::fault::{Fault, Verdict};
 use crate::judging::judge_around;
 use crate::rule::Rule;
 use crate::rules::CodeRule;
+use crate::streaming::{StreamRoom, is_valid_body};
 use crate::typing::Room;
 use crate::whole::Whole;
 use std::alloc::Global;
-use wk_bytes::{OutOfMemory, RawSection, ReadFault, ReadKind};
+use wk_bytes::{Cursor, OutOfMemory, RawSection, ReadFault, ReadKind};
 use wk_module::{CodeReader, Func, Lists, Profile, Scratch, SectionReader, reading_of_module};
 
+// A function whose code is still to be read.
+#[derive(Drop)]
+struct Unread<'a> {
+    index: u32,
+    ty: u32,
+    profile: Profile,
+    code: Cursor<'a>,
+}
+
+// The room in which functions are judged.
+#[derive(Drop)]
+struct Rooms {
+    stream: StreamRoom,
+    scratch: Scratch,
+    room: Room,
+}
+
 // The first fault of the functions up to this one, where that of those before it is given.
-fn fault_up_to(
+fn fault_behind(
     rule: &CodeRule<'_>,
     fault: Option<Fault>,
     index: u32,
@@ -40,6 +58,31 @@ fn fault_up_to(
     }
 }
 
+// The same of a function whose code is still to be read. Where no fault is known it is typed while it is read, and where that finds
+// it valid, this is all. Else it is read as a whole, to tell its fault or that it can't be read.
+fn fault_up_to(
+    alloc: Global,
+    rule: &CodeRule<'_>,
+    fault: Option<Fault>,
+    func: &Unread<'_>,
+    rooms: &mut Rooms,
+) -> Result<Option<Fault>, ReadFault>
+    ensures { Reads (λ r. r) result (fault_read func.now.profile rule.now.whole.now fault func.now.index func.now.ty func.now.code) }
+{
+    let Unread {
+        index,
+        ty,
+        profile,
+        code,
+    } = func;
+    if fault.is_none() && is_valid_body(rule.whole, *ty, *profile, code, &mut rooms.stream)? {
+        return Ok(None);
+    }
+    let body = rooms.scratch.read_body(alloc, code, *profile)?;
+    let read = Func { ty: *ty, body };
+    Ok(fault_behind(rule, fault, *index, &read, &mut rooms.room)?)
+}
+
 // The first fault of a code section in a module with these lists, each body judged when it is read.
 fn fault_of_section(
     alloc: Global,
@@ -51,15 +94,20 @@ fn fault_of_section(
     let mut codes = CodeReader::open(section, lists.funcs.len())?;
     let whole = Whole::of(alloc, *lists)?;
     let rule = CodeRule { whole: &whole };
-    let mut scratch = Scratch::lending(alloc);
-    let mut room = Room::new(alloc);
+    let mut rooms = Rooms {
+        stream: StreamRoom::new(alloc),
+        scratch: Scratch::new(alloc),
+        room: Room::new(alloc),
+    };
     let mut fault = None;
     for (index, ty) in lists.funcs.iter().enumerate() {
-        let body = codes.next(alloc, &mut scratch, lists.profile)?;
-        let func = Func { ty: *ty, body };
-        fault = fault_up_to(&rule, fault, index as u32, &func, &mut room)?;
-        let Func { body, .. } = func;
-        scratch.take_back(body);
+        let func = Unread {
+            index: index as u32,
+            ty: *ty,
+            profile: lists.profile,
+            code: codes.next_code()?,
+        };
+        fault = fault_up_to(alloc, &rule, fault, &func, &mut rooms)?;
     }
     codes.end()?;
     Ok(fault)
@@ -109,9 +157,9 @@ fn judge_without_code(
 /// Judges the module of a profile that bytes spell (5.5.15, 3.4.10): valid, or the first fault by section, item, and what is
 /// looked at.
 ///
-/// The verdict is that of the module that [`read_in`](wk_module::read_in) reads of these bytes. Each body is judged when it is
-/// read and then let go, so that the memory taken is that of the module without its bodies and custom sections, and the room of
-/// the largest body or 1 MiB.
+/// The verdict is that of the module that [`read_in`](wk_module::read_in) reads of these bytes. Each body is typed while it
+/// is read, so that the memory taken is that of the module without its bodies and custom sections, and of the blocks and operands of
+/// one body. A body that is invalid, and those behind it, are held whole, one at a time.
 ///
 /// # Errors
 ///

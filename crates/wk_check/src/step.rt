@@ -6,7 +6,7 @@ ghost use Rattle.wk_body.specs.Numeric.{numeric_type};
 ghost use Rattle.wk_body.specs.MemoryOps.{memory_width};
 ghost use Rattle.wk_body.specs.declared.references.Ref.{Ref};
 ghost use Rattle.wk_body.specs.declared.types.ValType.TheVariants.{I32};
-ghost use Rattle.wk_check.specs.Effects.{Takes, local_type, local_get, local_set, local_tee, global_get, global_set, with_memory, access_effect, numeric_effect, after_effect};
+ghost use Rattle.wk_check.specs.Effects.{Takes, Selects, local_type, local_get, local_set, local_tee, global_get, global_set, with_memory, access_effect, numeric_effect, after_effect};
 ghost use Rattle.wk_check.specs.Levels.{step, entering, halved};
 ghost use Rattle.wk_check.specs.Locals.{is_over};
 ghost use Rattle.wk_check.specs.Moves.{Steps, acting, on_top};
@@ -167,6 +167,15 @@ fn otherwise<E: Env>(env: &E, m: &mut Machine) -> Result<(), Stop>
     Ok(())
 }
 
+// A `select`, with a place of its own as well.
+#[inline(always)]
+fn choose(m: &mut Machine) -> Result<(), Stop>
+    ensures { Steps (on_top (after_effect Selects) m.old) result m.new }
+{
+    select(m)?;
+    Ok(())
+}
+
 // A numeric instruction.
 #[inline(always)]
 fn numeric(m: &mut Machine, op: NumericOp) -> Result<(), Stop>
@@ -214,7 +223,7 @@ pub(crate) fn type_token<E: Env>(
         Token::Call(x) => call(env, m, *x),
         Token::CallIndirect(x) => call_indirect(env, m, *x),
         Token::Drop => drop_top(m),
-        Token::Select => select(m),
+        Token::Select => choose(m),
         Token::LocalGet(x) => get_local(&f.locals, m, *x),
         Token::LocalSet(x) => set_local(&f.locals, m, *x),
         Token::LocalTee(x) => tee_local(&f.locals, m, *x),

@@ -7,8 +7,8 @@ use std::test::Fail;
 use wk_bytes::ReadKind;
 use wk_module::Profile;
 
-// The verdict on these bytes, which spell a module, is valid, or this first fault.
-fn tells(
+/// The verdict on these bytes, which spell a module, is valid, or this first fault.
+pub(crate) fn tells(
     rt: &impl Abort,
     alloc: Global,
     bytes: &[u8],
@@ -33,8 +33,8 @@ fn item(section: u8, item: u32) -> Place {
     }
 }
 
-// A token of an item.
-fn token(section: u8, item: u32, token: u32) -> Place {
+/// A token of an item.
+pub(crate) fn token(section: u8, item: u32, token: u32) -> Place {
     Place {
         section,
         item,

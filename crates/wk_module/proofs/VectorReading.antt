@@ -6,17 +6,12 @@ use Rattle.wk_bytes.specs.declared.fault.ReadKind.TheVariants.{LongInput}
 use Rattle.wk_bytes.specs.declared.fault.ReadFault.{ReadFault}
 use Rattle.wk_bytes.specs.Leb.{◌>>=◌}
 use Rattle.wk_bytes.specs.LebLaws.{done}
-use Rattle.wk_bytes.specs.Span.{Span, u32_at, piece_at}
 use Rattle.wk_bytes.specs.Frames.{limit, header_at, sections_of}
 use Rattle.wk_body.specs.declared.types.Profile.{Profile}
 use Rattle.wk_body.specs.Bodies.{BodyOf}
-use Rattle.wk_body.specs.Reading.{all_body_at}
-use Rattle.wk_body.specs.Reads.{Parses, Reads}
-use Rattle.wk_body.specs.ReadsLaws.{fails_on}
 use Rattle.wk_body.specs.Vectors.{items_at}
 use Rattle.wk_module.specs.declared.types.Func.{Func}
-use Rattle.wk_module.specs.Formats.{Reader, bytes_at, all_at}
-use Rattle.wk_module.specs.Items.{code_at}
+use Rattle.wk_module.specs.Formats.{Reader, all_at}
 use Rattle.wk_module.specs.Reading.{Progress, sections_read, zipped}
 
 -- what was read before, and what is still read
@@ -83,13 +78,3 @@ pub zipped_more : (types : List ℕ) (bodies : List BodyOf) (place : ℕ) (body 
 zipped_more [] bodies place body lt is = absurd (omega arith)
 zipped_more (t ∷ types) [] place body lt is = rw is (ap (λ fs. function t body ∷ fs) (zipped_none types))
 zipped_more (t ∷ types) (b ∷ bodies) place body lt is = rw is (ap (λ fs. function t b ∷ fs) (zipped_more types bodies (length bodies) body (omega arith) refl))
-
--- ---- codes
-
--- a size, and a body that takes as many bytes
-pub code_parses : (profile : Profile) (old new : Span) (size at : ℕ) (after code : List ℕ) (r : Result BodyOf ReadFault) → u32_at old.end old.rest ≡ Ok (size, after) → piece_at size old.end after ≡ Ok (code, new.rest)
-    → new.end ≡ old.end → at ≡ old.end - length new.rest → Reads (λ b. b) r (all_body_at profile at code) → Parses (λ b. b) (code_at profile) old r new
-unfolding code_at bytes_at
-code_parses profile old new size at after code (Ok body) sized taken same is reads = (rw (sized, taken, ← is, reads) refl, same)
-code_parses profile old new size at after code (Err e) sized taken same is reads =
-    fails_on e e.kind (all_body_at profile at code) (code_at profile old.end old.rest) (λ bad. rw (sized, taken, ← is, bad) refl) reads

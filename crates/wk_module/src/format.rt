@@ -27,7 +27,7 @@ pub(crate) struct Exports;
 /// Element segments (5.5.12).
 pub(crate) struct Elems;
 
-/// Codes (5.5.13), of bodies where they are read and of functions where they are written.
+/// Codes (5.5.13), of functions.
 pub(crate) struct Codes;
 
 /// The type indices of functions (5.5.6).

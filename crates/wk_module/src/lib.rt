@@ -26,10 +26,10 @@ pub use types::{
 };
 pub use wk_body::{
     BlockKind, BlockType, Body, EncodeFault, Expr, LocalGroup, MAX_DEPTH, MemoryOp, Moving,
-    NumericOp, NumericType, Profile, Ref, Scratch, ShiftFault, Token, ValType, append_body,
-    append_expr, body_len, encode_body, encode_expr, expr_len, next_expr, next_expr_in,
-    one_spelling_of_code, read_body, read_body_in, read_expr, read_expr_in, reading_of_code, refs,
-    shift, shift_expr, uses, written_form_of_code,
+    NumericOp, NumericType, Profile, Ref, Scratch, ShiftFault, Token, TokenReader, ValType,
+    append_body, append_expr, body_len, encode_body, encode_expr, expr_len, next_expr,
+    next_expr_in, next_groups, one_spelling_of_code, read_body, read_body_in, read_expr,
+    read_expr_in, reading_of_code, refs, shift, shift_expr, uses, written_form_of_code,
 };
 pub use writer::{encode, encode_custom, encode_section};
 

@@ -5,17 +5,17 @@ ghost use Rattle.wk_bytes.specs.Span.{u32_at};
 ghost use Rattle.wk_body.specs.ValTypes.{valtype_at};
 ghost use Rattle.wk_module.specs.Formats.{coded_at};
 ghost use Rattle.wk_module.specs.Types.{flag_of, kind_of, limits_at, tabletype_at, globaltype_at, functype_at};
-ghost use Rattle.wk_module.specs.Items.{desc_at, import_at, global_at, export_at, elem_at, code_at, data_at};
+ghost use Rattle.wk_module.specs.Items.{desc_at, import_at, global_at, export_at, elem_at, data_at};
 
 use crate::format::{
-    Codes, Datas, Elems, Exports, FuncTypes, Globals, Imports, Indices, Memories, Tables, ValTypes,
+    Datas, Elems, Exports, FuncTypes, Globals, Imports, Indices, Memories, Tables, ValTypes,
 };
 use crate::reading::{Readable, read_bytes, read_name, read_this, read_vector};
 use crate::types::{
     DataSeg, Elem, Export, FuncType, GlobalDef, GlobalType, Import, ImportDesc, Kind, Limits,
 };
 use std::alloc::Global;
-use wk_body::{Body, Profile, Scratch, ValType};
+use wk_body::{Profile, Scratch, ValType};
 use wk_bytes::{Cursor, Items, ReadFault, ReadKind};
 
 // A value type.
@@ -253,25 +253,6 @@ impl Readable for Elems {
             offset,
             funcs,
         })
-    }
-}
-
-impl Readable for Codes {
-    type Item = Body;
-
-    ghost read_at = { code_at };
-
-    #[tactic(auto, unfolding(crate::specs::Items::code_at, crate::specs::Formats::bytes_at))]
-    fn read(
-        alloc: Global,
-        scratch: &mut Scratch,
-        profile: Profile,
-        cursor: &mut Cursor<'_>,
-    ) -> Result<Body, ReadFault> {
-        let size = cursor.u32()?;
-        let at = cursor.at();
-        let code = cursor.take(size)?;
-        scratch.read_body(alloc, &Cursor::within(code, at), profile)
     }
 }
 

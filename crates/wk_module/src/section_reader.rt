@@ -1,18 +1,18 @@
 //! Reading the lists of a module section by section, where its bodies are the caller's to read and its custom sections are let go.
 
-ghost use Rattle.std.specs.Prelude.{◌≡◌, ◌≢◌, ◌<◌, ◌^◌, [], Ok, Err, IfOk, MatchResult};
+ghost use Rattle.std.specs.Prelude.{◌≡◌, ◌≢◌, ◌<◌, ◌-◌, ◌^◌, [], length, Ok, Err, IfOk, OnOk, IfErr, MatchResult};
 ghost use Rattle.wk_bytes.specs.Frames.{sections_of};
 ghost use Rattle.wk_bytes.specs.Raw.{raw_view};
 ghost use Rattle.wk_bytes.specs.Span.{fault};
 ghost use Rattle.wk_body.specs.Reads.{FailsAs, Parses, Reads};
 ghost use Rattle.wk_body.specs.Vectors.{items_at};
+ghost use Rattle.wk_module.specs.Formats.{bytes_at};
 ghost use Rattle.wk_module.specs.Items.{code_at};
 ghost use Rattle.wk_module.specs.Listed.{listed};
 ghost use Rattle.wk_module.specs.ListReading.{GoesTo, front_of, front_read, opened_at, rest_read, with_listed};
 ghost use Rattle.wk_module.specs.Reading.{section_end};
 ghost use Rattle.wk_module.specs.Sections.{codes_at, no_lists};
 
-use crate::format::Codes;
 use crate::lists::Lists;
 use crate::reader::SoFar;
 use crate::reading::{Readable, at_end};
@@ -214,12 +214,34 @@ impl<'a> CodeReader<'a> {
         Ok(CodeReader { cursor })
     }
 
+    /// Takes the bytes of the next code, behind its size. The offsets of faults in them are those of the whole input.
+    ///
+    /// # Errors
+    ///
+    /// `UnexpectedEnd`, `IntTooLong` or `IntTooLarge` where its size is spelled badly; `UnexpectedEnd` at the code where there are
+    /// fewer bytes. After a refusal the reader stands anywhere in the section.
+    #[tactic(auto, unfolding(crate::specs::Formats::bytes_at))]
+    pub fn next_code(&mut self) -> Result<Cursor<'a>, ReadFault>
+        ensures exact { MatchResult result
+            (λ code. bytes_at self.old.end self.old.rest ≡ Ok (code.rest, self.new.rest))
+            (λ e. bytes_at self.old.end self.old.rest ≡ Err e) }
+        ensures fault { IfErr result (λ e. FailsAs e e.kind (bytes_at self.old.end self.old.rest)) }
+        ensures place { IfOk result (λ code. code.end ≡ self.old.end - length self.new.rest) }
+        ensures end { OnOk result (self.new.end ≡ self.old.end) }
+    {
+        let size = self.cursor.u32()?;
+        let at = self.cursor.at();
+        let code = self.cursor.take(size)?;
+        Ok(Cursor::within(code, at))
+    }
+
     /// Reads the next code, of a profile.
     ///
     /// # Errors
     ///
     /// Its first fault, at its offset in the whole input, or `Memory` at 0 where a growth was refused. After a refusal the reader
     /// stands anywhere in the section.
+    #[tactic(auto, unfolding(crate::specs::Items::code_at))]
     pub fn next(
         &mut self,
         alloc: Global,
@@ -228,7 +250,8 @@ impl<'a> CodeReader<'a> {
     ) -> Result<Body, ReadFault>
         ensures { Parses (λ b. b) (code_at profile) self.old result self.new }
     {
-        Codes::read(alloc, scratch, profile, &mut self.cursor)
+        let code = self.next_code()?;
+        scratch.read_body(alloc, &code, profile)
     }
 
     /// The section ends here.

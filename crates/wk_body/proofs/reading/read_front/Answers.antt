@@ -18,8 +18,8 @@ returns-in_err-token_of c =
     let p = err_from_is_err_and c.from_residual.result c.from_residual.ensures.1 in
     record { exact = rw (p.1, p.2) (fails c.args.profile c.args.cursor.now c.loop-ahead.scratch c.loop-ahead.ahead c.in_err-token_of.field-0.0 c.in_err-token_of.ensures c.loop-ahead.invariant) }
 
-pub finished-requires : goal.finished-requires
-finished-requires c =
+pub copied-requires : goal.copied-requires
+copied-requires c =
     let r = subst (λ (last : Bool). Next c.args.profile last c.loop-ahead.scratch c.loop-ahead.ahead c.token_of.new.scratch c.token_of.new.cursor) c.if-branch.true c.in_ok-token_of.ensures in
     let fits : IsBytes c.args.cursor.now.rest = subst IsBytes c.rest.ensures c.are_bytes.ensures in
     keeps c.args.profile c.args.cursor.now c.loop-ahead.scratch c.token_of.new.scratch c.loop-ahead.ahead c.token_of.new.cursor fits (omega (arith, c.at-at.ensures.end, c.at-at.ensures.small)) r c.loop-ahead.invariant
@@ -27,7 +27,7 @@ finished-requires c =
 pub returns-then-branch : goal.returns-then-branch
 returns-then-branch c =
     let r = subst (λ (last : Bool). Next c.args.profile last c.loop-ahead.scratch c.loop-ahead.ahead c.token_of.new.scratch c.token_of.new.cursor) c.if-branch.true c.in_ok-token_of.ensures in
-    record { exact = rw c.in_ok-finished.ensures (ends c.args.profile c.args.cursor.now c.loop-ahead.scratch c.token_of.new.scratch c.loop-ahead.ahead c.token_of.new.cursor r c.loop-ahead.invariant) }
+    record { exact = rw c.in_ok-copied.ensures (ends c.args.profile c.args.cursor.now c.loop-ahead.scratch c.token_of.new.scratch c.loop-ahead.ahead c.token_of.new.cursor r c.loop-ahead.invariant) }
 
 pub loop-ahead-smaller : goal.loop-ahead-smaller
 loop-ahead-smaller c = shorter c.args.profile c.loop-ahead.scratch c.token_of.new.scratch c.loop-ahead.ahead c.token_of.new.cursor c.in_ok-token_of.field-0 c.in_ok-token_of.ensures

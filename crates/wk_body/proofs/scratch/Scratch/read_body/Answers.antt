@@ -7,7 +7,7 @@ use Rattle.wk_body.proofs.scratch.Scratch.read_body.Goals as goal
 
 pub returns-in_err-body-clause-only : goal.returns-in_err-body-clause-only
 returns-in_err-body-clause-only c =
-    let p = err_from_is_err_and c.from_residual-in_err-body.result c.from_residual-in_err-body.ensures.1 in
+    let p = err_from_is_err_and c.from_residual.result c.from_residual.ensures.1 in
     let old = c.args.cursor.now in
     let e = c.in_err-body.field-0.0 in
     let fits : IsBytes old.rest = rw (← c.rest.ensures) c.are_bytes.ensures in
@@ -16,7 +16,7 @@ returns-in_err-body-clause-only c =
 
 pub returns-in_err-body-clause-fault : goal.returns-in_err-body-clause-fault
 returns-in_err-body-clause-fault c =
-    let p = err_from_is_err_and c.from_residual-in_err-body.result c.from_residual-in_err-body.ensures.1 in
+    let p = err_from_is_err_and c.from_residual.result c.from_residual.ensures.1 in
     let old = c.args.cursor.now in
     let e = c.in_err-body.field-0.0 in
     rw (p.1, p.2) (body_stands c.args.profile old (Err e) c.ahead-ahead.ensures.fits (body_refused c.args.profile old c.ahead-ahead.result e c.ahead-ahead.ensures.same c.in_err-body.ensures))

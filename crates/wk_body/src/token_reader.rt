@@ -1,0 +1,268 @@
+//! Tokens that are read one by one, and not kept.
+
+ghost use Rattle.std.specs.Prelude.{◌≡◌, ◌++◌, ◌∷◌, [], length, Ok, Err, if◌then◌else◌, IfOk, IfErr, OnOk, MatchResult};
+ghost use Rattle.wk_bytes.specs.declared.fault.ReadKind.TheVariants.{UnknownOpcode, TooDeep};
+ghost use Rattle.wk_bytes.specs.declared.fault.ReadFault.{ReadFault};
+ghost use Rattle.wk_bytes.specs.Fault.{no_memory};
+ghost use Rattle.wk_bytes.specs.Span.{u32_at};
+ghost use Rattle.wk_body.specs.declared.types.Profile.{Profile};
+ghost use Rattle.wk_body.specs.Vectors.{items_at};
+ghost use Rattle.wk_body.specs.Bodies.{AreGroups};
+ghost use Rattle.wk_body.specs.Reads.{FailsAs, Parses};
+ghost use Rattle.wk_body.specs.Reading.{type_here, plain_at, tok_at, behind_at, token_at, may_else};
+ghost use Rattle.wk_body.specs.Kept.{told, IsWithin};
+ghost use Rattle.wk_body.specs.TokenReading.{NextRead, local_groups_at};
+ghost use Rattle.wk_body.specs.TokenSteps.{IsNext, Opens, Closes, StartsElse};
+
+use crate::reader::groups_of;
+use crate::reading::{MAX_DEPTH, are_bytes, block_type, simple_of};
+use crate::token::Token;
+use crate::types::{BlockType, LocalGroup, Profile};
+use std::alloc::Global;
+use std::marker::Model;
+use wk_bytes::{Cursor, ReadFault, ReadKind};
+
+/// Reads the tokens of expressions one after the other (5.4), for whoever looks at each of them once: nothing is kept but which
+/// blocks are open, and the labels of the last `br_table`.
+///
+/// One reader is used for many expressions, each after a call of [`begin`](TokenReader::begin), and grows once.
+#[derive(Drop)]
+pub struct TokenReader {
+    // of each open block, the innermost last, whether an `else` may still come
+    blocks: Vec<bool>,
+    labels: Vec<u32>,
+}
+
+impl Model for TokenReader {
+    ghost use Rattle.std.specs.Prelude.{reverse};
+    ghost use Rattle.wk_body.specs.TokenReading.{TokenReading};
+
+    ghost Value = { TokenReading };
+
+    ghost view = { λ r. record { kinds = reverse r.blocks.items; labels = r.labels.items } };
+}
+
+// A label at the end of the others. It stands apart, so that no cursor has to lie in memory for it.
+#[inline(never)]
+fn push_label(labels: &mut Vec<u32>, label: u32) -> Result<(), ReadFault>
+    ensures items { OnOk result (labels.new.items ≡ labels.old.items ++ label ∷ []) }
+    ensures fault { IfErr result (λ e. e ≡ no_memory) }
+{
+    labels.push(label)?;
+    Ok(())
+}
+
+// So many labels, in an empty room. No room is made for a count.
+#[inline(always)]
+fn labels_into(labels: &mut Vec<u32>, len: u32, cursor: &mut Cursor<'_>) -> Result<(), ReadFault>
+    requires { labels.old.items ≡ [] }
+    ensures { MatchResult result
+        (λ _. (items_at u32_at len cursor.old.end cursor.old.rest ≡ Ok (labels.new.items, cursor.new.rest)) × (cursor.new.end ≡ cursor.old.end))
+        (λ e. FailsAs e e.kind (items_at u32_at len cursor.old.end cursor.old.rest)) }
+{
+    for _ in 0..len {
+        let label = cursor.u32()?;
+        push_label(labels, label)?;
+    }
+    Ok(())
+}
+
+impl TokenReader {
+    /// A reader, in which no block is open. It takes no memory yet.
+    pub fn new(alloc: Global) -> TokenReader
+        ensures { result.kinds ≡ [] }
+    {
+        TokenReader {
+            blocks: Vec::new(alloc),
+            labels: Vec::new(alloc),
+        }
+    }
+
+    /// Begins an expression: no block is open.
+    pub fn begin(&mut self)
+        ensures { self.new.kinds ≡ [] }
+    {
+        self.blocks.clear();
+        self.labels.clear();
+    }
+
+    /// The labels of a `br_table` that was read last: those of its token lie in them, as in the pool of a body.
+    #[inline(always)]
+    pub fn labels(&self) -> &[u32]
+        ensures { result.now ≡ self.now.labels }
+    {
+        &self.labels
+    }
+
+    // The type of a block that opens here, behind its opcode, which stands at `at`.
+    #[tactic(auto, unfolding(crate::specs::Reading::type_here))]
+    #[inline(always)]
+    fn opening(
+        &self,
+        profile: Profile,
+        at: u32,
+        cursor: &mut Cursor<'_>,
+    ) -> Result<BlockType, ReadFault>
+        ensures { Parses (λ x. x) (type_here profile self.now.kinds (record { kind = TooDeep; at = at })) cursor.old result cursor.new }
+    {
+        if self.blocks.len() < MAX_DEPTH {
+            block_type(profile, cursor)
+        } else {
+            Err(ReadFault {
+                kind: ReadKind::TooDeep,
+                at,
+            })
+        }
+    }
+
+    // A block opens.
+    #[inline(always)]
+    fn open(&mut self, is_if: bool) -> Result<(), ReadFault>
+        ensures opened { OnOk result (Opens is_if self.old self.new) }
+        ensures fault { IfErr result (λ e. e ≡ no_memory) }
+    {
+        if self.blocks.len() < self.blocks.capacity() {
+            self.blocks.push_reserved(is_if);
+            return Ok(());
+        }
+        self.open_growing(is_if)?;
+        Ok(())
+    }
+
+    #[cold]
+    #[inline(never)]
+    fn open_growing(&mut self, is_if: bool) -> Result<(), ReadFault>
+        ensures opened { OnOk result (Opens is_if self.old self.new) }
+        ensures fault { IfErr result (λ e. e ≡ no_memory) }
+    {
+        self.blocks.push(is_if)?;
+        Ok(())
+    }
+
+    // An end: of the innermost block, or of the expression.
+    #[inline(always)]
+    fn close(&mut self) -> Option<Token>
+        ensures { Closes result self.old self.new }
+    {
+        match self.blocks.pop() {
+            Some(_) => Some(Token::End),
+            None => None,
+        }
+    }
+
+    // An else, whose opcode stands at `at`.
+    #[inline(always)]
+    fn other(&mut self, at: u32) -> Result<Token, ReadFault>
+        ensures { MatchResult result
+            (λ t. StartsElse self.old self.new t)
+            (λ e. FailsAs e e.kind (if may_else self.old.kinds then Ok self.old.kinds else Err (record { kind = UnknownOpcode; at = at }))) }
+    {
+        if let Some(true) = self.blocks.pop() {
+            self.blocks.push(false)?;
+            return Ok(Token::Else { skip: 0 });
+        }
+        Err(ReadFault {
+            kind: ReadKind::UnknownOpcode,
+            at,
+        })
+    }
+
+    // A `br_table` behind its opcode. Its labels are those of the reader.
+    #[tactic(auto, unfolding(crate::specs::Reading::plain_at, crate::specs::Reading::behind_form, crate::specs::Instructions::form_of, crate::specs::Reading::labels_at, crate::specs::Vectors::vector_at))]
+    #[inline(always)]
+    fn table(&mut self, cursor: &mut Cursor<'_>) -> Result<Token, ReadFault>
+        ensures read { (profile : Profile) (e : ReadFault) → Parses (λ x. told self.new.labels x) (tok_at (plain_at profile e 0x0E)) cursor.old result cursor.new }
+        ensures within { IfOk result (IsWithin (length self.new.labels)) }
+        ensures kinds { IfOk result (λ _. self.new.kinds ≡ self.old.kinds) }
+    {
+        let len = cursor.u32()?;
+        self.labels.clear();
+        labels_into(&mut self.labels, len, cursor)?;
+        let other = cursor.u32()?;
+        Ok(Token::BrTable {
+            start: 0,
+            len,
+            other,
+        })
+    }
+
+    // A token behind its opcode, which stands at `at`.
+    #[tactic(auto, unfolding(crate::specs::Reading::behind_at))]
+    #[inline(always)]
+    fn behind(
+        &mut self,
+        profile: Profile,
+        opcode: u8,
+        at: u32,
+        cursor: &mut Cursor<'_>,
+    ) -> Result<Option<Token>, ReadFault>
+        ensures { MatchResult result
+            (λ t. IsNext (behind_at profile self.old.kinds at opcode cursor.old.end cursor.old.rest) self.old self.new cursor.old.end cursor.new t)
+            (λ e. FailsAs e e.kind (behind_at profile self.old.kinds at opcode cursor.old.end cursor.old.rest)) }
+    {
+        match opcode {
+            0x0B => Ok(self.close()),
+            0x05 => Ok(Some(self.other(at)?)),
+            0x02 => {
+                let ty = self.opening(profile, at, cursor)?;
+                self.open(false)?;
+                Ok(Some(Token::Block { ty, skip: 0 }))
+            }
+            0x03 => {
+                let ty = self.opening(profile, at, cursor)?;
+                self.open(false)?;
+                Ok(Some(Token::Loop { ty, skip: 0 }))
+            }
+            0x04 => {
+                let ty = self.opening(profile, at, cursor)?;
+                self.open(true)?;
+                Ok(Some(Token::If { ty, skip: 0 }))
+            }
+            0x0E => Ok(Some(self.table(cursor)?)),
+            _ => Ok(Some(simple_of(profile, opcode, at, cursor)?)),
+        }
+    }
+
+    /// The next token of the expression, or none where its end is read: the `end` that closes no block.
+    ///
+    /// A token stands for itself alone: the distance of a block to its end (`skip`) is 0, and the labels of a `br_table` are those
+    /// that [`labels`](TokenReader::labels) gives before the next call. The cursor moves past the token. Behind the end the reader
+    /// stands anywhere, until it begins anew.
+    ///
+    /// # Errors
+    /// The first fault of the token from left to right, or `Memory` at 0 where a growth was refused. The reader and the cursor
+    /// stand anywhere then.
+    #[inline(always)]
+    pub fn next(
+        &mut self,
+        profile: Profile,
+        cursor: &mut Cursor<'_>,
+    ) -> Result<Option<Token>, ReadFault>
+        ensures exact { MatchResult result
+            (λ t. NextRead profile self.old self.new cursor.old cursor.new t)
+            (λ e. FailsAs e e.kind (token_at profile self.old.kinds cursor.old.end cursor.old.rest)) }
+    {
+        let at = cursor.at();
+        let opcode = cursor.byte()?;
+        self.behind(profile, opcode, at, cursor)
+    }
+}
+
+/// Reads the local groups of a body, at the front of what the cursor has left (5.5.13), into a room, and moves past them. What
+/// was in the room before is forgotten.
+///
+/// # Errors
+/// The first fault from left to right, as [`TooManyLocals`](ReadKind::TooManyLocals) where the groups declare 2^32 locals or
+/// more, or `Memory` at 0 where a growth was refused. The room and the cursor stand anywhere then.
+#[tactic(auto, unfolding(crate::specs::TokenReading::local_groups_at))]
+pub fn next_groups(groups: &mut Vec<LocalGroup>, cursor: &mut Cursor<'_>) -> Result<(), ReadFault>
+    ensures exact { MatchResult result
+        (λ _. (local_groups_at cursor.old.end cursor.old.rest ≡ Ok (groups.new.items, cursor.new.rest)) × (cursor.new.end ≡ cursor.old.end))
+        (λ e. FailsAs e e.kind (local_groups_at cursor.old.end cursor.old.rest)) }
+    ensures range { IfOk result (λ _. AreGroups groups.new.items) }
+{
+    let count = cursor.u32()?;
+    // The proof asks what this says: each byte is below 256.
+    are_bytes(cursor.rest());
+    groups_of(groups, count, cursor)
+}

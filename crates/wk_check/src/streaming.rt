@@ -1,0 +1,123 @@
+//! Typing a body while it is read: each token is looked at once, and nothing is kept.
+
+ghost use Rattle.std.specs.Prelude.{◌≡◌, true, false, IfOk};
+ghost use Rattle.wk_check.specs.Effects.{local_type, results_of};
+ghost use Rattle.wk_check.specs.Streaming.{IsTyped, IsValidBody};
+
+use crate::control::{check_end, check_known, params, results};
+use crate::env::Env;
+use crate::locals::{Locals, put_ends};
+use crate::machine::Machine;
+use crate::step::{Function, type_token};
+use crate::stop::Stop;
+use std::alloc::Global;
+use wk_bytes::{Cursor, OutOfMemory, ReadFault, ReadKind};
+use wk_module::{BlockType, LocalGroup, Profile, TokenReader, next_groups};
+
+// The tokens and the open blocks, which go on together.
+#[derive(Drop)]
+struct Stream {
+    reader: TokenReader,
+    machine: Machine,
+}
+
+/// The room in which bodies are typed while they are read, used again from one body to the next.
+#[derive(Drop)]
+pub(crate) struct StreamRoom {
+    stream: Stream,
+    groups: Vec<LocalGroup>,
+    ends: Vec<u32>,
+}
+
+impl StreamRoom {
+    /// Room that is still to grow.
+    pub(crate) fn new(alloc: Global) -> StreamRoom {
+        StreamRoom {
+            stream: Stream {
+                reader: TokenReader::new(alloc),
+                machine: Machine::new(alloc),
+            },
+            groups: Vec::new(alloc),
+            ends: Vec::new(alloc),
+        }
+    }
+}
+
+// What it means for the body that its reading stops at a fault.
+fn stopped(fault: &ReadFault) -> Result<bool, OutOfMemory>
+    ensures { IfOk result (λ valid. valid ≡ false) }
+{
+    match fault.kind {
+        ReadKind::Memory => Err(OutOfMemory),
+        _ => Ok(false),
+    }
+}
+
+// Whether the instructions at the front, which have this type, go up to their end without a fault. Then the cursor stands behind
+// them.
+fn flows<E: Env>(
+    env: &E,
+    f: &Function<'_>,
+    block: BlockType,
+    profile: Profile,
+    stream: &mut Stream,
+    cursor: &mut Cursor<'_>,
+) -> Result<bool, OutOfMemory>
+    requires { f.now.results.now ≡ results_of (E.answers env.now) block }
+    ensures { IfOk result (λ valid. valid ≡ true → IsTyped (E.answers env.now) (local_type f.now.locals.params f.now.locals.groups) f.now.results.now profile cursor.old cursor.new) }
+{
+    let Stream { reader, machine } = stream;
+    reader.begin();
+    machine.begin(block);
+    // A cursor of its own, which stays in registers from token to token.
+    let mut ahead = cursor.ahead();
+    loop {
+        match reader.next(profile, &mut ahead) {
+            Ok(Some(token)) => match type_token(env, f, reader.labels(), machine, &token) {
+                Ok(()) => {}
+                Err(Stop::Fault(_)) => return Ok(false),
+                Err(Stop::Memory) => return Err(OutOfMemory),
+            },
+            Ok(None) => {
+                let Ok(()) = check_end(machine, f.results) else {
+                    return Ok(false);
+                };
+                *cursor = ahead;
+                return Ok(true);
+            }
+            Err(fault) => return stopped(&fault),
+        }
+    }
+}
+
+/// Whether all of the bytes are a body of the profile that is valid under its type. Where they are not, another call tells why, and
+/// proves it.
+pub(crate) fn is_valid_body<E: Env>(
+    env: &E,
+    own_type: u32,
+    profile: Profile,
+    code: &Cursor<'_>,
+    room: &mut StreamRoom,
+) -> Result<bool, OutOfMemory>
+    ensures { IfOk result (λ valid. valid ≡ true → IsValidBody (E.answers env.now) own_type profile code.now) }
+{
+    let block = BlockType::Index(own_type);
+    let Ok(()) = check_known(env, block) else {
+        return Ok(false);
+    };
+    let StreamRoom {
+        stream,
+        groups,
+        ends,
+    } = room;
+    let mut cursor = code.ahead();
+    if let Err(fault) = next_groups(groups, &mut cursor) {
+        return stopped(&fault);
+    }
+    put_ends(groups, ends)?;
+    let f = Function {
+        locals: Locals::of(params(env, block), groups, ends),
+        results: results(env, block),
+    };
+    Ok(flows(env, &f, block, profile, stream, &mut cursor)? && cursor.rest().is_empty())
+}
