@@ -37,16 +37,3 @@ pub use token::Token;
 pub use token_reader::{TokenReader, next_groups};
 pub use types::{BlockKind, BlockType, LocalGroup, Profile, ValType};
 pub use writing::{append_body, append_expr, encode_body, encode_expr, written_form_of_code};
-
-#[cfg(test)]
-mod tests_calls;
-#[cfg(test)]
-mod tests_deep;
-#[cfg(test)]
-mod tests_moving;
-#[cfg(test)]
-mod tests_reading;
-#[cfg(test)]
-mod tests_tokens;
-#[cfg(test)]
-mod tests_values;

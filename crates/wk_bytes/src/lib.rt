@@ -25,8 +25,3 @@ pub use sections::Sections;
 pub use text::Text;
 pub use writing::{leb_len_u32, out_u32, put_u32};
 pub use writing_signed::{leb_len_s64, put_s32, put_s33, put_s64};
-
-#[cfg(test)]
-mod tests;
-#[cfg(test)]
-mod tests_integers;

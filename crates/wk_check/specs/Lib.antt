@@ -15,7 +15,6 @@ pub mod Slots
 pub mod Spaces
 pub mod Spelled
 pub mod Streaming
-pub mod Tests
 pub mod Typing
 pub mod Verdict
 pub mod VerdictText

@@ -30,30 +30,3 @@ pub use kept::{carry, carry_moved};
 pub use meter::{Meter, judge_body};
 pub use spelled::judge_bytes;
 pub use whole::Whole;
-
-#[cfg(test)]
-mod tests;
-#[cfg(test)]
-mod tests_answers;
-#[cfg(test)]
-mod tests_bodies;
-#[cfg(test)]
-mod tests_constants;
-#[cfg(test)]
-mod tests_deep;
-#[cfg(test)]
-mod tests_extended;
-#[cfg(test)]
-mod tests_kept;
-#[cfg(test)]
-mod tests_locals;
-#[cfg(test)]
-mod tests_order;
-#[cfg(test)]
-mod tests_references;
-#[cfg(test)]
-mod tests_sections;
-#[cfg(test)]
-mod tests_spelled;
-#[cfg(test)]
-mod tests_streaming;

@@ -16,12 +16,3 @@ pub use job::{edit, edit_in};
 pub use lines::{malformed_line, verdict_line};
 pub use script::read_script;
 pub use word::read_name;
-
-#[cfg(test)]
-mod tests_job;
-#[cfg(test)]
-mod tests_output;
-#[cfg(test)]
-mod tests_script;
-#[cfg(test)]
-mod tests_texts;

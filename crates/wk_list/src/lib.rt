@@ -25,12 +25,3 @@ pub use header::put_header;
 pub use listing::{Part, list};
 pub use plain::Plain;
 pub use shape::Shape;
-
-#[cfg(test)]
-mod tests;
-#[cfg(test)]
-mod tests_code;
-#[cfg(test)]
-mod tests_details;
-#[cfg(test)]
-mod tests_output;

@@ -32,14 +32,3 @@ pub use wk_body::{
     read_expr_in, reading_of_code, refs, shift, shift_expr, uses, written_form_of_code,
 };
 pub use writer::{encode, encode_custom, encode_section};
-
-#[cfg(test)]
-mod tests_places;
-#[cfg(test)]
-mod tests_reading;
-#[cfg(test)]
-mod tests_sections;
-#[cfg(test)]
-mod tests_whole;
-#[cfg(test)]
-mod tests_writing;

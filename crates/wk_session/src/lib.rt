@@ -12,8 +12,3 @@ pub use edit::{Edit, EditFault, Reply, Work};
 pub use session::Session;
 pub use strip::stripped;
 pub use write::WriteFault;
-
-#[cfg(test)]
-mod tests;
-#[cfg(test)]
-mod tests_output;

@@ -1,0 +1,132 @@
+//! Listings onto an output that fails.
+
+ghost use Rattle.std.specs.Prelude.{◌≡◌};
+
+use crate::listing::{CALLS, TABLE, listed, module_of};
+use crate::listing_code::with_code;
+use std::alloc::Global;
+use std::process::Abort;
+use std::test::Fail;
+use wk_bytes::{Out, OutFault};
+use wk_list::{ListFault, Part, Plain, list};
+use wk_module::{Module, Profile};
+
+// Takes a few bytes a call, until it fails.
+#[derive(Drop)]
+struct Chopped {
+    taken: Vec<u8>,
+    most: usize,
+    left: usize,
+    failures: u64,
+}
+
+impl Chopped {
+    // Takes at most `most` bytes a call, but always one, and fails at each call after the first `left`.
+    fn new(alloc: Global, most: usize, left: usize) -> Chopped
+        ensures { ⟦<Chopped as Out>⟧.failed result ≡ 0 }
+    {
+        Chopped {
+            taken: Vec::new(alloc),
+            most,
+            left,
+            failures: 0,
+        }
+    }
+}
+
+impl Out for Chopped {
+    ghost use Rattle.std.specs.Prelude.{Some};
+
+    ghost taken = { λ c. Some c.taken.items };
+
+    ghost failed = { λ c. c.failures };
+
+    fn put(&mut self, piece: &[u8]) -> Result<usize, OutFault> {
+        let n = piece.len().min(self.most.max(1));
+        if self.left == 0 || self.taken.extend_from_slice(&piece[..n]).is_err() {
+            self.failures += 1;
+            return Err(OutFault);
+        }
+        self.left -= 1;
+        Ok(n)
+    }
+
+    fn failures(&self) -> u64 {
+        self.failures
+    }
+}
+
+// Lists onto an output that fails after so many calls. Answers whether the text was taken whole; what was taken else is a beginning.
+fn is_taken(
+    rt: &impl Abort,
+    alloc: Global,
+    plain: &Plain<'_>,
+    part: Part,
+    text: &[u8],
+    mut out: Chopped,
+) -> Result<bool, Fail>
+    requires { ⟦<Chopped as Out>⟧.failed out ≡ 0 }
+{
+    match list(alloc, plain, part, &mut out) {
+        Ok(()) => {
+            assert_eq!(rt; out.failures, 0);
+            assert_eq!(rt; out.taken.as_slice(), text);
+            Ok(true)
+        }
+        Err(fault) => {
+            assert_eq!(rt; (fault, out.failures), (ListFault::Write, 1));
+            assert!(rt; text.starts_with(&out.taken) && out.taken.len() < text.len());
+            Ok(false)
+        }
+    }
+}
+
+// Lists a part at so many bytes a call: the output fails after no call, after one, and so on. Answers after how many it never fails.
+fn calls_wanted(
+    rt: &impl Abort,
+    alloc: Global,
+    module: &Module,
+    part: Part,
+    most: usize,
+) -> Result<usize, Fail> {
+    let text = listed(alloc, module, part)?;
+    let plain = Plain::of(module).ok_or("a module that fits")?;
+    for calls in 0..=text.len() {
+        let out = Chopped::new(alloc, most, calls);
+        if is_taken(rt, alloc, &plain, part, &text, out)? {
+            return Ok(calls);
+        }
+    }
+    Err("the output takes a byte a call")?
+}
+
+#[test]
+fn leaves_a_beginning(rt: HostRuntime) -> Result<(), Fail> {
+    let alloc = rt.alloc();
+    for sections in [CALLS, TABLE] {
+        let module = module_of(alloc, sections, Profile::Core)?;
+        for part in [Part::Headers, Part::Details, Part::Code, Part::Uses] {
+            let text = listed(alloc, &module, part)?;
+            for most in [1, 2, 7] {
+                let wanted = calls_wanted(&rt, alloc, &module, part, most)?;
+                assert_eq!(rt; wanted, text.len().div_ceil(most), "{part:?} {most}");
+            }
+        }
+    }
+    Ok(())
+}
+
+// The text of 6,000 instructions goes out in two pieces.
+#[test]
+fn puts_out_long_text_in_pieces(rt: HostRuntime) -> Result<(), Fail> {
+    let alloc = rt.alloc();
+    let mut code = Vec::new(alloc);
+    code.push(0)?;
+    code.resize(6000, 0x01)?;
+    code.push(0x0b)?;
+    let sections = with_code(&rt, alloc, &code)?;
+    let module = module_of(alloc, &sections, Profile::Core)?;
+    let wanted = calls_wanted(&rt, alloc, &module, Part::Code, 1 << 20)?;
+    assert_eq!(rt; wanted, 2);
+    Ok(())
+}

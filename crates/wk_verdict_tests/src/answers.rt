@@ -1,0 +1,227 @@
+//! Bodies judged one by one, where references find other answers than those of a module.
+
+ghost use Rattle.std.specs.Prelude.{◌<◌};
+
+use std::alloc::Global;
+use std::process::Abort;
+use std::test::Fail;
+use wk_check::FaultKind::{
+    Alignment, GlobalImmutable, StackUnderflow, UnknownFunc, UnknownGlobal, UnknownMemory,
+    UnknownTable, UnknownType,
+};
+use wk_check::{Answer, BodyVerdict, Env, FaultKind, Meter, Whole, judge_body};
+use wk_module::{
+    FuncType, GlobalType, Limits, Lists, Parts, Profile, Ref, ValType, read_body_in, read_in,
+};
+
+// The types [] -> [], [i32] -> [i32] and [] -> [i32, i32].
+const TYPES: &[u8] = b"\0asm\x01\0\0\0\x01\x0e\x03\x60\0\0\x60\x01\x7f\x01\x7f\x60\0\x02\x7f\x7f";
+
+// The types [] -> [], [i32] -> [] and [i64] -> [f64], and imported a table, a function of the second type, a memory, a constant
+// i64, a function of the third type and an f32.
+const IMPORTS: &[u8] =
+    b"\0\x61\x73\x6d\x01\0\0\0\x01\x0d\x03\x60\0\0\x60\x01\x7f\0\x60\x01\x7e\x01\x7c\x02\x1e\x06\0\0\x01\x70\0\0\0\0\0\x01\0\0\x02\0\0\0\0\x03\x7e\0\0\0\0\x02\0\0\x03\x7d\x01";
+
+const GLOBALS: [GlobalType; 2] = [
+    GlobalType {
+        val: ValType::I32,
+        mutable: false,
+    },
+    GlobalType {
+        val: ValType::I64,
+        mutable: true,
+    },
+];
+
+const PAGE: Limits = Limits { min: 1, max: None };
+
+// What references find in lists that are lent.
+#[derive(Clone, Copy)]
+struct Lent<'a> {
+    types: &'a [FuncType],
+    funcs: &'a [u32],
+    globals: &'a [GlobalType],
+    tables: &'a [Limits],
+    memories: &'a [Limits],
+}
+
+impl<'a> Env for Lent<'a> {
+    ghost use Rattle.wk_check.specs.Spaces.{Spaces, answer_in, answers_of_kind};
+
+    ghost answers = { λ l r. answer_in (record { types = l.types.now; funcs = l.funcs.now; tables = l.tables.now; memories = l.memories.now; globals = l.globals.now }) r };
+
+    ghost of_kind = { λ l r. answers_of_kind (record { types = l.types.now; funcs = l.funcs.now; tables = l.tables.now; memories = l.memories.now; globals = l.globals.now }) r };
+
+    fn answer(&self, reference: Ref) -> Answer<'_> {
+        match reference {
+            Ref::Ty(x) => match self.types.get(x as usize) {
+                Some(ty) => Answer::Ty(ty),
+                None => Answer::NoType,
+            },
+            Ref::Func(x) => match self.funcs.get(x as usize) {
+                Some(ty) => match self.types.get(*ty as usize) {
+                    Some(ty) => Answer::Func(ty),
+                    None => Answer::FuncOfNoType,
+                },
+                None => Answer::NoFunc,
+            },
+            Ref::Global(x) => match self.globals.get(x as usize) {
+                Some(ty) => Answer::Global(*ty),
+                None => Answer::NoGlobal,
+            },
+            Ref::Table if self.tables.is_empty() => Answer::Absent,
+            Ref::Table => Answer::Present,
+            Ref::Memory if self.memories.is_empty() => Answer::Absent,
+            Ref::Memory => Answer::Present,
+        }
+    }
+}
+
+// The verdict of a body under the type of an index.
+fn judged<E: Env>(
+    alloc: Global,
+    env: &E,
+    own_type: u32,
+    code: &[u8],
+    meter: &mut Meter,
+) -> Result<BodyVerdict, Fail>
+    requires { meter.old < 100 }
+{
+    let body = read_body_in(alloc, code, Profile::Extended)?;
+    Ok(judge_body(env, own_type, &body, meter)?)
+}
+
+// Judges bodies, each under the type of an index, with one meter: valid, or a fault and its token.
+fn looks<E: Env>(
+    rt: &impl Abort,
+    alloc: Global,
+    env: &E,
+    rows: &[(u32, &[u8], Option<(FaultKind, u32)>)],
+) -> Result<(), Fail> {
+    let mut meter = Meter::new(alloc);
+    let mut count = 0;
+    for &(own_type, code, fault) in rows {
+        assert_eq!(rt; meter.typed(), count);
+        assert!(rt; count < 100);
+        count += 1;
+        let verdict = judged(alloc, env, own_type, code, &mut meter)?;
+        let wanted = match fault {
+            None => BodyVerdict::Valid,
+            Some((kind, token)) => BodyVerdict::Invalid { kind, token },
+        };
+        assert_eq!(rt; verdict, wanted, "{code:?}");
+    }
+    assert_eq!(rt; meter.typed(), count);
+    Ok(())
+}
+
+// The same where the functions are one of the second type and one of a type that is not there, and the globals a constant i32
+// and an i64.
+fn judges(
+    rt: &impl Abort,
+    alloc: Global,
+    tables: &[Limits],
+    memories: &[Limits],
+    rows: &[(u32, &[u8], Option<(FaultKind, u32)>)],
+) -> Result<(), Fail> {
+    let module = read_in(alloc, TYPES, Profile::Extended)?;
+    let env = Lent {
+        types: module.parts().types.as_slice(),
+        funcs: &[1, 9],
+        globals: &GLOBALS,
+        tables,
+        memories,
+    };
+    looks(rt, alloc, &env, rows)
+}
+
+#[test]
+fn judges_valid_bodies(rt: HostRuntime) -> Result<(), Fail> {
+    let rows: [(u32, &[u8], Option<(FaultKind, u32)>); 8] = [
+        (0, b"\0\x0b", None),
+        (1, b"\0\x20\0\x0b", None),
+        (2, b"\0\x41\0\x41\x01\x0b", None),
+        (0, b"\0\x41\0\x10\0\x1a\x0b", None),
+        (1, b"\0\x41\0\x41\0\x11\x01\0\x0b", None),
+        (0, b"\0\x41\0\x28\x02\0\x1a\x0b", None),
+        (0, b"\0\x42\0\x24\x01\x23\0\x1a\x0b", None),
+        (0, b"\0\x41\0\x02\x01\x45\x0b\x1a\x0b", None),
+    ];
+    judges(&rt, rt.alloc(), &[PAGE], &[PAGE], &rows)
+}
+
+#[test]
+fn judges_faulty_bodies(rt: HostRuntime) -> Result<(), Fail> {
+    let rows: [(u32, &[u8], Option<(FaultKind, u32)>); 8] = [
+        // under a type that is not there
+        (3, b"\0\x1a\x0b", Some((UnknownType, 0))),
+        // a function of a type that is not there, and no function
+        (0, b"\0\x10\x01\x0b", Some((UnknownType, 0))),
+        (0, b"\0\x10\x02\x0b", Some((UnknownFunc, 0))),
+        (0, b"\0\x41\0\x11\x03\0\x0b", Some((UnknownType, 1))),
+        (0, b"\0\x41\0\x24\0\x0b", Some((GlobalImmutable, 1))),
+        (0, b"\0\x23\x02\x1a\x0b", Some((UnknownGlobal, 0))),
+        (0, b"\0\x41\0\x28\x03\0\x1a\x0b", Some((Alignment, 1))),
+        (2, b"\0\x41\0\x0b", Some((StackUnderflow, 1))),
+    ];
+    judges(&rt, rt.alloc(), &[PAGE], &[PAGE], &rows)
+}
+
+// The meter is as good after a fault as before.
+#[test]
+fn judges_one_after_the_other(rt: HostRuntime) -> Result<(), Fail> {
+    let rows: [(u32, &[u8], Option<(FaultKind, u32)>); 6] = [
+        (0, b"\0\x41\0\x11\x01\0\x0b", Some((UnknownTable, 1))),
+        (0, b"\0\x0b", None),
+        (
+            2,
+            b"\0\x41\0\x02\x40\x41\0\x3f\0\x0b\x0b",
+            Some((UnknownMemory, 3)),
+        ),
+        (2, b"\0\x41\0\x0b", Some((StackUnderflow, 1))),
+        (0, b"\x01\x02\x7f\x20\x01\x1a\x0b", None),
+        (0, b"\0\x1a\x0b", Some((StackUnderflow, 0))),
+    ];
+    judges(&rt, rt.alloc(), &[], &[], &rows)
+}
+
+// Judges bodies by what the code of a module sees, which has these types and imports. Its own functions are one of the first type
+// and one of a type that is not there.
+fn judges_by_parts(
+    rt: &impl Abort,
+    alloc: Global,
+    parts: &Parts,
+    rows: &[(u32, &[u8], Option<(FaultKind, u32)>)],
+) -> Result<(), Fail> {
+    let lists = Lists {
+        profile: parts.profile,
+        types: parts.types.as_slice(),
+        imports: parts.imports.as_slice(),
+        funcs: &[0, 9],
+        tables: &[],
+        memories: &[],
+        globals: &[],
+        exports: &[],
+        start: None,
+        elems: &[],
+        datas: &[],
+    };
+    let whole = Whole::of(alloc, lists)?;
+    looks(rt, alloc, &whole, rows)
+}
+
+#[test]
+fn judges_by_lists(rt: HostRuntime) -> Result<(), Fail> {
+    let rows: [(u32, &[u8], Option<(FaultKind, u32)>); 8] = [
+        (1, b"\0\x20\0\x10\0\x10\x02\x0b", None),
+        (2, b"\0\x23\0\x10\x01\x0b", None),
+        (0, b"\0\x41\0\x11\0\0\x3f\0\x1a\x0b", None),
+        (0, b"\0\x10\x03\x0b", Some((UnknownType, 0))),
+        (0, b"\0\x10\x04\x0b", Some((UnknownFunc, 0))),
+        (0, b"\0\x23\0\x24\0\x0b", Some((GlobalImmutable, 1))),
+        (0, b"\0\x23\x02\x1a\x0b", Some((UnknownGlobal, 0))),
+        (3, b"\0\x0b", Some((UnknownType, 0))),
+    ];
+    let module = read_in(rt.alloc(), IMPORTS, Profile::Core)?;
+    judges_by_parts(&rt, rt.alloc(), module.parts(), &rows)
+}

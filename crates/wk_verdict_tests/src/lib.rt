@@ -1,0 +1,29 @@
+//! Tests of verdicts: modules and bodies judged through the calls of `wk_check`.
+#![tactic(auto)]
+
+#[cfg(test)]
+mod answers;
+#[cfg(test)]
+mod bodies;
+#[cfg(test)]
+mod constants;
+#[cfg(test)]
+mod deep;
+#[cfg(test)]
+mod extended;
+#[cfg(test)]
+mod judged;
+#[cfg(test)]
+mod kept;
+#[cfg(test)]
+mod locals;
+#[cfg(test)]
+mod order;
+#[cfg(test)]
+mod references;
+#[cfg(test)]
+mod sections;
+#[cfg(test)]
+mod spelled;
+#[cfg(test)]
+mod streaming;
