@@ -48,9 +48,9 @@ module _ (profile : Profile) (p : Progress) (s : Section) where
   step_listed = step_by (of_number s.id)
 
   -- so does a call that reads it
-  pub reads_listed : (r : Result Progress ReadFault) → Reads (λ q. q) r (with_section profile p s) → Reads (λ q. q.lists) r (with_listed profile p.lists s)
-  reads_listed (Ok q) reads = step_listed ∙ rw reads refl
-  reads_listed (Err e) reads = fails_on e e.kind (with_section profile p s) (with_listed profile p.lists s) (λ bad. step_listed ∙ rw bad refl) reads
+  pub reads_listed : {X : Type 0} (view : X → Progress) (r : Result X ReadFault) → Reads view r (with_section profile p s) → Reads (λ x. (view x).lists) r (with_listed profile p.lists s)
+  reads_listed view (Ok x) reads = step_listed ∙ rw reads refl
+  reads_listed view (Err e) reads = fails_on e e.kind (with_section profile p s) (with_listed profile p.lists s) (λ bad. step_listed ∙ rw bad refl) reads
 
 -- ---- codes are read of the code section alone
 
@@ -70,9 +70,9 @@ keeps_by profile l q s (Some k) other e =
 pub keeps_codes : (profile : Profile) (l q : SectionLists) (s : Section) → s.id ≢ 10 → with_listed profile l s ≡ Ok q → q.codes ≡ l.codes
 keeps_codes profile l q s other e = keeps_by profile l q s (of_number s.id) (λ is. other (number-of_number s.id CodeSection is)) e
 
-pub codes_kept : (profile : Profile) (l : SectionLists) (s : Section) (r : Result Progress ReadFault) → Reads (λ q. q.lists) r (with_listed profile l s) → s.id ≢ 10 → IfOk r (λ q. q.lists.codes ≡ l.codes)
-codes_kept profile l s (Ok q) reads other = keeps_codes profile l q.lists s other reads
-codes_kept profile l s (Err e) reads other = tt
+pub codes_kept : {X : Type 0} (profile : Profile) (l : SectionLists) (s : Section) (view : X → SectionLists) (r : Result X ReadFault) → Reads view r (with_listed profile l s) → s.id ≢ 10 → IfOk r (λ x. (view x).codes ≡ l.codes)
+codes_kept profile l s view (Ok x) reads other = keeps_codes profile l (view x) s other reads
+codes_kept profile l s view (Err e) reads other = tt
 
 -- ---- ids rise
 

@@ -135,16 +135,16 @@ impl SoFar {
 
     // Reads a section of the ids 1 to 5.
     #[tactic(auto, unfolding(crate::specs::Reading::section_by))]
-    pub(crate) fn with_low_section(
-        mut self,
+    pub(crate) fn read_low_section(
+        &mut self,
         alloc: Global,
         scratch: &mut Scratch,
         profile: Profile,
         section: &RawSection<'_>,
-    ) -> Result<SoFar, ReadFault>
+    ) -> Result<(), ReadFault>
         requires low { 1 ≤ section.now.id }
         requires high { section.now.id ≤ 5 }
-        ensures { Reads (λ p. p) result (with_section profile self (raw_view section.now)) }
+        ensures { Reads (λ u. self.new) result (with_section profile self.old (raw_view section.now)) }
     {
         let full = match section.id {
             1 => {
@@ -169,21 +169,21 @@ impl SoFar {
             }
         };
         self.place = place_behind(self.place, section.id, full);
-        Ok(self)
+        Ok(())
     }
 
     // Reads a section of the ids 6 to 11.
     #[tactic(auto, unfolding(crate::specs::Reading::section_by))]
-    pub(crate) fn with_high_section(
-        mut self,
+    pub(crate) fn read_high_section(
+        &mut self,
         alloc: Global,
         scratch: &mut Scratch,
         profile: Profile,
         section: &RawSection<'_>,
-    ) -> Result<SoFar, ReadFault>
+    ) -> Result<(), ReadFault>
         requires low { 6 ≤ section.now.id }
         requires high { section.now.id ≤ 11 }
-        ensures { Reads (λ p. p) result (with_section profile self (raw_view section.now)) }
+        ensures { Reads (λ u. self.new) result (with_section profile self.old (raw_view section.now)) }
     {
         let full = match section.id {
             6 => {
@@ -213,27 +213,27 @@ impl SoFar {
             }
         };
         self.place = place_behind(self.place, section.id, full);
-        Ok(self)
+        Ok(())
     }
 
     // Reads one more section.
     #[tactic(auto, unfolding(crate::specs::Reading::section_by))]
-    fn with_section(
-        mut self,
+    fn read_section(
+        &mut self,
         alloc: Global,
         scratch: &mut Scratch,
         profile: Profile,
         section: &RawSection<'_>,
-    ) -> Result<SoFar, ReadFault>
-        ensures { Reads (λ p. p) result (with_section profile self (raw_view section.now)) }
+    ) -> Result<(), ReadFault>
+        ensures { Reads (λ u. self.new) result (with_section profile self.old (raw_view section.now)) }
     {
         match section.id {
-            1..=5 => self.with_low_section(alloc, scratch, profile, section),
-            6..=11 => self.with_high_section(alloc, scratch, profile, section),
+            1..=5 => self.read_low_section(alloc, scratch, profile, section),
+            6..=11 => self.read_high_section(alloc, scratch, profile, section),
             _ => {
                 let custom = read_custom(alloc, self.place, section)?;
                 self.parts.customs.push(custom)?;
-                Ok(self)
+                Ok(())
             }
         }
     }
@@ -247,7 +247,7 @@ fn read_sections(alloc: Global, bytes: &[u8], profile: Profile) -> Result<SoFar,
     let mut scratch = Scratch::new(alloc);
     let mut so_far = SoFar::new(alloc, profile);
     for section in Sections::new(bytes) {
-        so_far = so_far.with_section(alloc, &mut scratch, profile, &section?)?;
+        so_far.read_section(alloc, &mut scratch, profile, &section?)?;
     }
     Ok(so_far)
 }

@@ -53,23 +53,23 @@ impl<'a> Model for SectionReader<'a> {
 impl SoFar {
     // Reads one more section, and keeps nothing of a custom one.
     #[tactic(auto, unfolding(crate::specs::ListReading::listed_by))]
-    fn with_listed(
-        self,
+    fn read_listed(
+        &mut self,
         alloc: Global,
         scratch: &mut Scratch,
         profile: Profile,
         section: &RawSection<'_>,
-    ) -> Result<SoFar, ReadFault>
-        ensures read { Reads (λ p. p.lists) result (with_listed profile self.lists (raw_view section.now)) }
-        ensures codes { section.now.id ≢ 10 → IfOk result (λ p. p.lists.codes ≡ self.lists.codes) }
+    ) -> Result<(), ReadFault>
+        ensures read { Reads (λ u. self.new.lists) result (with_listed profile self.old.lists (raw_view section.now)) }
+        ensures codes { section.now.id ≢ 10 → IfOk result (λ u. self.new.lists.codes ≡ self.old.lists.codes) }
     {
         match section.id {
-            1..=5 => self.with_low_section(alloc, scratch, profile, section),
-            6..=11 => self.with_high_section(alloc, scratch, profile, section),
+            1..=5 => self.read_low_section(alloc, scratch, profile, section),
+            6..=11 => self.read_high_section(alloc, scratch, profile, section),
             _ => {
                 let mut cursor = section.cursor();
                 let _name = cursor.name()?;
-                Ok(self)
+                Ok(())
             }
         }
     }
@@ -117,7 +117,7 @@ impl<'a> SectionReader<'a> {
                 };
                 return Ok((reader, Some(section)));
             }
-            so_far = so_far.with_listed(alloc, scratch, profile, &section)?;
+            so_far.read_listed(alloc, scratch, profile, &section)?;
         }
         let reader = SectionReader {
             so_far,
@@ -151,7 +151,7 @@ impl<'a> SectionReader<'a> {
             profile,
         } = self;
         while let Some(section) = left.next() {
-            so_far = so_far.with_listed(alloc, scratch, profile, &section?)?;
+            so_far.read_listed(alloc, scratch, profile, &section?)?;
         }
         Ok(SectionReader {
             so_far,
