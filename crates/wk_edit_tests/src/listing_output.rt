@@ -2,59 +2,15 @@
 
 ghost use Rattle.std.specs.Prelude.{◌≡◌};
 
+use crate::chopped::Chopped;
 use crate::listing::{CALLS, TABLE, listed, module_of};
 use crate::listing_code::with_code;
 use std::alloc::Global;
 use std::process::Abort;
 use std::test::Fail;
-use wk_bytes::{Out, OutFault};
+use wk_bytes::Out;
 use wk_list::{ListFault, Part, Plain, list};
 use wk_module::{Module, Profile};
-
-// Takes a few bytes a call, until it fails.
-#[derive(Drop)]
-struct Chopped {
-    taken: Vec<u8>,
-    most: usize,
-    left: usize,
-    failures: u64,
-}
-
-impl Chopped {
-    // Takes at most `most` bytes a call, but always one, and fails at each call after the first `left`.
-    fn new(alloc: Global, most: usize, left: usize) -> Chopped
-        ensures { ⟦<Chopped as Out>⟧.failed result ≡ 0 }
-    {
-        Chopped {
-            taken: Vec::new(alloc),
-            most,
-            left,
-            failures: 0,
-        }
-    }
-}
-
-impl Out for Chopped {
-    ghost use Rattle.std.specs.Prelude.{Some};
-
-    ghost taken = { λ c. Some c.taken.items };
-
-    ghost failed = { λ c. c.failures };
-
-    fn put(&mut self, piece: &[u8]) -> Result<usize, OutFault> {
-        let n = piece.len().min(self.most.max(1));
-        if self.left == 0 || self.taken.extend_from_slice(&piece[..n]).is_err() {
-            self.failures += 1;
-            return Err(OutFault);
-        }
-        self.left -= 1;
-        Ok(n)
-    }
-
-    fn failures(&self) -> u64 {
-        self.failures
-    }
-}
 
 // Lists onto an output that fails after so many calls. Answers whether the text was taken whole; what was taken else is a beginning.
 fn is_taken(
@@ -69,13 +25,14 @@ fn is_taken(
 {
     match list(alloc, plain, part, &mut out) {
         Ok(()) => {
-            assert_eq!(rt; out.failures, 0);
-            assert_eq!(rt; out.taken.as_slice(), text);
+            assert_eq!(rt; out.failures(), 0);
+            assert_eq!(rt; out.taken(), text);
             Ok(true)
         }
         Err(fault) => {
-            assert_eq!(rt; (fault, out.failures), (ListFault::Write, 1));
-            assert!(rt; text.starts_with(&out.taken) && out.taken.len() < text.len());
+            assert_eq!(rt; (fault, out.failures()), (ListFault::Write, 1));
+            let taken = out.taken();
+            assert!(rt; text.starts_with(taken) && taken.len() < text.len());
             Ok(false)
         }
     }
@@ -100,18 +57,23 @@ fn calls_wanted(
     Err("the output takes a byte a call")?
 }
 
+// Each part of a module takes as many calls as its text fills at one, two or seven bytes a call.
+fn leaves_beginnings(rt: &impl Abort, alloc: Global, module: &Module) -> Result<(), Fail> {
+    for part in [Part::Headers, Part::Details, Part::Code, Part::Uses] {
+        let len = listed(alloc, module, part)?.len();
+        for most in [1, 2, 7] {
+            let wanted = calls_wanted(rt, alloc, module, part, most)?;
+            assert_eq!(rt; wanted, len.div_ceil(most), "{part:?} {most}");
+        }
+    }
+    Ok(())
+}
+
 #[test]
 fn leaves_a_beginning(rt: HostRuntime) -> Result<(), Fail> {
-    let alloc = rt.alloc();
     for sections in [CALLS, TABLE] {
-        let module = module_of(alloc, sections, Profile::Core)?;
-        for part in [Part::Headers, Part::Details, Part::Code, Part::Uses] {
-            let text = listed(alloc, &module, part)?;
-            for most in [1, 2, 7] {
-                let wanted = calls_wanted(&rt, alloc, &module, part, most)?;
-                assert_eq!(rt; wanted, text.len().div_ceil(most), "{part:?} {most}");
-            }
-        }
+        let module = module_of(rt.alloc(), sections, Profile::Core)?;
+        leaves_beginnings(&rt, rt.alloc(), &module)?;
     }
     Ok(())
 }

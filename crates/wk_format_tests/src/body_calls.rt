@@ -1,5 +1,7 @@
 //! Each call once, with an answer that was worked out by hand.
 
+use std::alloc::Global;
+use std::process::Abort;
 use std::test::Fail;
 use wk_body::{
     BlockType, EncodeFault, MemoryOp, NumericOp, NumericType, Profile, Scratch, ShiftFault, Token,
@@ -127,12 +129,11 @@ fn appends(rt: HostRuntime) -> Result<(), Fail> {
 fn reads_in_one_room(rt: HostRuntime) -> Result<(), Fail> {
     let mut scratch = Scratch::new(rt.alloc());
     let long = [0x00, 0x0E, 0x01, 0x05, 0x06, 0x02, 0x40, 0x0B, 0x0B];
-    let first = scratch.read_body(rt.alloc(), &Cursor::new(&long), Profile::Core)?;
-    assert_eq!(rt; first.tokens().0.len(), 4);
-    let broken = [0x00, 0x02, 0x40];
+    reads_body(&rt, rt.alloc(), &mut scratch, &long, 4, &[5])?;
+    let broken = Cursor::new(&[0x00, 0x02, 0x40]);
     assert!(rt;
         scratch
-            .read_body(rt.alloc(), &Cursor::new(&broken), Profile::Core)
+            .read_body(rt.alloc(), &broken, Profile::Core)
             .is_err()
     );
     let mut cursor = Cursor::new(&[0x41, 0x07, 0x0B, 0x01]);
@@ -141,9 +142,22 @@ fn reads_in_one_room(rt: HostRuntime) -> Result<(), Fail> {
         expr.tokens().0,
         [Token::I32Const(7), Token::End].as_slice()
     );
-    let last = scratch.read_body(rt.alloc(), &Cursor::new(&[0x00, 0x01, 0x0B]), Profile::Core)?;
-    assert_eq!(rt; last.tokens().0, [Token::Nop, Token::End].as_slice());
-    assert_eq!(rt; last.tokens().1.len(), 0);
+    reads_body(&rt, rt.alloc(), &mut scratch, &[0x00, 0x01, 0x0B], 2, &[])
+}
+
+// A body is read in a room, with so many tokens and these labels.
+fn reads_body(
+    rt: &impl Abort,
+    alloc: Global,
+    scratch: &mut Scratch,
+    bytes: &[u8],
+    tokens: usize,
+    labels: &[u32],
+) -> Result<(), Fail> {
+    assert!(rt; bytes.len() < 10);
+    let body = scratch.read_body(alloc, &Cursor::new(bytes), Profile::Core)?;
+    assert_eq!(rt; body.tokens().0.len(), tokens);
+    assert_eq!(rt; body.tokens().1, labels);
     Ok(())
 }
 
@@ -187,42 +201,42 @@ fn tells_numeric_instructions(rt: HostRuntime) -> Result<(), Fail> {
     Ok(())
 }
 
+// Loads and stores with their opcodes, names, types and widths in bytes, and whether they store.
+const ACCESSES: [(u8, MemoryOp, &str, ValType, u32, bool); 5] = [
+    (0x28, MemoryOp::I32Load, "i32.load", ValType::I32, 4, false),
+    (
+        0x35,
+        MemoryOp::I64Load32U,
+        "i64.load32_u",
+        ValType::I64,
+        4,
+        false,
+    ),
+    (0x39, MemoryOp::F64Store, "f64.store", ValType::F64, 8, true),
+    (
+        0x3A,
+        MemoryOp::I32Store8,
+        "i32.store8",
+        ValType::I32,
+        1,
+        true,
+    ),
+    (
+        0x3D,
+        MemoryOp::I64Store16,
+        "i64.store16",
+        ValType::I64,
+        2,
+        true,
+    ),
+];
+
 #[test]
 fn tells_loads_and_stores(rt: HostRuntime) -> Result<(), Fail> {
-    for (opcode, op, name, ty, width, is_store) in [
-        (0x28, MemoryOp::I32Load, "i32.load", ValType::I32, 4, false),
-        (
-            0x35,
-            MemoryOp::I64Load32U,
-            "i64.load32_u",
-            ValType::I64,
-            4,
-            false,
-        ),
-        (0x39, MemoryOp::F64Store, "f64.store", ValType::F64, 8, true),
-        (
-            0x3A,
-            MemoryOp::I32Store8,
-            "i32.store8",
-            ValType::I32,
-            1,
-            true,
-        ),
-        (
-            0x3D,
-            MemoryOp::I64Store16,
-            "i64.store16",
-            ValType::I64,
-            2,
-            true,
-        ),
-    ] {
+    for (opcode, op, name, ty, width, is_store) in ACCESSES {
         assert_eq!(rt; MemoryOp::from_opcode(opcode), Some(op));
-        assert_eq!(rt; op.opcode(), opcode);
-        assert_eq!(rt; op.name(), name);
-        assert_eq!(rt; op.ty(), ty);
-        assert_eq!(rt; op.width(), width);
-        assert_eq!(rt; op.is_store(), is_store);
+        assert_eq!(rt; (op.opcode(), op.name()), (opcode, name));
+        assert_eq!(rt; (op.ty(), op.width(), op.is_store()), (ty, width, is_store));
     }
     assert_eq!(rt; MemoryOp::from_opcode(0x27), None);
     assert_eq!(rt; MemoryOp::from_opcode(0x3F), None);

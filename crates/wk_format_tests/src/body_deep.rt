@@ -2,7 +2,7 @@
 
 use std::alloc::{AllocError, Global};
 use std::test::Fail;
-use wk_body::{Moving, Profile, body_len, encode_body, read_body_in, shift};
+use wk_body::{Body, Moving, Profile, body_len, encode_body, read_body_in, shift};
 use wk_bytes::ReadKind;
 
 // A body without locals: so many blocks, one in the other, some bytes in the innermost, and their ends.
@@ -33,15 +33,17 @@ fn takes_20_000_blocks(rt: HostRuntime) -> Result<(), Fail> {
     Ok(())
 }
 
+// A copy of a body, with its functions moved; the body itself is gone.
+fn moved_copy(alloc: Global, bytes: &[u8]) -> Result<Body, Fail> {
+    let copy = read_body_in(alloc, bytes, Profile::Core)?.clone()?;
+    let moved = shift(alloc, &copy, Moving::Func, 0);
+    Ok(moved.ok().ok_or("it is moved")?)
+}
+
 #[test]
 fn moves_and_copies_20_000_blocks(rt: HostRuntime) -> Result<(), Fail> {
     let bytes = nested(rt.alloc(), 20_000, &[0x10, 0x00])?;
-    let body = read_body_in(rt.alloc(), &bytes, Profile::Core)?;
-    let copy = body.clone()?;
-    let moved = shift(rt.alloc(), &copy, Moving::Func, 0)
-        .ok()
-        .ok_or("it is moved")?;
-    drop(body);
+    let moved = moved_copy(rt.alloc(), &bytes)?;
     let written = encode_body(rt.alloc(), &moved).ok().ok_or("it is written")?;
     let expected = nested(rt.alloc(), 20_000, &[0x10, 0x01])?;
     assert!(rt; written.as_slice() == expected.as_slice());

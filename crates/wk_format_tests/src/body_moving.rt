@@ -2,6 +2,7 @@
 
 use std::alloc::Global;
 use std::collections::BTreeSet;
+use std::process::Abort;
 use std::test::Fail;
 use wk_body::{
     BlockType, Body, Expr, LocalGroup, MemoryOp, Moving, Profile, Ref, ShiftFault, Token, ValType,
@@ -205,6 +206,19 @@ fn keeps_groups_and_labels(rt: HostRuntime) -> Result<(), Fail> {
     Ok(())
 }
 
+// A body of one call, moved, calls this function.
+fn calls(
+    rt: &impl Abort,
+    alloc: Global,
+    (bytes, kind, from): (&[u8], Moving, u32),
+    callee: u32,
+) -> Result<(), Fail> {
+    let body = moved(alloc, bytes, kind, from)?;
+    let wanted = [Token::Call(callee), Token::End];
+    assert_eq!(rt; body.tokens().0, wanted.as_slice());
+    Ok(())
+}
+
 #[test]
 fn refuses_the_greatest_index(rt: HostRuntime) -> Result<(), Fail> {
     // a call of 4,294,967,295, and one of the index below
@@ -213,28 +227,17 @@ fn refuses_the_greatest_index(rt: HostRuntime) -> Result<(), Fail> {
     let body = read_body(rt.alloc(), &greatest)?;
     for from in [0, 7, 4294967295] {
         let fault = shift(rt.alloc(), &body, Moving::Func, from).err();
-        assert_eq!(rt;
-            fault.ok_or("a fault")?,
-            ShiftFault::Overflow,
-            "from {from}"
-        );
+        assert_eq!(rt; fault, Some(ShiftFault::Overflow), "from {from}");
     }
     // what does not move can't fail to
-    let body = moved(rt.alloc(), &greatest, Moving::Global, 0)?;
-    assert_eq!(rt;
-        body.tokens().0,
-        [Token::Call(4294967295), Token::End].as_slice()
-    );
-    let body = moved(rt.alloc(), &below, Moving::Func, 4294967294)?;
-    assert_eq!(rt;
-        body.tokens().0,
-        [Token::Call(4294967295), Token::End].as_slice()
-    );
-    let body = moved(rt.alloc(), &below, Moving::Func, 4294967295)?;
-    assert_eq!(rt;
-        body.tokens().0,
-        [Token::Call(4294967294), Token::End].as_slice()
-    );
+    let rows = [
+        (greatest, Moving::Global, 0, 4294967295),
+        (below, Moving::Func, 4294967294, 4294967295),
+        (below, Moving::Func, 4294967295, 4294967294),
+    ];
+    for (bytes, kind, from, callee) in rows {
+        calls(&rt, rt.alloc(), (&bytes, kind, from), callee)?;
+    }
     Ok(())
 }
 
@@ -270,12 +273,16 @@ fn clones(rt: HostRuntime) -> Result<(), Fail> {
     let body = read_body(rt.alloc(), &[1, 2, 126, 14, 1, 0, 0, 2, 64, 11, 11])?;
     let copy = body.clone()?;
     assert_eq!(rt; copy.groups(), body.groups());
-    let (tokens, labels) = copy.tokens();
-    assert_eq!(rt; tokens, body.tokens().0);
-    assert_eq!(rt; labels, body.tokens().1);
-    assert_eq!(rt; tokens.len(), 4);
+    is_copy(&rt, copy.expr(), body.expr());
     let expr = copy.expr().clone()?;
-    assert_eq!(rt; expr.tokens().0, tokens);
-    assert_eq!(rt; expr.tokens().1, [0].as_slice());
+    is_copy(&rt, &expr, body.expr());
     Ok(())
+}
+
+// An expression of four tokens and two labels, copied.
+fn is_copy(rt: &impl Abort, copy: &Expr, expr: &Expr) {
+    let (tokens, labels) = copy.tokens();
+    assert_eq!(rt; (tokens, labels), expr.tokens());
+    assert_eq!(rt; tokens.len(), 4);
+    assert_eq!(rt; labels, [0].as_slice());
 }

@@ -297,19 +297,22 @@ fn lends_tokens(rt: HostRuntime) -> Result<(), Fail> {
     ];
     let body = read_body_in(rt.alloc(), &bytes, Profile::Core)?;
     let (tokens, labels) = body.tokens();
-    let ty = BlockType::Value(ValType::I32);
-    assert_eq!(rt; tokens.len(), 6);
-    assert_eq!(rt; tokens[0], Token::If { ty, skip: 3 });
-    assert_eq!(rt; tokens[1], Token::Numeric(NumericOp::I32Add));
-    assert_eq!(rt; tokens[2], Token::Else { skip: 1 });
-    assert_eq!(rt;
-        tokens[3],
+    let wanted = [
+        Token::If {
+            ty: BlockType::Value(ValType::I32),
+            skip: 3,
+        },
+        Token::Numeric(NumericOp::I32Add),
+        Token::Else { skip: 1 },
         Token::BrTable {
             start: 0,
             len: 2,
-            other: 5
-        }
-    );
+            other: 5,
+        },
+        Token::End,
+        Token::End,
+    ];
+    assert_eq!(rt; tokens, wanted.as_slice());
     assert_eq!(rt; labels, [3, 4].as_slice());
     assert_eq!(rt; body.groups().len(), 1);
     Ok(())

@@ -89,16 +89,16 @@ fn reads_type_indexes(rt: HostRuntime) -> Result<(), Fail> {
     );
     let eqz = [0x00, 0x41, 0x00, 0x02, 0x01, 0x45, 0x0B, 0x1A, 0x0B];
     let body = read_body_in(rt.alloc(), &eqz, Profile::Extended)?;
-    let tokens = body.tokens().0;
-    assert_eq!(rt; tokens.len(), 6);
-    assert_eq!(rt;
-        tokens[1],
-        Token::Block {
-            ty: BlockType::Index(1),
-            skip: 1
-        }
-    );
-    assert_eq!(rt; tokens[2], Token::Numeric(NumericOp::I32Eqz));
+    let ty = BlockType::Index(1);
+    let wanted = [
+        Token::I32Const(0),
+        Token::Block { ty, skip: 1 },
+        Token::Numeric(NumericOp::I32Eqz),
+        Token::End,
+        Token::Drop,
+        Token::End,
+    ];
+    assert_eq!(rt; body.tokens().0, wanted.as_slice());
     Ok(())
 }
 

@@ -28,11 +28,9 @@ fn spells_u32(rt: HostRuntime) -> Result<(), Fail> {
         assert_eq!(rt; out.as_slice(), bytes, "{n}");
         let mut sink = Sink::new(Vec::new(rt.alloc()));
         out_u32(&mut sink, n)?;
-        let handed = sink.into_inner();
-        assert_eq!(rt; handed.as_slice(), bytes, "{n}");
+        assert_eq!(rt; sink.into_inner().as_slice(), bytes, "{n}");
         assert!(rt; bytes.len() <= 5);
-        let read = Cursor::new(bytes).u32().ok().ok_or("a number")?;
-        assert_eq!(rt; read, n);
+        assert_eq!(rt; Cursor::new(bytes).u32(), Ok(n));
     }
     Ok(())
 }
@@ -77,21 +75,34 @@ fn spells_signed(rt: HostRuntime) -> Result<(), Fail> {
         let mut out = Vec::new(rt.alloc());
         put_s64(&mut out, n)?;
         assert_eq!(rt; out.as_slice(), bytes, "{n}");
-        let read = Cursor::new(bytes).s64().ok().ok_or("a number")?;
-        assert_eq!(rt; read, n);
+        assert_eq!(rt; Cursor::new(bytes).s64(), Ok(n));
+    }
+    Ok(())
+}
+
+#[test]
+fn spells_signed_of_33_bits(rt: HostRuntime) -> Result<(), Fail> {
+    for (n, bytes) in SIGNED {
         if -4_294_967_296 <= n && n < 4_294_967_296 {
-            out.clear();
+            let mut out = Vec::new(rt.alloc());
             put_s33(&mut out, n)?;
             assert_eq!(rt; out.as_slice(), bytes, "{n}");
-            let read = Cursor::new(bytes).s33().ok().ok_or("a number")?;
-            assert_eq!(rt; read, n);
+            assert!(rt; bytes.len() <= 10);
+            assert_eq!(rt; Cursor::new(bytes).s33(), Ok(n));
         }
-        if let Ok(n) = i32::try_from(n) {
-            out.clear();
+    }
+    Ok(())
+}
+
+#[test]
+fn spells_signed_of_32_bits(rt: HostRuntime) -> Result<(), Fail> {
+    for (wide, bytes) in SIGNED {
+        if let Ok(n) = i32::try_from(wide) {
+            let mut out = Vec::new(rt.alloc());
             put_s32(&mut out, n)?;
             assert_eq!(rt; out.as_slice(), bytes, "{n}");
-            let read = Cursor::new(bytes).s32().ok().ok_or("a number")?;
-            assert_eq!(rt; read, n);
+            assert!(rt; bytes.len() <= 10);
+            assert_eq!(rt; Cursor::new(bytes).s32(), Ok(n));
         }
     }
     Ok(())
@@ -109,15 +120,11 @@ fn reads_padded_integers(rt: HostRuntime) -> Result<(), Fail> {
     ];
     for (n, bytes) in padded {
         assert!(rt; bytes.len() <= 5);
-        let read = Cursor::new(bytes).s64().ok().ok_or("a number")?;
-        assert_eq!(rt; read, n);
-        let read = Cursor::new(bytes).s33().ok().ok_or("a number")?;
-        assert_eq!(rt; read, n);
-        let read = Cursor::new(bytes).s32().ok().ok_or("a number")?;
-        assert_eq!(rt; i64::from(read), n);
+        assert_eq!(rt; Cursor::new(bytes).s64(), Ok(n));
+        assert_eq!(rt; Cursor::new(bytes).s33(), Ok(n));
+        assert_eq!(rt; Cursor::new(bytes).s32().map(i64::from), Ok(n));
         if let Ok(n) = u32::try_from(n) {
-            let read = Cursor::new(bytes).u32().ok().ok_or("a number")?;
-            assert_eq!(rt; read, n);
+            assert_eq!(rt; Cursor::new(bytes).u32(), Ok(n));
         }
     }
     one_spelling();
@@ -136,10 +143,9 @@ fn refuses_wrong_integers(rt: HostRuntime) -> Result<(), Fail> {
     ];
     for (bytes, kind) in wrong {
         assert!(rt; bytes.len() <= 6);
-        let fault = Cursor::new(bytes).u32().err().ok_or("a fault")?;
-        assert_eq!(rt; fault, ReadFault { kind, at: 0 });
-        let fault = Cursor::new(bytes).s32().err().ok_or("a fault")?;
-        assert_eq!(rt; fault, ReadFault { kind, at: 0 });
+        let fault = ReadFault { kind, at: 0 };
+        assert_eq!(rt; Cursor::new(bytes).u32(), Err(fault));
+        assert_eq!(rt; Cursor::new(bytes).s32(), Err(fault));
     }
     Ok(())
 }

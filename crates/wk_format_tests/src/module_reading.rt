@@ -229,12 +229,11 @@ fn reads_the_other_profile(rt: HostRuntime) -> Result<(), Fail> {
         1, 9, 2, 96, 0, 0, 96, 1, 127, 1, 127, 3, 2, 1, 0, 10, 11, 1, 9, 0, 65, 0, 2, 1, 69, 11,
         26, 11,
     ];
-    let (kind, at) = fault_behind(rt.alloc(), &bytes)?;
-    assert_eq!(rt; kind, ReadKind::BadByte);
-    assert_eq!(rt; at, 31);
+    let fault = fault_behind(rt.alloc(), &bytes)?;
+    assert_eq!(rt; fault, (ReadKind::BadByte, 31));
     let input = after_header(rt.alloc(), &bytes)?;
     let module = read_in(rt.alloc(), input.as_slice(), Profile::Extended)?;
-    assert_eq!(rt; module.parts().profile, Profile::Extended);
-    assert_eq!(rt; module.parts().funcs.len(), 1);
+    let parts = module.parts();
+    assert_eq!(rt; (parts.profile, parts.funcs.len()), (Profile::Extended, 1));
     Ok(())
 }

@@ -93,15 +93,24 @@ fn looks_at_codes(rt: &impl Abort, alloc: Global, section: &RawSection<'_>) -> R
     Ok(())
 }
 
+// Reads the sections behind the codes, and looks at the lists.
+fn reads_the_rest(
+    rt: &impl Abort,
+    alloc: Global,
+    reader: SectionReader<'_>,
+    funcs: &[u32],
+) -> Result<(), Fail> {
+    let reader = reader.to_end(alloc, &mut Scratch::new(alloc))?;
+    looks_at_lists(rt, &reader, funcs, 1);
+    Ok(())
+}
+
 #[test]
 fn reads_sections_and_codes(rt: HostRuntime) -> Result<(), Fail> {
     let (reader, section) = up_to_code(rt.alloc(), TWO)?;
     looks_at_lists(&rt, &reader, &[0, 0], 0);
-    let section = section.ok_or("a code section")?;
-    looks_at_codes(&rt, rt.alloc(), &section)?;
-    let reader = reader.to_end(rt.alloc(), &mut Scratch::new(rt.alloc()))?;
-    looks_at_lists(&rt, &reader, &[0, 0], 1);
-    Ok(())
+    looks_at_codes(&rt, rt.alloc(), &section.ok_or("a code section")?)?;
+    reads_the_rest(&rt, rt.alloc(), reader, &[0, 0])
 }
 
 #[test]
@@ -111,9 +120,7 @@ fn reads_to_the_end_without_codes(rt: HostRuntime) -> Result<(), Fail> {
     let (reader, section) = up_to_code(rt.alloc(), bytes)?;
     assert!(rt; section.is_none());
     looks_at_lists(&rt, &reader, &[5, 6], 1);
-    let reader = reader.to_end(rt.alloc(), &mut Scratch::new(rt.alloc()))?;
-    looks_at_lists(&rt, &reader, &[5, 6], 1);
-    Ok(())
+    reads_the_rest(&rt, rt.alloc(), reader, &[5, 6])
 }
 
 #[test]

@@ -149,15 +149,21 @@ fn measures_sections(rt: HostRuntime) -> Result<(), Fail> {
     measures(&rt, rt.alloc(), &read(rt.alloc(), input.as_slice())?)
 }
 
+// The module without its custom sections.
+fn without_customs(alloc: Global, module: Module) -> Module {
+    let mut parts = module.into_parts();
+    parts.customs = Items::new(alloc);
+    Module::of(parts)
+}
+
 #[test]
 fn takes_customs_away(rt: HostRuntime) -> Result<(), Fail> {
     let input = after_header(
         rt.alloc(),
         &[0, 1, 0, 1, 4, 1, 96, 0, 0, 0, 3, 1, 97, 7, 5, 3, 1, 0, 1],
     )?;
-    let mut parts = read(rt.alloc(), input.as_slice())?.into_parts();
-    parts.customs = Items::new(rt.alloc());
-    let bytes = encode(rt.alloc(), &Module::of(parts)).ok().ok_or("bytes")?;
+    let module = without_customs(rt.alloc(), read(rt.alloc(), input.as_slice())?);
+    let bytes = encode(rt.alloc(), &module).ok().ok_or("bytes")?;
     let rest = bytes.as_slice().get(8..).ok_or("a header")?;
     assert_eq!(rt;
         rest,
@@ -166,9 +172,9 @@ fn takes_customs_away(rt: HostRuntime) -> Result<(), Fail> {
     Ok(())
 }
 
-// Copies a type from i32 to i64.
-fn copies(rt: &impl Abort, alloc: Global, ty: &FuncType) -> Result<(), Fail> {
-    let copy = ty.copy(alloc)?;
+// The first of some types goes from i32 to i64, and so does its copy.
+fn copies_first(rt: &impl Abort, alloc: Global, types: &[FuncType]) -> Result<(), Fail> {
+    let copy = types.first().ok_or("a type")?.copy(alloc)?;
     assert_eq!(rt; copy.params.as_slice(), [ValType::I32].as_slice());
     assert_eq!(rt; copy.results.as_slice(), [ValType::I64].as_slice());
     Ok(())
@@ -178,16 +184,19 @@ fn copies(rt: &impl Abort, alloc: Global, ty: &FuncType) -> Result<(), Fail> {
 fn copies_a_type(rt: HostRuntime) -> Result<(), Fail> {
     let input = after_header(rt.alloc(), &[1, 6, 1, 96, 1, 127, 1, 126])?;
     let module = read(rt.alloc(), input.as_slice())?;
-    let ty = module.parts().types.as_slice().first().ok_or("a type")?;
-    copies(&rt, rt.alloc(), ty)
+    copies_first(&rt, rt.alloc(), module.parts().types.as_slice())
+}
+
+// The exports of a module without functions are written as these bytes.
+fn writes_exports(rt: &impl Abort, alloc: Global, parts: &Parts, bytes: &[u8]) -> Result<(), Fail> {
+    let found = encode_section(alloc, &lists(parts, &[]), 7);
+    assert_eq!(rt; found.ok().ok_or("bytes")?.as_slice(), bytes);
+    Ok(())
 }
 
 #[test]
 fn writes_exports_alone(rt: HostRuntime) -> Result<(), Fail> {
     let input = after_header(rt.alloc(), &[7, 5, 1, 1, 97, 3, 0])?;
     let module = read(rt.alloc(), input.as_slice())?;
-    let lists = lists(module.parts(), &[]);
-    let found = encode_section(rt.alloc(), &lists, 7).ok().ok_or("bytes")?;
-    assert_eq!(rt; found.as_slice(), b"\x01\x01\x61\x03\x00".as_slice());
-    Ok(())
+    writes_exports(&rt, rt.alloc(), module.parts(), b"\x01\x01\x61\x03\x00")
 }

@@ -1,20 +1,16 @@
 //! Calls of `wk_check`.
 
 use crate::mark::{call_begins, call_ends};
-use crate::modules::lists;
+use crate::modules::{lists, module};
 use crate::outcome::Outcome;
 use crate::sample::{NO_MEMORY, VALID};
 use std::alloc::{AllocError, Global};
 use wk_bytes::OutOfMemory;
 use wk_check::{BodyVerdict, Meter, Verdict, Whole, judge, judge_around, judge_body, judge_bytes};
-use wk_module::{Module, Profile, read};
+use wk_module::{Module, Profile};
 
 // The types of the functions that `VALID` defines.
 const TYPES: &[u32] = &[1];
-
-fn module(alloc: Global, bytes: &[u8]) -> Result<Module, AllocError> {
-    read(alloc, bytes).map_err(|_| AllocError)
-}
 
 // What judging a valid module answered.
 fn judged(answer: Result<Verdict, OutOfMemory>) -> Outcome {
@@ -35,7 +31,10 @@ pub fn judges(alloc: Global, bytes: &[u8]) -> Result<Outcome, AllocError> {
 
 /// `judge_around`.
 pub fn judges_around(alloc: Global) -> Result<Outcome, AllocError> {
-    let module = module(alloc, VALID)?;
+    judges_around_of(alloc, &module(alloc, VALID)?)
+}
+
+fn judges_around_of(alloc: Global, module: &Module) -> Result<Outcome, AllocError> {
     let lists = lists(module.parts(), TYPES);
     call_begins(alloc)?;
     let answer = judge_around(alloc, &lists, None);
@@ -74,7 +73,10 @@ pub fn judges_body(alloc: Global) -> Result<Outcome, AllocError> {
 
 /// `Whole::of`.
 pub fn sees_whole(alloc: Global) -> Result<Outcome, AllocError> {
-    let module = module(alloc, VALID)?;
+    sees_whole_of(alloc, &module(alloc, VALID)?)
+}
+
+fn sees_whole_of(alloc: Global, module: &Module) -> Result<Outcome, AllocError> {
     let lists = lists(module.parts(), TYPES);
     call_begins(alloc)?;
     let answer = Whole::of(alloc, lists);

@@ -1,13 +1,14 @@
 //! Calls of `wk_list`.
 
 use crate::mark::{call_begins, call_ends};
+use crate::modules::module;
 use crate::outcome::Outcome;
 use crate::sample::WHOLE;
 use crate::sinks::{Room, has_appended, has_begun, sink};
 use std::alloc::{AllocError, Global};
 use wk_bytes::Out;
 use wk_list::{ListFault, Part, Plain, list};
-use wk_module::read;
+use wk_module::Module;
 
 /// A part of a module, and its lines.
 #[derive(Clone, Copy)]
@@ -111,7 +112,7 @@ pub const USES: Listed = Listed {
 
 /// `list` of a part, to a sink with that much room.
 pub fn lists(alloc: Global, listed: Listed, room: Room) -> Result<Outcome, AllocError> {
-    let module = read(alloc, listed.input).map_err(|_| AllocError)?;
+    let module = module(alloc, listed.input)?;
     let Some(plain) = Plain::of(&module) else {
         return Ok(Outcome::Wrong("a small module does not fit"));
     };
@@ -130,9 +131,12 @@ pub fn lists(alloc: Global, listed: Listed, room: Room) -> Result<Outcome, Alloc
 
 /// `Plain::of`.
 pub fn sees_plain(alloc: Global) -> Result<Outcome, AllocError> {
-    let module = read(alloc, WHOLE).map_err(|_| AllocError)?;
+    sees_plain_of(alloc, &module(alloc, WHOLE)?)
+}
+
+fn sees_plain_of(alloc: Global, module: &Module) -> Result<Outcome, AllocError> {
     call_begins(alloc)?;
-    let plain = Plain::of(&module);
+    let plain = Plain::of(module);
     call_ends(alloc)?;
     Ok(Outcome::answered(plain.is_some()))
 }

@@ -47,13 +47,21 @@ fn encoded(
     })
 }
 
+/// The module that these bytes spell.
+pub fn module(alloc: Global, bytes: &[u8]) -> Result<Module, AllocError> {
+    read(alloc, bytes).map_err(|_| AllocError)
+}
+
 /// `encode` of the module whose written form these bytes are.
 pub fn encodes(alloc: Global, bytes: &[u8]) -> Result<Outcome, AllocError> {
-    let module = read(alloc, bytes).map_err(|_| AllocError)?;
+    encodes_as(alloc, &module(alloc, bytes)?, bytes)
+}
+
+fn encodes_as(alloc: Global, module: &Module, bytes: &[u8]) -> Result<Outcome, AllocError> {
     call_begins(alloc)?;
-    let answer = encode(alloc, &module);
+    let answer = encode(alloc, module);
     call_ends(alloc)?;
-    encoded(alloc, answer, bytes, &module, bytes)
+    encoded(alloc, answer, bytes, module, bytes)
 }
 
 /// The lists of a module whose functions have these types.
@@ -77,17 +85,20 @@ pub fn lists<'a>(parts: &'a Parts, funcs: &'a [u32]) -> Lists<'a>
 
 /// `encode_section` of exports.
 pub fn encodes_exports(alloc: Global) -> Result<Outcome, AllocError> {
-    let module = read(alloc, WHOLE).map_err(|_| AllocError)?;
+    encodes_exports_of(alloc, &module(alloc, WHOLE)?)
+}
+
+fn encodes_exports_of(alloc: Global, module: &Module) -> Result<Outcome, AllocError> {
     let lists = lists(module.parts(), &[]);
     call_begins(alloc)?;
     let answer = encode_section(alloc, &lists, 7);
     call_ends(alloc)?;
-    encoded(alloc, answer, EXPORTS, &module, WHOLE)
+    encoded(alloc, answer, EXPORTS, module, WHOLE)
 }
 
 /// `encode_custom`.
 pub fn encodes_custom(alloc: Global) -> Result<Outcome, AllocError> {
-    let module = read(alloc, WHOLE).map_err(|_| AllocError)?;
+    let module = module(alloc, WHOLE)?;
     let Some(custom) = module.parts().customs.as_slice().last() else {
         return Ok(Outcome::Wrong("a custom section is lost"));
     };
@@ -99,10 +110,13 @@ pub fn encodes_custom(alloc: Global) -> Result<Outcome, AllocError> {
 
 /// `encoded_len` and `section_len`.
 pub fn measures(alloc: Global) -> Result<Outcome, AllocError> {
-    let module = read(alloc, WHOLE).map_err(|_| AllocError)?;
+    measures_of(alloc, &module(alloc, WHOLE)?)
+}
+
+fn measures_of(alloc: Global, module: &Module) -> Result<Outcome, AllocError> {
     call_begins(alloc)?;
-    let len = encoded_len(&module);
-    let exports = section_len(&module, 7);
+    let len = encoded_len(module);
+    let exports = section_len(module, 7);
     call_ends(alloc)?;
     let is_right = len == Some(WHOLE.len() as u32) && exports == Some(EXPORTS.len() as u32);
     Ok(Outcome::answered(is_right))
@@ -110,7 +124,7 @@ pub fn measures(alloc: Global) -> Result<Outcome, AllocError> {
 
 /// `Module::of`.
 pub fn settles(alloc: Global) -> Result<Outcome, AllocError> {
-    let module = read(alloc, WHOLE).map_err(|_| AllocError)?;
+    let module = module(alloc, WHOLE)?;
     call_begins(alloc)?;
     let module = Module::of(module.into_parts());
     call_ends(alloc)?;
