@@ -5,13 +5,16 @@ use std::test::Fail;
 use wk_bytes::{Out, Sink};
 use wk_edit::{RunFault, Status, edit};
 
-const EMPTY: &[u8] = b"\0asm\x01\0\0\0";
+/// A module of nothing.
+pub(crate) const EMPTY: &[u8] = b"\0asm\x01\0\0\0";
 
-const ONE_TYPE: &[u8] = b"\0asm\x01\0\0\0\x01\x04\x01\x60\0\0";
+/// A type that takes nothing and gives nothing.
+pub(crate) const ONE_TYPE: &[u8] = b"\0asm\x01\0\0\0\x01\x04\x01\x60\0\0";
 
 const PADDED_TYPE: &[u8] = b"\0asm\x01\0\0\0\x01\x84\x80\x80\x80\0\x01\x60\0\0";
 
-const TWO_RESULTS: &[u8] = b"\0asm\x01\0\0\0\x01\x07\x01\x60\x01\x7f\x02\x7f\x7f";
+/// A type of two results.
+pub(crate) const TWO_RESULTS: &[u8] = b"\0asm\x01\0\0\0\x01\x07\x01\x60\x01\x7f\x02\x7f\x7f";
 
 const BAD_SIZE: &[u8] = b"\0asm\x01\0\0\0\x01\x80\x80\x80\x80\x10";
 
@@ -31,7 +34,7 @@ type Row = (
     &'static str,
 );
 
-const ROWS: [Row; 18] = [
+const ROWS: [Row; 20] = [
     (
         EMPTY,
         b"type - -",
@@ -89,6 +92,14 @@ const ROWS: [Row; 18] = [
         Status::Refused,
         TWO_RESULTS,
         "invalid V1 TypeArity at section 1 item 0\n",
+    ),
+    // an edit that is refused, and a body that leaves an operand
+    (
+        b"\0asm\x01\0\0\0\x01\x04\x01\x60\0\0\x03\x02\x01\0\x0a\x06\x01\x04\0\x41\0\x0b",
+        b"custom strip d\ntype - -\n",
+        Status::Refused,
+        b"\0asm\x01\0\0\0\x01\x07\x02\x60\0\0\x60\0\0\x03\x02\x01\0\x0a\x06\x01\x04\0\x41\0\x0b",
+        "1 refused E3 NoSuchCustom\n2 ok\ninvalid V15 StackHeight at section 10 item 0 token 1\n",
     ),
     // modules that cannot be read, whatever the script
     (
@@ -148,10 +159,17 @@ const ROWS: [Row; 18] = [
         b"",
         "script S2 NotAscii line 1\n",
     ),
+    (
+        EMPTY,
+        b"\n\n\n\n\n\n\n\n\n\n\n\xe9",
+        Status::BadScript,
+        b"",
+        "script S2 NotAscii line 12\n",
+    ),
 ];
 
 // More calls of an output than any row takes.
-const CALLS: usize = 64;
+const CALLS: usize = 128;
 
 #[test]
 fn edits(rt: HostRuntime) -> Result<(), Fail> {

@@ -1,6 +1,7 @@
 //! Sessions opened, edited and written.
 
 use crate::chopped::Chopped;
+use crate::job::{EMPTY, ONE_TYPE, TWO_RESULTS};
 use std::alloc::{AllocError, Global};
 use std::process::Abort;
 use std::test::Fail;
@@ -8,12 +9,6 @@ use wk_bytes::{Items, Out, ReadFault, ReadKind, Sink, Text};
 use wk_check::{Fault, FaultKind, Place, Verdict};
 use wk_module::{FuncType, Profile, ValType, encode, read};
 use wk_session::{Edit, EditFault, Reply, Session, Work, WriteFault, stripped};
-
-const EMPTY: &[u8] = b"\0asm\x01\0\0\0";
-
-const ONE_TYPE: &[u8] = b"\0asm\x01\0\0\0\x01\x04\x01\x60\0\0";
-
-const TWO_RESULTS: &[u8] = b"\0asm\x01\0\0\0\x01\x07\x01\x60\x01\x7f\x02\x7f\x7f";
 
 // Custom sections `a` and `b`, a type, and custom sections `a`, ``, `c` and `a`.
 const MIXED: &[u8] =

@@ -136,14 +136,6 @@ fn names_ends(rt: HostRuntime) -> Result<(), Fail> {
     for (fault, text) in ends {
         assert_eq!(rt; format!(in rt.alloc(); "{fault}")?.as_str(), text);
     }
-    let faults = [
-        (ScriptFault::BadWord { line: 3 }, "S1 BadWord line 3"),
-        (ScriptFault::NotAscii { line: 12 }, "S2 NotAscii line 12"),
-        (ScriptFault::Memory, "S3 Memory"),
-    ];
-    for (fault, text) in faults {
-        assert_eq!(rt; format!(in rt.alloc(); "{fault}")?.as_str(), text);
-    }
     let memory = OutOfMemory;
     assert_eq!(rt;
         format!(in rt.alloc(); "{memory}")?.as_str(),
@@ -154,6 +146,19 @@ fn names_ends(rt: HostRuntime) -> Result<(), Fail> {
         format!(in rt.alloc(); "{out}")?.as_str(),
         "the output failed"
     );
+    Ok(())
+}
+
+#[test]
+fn names_script_faults(rt: HostRuntime) -> Result<(), Fail> {
+    let faults = [
+        (ScriptFault::BadWord { line: 3 }, "S1 BadWord line 3"),
+        (ScriptFault::NotAscii { line: 12 }, "S2 NotAscii line 12"),
+        (ScriptFault::Memory, "S3 Memory"),
+    ];
+    for (fault, text) in faults {
+        assert_eq!(rt; format!(in rt.alloc(); "{fault}")?.as_str(), text);
+    }
     Ok(())
 }
 

@@ -129,7 +129,17 @@ fn appends(rt: HostRuntime) -> Result<(), Fail> {
 fn reads_in_one_room(rt: HostRuntime) -> Result<(), Fail> {
     let mut scratch = Scratch::new(rt.alloc());
     let long = [0x00, 0x0E, 0x01, 0x05, 0x06, 0x02, 0x40, 0x0B, 0x0B];
-    reads_body(&rt, rt.alloc(), &mut scratch, &long, 4, &[5])?;
+    let table = Token::BrTable {
+        start: 0,
+        len: 1,
+        other: 6,
+    };
+    let block = Token::Block {
+        ty: BlockType::Empty,
+        skip: 0,
+    };
+    let tokens = [table, block, Token::End, Token::End];
+    reads_body(&rt, rt.alloc(), &mut scratch, &long, (&tokens, &[5]))?;
     let broken = Cursor::new(&[0x00, 0x02, 0x40]);
     assert!(rt;
         scratch
@@ -142,22 +152,27 @@ fn reads_in_one_room(rt: HostRuntime) -> Result<(), Fail> {
         expr.tokens().0,
         [Token::I32Const(7), Token::End].as_slice()
     );
-    reads_body(&rt, rt.alloc(), &mut scratch, &[0x00, 0x01, 0x0B], 2, &[])
+    let tokens = [Token::Nop, Token::End];
+    reads_body(
+        &rt,
+        rt.alloc(),
+        &mut scratch,
+        &[0x00, 0x01, 0x0B],
+        (&tokens, &[]),
+    )
 }
 
-// A body is read in a room, with so many tokens and these labels.
+// A body is read in a room: these tokens and labels.
 fn reads_body(
     rt: &impl Abort,
     alloc: Global,
     scratch: &mut Scratch,
     bytes: &[u8],
-    tokens: usize,
-    labels: &[u32],
+    wanted: (&[Token], &[u32]),
 ) -> Result<(), Fail> {
     assert!(rt; bytes.len() < 10);
     let body = scratch.read_body(alloc, &Cursor::new(bytes), Profile::Core)?;
-    assert_eq!(rt; body.tokens().0.len(), tokens);
-    assert_eq!(rt; body.tokens().1, labels);
+    assert_eq!(rt; body.tokens(), wanted);
     Ok(())
 }
 

@@ -33,7 +33,7 @@ fn takes_20_000_blocks(rt: HostRuntime) -> Result<(), Fail> {
     Ok(())
 }
 
-// A copy of a body, with its functions moved; the body itself is gone.
+// A copy of a body, with its references to functions moved; the body itself is gone.
 fn moved_copy(alloc: Global, bytes: &[u8]) -> Result<Body, Fail> {
     let copy = read_body_in(alloc, bytes, Profile::Core)?.clone()?;
     let moved = shift(alloc, &copy, Moving::Func, 0);

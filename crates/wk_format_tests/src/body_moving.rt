@@ -219,21 +219,28 @@ fn calls(
     Ok(())
 }
 
+// A call of 4,294,967,295, and one of the index below.
+const GREATEST: [u8; 8] = [0, 16, 255, 255, 255, 255, 15, 11];
+
+const BELOW: [u8; 8] = [0, 16, 254, 255, 255, 255, 15, 11];
+
 #[test]
 fn refuses_the_greatest_index(rt: HostRuntime) -> Result<(), Fail> {
-    // a call of 4,294,967,295, and one of the index below
-    let greatest = [0, 16, 255, 255, 255, 255, 15, 11];
-    let below = [0, 16, 254, 255, 255, 255, 15, 11];
-    let body = read_body(rt.alloc(), &greatest)?;
+    let body = read_body(rt.alloc(), &GREATEST)?;
     for from in [0, 7, 4294967295] {
         let fault = shift(rt.alloc(), &body, Moving::Func, from).err();
         assert_eq!(rt; fault, Some(ShiftFault::Overflow), "from {from}");
     }
-    // what does not move can't fail to
+    Ok(())
+}
+
+// What does not move can't fail to, and the index below moves to the greatest.
+#[test]
+fn moves_up_to_the_greatest_index(rt: HostRuntime) -> Result<(), Fail> {
     let rows = [
-        (greatest, Moving::Global, 0, 4294967295),
-        (below, Moving::Func, 4294967294, 4294967295),
-        (below, Moving::Func, 4294967295, 4294967294),
+        (GREATEST, Moving::Global, 0, 4294967295),
+        (BELOW, Moving::Func, 4294967294, 4294967295),
+        (BELOW, Moving::Func, 4294967295, 4294967294),
     ];
     for (bytes, kind, from, callee) in rows {
         calls(&rt, rt.alloc(), (&bytes, kind, from), callee)?;
@@ -241,7 +248,7 @@ fn refuses_the_greatest_index(rt: HostRuntime) -> Result<(), Fail> {
     Ok(())
 }
 
-// The tokens of an expression with its globals moved.
+// The expression with its globals moved.
 fn moved_init(alloc: Global, bytes: &[u8], from: u32) -> Result<Expr, Fail> {
     let expr = read_expr(alloc, bytes)?;
     Ok(shift_expr(alloc, &expr, from).ok().ok_or("it moves")?)
@@ -273,14 +280,14 @@ fn clones(rt: HostRuntime) -> Result<(), Fail> {
     let body = read_body(rt.alloc(), &[1, 2, 126, 14, 1, 0, 0, 2, 64, 11, 11])?;
     let copy = body.clone()?;
     assert_eq!(rt; copy.groups(), body.groups());
-    is_copy(&rt, copy.expr(), body.expr());
+    looks_at_copy(&rt, copy.expr(), body.expr());
     let expr = copy.expr().clone()?;
-    is_copy(&rt, &expr, body.expr());
+    looks_at_copy(&rt, &expr, body.expr());
     Ok(())
 }
 
-// An expression of four tokens and two labels, copied.
-fn is_copy(rt: &impl Abort, copy: &Expr, expr: &Expr) {
+// A copy of an expression of four tokens and one label.
+fn looks_at_copy(rt: &impl Abort, copy: &Expr, expr: &Expr) {
     let (tokens, labels) = copy.tokens();
     assert_eq!(rt; (tokens, labels), expr.tokens());
     assert_eq!(rt; tokens.len(), 4);

@@ -1,3 +1,6 @@
+//! Headers, frames, what a cursor reads, outputs, and what holds items and text.
+
+use crate::module_writing::HEADER;
 use std::alloc::{AllocError, Global};
 use std::io;
 use std::io::Write;
@@ -6,8 +9,6 @@ use std::test::Fail;
 use wk_bytes::{
     Cursor, Items, Out, ReadFault, ReadKind, Sections, Sink, Stream, Text, out_u32, put_all,
 };
-
-const HEADER: [u8; 8] = [0x00, 0x61, 0x73, 0x6d, 0x01, 0x00, 0x00, 0x00];
 
 fn fault(kind: ReadKind, at: u32) -> ReadFault {
     ReadFault { kind, at }

@@ -1,4 +1,5 @@
-// Integers against spellings that are known from elsewhere: each is written, measured and read back.
+//! Integers against spellings that are known from elsewhere: written, measured and read back, padded, and wrong.
+
 use std::test::Fail;
 use wk_bytes::{
     Cursor, ReadFault, ReadKind, Sink, leb_len_s64, leb_len_u32, one_spelling, out_u32, put_s32,
@@ -84,7 +85,7 @@ fn spells_signed(rt: HostRuntime) -> Result<(), Fail> {
 fn spells_signed_of_33_bits(rt: HostRuntime) -> Result<(), Fail> {
     for (n, bytes) in SIGNED {
         if -4_294_967_296 <= n && n < 4_294_967_296 {
-            let mut out = Vec::new(rt.alloc());
+            let mut out = Vec::with_capacity(rt.alloc(), 10)?;
             put_s33(&mut out, n)?;
             assert_eq!(rt; out.as_slice(), bytes, "{n}");
             assert!(rt; bytes.len() <= 10);
@@ -98,7 +99,7 @@ fn spells_signed_of_33_bits(rt: HostRuntime) -> Result<(), Fail> {
 fn spells_signed_of_32_bits(rt: HostRuntime) -> Result<(), Fail> {
     for (wide, bytes) in SIGNED {
         if let Ok(n) = i32::try_from(wide) {
-            let mut out = Vec::new(rt.alloc());
+            let mut out = Vec::with_capacity(rt.alloc(), 10)?;
             put_s32(&mut out, n)?;
             assert_eq!(rt; out.as_slice(), bytes, "{n}");
             assert!(rt; bytes.len() <= 10);

@@ -1,26 +1,17 @@
 //! Inputs, and what reading them answers.
 
-use std::alloc::{AllocError, Global};
+use crate::module_writing::after_header;
+use std::alloc::Global;
 use std::test::Fail;
 use wk_body::Profile;
 use wk_bytes::ReadKind;
 use wk_module::{read, read_in};
-
-const HEADER: [u8; 8] = [0, 97, 115, 109, 1, 0, 0, 0];
 
 // One type, a function of it, an export, a custom section and the code.
 const SMALL: [u8; 36] = [
     0, 97, 115, 109, 1, 0, 0, 0, 1, 4, 1, 96, 0, 0, 3, 2, 1, 0, 7, 5, 1, 1, 102, 0, 0, 0, 3, 1, 99,
     170, 10, 4, 1, 2, 0, 11,
 ];
-
-// The header, and then these bytes.
-fn after_header(alloc: Global, bytes: &[u8]) -> Result<Vec<u8>, AllocError> {
-    let mut all = Vec::new(alloc);
-    all.extend_from_slice(&HEADER)?;
-    all.extend_from_slice(bytes)?;
-    Ok(all)
-}
 
 // The first fault of bytes behind a header.
 fn fault_behind(alloc: Global, bytes: &[u8]) -> Result<(ReadKind, u32), Fail> {

@@ -93,7 +93,7 @@ fn looks_at_codes(rt: &impl Abort, alloc: Global, section: &RawSection<'_>) -> R
     Ok(())
 }
 
-// Reads the sections behind the codes, and looks at the lists.
+// Reads the sections that are left, and looks for the functions and for one data segment.
 fn reads_the_rest(
     rt: &impl Abort,
     alloc: Global,

@@ -9,10 +9,11 @@ use wk_module::{
     encode_section, encoded_len, read, read_in, section_len,
 };
 
-const HEADER: [u8; 8] = [0, 97, 115, 109, 1, 0, 0, 0];
+/// The header of a module.
+pub(crate) const HEADER: [u8; 8] = [0, 97, 115, 109, 1, 0, 0, 0];
 
-// The header, and then these bytes.
-fn after_header(alloc: Global, bytes: &[u8]) -> Result<Vec<u8>, AllocError> {
+/// The header, and then these bytes.
+pub(crate) fn after_header(alloc: Global, bytes: &[u8]) -> Result<Vec<u8>, AllocError> {
     let mut all = Vec::new(alloc);
     all.extend_from_slice(&HEADER)?;
     all.extend_from_slice(bytes)?;
@@ -172,7 +173,7 @@ fn takes_customs_away(rt: HostRuntime) -> Result<(), Fail> {
     Ok(())
 }
 
-// The first of some types goes from i32 to i64, and so does its copy.
+// The copy of the first of some types goes from i32 to i64.
 fn copies_first(rt: &impl Abort, alloc: Global, types: &[FuncType]) -> Result<(), Fail> {
     let copy = types.first().ok_or("a type")?.copy(alloc)?;
     assert_eq!(rt; copy.params.as_slice(), [ValType::I32].as_slice());

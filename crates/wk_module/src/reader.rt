@@ -120,6 +120,7 @@ fn place_behind(place: u8, id: u8, full: bool) -> u8
     if full { id } else { place }
 }
 
+// Of what was read so far nothing is said after a refusal.
 impl SoFar {
     // Before the first section.
     pub(crate) fn new(alloc: Global, profile: Profile) -> SoFar

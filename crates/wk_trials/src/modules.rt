@@ -1,4 +1,4 @@
-//! Calls of `wk_module` and `wk_check`.
+//! Calls of `wk_module`.
 
 ghost use Rattle.std.specs.Prelude.{◌≡◌, []};
 ghost use Rattle.wk_module.specs.Listed.{listed};
