@@ -7,7 +7,7 @@ use crate::sample::{NO_MEMORY, VALID};
 use std::alloc::{AllocError, Global};
 use wk_bytes::OutOfMemory;
 use wk_check::{BodyVerdict, Meter, Verdict, Whole, judge, judge_around, judge_body, judge_bytes};
-use wk_module::{Module, Profile};
+use wk_module::{Func, Module, Profile};
 
 // The types of the functions that `VALID` defines.
 const TYPES: &[u32] = &[1];
@@ -22,9 +22,12 @@ fn judged(answer: Result<Verdict, OutOfMemory>) -> Outcome {
 
 /// `judge` of the valid module that these bytes spell.
 pub fn judges(alloc: Global, bytes: &[u8]) -> Result<Outcome, AllocError> {
-    let module = module(alloc, bytes)?;
+    judges_valid(alloc, &module(alloc, bytes)?)
+}
+
+fn judges_valid(alloc: Global, module: &Module) -> Result<Outcome, AllocError> {
     call_begins(alloc)?;
-    let answer = judge(alloc, &module);
+    let answer = judge(alloc, module);
     call_ends(alloc)?;
     Ok(judged(answer))
 }
@@ -55,15 +58,22 @@ pub fn judges_bytes(alloc: Global) -> Result<Outcome, AllocError> {
 
 /// `judge_body`, which counts the body also where it refuses.
 pub fn judges_body(alloc: Global) -> Result<Outcome, AllocError> {
-    let module = module(alloc, VALID)?;
+    judges_body_of(alloc, &module(alloc, VALID)?)
+}
+
+fn judges_body_of(alloc: Global, module: &Module) -> Result<Outcome, AllocError> {
     let parts = module.parts();
     let Some(func) = parts.funcs.as_slice().first() else {
         return Ok(Outcome::Wrong("functions"));
     };
     let whole = Whole::of(alloc, lists(parts, TYPES)).map_err(|_| AllocError)?;
+    judges_func(alloc, &whole, func)
+}
+
+fn judges_func(alloc: Global, whole: &Whole<'_>, func: &Func) -> Result<Outcome, AllocError> {
     let mut meter = Meter::new(alloc);
     call_begins(alloc)?;
-    let answer = judge_body(&whole, func.ty, &func.body, &mut meter);
+    let answer = judge_body(whole, func.ty, &func.body, &mut meter);
     call_ends(alloc)?;
     Ok(match answer {
         Ok(verdict) => Outcome::answered(verdict == BodyVerdict::Valid && meter.typed() == 1),

@@ -8,6 +8,7 @@ use crate::mark::{call_begins, call_ends};
 use crate::outcome::Outcome;
 use crate::sample::{EXPORTS, LAST_CUSTOM, NO_MEMORY, WHOLE};
 use std::alloc::{AllocError, Global};
+use wk_bytes::ReadFault;
 use wk_module::{
     EncodeFault, Lists, Module, Parts, encode, encode_custom, encode_section, encoded_len, read,
     section_len,
@@ -26,9 +27,18 @@ pub fn reads(alloc: Global, bytes: &[u8]) -> Result<Outcome, AllocError> {
     call_begins(alloc)?;
     let answer = read(alloc, bytes);
     call_ends(alloc)?;
+    was_read(alloc, &answer, bytes)
+}
+
+// What reading the module answered whose written form these bytes are.
+fn was_read(
+    alloc: Global,
+    answer: &Result<Module, ReadFault>,
+    bytes: &[u8],
+) -> Result<Outcome, AllocError> {
     Ok(match answer {
-        Ok(module) => Outcome::answered(is_written_as(alloc, &module, bytes)?),
-        Err(fault) => Outcome::refused(fault == NO_MEMORY),
+        Ok(module) => Outcome::answered(is_written_as(alloc, module, bytes)?),
+        Err(fault) => Outcome::refused(*fault == NO_MEMORY),
     })
 }
 
@@ -98,14 +108,17 @@ fn encodes_exports_of(alloc: Global, module: &Module) -> Result<Outcome, AllocEr
 
 /// `encode_custom`.
 pub fn encodes_custom(alloc: Global) -> Result<Outcome, AllocError> {
-    let module = module(alloc, WHOLE)?;
+    encodes_custom_of(alloc, &module(alloc, WHOLE)?)
+}
+
+fn encodes_custom_of(alloc: Global, module: &Module) -> Result<Outcome, AllocError> {
     let Some(custom) = module.parts().customs.as_slice().last() else {
         return Ok(Outcome::Wrong("a custom section is lost"));
     };
     call_begins(alloc)?;
     let answer = encode_custom(alloc, custom);
     call_ends(alloc)?;
-    encoded(alloc, answer, LAST_CUSTOM, &module, WHOLE)
+    encoded(alloc, answer, LAST_CUSTOM, module, WHOLE)
 }
 
 /// `encoded_len` and `section_len`.
@@ -124,9 +137,13 @@ fn measures_of(alloc: Global, module: &Module) -> Result<Outcome, AllocError> {
 
 /// `Module::of`.
 pub fn settles(alloc: Global) -> Result<Outcome, AllocError> {
-    let module = module(alloc, WHOLE)?;
+    let module = settled(alloc, module(alloc, WHOLE)?)?;
+    Ok(Outcome::answered(is_written_as(alloc, &module, WHOLE)?))
+}
+
+fn settled(alloc: Global, module: Module) -> Result<Module, AllocError> {
     call_begins(alloc)?;
     let module = Module::of(module.into_parts());
     call_ends(alloc)?;
-    Ok(Outcome::answered(is_written_as(alloc, &module, WHOLE)?))
+    Ok(module)
 }

@@ -1,13 +1,11 @@
 //! The scenarios and their names.
 
 use crate::outcome::Outcome;
-use crate::sample::{
-    MODULE, STRIPPED, VALID, WHOLE, WITH_BYTES, WITH_CUSTOM, WITH_TYPE, WITHOUT_CUSTOMS,
-};
+use crate::sample::{MODULE, VALID, WHOLE, WITH_BYTES, WITH_CUSTOM, WITHOUT_CUSTOMS};
 use crate::sinks::Room;
-use crate::{bodies, bytes, jobs, judging, listings, modules, sample, sessions};
+use crate::{bodies, bytes, jobs, judging, listings, modules, sessions};
 use std::alloc::{AllocError, Global};
-use wk_session::{Edit, EditFault};
+use wk_session::Edit;
 
 /// A call under test.
 #[derive(Clone, Copy, Debug, PartialEq, Eq)]
@@ -306,28 +304,12 @@ impl Scenario {
             Scenario::ListUses => listings::lists(alloc, listings::USES, Room::Ample),
             Scenario::ListToFull => listings::lists(alloc, listings::CODE, Room::Full),
             Scenario::Open => sessions::opens(alloc),
-            Scenario::ApplyType => sessions::applies(alloc, &sample::add_type(alloc)?, WITH_TYPE),
-            Scenario::ApplyStrip => sessions::applies(
-                alloc,
-                &sample::strip(alloc, "first")?,
-                STRIPPED,
-            ),
-            Scenario::ApplySet => sessions::applies(
-                alloc,
-                &sample::set(alloc, "second")?,
-                WITH_BYTES,
-            ),
-            Scenario::ApplySetNew => sessions::applies(
-                alloc,
-                &sample::set(alloc, "new")?,
-                WITH_CUSTOM,
-            ),
+            Scenario::ApplyType => sessions::applies_type(alloc),
+            Scenario::ApplyStrip => sessions::applies_strip(alloc),
+            Scenario::ApplySet => sessions::applies_set(alloc, "second", WITH_BYTES),
+            Scenario::ApplySetNew => sessions::applies_set(alloc, "new", WITH_CUSTOM),
             Scenario::ApplyStripAll => sessions::applies(alloc, &Edit::StripAll, WITHOUT_CUSTOMS),
-            Scenario::ApplyRefused => sessions::declines(
-                alloc,
-                &sample::strip(alloc, "absent")?,
-                EditFault::NoSuchCustom,
-            ),
+            Scenario::ApplyRefused => sessions::declines_strip(alloc),
             Scenario::Run => sessions::runs(alloc),
             Scenario::Write => sessions::writes(alloc, Room::Ample),
             Scenario::WriteToFull => sessions::writes(alloc, Room::Full),
