@@ -142,8 +142,8 @@ fn memory_grow<E: Env>(env: &E, m: &mut Machine) -> Result<(), Stop>
     turn(m, ValType::I32, ValType::I32)
 }
 
-// The beginning of a block. (Its answer comes through memory, into a place that is this function's own: so the loop over the
-// tokens keeps its answers in registers.)
+// The beginning of a block. (Its answer comes through memory, into a place that is this function's own, and its type goes through
+// memory in a copy: so the loop over the tokens keeps its answers and the tokens in registers.)
 #[inline(always)]
 fn open<E: Env>(
     env: &E,
@@ -154,7 +154,8 @@ fn open<E: Env>(
 ) -> Result<(), Stop>
     ensures { Steps (entering (E.answers env.now) test opener ty.now m.old) result m.new }
 {
-    enter(env, m, test, opener, ty)?;
+    let ty = *ty;
+    enter(env, m, test, opener, &ty)?;
     Ok(())
 }
 
