@@ -117,7 +117,7 @@ fn takes_elements(rt: HostRuntime) -> Result<(), Fail> {
 
 #[test]
 fn refuses_elements(rt: HostRuntime) -> Result<(), Fail> {
-    let rows: [(&[u8], &str); 5] = [
+    let rows: [(&[u8], &str); 6] = [
         // a function that is not there
         (
             b"\x01\x04\x01\x60\0\0\x03\x02\x01\0\x04\x04\x01\x70\0\x01\x08\x01\0\x09\x07\x01\0\x41\0\x0b\x01\x05\x0a\x04\x01\x02\0\x0b",
@@ -136,7 +136,11 @@ fn refuses_elements(rt: HostRuntime) -> Result<(), Fail> {
             b"\x04\x04\x01\x70\0\0\x09\x06\x01\x01\x41\0\x0b\0",
             "V8 UnknownTable at section 9 item 0",
         ),
-        // the start function comes first
+        // the start function alone, and in front of that
+        (
+            b"\x01\x04\x01\x60\0\0\x03\x02\x01\0\x04\x04\x01\x70\0\x01\x08\x01\x01\x09\x07\x01\0\x41\0\x0b\x01\0\x0a\x04\x01\x02\0\x0b",
+            "V7 UnknownFunc at section 8 item 0",
+        ),
         (
             b"\x01\x04\x01\x60\0\0\x03\x02\x01\0\x04\x04\x01\x70\0\x01\x08\x01\x01\x09\x07\x01\0\x41\0\x0b\x01\x05\x0a\x04\x01\x02\0\x0b",
             "V7 UnknownFunc at section 8 item 0",
@@ -178,7 +182,7 @@ fn refuses_offsets(rt: HostRuntime) -> Result<(), Fail> {
 fn takes_data(rt: HostRuntime) -> Result<(), Fail> {
     let rows: [&[u8]; 2] = [
         // at a constant global of the module
-        b"\x05\x03\x01\0\0\x06\x06\x01\x7f\0\x41\0\x0b\x0b\x06\x01\0\x23\0\x0b\0",
+        b"\x05\x03\x01\0\x01\x06\x06\x01\x7f\0\x41\0\x0b\x0b\x06\x01\0\x23\0\x0b\0",
         // in an imported memory
         b"\x02\x06\x01\0\0\x02\0\0\x0b\x0c\x02\0\x41\0\x0b\x01\xff\0\x41\0\x0b\0",
     ];
