@@ -63,7 +63,7 @@ fn is_expr(alloc: Global, expr: &Expr, bytes: &[u8]) -> Result<bool, AllocError>
 }
 
 /// `read_body`.
-pub fn reads(alloc: Global) -> Result<Outcome, AllocError> {
+pub(crate) fn reads(alloc: Global) -> Result<Outcome, AllocError> {
     call_begins(alloc)?;
     let answer = read_body(alloc, BODY);
     call_ends(alloc)?;
@@ -74,7 +74,7 @@ pub fn reads(alloc: Global) -> Result<Outcome, AllocError> {
 }
 
 /// `Scratch::read_body` in a room that was used before.
-pub fn reads_again(alloc: Global) -> Result<Outcome, AllocError> {
+pub(crate) fn reads_again(alloc: Global) -> Result<Outcome, AllocError> {
     let mut scratch = Scratch::new(alloc);
     let cursor = Cursor::new(BODY);
     let first = scratch.read_body(alloc, &cursor, Profile::Core);
@@ -91,7 +91,7 @@ pub fn reads_again(alloc: Global) -> Result<Outcome, AllocError> {
 }
 
 /// `next_expr_in`, which leaves the cursor where it refuses.
-pub fn takes_expr(alloc: Global) -> Result<Outcome, AllocError> {
+pub(crate) fn takes_expr(alloc: Global) -> Result<Outcome, AllocError> {
     let mut cursor = Cursor::new(EXPR);
     call_begins(alloc)?;
     let answer = next_expr_in(alloc, &mut cursor, Profile::Core);
@@ -103,7 +103,7 @@ pub fn takes_expr(alloc: Global) -> Result<Outcome, AllocError> {
 }
 
 /// `encode_body`.
-pub fn encodes(alloc: Global) -> Result<Outcome, AllocError> {
+pub(crate) fn encodes(alloc: Global) -> Result<Outcome, AllocError> {
     let body = body(alloc)?;
     call_begins(alloc)?;
     let answer = encode_body(alloc, &body);
@@ -116,7 +116,7 @@ pub fn encodes(alloc: Global) -> Result<Outcome, AllocError> {
 }
 
 /// `encode_expr`.
-pub fn encodes_expr(alloc: Global) -> Result<Outcome, AllocError> {
+pub(crate) fn encodes_expr(alloc: Global) -> Result<Outcome, AllocError> {
     let expr = expr(alloc)?;
     call_begins(alloc)?;
     let answer = encode_expr(alloc, &expr);
@@ -129,7 +129,7 @@ pub fn encodes_expr(alloc: Global) -> Result<Outcome, AllocError> {
 }
 
 /// `body_len`.
-pub fn measures(alloc: Global) -> Result<Outcome, AllocError> {
+pub(crate) fn measures(alloc: Global) -> Result<Outcome, AllocError> {
     let body = body(alloc)?;
     call_begins(alloc)?;
     let len = body_len(&body);
@@ -142,7 +142,7 @@ fn are_refs(found: &BTreeSet<Ref>) -> bool {
 }
 
 /// `refs`.
-pub fn finds_refs(alloc: Global) -> Result<Outcome, AllocError> {
+pub(crate) fn finds_refs(alloc: Global) -> Result<Outcome, AllocError> {
     let body = body(alloc)?;
     call_begins(alloc)?;
     let answer = refs(alloc, &body);
@@ -154,7 +154,7 @@ pub fn finds_refs(alloc: Global) -> Result<Outcome, AllocError> {
 }
 
 /// `shift` of functions.
-pub fn shifts(alloc: Global) -> Result<Outcome, AllocError> {
+pub(crate) fn shifts(alloc: Global) -> Result<Outcome, AllocError> {
     let body = body(alloc)?;
     call_begins(alloc)?;
     let answer = shift(alloc, &body, Moving::Func, 5);
@@ -167,7 +167,7 @@ pub fn shifts(alloc: Global) -> Result<Outcome, AllocError> {
 }
 
 /// `shift_expr`.
-pub fn shifts_expr(alloc: Global) -> Result<Outcome, AllocError> {
+pub(crate) fn shifts_expr(alloc: Global) -> Result<Outcome, AllocError> {
     let expr = expr(alloc)?;
     call_begins(alloc)?;
     let answer = shift_expr(alloc, &expr, 0);
@@ -180,7 +180,7 @@ pub fn shifts_expr(alloc: Global) -> Result<Outcome, AllocError> {
 }
 
 /// `Body::clone`.
-pub fn clones(alloc: Global) -> Result<Outcome, AllocError> {
+pub(crate) fn clones(alloc: Global) -> Result<Outcome, AllocError> {
     let body = body(alloc)?;
     call_begins(alloc)?;
     let answer: Result<Body, AllocError> = body.clone();

@@ -20,7 +20,7 @@ fn after_put(answer: Result<(), OutOfMemory>, bytes: &[u8], spelling: &[u8]) -> 
 }
 
 /// `put_u32` to a full vector.
-pub fn puts_u32(alloc: Global) -> Result<Outcome, AllocError> {
+pub(crate) fn puts_u32(alloc: Global) -> Result<Outcome, AllocError> {
     let mut bytes = Vec::from_slice(alloc, &BEFORE)?;
     call_begins(alloc)?;
     let answer = put_u32(&mut bytes, 624_485);
@@ -29,7 +29,7 @@ pub fn puts_u32(alloc: Global) -> Result<Outcome, AllocError> {
 }
 
 /// `put_s32` to a full vector.
-pub fn puts_s32(alloc: Global) -> Result<Outcome, AllocError> {
+pub(crate) fn puts_s32(alloc: Global) -> Result<Outcome, AllocError> {
     let mut bytes = Vec::from_slice(alloc, &BEFORE)?;
     call_begins(alloc)?;
     let answer = put_s32(&mut bytes, -123_456);
@@ -38,7 +38,7 @@ pub fn puts_s32(alloc: Global) -> Result<Outcome, AllocError> {
 }
 
 /// `put_s33` to a full vector.
-pub fn puts_s33(alloc: Global) -> Result<Outcome, AllocError> {
+pub(crate) fn puts_s33(alloc: Global) -> Result<Outcome, AllocError> {
     let mut bytes = Vec::from_slice(alloc, &BEFORE)?;
     call_begins(alloc)?;
     let answer = put_s33(&mut bytes, -4_294_967_296);
@@ -47,7 +47,7 @@ pub fn puts_s33(alloc: Global) -> Result<Outcome, AllocError> {
 }
 
 /// `put_s64` to a full vector.
-pub fn puts_s64(alloc: Global) -> Result<Outcome, AllocError> {
+pub(crate) fn puts_s64(alloc: Global) -> Result<Outcome, AllocError> {
     let mut bytes = Vec::from_slice(alloc, &BEFORE)?;
     call_begins(alloc)?;
     let answer = put_s64(&mut bytes, i64::MIN);
@@ -69,7 +69,7 @@ fn after_out(answer: Result<(), OutFault>, sink: Sink, taken: &[u8]) -> Outcome 
 }
 
 /// `put_all` to a sink with that much room.
-pub fn puts_all(alloc: Global, room: Room) -> Result<Outcome, AllocError> {
+pub(crate) fn puts_all(alloc: Global, room: Room) -> Result<Outcome, AllocError> {
     let mut sink = sink(alloc, room)?;
     call_begins(alloc)?;
     let answer = put_all(&mut sink, b"more bytes");
@@ -78,7 +78,7 @@ pub fn puts_all(alloc: Global, room: Room) -> Result<Outcome, AllocError> {
 }
 
 /// `out_u32` to a sink with that much room.
-pub fn outs_u32(alloc: Global, room: Room) -> Result<Outcome, AllocError> {
+pub(crate) fn outs_u32(alloc: Global, room: Room) -> Result<Outcome, AllocError> {
     let mut sink = sink(alloc, room)?;
     call_begins(alloc)?;
     let answer = out_u32(&mut sink, 624_485);
@@ -87,7 +87,7 @@ pub fn outs_u32(alloc: Global, room: Room) -> Result<Outcome, AllocError> {
 }
 
 /// `Items::push`, which hands back what it refuses.
-pub fn pushes_item(alloc: Global) -> Result<Outcome, AllocError> {
+pub(crate) fn pushes_item(alloc: Global) -> Result<Outcome, AllocError> {
     let mut items = Items::from_vec(Vec::from_slice(alloc, &BEFORE)?);
     call_begins(alloc)?;
     let answer = items.push(4);
@@ -101,7 +101,7 @@ pub fn pushes_item(alloc: Global) -> Result<Outcome, AllocError> {
 }
 
 /// `Items::copy`.
-pub fn copies_items(alloc: Global) -> Result<Outcome, AllocError> {
+pub(crate) fn copies_items(alloc: Global) -> Result<Outcome, AllocError> {
     let items = Items::from_vec(Vec::from_slice(alloc, &BEFORE)?);
     call_begins(alloc)?;
     let answer = items.copy(alloc);
@@ -113,7 +113,7 @@ pub fn copies_items(alloc: Global) -> Result<Outcome, AllocError> {
 }
 
 /// `Text::copy`.
-pub fn copies_text(alloc: Global) -> Result<Outcome, AllocError> {
+pub(crate) fn copies_text(alloc: Global) -> Result<Outcome, AllocError> {
     let text = Text::from_string(String::from_str(alloc, "text")?);
     call_begins(alloc)?;
     let answer = text.copy(alloc);

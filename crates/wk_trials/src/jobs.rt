@@ -10,7 +10,7 @@ use wk_edit::{RunFault, ScriptFault, Status, edit, read_script};
 use wk_session::Edit;
 
 /// `read_script`.
-pub fn reads_script(alloc: Global) -> Result<Outcome, AllocError> {
+pub(crate) fn reads_script(alloc: Global) -> Result<Outcome, AllocError> {
     call_begins(alloc)?;
     let answer = read_script(alloc, SCRIPT);
     call_ends(alloc)?;
@@ -30,21 +30,21 @@ pub fn reads_script(alloc: Global) -> Result<Outcome, AllocError> {
 
 /// A run, and what it gives where memory is ample.
 #[derive(Clone, Copy)]
-pub struct Job {
+pub(crate) struct Job {
     /// The bytes of the module.
-    pub input: &'static [u8],
+    pub(crate) input: &'static [u8],
     /// The edits.
-    pub script: &'static [u8],
+    pub(crate) script: &'static [u8],
     /// How it ends.
-    pub status: Status,
+    pub(crate) status: Status,
     /// What it writes to the output of the module.
-    pub module: &'static [u8],
+    pub(crate) module: &'static [u8],
     /// What it writes to the output of the report.
-    pub report: &'static [u8],
+    pub(crate) report: &'static [u8],
 }
 
 /// Edits that are made.
-pub const EDITS: Job = Job {
+pub(crate) const EDITS: Job = Job {
     input: MODULE,
     script: SCRIPT,
     status: Status::Refused,
@@ -53,7 +53,7 @@ pub const EDITS: Job = Job {
 };
 
 /// An input that is no module.
-pub const MALFORMED: Job = Job {
+pub(crate) const MALFORMED: Job = Job {
     input: b"\0asm\x01\0\0\0\x0c\0",
     script: SCRIPT,
     status: Status::Malformed,
@@ -62,7 +62,7 @@ pub const MALFORMED: Job = Job {
 };
 
 /// A script that is wrong.
-pub const BAD_SCRIPT: Job = Job {
+pub(crate) const BAD_SCRIPT: Job = Job {
     input: MODULE,
     script: b"type - -\ntype",
     status: Status::BadScript,
@@ -71,7 +71,12 @@ pub const BAD_SCRIPT: Job = Job {
 };
 
 /// The run of a job onto outputs with that much room.
-pub fn edits(alloc: Global, job: Job, out: Room, report: Room) -> Result<Outcome, AllocError> {
+pub(crate) fn edits(
+    alloc: Global,
+    job: Job,
+    out: Room,
+    report: Room,
+) -> Result<Outcome, AllocError> {
     let mut out = sink(alloc, out)?;
     let mut report = sink(alloc, report)?;
     call_begins(alloc)?;

@@ -21,7 +21,7 @@ fn judged(answer: Result<Verdict, OutOfMemory>) -> Outcome {
 }
 
 /// `judge` of the valid module that these bytes spell.
-pub fn judges(alloc: Global, bytes: &[u8]) -> Result<Outcome, AllocError> {
+pub(crate) fn judges(alloc: Global, bytes: &[u8]) -> Result<Outcome, AllocError> {
     judges_valid(alloc, &module(alloc, bytes)?)
 }
 
@@ -33,7 +33,7 @@ fn judges_valid(alloc: Global, module: &Module) -> Result<Outcome, AllocError> {
 }
 
 /// `judge_around`.
-pub fn judges_around(alloc: Global) -> Result<Outcome, AllocError> {
+pub(crate) fn judges_around(alloc: Global) -> Result<Outcome, AllocError> {
     judges_around_of(alloc, &module(alloc, VALID)?)
 }
 
@@ -46,7 +46,7 @@ fn judges_around_of(alloc: Global, module: &Module) -> Result<Outcome, AllocErro
 }
 
 /// `judge_bytes`.
-pub fn judges_bytes(alloc: Global) -> Result<Outcome, AllocError> {
+pub(crate) fn judges_bytes(alloc: Global) -> Result<Outcome, AllocError> {
     call_begins(alloc)?;
     let answer = judge_bytes(alloc, VALID, Profile::Core);
     call_ends(alloc)?;
@@ -57,7 +57,7 @@ pub fn judges_bytes(alloc: Global) -> Result<Outcome, AllocError> {
 }
 
 /// `judge_body`, which counts the body also where it refuses.
-pub fn judges_body(alloc: Global) -> Result<Outcome, AllocError> {
+pub(crate) fn judges_body(alloc: Global) -> Result<Outcome, AllocError> {
     judges_body_of(alloc, &module(alloc, VALID)?)
 }
 
@@ -82,7 +82,7 @@ fn judges_func(alloc: Global, whole: &Whole<'_>, func: &Func) -> Result<Outcome,
 }
 
 /// `Whole::of`.
-pub fn sees_whole(alloc: Global) -> Result<Outcome, AllocError> {
+pub(crate) fn sees_whole(alloc: Global) -> Result<Outcome, AllocError> {
     sees_whole_of(alloc, &module(alloc, VALID)?)
 }
 

@@ -12,17 +12,17 @@ use wk_module::Module;
 
 /// A part of a module, and its lines.
 #[derive(Clone, Copy)]
-pub struct Listed {
+pub(crate) struct Listed {
     /// The bytes of the module.
-    pub input: &'static [u8],
+    pub(crate) input: &'static [u8],
     /// What is listed of it.
-    pub part: Part,
+    pub(crate) part: Part,
     /// The lines.
-    pub text: &'static [u8],
+    pub(crate) text: &'static [u8],
 }
 
 /// Headers of every section.
-pub const HEADERS: Listed = Listed {
+pub(crate) const HEADERS: Listed = Listed {
     input: WHOLE,
     part: Part::Headers,
     text: b"  Custom start=0x0000000a end=0x0000000d size=0x00000003 name=a
@@ -43,7 +43,7 @@ Function start=0x0000003a end=0x0000003c size=0x00000002 count=1
 };
 
 /// Details of every section.
-pub const DETAILS: Listed = Listed {
+pub(crate) const DETAILS: Listed = Listed {
     input: WHOLE,
     part: Part::Details,
     text: b"Custom:
@@ -86,7 +86,7 @@ const CALLING: &[u8] = b"\0asm\x01\0\0\0\x01\x04\x01\x60\x00\x00\x03\x02\x01\x00
     \x0a\x14\x01\x12\x01\x01\x7e\x02\x40\x10\x00\x0b\x23\x00\x1a\x11\x00\x00\x3f\x00\x1a\x0b";
 
 /// Its code.
-pub const CODE: Listed = Listed {
+pub(crate) const CODE: Listed = Listed {
     input: CALLING,
     part: Part::Code,
     text: b"func[0] type=0:
@@ -104,14 +104,14 @@ pub const CODE: Listed = Listed {
 };
 
 /// What it refers to.
-pub const USES: Listed = Listed {
+pub(crate) const USES: Listed = Listed {
     input: CALLING,
     part: Part::Uses,
     text: b"func[0]: type[0] func[0] global[0] table memory\n",
 };
 
 /// `list` of a part, to a sink with that much room.
-pub fn lists(alloc: Global, listed: Listed, room: Room) -> Result<Outcome, AllocError> {
+pub(crate) fn lists(alloc: Global, listed: Listed, room: Room) -> Result<Outcome, AllocError> {
     let module = module(alloc, listed.input)?;
     let Some(plain) = Plain::of(&module) else {
         return Ok(Outcome::Wrong("a small module does not fit"));
@@ -130,7 +130,7 @@ pub fn lists(alloc: Global, listed: Listed, room: Room) -> Result<Outcome, Alloc
 }
 
 /// `Plain::of`.
-pub fn sees_plain(alloc: Global) -> Result<Outcome, AllocError> {
+pub(crate) fn sees_plain(alloc: Global) -> Result<Outcome, AllocError> {
     sees_plain_of(alloc, &module(alloc, WHOLE)?)
 }
 

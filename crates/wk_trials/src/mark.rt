@@ -12,11 +12,11 @@ fn allocate(alloc: Global, size: usize) -> Result<(), AllocError> {
 }
 
 /// From here on allocations are counted.
-pub fn call_begins(alloc: Global) -> Result<(), AllocError> {
+pub(crate) fn call_begins(alloc: Global) -> Result<(), AllocError> {
     allocate(alloc, BEGINS)
 }
 
 /// From here on they are not.
-pub fn call_ends(alloc: Global) -> Result<(), AllocError> {
+pub(crate) fn call_ends(alloc: Global) -> Result<(), AllocError> {
     allocate(alloc, ENDS)
 }

@@ -23,7 +23,7 @@ fn is_written_as(alloc: Global, module: &Module, bytes: &[u8]) -> Result<bool, A
 }
 
 /// `read` of the module that these bytes spell.
-pub fn reads(alloc: Global, bytes: &[u8]) -> Result<Outcome, AllocError> {
+pub(crate) fn reads(alloc: Global, bytes: &[u8]) -> Result<Outcome, AllocError> {
     call_begins(alloc)?;
     let answer = read(alloc, bytes);
     call_ends(alloc)?;
@@ -58,12 +58,12 @@ fn encoded(
 }
 
 /// The module that these bytes spell.
-pub fn module(alloc: Global, bytes: &[u8]) -> Result<Module, AllocError> {
+pub(crate) fn module(alloc: Global, bytes: &[u8]) -> Result<Module, AllocError> {
     read(alloc, bytes).map_err(|_| AllocError)
 }
 
 /// `encode` of the module whose written form these bytes are.
-pub fn encodes(alloc: Global, bytes: &[u8]) -> Result<Outcome, AllocError> {
+pub(crate) fn encodes(alloc: Global, bytes: &[u8]) -> Result<Outcome, AllocError> {
     encodes_as(alloc, &module(alloc, bytes)?, bytes)
 }
 
@@ -75,7 +75,7 @@ fn encodes_as(alloc: Global, module: &Module, bytes: &[u8]) -> Result<Outcome, A
 }
 
 /// The lists of a module whose functions have these types.
-pub fn lists<'a>(parts: &'a Parts, funcs: &'a [u32]) -> Lists<'a>
+pub(crate) fn lists<'a>(parts: &'a Parts, funcs: &'a [u32]) -> Lists<'a>
     ensures { listed result ≡ record (lists_of parts.now) { funcs = funcs.now; codes = [] } }
 {
     Lists {
@@ -94,7 +94,7 @@ pub fn lists<'a>(parts: &'a Parts, funcs: &'a [u32]) -> Lists<'a>
 }
 
 /// `encode_section` of exports.
-pub fn encodes_exports(alloc: Global) -> Result<Outcome, AllocError> {
+pub(crate) fn encodes_exports(alloc: Global) -> Result<Outcome, AllocError> {
     encodes_exports_of(alloc, &module(alloc, WHOLE)?)
 }
 
@@ -107,7 +107,7 @@ fn encodes_exports_of(alloc: Global, module: &Module) -> Result<Outcome, AllocEr
 }
 
 /// `encode_custom`.
-pub fn encodes_custom(alloc: Global) -> Result<Outcome, AllocError> {
+pub(crate) fn encodes_custom(alloc: Global) -> Result<Outcome, AllocError> {
     encodes_custom_of(alloc, &module(alloc, WHOLE)?)
 }
 
@@ -122,7 +122,7 @@ fn encodes_custom_of(alloc: Global, module: &Module) -> Result<Outcome, AllocErr
 }
 
 /// `encoded_len` and `section_len`.
-pub fn measures(alloc: Global) -> Result<Outcome, AllocError> {
+pub(crate) fn measures(alloc: Global) -> Result<Outcome, AllocError> {
     measures_of(alloc, &module(alloc, WHOLE)?)
 }
 
@@ -136,7 +136,7 @@ fn measures_of(alloc: Global, module: &Module) -> Result<Outcome, AllocError> {
 }
 
 /// `Module::of`.
-pub fn settles(alloc: Global) -> Result<Outcome, AllocError> {
+pub(crate) fn settles(alloc: Global) -> Result<Outcome, AllocError> {
     let module = settled(alloc, module(alloc, WHOLE)?)?;
     Ok(Outcome::answered(is_written_as(alloc, &module, WHOLE)?))
 }

@@ -5,7 +5,7 @@ use std::fmt;
 
 /// What the call under test did.
 #[derive(Clone, Copy, Debug, PartialEq, Eq)]
-pub enum Outcome {
+pub(crate) enum Outcome {
     /// It answered, and rightly.
     Fine,
     /// It answered want of memory, and all was as before.
@@ -16,7 +16,7 @@ pub enum Outcome {
 
 impl Outcome {
     /// The outcome of a call that answered.
-    pub fn answered(is_right: bool) -> Outcome
+    pub(crate) fn answered(is_right: bool) -> Outcome
         ensures { (result ≡ Outcome.Fine) ↔ IsTrue is_right }
     {
         if is_right {
@@ -27,7 +27,7 @@ impl Outcome {
     }
 
     /// The outcome of a call that answered want of memory.
-    pub fn refused(is_as_before: bool) -> Outcome
+    pub(crate) fn refused(is_as_before: bool) -> Outcome
         ensures { (result ≡ Outcome.Memory) ↔ IsTrue is_as_before }
     {
         if is_as_before {

@@ -9,7 +9,7 @@ use wk_session::Edit;
 
 /// A call under test.
 #[derive(Clone, Copy, Debug, PartialEq, Eq)]
-pub enum Scenario {
+pub(crate) enum Scenario {
     /// `put_u32` to a full vector.
     PutU32,
     /// `put_s32` to a full vector.
@@ -128,7 +128,7 @@ pub enum Scenario {
 
 impl Scenario {
     /// All scenarios, in the order in which they are run.
-    pub const ALL: [Scenario; 57] = [
+    pub(crate) const ALL: [Scenario; 57] = [
         Scenario::PutU32,
         Scenario::PutS32,
         Scenario::PutS33,
@@ -189,7 +189,7 @@ impl Scenario {
     ];
 
     /// The word that names it. One that ends in `-in-room` is of a call that takes no memory.
-    pub fn name(self) -> &'static str {
+    pub(crate) fn name(self) -> &'static str {
         match self {
             Scenario::PutU32 => "put-u32",
             Scenario::PutS32 => "put-s32",
@@ -252,7 +252,7 @@ impl Scenario {
     }
 
     /// The scenario of that word.
-    pub fn named(name: &str) -> Option<Scenario> {
+    pub(crate) fn named(name: &str) -> Option<Scenario> {
         Scenario::ALL
             .iter()
             .copied()
@@ -260,7 +260,7 @@ impl Scenario {
     }
 
     /// Runs it. An error says that there was no memory for what the scenario itself needs.
-    pub fn run(self, alloc: Global) -> Result<Outcome, AllocError> {
+    pub(crate) fn run(self, alloc: Global) -> Result<Outcome, AllocError> {
         match self {
             Scenario::PutU32 => bytes::puts_u32(alloc),
             Scenario::PutS32 => bytes::puts_s32(alloc),

@@ -37,7 +37,7 @@ fn is_as_before(alloc: Global, session: &Session) -> Result<bool, AllocError> {
 }
 
 /// `Session::open`.
-pub fn opens(alloc: Global) -> Result<Outcome, AllocError> {
+pub(crate) fn opens(alloc: Global) -> Result<Outcome, AllocError> {
     call_begins(alloc)?;
     let answer = Session::open(alloc, MODULE);
     call_ends(alloc)?;
@@ -53,7 +53,7 @@ fn was_opened(alloc: Global, answer: &Result<Session, ReadFault>) -> Result<Outc
 }
 
 /// An edit that is accepted, and makes a valid module of these bytes.
-pub fn applies(alloc: Global, edit: &Edit, made: &[u8]) -> Result<Outcome, AllocError> {
+pub(crate) fn applies(alloc: Global, edit: &Edit, made: &[u8]) -> Result<Outcome, AllocError> {
     applies_to(alloc, &mut opened(alloc)?, edit, made)
 }
 
@@ -74,22 +74,22 @@ fn applies_to(
 }
 
 /// `Session::apply` of a type.
-pub fn applies_type(alloc: Global) -> Result<Outcome, AllocError> {
+pub(crate) fn applies_type(alloc: Global) -> Result<Outcome, AllocError> {
     applies(alloc, &add_type(alloc)?, WITH_TYPE)
 }
 
 /// `Session::apply` of the stripping of one name.
-pub fn applies_strip(alloc: Global) -> Result<Outcome, AllocError> {
+pub(crate) fn applies_strip(alloc: Global) -> Result<Outcome, AllocError> {
     applies(alloc, &strip(alloc, "first")?, STRIPPED)
 }
 
 /// `Session::apply` of one byte for the custom section of a name.
-pub fn applies_set(alloc: Global, name: &str, made: &[u8]) -> Result<Outcome, AllocError> {
+pub(crate) fn applies_set(alloc: Global, name: &str, made: &[u8]) -> Result<Outcome, AllocError> {
     applies(alloc, &set(alloc, name)?, made)
 }
 
 /// `Session::apply` of an edit that is refused whatever memory there is.
-pub fn declines_strip(alloc: Global) -> Result<Outcome, AllocError> {
+pub(crate) fn declines_strip(alloc: Global) -> Result<Outcome, AllocError> {
     let edit = strip(alloc, "absent")?;
     declines_in(alloc, &mut opened(alloc)?, &edit, EditFault::NoSuchCustom)
 }
@@ -151,7 +151,7 @@ fn after_run(
 }
 
 /// `Session::run` of four edits, one of them refused in any case.
-pub fn runs(alloc: Global) -> Result<Outcome, AllocError> {
+pub(crate) fn runs(alloc: Global) -> Result<Outcome, AllocError> {
     runs_in(alloc, &mut opened(alloc)?, edits(alloc)?.as_slice())
 }
 
@@ -166,7 +166,7 @@ fn runs_in(alloc: Global, session: &mut Session, edits: &[Edit]) -> Result<Outco
 }
 
 /// `Session::write` to a sink with that much room.
-pub fn writes(alloc: Global, room: Room) -> Result<Outcome, AllocError> {
+pub(crate) fn writes(alloc: Global, room: Room) -> Result<Outcome, AllocError> {
     writes_of(alloc, &opened(alloc)?, room)
 }
 

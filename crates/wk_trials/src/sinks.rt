@@ -5,11 +5,11 @@ use std::alloc::{AllocError, Global};
 use wk_bytes::{Out, Sink};
 
 /// What each output holds before a scenario.
-pub const BEFORE: [u8; 3] = [1, 2, 3];
+pub(crate) const BEFORE: [u8; 3] = [1, 2, 3];
 
 /// How much room an output has behind `BEFORE`.
 #[derive(Clone, Copy, Debug, PartialEq, Eq)]
-pub enum Room {
+pub(crate) enum Room {
     /// For none: it has to grow.
     Full,
     /// For all that a scenario puts: it never grows.
@@ -17,7 +17,7 @@ pub enum Room {
 }
 
 /// A sink that holds `BEFORE`.
-pub fn sink(alloc: Global, room: Room) -> Result<Sink, AllocError>
+pub(crate) fn sink(alloc: Global, room: Room) -> Result<Sink, AllocError>
     ensures { IfOk result (λ s. ⟦<Sink as Out>⟧.failed s ≡ 0) }
 {
     let mut bytes = Vec::from_slice(alloc, &BEFORE)?;
@@ -28,7 +28,7 @@ pub fn sink(alloc: Global, room: Room) -> Result<Sink, AllocError>
 }
 
 /// Whether the bytes are `BEFORE` and then these.
-pub fn has_appended(bytes: &[u8], more: &[u8]) -> bool {
+pub(crate) fn has_appended(bytes: &[u8], more: &[u8]) -> bool {
     match bytes.strip_prefix(&BEFORE) {
         Some(rest) => rest == more,
         None => false,
@@ -36,7 +36,7 @@ pub fn has_appended(bytes: &[u8], more: &[u8]) -> bool {
 }
 
 /// Whether the bytes are `BEFORE` and then a beginning of these.
-pub fn has_begun(bytes: &[u8], more: &[u8]) -> bool {
+pub(crate) fn has_begun(bytes: &[u8], more: &[u8]) -> bool {
     match bytes.strip_prefix(&BEFORE) {
         Some(rest) => more.starts_with(rest),
         None => false,
