@@ -12,8 +12,10 @@ pub mod JudgedCodes
 pub mod Labels
 pub mod LocalEnds
 pub mod Names
+pub mod Parts
 pub mod Popping
 pub mod Runs
 pub mod Sound
 pub mod Stacked
 pub mod Streamed
+pub mod Valid

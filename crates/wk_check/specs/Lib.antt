@@ -16,6 +16,7 @@ pub mod Spaces
 pub mod Spelled
 pub mod Streaming
 pub mod Typing
+pub mod Valid
 pub mod Verdict
 pub mod VerdictText
 pub mod Whole

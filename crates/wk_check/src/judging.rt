@@ -1,12 +1,14 @@
 //! Judging a module (3.4.10).
 
-ghost use Rattle.std.specs.Prelude.{◌≡◌, ◌<◌, ◌^◌, [], ◌∷◌, length, map, IfOk};
+ghost use Rattle.std.specs.Prelude.{◌≡◌, ◌↔◌, ◌<◌, ◌^◌, [], ◌∷◌, length, map, IfOk};
 ghost use Rattle.wk_body.specs.declared.types.Profile.{Profile};
 ghost use Rattle.wk_module.specs.Listed.{listed};
 ghost use Rattle.wk_module.specs.Shape.{lists_of};
+ghost use Rattle.wk_check.specs.declared.fault.Verdict.{Verdict};
 ghost use Rattle.wk_check.specs.Flaws.{first_in, first_fault};
 ghost use Rattle.wk_check.specs.Items.{start_flaws};
 ghost use Rattle.wk_check.specs.Spaces.{spaces_of};
+ghost use Rattle.wk_check.specs.Valid.{IsValidModule};
 ghost use Rattle.wk_check.specs.Verdict.{type_flaws, import_flaws, func_flaws, table_flaws, memory_flaws, global_flaws, export_flaws, elem_flaws, code_flaws, data_flaws, flaws_before_code, verdict_around, module_verdict, IsVerdict, IsNotArity, extended};
 ghost use Rattle.wk_check.specs.Whole.{AreNumbered};
 
@@ -201,6 +203,8 @@ fn fault_of_codes(
 pub fn judge(alloc: Global, module: &Module) -> Result<Verdict, OutOfMemory>
     ensures exact { IfOk result (λ verdict. verdict ≡ module_verdict «module».now) }
     ensures meaning { IfOk result (λ verdict. IsVerdict «module».now verdict) }
+    // It is valid exactly where the items of the other sections are fine and the declarative rules derive each body (chapter 3).
+    ensures valid { IfOk result (λ verdict. verdict ≡ Verdict.Valid ↔ IsValidModule «module».now) }
     // Under the rules of the other profile the verdict is the same, unless the first fault was many results of a type.
     ensures extended { IfOk result (λ verdict. IsNotArity verdict → module_verdict (extended «module».now) ≡ verdict) }
 {

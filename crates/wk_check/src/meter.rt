@@ -3,6 +3,7 @@
 ghost use Rattle.std.specs.Prelude.{◌≡◌, ◌+◌, ◌<◌, ◌^◌, IfOk};
 ghost use Rattle.wk_check.specs.Typing.{body_verdict};
 ghost use Rattle.wk_check.specs.Derives.{IsDerived};
+ghost use Rattle.wk_check.specs.DerivesLaws.{HaveTypesPartByPart};
 ghost use Rattle.wk_check.specs.declared.fault.BodyVerdict.{BodyVerdict};
 
 use crate::env::Env;
@@ -67,3 +68,9 @@ pub fn judge_body<E: Env>(
     meter.typed += 1;
     type_body(env, own_type, body, &mut meter.room)
 }
+
+/// The law of the declarative rules for lists of instructions (3.3): a list has a type exactly where each of its two parts has one,
+/// and they meet at a stack. It does nothing.
+pub fn declarative_rules()
+    ensures { HaveTypesPartByPart }
+{}

@@ -1,6 +1,6 @@
 //! Judging the module that bytes spell: each body is judged when it is read, and not kept.
 
-ghost use Rattle.std.specs.Prelude.{◌≡◌, [], ◌∷◌, Ok, IfOk};
+ghost use Rattle.std.specs.Prelude.{◌≡◌, ◌↔◌, [], ◌∷◌, Ok, IfOk};
 ghost use Rattle.wk_bytes.specs.Frames.{sections_of};
 ghost use Rattle.wk_bytes.specs.Raw.{raw_view};
 ghost use Rattle.wk_body.specs.Reads.{Reads};
@@ -8,8 +8,10 @@ ghost use Rattle.wk_module.specs.Listed.{listed};
 ghost use Rattle.wk_module.specs.ListReading.{IsReading, Rise, lists_read};
 ghost use Rattle.wk_module.specs.Reading.{module_at};
 ghost use Rattle.wk_module.specs.Sections.{no_lists};
+ghost use Rattle.wk_check.specs.declared.fault.Verdict.{Verdict};
 ghost use Rattle.wk_check.specs.Items.{earlier};
 ghost use Rattle.wk_check.specs.Spelled.{judged, IsVerdictOf, first_of, fault_read, codes_judged};
+ghost use Rattle.wk_check.specs.Valid.{IsValidRead};
 
 use crate::fault::{Fault, Verdict};
 use crate::judging::judge_around;
@@ -169,6 +171,8 @@ fn judge_without_code(
 pub fn judge_bytes(alloc: Global, bytes: &[u8], profile: Profile) -> Result<Verdict, ReadFault>
     ensures exact { Reads (λ v. v) result (judged (module_at profile bytes.now)) }
     ensures meaning { IfOk result (λ verdict. IsVerdictOf (module_at profile bytes.now) verdict) }
+    // It is valid exactly where the items of the other sections are fine and the declarative rules derive each body (chapter 3).
+    ensures valid { IfOk result (λ verdict. verdict ≡ Verdict.Valid ↔ IsValidRead (module_at profile bytes.now)) }
     ensures is { IsReading profile bytes.now (module_at profile bytes.now) }
 {
     reading_of_module(bytes, profile);

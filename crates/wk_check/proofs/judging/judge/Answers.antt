@@ -5,6 +5,7 @@ use Rattle.wk_module.specs.declared.types.Parts.{Parts}
 use Rattle.wk_check.specs.declared.fault.Verdict.{Verdict}
 use Rattle.wk_check.specs.Verdict.{module_verdict, IsVerdict, IsNotArity, extended}
 use Rattle.wk_check.proofs.Flaws.{verdict_of_lists, module_verdict_told, verdict_extended}
+use Rattle.wk_check.proofs.Valid.{valid_exactly}
 use Rattle.wk_check.specs.WholeLaws.{are_numbered, funcs_numbered}
 use Rattle.wk_check.proofs.judging.judge.Goals as goal
 
@@ -27,6 +28,11 @@ pub returns-clause-meaning : goal.returns-clause-meaning
 returns-clause-meaning c =
     let m = c.args.module.now in
     IfOk-weaker c.judge_around.result (λ v. v ≡ module_verdict m) (IsVerdict m) (λ v e. subst (IsVerdict m) (sym e) (module_verdict_told m)) (returns-clause-exact c)
+
+pub returns-clause-valid : goal.returns-clause-valid
+returns-clause-valid c =
+    let m = c.args.module.now in
+    IfOk-weaker c.judge_around.result (IsVerdict m) _ (valid_exactly m) (returns-clause-meaning c)
 
 pub returns-clause-extended : goal.returns-clause-extended
 returns-clause-extended c =
