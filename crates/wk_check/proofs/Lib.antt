@@ -4,6 +4,7 @@ pub mod Bodies
 pub mod Completing
 pub mod Constants
 pub mod Cuts
+pub mod FirstLocals
 pub mod Fits
 pub mod Flaws
 pub mod Frames

@@ -3,7 +3,7 @@
 ghost use Rattle.std.specs.Prelude.{◌≡◌, ◌<◌, ◌^◌, [], OnOk};
 ghost use Rattle.wk_body.specs.Bodies.{AreGroups};
 ghost use Rattle.wk_check.specs.Effects.{local_type, type_in_groups};
-ghost use Rattle.wk_check.specs.Locals.{ends_from};
+ghost use Rattle.wk_check.specs.Locals.{ends_from, AreFirst};
 
 use std::marker::Model;
 use wk_bytes::OutOfMemory;
@@ -23,36 +23,71 @@ pub(crate) fn put_ends(groups: &[LocalGroup], ends: &mut Vec<u32>) -> Result<(),
     Ok(())
 }
 
-/// The locals of a function: its parameters, then those of its groups, which are found by where the groups end. So billions of
-/// locals in one group take no room.
+// Of how many locals the types are written out at the most, so that a body of a few bytes with many locals takes little time.
+const WRITTEN: usize = 256;
+
+/// Writes into `first` the types of the first locals, one by one: those of the parameters and of the groups behind them, up to the
+/// first group that does not fit whole.
+pub(crate) fn put_first(
+    params: &[ValType],
+    groups: &[LocalGroup],
+    first: &mut Vec<ValType>,
+) -> Result<(), OutOfMemory>
+    ensures { OnOk result (AreFirst params.now groups.now first.new.items) }
+{
+    first.clear();
+    if params.len() > WRITTEN {
+        return Ok(());
+    }
+    first.extend_from_slice(params)?;
+    for group in groups {
+        let len = first.len() + group.count as usize;
+        if len > WRITTEN {
+            return Ok(());
+        }
+        first.resize(len, group.ty)?;
+    }
+    Ok(())
+}
+
+/// The locals of a function: its parameters, then those of its groups. The types of the first ones are written out, and the
+/// others are found by where the groups end. So billions of locals in one group take no room.
 #[derive(Drop)]
 pub(crate) struct Locals<'a> {
     params: &'a [ValType],
     groups: &'a [LocalGroup],
     ends: &'a [u32],
+    first: &'a [ValType],
 }
 
 impl<'a> Model for Locals<'a> {
     ghost use Rattle.std.specs.Prelude.{◌≡◌};
-    ghost use Rattle.wk_check.specs.Locals.{LocalsOf, ends_from};
+    ghost use Rattle.wk_check.specs.Locals.{LocalsOf, ends_from, AreFirst};
 
     ghost Value = { LocalsOf };
 
     ghost view = { λ l. record { params = l.params.now; groups = l.groups.now } };
 
-    ghost invariant = { λ l. l.ends.now ≡ ends_from 0 l.groups.now };
+    ghost invariant = { λ l. (l.ends.now ≡ ends_from 0 l.groups.now) × AreFirst l.params.now l.groups.now l.first.now };
 }
 
 impl<'a> Locals<'a> {
-    /// These parameters and groups, whose ends were counted.
-    pub(crate) fn of(params: &'a [ValType], groups: &'a [LocalGroup], ends: &'a [u32]) -> Locals<'a>
-        requires { ends.now ≡ ends_from 0 groups.now }
+    /// These parameters and groups, whose ends were counted, and the types of the first of them.
+    pub(crate) fn of(
+        params: &'a [ValType],
+        groups: &'a [LocalGroup],
+        ends: &'a [u32],
+        first: &'a [ValType],
+    ) -> Locals<'a>
+        requires counted { ends.now ≡ ends_from 0 groups.now }
+        requires written { AreFirst params.now groups.now first.now }
         ensures { result ≡ record { params = params.now; groups = groups.now } }
     {
         Locals {
             params,
             groups,
             ends,
+            first,
         }
     }
 
@@ -60,11 +95,21 @@ impl<'a> Locals<'a> {
     pub(crate) fn none() -> Locals<'static>
         ensures { result ≡ record { params = []; groups = [] } }
     {
-        Locals::of(&[], &[], &[])
+        Locals::of(&[], &[], &[], &[])
+    }
+
+    // The type of a local that is not written out.
+    #[inline(never)]
+    fn far_ty(&self, x: usize) -> Option<ValType>
+        ensures { result ≡ local_type self.now.params self.now.groups x }
+    {
+        if x < self.params.len() {
+            return Some(self.params[x]);
+        }
+        self.ty_by_ends(x - self.params.len())
     }
 
     // The type of a local behind the parameters, by where the groups end.
-    #[inline(never)]
     fn ty_by_ends(&self, at: usize) -> Option<ValType>
         ensures { result ≡ type_in_groups self.now.groups at }
     {
@@ -72,19 +117,15 @@ impl<'a> Locals<'a> {
         self.groups.get(group).map(|found| found.ty)
     }
 
-    /// The type of a local, or nothing where there is none of that index. Most are parameters or of the first group.
+    /// The type of a local, or nothing where there is none of that index.
     #[inline(always)]
     pub(crate) fn ty(&self, x: u32) -> Option<ValType>
         ensures { result ≡ local_type self.now.params self.now.groups x }
     {
         let x = x as usize;
-        if x < self.params.len() {
-            return Some(self.params[x]);
+        if x < self.first.len() {
+            return Some(self.first[x]);
         }
-        let at = x - self.params.len();
-        if !self.groups.is_empty() && at < self.groups[0].count as usize {
-            return Some(self.groups[0].ty);
-        }
-        self.ty_by_ends(at)
+        self.far_ty(x)
     }
 }

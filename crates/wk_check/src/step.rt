@@ -112,6 +112,7 @@ fn is_over(op: MemoryOp, align: u32) -> bool
 }
 
 // A load or a store.
+#[inline(always)]
 fn access<E: Env>(env: &E, m: &mut Machine, op: MemoryOp, align: u32) -> Result<(), Stop>
     ensures { Steps (acting (access_effect (E.answers env.now Ref.Memory) op align) m.old) result m.new }
 {

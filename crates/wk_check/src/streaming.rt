@@ -6,13 +6,13 @@ ghost use Rattle.wk_check.specs.Streaming.{IsTyped, IsValidBody};
 
 use crate::control::{check_end, check_known, params, results};
 use crate::env::Env;
-use crate::locals::{Locals, put_ends};
+use crate::locals::{Locals, put_ends, put_first};
 use crate::machine::Machine;
 use crate::step::{Function, type_token};
 use crate::stop::Stop;
 use std::alloc::Global;
 use wk_bytes::{Cursor, OutOfMemory, ReadFault, ReadKind};
-use wk_module::{BlockType, LocalGroup, Profile, TokenReader, next_groups};
+use wk_module::{BlockType, LocalGroup, Profile, TokenReader, ValType, next_groups};
 
 // The tokens and the open blocks, which go on together.
 #[derive(Drop)]
@@ -27,6 +27,7 @@ pub(crate) struct StreamRoom {
     stream: Stream,
     groups: Vec<LocalGroup>,
     ends: Vec<u32>,
+    first: Vec<ValType>,
 }
 
 impl StreamRoom {
@@ -39,6 +40,7 @@ impl StreamRoom {
             },
             groups: Vec::new(alloc),
             ends: Vec::new(alloc),
+            first: Vec::new(alloc),
         }
     }
 }
@@ -109,14 +111,17 @@ pub(crate) fn is_valid_body<E: Env>(
         stream,
         groups,
         ends,
+        first,
     } = room;
     let mut cursor = code.ahead();
     if let Err(fault) = next_groups(groups, &mut cursor) {
         return stopped(&fault);
     }
     put_ends(groups, ends)?;
+    let parameters = params(env, block);
+    put_first(parameters, groups, first)?;
     let f = Function {
-        locals: Locals::of(params(env, block), groups, ends),
+        locals: Locals::of(parameters, groups, ends, first),
         results: results(env, block),
     };
     Ok(flows(env, &f, block, profile, stream, &mut cursor)? && cursor.rest().is_empty())

@@ -11,19 +11,20 @@ ghost use Rattle.wk_check.specs.Typing.{code_result, body_verdict};
 use crate::control::{check_end, check_known, params, results};
 use crate::env::Env;
 use crate::fault::{BodyVerdict, FaultKind};
-use crate::locals::{Locals, put_ends};
+use crate::locals::{Locals, put_ends, put_first};
 use crate::machine::Machine;
 use crate::step::{Function, type_token};
 use crate::stop::Stop;
 use std::alloc::Global;
 use wk_bytes::OutOfMemory;
-use wk_module::{BlockType, Body, Expr, Token};
+use wk_module::{BlockType, Body, Expr, Token, ValType};
 
 /// The room in which code is typed, used again from one body to the next.
 #[derive(Drop)]
 pub(crate) struct Room {
     pub(crate) machine: Machine,
     ends: Vec<u32>,
+    first: Vec<ValType>,
 }
 
 impl Room {
@@ -32,6 +33,7 @@ impl Room {
         Room {
             machine: Machine::new(alloc),
             ends: Vec::new(alloc),
+            first: Vec::new(alloc),
         }
     }
 }
@@ -111,8 +113,15 @@ pub(crate) fn type_body<E: Env>(
         Err(kind) => return Ok(BodyVerdict::Invalid { kind, token: 0 }),
     }
     put_ends(body.groups(), &mut room.ends)?;
+    let parameters = params(env, block);
+    put_first(parameters, body.groups(), &mut room.first)?;
     let f = Function {
-        locals: Locals::of(params(env, block), body.groups(), room.ends.as_slice()),
+        locals: Locals::of(
+            parameters,
+            body.groups(),
+            room.ends.as_slice(),
+            room.first.as_slice(),
+        ),
         results: results(env, block),
     };
     match type_code(env, &f, block, body.expr(), &mut room.machine)? {
