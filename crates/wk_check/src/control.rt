@@ -10,7 +10,7 @@ ghost use Rattle.wk_body.specs.declared.references.Ref.{Ref};
 use crate::env::{Answer, Env};
 use crate::fault::FaultKind;
 use crate::machine::{Machine, Opener};
-use crate::operands::{are_same, pop_indexed, pop_types, push_types, stop, take};
+use crate::operands::{are_same, pop_indexed, pop_types, push_types, remove, stop, take};
 use crate::stop::Stop;
 use wk_module::{BlockType, Ref, ValType};
 
@@ -134,6 +134,8 @@ pub(crate) fn branch_if<E: Env>(env: &E, m: &mut Machine, to: u32) -> Result<(),
     ensures { Steps (acting (branch_if_effect (slice_get (labels_of (E.answers env.now) m.old) to)) m.old) result m.new }
 {
     match label(env, m, to) {
+        // (most labels have no types)
+        Some([]) => remove(m, ValType::I32),
         Some(types) => take(m, true, types, types),
         None => Err(Stop::Fault(FaultKind::UnknownLabel)),
     }
@@ -241,6 +243,7 @@ pub(crate) fn halve<E: Env>(env: &E, m: &mut Machine) -> Result<(), Stop>
 }
 
 // Ends a block that stands in another, whose branches but the last have ended.
+#[inline(always)]
 fn leave<E: Env>(env: &E, m: &mut Machine) -> Result<(), Stop>
     ensures { Steps (left (E.answers env.now) m.old.inner m.old.outer) result m.new }
 {
@@ -261,11 +264,8 @@ pub(crate) fn close<E: Env>(env: &E, m: &mut Machine) -> Result<(), Stop>
     match m.opener() {
         Opener::If => {
             halve(env, m)?;
-            leave(env, m)
         }
-        Opener::Body => leave(env, m),
-        Opener::Block => leave(env, m),
-        Opener::Loop => leave(env, m),
-        Opener::Else => leave(env, m),
+        Opener::Body | Opener::Block | Opener::Loop | Opener::Else => {}
     }
+    leave(env, m)
 }
