@@ -1,5 +1,5 @@
 -- No spelling is shorter than the written form.
-use Rattle.std.proofs.Common.{◌≡◌, ℕ, ◌≤◌, ◌+◌, pos, List, [], ◌∷◌, ◌++◌, length, ap, inl, inr, arith, length-append}
+use Rattle.std.proofs.Common.{◌≡◌, ℕ, ◌≤◌, ◌+◌, pos, List, [], ◌∷◌, ◌++◌, length, ap, inl, inr, ◌⊎◌, arith, length-append}
 use Rattle.std.specs.List.{flat_map}
 use Rattle.byteorder.specs.Numbers.{length-bytes_low_first}
 use Rattle.wk_bytes.specs.Leb.{SpellsU}
@@ -28,7 +28,7 @@ same_front x a b bytes e le = omega (arith, ap length e, le)
 -- ---- vectors, of whose items no spelling is shorter than what is written
 
 module _ {A : Type 0} (SpellsItem : List ℕ → A → Type 0) (written : A → List ℕ) (each : (x : A) (b : List ℕ) → SpellsItem b x → length (written x) ≤ length b) where
-  items_least : (xs : List A) (b : List ℕ) → SpellsItems SpellsItem b xs → length (flat_map written xs) ≤ length b
+  pub items_least : (xs : List A) (b : List ℕ) → SpellsItems SpellsItem b xs → length (flat_map written xs) ≤ length b
   items_least [] b s = omega arith
   items_least (x ∷ xs) b s = both_least (written x) (flat_map written xs) s.0 s.1 b s.2 (each x s.0 s.3) (items_least xs s.1 s.4)
 
@@ -38,10 +38,10 @@ module _ {A : Type 0} (SpellsItem : List ℕ → A → Type 0) (written : A → 
 
 -- ---- instructions that hold no others
 
-index_least : (x : ℕ) (b : List ℕ) → SpellsU 32 b x → length (short x) ≤ length b
+pub index_least : (x : ℕ) (b : List ℕ) → SpellsU 32 b x → length (short x) ≤ length b
 index_least x b s = short-least 32 x b s
 
-immediates_least : (i : Immediates) (b : List ℕ) → SpellsImmediates i b → length (immediate_bytes i) ≤ length b
+pub immediates_least : (i : Immediates) (b : List ℕ) → SpellsImmediates i b → length (immediate_bytes i) ≤ length b
 immediates_least Nothing b s = omega arith
 immediates_least Reserved b s = omega (arith, ap length s)
 immediates_least (Index x) b s = index_least x b s
@@ -52,12 +52,12 @@ immediates_least (Memarg align offset) b s = both_least (short align) (short off
 immediates_least (Signed bits z) b s = short_signed-least bits z b s
 immediates_least (Word size word) b s = omega (arith, length-bytes_low_first 0 size word, s.0)
 
-plain_least : (profile : Profile) (p : Plain) (b : List ℕ) → SpellsPlain profile p b → length (plain_bytes p) ≤ length b
+pub plain_least : (profile : Profile) (p : Plain) (b : List ℕ) → SpellsPlain profile p b → length (plain_bytes p) ≤ length b
 plain_least profile p b s = same_front (plain_opcode p) (immediate_bytes (immediates p)) s.0 b s.3 (immediates_least (immediates p) s.0 s.2)
 
 -- ---- blocks
 
-type_least : (profile : Profile) (ty : BlockType) (b : List ℕ) → SpellsType profile ty b → length (type_bytes ty) ≤ length b
+pub type_least : (profile : Profile) (ty : BlockType) (b : List ℕ) → SpellsType profile ty b → length (type_bytes ty) ≤ length b
 type_least profile Empty b s = omega (arith, ap length s)
 type_least profile (Value t) b s = omega (arith, ap length s)
 type_least profile (types.Index x) b s = short_signed-least 33 (pos x) b s.1
@@ -68,7 +68,7 @@ else_short (One p rest) b = omega arith
 else_short (Block kind ty inside rest) b = omega arith
 else_short (If ty first second rest) b = omega arith
 
-enc_least : (profile : Profile) (t : Instrs) (b : List ℕ) → Spells profile t b → length (enc t) ≤ length b
+pub enc_least : (profile : Profile) (t : Instrs) (b : List ℕ) → Spells profile t b → length (enc t) ≤ length b
 enc_least profile Finish b s = omega arith
 enc_least profile (One p rest) b s = both_least (plain_bytes p) (enc rest) s.0 s.1 b s.4 (plain_least profile p s.0 s.2) (enc_least profile rest s.1 s.3)
 enc_least profile (Block kind ty inside rest) b s =
@@ -104,12 +104,16 @@ enc_least profile (If ty first second rest) b s =
       enc_least profile rest s.3 s.7,
     )
 
+pub else_least : (profile : Profile) (second : Instrs) (d : List ℕ) → ((second ≡ Finish) × (d ≡ [])) ⊎ ((f : List ℕ) × Spells profile second f × (d ≡ 0x05 ∷ f)) → length (else_bytes second (enc second)) ≤ length d
+else_least profile second d (inl none) = rw none.0 (omega arith)
+else_least profile second d (inr some) = omega (arith, ap length some.2, else_short second (enc second), enc_least profile second some.0 some.1)
+
 -- ---- expressions and bodies
 
 pub expr_least : (profile : Profile) (t : Instrs) (b : List ℕ) → SpellsExpr profile t b → length (written_expr t) ≤ length b
 expr_least profile t b s = both_least (enc t) (0x0B ∷ []) s.front (0x0B ∷ []) b s.whole (enc_least profile t s.front s.spelled) (omega arith)
 
-group_least : (g : LocalGroup) (b : List ℕ) → SpellsGroup b g → length (written_group g) ≤ length b
+pub group_least : (g : LocalGroup) (b : List ℕ) → SpellsGroup b g → length (written_group g) ≤ length b
 group_least g b s =
     both_least (short g.count) (valtype_byte g.ty ∷ []) s.count (valtype_byte g.ty ∷ []) b s.parts (index_least g.count s.count s.counts) (omega arith)
 

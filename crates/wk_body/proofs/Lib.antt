@@ -23,4 +23,6 @@ pub mod TokenSteps
 pub mod Loop
 pub mod TreeRefs
 pub mod MovedTrees
+pub mod Unmoved
 pub mod RefSets
+pub mod OnlyShort

@@ -200,3 +200,9 @@ bodies_read profile = record {
   again = λ end b bytes s. all_again (SpellsBody profile) (body_at profile) (bodies profile) end bytes b s;
   stands = all_body_stands profile;
 }
+
+-- ---- what is read ahead, and fails
+
+-- a fault of reading from the same place stands there
+pub front_stands : {A : Type 0} (read : ℕ → List ℕ → Result (A × List ℕ) ReadFault) → ReadsFront read → (old ahead : Span) (e : ReadFault) → ahead ≡ old → length old.rest ≤ old.end → FailsAs e e.kind (read ahead.end ahead.rest) → StandsOrMemory old e
+front_stands read fronts old ahead e same fits h = stands_or old e _ (λ bad. fronts.faults old.end old.rest e bad fits) (subst (λ (s : Span). FailsAs e e.kind (read s.end s.rest)) same h)

@@ -18,6 +18,7 @@ use Rattle.wk_body.specs.Tree.{Tok, Simple, Open, OpenIf, Otherwise, Close, befo
 use Rattle.wk_body.specs.Shape.{depth_limit}
 use Rattle.wk_body.specs.Bodies.{BodyOf}
 use Rattle.wk_body.specs.Reading.{type_at, plain_at, may_else, type_here, opening_at, behind_at, token_at, after, With, then_on, parts_at, expr_at, groups_at, body_at, all_expr_at, all_body_at, taking_all}
+use Rattle.wk_body.specs.TokenReading.{local_groups_at}
 use Rattle.wk_body.proofs.PieceStands.{ReadsFront-type_at, ReadsFront-groups_at, plain_at-takes, plain_stands}
 
 -- ---- one token
@@ -114,8 +115,14 @@ token_faults : (profile : Profile) (ks : List Bool) (end : ℕ) (bytes : List �
 token_faults profile ks end [] e h fits = stands_as UnexpectedEnd end [] e (err_is {A = Tok × List ℕ} _ _ h) tt
 token_faults profile ks end (opcode ∷ bytes) e h fits = (token_behind profile ks opcode end bytes).faults e h fits
 
-ReadsFront-token_at : (profile : Profile) (ks : List Bool) → ReadsFront (token_at profile ks)
+pub ReadsFront-token_at : (profile : Profile) (ks : List Bool) → ReadsFront (token_at profile ks)
 ReadsFront-token_at profile ks = record { takes = token_takes profile ks; faults = token_faults profile ks }
+
+-- ---- local groups
+
+pub ReadsFront-local_groups_at : ReadsFront local_groups_at
+unfolding local_groups_at
+ReadsFront-local_groups_at = ReadsFront-then u32_at (λ n. groups_at n 0) ReadsFront-u32_at (λ n. ReadsFront-groups_at n 0)
 
 -- ---- expressions
 

@@ -24,7 +24,9 @@ pub use expr::Expr;
 pub use fault::EncodeFault;
 pub use length::{body_len, expr_len};
 pub use memory::MemoryOp;
-pub use moves::{Moving, ShiftFault, shift, shift_expr};
+pub use moves::{
+    Movement, Moving, ShiftFault, expr_movement, moving_of_code, shift, shift_expr, shift_index,
+};
 pub use numeric::{NumericOp, NumericType};
 pub use reader::{
     next_expr, next_expr_in, one_spelling_of_code, read_body, read_body_in, read_expr,
@@ -36,4 +38,4 @@ pub use scratch::Scratch;
 pub use token::Token;
 pub use token_reader::{TokenReader, next_groups};
 pub use types::{BlockKind, BlockType, LocalGroup, Profile, ValType};
-pub use writing::{append_body, append_expr, encode_body, encode_expr, written_form_of_code};
+pub use writing::{append_body, append_expr, code_bytes, encode_body, encode_expr, written_form_of_code};

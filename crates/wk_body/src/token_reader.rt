@@ -5,6 +5,7 @@ ghost use Rattle.wk_bytes.specs.declared.fault.ReadKind.TheVariants.{UnknownOpco
 ghost use Rattle.wk_bytes.specs.declared.fault.ReadFault.{ReadFault};
 ghost use Rattle.wk_bytes.specs.Fault.{no_memory};
 ghost use Rattle.wk_bytes.specs.Span.{u32_at};
+ghost use Rattle.wk_bytes.specs.Stands.{StandsOrMemory};
 ghost use Rattle.wk_body.specs.declared.types.Profile.{Profile};
 ghost use Rattle.wk_body.specs.Vectors.{items_at};
 ghost use Rattle.wk_body.specs.Bodies.{AreGroups};
@@ -223,17 +224,9 @@ impl TokenReader {
         }
     }
 
-    /// The next token of the expression, or none where its end is read: the `end` that closes no block.
-    ///
-    /// A token stands for itself alone: the distance of a block to its end (`skip`) is 0, and the labels of a `br_table` are those
-    /// that [`labels`](TokenReader::labels) gives before the next call. The cursor moves past the token. Behind the end the reader
-    /// stands anywhere, until it begins anew.
-    ///
-    /// # Errors
-    /// The first fault of the token from left to right, or `Memory` at 0 where a growth was refused. The reader and the cursor
-    /// stand anywhere then.
+    // The next token, as `next` reads it. After a refusal the cursor stands anywhere.
     #[inline(always)]
-    pub fn next(
+    fn take(
         &mut self,
         profile: Profile,
         cursor: &mut Cursor<'_>,
@@ -246,16 +239,38 @@ impl TokenReader {
         let opcode = cursor.byte()?;
         self.behind(profile, opcode, at, cursor)
     }
+
+    /// The next token of the expression, or none where its end is read: the `end` that closes no block.
+    ///
+    /// A token stands for itself alone: the distance of a block to its end (`skip`) is 0, and the labels of a `br_table` are those
+    /// that [`labels`](TokenReader::labels) gives before the next call. The cursor moves past the token. Behind the end the reader
+    /// stands anywhere, until it begins anew.
+    ///
+    /// # Errors
+    /// The first fault of the token from left to right, or `Memory` at 0 where a growth was refused. The cursor is as it was, and
+    /// the reader stands anywhere, until it begins anew.
+    #[inline(always)]
+    pub fn next(
+        &mut self,
+        profile: Profile,
+        cursor: &mut Cursor<'_>,
+    ) -> Result<Option<Token>, ReadFault>
+        ensures exact { MatchResult result
+            (λ t. NextRead profile self.old self.new cursor.old cursor.new t)
+            (λ e. FailsAs e e.kind (token_at profile self.old.kinds cursor.old.end cursor.old.rest)) }
+        ensures left { IfErr result (λ e. cursor.new ≡ cursor.old) }
+        ensures fault { IfErr result (λ e. StandsOrMemory cursor.old e) }
+    {
+        let mut ahead = cursor.ahead();
+        let token = self.take(profile, &mut ahead)?;
+        *cursor = ahead;
+        Ok(token)
+    }
 }
 
-/// Reads the local groups of a body, at the front of what the cursor has left (5.5.13), into a room, and moves past them. What
-/// was in the room before is forgotten.
-///
-/// # Errors
-/// The first fault from left to right, as [`TooManyLocals`](ReadKind::TooManyLocals) where the groups declare 2^32 locals or
-/// more, or `Memory` at 0 where a growth was refused. The room and the cursor stand anywhere then.
+// The local groups, as `next_groups` reads them. After a refusal the cursor stands anywhere.
 #[tactic(auto, unfolding(crate::specs::TokenReading::local_groups_at))]
-pub fn next_groups(groups: &mut Vec<LocalGroup>, cursor: &mut Cursor<'_>) -> Result<(), ReadFault>
+fn take_groups(groups: &mut Vec<LocalGroup>, cursor: &mut Cursor<'_>) -> Result<(), ReadFault>
     ensures exact { MatchResult result
         (λ _. (local_groups_at cursor.old.end cursor.old.rest ≡ Ok (groups.new.items, cursor.new.rest)) × (cursor.new.end ≡ cursor.old.end))
         (λ e. FailsAs e e.kind (local_groups_at cursor.old.end cursor.old.rest)) }
@@ -265,4 +280,24 @@ pub fn next_groups(groups: &mut Vec<LocalGroup>, cursor: &mut Cursor<'_>) -> Res
     // The proof asks what this says: each byte is below 256.
     are_bytes(cursor.rest());
     groups_of(groups, count, cursor)
+}
+
+/// Reads the local groups of a body, at the front of what the cursor has left (5.5.13), into a room, and moves past them. What
+/// was in the room before is forgotten.
+///
+/// # Errors
+/// The first fault from left to right, as [`TooManyLocals`](ReadKind::TooManyLocals) where the groups declare 2^32 locals or
+/// more, or `Memory` at 0 where a growth was refused. The cursor is as it was, and the room holds anything.
+pub fn next_groups(groups: &mut Vec<LocalGroup>, cursor: &mut Cursor<'_>) -> Result<(), ReadFault>
+    ensures exact { MatchResult result
+        (λ _. (local_groups_at cursor.old.end cursor.old.rest ≡ Ok (groups.new.items, cursor.new.rest)) × (cursor.new.end ≡ cursor.old.end))
+        (λ e. FailsAs e e.kind (local_groups_at cursor.old.end cursor.old.rest)) }
+    ensures range { IfOk result (λ _. AreGroups groups.new.items) }
+    ensures left { IfErr result (λ e. cursor.new ≡ cursor.old) }
+    ensures fault { IfErr result (λ e. StandsOrMemory cursor.old e) }
+{
+    let mut ahead = cursor.ahead();
+    take_groups(groups, &mut ahead)?;
+    *cursor = ahead;
+    Ok(())
 }

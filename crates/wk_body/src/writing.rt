@@ -3,6 +3,7 @@
 ghost use Rattle.std.specs.Prelude.{◌≡◌, ◌≤◌, ◌<◌, ℕ, List, ◌++◌, ◌∷◌, ◌^◌, length, IfOk, OnOk, MatchResult};
 ghost use Rattle.std.specs.List.{flat_map, AllByRecursion};
 ghost use Rattle.byteorder.specs.Endian.{little_bytes};
+ghost use Rattle.wk_bytes.specs.LebLaws.{IsBytes};
 ghost use Rattle.wk_bytes.specs.Short.{short};
 ghost use Rattle.wk_body.specs.Kept.{told, all_told, IsWithin};
 ghost use Rattle.wk_body.specs.Written.{type_bytes, tok_bytes, written_expr, written_body, written_group, Fits, Unwritten};
@@ -15,6 +16,7 @@ use crate::body::Body;
 use crate::expr::Expr;
 use crate::fault::EncodeFault;
 use crate::length::{body_len, expr_len};
+use crate::reading::are_bytes;
 use crate::token::Token;
 use crate::types::{BlockType, LocalGroup, Profile};
 use byteorder::{ByteOrder, LittleEndian};
@@ -211,12 +213,33 @@ pub fn encode_body(alloc: Global, body: &Body) -> Result<Vec<u8>, EncodeFault>
     Ok(out)
 }
 
-/// The laws of the written form: it spells what it is made of, in each profile that this belongs to; no spelling is shorter; and
-/// that of an expression is made of those of its tokens (`Token::head_len`), one after the other. It does nothing.
+/// The written form of a body that these bytes spell: a copy of them, where they are it.
+///
+/// It is answered as by [`encode_body`], and costs a look at each token where that writes each.
+pub fn code_bytes(alloc: Global, body: &Body, spelled: &[u8]) -> Result<Vec<u8>, EncodeFault>
+    requires { (profile : Profile) × SpellsBody profile body.now spelled.now }
+    ensures { MatchResult result (λ v. (v.items ≡ written_body body.now) × Fits v.items) (Unwritten (written_body body.now)) }
+{
+    // The proof asks what these two say: each byte is below 256, and a spelling as long as the written form is it.
+    are_bytes(spelled);
+    written_form_of_code();
+    let Some(len) = body_len(body) else {
+        return Err(EncodeFault::TooLarge);
+    };
+    if len as usize == spelled.len() {
+        return Ok(Vec::from_slice(alloc, spelled)?);
+    }
+    encode_body(alloc, body)
+}
+
+/// The laws of the written form: it spells what it is made of, in each profile that this belongs to; no spelling is shorter, and one
+/// that is as long is the same; and that of an expression is made of those of its tokens (`Token::head_len`), one after the other. It does nothing.
 pub fn written_form_of_code()
     ensures expr { (profile : Profile) (t : Instrs) → IsShaped t → IsOf profile t → SpellsExpr profile t (written_expr t) }
     ensures body { (profile : Profile) (b : BodyOf) → AreGroups b.groups → IsShaped b.instrs → IsOf profile b.instrs → SpellsBody profile b (written_body b) }
     ensures least_expr { (profile : Profile) (t : Instrs) (bytes : List ℕ) → SpellsExpr profile t bytes → length (written_expr t) ≤ length bytes }
     ensures least_body { (profile : Profile) (b : BodyOf) (bytes : List ℕ) → SpellsBody profile b bytes → length (written_body b) ≤ length bytes }
+    ensures only_expr { (profile : Profile) (t : Instrs) (bytes : List ℕ) → IsBytes bytes → SpellsExpr profile t bytes → length bytes ≡ length (written_expr t) → bytes ≡ written_expr t }
+    ensures only_body { (profile : Profile) (b : BodyOf) (bytes : List ℕ) → IsBytes bytes → SpellsBody profile b bytes → length bytes ≡ length (written_body b) → bytes ≡ written_body b }
     ensures tokens { (t : Instrs) → flat_map tok_bytes (tokens_of t) ≡ written_expr t }
 {}

@@ -17,7 +17,7 @@ use Rattle.wk_check.specs.declared.fault.FaultKind.TheVariants.{TypeArity}
 use Rattle.wk_check.specs.Flaws.{fault_at, numbered, first_in, first_fault, verdict_by, AreFine, IsFirst, IsVerdictOn}
 use Rattle.wk_check.specs.Items.{earlier, unless, type_flaw}
 use Rattle.wk_check.specs.Spaces.{and_more, imported}
-use Rattle.wk_check.specs.Verdict.{type_flaws, code_flaws, data_flaws, code_fault, flaws_before_code, module_flaws, verdict_around, module_verdict, IsVerdict, IsNotArity, extended}
+use Rattle.wk_check.specs.Verdict.{type_flaws, code_flaws, data_flaws, code_fault, flaws_before_code, module_flaws, front_fault, verdict_from, verdict_around, module_verdict, IsVerdict, IsNotArity, extended}
 
 -- ---- steps of loops
 
@@ -133,9 +133,10 @@ module_flaws_are m =
     ap verdict_by (first_fault_joined 1 before (codes ∷ datas ∷ []) ∙ ap (λ last. earlier (first_fault 1 before) (earlier (first_in 10 0 codes) last)) (earlier_none (first_in 11 0 datas)))
 
 -- the verdict around a module's code section is that of the module
-pub verdict_of_lists : (m : Parts) (profile : Profile) (l : SectionLists) (code : Option Fault) → profile ≡ m.profile → l ≡ record (lists_of m) { codes = [] } → code ≡ first_in 10 0 (code_flaws l m.funcs)
-    → verdict_around profile l code ≡ module_verdict m
-verdict_of_lists m profile l code profile_is lists_are code_is = rw (code_is, lists_are, profile_is)
+pub verdict_of_lists : (m : Parts) (profile : Profile) (l : SectionLists) (before : Option Fault) → profile ≡ m.profile → l ≡ record (lists_of m) { codes = [] } → before ≡ earlier (front_fault profile l) (first_in 10 0 (code_flaws l m.funcs))
+    → verdict_from l before ≡ module_verdict m
+verdict_of_lists m profile l before profile_is lists_are before_is =
+    rw (before_is, lists_are, profile_is) (ap verdict_by (earlier_assoc (front_fault m.profile (lists_of m)) (code_fault m) (first_in 11 0 (data_flaws (lists_of m)))))
 
 -- the verdict of a module is the one that words tell
 pub module_verdict_told : (m : Parts) → IsVerdict m (module_verdict m)

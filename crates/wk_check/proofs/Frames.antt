@@ -24,11 +24,11 @@ use Rattle.wk_check.specs.Own.{Own, TokenFault, at_token, popped, pushed, fresh,
 use Rattle.wk_check.specs.Effects.{Takes, call_effect, indirect_effect, global_get, global_set, with_memory, access_effect, known, known_found, params_of, params_found, results_of, results_found, effect_of, after_effect, local_type}
 use Rattle.wk_check.specs.Typing.{is_finish, else_count, count, with_index, entered, begun, label_types, typed, code_result, verdict_of, body_verdict}
 
-split_left : {X : Type 0} (P : X → Type 0) (xs ys : List X) → AllByRecursion P (xs ++ ys) → AllByRecursion P xs
+pub split_left : {X : Type 0} (P : X → Type 0) (xs ys : List X) → AllByRecursion P (xs ++ ys) → AllByRecursion P xs
 split_left P [] ys h = tt
 split_left P (x ∷ xs) ys h = (h.0, split_left P xs ys h.1)
 
-split_right : {X : Type 0} (P : X → Type 0) (xs ys : List X) → AllByRecursion P (xs ++ ys) → AllByRecursion P ys
+pub split_right : {X : Type 0} (P : X → Type 0) (xs ys : List X) → AllByRecursion P (xs ++ ys) → AllByRecursion P ys
 split_right P [] ys h = h
 split_right P (x ∷ xs) ys h = split_right P xs ys h.1
 
@@ -71,7 +71,7 @@ count_mapped f (Block kind bt inside rest) = omega (arith, count_mapped f inside
 count_mapped f (If bt first second rest) =
     omega (arith, count_mapped f first, count_mapped f second, count_mapped f rest, ap else_count (finish_mapped f second))
 
-stays : (t : Instrs) → map_plain (λ p. p) t ≡ t
+pub stays : (t : Instrs) → map_plain (λ p. p) t ≡ t
 stays Finish = refl
 stays (One p rest) = ap (One p) (stays rest)
 stays (Block kind bt inside rest) =
@@ -81,15 +81,15 @@ stays (If bt first second rest) =
 
 -- A change of instructions, and of references, that go together: a type is found as before, and an instruction whose references
 -- find what they found has the effect that it had.
-record GoesTogether (f : Plain → Plain) (g : Ref → Ref) (A1 A2 : Ref → Found) : Type 0 where
-  types : (x : ℕ) → g (refs.Ty x) ≡ refs.Ty x
-  effects : (locals : ℕ → Option ValType) (final : List ValType) (labels : List (List ValType)) (p : Plain) → AllByRecursion (λ r. A2 (g r) ≡ A1 r) (plain_refs p) → effect_of A2 locals final labels (f p) ≡ effect_of A1 locals final labels p
+pub record GoesTogether (f : Plain → Plain) (g : Ref → Ref) (A1 A2 : Ref → Found) : Type 0 where
+  pub types : (x : ℕ) → g (refs.Ty x) ≡ refs.Ty x
+  pub effects : (locals : ℕ → Option ValType) (final : List ValType) (labels : List (List ValType)) (p : Plain) → AllByRecursion (λ r. A2 (g r) ≡ A1 r) (plain_refs p) → effect_of A2 locals final labels (f p) ≡ effect_of A1 locals final labels p
 
 module _ (f : Plain → Plain) (g : Ref → Ref) (A1 A2 : Ref → Found) (goes : GoesTogether f g A1 A2) where
-  abbrev Finds : Ref → Type 0
+  abbrev pub Finds : Ref → Type 0
   Finds r = A2 (g r) ≡ A1 r
 
-  abbrev AllFind : List Ref → Type 0
+  abbrev pub AllFind : List Ref → Type 0
   AllFind rs = AllByRecursion Finds rs
 
   same_type : (x : ℕ) → Finds (refs.Ty x) → A2 (refs.Ty x) ≡ A1 (refs.Ty x)
@@ -120,7 +120,7 @@ module _ (f : Plain → Plain) (g : Ref → Ref) (A1 A2 : Ref → Found) (goes :
       ∙ ap (λ ts. known A1 bt >>= λ u. popped (with_index test ts) s) (same_params bt h)
 
   module _ (locals : ℕ → Option ValType) (final : List ValType) where
-    abbrev Same : Instrs → Type 0
+    abbrev pub Same : Instrs → Type 0
     Same t = (labels : List (List ValType)) (k : ℕ) (s : Own) → typed A2 locals final labels k (map_plain f t) s ≡ typed A1 locals final labels k t s
 
     same_inside : (bt : BlockType) (t : Instrs) → AllFind (type_refs bt) → Same t → (label label' : List ValType) (labels : List (List ValType)) (k k' : ℕ) → label ≡ label' → k ≡ k' → typed A2 locals final (label ∷ labels) k (map_plain f t) (begun A2 bt) ≡ typed A1 locals final (label' ∷ labels) k' t (begun A1 bt)
@@ -130,7 +130,7 @@ module _ (f : Plain → Plain) (g : Ref → Ref) (A1 A2 : Ref → Found) (goes :
         ∙ ap (λ n. typed A1 locals final (label' ∷ labels) n t (begun A2 bt)) ek
         ∙ ap (λ ts. typed A1 locals final (label' ∷ labels) k' t (pushed ts fresh)) (same_params bt h)
 
-    same_typed : (t : Instrs) → AllFind (refs_of t) → Same t
+    pub same_typed : (t : Instrs) → AllFind (refs_of t) → Same t
     same_typed Finish h labels k s = refl
     same_typed (One p rest) h labels k s =
         let here = split_left Finds (plain_refs p) (refs_of rest) h in
@@ -175,7 +175,7 @@ module _ (f : Plain → Plain) (g : Ref → Ref) (A1 A2 : Ref → Found) (goes :
 
 -- ---- nothing moves
 
-same_effect : (A1 A2 : Ref → Found) (locals : ℕ → Option ValType) (final : List ValType) (labels : List (List ValType)) (p : Plain) → AllByRecursion (λ r. A2 r ≡ A1 r) (plain_refs p) → effect_of A2 locals final labels p ≡ effect_of A1 locals final labels p
+pub same_effect : (A1 A2 : Ref → Found) (locals : ℕ → Option ValType) (final : List ValType) (labels : List (List ValType)) (p : Plain) → AllByRecursion (λ r. A2 r ≡ A1 r) (plain_refs p) → effect_of A2 locals final labels p ≡ effect_of A1 locals final labels p
 same_effect A1 A2 locals final labels (plain.Call x) h = ap call_effect h.0
 same_effect A1 A2 locals final labels (plain.CallIndirect x) h =
     ap (λ w. indirect_effect w (A2 refs.Table)) h.0 ∙ ap (indirect_effect (A1 (refs.Ty x))) h.1.0

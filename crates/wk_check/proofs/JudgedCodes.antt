@@ -28,12 +28,13 @@ use Rattle.wk_module.specs.ListReading.{PartlyRead, listed_by, with_listed, list
 use Rattle.wk_check.specs.declared.fault.Flaw.{Flaw}
 use Rattle.wk_check.specs.declared.fault.Fault.{Fault}
 use Rattle.wk_check.specs.declared.fault.Verdict.{Verdict}
+use Rattle.wk_check.specs.Flaws.{verdict_by}
 use Rattle.wk_check.specs.Items.{earlier}
 use Rattle.wk_check.specs.Spelled.{judged, IsVerdictOf, func_flaw, first_of, fault_read, codes_judged}
-use Rattle.wk_check.specs.Verdict.{verdict_around, module_verdict, IsVerdict}
+use Rattle.wk_check.specs.Verdict.{front_fault, verdict_from, verdict_around, module_verdict, IsVerdict}
 use Rattle.wk_check.specs.Whole.{AreNumbered}
 use Rattle.wk_check.specs.WholeLaws.{are_numbered}
-use Rattle.wk_check.proofs.Flaws.{earlier_none, module_verdict_told}
+use Rattle.wk_check.proofs.Flaws.{earlier_none, earlier_assoc, module_verdict_told}
 
 -- ---- one body after the other
 
@@ -47,8 +48,8 @@ rest_judged profile l types before item count end bytes =
     items_at (code_at profile) count end bytes >>= λ bodies. answered (earlier before (first_of l item (zipped types bodies.0))) bodies.1
 
 -- the codes that are read, judged, and what is left of the bytes
-abbrev pub all_judged : SectionLists → List ℕ → Result (List BodyOf × List ℕ) ReadFault → Result (Option Fault × List ℕ) ReadFault
-all_judged l types codes = codes >>= λ bodies. answered (first_of l 0 (zipped types bodies.0)) bodies.1
+abbrev pub all_judged : Profile → SectionLists → List ℕ → Result (List BodyOf × List ℕ) ReadFault → Result (Option Fault × List ℕ) ReadFault
+all_judged profile l types codes = codes >>= λ bodies. answered (earlier (front_fault profile l) (first_of l 0 (zipped types bodies.0))) bodies.1
 
 abbrev put_front : BodyOf → List BodyOf × List ℕ → Result (List BodyOf × List ℕ) ReadFault
 put_front body xs = Ok (body ∷ xs.0, xs.1)
@@ -85,6 +86,11 @@ pub body_step : (profile : Profile) (l w : SectionLists) (types : List ℕ) (bef
 body_step profile l w types before next item t end end_now bytes after body whole here is read end_is lists_are next_is so_far =
     rw (end_is, next_is, lists_are) (sym (body_judged profile l types before item t end bytes after body here is read) ∙ so_far)
 
+-- before the first
+pub section_begins : (profile : Profile) (l : SectionLists) (types : List ℕ) (s : Section) (before : Option Fault) (end : ℕ) (bytes : List ℕ) → codes_at profile (length types) (section_end s) s.contents ≡ items_at (code_at profile) (length types) end bytes → before ≡ front_fault profile l
+    → rest_judged profile l (drop 0 types) before 0 (length types - 0) end bytes ≡ all_judged profile l types (codes_at profile (length types) (section_end s) s.contents)
+section_begins profile l types s before end bytes opened is = let k : length types - 0 ≡ length types = omega arith in rw (k, opened, is) refl
+
 code_by : (profile : Profile) (end : ℕ) (bytes after : List ℕ) (code : Span) (body : BodyOf) → bytes_at end bytes ≡ Ok (code.rest, after) → code.end ≡ end - length after → all_body_at profile code.end code.rest ≡ Ok body → code_at profile end bytes ≡ Ok (body, after)
 unfolding code_at
 code_by profile end bytes after code body taken place read = rw (taken, ← place, read) refl
@@ -111,16 +117,16 @@ pub code_not_read : (profile : Profile) (l : SectionLists) (before : Option Faul
 unfolding code_at
 code_not_read profile l before item ty end bytes after code e taken place bad = rw (taken, ← place, unread l before item ty e (all_body_at profile code.end code.rest) bad) refl
 
-stopped : (l : SectionLists) (types : List ℕ) (whole : Result (List BodyOf × List ℕ) ReadFault) (e : ReadFault) → Err e ≡ all_judged l types whole → whole ≡ Err e
-stopped l types (Ok x) e h = absurd cc
-stopped l types (Err d) e h = cc
+stopped : (profile : Profile) (l : SectionLists) (types : List ℕ) (whole : Result (List BodyOf × List ℕ) ReadFault) (e : ReadFault) → Err e ≡ all_judged profile l types whole → whole ≡ Err e
+stopped profile l types (Ok x) e h = absurd cc
+stopped profile l types (Err d) e h = cc
 
 -- a body cannot be read
 pub body_stops : (profile : Profile) (l : SectionLists) (types : List ℕ) (before : Option Fault) (item end : ℕ) (bytes : List ℕ) (e : ReadFault) (whole : Result (List BodyOf × List ℕ) ReadFault) → item < length types
-    → rest_judged profile l (drop item types) before item (length types - item) end bytes ≡ all_judged l types whole → code_at profile end bytes ≡ Err e → whole ≡ Err e
+    → rest_judged profile l (drop item types) before item (length types - item) end bytes ≡ all_judged profile l types whole → code_at profile end bytes ≡ Err e → whole ≡ Err e
 body_stops profile l types before item end bytes e whole here so_far bad =
     let count : length types - item ≡ suc (length types - (item + 1)) = omega arith in
-    stopped l types whole e (rw (count, bad) at so_far)
+    stopped profile l types whole e (rw (count, bad) at so_far)
 
 -- and where the codes cannot, the section cannot
 pub section_stops : (profile : Profile) (l : SectionLists) (types : List ℕ) (s : Section) (e : ReadFault) → codes_at profile (length types) (section_end s) s.contents ≡ Err e → codes_judged profile l types s ≡ Err e
@@ -133,30 +139,30 @@ zipped_none (t ∷ types) = refl
 nil_cons : (x : ℕ) (rest : List ℕ) → [] ≡ x ∷ rest → ⊥
 nil_cons x rest h = absurd cc
 
-finished : (l : SectionLists) (types : List ℕ) (end : ℕ) (before : Option Fault) (whole : Result (List BodyOf × List ℕ) ReadFault) → answered before [] ≡ all_judged l types whole → (whole >>= taking_all end >>= λ bodies. Ok (first_of l 0 (zipped types bodies))) ≡ Ok before
-finished l types end before (Ok (bodies, [])) h = sym (ap (λ (r : Result (Option Fault × List ℕ) ReadFault). r >>= λ x. Ok x.0) h)
-finished l types end before (Ok (bodies, x ∷ rest)) h = absurd (nil_cons x rest (ap (λ (y : Option Fault × List ℕ). y.1) (ok_is _ _ h)))
-finished l types end before (Err e) h = absurd cc
+finished : (profile : Profile) (l : SectionLists) (types : List ℕ) (end : ℕ) (before : Option Fault) (whole : Result (List BodyOf × List ℕ) ReadFault) → answered before [] ≡ all_judged profile l types whole → (whole >>= taking_all end >>= λ bodies. Ok (earlier (front_fault profile l) (first_of l 0 (zipped types bodies)))) ≡ Ok before
+finished profile l types end before (Ok (bodies, [])) h = sym (ap (λ (r : Result (Option Fault × List ℕ) ReadFault). r >>= λ x. Ok x.0) h)
+finished profile l types end before (Ok (bodies, x ∷ rest)) h = absurd (nil_cons x rest (ap (λ (y : Option Fault × List ℕ). y.1) (ok_is _ _ h)))
+finished profile l types end before (Err e) h = absurd cc
 
 -- all bodies are read and judged
 pub section_judged : (profile : Profile) (l : SectionLists) (types : List ℕ) (s : Section) (before : Option Fault) (item end : ℕ) (bytes : List ℕ) → length types ≤ item → bytes ≡ []
-    → rest_judged profile l (drop item types) before item (length types - item) end bytes ≡ all_judged l types (codes_at profile (length types) (section_end s) s.contents) → codes_judged profile l types s ≡ Ok before
+    → rest_judged profile l (drop item types) before item (length types - item) end bytes ≡ all_judged profile l types (codes_at profile (length types) (section_end s) s.contents) → codes_judged profile l types s ≡ Ok before
 section_judged profile l types s before item end bytes le none so_far =
     let count : length types - item ≡ 0 = omega arith in
-    finished l types (section_end s) before (codes_at profile (length types) (section_end s) s.contents) (rw (count, none, zipped_none, earlier_none) at so_far)
+    finished profile l types (section_end s) before (codes_at profile (length types) (section_end s) s.contents) (rw (count, none, zipped_none, earlier_none) at so_far)
 
-left_over : (l : SectionLists) (types : List ℕ) (end : ℕ) (before : Option Fault) (rest : List ℕ) (whole : Result (List BodyOf × List ℕ) ReadFault) → answered before rest ≡ all_judged l types whole → rest ≢ []
-    → (whole >>= taking_all end >>= λ bodies. Ok (first_of l 0 (zipped types bodies))) ≡ Err (fault SectionSize end rest)
-left_over l types end before rest (Ok (bodies, [])) h some = absurd (some (ap (λ (y : Option Fault × List ℕ). y.1) (ok_is _ _ h)))
-left_over l types end before rest (Ok (bodies, x ∷ more)) h some = ap (λ (y : List ℕ). Err (fault SectionSize end y)) (sym (ap (λ (y : Option Fault × List ℕ). y.1) (ok_is _ _ h)))
-left_over l types end before rest (Err e) h some = absurd cc
+left_over : (profile : Profile) (l : SectionLists) (types : List ℕ) (end : ℕ) (before : Option Fault) (rest : List ℕ) (whole : Result (List BodyOf × List ℕ) ReadFault) → answered before rest ≡ all_judged profile l types whole → rest ≢ []
+    → (whole >>= taking_all end >>= λ bodies. Ok (earlier (front_fault profile l) (first_of l 0 (zipped types bodies)))) ≡ Err (fault SectionSize end rest)
+left_over profile l types end before rest (Ok (bodies, [])) h some = absurd (some (ap (λ (y : Option Fault × List ℕ). y.1) (ok_is _ _ h)))
+left_over profile l types end before rest (Ok (bodies, x ∷ more)) h some = ap (λ (y : List ℕ). Err (fault SectionSize end y)) (sym (ap (λ (y : Option Fault × List ℕ). y.1) (ok_is _ _ h)))
+left_over profile l types end before rest (Err e) h some = absurd cc
 
 -- or the section goes on behind them
 pub section_goes_on : (profile : Profile) (l : SectionLists) (types : List ℕ) (s : Section) (before : Option Fault) (item end : ℕ) (bytes : List ℕ) → length types ≤ item → bytes ≢ [] → end ≡ section_end s
-    → rest_judged profile l (drop item types) before item (length types - item) end bytes ≡ all_judged l types (codes_at profile (length types) (section_end s) s.contents) → codes_judged profile l types s ≡ Err (fault SectionSize end bytes)
+    → rest_judged profile l (drop item types) before item (length types - item) end bytes ≡ all_judged profile l types (codes_at profile (length types) (section_end s) s.contents) → codes_judged profile l types s ≡ Err (fault SectionSize end bytes)
 section_goes_on profile l types s before item end bytes le some same so_far =
     let count : length types - item ≡ 0 = omega arith in
-    rw same (left_over l types (section_end s) before bytes (codes_at profile (length types) (section_end s) s.contents) (rw (count, zipped_none, earlier_none) at so_far) some)
+    rw same (left_over profile l types (section_end s) before bytes (codes_at profile (length types) (section_end s) s.contents) (rw (count, zipped_none, earlier_none) at so_far) some)
 
 err_ok : (q : SectionLists) (e : ReadFault) → (Err e ≡ done q) → ⊥
 err_ok q e is = absurd cc
@@ -258,6 +264,10 @@ read_lists profile b = lists_read profile no_lists (sections_of b)
 abbrev pub IsJudged : Profile → List ℕ → SectionLists → Option Fault → Type 0
 IsJudged profile b l code = (judged (module_at profile b) ≡ Ok (verdict_around profile (record l { codes = [] }) code)) × AreNumbered (record l { codes = [] })
 
+-- the same, where this is the first fault up to the code section
+abbrev pub IsJudgedFrom : Profile → List ℕ → SectionLists → Option Fault → Type 0
+IsJudgedFrom profile b l before = (judged (module_at profile b) ≡ Ok (verdict_from (record l { codes = [] }) before)) × AreNumbered (record l { codes = [] })
+
 joined_same : (end : ℕ) (l : SectionLists) → length l.funcs ≡ length l.codes → joined_lists end l ≡ Ok l
 joined_same end l same = rw (eq-eqb (length l.funcs) (length l.codes) same) refl
 
@@ -317,7 +327,7 @@ module _ (profile : Profile) (b : List ℕ) (is : IsReading profile b (module_at
     read_codes (Ok bodies) codes = read ∙ rw (code_is, codes) refl
     read_codes (Err e) codes = read ∙ rw (code_is, codes) refl
 
-    unbound : (r : Result (List BodyOf) ReadFault) (e : ReadFault) → (r >>= λ bodies. Ok (first_of (record l { codes = [] }) 0 (zipped l.funcs bodies))) ≡ Err e → r ≡ Err e
+    unbound : (r : Result (List BodyOf) ReadFault) (e : ReadFault) → (r >>= λ bodies. Ok (earlier (front_fault profile (record l { codes = [] })) (first_of (record l { codes = [] }) 0 (zipped l.funcs bodies)))) ≡ Err e → r ≡ Err e
     unbound (Ok bodies) e h = absurd cc
     unbound (Err d) e h = cc
 
@@ -326,9 +336,9 @@ module _ (profile : Profile) (b : List ℕ) (is : IsReading profile b (module_at
 
     -- the bodies that were read
     bodies_of : (code : Option Fault) → codes_judged profile (record l { codes = [] }) l.funcs s ≡ Ok code
-        → (bodies : List BodyOf) × (all_at (codes_at profile (length l.funcs)) (section_end s) s.contents ≡ Ok bodies) × (first_of (record l { codes = [] }) 0 (zipped l.funcs bodies) ≡ code)
+        → (bodies : List BodyOf) × (all_at (codes_at profile (length l.funcs)) (section_end s) s.contents ≡ Ok bodies) × (earlier (front_fault profile (record l { codes = [] })) (first_of (record l { codes = [] }) 0 (zipped l.funcs bodies)) ≡ code)
     bodies_of code e =
-        let a = bind_ok (all_at (codes_at profile (length l.funcs)) (section_end s) s.contents) (λ bodies. done (first_of (record l { codes = [] }) 0 (zipped l.funcs bodies))) code e in
+        let a = bind_ok (all_at (codes_at profile (length l.funcs)) (section_end s) s.contents) (λ bodies. done (earlier (front_fault profile (record l { codes = [] })) (first_of (record l { codes = [] }) 0 (zipped l.funcs bodies)))) code e in
         (a.0, a.1, ok_is _ _ a.2)
 
     read_behind : (bodies : List BodyOf) → all_at (codes_at profile (length l.funcs)) (section_end s) s.contents ≡ Ok bodies → read_lists profile b ≡ (lists_read profile l behind >>= λ q. Ok (with_codes bodies q))
@@ -337,11 +347,13 @@ module _ (profile : Profile) (b : List ℕ) (is : IsReading profile b (module_at
     pub behind_fails : (code : Option Fault) (e : ReadFault) → codes_judged profile (record l { codes = [] }) l.funcs s ≡ Ok code → lists_read profile l behind ≡ Err e → judged (module_at profile b) ≡ Err e
     behind_fails code e codes bad = let a = bodies_of code codes in lists_fail e (read_behind a.0 a.1 ∙ rw bad refl)
 
-    same_verdict : (x : List DataSeg) (q : SectionLists) (bodies : List BodyOf) (code : Option Fault) → q ≡ record l { datas = x } → first_of (record l { codes = [] }) 0 (zipped l.funcs bodies) ≡ code
-        → lists_verdict profile (with_codes bodies q) ≡ verdict_around profile (record q { codes = [] }) code
-    same_verdict x q bodies code front is = rw front (ap (λ (o : Option Fault). verdict_around profile (record (record l { datas = x }) { codes = [] }) o) is)
+    same_verdict : (x : List DataSeg) (q : SectionLists) (bodies : List BodyOf) (code : Option Fault) → q ≡ record l { datas = x } → earlier (front_fault profile (record l { codes = [] })) (first_of (record l { codes = [] }) 0 (zipped l.funcs bodies)) ≡ code
+        → lists_verdict profile (with_codes bodies q) ≡ verdict_from (record q { codes = [] }) code
+    same_verdict x q bodies code front is =
+        rw front (ap verdict_by (sym (earlier_assoc (front_fault profile (record l { codes = [] })) (first_of (record l { codes = [] }) 0 (zipped l.funcs bodies)) _))
+        ∙ ap (λ (o : Option Fault). verdict_from (record (record l { datas = x }) { codes = [] }) o) is)
 
-    pub judged_with_code : (q : SectionLists) (code : Option Fault) → codes_judged profile (record l { codes = [] }) l.funcs s ≡ Ok code → lists_read profile l behind ≡ Ok q → IsJudged profile b q code
+    pub judged_with_code : (q : SectionLists) (code : Option Fault) → codes_judged profile (record l { codes = [] }) l.funcs s ≡ Ok code → lists_read profile l behind ≡ Ok q → IsJudgedFrom profile b q code
     judged_with_code q code codes ends =
         let a = bodies_of code codes in
         let front = lists_front profile l q 10 behind (omega arith) rise ends in
@@ -365,8 +377,8 @@ lists_few profile l q b read =
 pub told_codes : (profile lent : Profile) (l w : SectionLists) (s : Section) → lent ≡ profile → w ≡ record l { codes = [] } → codes_judged lent w w.funcs s ≡ codes_judged profile (record l { codes = [] }) l.funcs s
 told_codes profile lent l w s profile_is lists_are = rw (profile_is, lists_are) refl
 
-pub told_verdict : (profile lent : Profile) (l w : SectionLists) (code : Option Fault) (v : Verdict) → lent ≡ profile → w ≡ record l { codes = [] } → v ≡ verdict_around lent w code → verdict_around profile (record l { codes = [] }) code ≡ v
-told_verdict profile lent l w code v profile_is lists_are is = sym (is ∙ ap (λ (p : Profile). verdict_around p w code) profile_is ∙ ap (λ (x : SectionLists). verdict_around profile x code) lists_are)
+pub told_verdict : (l w : SectionLists) (before : Option Fault) (v : Verdict) → w ≡ record l { codes = [] } → v ≡ verdict_from w before → verdict_from (record l { codes = [] }) before ≡ v
+told_verdict l w before v lists_are is = sym (is ∙ ap (λ (x : SectionLists). verdict_from x before) lists_are)
 
 pub no_items : {A : Type 0} (xs : List A) → eqb (length xs) 0 ≡ true → xs ≡ []
 no_items [] is = refl
@@ -375,7 +387,7 @@ no_items (x ∷ xs) is = absurd (omega (arith, eqb-true (suc (length xs)) 0 is))
 -- the verdict of a module of which the front, the codes and what is behind them were read
 pub judged_in_parts : (r : PartlyRead) (b : List ℕ) (s : Section) (lent : Lists) (law : Profile) (q : SectionLists) (code : Option Fault) → law ≡ r.profile → IsReading law b (module_at law b) → AreListsOfModule law b
     → lent.profile ≡ r.profile → listed lent ≡ record r.lists { codes = [] } → s.id ≡ 10 → r.lists.codes ≡ [] → Rise 10 r.left → read_lists r.profile b ≡ lists_read r.profile r.lists (Ok s ∷ r.left)
-    → codes_judged lent.profile (listed lent) lent.funcs.now s ≡ Ok code → lists_read r.profile r.lists r.left ≡ Ok q → IsJudged r.profile b q code
+    → codes_judged lent.profile (listed lent) lent.funcs.now s ≡ Ok code → lists_read r.profile r.lists r.left ≡ Ok q → IsJudgedFrom r.profile b q code
 judged_in_parts r b s lent law q code law_is is lists profile_is lent_is code_is none rise read codes ends =
     let told = told_codes r.profile lent.profile r.lists (listed lent) s profile_is lent_is in
     judged_with_code r.profile b (rw law_is at is) (rw law_is at lists) r.lists s r.left code_is none rise read q code (sym told ∙ codes) ends

@@ -20,3 +20,6 @@ pub mod Sound
 pub mod Stacked
 pub mod Streamed
 pub mod Valid
+pub mod ValidFinds
+pub mod Growing
+pub mod StillValid

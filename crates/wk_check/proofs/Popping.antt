@@ -6,11 +6,11 @@ use Rattle.wk_check.specs.declared.stop.Stop.{Stop}
 use Rattle.wk_bytes.specs.Leb.{◌>>=◌}
 use Rattle.wk_check.proofs.Binds.{bind_assoc}
 use Rattle.wk_check.specs.Slots.{Slot, Known, same, selected}
-use Rattle.wk_check.specs.Own.{Own, popped, popped_any, popped_one, pushed, pushed_one}
+use Rattle.wk_check.specs.Own.{Own, popped, popped_any, popped_one, pushed, pushed_one, stopped, is_empty}
 use Rattle.wk_body.specs.declared.types.ValType.TheVariants.{I32}
 use Rattle.wk_check.specs.Effects.{same_types, after_effect, Takes, Selects}
 use Rattle.wk_check.specs.Levels.{Blocks, with_top}
-use Rattle.wk_check.specs.Moves.{popped_on, popped_by, pushed_on, on_top, Steps}
+use Rattle.wk_check.specs.Moves.{popped_on, popped_by, pushed_on, on_top, own_is_spent, Steps}
 use Rattle.std.proofs.lemmas.List.{take_more}
 
 pub popped_push : (ts : List ValType) (t : ValType) (s : Own) → popped (ts ++ t ∷ []) s ≡ (popped_one (Known t) s >>= λ p. popped ts (p.1))
@@ -61,6 +61,22 @@ module _ (ts : List ValType) (n : ℕ) (t : ValType) (r : Result Blocks FaultKin
 
   pub pop_turn_err : (k : FaultKind) → popped_on (popped_one (Known t)) b ≡ Err k → r ≡ Err k
   pop_turn_err k h = turn ∙ ap (λ m. m >>= λ q. on_top (popped (take (n - 1) ts)) (q.1)) h
+
+-- ---- a dead stack without operands stays so
+
+popped_spent : (ts : List ValType) → popped ts stopped ≡ Ok stopped
+popped_spent [] = refl
+popped_spent (t ∷ ts) = ap (λ r. r >>= λ s'. popped_one (Known t) s' >>= λ p. Ok (p.1)) (popped_spent ts)
+
+spent_is : (dead : Bool) (xs : List Slot) → (if dead then is_empty xs else false) ≡ true → record { items = xs; dead = dead } ≡ stopped
+spent_is true [] e = refl
+spent_is true (x ∷ xs) e = absurd cc
+spent_is false xs e = absurd cc
+
+pub spent_pops : (ts : List ValType) (b : Blocks) → own_is_spent b ≡ true → on_top (popped ts) b ≡ Ok b
+spent_pops ts b e =
+    let is = spent_is b.inner.own.dead b.inner.own.items e in
+    ap (λ s. popped ts s >>= λ s. Ok (with_top s b)) is ∙ ap (λ r. r >>= λ s. Ok (with_top s b)) (popped_spent ts) ∙ ap (λ s. Ok (with_top s b)) (sym is)
 
 -- one turn of pushing several operands
 pub push_turn : (ts : List ValType) (i : ℕ) (t : ValType) (old b b' : Blocks) → i < length ts → t ≡ get_or ts i t → b ≡ with_top (pushed (take i ts) old.inner.own) old → b' ≡ pushed_on (Known t) b → b' ≡ with_top (pushed (take (i + 1) ts) old.inner.own) old

@@ -5,6 +5,7 @@ pub mod Cuts
 pub mod Derives
 pub mod DerivesLaws
 pub mod Effects
+pub mod Finds
 pub mod Flaws
 pub mod Items
 pub mod Levels

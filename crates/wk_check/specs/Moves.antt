@@ -1,5 +1,5 @@
 -- The small moves of the machine, and what its calls answer.
-use Rattle.std.specs.Prelude.{◌≡◌, ℕ, zero, suc, Bool, true, List, [], ◌∷◌, Option, Some, None, Result, Ok, Err}
+use Rattle.std.specs.Prelude.{◌≡◌, ℕ, zero, suc, Bool, true, false, if◌then◌else◌, List, [], ◌∷◌, Option, Some, None, Result, Ok, Err}
 use Rattle.wk_bytes.specs.Leb.{◌>>=◌}
 use Rattle.wk_body.specs.declared.types.ValType.{ValType}
 use Rattle.wk_body.specs.declared.types.BlockType.{BlockType}
@@ -39,6 +39,10 @@ restarted_on b = blocks (record { opener = openers.Else; block = b.inner.block; 
 
 abbrev pub own_is_empty : Blocks → Bool
 own_is_empty b = is_empty b.inner.own.items
+
+-- the innermost block is dead and has no operands
+abbrev pub own_is_spent : Blocks → Bool
+own_is_spent b = if b.inner.own.dead then own_is_empty b else false
 
 -- a pop from the innermost block's own stack
 abbrev pub popped_by : Result (Slot × Own) FaultKind → Blocks → Result (Slot × Blocks) FaultKind

@@ -18,7 +18,7 @@ use Rattle.wk_check.specs.Flaws.{numbered, first_in}
 use Rattle.wk_check.specs.Items.{earlier, body_flaw}
 use Rattle.wk_check.specs.Spaces.{answer_in, spaces_of}
 use Rattle.wk_check.specs.Typing.{body_verdict}
-use Rattle.wk_check.specs.Verdict.{module_verdict, IsVerdict}
+use Rattle.wk_check.specs.Verdict.{front_fault, module_verdict, IsVerdict}
 
 -- the verdict of what reading gives, or its fault
 abbrev pub judged : Result Parts ReadFault → Result Verdict ReadFault
@@ -44,7 +44,7 @@ abbrev pub fault_read : Profile → SectionLists → Option Fault → ℕ → �
 fault_read profile l before item ty code =
     all_body_at profile code.end code.rest >>= λ body. Ok (earlier before (first_of l item (record { ty = ty; body = body } ∷ [])))
 
--- The first fault of a code section, where functions of these types were declared; or the fault of reading it.
+-- The first fault of the sections up to a code section, where functions of these types were declared; or the fault of reading it.
 abbrev pub codes_judged : Profile → SectionLists → List ℕ → Section → Result (Option Fault) ReadFault
 codes_judged profile l types s =
-    all_at (codes_at profile (length types)) (section_end s) s.contents >>= λ bodies. Ok (first_of l 0 (zipped types bodies))
+    all_at (codes_at profile (length types)) (section_end s) s.contents >>= λ bodies. Ok (earlier (front_fault profile l) (first_of l 0 (zipped types bodies)))

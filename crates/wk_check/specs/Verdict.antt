@@ -58,10 +58,18 @@ flaws_before_code profile l =
     type_flaws profile l ∷ import_flaws l ∷ func_flaws l ∷ table_flaws l ∷ memory_flaws l ∷ global_flaws l ∷ export_flaws l
     ∷ start_flaws (spaces_of l) l.start ∷ elem_flaws l ∷ []
 
+-- the first fault in the sections in front of the code section
+abbrev pub front_fault : Profile → SectionLists → Option Fault
+front_fault profile l = first_fault 1 (flaws_before_code profile l)
+
+-- the verdict of a module with these lists, where this is the first fault of the sections up to the code section
+abbrev pub verdict_from : SectionLists → Option Fault → Verdict
+verdict_from l before = verdict_by (earlier before (first_in 11 0 (data_flaws l)))
+
 -- the verdict of a module with these lists, whose first fault in the code section is this
 abbrev pub verdict_around : Profile → SectionLists → Option Fault → Verdict
 verdict_around profile l code =
-    verdict_by (earlier (first_fault 1 (flaws_before_code profile l)) (earlier code (first_in 11 0 (data_flaws l))))
+    verdict_by (earlier (front_fault profile l) (earlier code (first_in 11 0 (data_flaws l))))
 
 -- the first fault in the code section of a module
 abbrev pub code_fault : Parts → Option Fault

@@ -1,15 +1,15 @@
 //! Judging a module (3.4.10).
 
-ghost use Rattle.std.specs.Prelude.{◌≡◌, ◌↔◌, ◌<◌, ◌^◌, [], ◌∷◌, length, map, IfOk};
+ghost use Rattle.std.specs.Prelude.{◌≡◌, ◌↔◌, ◌<◌, ◌^◌, [], ◌∷◌, length, map, true, IfOk};
 ghost use Rattle.wk_body.specs.declared.types.Profile.{Profile};
 ghost use Rattle.wk_module.specs.Listed.{listed};
 ghost use Rattle.wk_module.specs.Shape.{lists_of};
 ghost use Rattle.wk_check.specs.declared.fault.Verdict.{Verdict};
 ghost use Rattle.wk_check.specs.Flaws.{first_in, first_fault};
-ghost use Rattle.wk_check.specs.Items.{start_flaws};
+ghost use Rattle.wk_check.specs.Items.{earlier, start_flaws};
 ghost use Rattle.wk_check.specs.Spaces.{spaces_of};
 ghost use Rattle.wk_check.specs.Valid.{IsValidModule};
-ghost use Rattle.wk_check.specs.Verdict.{type_flaws, import_flaws, func_flaws, table_flaws, memory_flaws, global_flaws, export_flaws, elem_flaws, code_flaws, data_flaws, flaws_before_code, verdict_around, module_verdict, IsVerdict, IsNotArity, extended};
+ghost use Rattle.wk_check.specs.Verdict.{type_flaws, import_flaws, func_flaws, table_flaws, memory_flaws, global_flaws, export_flaws, elem_flaws, code_flaws, data_flaws, front_fault, verdict_from, verdict_around, module_verdict, IsVerdict, IsNotArity, extended};
 ghost use Rattle.wk_check.specs.Whole.{AreNumbered};
 
 use crate::exports::exports_fault;
@@ -92,8 +92,8 @@ fn fault_of_uses(
     first_fault(&ElemRule { whole }, 9, lists.elems, room)
 }
 
-// The first fault of the sections in front of the code section.
-fn fault_before_code(
+/// The first fault of the sections in front of the code section.
+pub(crate) fn fault_before_code(
     alloc: Global,
     lists: &Lists<'_>,
     whole: &Whole<'_>,
@@ -101,7 +101,7 @@ fn fault_before_code(
 ) -> Result<Option<Fault>, OutOfMemory>
     requires numbered { AreNumbered (listed lists.now) }
     requires same { whole.now ≡ listed lists.now }
-    ensures { IfOk result (λ r. r ≡ first_fault 1 (flaws_before_code lists.now.profile (listed lists.now))) }
+    ensures { IfOk result (λ r. r ≡ front_fault lists.now.profile (listed lists.now)) }
 {
     if let Some(fault) = fault_of_types(lists, room)? {
         return Ok(Some(fault));
@@ -125,6 +125,55 @@ fn fault_of_datas(
     first_fault(&DataRule { whole }, 11, lists.datas, room)
 }
 
+/// Whether each list holds fewer items than there are numbers of 32 bits, as the lists of a module do.
+pub(crate) fn are_numbered(lists: &Lists<'_>) -> bool
+    ensures { result ≡ true → AreNumbered (listed lists.now) }
+{
+    let most = u32::MAX as usize;
+    lists.types.len() <= most
+        && lists.imports.len() <= most
+        && lists.funcs.len() <= most
+        && lists.tables.len() <= most
+        && lists.memories.len() <= most
+        && lists.globals.len() <= most
+        && lists.exports.len() <= most
+        && lists.elems.len() <= most
+        && lists.datas.len() <= most
+}
+
+// The verdict where this is the first fault of the sections up to the code section.
+fn verdict_behind(
+    lists: &Lists<'_>,
+    whole: &Whole<'_>,
+    fault: Option<Fault>,
+    room: &mut Room,
+) -> Result<Verdict, OutOfMemory>
+    requires numbered { AreNumbered (listed lists.now) }
+    requires same { whole.now ≡ listed lists.now }
+    ensures { IfOk result (λ verdict. verdict ≡ verdict_from (listed lists.now) fault) }
+{
+    if let Some(fault) = fault {
+        return Ok(Verdict::Invalid(fault));
+    }
+    match fault_of_datas(lists, whole, room)? {
+        Some(fault) => Ok(Verdict::Invalid(fault)),
+        None => Ok(Verdict::Valid),
+    }
+}
+
+/// Judges a module with these lists whose first fault in the sections up to the code section is `fault`.
+pub(crate) fn judge_behind(
+    alloc: Global,
+    lists: &Lists<'_>,
+    fault: Option<Fault>,
+) -> Result<Verdict, OutOfMemory>
+    requires { AreNumbered (listed lists.now) }
+    ensures { IfOk result (λ verdict. verdict ≡ verdict_from (listed lists.now) fault) }
+{
+    let whole = Whole::of(alloc, *lists)?;
+    verdict_behind(lists, &whole, fault, &mut Room::new(alloc))
+}
+
 /// Judges a module with these lists whose first fault in the code section is `code`: valid, or the first fault by section, item,
 /// and what is looked at.
 ///
@@ -139,16 +188,11 @@ pub fn judge_around(
 {
     let whole = Whole::of(alloc, *lists)?;
     let mut room = Room::new(alloc);
-    if let Some(fault) = fault_before_code(alloc, lists, &whole, &mut room)? {
-        return Ok(Verdict::Invalid(fault));
-    }
-    if let Some(fault) = code {
-        return Ok(Verdict::Invalid(fault));
-    }
-    match fault_of_datas(lists, &whole, &mut room)? {
-        Some(fault) => Ok(Verdict::Invalid(fault)),
-        None => Ok(Verdict::Valid),
-    }
+    let fault = match fault_before_code(alloc, lists, &whole, &mut room)? {
+        Some(fault) => Some(fault),
+        None => code,
+    };
+    verdict_behind(lists, &whole, fault, &mut room)
 }
 
 // The types of functions.
@@ -183,18 +227,23 @@ fn lists_of<'a>(parts: &'a Parts, funcs: &'a [u32]) -> Lists<'a>
     }
 }
 
-// The first fault of the code section: that of the first body that is not valid under its type.
-fn fault_of_codes(
+// The first fault of the sections up to the code section. Bodies are typed only where nothing in front of them is wrong.
+fn fault_up_to_code(
     alloc: Global,
     parts: &Parts,
     lists: &Lists<'_>,
+    whole: &Whole<'_>,
+    room: &mut Room,
 ) -> Result<Option<Fault>, OutOfMemory>
-    requires { length parts.now.funcs < 2 ^ 32 }
-    ensures { IfOk result (λ r. r ≡ first_in 10 0 (code_flaws (listed lists.now) parts.now.funcs)) }
+    requires few { length parts.now.funcs < 2 ^ 32 }
+    requires numbered { AreNumbered (listed lists.now) }
+    requires same { whole.now ≡ listed lists.now }
+    ensures { IfOk result (λ r. r ≡ earlier (front_fault lists.now.profile (listed lists.now)) (first_in 10 0 (code_flaws (listed lists.now) parts.now.funcs))) }
 {
-    let whole = Whole::of(alloc, *lists)?;
-    let rule = CodeRule { whole: &whole };
-    first_fault(&rule, 10, parts.funcs.as_slice(), &mut Room::new(alloc))
+    if let Some(fault) = fault_before_code(alloc, lists, whole, room)? {
+        return Ok(Some(fault));
+    }
+    first_fault(&CodeRule { whole }, 10, parts.funcs.as_slice(), room)
 }
 
 /// Judges a module: valid, or the first fault by section, item, and what is looked at.
@@ -211,6 +260,8 @@ pub fn judge(alloc: Global, module: &Module) -> Result<Verdict, OutOfMemory>
     let parts = module.parts();
     let types = types_of(alloc, parts.funcs.as_slice())?;
     let lists = lists_of(parts, types.as_slice());
-    let code = fault_of_codes(alloc, parts, &lists)?;
-    judge_around(alloc, &lists, code)
+    let whole = Whole::of(alloc, lists)?;
+    let mut room = Room::new(alloc);
+    let fault = fault_up_to_code(alloc, parts, &lists, &whole, &mut room)?;
+    verdict_behind(&lists, &whole, fault, &mut room)
 }

@@ -3,7 +3,8 @@
 ghost use Rattle.std.specs.Prelude.{◌≡◌};
 ghost use Rattle.wk_body.specs.References.{refs_of, shift_body};
 ghost use Rattle.wk_body.specs.declared.references.Ref.{Ref};
-ghost use Rattle.wk_check.specs.Carried.{Agree, AgreeMoved};
+ghost use Rattle.wk_check.specs.Carried.{Agree, AgreeMoved, Keeps, KeepsMoved};
+ghost use Rattle.wk_check.specs.Finds.{ValidFinds};
 ghost use Rattle.wk_check.specs.Typing.{body_verdict};
 
 use crate::env::Env;
@@ -45,3 +46,11 @@ pub fn carry_moved<O: Env, N: Env>(
 {
     verdict // its references, moved, find what they found
 }
+
+/// The laws by which verdicts are kept, for all bodies at once: [`carry`] and [`carry_moved`] are these of one body; and all that a valid
+/// body refers to is there. It does nothing.
+pub fn verdicts_that_keep()
+    ensures frame { Keeps }
+    ensures moved { KeepsMoved }
+    ensures there { ValidFinds }
+{}

@@ -2,7 +2,7 @@
 
 ghost use Rattle.std.specs.Prelude.{◌≡◌, OnOk, IsTrue};
 ghost use Rattle.wk_check.specs.Own.{popped_any, is_empty};
-ghost use Rattle.wk_check.specs.Moves.{pushed_on, entered_by, left_by, stopped_on, restarted_on, Pops, popped_on, body_of, own_is_empty, head_at};
+ghost use Rattle.wk_check.specs.Moves.{pushed_on, entered_by, left_by, stopped_on, restarted_on, Pops, popped_on, body_of, own_is_empty, own_is_spent, head_at};
 
 use crate::fault::FaultKind;
 use crate::operand::Operand;
@@ -135,6 +135,14 @@ impl Machine {
         ensures { result ≡ own_is_empty self.now }
     {
         self.inner.height == self.operands.len()
+    }
+
+    /// Whether the innermost block is dead and has no operands: each pop then gives any operand, and changes nothing.
+    #[inline(always)]
+    pub(crate) fn is_spent(&self) -> bool
+        ensures { result ≡ own_is_spent self.now }
+    {
+        self.inner.dead && self.is_clear()
     }
 
     /// Makes the innermost block dead.

@@ -69,12 +69,15 @@ fn pop_type(m: &mut Machine, ty: ValType) -> Result<(), FaultKind>
     Ok(())
 }
 
-/// Pops operands of these types, the last first.
+/// Pops operands of these types, the last first. It takes no more steps than there are operands.
 pub(crate) fn pop_types(m: &mut Machine, types: &[ValType]) -> Result<(), FaultKind>
     ensures { Does (on_top (popped types.now) m.old) result m.new }
 {
     let mut n = types.len();
     while n > 0 {
+        if m.is_spent() {
+            return Ok(());
+        }
         n -= 1;
         pop_known(m, types[n])?;
     }

@@ -12,9 +12,10 @@ ghost use Rattle.wk_check.specs.declared.fault.Verdict.{Verdict};
 ghost use Rattle.wk_check.specs.Items.{earlier};
 ghost use Rattle.wk_check.specs.Spelled.{judged, IsVerdictOf, first_of, fault_read, codes_judged};
 ghost use Rattle.wk_check.specs.Valid.{IsValidRead};
+ghost use Rattle.wk_check.specs.Whole.{AreNumbered};
 
 use crate::fault::{Fault, Verdict};
-use crate::judging::judge_around;
+use crate::judging::{are_numbered, fault_before_code, judge_around, judge_behind};
 use crate::rule::Rule;
 use crate::rules::CodeRule;
 use crate::streaming::{StreamRoom, is_valid_body};
@@ -85,12 +86,14 @@ fn fault_up_to(
     Ok(fault_behind(rule, fault, *index, &read, &mut rooms.room)?)
 }
 
-// The first fault of a code section in a module with these lists, each body judged when it is read.
+// The first fault of the sections up to a code section in a module with these lists, each body judged when it is read. Behind a
+// fault bodies are only read.
 fn fault_of_section(
     alloc: Global,
     lists: &Lists<'_>,
     section: &RawSection<'_>,
 ) -> Result<Option<Fault>, ReadFault>
+    requires { AreNumbered (listed lists.now) }
     ensures { Reads (λ r. r) result (codes_judged lists.now.profile (listed lists.now) lists.now.funcs.now (raw_view section.now)) }
 {
     let mut codes = CodeReader::open(section, lists.funcs.len())?;
@@ -101,7 +104,8 @@ fn fault_of_section(
         scratch: Scratch::new(alloc),
         room: Room::new(alloc),
     };
-    let mut fault = None;
+    let known = fault_before_code(alloc, lists, &whole, &mut rooms.room)?;
+    let mut fault = known;
     for (index, ty) in lists.funcs.iter().enumerate() {
         let func = Unread {
             index: index as u32,
@@ -130,9 +134,13 @@ fn judge_from_code(
     ensures { Reads (λ v. v) result (judged (module_at reader.entry.profile bytes.now)) }
 {
     reading_of_module(bytes, reader.lists().profile);
-    let code = fault_of_section(alloc, &reader.lists(), section)?;
+    let lists = reader.lists();
+    if !are_numbered(&lists) {
+        return Err(ReadFault::from(OutOfMemory));
+    }
+    let fault = fault_of_section(alloc, &lists, section)?;
     let reader = reader.to_end(alloc, scratch)?;
-    Ok(judge_around(alloc, &reader.lists(), code)?)
+    Ok(judge_behind(alloc, &reader.lists(), fault)?)
 }
 
 // Judges the module of these bytes, which are read and hold no code section.

@@ -9,7 +9,7 @@ ghost use Rattle.wk_module.specs.Customs.{written_custom};
 ghost use Rattle.wk_module.specs.Listed.{listed, IsListId};
 ghost use Rattle.wk_module.specs.Modules.{Spells};
 ghost use Rattle.wk_module.specs.Sections.{of_number};
-ghost use Rattle.wk_module.specs.Shape.{lists_of};
+ghost use Rattle.wk_module.specs.Shape.{lists_of, IsShaped};
 ghost use Rattle.wk_module.specs.Writing.{encoded, framed, contents_by, section_of, customs_at, Fits};
 
 use crate::format::{Codes, FuncIndices};
@@ -55,6 +55,14 @@ pub fn encode(alloc: Global, module: &Module) -> Result<Vec<u8>, EncodeFault>
     let mut bytes = Vec::with_capacity(alloc, len as usize)?;
     put_module(parts, &mut bytes)?;
     Ok(bytes)
+}
+
+/// The law of the written form: where a module fits, it spells the module. It does nothing.
+pub fn written_form_of_module()
+    ensures spells { (m : Seen) → IsShaped m → Fits m → Spells (encoded m) m }
+{
+    reading_of_code();
+    written_form_of_code();
 }
 
 /// The contents of the section of an id, 1 to 9 or 11, as they stand in the written form: no bytes where the section is left

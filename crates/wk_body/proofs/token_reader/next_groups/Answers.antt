@@ -1,10 +1,10 @@
-use Rattle.std.proofs.Common.{arith}
-use Rattle.wk_bytes.specs.LebLaws.{IsBytes}
-use Rattle.wk_body.proofs.TokenSteps.{groups_range, range_if_ok}
+use Rattle.std.proofs.lemmas.Result.{err_from_is_err_and}
+use Rattle.wk_body.specs.TokenReading.{local_groups_at}
+use Rattle.wk_body.proofs.Standing.{ReadsFront-local_groups_at}
+use Rattle.wk_body.proofs.Promised.{front_stands}
 use Rattle.wk_body.proofs.token_reader.next_groups.Goals as goal
 
-pub returns-clause-range : goal.returns-clause-range
-returns-clause-range c =
-    let rest = c.u32.new.self.rest in
-    let fits : IsBytes rest = rw (← c.rest.ensures) c.are_bytes.ensures in
-    range_if_ok c.groups_of.result _ _ _ (λ e. groups_range c.in_ok-count.count c.u32.new.self.end rest c.groups_of.new.groups.items c.groups_of.new.cursor.rest (omega arith) fits e.0) c.groups_of.ensures
+pub returns-in_err-take_groups-clause-fault : goal.returns-in_err-take_groups-clause-fault
+returns-in_err-take_groups-clause-fault c =
+    let p = err_from_is_err_and c.from_residual.result c.from_residual.ensures.1 in
+    rw (p.1, p.2) (front_stands local_groups_at ReadsFront-local_groups_at c.args.cursor.now c.ahead-ahead.result c.in_err-take_groups.field-0.0 c.ahead-ahead.ensures.same c.ahead-ahead.ensures.fits c.in_err-take_groups.ensures.exact)

@@ -1,8 +1,11 @@
-use Rattle.std.proofs.Common.{arith, ◌-◌}
+use Rattle.std.proofs.Common.{arith, ◌-◌, sym, ◌∙◌, take}
 use Rattle.std.proofs.lemmas.List.{get_or_default}
 use Rattle.std.proofs.lemmas.Result.{err_from_is_err_and}
-use Rattle.wk_check.proofs.Popping.{pop_turn_ok, pop_turn_err}
+use Rattle.wk_check.proofs.Popping.{pop_turn_ok, pop_turn_err, spent_pops}
 use Rattle.wk_check.proofs.operands.pop_types.Goals as goal
+
+pub returns-then-is_spent : goal.returns-then-is_spent
+returns-then-is_spent c = c.loop-n.invariant.1 ∙ spent_pops (take c.loop-n.n c.args.types.now) c.loop-n.m (sym c.is_spent.ensures ∙ c.if-is_spent.true)
 
 pub loop-n-preserved : goal.loop-n-preserved
 loop-n-preserved c =

@@ -6,7 +6,7 @@ use Rattle.wk_body.specs.ReadsLaws.{fails_on}
 use Rattle.wk_module.specs.Formats.{bytes_at}
 use Rattle.wk_module.specs.Listed.{listed}
 use Rattle.wk_check.specs.Spelled.{fault_read, codes_judged}
-use Rattle.wk_check.proofs.JudgedCodes.{body_step, body_stops, section_stops, section_judged, section_goes_on, code_is_read, code_not_taken, code_not_read}
+use Rattle.wk_check.proofs.JudgedCodes.{section_begins, body_step, body_stops, section_stops, section_judged, section_goes_on, code_is_read, code_not_taken, code_not_read}
 use Rattle.wk_check.proofs.spelled.fault_of_section.Goals as goal
 
 pub returns-in_err-next_code : goal.returns-in_err-next_code
@@ -40,6 +40,15 @@ returns-in_err-end c =
     let lists = c.args.lists.now in
     let codes = c.loop-index.codes in
     rw (p.1, p.2, c.in_err-end.ensures.0) (section_goes_on lists.profile (listed lists) lists.funcs.now (raw_view c.args.section.now) c.loop-index.fault c.loop-index.index codes.end codes.rest c.loop-index-test.false c.in_err-end.ensures.1 c.loop-index.invariant.end c.loop-index.invariant.reads ∙ ap (λ (e : ReadFault). Err e) (sym c.in_err-end.ensures.0))
+
+pub loop-index-init : goal.loop-index-init
+loop-index-init c =
+    let lists = c.args.lists.now in
+    let codes = c.in_ok-codes.codes in
+    record {
+      end = c.in_ok-codes.ensures.end;
+      reads = section_begins lists.profile (listed lists) lists.funcs.now (raw_view c.args.section.now) c.in_ok-known.known codes.end codes.rest (c.in_ok-codes.ensures.read lists.profile) c.in_ok-known.ensures;
+    }
 
 pub loop-index-preserved : goal.loop-index-preserved
 loop-index-preserved c =

@@ -10,5 +10,5 @@ abbrev pub invariant-loop-index : goal.invariant-loop-index
 invariant-loop-index l = record {
   end : l.codes.end ≡ section_end (raw_view l.section);
   reads : rest_judged l.lists.profile (listed l.lists) (drop l.index l.lists.funcs.now) l.fault l.index (length l.lists.funcs.now - l.index) l.codes.end l.codes.rest
-      ≡ all_judged (listed l.lists) l.lists.funcs.now (codes_at l.lists.profile (length l.lists.funcs.now) (section_end (raw_view l.section)) l.section.contents.now);
+      ≡ all_judged l.lists.profile (listed l.lists) l.lists.funcs.now (codes_at l.lists.profile (length l.lists.funcs.now) (section_end (raw_view l.section)) l.section.contents.now);
 }

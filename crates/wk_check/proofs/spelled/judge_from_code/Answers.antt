@@ -12,19 +12,19 @@ use Rattle.wk_check.specs.Whole.{AreNumbered}
 use Rattle.wk_check.proofs.JudgedCodes.{codes_fail, behind_fails, judged_in_parts, told_codes, told_verdict}
 use Rattle.wk_check.proofs.spelled.judge_from_code.Goals as goal
 
-pub returns-in_err-code : goal.returns-in_err-code
-returns-in_err-code c =
+pub returns-in_err-fault : goal.returns-in_err-fault
+returns-in_err-fault c =
     let p = err_from_is_err_and c.from_residual.result c.from_residual.ensures.1 in
-    let e = c.in_err-code.field-0.0 in
+    let e = c.in_err-fault.field-0.0 in
     let r = c.args.reader in
     let b = c.args.bytes.now in
     let s = raw_view c.args.section.now in
-    let lent = c.lists-2.result in
+    let lent = c.lists-lists.result in
     let is : IsReading r.profile b (module_at r.profile b) = rw c.lists.ensures.profile at c.reading_of_module.ensures.is in
     let lists : AreListsOfModule r.profile b = rw c.lists.ensures.profile at c.reading_of_module.ensures.lists in
-    let told = told_codes r.profile lent.profile r.lists (listed lent) s c.lists-2.ensures.profile c.lists-2.ensures.lists in
+    let told = told_codes r.profile lent.profile r.lists (listed lent) s c.lists-lists.ensures.profile c.lists-lists.ensures.lists in
     rw (p.1, p.2)
-    (fails_on e e.kind (codes_judged lent.profile (listed lent) lent.funcs.now s) (judged (module_at r.profile b)) (λ bad. codes_fail r.profile b is lists r.lists s r.left c.requires.code c.requires.none c.requires.rise c.requires.read e (sym told ∙ bad)) c.in_err-code.ensures)
+    (fails_on e e.kind (codes_judged lent.profile (listed lent) lent.funcs.now s) (judged (module_at r.profile b)) (λ bad. codes_fail r.profile b is lists r.lists s r.left c.requires.code c.requires.none c.requires.rise c.requires.read e (sym told ∙ bad)) c.in_err-fault.ensures)
 
 pub returns-in_err-reader : goal.returns-in_err-reader
 returns-in_err-reader c =
@@ -33,20 +33,20 @@ returns-in_err-reader c =
     let r = c.args.reader in
     let b = c.args.bytes.now in
     let s = raw_view c.args.section.now in
-    let lent = c.lists-2.result in
+    let lent = c.lists-lists.result in
     let is : IsReading r.profile b (module_at r.profile b) = rw c.lists.ensures.profile at c.reading_of_module.ensures.is in
     let lists : AreListsOfModule r.profile b = rw c.lists.ensures.profile at c.reading_of_module.ensures.lists in
-    let told = told_codes r.profile lent.profile r.lists (listed lent) s c.lists-2.ensures.profile c.lists-2.ensures.lists in
+    let told = told_codes r.profile lent.profile r.lists (listed lent) s c.lists-lists.ensures.profile c.lists-lists.ensures.lists in
     rw (p.1, p.2)
-    (fails_on e e.kind (lists_read r.profile r.lists r.left) (judged (module_at r.profile b)) (λ bad. behind_fails r.profile b is lists r.lists s r.left c.requires.code c.requires.none c.requires.rise c.requires.read c.in_ok-code.code e (sym told ∙ c.in_ok-code.ensures) bad) c.in_err-reader.ensures.read)
+    (fails_on e e.kind (lists_read r.profile r.lists r.left) (judged (module_at r.profile b)) (λ bad. behind_fails r.profile b is lists r.lists s r.left c.requires.code c.requires.none c.requires.rise c.requires.read c.in_ok-fault.fault e (sym told ∙ c.in_ok-fault.ensures) bad) c.in_err-reader.ensures.read)
 
-pub judge_around-requires : goal.judge_around-requires
-judge_around-requires c =
-    let judged_is = judged_in_parts c.args.reader c.args.bytes.now (raw_view c.args.section.now) c.lists-2.result c.lists.result.profile c.in_ok-reader.reader.lists c.in_ok-code.code c.lists.ensures.profile c.reading_of_module.ensures.is c.reading_of_module.ensures.lists c.lists-2.ensures.profile c.lists-2.ensures.lists c.requires.code c.requires.none c.requires.rise c.requires.read c.in_ok-code.ensures c.in_ok-reader.ensures.read in
-    subst AreNumbered (sym c.lists-3.ensures.lists) judged_is.1
+pub judge_behind-requires : goal.judge_behind-requires
+judge_behind-requires c =
+    let judged_is = judged_in_parts c.args.reader c.args.bytes.now (raw_view c.args.section.now) c.lists-lists.result c.lists.result.profile c.in_ok-reader.reader.lists c.in_ok-fault.fault c.lists.ensures.profile c.reading_of_module.ensures.is c.reading_of_module.ensures.lists c.lists-lists.ensures.profile c.lists-lists.ensures.lists c.requires.code c.requires.none c.requires.rise c.requires.read c.in_ok-fault.ensures c.in_ok-reader.ensures.read in
+    subst AreNumbered (sym c.lists-2.ensures.lists) judged_is.1
 
 pub returns : goal.returns
 returns c =
-    let judged_is = judged_in_parts c.args.reader c.args.bytes.now (raw_view c.args.section.now) c.lists-2.result c.lists.result.profile c.in_ok-reader.reader.lists c.in_ok-code.code c.lists.ensures.profile c.reading_of_module.ensures.is c.reading_of_module.ensures.lists c.lists-2.ensures.profile c.lists-2.ensures.lists c.requires.code c.requires.none c.requires.rise c.requires.read c.in_ok-code.ensures c.in_ok-reader.ensures.read in
-    let told = told_verdict c.args.reader.profile c.lists-3.result.profile c.in_ok-reader.reader.lists (listed c.lists-3.result) c.in_ok-code.code c.in_ok-judge_around.field-0 (c.lists-3.ensures.profile ∙ c.in_ok-reader.ensures.profile) c.lists-3.ensures.lists c.in_ok-judge_around.ensures in
+    let judged_is = judged_in_parts c.args.reader c.args.bytes.now (raw_view c.args.section.now) c.lists-lists.result c.lists.result.profile c.in_ok-reader.reader.lists c.in_ok-fault.fault c.lists.ensures.profile c.reading_of_module.ensures.is c.reading_of_module.ensures.lists c.lists-lists.ensures.profile c.lists-lists.ensures.lists c.requires.code c.requires.none c.requires.rise c.requires.read c.in_ok-fault.ensures c.in_ok-reader.ensures.read in
+    let told = told_verdict c.in_ok-reader.reader.lists (listed c.lists-2.result) c.in_ok-fault.fault c.in_ok-judge_behind.field-0 c.lists-2.ensures.lists c.in_ok-judge_behind.ensures in
     judged_is.0 ∙ ap (λ (v : Verdict). done v) told
