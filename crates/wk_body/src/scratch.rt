@@ -79,8 +79,12 @@ fn end_else(tokens: &mut Vec<Token>, other: u32)
 }
 
 impl Scratch {
-    /// An empty room. It takes no memory yet.
-    pub fn new(alloc: Global) -> Scratch {
+    /// An empty room: it holds no token and no label, and no block is open. It takes no memory yet.
+    pub fn new(alloc: Global) -> Scratch
+        ensures toks { toks_of result ≡ [] }
+        ensures kinds { kinds_of result ≡ [] }
+        ensures size { size_of result ≡ 0 }
+    {
         Scratch {
             tokens: Vec::new(alloc),
             labels: Vec::new(alloc),
