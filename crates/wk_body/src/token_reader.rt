@@ -247,9 +247,9 @@ impl TokenReader {
 
     /// The next token of the expression, or none where its end is read: the `end` that closes no block.
     ///
-    /// A token stands for itself alone: the distance of a block to its end (`skip`) is 0, and the labels of a `br_table` are those
-    /// that [`labels`](TokenReader::labels) gives before the next call. The cursor moves past the token. Behind the end the reader
-    /// stands anywhere, until it begins anew.
+    /// A token stands for itself alone: the distance of a block to its end (`skip`) is 0, an `else` is told of even where its branch
+    /// is empty, and the labels of a `br_table` are those that [`labels`](TokenReader::labels) gives before the next call. The
+    /// cursor moves past the token. Behind the end the reader stands anywhere, until it begins anew.
     ///
     /// # Errors
     /// The first fault of the token from left to right, or `Memory` at 0 where a growth was refused. The cursor is as it was, and

@@ -213,9 +213,9 @@ pub fn encode_body(alloc: Global, body: &Body) -> Result<Vec<u8>, EncodeFault>
     Ok(out)
 }
 
-/// The written form of a body that these bytes spell: a copy of them, where they are it.
+/// The written form of a body that these bytes spell, answered as by [`encode_body`]: a copy of the bytes, where they are it.
 ///
-/// It is answered as by [`encode_body`], and costs a look at each token where that writes each.
+/// A spelling is the written form exactly where it is as long. So this looks at each token where `encode_body` writes each.
 pub fn code_bytes(alloc: Global, body: &Body, spelled: &[u8]) -> Result<Vec<u8>, EncodeFault>
     requires { (profile : Profile) × SpellsBody profile body.now spelled.now }
     ensures { MatchResult result (λ v. (v.items ≡ written_body body.now) × Fits v.items) (Unwritten (written_body body.now)) }
