@@ -59,7 +59,7 @@ pub changed-changed : (f g : List Part → List Part) (read : Result With ReadFa
 changed-changed f g (Ok x) = refl
 changed-changed f g (Err e) = refl
 
-same_changed : (f g : List Part → List Part) (read : Result With ReadFault) → ((xs : List Part) → f xs ≡ g xs) → changed f read ≡ changed g read
+pub same_changed : (f g : List Part → List Part) (read : Result With ReadFault) → ((xs : List Part) → f xs ≡ g xs) → changed f read ≡ changed g read
 same_changed f g (Ok x) h = ap (λ (xs : List Part). good (xs, x.1)) (h x.0)
 same_changed f g (Err e) h = refl
 

@@ -1,5 +1,5 @@
 -- What a length tells that is, or is not, within the limit.
-use Rattle.std.proofs.Common.{◌≡◌, ℕ, ◌<◌, ◌≤◌, nat_le, Option, Some, None, ◌∙◌, inl, inr, sym, arith}
+use Rattle.std.proofs.Common.{◌≡◌, ℕ, ◌<◌, ◌≤◌, nat_le, Some, None, ◌∙◌, inl, inr}
 use Rattle.std.proofs.lemmas.Bool.{cases_Bool, cond-true, cond-false, leb-true, leb-false}
 use Rattle.wk_bytes.specs.Frames.{limit}
 use Rattle.wk_body.specs.Lengths.{limited}

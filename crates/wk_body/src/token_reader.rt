@@ -29,7 +29,7 @@ use wk_bytes::{Cursor, ReadFault, ReadKind};
 /// blocks are open, and the labels of the last `br_table`.
 ///
 /// One reader is used for many expressions, each after a call of [`begin`](TokenReader::begin), and grows once.
-#[derive(Drop)]
+#[derive(Debug, Drop)]
 pub struct TokenReader {
     // of each open block, the innermost last, whether an `else` may still come
     blocks: Vec<bool>,
