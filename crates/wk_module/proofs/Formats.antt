@@ -17,7 +17,7 @@ use Rattle.wk_bytes.specs.Stands.{Stands}
 use Rattle.wk_bytes.specs.StandsLaws.{ReadsFront, ReadsFront-done, ReadsFront-then, ReadsFront-byte_at, ReadsFront-piece_at, ReadsFront-u32_at, ReadsFront-name_at, Stands-here}
 use Rattle.wk_body.specs.Shape.{IsU32}
 use Rattle.wk_body.specs.Vectors.{SpellsItems, SpellsVector, items_at, vector_at, written_vector}
-use Rattle.wk_module.specs.WritingLaws.{short-rises, length_le_flat_map}
+use Rattle.wk_module.specs.WritingLaws.{length_le_flat_map}
 use Rattle.wk_module.specs.Formats.{Reader, SpellsBoth, both_at, SpellsKeyed, keyed_at, made_at, SpellsCoded, coded_at, SpellsBehind, this_byte_at, behind_at, SpellsBytes, bytes_at, written_bytes}
 use Rattle.wk_module.proofs.Laws.{IsFormat}
 
