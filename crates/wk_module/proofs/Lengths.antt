@@ -10,27 +10,8 @@ use Rattle.wk_bytes.specs.Short.{short}
 use Rattle.wk_bytes.specs.ShortLaws.{short-some}
 use Rattle.wk_bytes.specs.Frames.{limit}
 use Rattle.wk_body.specs.Lengths.{limited}
+use Rattle.wk_body.specs.LengthsLaws.{limited_some, limited_none}
 use Rattle.wk_module.specs.Writing.{list_contents}
-
-abbrev some : ℕ → Option ℕ
-some n = Some n
-
-some_is : (m n : ℕ) → some m ≡ some n → m ≡ n
-some_is m n e = cc
-
-pub limited_none : (n : ℕ) → None ≡ limited n → limit < n
-limited_none n e =
-    elim (cases_Bool (nat_le n limit)) [
-      | inl t ↦ let is : None ≡ Some n = e ∙ cond-true (nat_le n limit) (Some n) None t in absurd cc
-      | inr f ↦ leb-false n limit f
-    ]
-
-pub limited_some : (m n : ℕ) → Some m ≡ limited n → (m ≡ n) × (n ≤ limit)
-limited_some m n e =
-    elim (cases_Bool (nat_le n limit)) [
-      | inl t ↦ (some_is m n (e ∙ cond-true (nat_le n limit) (Some n) None t), leb-true n limit t)
-      | inr f ↦ let is : Some m ≡ None = e ∙ cond-false (nat_le n limit) (Some n) None f in absurd cc
-    ]
 
 -- whether a length is zero, as it is told
 pub is_zero : (n : ℕ) (size : Option ℕ) → size ≡ limited n → true ≡ option_eq eqb size (Some 0) → n ≡ 0

@@ -2,7 +2,7 @@ use Rattle.std.proofs.Common.{◌≡◌, ℕ, length, sym, ap, ◌∙◌, arith}
 use Rattle.wk_bytes.specs.Short.{short}
 use Rattle.wk_body.specs.Lengths.{limited}
 use Rattle.wk_module.specs.WritingLaws.{length-framed}
-use Rattle.wk_module.proofs.Lengths.{limited_some}
+use Rattle.wk_body.specs.LengthsLaws.{limited_some}
 use Rattle.wk_module.proofs.length.plus_framed.Goals as goal
 
 pub returns : goal.returns
