@@ -29,9 +29,10 @@ use Rattle.wk_check.specs.declared.fault.Flaw.{Flaw}
 use Rattle.wk_check.specs.declared.fault.Fault.{Fault}
 use Rattle.wk_check.specs.declared.fault.Verdict.{Verdict}
 use Rattle.wk_check.specs.Flaws.{verdict_by}
-use Rattle.wk_check.specs.Items.{earlier}
-use Rattle.wk_check.specs.Spelled.{judged, IsVerdictOf, func_flaw, first_of, fault_read, codes_judged}
-use Rattle.wk_check.specs.Verdict.{front_fault, verdict_from, verdict_around, module_verdict, IsVerdict}
+use Rattle.wk_check.specs.Items.{earlier, body_flaw}
+use Rattle.wk_check.specs.Spaces.{answer_in, spaces_of}
+use Rattle.wk_check.specs.Spelled.{judged, IsVerdictOf, first_of, fault_read, codes_judged}
+use Rattle.wk_check.specs.Verdict.{func_verdict, front_fault, verdict_from, verdict_around, module_verdict, IsVerdict}
 use Rattle.wk_check.specs.Whole.{AreNumbered}
 use Rattle.wk_check.specs.WholeLaws.{are_numbered}
 use Rattle.wk_check.proofs.Flaws.{earlier_none, earlier_assoc, module_verdict_told}
@@ -54,13 +55,13 @@ all_judged profile l types codes = codes >>= λ bodies. answered (earlier (front
 abbrev put_front : BodyOf → List BodyOf × List ℕ → Result (List BodyOf × List ℕ) ReadFault
 put_front body xs = Ok (body ∷ xs.0, xs.1)
 
-by_flaw : (l : SectionLists) (item : ℕ) (f : Func) (funcs : List Func) (w : Option Flaw) → func_flaw l f ≡ w → first_of l item (f ∷ funcs) ≡ earlier (first_of l item (f ∷ [])) (first_of l (item + 1) funcs)
+by_flaw : (l : SectionLists) (item : ℕ) (f : Func) (funcs : List Func) (w : Option Flaw) → body_flaw (func_verdict (answer_in (spaces_of l)) f) ≡ w → first_of l item (f ∷ funcs) ≡ earlier (first_of l item (f ∷ [])) (first_of l (item + 1) funcs)
 by_flaw l item f funcs None is = rw is refl
 by_flaw l item f funcs (Some w) is = rw is refl
 
 one_more : (l : SectionLists) (before : Option Fault) (item : ℕ) (f : Func) (funcs : List Func) → earlier before (first_of l item (f ∷ funcs)) ≡ earlier (earlier before (first_of l item (f ∷ []))) (first_of l (item + 1) funcs)
 one_more l (Some fault) item f funcs = refl
-one_more l None item f funcs = by_flaw l item f funcs (func_flaw l f) refl
+one_more l None item f funcs = by_flaw l item f funcs (body_flaw (func_verdict (answer_in (spaces_of l)) f)) refl
 
 regroup : (l : SectionLists) (t : ℕ) (types : List ℕ) (before : Option Fault) (item : ℕ) (body : BodyOf) (r : Result (List BodyOf × List ℕ) ReadFault)
     → ((r >>= put_front body) >>= λ bodies. answered (earlier before (first_of l item (zipped (t ∷ types) bodies.0))) bodies.1)

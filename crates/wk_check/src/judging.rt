@@ -252,7 +252,8 @@ fn fault_up_to_code(
 pub fn judge(alloc: Global, module: &Module) -> Result<Verdict, OutOfMemory>
     ensures exact { IfOk result (λ verdict. verdict ≡ module_verdict «module».now) }
     ensures meaning { IfOk result (λ verdict. IsVerdict «module».now verdict) }
-    // It is valid exactly where the items of the other sections are fine and the declarative rules derive each body (chapter 3).
+    // It is valid exactly where the declarative rules derive each body, each initialiser and each offset, and nothing is wrong with
+    // the rest of it (chapter 3).
     ensures valid { IfOk result (λ verdict. verdict ≡ Verdict.Valid ↔ IsValidModule «module».now) }
     // Under the rules of the other profile the verdict is the same, unless the first fault was many results of a type.
     ensures extended { IfOk result (λ verdict. IsNotArity verdict → module_verdict (extended «module».now) ≡ verdict) }

@@ -179,7 +179,8 @@ fn judge_without_code(
 pub fn judge_bytes(alloc: Global, bytes: &[u8], profile: Profile) -> Result<Verdict, ReadFault>
     ensures exact { Reads (λ v. v) result (judged (module_at profile bytes.now)) }
     ensures meaning { IfOk result (λ verdict. IsVerdictOf (module_at profile bytes.now) verdict) }
-    // It is valid exactly where the items of the other sections are fine and the declarative rules derive each body (chapter 3).
+    // It is valid exactly where the declarative rules derive each body, each initialiser and each offset, and nothing is wrong with
+    // the rest of it (chapter 3).
     ensures valid { IfOk result (λ verdict. verdict ≡ Verdict.Valid ↔ IsValidRead (module_at profile bytes.now)) }
     ensures is { IsReading profile bytes.now (module_at profile bytes.now) }
 {
