@@ -23,4 +23,3 @@ pub mod Valid
 pub mod Verdict
 pub mod VerdictText
 pub mod Whole
-pub mod WholeLaws

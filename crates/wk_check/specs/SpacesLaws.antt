@@ -1,13 +1,15 @@
 -- What references find where one thing more comes to a module: where it comes at the end of its space, what was found is found
 -- still; where an import pushes the indexes behind it on, each reference, moved, finds what it found.
-use Rattle.std.proofs.Common.{◌≡◌, ℕ, zero, suc, ◌+◌, ◌<◌, ◌≤◌, nat_le, Bool, true, false, if◌then◌else◌, List, [], ◌∷◌, ◌++◌, length, map, Option, Some, None, refl, sym, ap, ◌∙◌, inl, inr, arith, add-one}
+use Rattle.std.proofs.Common.{◌≡◌, ℕ, zero, suc, ◌+◌, ◌<◌, ◌≤◌, nat_le, Bool, true, false, if◌then◌else◌, List, [], ◌∷◌, ◌++◌, length, map, Option, Some, None, refl, sym, ap, subst, ◌∙◌, inl, inr, arith, add-one}
 use Rattle.std.specs.Prelude.{slice_get}
 use Rattle.std.proofs.lemmas.Bool.{cases_lt, le-leb, lt-leb, cond-true, cond-false}
 use Rattle.std.proofs.lemmas.List.{append-nil, append_assoc}
 use Rattle.wk_body.specs.declared.references.Ref.{Ref}
 use Rattle.wk_body.specs.declared.references.Ref.TheVariants.{Ty, Func, Global, Table, Memory}
 use Rattle.wk_body.specs.declared.moves.Moving.TheVariants as moving
+use Rattle.wk_body.specs.Bodies.{BodyOf}
 use Rattle.wk_body.specs.References.{moved}
+use Rattle.wk_body.specs.Tree.{Instrs}
 use Rattle.wk_module.specs.declared.types.FuncType.{FuncType}
 use Rattle.wk_module.specs.declared.types.Func.{Func as Function}
 use Rattle.wk_module.specs.declared.types.GlobalDef.{GlobalDef}
@@ -19,6 +21,9 @@ use Rattle.wk_module.specs.declared.types.Kind.{Kind}
 use Rattle.wk_module.specs.declared.types.Kind.TheVariants as kinds
 use Rattle.wk_module.specs.declared.types.Limits.{Limits}
 use Rattle.wk_module.specs.declared.types.Parts.{Parts}
+use Rattle.wk_module.specs.Changes.{with_import, with_func, with_global}
+use Rattle.wk_module.specs.Imports.{is_of_kind, import_count}
+use Rattle.wk_module.specs.ImportLaws.{counts_imports}
 use Rattle.wk_module.specs.Moving.{moved_func, moved_global, moved_parts}
 use Rattle.wk_module.specs.Shape.{lists_of}
 use Rattle.wk_check.specs.Answers.{Found}
@@ -106,25 +111,21 @@ global_types_stay : (kind : Kind) (from : ℕ) (gs : List GlobalDef) → map (λ
 global_types_stay kind from [] = refl
 global_types_stay kind from (g ∷ gs) = ap (λ ts. g.ty ∷ ts) (global_types_stay kind from gs)
 
--- the module with one import more, its own references of the kind moved from an index on
-abbrev pub with_import_at : Kind → ℕ → Import → Parts → Parts
-with_import_at kind from i m = record (moved_parts kind from m) { imports = m.imports ++ i ∷ [] }
-
 module _ (kind : Kind) (from : ℕ) (i : Import) (m : Parts) where
-  funcs_aside : func_in i.desc ≡ None → (spaces_of (lists_of (with_import_at kind from i m))).funcs ≡ (spaces_of (lists_of m)).funcs
+  funcs_aside : func_in i.desc ≡ None → (spaces_of (lists_of (with_import i (moved_parts kind from m)))).funcs ≡ (spaces_of (lists_of m)).funcs
   funcs_aside none =
       ap (λ (xs : List ℕ). xs ++ map (λ (f : Function). f.ty) (map (moved_func kind from) m.funcs)) (imported_aside func_in m.imports i none)
       ∙ ap (λ (xs : List ℕ). imported func_in m.imports ++ xs) (types_stay kind from m.funcs)
 
-  globals_aside : global_in i.desc ≡ None → (spaces_of (lists_of (with_import_at kind from i m))).globals ≡ (spaces_of (lists_of m)).globals
+  globals_aside : global_in i.desc ≡ None → (spaces_of (lists_of (with_import i (moved_parts kind from m)))).globals ≡ (spaces_of (lists_of m)).globals
   globals_aside none =
       ap (λ (xs : List GlobalType). xs ++ map (λ (g : GlobalDef). g.ty) (map (moved_global kind from) m.globals)) (imported_aside global_in m.imports i none)
       ∙ ap (λ (xs : List GlobalType). imported global_in m.imports ++ xs) (global_types_stay kind from m.globals)
 
-  tables_aside : table_in i.desc ≡ None → (spaces_of (lists_of (with_import_at kind from i m))).tables ≡ (spaces_of (lists_of m)).tables
+  tables_aside : table_in i.desc ≡ None → (spaces_of (lists_of (with_import i (moved_parts kind from m)))).tables ≡ (spaces_of (lists_of m)).tables
   tables_aside none = ap (λ (ls : List Limits). ls ++ m.tables) (imported_aside table_in m.imports i none)
 
-  memories_aside : memory_in i.desc ≡ None → (spaces_of (lists_of (with_import_at kind from i m))).memories ≡ (spaces_of (lists_of m)).memories
+  memories_aside : memory_in i.desc ≡ None → (spaces_of (lists_of (with_import i (moved_parts kind from m)))).memories ≡ (spaces_of (lists_of m)).memories
   memories_aside none = ap (λ (ls : List Limits). ls ++ m.memories) (imported_aside memory_in m.imports i none)
 
 -- ---- what a module with one item more finds
@@ -155,32 +156,32 @@ behind_all : {A B : Type 0} (front : List B) (f : A → B) (xs : List A) (y : A)
 behind_all {B = B} front f xs y =
     ap (λ (ys : List B). front ++ ys) (map_append f xs y) ∙ sym (append_assoc front (map f xs) (f y ∷ []))
 
-pub func_grows : (m : Parts) (f : Function) → Grows (answers_of m) (answers_of (record m { funcs = m.funcs ++ f ∷ [] }))
-func_grows m f = more_grows (spaces_of (lists_of m)) (spaces_of (lists_of (record m { funcs = m.funcs ++ f ∷ [] }))) (record {
+pub func_grows : (m : Parts) (t : ℕ) (b : BodyOf) → Grows (answers_of m) (answers_of (with_func t b m))
+func_grows m t b = more_grows (spaces_of (lists_of m)) (spaces_of (lists_of (with_func t b m))) (record {
   types = [];
   types_are = sym (append-nil _);
-  funcs = f.ty ∷ [];
-  funcs_are = behind_all (imported func_in m.imports) (λ (g : Function). g.ty) m.funcs f;
+  funcs = t ∷ [];
+  funcs_are = behind_all (imported func_in m.imports) (λ (f : Function). f.ty) m.funcs (record { ty = t; body = b });
   tables_still = λ h. refl;
   memories_still = λ h. refl;
   globals = [];
   globals_are = sym (append-nil _);
 })
 
-pub global_grows : (m : Parts) (g : GlobalDef) → Grows (answers_of m) (answers_of (record m { globals = m.globals ++ g ∷ [] }))
-global_grows m g = more_grows (spaces_of (lists_of m)) (spaces_of (lists_of (record m { globals = m.globals ++ g ∷ [] }))) (record {
+pub global_grows : (m : Parts) (t : GlobalType) (e : Instrs) → Grows (answers_of m) (answers_of (with_global t e m))
+global_grows m t e = more_grows (spaces_of (lists_of m)) (spaces_of (lists_of (with_global t e m))) (record {
   types = [];
   types_are = sym (append-nil _);
   funcs = [];
   funcs_are = sym (append-nil _);
   tables_still = λ h. refl;
   memories_still = λ h. refl;
-  globals = g.ty ∷ [];
-  globals_are = behind_all (imported global_in m.imports) (λ (d : GlobalDef). d.ty) m.globals g;
+  globals = t ∷ [];
+  globals_are = behind_all (imported global_in m.imports) (λ (g : GlobalDef). g.ty) m.globals (record { ty = t; init = e });
 })
 
-pub table_import_grows : (m : Parts) (i : Import) (l : Limits) (from : ℕ) → i.desc ≡ desc.Table l → Grows (answers_of m) (answers_of (with_import_at kinds.Table from i m))
-table_import_grows m i l from is = more_grows (spaces_of (lists_of m)) (spaces_of (lists_of (with_import_at kinds.Table from i m))) (record {
+pub table_import_grows : (m : Parts) (i : Import) (l : Limits) (from : ℕ) → i.desc ≡ desc.Table l → Grows (answers_of m) (answers_of (with_import i (moved_parts kinds.Table from m)))
+table_import_grows m i l from is = more_grows (spaces_of (lists_of m)) (spaces_of (lists_of (with_import i (moved_parts kinds.Table from m)))) (record {
   types = [];
   types_are = sym (append-nil _);
   funcs = [];
@@ -191,8 +192,8 @@ table_import_grows m i l from is = more_grows (spaces_of (lists_of m)) (spaces_o
   globals_are = globals_aside kinds.Table from i m (ap global_in is) ∙ sym (append-nil _);
 })
 
-pub memory_import_grows : (m : Parts) (i : Import) (l : Limits) (from : ℕ) → i.desc ≡ desc.Memory l → Grows (answers_of m) (answers_of (with_import_at kinds.Memory from i m))
-memory_import_grows m i l from is = more_grows (spaces_of (lists_of m)) (spaces_of (lists_of (with_import_at kinds.Memory from i m))) (record {
+pub memory_import_grows : (m : Parts) (i : Import) (l : Limits) (from : ℕ) → i.desc ≡ desc.Memory l → Grows (answers_of m) (answers_of (with_import i (moved_parts kinds.Memory from m)))
+memory_import_grows m i l from is = more_grows (spaces_of (lists_of m)) (spaces_of (lists_of (with_import i (moved_parts kinds.Memory from m)))) (record {
   types = [];
   types_are = sym (append-nil _);
   funcs = [];
@@ -223,12 +224,12 @@ at_moved [] ys a x = ap (slice_get (a ∷ ys)) (moved_high 0 x (omega arith) ∙
 at_moved (y ∷ xs) ys a zero = ap (slice_get (y ∷ ((xs ++ a ∷ []) ++ ys))) (moved_low (suc (length xs)) 0 (omega arith))
 at_moved (y ∷ xs) ys a (suc x) = ap (slice_get (y ∷ ((xs ++ a ∷ []) ++ ys))) (moved_suc (length xs) x) ∙ at_moved xs ys a x
 
--- ---- a function or a global is imported, behind those that are: each reference, moved, finds what it found
+-- ---- a function or a global is imported: each reference, moved from the index of the import on, finds what it found
 
-pub func_import_moves : (m : Parts) (i : Import) (t : ℕ) → i.desc ≡ desc.Func t → (r : Ref)
-    → answers_of (with_import_at kinds.Func (length (imported func_in m.imports)) i m) (moved_ref moving.Func (length (imported func_in m.imports)) r) ≡ answers_of m r
-func_import_moves m i t is (Ty x) = refl
-func_import_moves m i t is (Func x) =
+func_moves : (m : Parts) (i : Import) (t : ℕ) → i.desc ≡ desc.Func t → (r : Ref)
+    → answers_of (with_import i (moved_parts kinds.Func (length (imported func_in m.imports)) m)) (moved_ref moving.Func (length (imported func_in m.imports)) r) ≡ answers_of m r
+func_moves m i t is (Ty x) = refl
+func_moves m i t is (Func x) =
     let front = imported func_in m.imports in
     let back = map (λ (f : Function). f.ty) m.funcs in
     let from = length front in
@@ -237,17 +238,17 @@ func_import_moves m i t is (Func x) =
       ∙ ap (λ (xs : List ℕ). slice_get ((front ++ t ∷ []) ++ xs) (moved from x)) (types_stay kinds.Func from m.funcs)
       ∙ at_moved front back t x
     )
-func_import_moves m i t is (Global x) =
+func_moves m i t is (Global x) =
     ap (λ (gs : List GlobalType). global_found (slice_get gs x)) (globals_aside kinds.Func (length (imported func_in m.imports)) i m (ap global_in is))
-func_import_moves m i t is Table = ap any_found (tables_aside kinds.Func (length (imported func_in m.imports)) i m (ap table_in is))
-func_import_moves m i t is Memory = ap any_found (memories_aside kinds.Func (length (imported func_in m.imports)) i m (ap memory_in is))
+func_moves m i t is Table = ap any_found (tables_aside kinds.Func (length (imported func_in m.imports)) i m (ap table_in is))
+func_moves m i t is Memory = ap any_found (memories_aside kinds.Func (length (imported func_in m.imports)) i m (ap memory_in is))
 
-pub global_import_moves : (m : Parts) (i : Import) (g : GlobalType) → i.desc ≡ desc.Global g → (r : Ref)
-    → answers_of (with_import_at kinds.Global (length (imported global_in m.imports)) i m) (moved_ref moving.Global (length (imported global_in m.imports)) r) ≡ answers_of m r
-global_import_moves m i g is (Ty x) = refl
-global_import_moves m i g is (Func x) =
+global_moves : (m : Parts) (i : Import) (g : GlobalType) → i.desc ≡ desc.Global g → (r : Ref)
+    → answers_of (with_import i (moved_parts kinds.Global (length (imported global_in m.imports)) m)) (moved_ref moving.Global (length (imported global_in m.imports)) r) ≡ answers_of m r
+global_moves m i g is (Ty x) = refl
+global_moves m i g is (Func x) =
     ap (λ (fs : List ℕ). func_found m.types (slice_get fs x)) (funcs_aside kinds.Global (length (imported global_in m.imports)) i m (ap func_in is))
-global_import_moves m i g is (Global x) =
+global_moves m i g is (Global x) =
     let front = imported global_in m.imports in
     let back = map (λ (d : GlobalDef). d.ty) m.globals in
     let from = length front in
@@ -256,5 +257,35 @@ global_import_moves m i g is (Global x) =
       ∙ ap (λ (xs : List GlobalType). slice_get ((front ++ g ∷ []) ++ xs) (moved from x)) (global_types_stay kinds.Global from m.globals)
       ∙ at_moved front back g x
     )
-global_import_moves m i g is Table = ap any_found (tables_aside kinds.Global (length (imported global_in m.imports)) i m (ap table_in is))
-global_import_moves m i g is Memory = ap any_found (memories_aside kinds.Global (length (imported global_in m.imports)) i m (ap memory_in is))
+global_moves m i g is Table = ap any_found (tables_aside kinds.Global (length (imported global_in m.imports)) i m (ap table_in is))
+global_moves m i g is Memory = ap any_found (memories_aside kinds.Global (length (imported global_in m.imports)) i m (ap memory_in is))
+
+-- ---- the index of the import is the number of those of its kind in front of it
+
+count_func : (d : ImportDesc) (xs : List ℕ) → length (and_more (func_in d) xs) ≡ (if is_of_kind kinds.Func d then 1 else 0) + length xs
+count_func (desc.Func x) xs = omega arith
+count_func (desc.Table l) xs = refl
+count_func (desc.Memory l) xs = refl
+count_func (desc.Global g) xs = refl
+
+count_global : (d : ImportDesc) (xs : List GlobalType) → length (and_more (global_in d) xs) ≡ (if is_of_kind kinds.Global d then 1 else 0) + length xs
+count_global (desc.Func x) xs = refl
+count_global (desc.Table l) xs = refl
+count_global (desc.Memory l) xs = refl
+count_global (desc.Global g) xs = omega arith
+
+pub imported_funcs : (is : List Import) → length (imported func_in is) ≡ import_count kinds.Func is
+imported_funcs is = counts_imports kinds.Func (λ js. length (imported func_in js)) refl (λ i js. count_func i.desc (imported func_in js)) is
+
+pub imported_globals : (is : List Import) → length (imported global_in is) ≡ import_count kinds.Global is
+imported_globals is = counts_imports kinds.Global (λ js. length (imported global_in js)) refl (λ i js. count_global i.desc (imported global_in js)) is
+
+pub func_import_moves : (m : Parts) (i : Import) (t : ℕ) → i.desc ≡ desc.Func t → (r : Ref)
+    → answers_of (with_import i (moved_parts kinds.Func (import_count kinds.Func m.imports) m)) (moved_ref moving.Func (import_count kinds.Func m.imports) r) ≡ answers_of m r
+func_import_moves m i t is r =
+    subst (λ (k : ℕ). answers_of (with_import i (moved_parts kinds.Func k m)) (moved_ref moving.Func k r) ≡ answers_of m r) (imported_funcs m.imports) (func_moves m i t is r)
+
+pub global_import_moves : (m : Parts) (i : Import) (g : GlobalType) → i.desc ≡ desc.Global g → (r : Ref)
+    → answers_of (with_import i (moved_parts kinds.Global (import_count kinds.Global m.imports) m)) (moved_ref moving.Global (import_count kinds.Global m.imports) r) ≡ answers_of m r
+global_import_moves m i g is r =
+    subst (λ (k : ℕ). answers_of (with_import i (moved_parts kinds.Global k m)) (moved_ref moving.Global k r) ≡ answers_of m r) (imported_globals m.imports) (global_moves m i g is r)
