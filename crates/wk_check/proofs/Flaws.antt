@@ -18,7 +18,7 @@ use Rattle.wk_check.specs.Flaws.{fault_at, numbered, first_in, first_fault, verd
 use Rattle.wk_check.specs.Items.{earlier, unless, type_flaw}
 use Rattle.wk_check.specs.Spaces.{and_more, imported}
 use Rattle.wk_check.specs.SpacesLaws.{imported_push}
-use Rattle.wk_check.specs.Verdict.{type_flaws, code_flaws, data_flaws, code_fault, flaws_before_code, module_flaws, front_fault, verdict_from, verdict_around, module_verdict, IsVerdict, IsNotArity, extended}
+use Rattle.wk_check.specs.Verdict.{type_flaws, code_flaws, data_flaws, code_fault, flaws_before_code, module_flaws, front_fault, verdict_from, module_verdict, IsVerdict, IsNotArity, extended}
 
 -- ---- steps of loops
 
