@@ -1,0 +1,139 @@
+//! Modules: read, measured, written, changed and settled.
+
+use std::alloc::{AllocError, Global};
+use std::test::Fail;
+use wk_bytes::{Items, ReadFault, ReadKind};
+use wk_module::{
+    FuncType, Module, Profile, ValType, custom_len, encode, encoded_len, one_module, read, read_in,
+    section_len,
+};
+use wk_samples::modules::{
+    CUSTOMS_OF_WHOLE, EXPORTED, EXTENDED, HEADER, LONGER, OF_WHOLE, PRIVATE, SHORTEST, WHOLE,
+};
+
+// Whether the module is measured and written as these bytes.
+fn is_written(alloc: Global, module: &Module, bytes: &[u8]) -> bool {
+    let is_measured = encoded_len(module).map(|len| len as usize) == Some(bytes.len());
+    match encode(alloc, module) {
+        Ok(written) => is_measured && written.as_slice() == bytes,
+        Err(_) => false,
+    }
+}
+
+// Whether bytes are read, and written as others.
+fn becomes(alloc: Global, bytes: &[u8], profile: Profile, written: &[u8]) -> bool {
+    match read_in(alloc, bytes, profile) {
+        Ok(module) => is_written(alloc, &module, written) && module.parts().profile == profile,
+        Err(_) => false,
+    }
+}
+
+#[test]
+fn reads_and_writes(rt: HostRuntime) -> Result<(), Fail> {
+    assert!(rt; becomes(rt.alloc(), WHOLE, Profile::Core, WHOLE));
+    assert!(rt; becomes(rt.alloc(), LONGER, Profile::Core, SHORTEST));
+    assert!(rt; becomes(rt.alloc(), WHOLE, Profile::Extended, WHOLE));
+    assert!(rt; becomes(rt.alloc(), EXTENDED, Profile::Extended, EXTENDED));
+    one_module();
+    Ok(())
+}
+
+#[test]
+fn refuses_the_other_profile(rt: HostRuntime) -> Result<(), Fail> {
+    let index = ReadFault {
+        kind: ReadKind::BadByte,
+        at: 31,
+    };
+    assert_eq!(rt; read(rt.alloc(), EXTENDED).err(), Some(index));
+    Ok(())
+}
+
+// Whether the sections of the whole module are as long as their contents.
+fn are_measured(module: &Module) -> bool {
+    for row in OF_WHOLE {
+        if section_len(module, row.id).map(|len| len as usize) != Some(row.bytes.len()) {
+            return false;
+        }
+    }
+    section_len(module, 10) == Some(6)
+        && section_len(module, 0).is_none()
+        && section_len(module, 12).is_none()
+}
+
+fn are_customs_measured(module: &Module) -> bool {
+    let customs = module.parts().customs.as_slice();
+    for (custom, bytes) in customs.iter().zip(CUSTOMS_OF_WHOLE) {
+        if custom_len(custom).map(|len| len as usize) != Some(bytes.len()) {
+            return false;
+        }
+    }
+    customs.len() == CUSTOMS_OF_WHOLE.len()
+}
+
+fn is_whole_measured(alloc: Global) -> bool {
+    match read(alloc, WHOLE) {
+        Ok(module) => are_measured(&module) && are_customs_measured(&module),
+        Err(_) => false,
+    }
+}
+
+#[test]
+fn measures(rt: HostRuntime) -> Result<(), Fail> {
+    assert!(rt; is_whole_measured(rt.alloc()));
+    assert!(rt;
+        is_written(
+            rt.alloc(),
+            &Module::empty(rt.alloc(), Profile::Core),
+            HEADER
+        )
+    );
+    Ok(())
+}
+
+// The module without its exports.
+fn without_exports(alloc: Global, module: Module) -> Module {
+    let mut parts = module.into_parts();
+    parts.exports = Items::new(alloc);
+    Module::of(parts)
+}
+
+// Whether the first custom section stands at a place, and the module is written so.
+fn is_settled(alloc: Global, module: &Module, place: u8, bytes: &[u8]) -> bool {
+    let customs = module.parts().customs.as_slice();
+    let is_placed = customs.first().map(|custom| custom.place) == Some(place);
+    is_placed && is_written(alloc, module, bytes)
+}
+
+// A section that becomes empty lowers the place of the custom section behind it.
+fn settles(alloc: Global) -> bool {
+    match read(alloc, EXPORTED) {
+        Ok(module) => is_settled(alloc, &module, 7, EXPORTED)
+            && is_settled(alloc, &without_exports(alloc, module), 3, PRIVATE),
+        Err(_) => false,
+    }
+}
+
+#[test]
+fn lowers_the_place_of_a_custom(rt: HostRuntime) -> Result<(), Fail> {
+    assert!(rt; settles(rt.alloc()));
+    Ok(())
+}
+
+// A copy of a type from i32 to i64.
+fn copies_type(alloc: Global) -> Result<bool, AllocError> {
+    let ty = FuncType {
+        params: Items::from_vec(Vec::from_slice(alloc, &[ValType::I32])?),
+        results: Items::from_vec(Vec::from_slice(alloc, &[ValType::I64])?),
+    };
+    let copy = ty.copy(alloc)?;
+    Ok(
+        copy.params.as_slice() == [ValType::I32].as_slice()
+            && copy.results.as_slice() == [ValType::I64].as_slice(),
+    )
+}
+
+#[test]
+fn copies(rt: HostRuntime) -> Result<(), Fail> {
+    assert_eq!(rt; copies_type(rt.alloc()), Ok(true));
+    Ok(())
+}

@@ -1,0 +1,46 @@
+//! Bodies of functions, constant expressions, and what they become.
+
+/// Two local groups, blocks in one another, a table, and references of each kind. It is in its written form.
+pub const BODY: &[u8] = b"\x02\x02\x7f\x01\x7c\
+    \x02\x40\x04\x40\x10\x05\x05\x11\x03\x00\x0b\x23\x07\x1a\x0b\
+    \x0e\x03\x00\x01\x02\x00\
+    \x03\x7f\x3f\x00\x0b\x0b";
+
+/// The body with padded integers.
+pub const PADDED: &[u8] = b"\x82\x00\x82\x80\x00\x7f\x01\x7c\
+    \x02\x40\x04\x40\x10\x85\x00\x05\x11\x83\x80\x80\x80\x00\x00\x0b\x23\x87\x00\x1a\x0b\
+    \x0e\x83\x00\x80\x00\x01\x02\x00\
+    \x03\x7f\x3f\x00\x0b\x0b";
+
+/// The body with the function 5 and those above it moved.
+pub const WITH_FUNC_MOVED: &[u8] = b"\x02\x02\x7f\x01\x7c\
+    \x02\x40\x04\x40\x10\x06\x05\x11\x03\x00\x0b\x23\x07\x1a\x0b\
+    \x0e\x03\x00\x01\x02\x00\
+    \x03\x7f\x3f\x00\x0b\x0b";
+
+/// The body with the global 7 and those above it moved.
+pub const WITH_GLOBAL_MOVED: &[u8] = b"\x02\x02\x7f\x01\x7c\
+    \x02\x40\x04\x40\x10\x05\x05\x11\x03\x00\x0b\x23\x08\x1a\x0b\
+    \x0e\x03\x00\x01\x02\x00\
+    \x03\x7f\x3f\x00\x0b\x0b";
+
+/// A call of the function 4,294,967,295.
+pub const GREATEST_CALL: &[u8] = b"\x00\x10\xff\xff\xff\xff\x0f\x0b";
+
+/// A call of the function 4,294,967,294.
+pub const GREAT_CALL: &[u8] = b"\x00\x10\xfe\xff\xff\xff\x0f\x0b";
+
+/// A block whose type is an index, which only the wider profile has.
+pub const EXTENDED: &[u8] = b"\x00\x41\x00\x02\x01\x45\x0b\x1a\x0b";
+
+/// The global 7.
+pub const EXPR: &[u8] = b"\x23\x07\x0b";
+
+/// The same, padded.
+pub const PADDED_EXPR: &[u8] = b"\x23\x87\x00\x0b";
+
+/// The global 8.
+pub const MOVED_EXPR: &[u8] = b"\x23\x08\x0b";
+
+/// The global 4,294,967,295.
+pub const GREATEST_EXPR: &[u8] = b"\x23\xff\xff\xff\xff\x0f\x0b";
