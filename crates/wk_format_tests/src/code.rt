@@ -30,6 +30,14 @@ fn is_next(alloc: Global, codes: &mut CodeReader<'_>, bytes: &[u8]) -> bool {
     }
 }
 
+// Whether the next code has these bytes.
+fn are_next_bytes(codes: &mut CodeReader<'_>, bytes: &[u8]) -> bool {
+    match codes.next_code() {
+        Ok(code) => code.rest() == bytes,
+        Err(_) => false,
+    }
+}
+
 // Whether the codes are those of the module, read as bodies and then as bytes.
 fn holds_codes(alloc: Global, section: &RawSection<'_>) -> bool {
     let (Ok(mut codes), Ok(mut bytes)) = (
@@ -39,7 +47,7 @@ fn holds_codes(alloc: Global, section: &RawSection<'_>) -> bool {
         return false;
     };
     for code in CODES_OF_TWO {
-        if !is_next(alloc, &mut codes, code) || bytes.next_code().map(|it| it.rest()) != Ok(code) {
+        if !is_next(alloc, &mut codes, code) || !are_next_bytes(&mut bytes, code) {
             return false;
         }
     }
@@ -62,12 +70,14 @@ fn reads_the_rest(alloc: Global, reader: SectionReader<'_>, funcs: &[u32]) -> bo
 
 fn reads_two(alloc: Global) -> bool {
     match up_to_code(alloc, TWO_CODES) {
-        Ok((reader, Some(section))) => {
-            has(&reader, &[0, 0], 0)
-                && holds_codes(alloc, &section)
-                && reads_the_rest(alloc, reader, &[0, 0])
+        Ok((reader, section)) => {
+            let are_codes = match &section {
+                Some(section) => holds_codes(alloc, section),
+                None => false,
+            };
+            are_codes && has(&reader, &[0, 0], 0) && reads_the_rest(alloc, reader, &[0, 0])
         }
-        _ => false,
+        Err(_) => false,
     }
 }
 
@@ -77,8 +87,10 @@ const NO_CODES: &[u8] =
 
 fn reads_none(alloc: Global) -> bool {
     match up_to_code(alloc, NO_CODES) {
-        Ok((reader, None)) => has(&reader, &[5, 6], 1) && reads_the_rest(alloc, reader, &[5, 6]),
-        _ => false,
+        Ok((reader, section)) => {
+            section.is_none() && has(&reader, &[5, 6], 1) && reads_the_rest(alloc, reader, &[5, 6])
+        }
+        Err(_) => false,
     }
 }
 

@@ -67,8 +67,11 @@ fn writes_whole(alloc: Global) -> bool {
 
 // Whether nothing is written of a section that is left out.
 fn writes_nothing(alloc: Global) -> bool {
-    let empty = Module::empty(alloc, Profile::Core);
-    let lists = lists(empty.parts(), &[]);
+    leaves_out(alloc, &Module::empty(alloc, Profile::Core))
+}
+
+fn leaves_out(alloc: Global, module: &Module) -> bool {
+    let lists = lists(module.parts(), &[]);
     for row in OF_WHOLE {
         if !writes(alloc, &lists, row.id, b"") {
             return false;
@@ -170,12 +173,16 @@ fn moves(alloc: Global, module: &Module, row: Move) -> bool {
 
 // How many rows of the table, from the first on, are right.
 fn right_moves(alloc: Global) -> usize {
-    let Ok(module) = read(alloc, ALL_OF_ONE) else {
-        return 0;
-    };
+    match read(alloc, ALL_OF_ONE) {
+        Ok(module) => right_moves_of(alloc, &module),
+        Err(_) => 0,
+    }
+}
+
+fn right_moves_of(alloc: Global, module: &Module) -> usize {
     let mut right = 0;
     for row in MOVES {
-        if !moves(alloc, &module, row) {
+        if !moves(alloc, module, row) {
             return right;
         }
         right += 1;
@@ -252,21 +259,27 @@ fn moves_lists(rt: HostRuntime) -> Result<(), Fail> {
     Ok(())
 }
 
-// The start function and the exports of a module's parts after its functions moved.
-fn puts_moved(alloc: Global, module: Module) -> bool {
-    let parts = module.into_parts();
+// The parts of a module after its functions moved.
+fn moved_parts(alloc: Global, parts: Parts) -> Parts {
     match shift_lists(alloc, &parts, Kind::Func, 1) {
-        Ok(moved) => {
-            let parts = moved.put_into(parts);
-            parts.start == Some(2) && parts.exports.len() == 2 && parts.globals.len() == 1
-        }
+        Ok(moved) => moved.put_into(parts),
+        Err(_) => parts,
+    }
+}
+
+fn have_moved(parts: &Parts) -> bool {
+    parts.start == Some(2) && parts.exports.len() == 2 && parts.globals.len() == 1
+}
+
+fn puts_moved(alloc: Global) -> bool {
+    match read(alloc, ALL_OF_ONE) {
+        Ok(module) => have_moved(&moved_parts(alloc, module.into_parts())),
         Err(_) => false,
     }
 }
 
 #[test]
 fn puts_lists_back(rt: HostRuntime) -> Result<(), Fail> {
-    let module = read(rt.alloc(), ALL_OF_ONE)?;
-    assert!(rt; puts_moved(rt.alloc(), module));
+    assert!(rt; puts_moved(rt.alloc()));
     Ok(())
 }

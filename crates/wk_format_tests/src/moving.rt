@@ -240,10 +240,19 @@ fn nested(alloc: Global, callee: u8) -> Result<Vec<u8>, AllocError> {
     Ok(bytes)
 }
 
+fn copy_of(alloc: Global, bytes: &[u8]) -> Option<Body> {
+    match read_body(alloc, bytes) {
+        Ok(body) => body.clone().ok(),
+        Err(_) => None,
+    }
+}
+
 // A copy of a body with its references to functions moved; the body itself is gone.
 fn moved_copy(alloc: Global, bytes: &[u8]) -> Option<Body> {
-    let copy: Body = read_body(alloc, bytes).ok()?.clone().ok()?;
-    shift(alloc, &copy, Moving::Func, 0).ok()
+    match copy_of(alloc, bytes) {
+        Some(copy) => shift(alloc, &copy, Moving::Func, 0).ok(),
+        None => None,
+    }
 }
 
 fn is_deep(alloc: Global, bytes: &[u8], becomes: &[u8]) -> bool {

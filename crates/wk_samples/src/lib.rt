@@ -2,5 +2,7 @@
 #![tactic(auto)]
 
 pub mod bodies;
+pub mod edits;
 pub mod integers;
+pub mod listings;
 pub mod modules;
