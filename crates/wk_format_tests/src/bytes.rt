@@ -2,7 +2,7 @@
 
 use std::alloc::{AllocError, Global};
 use std::test::Fail;
-use wk_bytes::{Cursor, Items, ReadFault, ReadKind, Sections, Text, one_spelling_of_pieces};
+use wk_bytes::{Cursor, Items, ReadFault, ReadKind, Sections, Text};
 use wk_samples::modules::{HEADER, TWO_CODES};
 
 const PIECES: &[u8] = b"\x09\x00\x00\x80\x3f\x00\x00\x00\x00\x00\x00\xf0\xbf\x02\xc3\xa9\x05\x06";
@@ -39,7 +39,6 @@ fn refuses_pieces() -> bool {
 fn reads_with_a_cursor(rt: HostRuntime) -> Result<(), Fail> {
     assert!(rt; reads_pieces());
     assert!(rt; refuses_pieces());
-    one_spelling_of_pieces();
     Ok(())
 }
 

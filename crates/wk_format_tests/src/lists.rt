@@ -4,7 +4,7 @@ use std::alloc::Global;
 use std::test::Fail;
 use wk_module::{
     EncodeFault, Kind, Lists, Module, Moved, Parts, Profile, ShiftFault, encode_custom,
-    encode_section, moving_of_module, read, shift_lists,
+    encode_section, read, shift_lists,
 };
 use wk_samples::modules::{ALL_OF_ONE, CUSTOMS_OF_WHOLE, HEADER, OF_WHOLE, WHOLE};
 
@@ -171,23 +171,22 @@ fn moves(alloc: Global, module: &Module, row: Move) -> bool {
     }
 }
 
-// How many rows of the table, from the first on, are right.
-fn right_moves(alloc: Global) -> usize {
+// Whether all rows of the table are right.
+fn moves_all(alloc: Global) -> bool {
     match read(alloc, ALL_OF_ONE) {
-        Ok(module) => right_moves_of(alloc, &module),
-        Err(_) => 0,
+        Ok(module) => wrong_move(alloc, &module).is_none(),
+        Err(_) => false,
     }
 }
 
-fn right_moves_of(alloc: Global, module: &Module) -> usize {
-    let mut right = 0;
+// The first row of the table that is wrong.
+fn wrong_move(alloc: Global, module: &Module) -> Option<(Kind, u32)> {
     for row in MOVES {
         if !moves(alloc, module, row) {
-            return right;
+            return Some((row.kind, row.from));
         }
-        right += 1;
     }
-    right
+    None
 }
 
 // Sections that hold the greatest index, behind a header.
@@ -239,23 +238,20 @@ fn is_stuck(alloc: Global, kind: Kind, bytes: &[u8]) -> bool {
     }
 }
 
-// How many of these modules, from the first on, do not move.
-fn stuck_modules(alloc: Global) -> usize {
-    let mut stuck = 0;
+// The kind of the first of these modules that moves.
+fn loose_kind(alloc: Global) -> Option<Kind> {
     for (kind, bytes) in GREATEST {
         if !is_stuck(alloc, kind, bytes) {
-            return stuck;
+            return Some(kind);
         }
-        stuck += 1;
     }
-    stuck
+    None
 }
 
 #[test]
 fn moves_lists(rt: HostRuntime) -> Result<(), Fail> {
-    assert_eq!(rt; right_moves(rt.alloc()), MOVES.len());
-    assert_eq!(rt; stuck_modules(rt.alloc()), GREATEST.len());
-    moving_of_module();
+    assert!(rt; moves_all(rt.alloc()));
+    assert_eq!(rt; loose_kind(rt.alloc()), None);
     Ok(())
 }
 

@@ -4,8 +4,7 @@ use std::alloc::{AllocError, Global};
 use std::test::Fail;
 use wk_bytes::{Items, ReadFault, ReadKind};
 use wk_module::{
-    FuncType, Module, Profile, ValType, custom_len, encode, encoded_len, one_module, read, read_in,
-    section_len,
+    FuncType, Module, Profile, ValType, custom_len, encode, encoded_len, read, read_in, section_len,
 };
 use wk_samples::modules::{
     CUSTOMS_OF_WHOLE, EXPORTED, EXTENDED, HEADER, LONGER, OF_WHOLE, PRIVATE, SHORTEST, WHOLE,
@@ -42,7 +41,6 @@ fn reads_and_writes(rt: HostRuntime) -> Result<(), Fail> {
     assert!(rt; becomes(rt.alloc(), LONGER, Profile::Core, SHORTEST));
     assert!(rt; becomes(rt.alloc(), WHOLE, Profile::Extended, WHOLE));
     assert!(rt; becomes(rt.alloc(), EXTENDED, Profile::Extended, EXTENDED));
-    one_module();
     Ok(())
 }
 

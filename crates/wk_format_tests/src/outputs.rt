@@ -139,21 +139,19 @@ const ROWS: [Row; 7] = [
     },
 ];
 
-// How many rows of the table, from the first on, are right.
-fn right_rows(alloc: Global) -> usize {
-    let mut right = 0;
+// The bad call and the greatest piece of the first writer that is called or has taken otherwise.
+fn wrong_writer(alloc: Global) -> Option<(u32, usize)> {
     for row in ROWS {
         if !is_put(alloc, row) {
-            return right;
+            return Some((row.bad_call, row.most));
         }
-        right += 1;
     }
-    right
+    None
 }
 
 #[test]
 fn stops_where_the_writer_fails(rt: HostRuntime) -> Result<(), Fail> {
-    assert_eq!(rt; right_rows(rt.alloc()), ROWS.len());
+    assert_eq!(rt; wrong_writer(rt.alloc()), None);
     Ok(())
 }
 
