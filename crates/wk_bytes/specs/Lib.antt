@@ -6,6 +6,7 @@ pub mod SpanLaws
 pub mod Pieces
 pub mod PieceLaws
 pub mod Taken
+pub mod TakenLaws
 pub mod Short
 pub mod ShortLaws
 pub mod Frames

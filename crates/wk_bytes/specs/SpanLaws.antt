@@ -23,7 +23,7 @@ bad e = Err e
 pub err_is : {A : Type 0} (d e : ReadFault) → bad {A = A} d ≡ bad e → d ≡ e
 err_is d e h = cc
 
-pub not_both : {A : Type 0} (r : Result A ReadFault) (e : ReadFault) (x : A) → r ≡ Err e → r ≡ Ok x → ⊥
+pub not_both : {A E : Type 0} (r : Result A E) (e : E) (x : A) → r ≡ Err e → r ≡ Ok x → ⊥
 not_both r e x p q = cc
 
 rest_is : {V : Type 0} (v w : V) (a b : List ℕ) → done {A = V × List ℕ} {E = ReadKind} (v, a) ≡ done (w, b) → a ≡ b

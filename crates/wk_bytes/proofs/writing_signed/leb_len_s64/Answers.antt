@@ -2,8 +2,7 @@ use Rattle.std.proofs.Common.{to_z, rules, length, sym, ap, ◌∙◌, arith}
 use Rattle.std.specs.Prelude.{FitsSigned}
 use Rattle.std.specs.Int.{w64}
 use Rattle.std.proofs.lemmas.Int.{to_z-of_z}
-use Rattle.wk_bytes.specs.ShortLaws.{short_signed-last, short_signed-more}
-use Rattle.wk_bytes.proofs.ShortLoop.{signed_few}
+use Rattle.wk_bytes.specs.ShortLaws.{short_signed-last, short_signed-more, signed_few}
 use Rattle.wk_bytes.proofs.writing_signed.leb_len_s64.Goals as goal
 
 pub overflow_add-len : goal.overflow_add-len

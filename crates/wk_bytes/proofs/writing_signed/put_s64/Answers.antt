@@ -1,5 +1,4 @@
-use Rattle.wk_bytes.specs.ShortLaws.{short_signed-is, short_signed-spells}
-use Rattle.wk_bytes.proofs.ShortLoop.{signed_64}
+use Rattle.wk_bytes.specs.ShortLaws.{short_signed-is, short_signed-spells, signed_64}
 use Rattle.wk_bytes.proofs.writing_signed.put_s64.Goals as goal
 
 pub returns-clause-shortest : goal.returns-clause-shortest
