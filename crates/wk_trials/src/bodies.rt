@@ -2,7 +2,7 @@
 
 use crate::mark::{call_begins, call_ends};
 use crate::outcome::Outcome;
-use crate::sinks::{Room, has_appended, vector};
+use crate::sinks::{BEFORE, Room, has_appended, vector};
 use std::alloc::{AllocError, Global};
 use std::collections::BTreeSet;
 use wk_body::{
@@ -187,7 +187,7 @@ fn appends(alloc: Global, body: &Body) -> Outcome {
             call_ends(alloc);
             match answer {
                 Ok(()) => Outcome::answered(has_appended(&bytes, BODY)),
-                Err(OutOfMemory) => Outcome::refused(is_body(alloc, body, BODY)),
+                Err(OutOfMemory) => Outcome::refused(bytes.starts_with(&BEFORE)),
             }
         }
         None => Outcome::NO_SAMPLE,
@@ -351,7 +351,7 @@ fn appends_expr(alloc: Global, expr: &Expr) -> Outcome {
             call_ends(alloc);
             match answer {
                 Ok(()) => Outcome::answered(has_appended(&bytes, EXPR)),
-                Err(OutOfMemory) => Outcome::refused(is_expr(alloc, expr, EXPR)),
+                Err(OutOfMemory) => Outcome::refused(bytes.starts_with(&BEFORE)),
             }
         }
         None => Outcome::NO_SAMPLE,
