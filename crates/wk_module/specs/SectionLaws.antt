@@ -1,5 +1,5 @@
--- The ids of sections, and what each holds after others were given.
-use Rattle.std.proofs.Common.{◌≡◌, ◌≢◌, ◌≤◌, ℕ, cond, eqb, ◌⊎◌, inl, inr, Option, Some, None, refl, sym, ap, ◌∙◌, arith}
+-- Laws of the ids of sections, and of what each holds after others were given.
+use Rattle.std.proofs.Common.{◌≡◌, ◌≢◌, ◌<◌, ◌≤◌, ℕ, cond, eqb, ◌⊎◌, inl, inr, Option, Some, None, refl, sym, ap, ◌∙◌, arith}
 use Rattle.std.proofs.lemmas.Bool.{cases_Bool, eqb-true, eqb-false}
 use Rattle.wk_bytes.specs.LebLaws.{chosen, some_is}
 use Rattle.wk_module.specs.Sections.{SectionId, TypeSection, ImportSection, FunctionSection, TableSection, MemorySection, GlobalSection, ExportSection, StartSection, ElementSection, CodeSection, DataSection, number, of_number, ContentsOf, SectionLists, contents, omitted, no_lists, pick, with_contents}
@@ -95,18 +95,31 @@ same_or_other j k =
       | inr f ↦ inr (λ e. eqb-false (number j) (number k) f (ap number e))
     ]
 
-pub number_some : (k : SectionId) → number k ≢ 0
-number_some TypeSection = λ e. omega arith
-number_some ImportSection = λ e. omega arith
-number_some FunctionSection = λ e. omega arith
-number_some TableSection = λ e. omega arith
-number_some MemorySection = λ e. omega arith
-number_some GlobalSection = λ e. omega arith
-number_some ExportSection = λ e. omega arith
-number_some StartSection = λ e. omega arith
-number_some ElementSection = λ e. omega arith
-number_some CodeSection = λ e. omega arith
-number_some DataSection = λ e. omega arith
+pub number_some : (k : SectionId) → 0 < number k
+number_some TypeSection = omega arith
+number_some ImportSection = omega arith
+number_some FunctionSection = omega arith
+number_some TableSection = omega arith
+number_some MemorySection = omega arith
+number_some GlobalSection = omega arith
+number_some ExportSection = omega arith
+number_some StartSection = omega arith
+number_some ElementSection = omega arith
+number_some CodeSection = omega arith
+number_some DataSection = omega arith
+
+pub number_most : (k : SectionId) → number k < 12
+number_most TypeSection = omega arith
+number_most ImportSection = omega arith
+number_most FunctionSection = omega arith
+number_most TableSection = omega arith
+number_most MemorySection = omega arith
+number_most GlobalSection = omega arith
+number_most ExportSection = omega arith
+number_most StartSection = omega arith
+number_most ElementSection = omega arith
+number_most CodeSection = omega arith
+number_most DataSection = omega arith
 
 -- ---- what each holds
 
