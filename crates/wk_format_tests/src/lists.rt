@@ -8,23 +8,6 @@ use wk_module::{
 };
 use wk_samples::modules::{ALL_OF_ONE, CUSTOMS_OF_WHOLE, HEADER, OF_WHOLE, WHOLE};
 
-// The lists of a module but its functions, and the indexes of their types.
-fn lists<'a>(parts: &'a Parts, funcs: &'a [u32]) -> Lists<'a> {
-    Lists {
-        profile: parts.profile,
-        types: parts.types.as_slice(),
-        imports: parts.imports.as_slice(),
-        funcs,
-        tables: parts.tables.as_slice(),
-        memories: parts.memories.as_slice(),
-        globals: parts.globals.as_slice(),
-        exports: parts.exports.as_slice(),
-        start: parts.start,
-        elems: parts.elems.as_slice(),
-        datas: parts.datas.as_slice(),
-    }
-}
-
 fn is_encoded(answer: Result<Vec<u8>, EncodeFault>, bytes: &[u8]) -> bool {
     match answer {
         Ok(written) => written.as_slice() == bytes,
@@ -39,7 +22,7 @@ fn writes(alloc: Global, lists: &Lists<'_>, id: u8, bytes: &[u8]) -> bool {
 
 // Whether each section of the whole module is written alone.
 fn writes_sections(alloc: Global, module: &Module) -> bool {
-    let lists = lists(module.parts(), &[0]);
+    let lists = Lists::of(module.parts(), &[0]);
     for row in OF_WHOLE {
         if !writes(alloc, &lists, row.id, row.bytes) {
             return false;
@@ -71,7 +54,7 @@ fn writes_nothing(alloc: Global) -> bool {
 }
 
 fn leaves_out(alloc: Global, module: &Module) -> bool {
-    let lists = lists(module.parts(), &[]);
+    let lists = Lists::of(module.parts(), &[]);
     for row in OF_WHOLE {
         if !writes(alloc, &lists, row.id, b"") {
             return false;
@@ -143,7 +126,7 @@ fn put_moved(alloc: Global, out: &mut Vec<u8>, lists: &Lists<'_>, id: u8) -> Opt
 
 // The ids and the contents of the sections that moved.
 fn moved_sections(alloc: Global, module: &Module, moved: &Moved) -> Option<Vec<u8>> {
-    let now = lists(module.parts(), &[]).with_moved(moved);
+    let now = Lists::of(module.parts(), &[]).with_moved(moved);
     let mut out = Vec::new(alloc);
     for (id, moves) in [
         (6, moved.globals.is_some()),

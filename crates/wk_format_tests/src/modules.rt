@@ -4,7 +4,8 @@ use std::alloc::{AllocError, Global};
 use std::test::Fail;
 use wk_bytes::{Items, ReadFault, ReadKind};
 use wk_module::{
-    FuncType, Module, Profile, ValType, custom_len, encode, encoded_len, read, read_in, section_len,
+    FuncType, Kind, Module, Profile, ValType, custom_len, encode, encoded_len, framed_len,
+    import_count, measured, read, read_in, section_len,
 };
 use wk_samples::modules::{
     CUSTOMS_OF_WHOLE, EXPORTED, EXTENDED, HEADER, LONGER, OF_WHOLE, PRIVATE, SHORTEST, WHOLE,
@@ -78,9 +79,18 @@ fn are_customs_measured(module: &Module) -> bool {
 
 fn is_whole_measured(alloc: Global) -> bool {
     match read(alloc, WHOLE) {
-        Ok(module) => are_measured(&module) && are_customs_measured(&module),
+        Ok(module) => are_measured(&module) && are_customs_measured(&module) && counts(&module),
         Err(_) => false,
     }
+}
+
+// The imports of the whole module, one of each kind, and lengths of sections of 9 and 30 bytes.
+fn counts(module: &Module) -> bool {
+    let imports = module.parts().imports.as_slice();
+    import_count(imports, Kind::Func) == 1
+        && import_count(imports, Kind::Global) == 1
+        && framed_len(30) == Some(32)
+        && measured(&[0, 9, 30], 5) == Some(56)
 }
 
 fn empty_is_a_header(alloc: Global) -> bool {

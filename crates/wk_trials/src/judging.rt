@@ -2,12 +2,11 @@
 
 use crate::bodies::NO_MEMORY;
 use crate::mark::{call_begins, call_ends};
-use crate::modules::lists;
 use crate::outcome::Outcome;
 use std::alloc::Global;
 use wk_bytes::OutOfMemory;
 use wk_check::{BodyVerdict, Meter, Verdict, Whole, judge, judge_around, judge_body, judge_bytes};
-use wk_module::{Func, Module, Profile, read};
+use wk_module::{Func, Lists, Module, Profile, read};
 use wk_samples::edits::VALID;
 
 // The types of the functions that `VALID` defines.
@@ -77,7 +76,7 @@ impl OfValid {
 }
 
 fn judges_around(alloc: Global, module: &Module) -> Outcome {
-    let lists = lists(module.parts(), TYPES);
+    let lists = Lists::of(module.parts(), TYPES);
     call_begins(alloc);
     let answer = judge_around(alloc, &lists, None);
     call_ends(alloc);
@@ -85,7 +84,7 @@ fn judges_around(alloc: Global, module: &Module) -> Outcome {
 }
 
 fn sees_whole(alloc: Global, module: &Module) -> Outcome {
-    let lists = lists(module.parts(), TYPES);
+    let lists = Lists::of(module.parts(), TYPES);
     call_begins(alloc);
     let answer = Whole::of(alloc, lists);
     call_ends(alloc);
@@ -98,7 +97,7 @@ fn sees_whole(alloc: Global, module: &Module) -> Outcome {
 fn judges_body(alloc: Global, module: &Module) -> Outcome {
     let parts = module.parts();
     match (
-        Whole::of(alloc, lists(parts, TYPES)),
+        Whole::of(alloc, Lists::of(parts, TYPES)),
         parts.funcs.as_slice().first(),
     ) {
         (Ok(whole), Some(func)) => judges_func(alloc, &whole, func),

@@ -1,9 +1,5 @@
 //! Calls of `wk_module` and `wk_session` on modules.
 
-ghost use Rattle.std.specs.Prelude.{◌≡◌, []};
-ghost use Rattle.wk_module.specs.Listed.{listed};
-ghost use Rattle.wk_module.specs.Shape.{lists_of};
-
 use crate::bodies::NO_MEMORY;
 use crate::mark::{call_begins, call_ends};
 use crate::outcome::Outcome;
@@ -67,25 +63,6 @@ fn encoded(
     }
 }
 
-/// The lists of a module whose functions have these types.
-pub(crate) fn lists<'a>(parts: &'a Parts, funcs: &'a [u32]) -> Lists<'a>
-    ensures { listed result ≡ record (lists_of parts.now) { funcs = funcs.now; codes = [] } }
-{
-    Lists {
-        profile: parts.profile,
-        types: parts.types.as_slice(),
-        imports: parts.imports.as_slice(),
-        funcs,
-        tables: parts.tables.as_slice(),
-        memories: parts.memories.as_slice(),
-        globals: parts.globals.as_slice(),
-        exports: parts.exports.as_slice(),
-        start: parts.start,
-        elems: parts.elems.as_slice(),
-        datas: parts.datas.as_slice(),
-    }
-}
-
 /// A call that is lent the module with every section.
 #[derive(Clone, Copy)]
 pub(crate) enum OfWhole {
@@ -116,7 +93,7 @@ impl OfWhole {
 }
 
 fn encodes_imports(alloc: Global, module: &Module) -> Outcome {
-    let lists = lists(module.parts(), &[]);
+    let lists = Lists::of(module.parts(), &[]);
     call_begins(alloc);
     let answer = encode_section(alloc, &lists, 2);
     call_ends(alloc);
