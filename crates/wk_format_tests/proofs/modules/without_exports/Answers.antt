@@ -2,7 +2,7 @@ use Rattle.std.proofs.Common.{[], arith}
 use Rattle.wk_module.specs.declared.types.Parts.{Parts}
 use Rattle.wk_module.specs.Sections.{SectionId, TypeSection, ImportSection, FunctionSection, TableSection, MemorySection, GlobalSection, ExportSection, StartSection, ElementSection, CodeSection, DataSection, contents, AreValid}
 use Rattle.wk_module.specs.Shape.{lists_of, IsFormed}
-use Rattle.wk_format_tests.proofs.module_places.without_exports.Goals as goal
+use Rattle.wk_format_tests.proofs.modules.without_exports.Goals as goal
 
 -- the lists of a module are valid without its exports
 valid_without : (m : Parts) → ((k : SectionId) → AreValid m.profile k (contents (lists_of m) k)) → (k : SectionId) → AreValid m.profile k (contents (lists_of (record m { exports = [] })) k)
