@@ -1,16 +1,27 @@
 -- Constant expressions (3.3.7.2) by the standard's declarative rules.
-use Rattle.std.specs.Prelude.{◌≡◌, true, [], ◌∷◌}
+use Rattle.std.specs.Prelude.{◌≡◌, false, [], ◌∷◌}
 use Rattle.wk_body.specs.declared.types.ValType.{ValType}
 use Rattle.wk_body.specs.declared.references.Ref.{Ref}
+use Rattle.wk_body.specs.declared.references.Ref.TheVariants as refs
+use Rattle.wk_body.specs.Instructions.{Plain, GlobalGet, I32Const, I64Const, F32Const, F64Const}
 use Rattle.wk_body.specs.Tree.{Instrs, Finish, One, Block, If}
-use Rattle.wk_check.specs.Answers.{Found}
-use Rattle.wk_check.specs.Constants.{is_constant, no_locals}
+use Rattle.wk_check.specs.Answers.{Found, GlobalIs}
+use Rattle.wk_check.specs.Constants.{no_locals}
 use Rattle.wk_check.specs.Derives.{Derives}
 
--- Each instruction is constant. (A global that is not found has no type, so that no rule derives it.)
+-- A `const` is constant, and so is the value of a global that is there and may not be set.
+abbrev pub IsConstant : (Ref → Found) → Plain → Type 0
+IsConstant A (I32Const z) = Unit {0}
+IsConstant A (I64Const z) = Unit {0}
+IsConstant A (F32Const word) = Unit {0}
+IsConstant A (F64Const word) = Unit {0}
+IsConstant A (GlobalGet x) = (t : ValType) × (A (refs.Global x) ≡ GlobalIs (record { val = t; mutable = false }))
+IsConstant A _ = ⊥
+
+-- Each instruction is constant.
 abbrev pub AreConstant : (Ref → Found) → Instrs → Type 0
 AreConstant A Finish = Unit {0}
-AreConstant A (One i rest) = (is_constant A i ≡ true) × AreConstant A rest
+AreConstant A (One i rest) = IsConstant A i × AreConstant A rest
 AreConstant A (Block kind bt inside rest) = ⊥
 AreConstant A (If bt first second rest) = ⊥
 

@@ -3,7 +3,7 @@
 use Rattle.std.proofs.Common.{◌≡◌, ℕ, zero, suc, ◌+◌, ◌<◌, ◌≤◌, nat_le, Bool, true, false, if◌then◌else◌, List, [], ◌∷◌, ◌++◌, length, map, Option, Some, None, refl, sym, ap, subst, ◌∙◌, inl, inr, arith, add-one}
 use Rattle.std.specs.Prelude.{slice_get}
 use Rattle.std.proofs.lemmas.Bool.{cases_lt, le-leb, lt-leb, cond-true, cond-false}
-use Rattle.std.proofs.lemmas.List.{append-nil, append_assoc}
+use Rattle.std.proofs.lemmas.List.{append-nil, append_assoc, map_push}
 use Rattle.wk_body.specs.declared.references.Ref.{Ref}
 use Rattle.wk_body.specs.declared.references.Ref.TheVariants.{Ty, Func, Global, Table, Memory}
 use Rattle.wk_body.specs.declared.moves.Moving.TheVariants as moving
@@ -21,9 +21,10 @@ use Rattle.wk_module.specs.declared.types.Kind.{Kind}
 use Rattle.wk_module.specs.declared.types.Kind.TheVariants as kinds
 use Rattle.wk_module.specs.declared.types.Limits.{Limits}
 use Rattle.wk_module.specs.declared.types.Parts.{Parts}
-use Rattle.wk_module.specs.Changes.{with_import, with_func, with_global}
+use Rattle.wk_module.specs.Changes.{with_type, with_import, with_func, with_global}
 use Rattle.wk_module.specs.Imports.{is_of_kind, import_count}
 use Rattle.wk_module.specs.ImportLaws.{counts_imports}
+use Rattle.wk_module.specs.MovedLaws.{types_stay, global_types_stay}
 use Rattle.wk_module.specs.Moving.{moved_func, moved_global, moved_parts}
 use Rattle.wk_module.specs.Shape.{lists_of}
 use Rattle.wk_check.specs.Answers.{Found}
@@ -101,16 +102,6 @@ imported_aside {X = X} pick is i none =
 imported_last : {X : Type 0} (pick : ImportDesc → Option X) (is : List Import) (i : Import) (x : X) → pick i.desc ≡ Some x → imported pick (is ++ i ∷ []) ≡ imported pick is ++ x ∷ []
 imported_last {X = X} pick is i x some = imported_push pick is i ∙ ap (λ (o : Option X). imported pick is ++ and_more o []) some
 
--- the types of what moves stay
-
-types_stay : (kind : Kind) (from : ℕ) (fs : List Function) → map (λ f. f.ty) (map (moved_func kind from) fs) ≡ map (λ f. f.ty) fs
-types_stay kind from [] = refl
-types_stay kind from (f ∷ fs) = ap (λ ts. f.ty ∷ ts) (types_stay kind from fs)
-
-global_types_stay : (kind : Kind) (from : ℕ) (gs : List GlobalDef) → map (λ g. g.ty) (map (moved_global kind from) gs) ≡ map (λ g. g.ty) gs
-global_types_stay kind from [] = refl
-global_types_stay kind from (g ∷ gs) = ap (λ ts. g.ty ∷ ts) (global_types_stay kind from gs)
-
 module _ (kind : Kind) (from : ℕ) (i : Import) (m : Parts) where
   funcs_aside : func_in i.desc ≡ None → (spaces_of (lists_of (with_import i (moved_parts kind from m)))).funcs ≡ (spaces_of (lists_of m)).funcs
   funcs_aside none =
@@ -130,13 +121,13 @@ module _ (kind : Kind) (from : ℕ) (i : Import) (m : Parts) where
 
 -- ---- what a module with one item more finds
 
-any_still : (xs zs : List Limits) (y : Limits) → is_there (any_found (xs ++ zs)) ≡ true → any_found ((xs ++ y ∷ []) ++ zs) ≡ any_found (xs ++ zs)
+pub any_still : (xs zs : List Limits) (y : Limits) → is_there (any_found (xs ++ zs)) ≡ true → any_found ((xs ++ y ∷ []) ++ zs) ≡ any_found (xs ++ zs)
 any_still [] [] y h = absurd cc
 any_still [] (z ∷ zs) y h = refl
 any_still (x ∷ xs) zs y h = refl
 
-pub type_grows : (m : Parts) (t : FuncType) → Grows (answers_of m) (answers_of (record m { types = m.types ++ t ∷ [] }))
-type_grows m t = more_grows (spaces_of (lists_of m)) (spaces_of (lists_of (record m { types = m.types ++ t ∷ [] }))) (record {
+pub type_grows : (m : Parts) (t : FuncType) → Grows (answers_of m) (answers_of (with_type t m))
+type_grows m t = more_grows (spaces_of (lists_of m)) (spaces_of (lists_of (with_type t m))) (record {
   types = t ∷ [];
   types_are = refl;
   funcs = [];
@@ -147,14 +138,10 @@ type_grows m t = more_grows (spaces_of (lists_of m)) (spaces_of (lists_of (recor
   globals_are = sym (append-nil _);
 })
 
-map_append : {A B : Type 0} (f : A → B) (xs : List A) (y : A) → map f (xs ++ y ∷ []) ≡ map f xs ++ f y ∷ []
-map_append f [] y = refl
-map_append f (x ∷ xs) y = ap (λ ys. f x ∷ ys) (map_append f xs y)
-
 -- one that the module defines comes behind all others in its space
 behind_all : {A B : Type 0} (front : List B) (f : A → B) (xs : List A) (y : A) → front ++ map f (xs ++ y ∷ []) ≡ (front ++ map f xs) ++ f y ∷ []
 behind_all {B = B} front f xs y =
-    ap (λ (ys : List B). front ++ ys) (map_append f xs y) ∙ sym (append_assoc front (map f xs) (f y ∷ []))
+    ap (λ (ys : List B). front ++ ys) (map_push f xs y) ∙ sym (append_assoc front (map f xs) (f y ∷ []))
 
 pub func_grows : (m : Parts) (t : ℕ) (b : BodyOf) → Grows (answers_of m) (answers_of (with_func t b m))
 func_grows m t b = more_grows (spaces_of (lists_of m)) (spaces_of (lists_of (with_func t b m))) (record {

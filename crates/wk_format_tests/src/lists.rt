@@ -3,7 +3,7 @@
 use std::alloc::Global;
 use std::test::Fail;
 use wk_module::{
-    EncodeFault, Kind, Lists, Module, Moved, Parts, Profile, ShiftFault, encode_custom,
+    EncodeFault, Kind, Lists, Module, MovedLists, Parts, Profile, ShiftFault, encode_custom,
     encode_section, read, shift_lists,
 };
 use wk_samples::modules::{ALL_OF_ONE, CUSTOMS_OF_WHOLE, HEADER, OF_WHOLE, WHOLE};
@@ -125,7 +125,7 @@ fn put_moved(alloc: Global, out: &mut Vec<u8>, lists: &Lists<'_>, id: u8) -> Opt
 }
 
 // The ids and the contents of the sections that moved.
-fn moved_sections(alloc: Global, module: &Module, moved: &Moved) -> Option<Vec<u8>> {
+fn moved_sections(alloc: Global, module: &Module, moved: &MovedLists) -> Option<Vec<u8>> {
     let now = Lists::of(module.parts(), &[]).with_moved(moved);
     let mut out = Vec::new(alloc);
     for (id, moves) in [

@@ -5,7 +5,7 @@ use std::test::Fail;
 use wk_bytes::{Items, ReadFault, ReadKind};
 use wk_module::{
     FuncType, Kind, Module, Profile, ValType, custom_len, encode, encoded_len, framed_len,
-    import_count, measured, read, read_in, section_len,
+    import_count, read, read_in, section_len, whole_len,
 };
 use wk_samples::modules::{
     CUSTOMS_OF_WHOLE, EXPORTED, EXTENDED, HEADER, LONGER, OF_WHOLE, PRIVATE, SHORTEST, WHOLE,

@@ -3,11 +3,16 @@ use Rattle.std.specs.Prelude.{ℕ, if◌then◌else◌, Option, Some, None, opti
 use Rattle.std.specs.Str.{bytes_eq}
 use Rattle.wk_body.specs.Bodies.{BodyOf}
 use Rattle.wk_body.specs.Tree.{Instrs}
+use Rattle.wk_module.specs.declared.types.FuncType.{FuncType}
 use Rattle.wk_module.specs.declared.types.GlobalType.{GlobalType}
 use Rattle.wk_module.specs.declared.types.Import.{Import}
 use Rattle.wk_module.specs.declared.types.Func.{Func}
 use Rattle.wk_module.specs.declared.types.Export.{Export}
 use Rattle.wk_module.specs.declared.types.Parts.{Parts}
+
+-- one more type
+abbrev pub with_type : FuncType → Parts → Parts
+with_type t m = record m { types = m.types ++ t ∷ [] }
 
 -- one more import, behind all others. What moves by it is moved before (`moved_parts`).
 abbrev pub with_import : Import → Parts → Parts

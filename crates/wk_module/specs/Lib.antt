@@ -18,6 +18,8 @@ pub mod WritingLaws
 pub mod Imports
 pub mod ImportLaws
 pub mod Changes
+pub mod ChangeExamples
 pub mod ChangeLaws
+pub mod MovedLaws
 pub mod Moving
 pub mod MovingLaws

@@ -1,12 +1,13 @@
 -- Laws of lists that hold fewer items than there are numbers of 32 bits.
 use Rattle.std.proofs.Common.{◌≡◌, ◌<◌, ◌^◌, ℕ, inl, inr, List, [], length, sym, subst, arith}
+use Rattle.std.proofs.lemmas.List.{length-map}
 use Rattle.wk_body.specs.declared.types.Profile.{Profile}
 use Rattle.wk_body.specs.Shape.{IsU32}
 use Rattle.wk_module.specs.declared.types.Parts.{Parts}
 use Rattle.wk_module.specs.Listed.{AreNumbered, listed_with}
 use Rattle.wk_module.specs.SectionLaws.{same_or_other, contents-here, contents-elsewhere}
 use Rattle.wk_module.specs.Sections.{SectionId, TypeSection, ImportSection, FunctionSection, TableSection, MemorySection, GlobalSection, ExportSection, StartSection, ElementSection, CodeSection, DataSection, ContentsOf, SectionLists, contents, no_lists, with_contents, AreValid}
-use Rattle.wk_module.specs.Shape.{lists_of, IsShaped}
+use Rattle.wk_module.specs.Shape.{lists_of, IsFormed}
 
 -- the same of one section. Of the codes, which are no list that is lent, nothing is said.
 abbrev pub IsNumbered : (k : SectionId) → ContentsOf k → Type 0
@@ -85,14 +86,18 @@ valid_numbered profile CodeSection x valid = tt
 valid_numbered profile DataSection x valid = valid.0
 
 -- the lists of a module
-pub module_numbered : (m : Parts) → IsShaped m → AreNumbered (lists_of m)
-module_numbered m shaped =
-    all_numbered (lists_of m) (λ k. valid_numbered m.profile k (contents (lists_of m) k) (shaped.formed.valid k))
+pub module_numbered : (m : Parts) → IsFormed m → AreNumbered (lists_of m)
+module_numbered m formed =
+    all_numbered (lists_of m) (λ k. valid_numbered m.profile k (contents (lists_of m) k) (formed.valid k))
+
+-- the functions of a module
+pub funcs_numbered : (m : Parts) → IsFormed m → length m.funcs < 2 ^ 32
+funcs_numbered m formed = rw length-map at (formed.valid FunctionSection).0
 
 -- the lists of a module, with the types of functions that an edit would give it
-pub module_numbered_with : (funcs : List ℕ) (m : Parts) → length funcs < 2 ^ 32 → IsShaped m → AreNumbered (listed_with funcs m)
-module_numbered_with funcs m few shaped =
-    let all = module_numbered m shaped in
+pub module_numbered_with : (funcs : List ℕ) (m : Parts) → length funcs < 2 ^ 32 → IsFormed m → AreNumbered (listed_with funcs m)
+module_numbered_with funcs m few formed =
+    let all = module_numbered m formed in
     record {
       types = all.types;
       imports = all.imports;

@@ -79,7 +79,7 @@ pub fn framed_len(contents: u32) -> Option<u32>
 /// How many bytes a module has whose sections have that many contents, by their ids from 0 on, and whose custom sections have that
 /// many together, ids and sizes with them; or nothing past 2,147,483,647. A section without contents is left out. It takes no
 /// memory.
-pub fn measured(contents: &[usize], customs: usize) -> Option<u32>
+pub fn whole_len(contents: &[usize], customs: usize) -> Option<u32>
     ensures { result ≡ limited (whole_size contents.now customs) }
 {
     let mut total = Some(HEADER_LEN);

@@ -16,7 +16,8 @@ use Rattle.wk_check.specs.declared.fault.Verdict.{Verdict}
 use Rattle.wk_session.specs.declared.edit.Edit.TheVariants.{Ty}
 use Rattle.wk_session.specs.declared.edit.EditFault.{EditFault}
 use Rattle.wk_session.specs.declared.edit.EditFault.TheVariants.{Memory}
-use Rattle.wk_session.specs.Edits.{fitting, with_type, type_added}
+use Rattle.wk_module.specs.Changes.{with_type}
+use Rattle.wk_session.specs.Edits.{fitting, type_added}
 use Rattle.wk_session.specs.Kept.{IsKept}
 use Rattle.wk_session.proofs.Outcomes.{limited-some, fitting-kept, Refuses}
 

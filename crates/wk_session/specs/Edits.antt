@@ -6,6 +6,7 @@ use Rattle.wk_bytes.specs.Frames.{limit}
 use Rattle.wk_module.specs.declared.types.FuncType.{FuncType}
 use Rattle.wk_module.specs.declared.types.Custom.{Custom}
 use Rattle.wk_module.specs.declared.types.Parts.{Parts}
+use Rattle.wk_module.specs.Changes.{with_type}
 use Rattle.wk_module.specs.Shape.{settle}
 use Rattle.wk_module.specs.Writing.{encoded}
 use Rattle.wk_session.specs.declared.edit.Edit.{Edit}
@@ -16,10 +17,6 @@ use Rattle.wk_session.specs.declared.edit.EditFault.TheVariants.{NoSuchCustom, T
 -- a module that is not too large
 abbrev pub fitting : Parts → Result Parts EditFault
 fitting m = if nat_le (length (encoded m)) limit then Ok m else Err TooLarge
-
--- a type at the end of the types
-abbrev pub with_type : FuncType → Parts → Parts
-with_type t m = record m { types = m.types ++ t ∷ [] }
 
 abbrev pub type_added : FuncType → Parts → Result Parts EditFault
 type_added t m = fitting (settle (with_type t m))

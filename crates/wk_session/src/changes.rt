@@ -5,7 +5,8 @@ ghost use Rattle.wk_module.specs.Shape.{settle, IsShaped};
 ghost use Rattle.wk_module.specs.declared.types.FuncType.{FuncType};
 ghost use Rattle.wk_module.specs.declared.types.Custom.{Custom};
 ghost use Rattle.wk_module.specs.declared.types.Parts.{Parts};
-ghost use Rattle.wk_session.specs.Edits.{fitting, is_named, with_custom, with_type, without_all_customs, without_customs};
+ghost use Rattle.wk_session.specs.Edits.{fitting, is_named, with_custom, without_all_customs, without_customs};
+ghost use Rattle.wk_module.specs.Changes.{with_type};
 ghost use Rattle.wk_session.specs.Put.{with_bytes_at, with_last_custom, ComesTo};
 ghost use Rattle.wk_session.specs.Kept.{IsKept};
 

@@ -8,22 +8,19 @@ use Rattle.wk_check.proofs.Flaws.{verdict_of_lists, module_verdict_told, verdict
 use Rattle.wk_check.proofs.Valid.{valid_exactly}
 use Rattle.std.proofs.lemmas.List.{length-map}
 use Rattle.wk_module.specs.Listed.{AreNumbered}
-use Rattle.wk_module.specs.NumberedLaws.{module_numbered_with}
+use Rattle.wk_module.specs.NumberedLaws.{funcs_numbered, module_numbered_with}
 use Rattle.wk_module.specs.Sections.{FunctionSection}
 use Rattle.wk_module.specs.Shape.{lists_of, IsShaped}
 use Rattle.wk_check.proofs.judging.judge.Goals as goal
 
-funcs_numbered : (m : Parts) → IsShaped m → length m.funcs < 2 ^ 32
-funcs_numbered m shaped = rw length-map at (shaped.formed.valid FunctionSection).0
-
 are_numbered : (m : Parts) → IsShaped m → AreNumbered (record (lists_of m) { codes = [] })
-are_numbered m shaped = module_numbered_with (lists_of m).funcs m (shaped.formed.valid FunctionSection).0 shaped
+are_numbered m shaped = module_numbered_with (lists_of m).funcs m (shaped.formed.valid FunctionSection).0 shaped.formed
 
 abbrev IsKept : Parts → Verdict → Type 0
 IsKept m verdict = IsNotArity verdict → module_verdict (extended m) ≡ verdict
 
 pub fault_up_to_code-requires-clause-few : goal.fault_up_to_code-requires-clause-few
-fault_up_to_code-requires-clause-few c = rw c.parts-parts.ensures.value (funcs_numbered c.args.module.now c.parts-parts.ensures.shaped)
+fault_up_to_code-requires-clause-few c = rw c.parts-parts.ensures.value (funcs_numbered c.args.module.now c.parts-parts.ensures.shaped.formed)
 
 pub fault_up_to_code-requires-clause-numbered : goal.fault_up_to_code-requires-clause-numbered
 fault_up_to_code-requires-clause-numbered c = rw (c.lists_of-lists.ensures.lists, c.parts-parts.ensures.value) (are_numbered c.args.module.now c.parts-parts.ensures.shaped)

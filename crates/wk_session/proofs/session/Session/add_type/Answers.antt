@@ -2,7 +2,8 @@ use Rattle.std.proofs.Common.{ap, sym, ◌∙◌, subst}
 use Rattle.wk_module.specs.declared.types.Parts.{Parts}
 use Rattle.wk_session.specs.declared.edit.Edit.TheVariants.{Ty}
 use Rattle.wk_module.specs.declared.types.FuncType.{FuncType}
-use Rattle.wk_session.specs.Edits.{with_type, type_added}
+use Rattle.wk_module.specs.Changes.{with_type}
+use Rattle.wk_session.specs.Edits.{type_added}
 use Rattle.wk_session.proofs.Outcomes.{Refuses, reply_refused, after_refused, reply_accepted, after_accepted}
 use Rattle.wk_session.proofs.TypeEdits.{room, type_accepted, type_refused}
 use Rattle.wk_session.proofs.session.Session.add_type.Goals as goal
