@@ -1,28 +1,18 @@
 -- What an `Out` takes of a text, piece after piece.
-use Rattle.std.proofs.Common.{◌≡◌, ℕ, List, ◌++◌, refl, [], append-nil, Option, Some, None, sym, ap, ◌∙◌, subst, append_assoc}
+use Rattle.std.proofs.Common.{◌≡◌, ℕ, List, ◌++◌, refl, [], Option, sym, ap, ◌∙◌, subst, append_assoc}
 use Rattle.std.specs.Prelude.{Result, Ok, Err, OnErr}
-use Rattle.std.specs.Io.KnownBytes.{Appends}
 use Rattle.wk_bytes.specs.Taken.{TakesFront}
+use Rattle.wk_bytes.specs.TakenLaws.{Appends-none, Appends-then, TakesFront-first}
 use Rattle.wk_list.specs.Taken.{Leaves}
 
 pub on_err_known : {T E P : Type 0} (r : Result T E) → P → OnErr r P
 on_err_known (Ok x) p = tt
 on_err_known (Err e) p = p
 
-appends_none : (a : Option (List ℕ)) → Appends a a []
-appends_none None = tt
-appends_none (Some s) = sym (append-nil s)
-
-appends_then : (a b c : Option (List ℕ)) (xs ys : List ℕ) → Appends a b xs → Appends b c ys → Appends a c (xs ++ ys)
-appends_then None b c xs ys p q = tt
-appends_then (Some s) None c xs ys p q = absurd p
-appends_then (Some s) (Some t) None xs ys p q = absurd q
-appends_then (Some s) (Some t) (Some u) xs ys p q = q ∙ ap (λ (r : List ℕ). r ++ ys) p ∙ append_assoc s xs ys
-
 -- ---- nothing was taken
 
 pub leaves_same : (a : Option (List ℕ)) (all left : List ℕ) → all ≡ left → Leaves a a all left
-leaves_same a all left e = ([], e, appends_none a)
+leaves_same a all left e = ([], e, Appends-none a)
 
 -- ---- the text goes on: t is gathered, and x comes next
 
@@ -35,12 +25,12 @@ regroup_left f g t rest = simp append_assoc
 -- a call that puts x out
 pub leaves_then : (a b c : Option (List ℕ)) (all t x rest new : List ℕ) → Leaves a b all (t ++ (x ++ rest)) → Leaves b c (t ++ x) new → Leaves a c all (new ++ rest)
 leaves_then a b c all t x rest new so_far p =
-    (so_far.0 ++ p.0, so_far.1 ∙ regroup_take so_far.0 t x rest ∙ ap (λ (r : List ℕ). so_far.0 ++ (r ++ rest)) p.1 ∙ regroup_left so_far.0 p.0 new rest, appends_then a b c so_far.0 p.0 so_far.2 p.2)
+    (so_far.0 ++ p.0, so_far.1 ∙ regroup_take so_far.0 t x rest ∙ ap (λ (r : List ℕ). so_far.0 ++ (r ++ rest)) p.1 ∙ regroup_left so_far.0 p.0 new rest, Appends-then a b c so_far.0 p.0 so_far.2 p.2)
 
 -- a call that failed as it put x out
 pub stops_then : (a b c : Option (List ℕ)) (all t x rest : List ℕ) → Leaves a b all (t ++ (x ++ rest)) → TakesFront b c (t ++ x) → TakesFront a c all
 stops_then a b c all t x rest so_far p =
-    (so_far.0 ++ p.0, p.1 ++ rest, so_far.1 ∙ regroup_take so_far.0 t x rest ∙ ap (λ (r : List ℕ). so_far.0 ++ (r ++ rest)) p.2 ∙ regroup_left so_far.0 p.0 p.1 rest, appends_then a b c so_far.0 p.0 so_far.2 p.3)
+    (so_far.0 ++ p.0, p.1 ++ rest, so_far.1 ∙ regroup_take so_far.0 t x rest ∙ ap (λ (r : List ℕ). so_far.0 ++ (r ++ rest)) p.2 ∙ regroup_left so_far.0 p.0 p.1 rest, Appends-then a b c so_far.0 p.0 so_far.2 p.3)
 
 -- x was gathered, and then some was put out
 pub leaves_spilled : (a b c : Option (List ℕ)) (all t x rest between new : List ℕ) → Leaves a b all (t ++ (x ++ rest)) → between ≡ t ++ x → Leaves b c between new → Leaves a c all (new ++ rest)
@@ -61,11 +51,11 @@ stops_here a b all left so_far = (so_far.0, left, so_far.1, so_far.2)
 
 pub leaves_both : (a b c : Option (List ℕ)) (t x y between new : List ℕ) → Leaves a b (t ++ x) between → Leaves b c (between ++ y) new → Leaves a c (t ++ (x ++ y)) new
 leaves_both a b c t x y between new p q =
-    (p.0 ++ q.0, sym (append_assoc t x y) ∙ ap (λ (r : List ℕ). r ++ y) p.1 ∙ append_assoc p.0 between y ∙ ap (λ (r : List ℕ). p.0 ++ r) q.1 ∙ sym (append_assoc p.0 q.0 new), appends_then a b c p.0 q.0 p.2 q.2)
+    (p.0 ++ q.0, sym (append_assoc t x y) ∙ ap (λ (r : List ℕ). r ++ y) p.1 ∙ append_assoc p.0 between y ∙ ap (λ (r : List ℕ). p.0 ++ r) q.1 ∙ sym (append_assoc p.0 q.0 new), Appends-then a b c p.0 q.0 p.2 q.2)
 
 pub stops_first : (a b : Option (List ℕ)) (t x y : List ℕ) → TakesFront a b (t ++ x) → TakesFront a b (t ++ (x ++ y))
-stops_first a b t x y p = (p.0, p.1 ++ y, sym (append_assoc t x y) ∙ ap (λ (r : List ℕ). r ++ y) p.2 ∙ append_assoc p.0 p.1 y, p.3)
+stops_first a b t x y p = subst (λ (r : List ℕ). TakesFront a b r) (append_assoc t x y) (TakesFront-first a b (t ++ x) y p)
 
 pub stops_second : (a b c : Option (List ℕ)) (t x y between : List ℕ) → Leaves a b (t ++ x) between → TakesFront b c (between ++ y) → TakesFront a c (t ++ (x ++ y))
 stops_second a b c t x y between p q =
-    (p.0 ++ q.0, q.1, sym (append_assoc t x y) ∙ ap (λ (r : List ℕ). r ++ y) p.1 ∙ append_assoc p.0 between y ∙ ap (λ (r : List ℕ). p.0 ++ r) q.2 ∙ sym (append_assoc p.0 q.0 q.1), appends_then a b c p.0 q.0 p.2 q.3)
+    (p.0 ++ q.0, q.1, sym (append_assoc t x y) ∙ ap (λ (r : List ℕ). r ++ y) p.1 ∙ append_assoc p.0 between y ∙ ap (λ (r : List ℕ). p.0 ++ r) q.2 ∙ sym (append_assoc p.0 q.0 q.1), Appends-then a b c p.0 q.0 p.2 q.3)

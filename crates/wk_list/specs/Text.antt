@@ -1,5 +1,5 @@
 -- Pieces of text.
-use Rattle.std.specs.Prelude.{ℕ, ◌+◌, nat_le, ◌==◌, ◌&&◌, not, Bool, true, false, if◌then◌else◌, Option, Some, None, List, [], ◌∷◌, ◌++◌, codes, decimal}
+use Rattle.std.specs.Prelude.{◌≡◌, ℕ, ◌+◌, nat_le, ◌==◌, ◌&&◌, not, Bool, true, false, if◌then◌else◌, Option, Some, None, List, [], ◌∷◌, ◌++◌, codes, decimal}
 use Rattle.std.specs.List.{flat_map}
 use Rattle.hex.specs.Hex.{encode_lower}
 use Rattle.wk_body.specs.declared.types.ValType.{ValType}
@@ -9,6 +9,10 @@ use Rattle.wk_module.specs.declared.types.Limits.{Limits}
 use Rattle.wk_module.specs.declared.types.GlobalType.{GlobalType}
 use Rattle.wk_module.specs.declared.types.Kind.{Kind}
 use Rattle.wk_module.specs.declared.types.Kind.TheVariants.{Func, Table, Memory, Global}
+
+-- what stood before stands at the front of what stands now
+abbrev pub StandsInFront : List ℕ → List ℕ → Type 0
+StandsInFront old new = (later : List ℕ) × (new ≡ old ++ later)
 
 -- ---- names
 

@@ -1,7 +1,7 @@
 -- References in order: they rise, they are the same references, and no other list is so.
-use Rattle.std.specs.Prelude.{◌↔◌, ◌⊎◌}
-use Rattle.std.proofs.Common.{◌≡◌, ℕ, ◌<◌, true, false, inl, inr, List, [], ◌∷◌, refl, sym, ap, subst, ◌∙◌, arith}
-use Rattle.std.specs.List.{AllByRecursion}
+use Rattle.std.specs.Prelude.{◌↔◌, ◌⊎◌, ◌||◌}
+use Rattle.std.proofs.Common.{◌≡◌, ℕ, ◌<◌, Bool, true, false, inl, inr, List, [], ◌∷◌, refl, sym, ap, subst, ◌∙◌, arith}
+use Rattle.std.specs.List.{AllByRecursion, list_any}
 use Rattle.std.proofs.lemmas.Bool.{cases_lt}
 use Rattle.std.proofs.lemmas.Bool.Decides.{nat_tests}
 use Rattle.wk_body.specs.declared.references.Ref.{Ref}
@@ -164,3 +164,29 @@ one_order (k ∷ ks) (l ∷ ls) p q s =
 
 pub in_order_is : (ks xs : List Ref) → AreRising ks → AreSame ks xs → ks ≡ in_order xs
 in_order_is ks xs p s = one_order ks (in_order xs) p (in_order_rises xs) (λ r. (λ a. (in_order_same xs r).1 ((s r).0 a), λ a. (s r).1 ((in_order_same xs r).0 a)))
+
+-- ---- a question of any reference has the same answer of it
+
+or_twice : (a b : Bool) → (a || b) ≡ (a || (a || b))
+or_twice true b = refl
+or_twice false b = refl
+
+or_turn : (a b c : Bool) → (a || (b || c)) ≡ (b || (a || c))
+or_turn true true c = refl
+or_turn true false c = refl
+or_turn false b c = refl
+
+any_placed : (p : Ref → Bool) (r : Ref) (xs : List Ref) → list_any p (placed_in r xs) ≡ (p r || list_any p xs)
+any_placed p r [] = refl
+any_placed p r (x ∷ xs) =
+    elim (in_its_place r x xs) [
+      | inl front ↦ ap (list_any p) front.1
+      | inr other ↦ elim other [
+        | inl same ↦ ap (list_any p) same.1 ∙ or_twice (p x) (list_any p xs) ∙ ap (λ (y : Ref). p y || (p x || list_any p xs)) (sym same.0)
+        | inr behind ↦ ap (list_any p) behind.1 ∙ ap (λ (b : Bool). p x || b) (any_placed p r xs) ∙ or_turn (p x) (p r) (list_any p xs)
+      ]
+    ]
+
+pub any_in_order : (p : Ref → Bool) (xs : List Ref) → list_any p (in_order xs) ≡ list_any p xs
+any_in_order p [] = refl
+any_in_order p (x ∷ xs) = any_placed p x (in_order xs) ∙ ap (λ (b : Bool). p x || b) (any_in_order p xs)

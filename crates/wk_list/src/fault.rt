@@ -9,9 +9,9 @@ use wk_bytes::{OutFault, OutOfMemory};
 /// Why a listing stopped. A beginning of its text stands written.
 #[derive(Clone, Copy, Debug, PartialEq, Eq)]
 pub enum ListFault {
-    /// L1: what takes the text failed.
+    /// What takes the text failed.
     Write,
-    /// L2: a growth was refused.
+    /// A growth was refused.
     Memory,
 }
 

@@ -1,8 +1,9 @@
 //! The line of a section: its name, where it is, and how long.
 
-ghost use Rattle.std.specs.Prelude.{◌≡◌, ◌+◌, ◌<◌, ◌^◌, ◌++◌, OnOk};
+ghost use Rattle.std.specs.Prelude.{◌≡◌, ◌+◌, ◌<◌, ◌^◌, ◌++◌, OnOk, OnErr};
 ghost use Rattle.wk_bytes.specs.FaultText.{offset_text};
 ghost use Rattle.wk_list.specs.Headers.{in_eight, section_name, header_text};
+ghost use Rattle.wk_list.specs.Text.{StandsInFront};
 
 use crate::text::{put_hex8, put_spaces};
 use wk_bytes::OutOfMemory;
@@ -30,7 +31,8 @@ pub(crate) fn section_name(id: u8) -> &'static str
 
 // The name of the sections with an id, right-aligned in eight places.
 fn put_aligned_name(text: &mut Vec<u8>, id: u8) -> Result<(), OutOfMemory>
-    ensures { OnOk result (text.new.items ≡ text.old.items ++ in_eight (section_name id)) }
+    ensures ok { OnOk result (text.new.items ≡ text.old.items ++ in_eight (section_name id)) }
+    ensures err { OnErr result (StandsInFront text.old.items text.new.items) }
 {
     let name = section_name(id);
     put_spaces(text, 8usize.saturating_sub(name.len()))?;
@@ -40,7 +42,8 @@ fn put_aligned_name(text: &mut Vec<u8>, id: u8) -> Result<(), OutOfMemory>
 
 // An offset or a size, as `0x` and eight hexadecimal digits.
 fn put_offset(text: &mut Vec<u8>, n: u32) -> Result<(), OutOfMemory>
-    ensures { OnOk result (text.new.items ≡ text.old.items ++ offset_text n) }
+    ensures ok { OnOk result (text.new.items ≡ text.old.items ++ offset_text n) }
+    ensures err { OnErr result (StandsInFront text.old.items text.new.items) }
 {
     text.extend_from_slice(b"0x")?;
     put_hex8(text, n)
@@ -51,10 +54,11 @@ fn put_offset(text: &mut Vec<u8>, n: u32) -> Result<(), OutOfMemory>
 ///
 /// # Errors
 ///
-/// Want of memory. Nothing is said of `text` then.
+/// Want of memory. What stood in `text` still stands at its front.
 pub fn put_header(text: &mut Vec<u8>, id: u8, start: u32, size: u32) -> Result<(), OutOfMemory>
     requires { start + size < 2 ^ 32 }
-    ensures { OnOk result (text.new.items ≡ text.old.items ++ header_text id start size) }
+    ensures ok { OnOk result (text.new.items ≡ text.old.items ++ header_text id start size) }
+    ensures err { OnErr result (StandsInFront text.old.items text.new.items) }
 {
     put_aligned_name(text, id)?;
     text.extend_from_slice(b" start=")?;

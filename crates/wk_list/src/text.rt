@@ -1,6 +1,6 @@
 //! Pieces of text, each put behind what was gathered.
 
-ghost use Rattle.std.specs.Prelude.{◌≡◌, ◌<◌, ◌^◌, ◌++◌, codes, decimal, replicate, OnOk};
+ghost use Rattle.std.specs.Prelude.{◌≡◌, ◌<◌, ◌^◌, ◌++◌, codes, decimal, replicate, OnOk, OnErr};
 ghost use Rattle.std.specs.Fmt.{signed_decimal};
 ghost use Rattle.std.specs.List.{flat_map};
 ghost use Rattle.hex.specs.Hex.{encode_lower};
@@ -26,7 +26,8 @@ fn digit(d: u32) -> u8
 /// A number in eight hexadecimal digits.
 #[tactic(auto, using(crate::proofs::Digits::eight))]
 pub(crate) fn put_hex8(text: &mut Vec<u8>, n: u32) -> Result<(), OutOfMemory>
-    ensures { OnOk result (text.new.items ≡ text.old.items ++ hex_digits 8 n) }
+    ensures ok { OnOk result (text.new.items ≡ text.old.items ++ hex_digits 8 n) }
+    ensures err { OnErr result (text.new.items ≡ text.old.items) }
 {
     let digits = [
         digit(n / 0x1000_0000 % 16),
@@ -89,7 +90,8 @@ pub(crate) fn put_all_spaced(text: &mut Vec<u8>, numbers: &[u32]) -> Result<(), 
 /// That many spaces.
 pub(crate) fn put_spaces(text: &mut Vec<u8>, count: usize) -> Result<(), OutOfMemory>
     requires { count < 2 ^ 33 }
-    ensures { OnOk result (text.new.items ≡ text.old.items ++ replicate count 32) }
+    ensures ok { OnOk result (text.new.items ≡ text.old.items ++ replicate count 32) }
+    ensures err { OnErr result (text.new.items ≡ text.old.items) }
 {
     text.resize(text.len() + count, b' ')?;
     Ok(())

@@ -10,4 +10,4 @@ returns-then-size-eq0 c =
 pub returns : goal.returns
 returns c =
     section_line c.args.parts.now c.args.id c.args.at c.args.size c.contents_start.result c.args.text.now.items _ _ _ c.requires.size (omega (arith, c.if-size-eq0.false))
-    c.contents_start.ensures c.in_ok-put_header.ensures c.in_ok-put_tail.ensures c.in_ok-extend_from_slice.ensures.items
+    c.contents_start.ensures c.in_ok-put_header.ensures.ok c.in_ok-put_tail.ensures c.in_ok-extend_from_slice.ensures.items
