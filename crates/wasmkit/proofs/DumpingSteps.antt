@@ -1,21 +1,16 @@
 -- Listings, one behind the other.
-use Rattle.std.proofs.Common.{ℕ, ◌+◌, ◌<◌, Option, Some, None, List, ◌++◌, length, get_or, drop, sym, ap, ◌∙◌, append_assoc}
+use Rattle.std.proofs.Common.{ℕ, ◌+◌, ◌<◌, Option, List, ◌++◌, length, get_or, drop, sym, ap, ◌∙◌, append_assoc}
 use Rattle.std.proofs.lemmas.List.{at_drop_more}
 use Rattle.std.specs.Prelude.{Result, Ok, Err, OnErr}
 use Rattle.std.specs.List.{flat_map}
 use Rattle.std.specs.Io.KnownBytes.{Appends}
 use Rattle.wk_bytes.specs.Taken.{TakesFront}
+use Rattle.wk_bytes.specs.TakenLaws.{Appends-then}
 use Rattle.wk_list.specs.Taken.{Leaves}
 
 pub on_err_known : {T E P : Type 0} (r : Result T E) → P → OnErr r P
 on_err_known (Ok x) p = tt
 on_err_known (Err e) p = p
-
-appends_then : (a b c : Option (List ℕ)) (xs ys : List ℕ) → Appends a b xs → Appends b c ys → Appends a c (xs ++ ys)
-appends_then None b c xs ys p q = tt
-appends_then (Some s) None c xs ys p q = absurd p
-appends_then (Some s) (Some t) None xs ys p q = absurd q
-appends_then (Some s) (Some t) (Some u) xs ys p q = q ∙ ap (λ (r : List ℕ). r ++ ys) p ∙ append_assoc s xs ys
 
 -- the text of the item at an index was taken
 pub more_taken : {A : Type 0} (text : A → List ℕ) (items : List A) (i : ℕ) (other : A) (a b c : Option (List ℕ)) (all : List ℕ)
@@ -25,7 +20,7 @@ more_taken text items i other a b c all within so_far p =
     let later = flat_map text (drop (i + 1) items) in (
       so_far.0 ++ x,
       so_far.1 ∙ ap (λ (r : List ℕ). so_far.0 ++ r) (at_drop_more (flat_map text) items i other within) ∙ sym (append_assoc so_far.0 x later),
-      appends_then a b c so_far.0 x so_far.2 p,
+      Appends-then a b c so_far.0 x so_far.2 p,
     )
 
 -- some of it was
@@ -37,5 +32,5 @@ some_taken text items i other a b c all within so_far p =
       p.1 ++ later,
       so_far.1 ∙ ap (λ (r : List ℕ). so_far.0 ++ r) (at_drop_more (flat_map text) items i other within ∙ ap (λ (r : List ℕ). r ++ later) p.2 ∙ append_assoc p.0 p.1 later)
           ∙ sym (append_assoc so_far.0 p.0 (p.1 ++ later)),
-      appends_then a b c so_far.0 p.0 so_far.2 p.3,
+      Appends-then a b c so_far.0 p.0 so_far.2 p.3,
     )

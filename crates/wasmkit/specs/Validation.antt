@@ -1,5 +1,6 @@
 -- What `validate` prints of bytes, by what reading them gives, and its status.
-use Rattle.std.specs.Prelude.{◌≡◌, ℕ, ◌⊎◌, List, Result, Ok, Err}
+use Rattle.std.specs.Prelude.{◌≡◌, ◌≢◌, ℕ, ◌⊎◌, List, Result, Ok, Err}
+use Rattle.wk_bytes.specs.declared.fault.ReadKind.TheVariants.{Memory}
 use Rattle.wk_bytes.specs.declared.fault.ReadFault.{ReadFault}
 use Rattle.wk_bytes.specs.Stands.{StandsIn}
 use Rattle.wk_body.specs.declared.types.Profile.{Profile}
@@ -34,10 +35,11 @@ pub record TellsVerdict (profile : Profile) (bytes line : List ℕ) (status : �
   pub line_is : line ≡ verdict_line (module_verdict told)
   pub status_is : status ≡ verdict_status (module_verdict told)
 
--- the bytes spell no module of the profile, and the line is that of a fault that stands in them
+-- the bytes spell no module of the profile, and the line is that of a fault that stands in them, which is never want of memory
 pub record TellsFault (profile : Profile) (bytes line : List ℕ) (status : ℕ) : Type 0 where
   pub none : SpellsNone profile bytes
   pub fault : ReadFault
+  pub known : fault.kind ≢ Memory
   pub stands : StandsIn bytes fault
   pub line_is : line ≡ malformed_text fault
   pub status_is : status ≡ 2

@@ -91,7 +91,7 @@ module _ (profile : Profile) (input script : List ℕ) where
   malformed_ok (Err f) e is other fails = tt
 
   pub malformed_means : (r : Result Prepared RunFault) (e : ReadFault) → OnOk r (e.kind ≢ ReadKind.Memory) → FailsAs e e.kind (module_at profile input) → (e.kind ≢ ReadKind.Memory → SpellsNone profile input) → StandsIn input e → OnOk r (IsReport profile input script (outcome_of profile input script))
-  malformed_means (Ok p) e other fails none stands = inl (none other, (e, stands, outcome_malformed profile input script e (other_fault e e.kind (module_at profile input) other fails)))
+  malformed_means (Ok p) e other fails none stands = inl (none other, (e, other, stands, outcome_malformed profile input script e (other_fault e e.kind (module_at profile input) other fails)))
   malformed_means (Err f) e other fails none stands = tt
 
   pub ran_ok : (r : Result Prepared RunFault) (m : Parts) (s : Result (List Edit) ScriptFault) → IfOk r (IsPrepared (outcome_on m s)) → module_at profile input ≡ Ok m → script_of script ≡ s → IfOk r (IsPrepared (outcome_of profile input script))

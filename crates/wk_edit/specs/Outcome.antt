@@ -1,7 +1,8 @@
 -- What the main job gives: the bytes of the edited module, the report and the status.
-use Rattle.std.specs.Prelude.{◌≡◌, ℕ, ◌+◌, Bool, true, false, ◌&&◌, ◌⊎◌, if◌then◌else◌, Option, List, [], Result, Ok, Err}
+use Rattle.std.specs.Prelude.{◌≡◌, ◌≢◌, ℕ, ◌+◌, Bool, true, false, ◌&&◌, ◌⊎◌, if◌then◌else◌, Option, List, [], Result, Ok, Err}
 use Rattle.std.specs.List.{list_all}
 use Rattle.std.specs.Io.KnownBytes.{Appends}
+use Rattle.wk_bytes.specs.declared.fault.ReadKind.TheVariants as kinds
 use Rattle.wk_bytes.specs.declared.fault.ReadFault.{ReadFault}
 use Rattle.wk_bytes.specs.Taken.{TakesFront}
 use Rattle.wk_module.specs.declared.types.Parts.{Parts}
@@ -81,10 +82,11 @@ IsReportOn m script o =
     ((edits : List Edit) × IsScript script edits × (o ≡ run_outcome m edits))
     ⊎ ((fault : ScriptFault) × IsNoScript script × IsFaultOf script fault × (o ≡ script_outcome fault))
 
--- The input spells no module of the profile, and the report names a fault that stands in it; or it spells a module.
+-- The input spells no module of the profile, and the report names a fault that stands in it, which is never want of memory;
+-- or it spells a module.
 abbrev pub IsReport : Profile → List ℕ → List ℕ → Outcome → Type 0
 IsReport profile input script o =
-    (SpellsNone profile input × ((fault : ReadFault) × StandsIn input fault × (o ≡ malformed_outcome fault)))
+    (SpellsNone profile input × ((fault : ReadFault) × (fault.kind ≢ kinds.Memory) × StandsIn input fault × (o ≡ malformed_outcome fault)))
     ⊎ ((m : Parts) × (m.profile ≡ profile) × Spells input m × IsReportOn m script o)
 
 -- ---- statuses

@@ -52,16 +52,16 @@ impl Status {
     }
 }
 
-/// Why a run gave up, F1 to F3 in this order.
+/// Why a run gave up.
 #[derive(Clone, Copy, Debug, PartialEq, Eq, Error)]
 pub enum RunFault {
-    /// F1: the output of the module failed. A beginning of the module was taken, and nothing of the report.
+    /// The output of the module failed. A beginning of the module was taken, and nothing of the report.
     #[error("cannot write the module")]
     Out,
-    /// F2: the output of the report failed. The module was taken, and a beginning of the report.
+    /// The output of the report failed. The module was taken, and a beginning of the report.
     #[error("cannot write the report")]
     Report,
-    /// F3: a growth was refused. Nothing was taken.
+    /// A growth was refused. Nothing was taken.
     #[error("out of memory")]
     Memory,
 }

@@ -1,10 +1,10 @@
 //! Why a module is not written.
 
-/// X1 and X2 in this order.
+/// Why a module is not written.
 #[derive(Clone, Copy, Debug, PartialEq, Eq)]
 pub enum WriteFault {
-    /// X1: the output failed. A beginning of the bytes was taken.
+    /// The output failed. A beginning of the bytes was taken.
     Write,
-    /// X2: a growth was refused. Nothing was taken.
+    /// A growth was refused. Nothing was taken.
     Memory,
 }

@@ -24,6 +24,7 @@ returns-in_ok-malformed_line-in-Err c =
       means = inr (record {
         none = told.0;
         fault = fault;
+        known = c.in_default.not-Memory;
         stands = told.1;
         line_is = c.in_ok-malformed_line-in-Err.ensures;
         status_is = refl;
