@@ -1,7 +1,6 @@
 /* Preloaded into a program of this repository, it refuses exactly one of the program's allocations.
  *
  *   REFUSE_AT=N         the N-th allocation that is counted is refused, from 1 on; without it none is
- *   REFUSE_AFTER=1      and so are all that are counted after it
  *   REFUSE_FROM_START=1 all are counted; else those between an allocation of ARM bytes and the next of DISARM bytes,
  *                       two that are themselves served and not counted
  *   REFUSE_LOG=FILE     as the program exits, this file gets the line "armed A counted C refused R": how often the
@@ -22,7 +21,7 @@ extern char *getenv(const char *);
 extern long atol(const char *);
 extern int open(const char *, int, ...), dprintf(int, const char *, ...), close(int);
 
-static int is_armed, refuse_after;
+static int is_armed;
 static long armed, counted, refused, refuse_at;
 
 /* Whether an allocation of this size is the one to refuse. */
@@ -34,7 +33,7 @@ static int is_refused(size_t size) {
     }
     if (!is_armed) return 0;
     counted += 1;
-    if (!refuse_at || counted < refuse_at || (counted > refuse_at && !refuse_after)) return 0;
+    if (counted != refuse_at) return 0;
     refused += 1;
     *__errno_location() = NO_MEMORY;
     return 1;
@@ -66,7 +65,6 @@ int posix_memalign(void **block, size_t alignment, size_t size) {
 __attribute__((constructor)) static void begin(void) {
     const char *at = getenv("REFUSE_AT");
     refuse_at = at ? atol(at) : 0;
-    refuse_after = getenv("REFUSE_AFTER") != 0;
     is_armed = getenv("REFUSE_FROM_START") != 0;
     armed = is_armed;
 }

@@ -19,7 +19,11 @@ use wk_bytes::Stream;
 
 // The words after the program's name.
 fn words(rt: &HostRuntime) -> io::Result<Vec<String>> {
-    Ok(env::args(rt)?.skip(1).collect(rt.alloc())?)
+    let mut words = Vec::new(rt.alloc());
+    for word in env::args(rt)?.skip(1) {
+        words.push(word)?;
+    }
+    Ok(words)
 }
 
 // Words that are no text are a bad command line.

@@ -17,7 +17,7 @@ pub(crate) const CUSTOMS: &[u8] =
 
 const WITHOUT_D: &[u8] = b"\0asm\x01\0\0\0\x01\x04\x01\x60\0\0\0\x02\x01e";
 
-// Two files, and what was saved.
+// Two files, and what was saved under `out.wasm`; one named `large` is past what memory holds.
 #[derive(Drop)]
 pub(crate) struct Shelf {
     alloc: Global,
@@ -41,8 +41,11 @@ impl Store for Shelf {
         Vec::from_slice(self.alloc, bytes).map_err(|_| StoreFault::Memory)
     }
 
-    fn save(&mut self, _name: &str, bytes: &[u8]) -> Result<(), StoreFault> {
-        if self.is_full {
+    fn save(&mut self, name: &str, bytes: &[u8]) -> Result<(), StoreFault> {
+        if name == "large" {
+            return Err(StoreFault::Memory);
+        }
+        if self.is_full || name != "out.wasm" {
             return Err(StoreFault::Failed);
         }
         self.saved = Some(Vec::from_slice(self.alloc, bytes).map_err(|_| StoreFault::Memory)?);
@@ -169,7 +172,13 @@ fn edits(rt: HostRuntime) -> Result<(), Fail> {
 }
 
 // Words, the status, and what is said.
-const REFUSED: [(&[&str], u8, &str); 41] = [
+const REFUSED: [(&[&str], u8, &str); 43] = [
+    (
+        &["edit", "in.wasm", "script", "large"],
+        5,
+        "out of memory\n",
+    ),
+    (&["strip", "in.wasm", "large"], 5, "out of memory\n"),
     (
         &["edit", "none", "script", "out.wasm"],
         4,

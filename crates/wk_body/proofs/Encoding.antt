@@ -1,11 +1,12 @@
 -- What is written of a tree is what is written of its tokens, one after the other.
-use Rattle.std.proofs.Common.{◌≡◌, ℕ, suc, List, [], ◌∷◌, ◌++◌, length, refl, ap, ◌∙◌, append_assoc}
+use Rattle.std.proofs.Common.{◌≡◌, ℕ, suc, List, [], ◌∷◌, ◌++◌, length, refl, sym, ap, ◌∙◌, append_assoc}
+use Rattle.std.proofs.lemmas.List.{append-nil}
 use Rattle.std.specs.List.{flat_map}
 use Rattle.std.proofs.lemmas.List.Concat.{flat_map-cons}
 use Rattle.std.proofs.lemmas.Grind.{flat_map-append}
 use Rattle.wk_body.specs.Tree.{Instrs, Finish, One, Block, If, Simple, Open, OpenIf, Otherwise, Close, else_part, flatten, tokens_of}
 use Rattle.wk_body.specs.Spelling.{kind_byte}
-use Rattle.wk_body.specs.Written.{plain_bytes, type_bytes, else_bytes, enc, tok_bytes, written_expr}
+use Rattle.wk_body.specs.Written.{plain_bytes, type_bytes, else_bytes, enc, tok_bytes, written_expr, StaysInFront}
 
 else_flat : (second : Instrs) → flat_map tok_bytes (else_part (flatten second)) ≡ else_bytes second (flat_map tok_bytes (flatten second))
 else_flat Finish = refl
@@ -29,3 +30,11 @@ enc_flat (If ty first second rest) =
 -- the tokens of an expression are written as it is
 pub tokens_written : (t : Instrs) → flat_map tok_bytes (tokens_of t) ≡ written_expr t
 tokens_written t = flat_map-append tok_bytes (flatten t) (Close ∷ []) ∙ ap (λ (b : List ℕ). b ++ 0x0B ∷ []) (enc_flat t)
+
+-- ---- what stands in front
+
+pub front_then : (a b c : List ℕ) → StaysInFront a b → StaysInFront b c → StaysInFront a c
+front_then a b c first second = (first.0 ++ second.0, second.1 ∙ ap (λ (r : List ℕ). r ++ second.0) first.1 ∙ append_assoc a first.0 second.0)
+
+pub front_same : (a b : List ℕ) → b ≡ a → StaysInFront a b
+front_same a b same = ([], same ∙ sym (append-nil a))

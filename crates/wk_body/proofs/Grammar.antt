@@ -15,9 +15,10 @@ use Rattle.wk_body.specs.Tree.{Instrs, Finish, One, Block, If, Tok, Simple, Open
 use Rattle.wk_body.specs.TreeLaws.{append-Finish}
 use Rattle.wk_body.specs.Shape.{deep, depth_limit}
 use Rattle.wk_body.specs.Bodies.{BodyOf, AreGroups}
-use Rattle.wk_body.specs.Spelling.{kind_byte, Spells, SpellsExpr, SpellsGroup, SpellsBody}
+use Rattle.wk_body.specs.Spelling.{kind_byte, Spells, SpellsExpr, SpellsGroup, SpellsGroups, SpellsBody}
 use Rattle.wk_body.specs.Vectors.{SpellsItems}
 use Rattle.wk_body.specs.Reading.{behind_at, after, With, parts_at, expr_at, groups_at, body_at}
+use Rattle.wk_body.specs.TokenReading.{local_groups_at}
 use Rattle.wk_body.proofs.Pieces.{Took, plain_headed, groups_take, groups_again}
 use Rattle.wk_body.proofs.GrammarTokens.{SpellsTok, MayCome, token_again}
 use Rattle.wk_body.proofs.GrammarParts.{expr_takes}
@@ -58,7 +59,7 @@ pub changed-changed : (f g : List Part → List Part) (read : Result With ReadFa
 changed-changed f g (Ok x) = refl
 changed-changed f g (Err e) = refl
 
-same_changed : (f g : List Part → List Part) (read : Result With ReadFault) → ((xs : List Part) → f xs ≡ g xs) → changed f read ≡ changed g read
+pub same_changed : (f g : List Part → List Part) (read : Result With ReadFault) → ((xs : List Part) → f xs ≡ g xs) → changed f read ≡ changed g read
 same_changed f g (Ok x) h = ap (λ (xs : List Part). good (xs, x.1)) (h x.0)
 same_changed f g (Err e) h = refl
 
@@ -207,6 +208,32 @@ one_body profile groups t count items code bytes behind_count behind_groups rest
   parts = rw (first, second, third) (regroup count items code rest);
   rest_fits = fits;
 }
+
+-- the local groups alone
+pub local_groups_take : (end : ℕ) (bytes : List ℕ) (x : List LocalGroup × List ℕ) → IsBytes bytes → local_groups_at end bytes ≡ Ok x → Took SpellsGroups bytes x
+unfolding local_groups_at
+local_groups_take end bytes x fits e =
+    let n = bind_ok (u32_at end bytes) (λ m. groups_at m.0 0 end m.1) x e in
+    let counted = u32_at-found end bytes n.0.0 n.0.1 fits n.1 in
+    let grouped = groups_take n.0.0 0 end n.0.1 x (IsBytes-after counted.0 n.0.1 bytes counted.2 fits) n.2 in
+    let below = SpellsU-below 32 counted.0 n.0.0 counted.1 in
+    let few = grouped.5 (omega arith) in
+    record {
+      front = counted.0 ++ grouped.0;
+      spelled = record {
+        grouped = record { count = counted.0; items = grouped.0; parts = refl; counts = subst (SpellsU 32 counted.0) (sym grouped.4) counted.1; spelled = grouped.1 };
+        are_groups = record { counted = omega (arith, grouped.4, below); few = omega (arith, few) };
+      };
+      parts = counted.2 ∙ ap (λ (c : List ℕ). counted.0 ++ c) grouped.2 ∙ sym (append_assoc counted.0 grouped.0 x.1);
+      rest_fits = grouped.3;
+    }
+
+pub local_groups_again : (end : ℕ) (gs : List LocalGroup) (bytes rest : List ℕ) → SpellsGroups gs bytes → local_groups_at end (bytes ++ rest) ≡ Ok (gs, rest)
+unfolding local_groups_at
+local_groups_again end gs bytes rest s =
+    let g = s.grouped in
+    let parts : bytes ++ rest ≡ g.count ++ (g.items ++ rest) = ap (λ (c : List ℕ). c ++ rest) g.parts ∙ append_assoc g.count g.items rest in
+    ap (local_groups_at end) parts ∙ rw (u32_at-again end g.count (length gs) (g.items ++ rest) g.counts, groups_again gs 0 end g.items rest g.spelled (omega (arith, s.are_groups.few))) refl
 
 pub body_takes : (profile : Profile) (end : ℕ) (bytes : List ℕ) (x : BodyOf × List ℕ) → IsBytes bytes → body_at profile end bytes ≡ Ok x → Took (SpellsBody profile) bytes x
 unfolding body_at

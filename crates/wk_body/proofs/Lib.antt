@@ -16,7 +16,6 @@ pub mod Promised
 pub mod Encoding
 pub mod EncodedSpells
 pub mod Least
-pub mod Lengths
 pub mod GroupLoop
 pub mod Tokens
 pub mod TokenSteps

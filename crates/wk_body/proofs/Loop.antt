@@ -13,7 +13,7 @@ use Rattle.wk_body.specs.Reading.{token_at, after, With, in_front, parts_at, exp
 use Rattle.wk_body.specs.Building.{Good, ReadsToken, toks_of, kinds_of, size_of}
 use Rattle.wk_body.specs.ReadsLaws.{fails_on}
 use Rattle.wk_body.proofs.GrammarParts.{expr_takes}
-use Rattle.wk_body.proofs.Grammar.{changed, changed-changed}
+use Rattle.wk_body.proofs.Grammar.{changed, same_changed, changed-changed}
 use Rattle.wk_body.proofs.Spelled.{expr_shaped}
 use Rattle.wk_body.specs.TokenReadingLaws.{token_shorter}
 
@@ -43,10 +43,6 @@ begins profile b from good toks kinds size = record {
   enough = omega arith;
   reads = rw (toks, kinds) (changed-same (parts_at profile (suc (length from.rest)) [] from.end from.rest));
 }
-
-same_changed : (f g : List Part → List Part) (read : Result With ReadFault) → ((xs : List Part) → f xs ≡ g xs) → changed f read ≡ changed g read
-same_changed f g (Ok x) h = ap (λ (xs : List Part). Ok (xs, x.1)) (h x.0)
-same_changed f g (Err e) h = refl
 
 one_more : (profile : Profile) (n end : ℕ) (ks next : List Bool) (rest behind : List ℕ) (t : Tok) → token_at profile ks end rest ≡ Ok (t, behind) → after t ks ≡ Some next → parts_at profile (suc n) ks end rest ≡ in_front t (parts_at profile n next end behind)
 unfolding parts_at

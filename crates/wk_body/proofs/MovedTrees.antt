@@ -20,6 +20,7 @@ use Rattle.wk_body.specs.References.{plain_refs, type_refs, refs_of, tok_refs, m
 use Rattle.wk_body.specs.Moved.{IsMoved, AreMoved, MayRefuse}
 use Rattle.wk_body.specs.Kept.{told, all_told, IsWithin, IsKept, tree_kept}
 use Rattle.wk_body.specs.Shape.{deep, AreInRange, IsInRange, IsShaped, IsOf, depth_limit}
+use Rattle.wk_body.proofs.Built.{all-push}
 use Rattle.wk_body.proofs.TreeRefs.{kept_refs}
 
 -- ---- instructions that are changed one by one
@@ -132,10 +133,6 @@ all_parts : {X : Type 0} (P : X → Type 0) (xs : List X) (x : X) → AllByRecur
 all_parts P [] x h = (tt, h.0)
 all_parts P (y ∷ ys) x h = let r = all_parts P ys x h.1 in ((h.0, r.0), r.1)
 
-all_push : {X : Type 0} (P : X → Type 0) (xs : List X) (x : X) → AllByRecursion P xs → P x → AllByRecursion P (xs ++ x ∷ [])
-all_push P [] x h p = (p, tt)
-all_push P (y ∷ ys) x h p = (h.0, all_push P ys x h.1 p)
-
 -- no reference is stuck in one token more
 pub free_more : (kind : Moving) (from : ℕ) (xs : List Token) (x : Token) → any_stuck kind from (flat_map tok_refs (all_told [] xs)) ≡ false → any_stuck kind from (tok_refs (told [] x)) ≡ false → any_stuck kind from (flat_map tok_refs (all_told [] (xs ++ x ∷ []))) ≡ false
 free_more kind from xs x p q =
@@ -145,7 +142,7 @@ pub moved_more : (kind : Moving) (from : ℕ) (xs ms : List Token) (x m : Token)
 moved_more kind from xs ms x m p q = record {
   fits = free_more kind from xs x p.fits q.fits;
   told_moved = λ pool. rw (map-append (told pool) ms (m ∷ []), map-append (told pool) xs (x ∷ []), p.told_moved pool, q.told_moved pool) (sym (map-append (map_tok (moved_plain kind from)) (all_told pool xs) (told pool x ∷ [])));
-  within = λ len h. let r = all_parts (IsWithin len) xs x h in all_push (IsWithin len) ms m (p.within len r.0) (q.within len r.1);
+  within = λ len h. let r = all_parts (IsWithin len) xs x h in all-push (IsWithin len) ms m (p.within len r.0) (q.within len r.1);
 }
 
 -- a reference of a token that can't move is one of all

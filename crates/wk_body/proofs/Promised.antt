@@ -1,32 +1,35 @@
 -- What calls that read promise in terms of the grammar, from what they answer.
-use Rattle.std.proofs.Common.{◌≡◌, ◌≢◌, ℕ, ◌≤◌, List, [], ◌∷◌, ◌++◌, length, Result, Ok, Err, refl, sym, ap, subst, ◌∙◌, inl, inr}
+use Rattle.std.proofs.Common.{◌≡◌, ◌≢◌, ℕ, ◌≤◌, List, [], ◌∷◌, ◌++◌, length, leb, Result, Ok, Err, refl, sym, ap, subst, ◌∙◌, inl, inr, arith}
 use Rattle.std.specs.Prelude.{IfOk, IfErr}
 use Rattle.std.proofs.lemmas.List.{append-nil}
 use Rattle.wk_bytes.specs.declared.fault.ReadKind.{ReadKind}
 use Rattle.wk_bytes.specs.declared.fault.ReadKind.TheVariants.{BodySize, Memory}
 use Rattle.wk_bytes.specs.declared.fault.ReadFault.{ReadFault}
 use Rattle.wk_bytes.specs.Leb.{◌>>=◌}
-use Rattle.wk_bytes.specs.LebLaws.{IsBytes, bind_ok}
+use Rattle.wk_bytes.specs.Fault.{long_input}
+use Rattle.wk_bytes.specs.LebLaws.{IsBytes, bind_ok, chosen}
 use Rattle.wk_bytes.specs.Span.{Span, fault}
-use Rattle.wk_bytes.specs.SpanLaws.{ok_is, not_both}
+use Rattle.wk_bytes.specs.SpanLaws.{ok_is, err_is, not_both}
 use Rattle.wk_bytes.specs.PieceLaws.{read_prefix_free}
-use Rattle.wk_bytes.specs.Stands.{Stands, StandsOrMemory, StandsIn, whole}
+use Rattle.wk_bytes.specs.Stands.{StandsAt, Stands, StandsOrMemory, StandsIn, whole}
 use Rattle.wk_bytes.specs.StandsLaws.{ReadsFront, StandsOrMemory-whole}
 use Rattle.wk_body.specs.declared.types.Profile.{Profile}
 use Rattle.wk_body.specs.Tree.{Instrs}
 use Rattle.wk_body.specs.Shape.{IsOf}
+use Rattle.wk_body.specs.declared.types.LocalGroup.{LocalGroup}
 use Rattle.wk_body.specs.Bodies.{BodyOf}
-use Rattle.wk_body.specs.Spelling.{SpellsExpr, SpellsBody}
+use Rattle.wk_body.specs.Spelling.{SpellsExpr, SpellsGroups, SpellsBody}
 use Rattle.wk_body.specs.Written.{Fits}
 use Rattle.wk_body.specs.Reads.{FailsAs, Parses, Reads}
-use Rattle.wk_body.specs.Meaning.{FindsOnly, Takes, TakesOnly, IsReadAs, IsAllReadAs}
-use Rattle.wk_body.specs.Reading.{expr_at, body_at, taking_all, all_expr_at, all_body_at}
+use Rattle.wk_body.specs.Meaning.{FindsOnly, Takes, TakesOnly, IsReadAs, IsAllReadAs, NeverMemory}
+use Rattle.wk_body.specs.Reading.{expr_at, body_at, taking_all, all_expr_at, all_body_at, whole_at}
+use Rattle.wk_body.specs.TokenReading.{local_groups_at}
 use Rattle.wk_body.specs.ReadsLaws.{fails_on}
 use Rattle.wk_body.proofs.Pieces.{Took}
 use Rattle.wk_body.proofs.GrammarParts.{expr_takes}
-use Rattle.wk_body.proofs.Grammar.{expr_again, body_takes, body_again}
+use Rattle.wk_body.proofs.Grammar.{expr_again, local_groups_take, local_groups_again, body_takes, body_again}
 use Rattle.wk_body.proofs.Spelled.{expr_allowed}
-use Rattle.wk_body.proofs.Standing.{ReadsFront-expr_at, ReadsFront-body_at, all_expr_stands, all_body_stands}
+use Rattle.wk_body.proofs.Standing.{ReadsFront-local_groups_at, ReadsFront-expr_at, ReadsFront-body_at, all_expr_stands, all_body_stands}
 
 -- ---- faults
 
@@ -53,6 +56,9 @@ pub record Grammatical {V : Type 0} (Spells : V → List ℕ → Type 0) (read :
 
 pub exprs : (profile : Profile) → Grammatical (SpellsExpr profile) (expr_at profile)
 exprs profile = record { takes = expr_takes profile; again = expr_again profile; reads = ReadsFront-expr_at profile }
+
+local_groups : Grammatical SpellsGroups local_groups_at
+local_groups = record { takes = local_groups_take; again = local_groups_again; reads = ReadsFront-local_groups_at }
 
 pub bodies : (profile : Profile) → Grammatical (SpellsBody profile) (body_at profile)
 bodies profile = record { takes = body_takes profile; again = body_again profile; reads = ReadsFront-body_at profile }
@@ -184,6 +190,17 @@ unfolding all_body_at
 body_refused profile old ahead e same given =
     fails_on e e.kind (body_at profile old.end old.rest) (all_body_at profile old.end old.rest) (λ h. rw h refl) (subst (λ (s : Span). FailsAs e e.kind (body_at profile s.end s.rest)) same given)
 
+-- ---- local groups
+
+-- what was read ahead, from the same place
+pub groups_taken : (groups : List LocalGroup) (old ahead new : Span) → IsBytes old.rest → ahead ≡ old → (local_groups_at ahead.end ahead.rest ≡ Ok (groups, new.rest)) × (new.end ≡ ahead.end) → TakesOnly {X = Unit {0}} (λ _. groups) SpellsGroups old (Ok tt) new
+groups_taken groups old ahead new fits same given =
+    takes_only SpellsGroups local_groups_at local_groups {X = Unit {0}} (λ _. groups) old new (Ok tt) fits (subst (λ (s : Span). (local_groups_at s.end s.rest ≡ Ok (groups, new.rest)) × (new.end ≡ s.end)) same given)
+
+pub groups_refused : (groups : List LocalGroup) (old ahead : Span) (e : ReadFault) → IsBytes old.rest → ahead ≡ old → FailsAs e e.kind (local_groups_at ahead.end ahead.rest) → TakesOnly {X = Unit {0}} (λ _. groups) SpellsGroups old (Err e) old
+groups_refused groups old ahead e fits same given =
+    takes_only SpellsGroups local_groups_at local_groups {X = Unit {0}} (λ _. groups) old old (Err e) fits (subst (λ (s : Span). FailsAs e e.kind (local_groups_at s.end s.rest)) same given, refl)
+
 -- ---- reading as a law
 
 pub exprs_read : (profile : Profile) → IsReadAs (SpellsExpr profile) (expr_at profile)
@@ -200,6 +217,28 @@ bodies_read profile = record {
   again = λ end b bytes s. all_again (SpellsBody profile) (body_at profile) (bodies profile) end bytes b s;
   stands = all_body_stands profile;
 }
+
+-- a fault that stands is no want of memory
+stands_not_memory : (s : Span) (e : ReadFault) → Stands s e → e.kind ≢ Memory
+stands_not_memory s e stood = λ same. subst (λ (kind : ReadKind). StandsAt kind stood.from) same stood.stands
+
+long_not_memory : long_input.kind ≢ Memory
+long_not_memory = λ same. absurd cc
+
+never_memory : {V : Type 0} (read : ℕ → List ℕ → Result V ReadFault)
+    → ((end : ℕ) (bytes : List ℕ) (e : ReadFault) → read end bytes ≡ Err e → length bytes ≤ end → Stands (record { rest = bytes; end = end }) e) → NeverMemory read
+unfolding whole_at
+never_memory {V = V} read stands = λ bytes e h.
+    elim (chosen (leb (length bytes) 2147483647) (read (length bytes) bytes) (Err long_input) (Err e) h) [
+      | inl p ↦ stands_not_memory (whole bytes) e (stands (length bytes) bytes e p.1 (omega arith))
+      | inr p ↦ subst (λ (d : ReadFault). d.kind ≢ Memory) (err_is {A = V} long_input e p.1) long_not_memory
+    ]
+
+pub exprs_never_memory : (profile : Profile) → NeverMemory (all_expr_at profile)
+exprs_never_memory profile = never_memory (all_expr_at profile) (all_expr_stands profile)
+
+pub bodies_never_memory : (profile : Profile) → NeverMemory (all_body_at profile)
+bodies_never_memory profile = never_memory (all_body_at profile) (all_body_stands profile)
 
 -- ---- what is read ahead, and fails
 

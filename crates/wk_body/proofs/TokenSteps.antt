@@ -1,6 +1,5 @@
 -- The steps of a reader of tokens.
 use Rattle.std.proofs.Common.{◌≡◌, ℕ, suc, ◌+◌, ◌-◌, ◌<◌, ◌≤◌, ◌^◌, Bool, false, eqb, List, [], ◌∷◌, ◌++◌, length, take, Some, Result, Ok, Err, refl, sym, ap, subst, ◌∙◌, arith}
-use Rattle.std.specs.Prelude.{IfOk, MatchResult}
 use Rattle.std.proofs.lemmas.List.{append-nil, take_all}
 use Rattle.std.proofs.lemmas.Bool.{ne_eqb}
 use Rattle.wk_bytes.specs.declared.fault.ReadKind.TheVariants.{UnknownOpcode}
@@ -61,10 +60,6 @@ groups_range count end bytes groups rest below fits e =
     let t = groups_take count 0 end bytes (groups, rest) fits e in
     let few = t.5 (omega arith) in
     record { counted = omega (arith, t.4, below); few = omega (arith, few) }
-
-pub range_if_ok : {A : Type 0} (r : Result A ReadFault) (P Q : Type 0) (R : ReadFault → Type 0) → (P → Q) → MatchResult r (λ _. P) R → IfOk r (λ _. Q)
-range_if_ok (Ok x) P Q R f h = f h
-range_if_ok (Err e) P Q R f h = tt
 
 -- ---- tokens that open and close nothing
 

@@ -1,4 +1,5 @@
--- What a scratch holds: tokens that are put together from left to right.
+-- What a scratch holds: tokens that are put together from left to right. These are the steps of the code, one for each of its
+-- private functions; what is read is told without them, by `Reading` and `Spelling`.
 use Rattle.std.specs.Prelude.{◌≡◌, ℕ, suc, ◌+◌, ◌≤◌, Bool, true, false, List, [], ◌∷◌, ◌++◌, length, map, reverse, Some, Result, Ok}
 use Rattle.wk_bytes.specs.declared.fault.ReadFault.{ReadFault}
 use Rattle.std.specs.List.{AllByRecursion}

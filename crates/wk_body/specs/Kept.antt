@@ -58,6 +58,8 @@ pub record IsKept (pool : List ℕ) (ts : List Token) : Type 0 where
   pub few : length ts ≤ 2147483647
   pub shaped : IsShaped (tree_kept pool ts)
 
+-- ---- the steps of the code as it puts tokens together, for its private functions alone
+
 -- a kept token with another distance to its end
 abbrev pub skipping : Token → ℕ → Token
 skipping (kept.Block ty skip) n = kept.Block ty n

@@ -10,6 +10,7 @@ use Rattle.wk_body.specs.declared.types.Profile.{Profile}
 use Rattle.wk_body.specs.declared.types.Profile.TheVariants.{Core, Extended}
 use Rattle.wk_body.specs.Reads.{FailsAs}
 use Rattle.wk_body.specs.Written.{Fits}
+use Rattle.wk_body.specs.Reading.{whole_at}
 
 -- The bytes are no more than a module may have, and spell the value.
 abbrev pub Whole : {V : Type 0} → (V → List ℕ → Type 0) → V → List ℕ → Type 0
@@ -54,3 +55,8 @@ pub record IsAllReadAs {V : Type 0} (Spells : V → List ℕ → Type 0) (read :
   pub takes : (end : ℕ) (bytes : List ℕ) (v : V) → IsBytes bytes → read end bytes ≡ Ok v → Spells v bytes
   pub again : (end : ℕ) (v : V) (bytes : List ℕ) → Spells v bytes → read end bytes ≡ Ok v
   pub stands : (end : ℕ) (bytes : List ℕ) (e : ReadFault) → read end bytes ≡ Err e → length bytes ≤ end → Stands (record { rest = bytes; end = end }) e
+
+-- What reading a whole input gives is never want of memory: a call that answers that says nothing of the bytes, and any other
+-- fault that it answers is of them.
+abbrev pub NeverMemory : {V : Type 0} → (ℕ → List ℕ → Result V ReadFault) → Type 0
+NeverMemory read = (bytes : List ℕ) (e : ReadFault) → whole_at read bytes ≡ Err e → e.kind ≢ Memory

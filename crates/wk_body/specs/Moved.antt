@@ -1,4 +1,5 @@
--- Kept tokens whose references have moved.
+-- Kept tokens whose references have moved. These are the steps of the code, for its private functions; what moving means is told
+-- without them, by `References` and `Moves`.
 use Rattle.std.specs.Prelude.{◌≡◌, ℕ, Bool, List, [], map, false, IsTrue}
 use Rattle.std.specs.List.{flat_map, AllByRecursion}
 use Rattle.wk_body.specs.declared.moves.Moving.{Moving}

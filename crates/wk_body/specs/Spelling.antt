@@ -67,6 +67,11 @@ pub record SpellsGroup (bytes : List ℕ) (g : LocalGroup) : Type 0 where
   pub parts : bytes ≡ count ++ valtype_byte g.ty ∷ []
   pub counts : SpellsU 32 count g.count
 
+-- the local groups of a body
+pub record SpellsGroups (groups : List LocalGroup) (bytes : List ℕ) : Type 0 where
+  pub grouped : SpellsVector SpellsGroup bytes groups
+  pub are_groups : AreGroups groups
+
 pub record SpellsBody (profile : Profile) (b : BodyOf) (bytes : List ℕ) : Type 0 where
   pub locals : List ℕ
   pub code : List ℕ

@@ -1,4 +1,5 @@
--- What the steps of a reader of tokens do.
+-- What the steps of a reader of tokens do. They are those of the code, one for each of its private functions; what its public
+-- calls do is told without them, by `TokenReading`.
 use Rattle.std.specs.Prelude.{◌≡◌, ℕ, List, [], ◌∷◌, Bool, true, Option, Some, None, length, Result, Ok}
 use Rattle.wk_bytes.specs.declared.fault.ReadFault.{ReadFault}
 use Rattle.wk_bytes.specs.Span.{Span}

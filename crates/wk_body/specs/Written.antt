@@ -1,5 +1,5 @@
 -- The one written form of expressions and bodies: the shortest integers, no else branch that is empty.
-use Rattle.std.specs.Prelude.{ℕ, pos, ◌<◌, ◌≤◌, List, [], ◌∷◌, ◌++◌, length}
+use Rattle.std.specs.Prelude.{◌≡◌, ℕ, pos, ◌<◌, ◌≤◌, List, [], ◌∷◌, ◌++◌, length}
 use Rattle.byteorder.specs.Endian.{little_bytes}
 use Rattle.wk_bytes.specs.Short.{short, short_signed}
 use Rattle.wk_body.specs.declared.types.BlockType.{BlockType}
@@ -71,3 +71,7 @@ Fits bytes = length bytes ≤ 2147483647
 abbrev pub Unwritten : List ℕ → EncodeFault → Type 0
 Unwritten bytes faults.TooLarge = 2147483647 < length bytes
 Unwritten bytes faults.Memory = Fits bytes
+
+-- what stood there stands in front of all
+abbrev pub StaysInFront : List ℕ → List ℕ → Type 0
+StaysInFront old new = (later : List ℕ) × (new ≡ old ++ later)

@@ -9,9 +9,9 @@ use wk_bytes::OutOfMemory;
 /// Why there are no bytes.
 #[derive(Clone, Copy, Debug, PartialEq, Eq)]
 pub enum EncodeFault {
-    /// N1: the written form is longer than 2,147,483,647 bytes.
+    /// The written form is longer than 2,147,483,647 bytes.
     TooLarge,
-    /// N2: a growth was refused.
+    /// A growth was refused.
     Memory,
 }
 

@@ -38,4 +38,6 @@ pub use scratch::Scratch;
 pub use token::Token;
 pub use token_reader::{TokenReader, next_groups};
 pub use types::{BlockKind, BlockType, LocalGroup, Profile, ValType};
-pub use writing::{append_body, append_expr, code_bytes, encode_body, encode_expr, written_form_of_code};
+pub use writing::{
+    append_body, append_expr, code_bytes, encode_body, encode_expr, written_form_of_code,
+};

@@ -12,7 +12,7 @@ ghost use Rattle.wk_body.specs.Shape.{IsOf, IsShaped};
 ghost use Rattle.wk_body.specs.Spelling.{SpellsExpr, SpellsBody};
 ghost use Rattle.wk_bytes.specs.LebLaws.{IsBytes};
 ghost use Rattle.wk_body.specs.Tree.{Instrs};
-ghost use Rattle.wk_body.specs.Meaning.{FindsOnly, Takes, TakesOnly, SpellOnce, SpellAlike, IsReadAs, IsAllReadAs};
+ghost use Rattle.wk_body.specs.Meaning.{FindsOnly, Takes, TakesOnly, SpellOnce, SpellAlike, IsReadAs, IsAllReadAs, NeverMemory};
 
 use crate::body::Body;
 use crate::expr::Expr;
@@ -255,10 +255,12 @@ pub fn one_spelling_of_code()
     ensures same_body { SpellAlike SpellsBody }
 {}
 
-/// The laws of reading: what is read is what the grammar spells, in its one way, and is of the profile; and a fault stands in the
-/// bytes. It does nothing.
+/// The laws of reading: what is read is what the grammar spells, in its one way, and is of the profile; a fault stands in the
+/// bytes; and what reading gives is never want of memory. It does nothing.
 pub fn reading_of_code()
     ensures expr { (profile : Profile) → IsReadAs (SpellsExpr profile) (expr_at profile) }
     ensures body { (profile : Profile) → IsAllReadAs (SpellsBody profile) (all_body_at profile) }
     ensures expr_shape { (profile : Profile) (t : Instrs) (bytes : List ℕ) → IsBytes bytes → SpellsExpr profile t bytes → IsShaped t × IsOf profile t }
+    ensures never_memory_expr { (profile : Profile) → NeverMemory (all_expr_at profile) }
+    ensures never_memory_body { (profile : Profile) → NeverMemory (all_body_at profile) }
 {}

@@ -13,7 +13,7 @@ use std::alloc::Global;
 use wk_bytes::OutOfMemory;
 
 /// A block that is open, and where its tokens stand.
-#[derive(Clone, Copy)]
+#[derive(Clone, Copy, Debug)]
 pub(crate) enum Opened {
     Block(u32),
     Then(u32),
@@ -23,7 +23,7 @@ pub(crate) enum Opened {
 /// Room in which bodies and expressions are read, one after the other, before each is copied to a room of its own size.
 ///
 /// What it holds of one read is forgotten by the next; only its memory stays. A call that reads many bodies is given one of these and grows it once.
-#[derive(Drop)]
+#[derive(Debug, Drop)]
 pub struct Scratch {
     pub(crate) tokens: Vec<Token>,
     pub(crate) labels: Vec<u32>,
@@ -79,8 +79,12 @@ fn end_else(tokens: &mut Vec<Token>, other: u32)
 }
 
 impl Scratch {
-    /// An empty room. It takes no memory yet.
-    pub fn new(alloc: Global) -> Scratch {
+    /// An empty room: it holds no token and no label, and no block is open. It takes no memory yet.
+    pub fn new(alloc: Global) -> Scratch
+        ensures toks { toks_of result ≡ [] }
+        ensures kinds { kinds_of result ≡ [] }
+        ensures size { size_of result ≡ 0 }
+    {
         Scratch {
             tokens: Vec::new(alloc),
             labels: Vec::new(alloc),

@@ -11,8 +11,10 @@ use crate::types::BlockType;
 /// One token (2.4, 5.4).
 ///
 /// Labels, indexes, alignments and offsets are those of the binary format; an alignment is the exponent as it is stored.
-/// `skip` is how many tokens stand between this one and the `End` that closes it. An `Else` stands only where its branch holds
-/// an instruction.
+///
+/// Among the tokens of a body or an expression `skip` is how many tokens stand between this one and the `End` that closes it, and
+/// an `Else` stands only where its branch holds an instruction. Of a token that a [`TokenReader`](crate::TokenReader) reads, which
+/// keeps none, `skip` is 0, and an `Else` is told of wherever it is spelled, so it may stand right before its `End`.
 #[derive(Clone, Copy, Debug, PartialEq, Eq)]
 pub enum Token {
     Unreachable,
@@ -35,7 +37,7 @@ pub enum Token {
     End,
     Br(u32),
     BrIf(u32),
-    /// Its labels are `len` of the pool beside the tokens, from `start` on; `other` is the default label.
+    /// Its labels are `len` of the pool beside the tokens, or of the reader's, from `start` on; `other` is the default label.
     BrTable {
         start: u32,
         len: u32,

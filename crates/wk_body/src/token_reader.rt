@@ -10,6 +10,8 @@ ghost use Rattle.wk_body.specs.declared.types.Profile.{Profile};
 ghost use Rattle.wk_body.specs.Vectors.{items_at};
 ghost use Rattle.wk_body.specs.Bodies.{AreGroups};
 ghost use Rattle.wk_body.specs.Reads.{FailsAs, Parses};
+ghost use Rattle.wk_body.specs.Meaning.{TakesOnly};
+ghost use Rattle.wk_body.specs.Spelling.{SpellsGroups};
 ghost use Rattle.wk_body.specs.Reading.{type_here, plain_at, tok_at, behind_at, token_at, may_else};
 ghost use Rattle.wk_body.specs.Kept.{told, IsWithin};
 ghost use Rattle.wk_body.specs.TokenReading.{NextRead, local_groups_at};
@@ -27,7 +29,7 @@ use wk_bytes::{Cursor, ReadFault, ReadKind};
 /// blocks are open, and the labels of the last `br_table`.
 ///
 /// One reader is used for many expressions, each after a call of [`begin`](TokenReader::begin), and grows once.
-#[derive(Drop)]
+#[derive(Debug, Drop)]
 pub struct TokenReader {
     // of each open block, the innermost last, whether an `else` may still come
     blocks: Vec<bool>,
@@ -69,9 +71,10 @@ fn labels_into(labels: &mut Vec<u32>, len: u32, cursor: &mut Cursor<'_>) -> Resu
 }
 
 impl TokenReader {
-    /// A reader, in which no block is open. It takes no memory yet.
+    /// A reader, in which no block is open, and which has no labels. It takes no memory yet.
     pub fn new(alloc: Global) -> TokenReader
-        ensures { result.kinds ≡ [] }
+        ensures kinds { result.kinds ≡ [] }
+        ensures labels { result.labels ≡ [] }
     {
         TokenReader {
             blocks: Vec::new(alloc),
@@ -79,15 +82,17 @@ impl TokenReader {
         }
     }
 
-    /// Begins an expression: no block is open.
+    /// Begins an expression: no block is open, and no labels are left of the one before.
     pub fn begin(&mut self)
-        ensures { self.new.kinds ≡ [] }
+        ensures kinds { self.new.kinds ≡ [] }
+        ensures labels { self.new.labels ≡ [] }
     {
         self.blocks.clear();
         self.labels.clear();
     }
 
-    /// The labels of a `br_table` that was read last: those of its token lie in them, as in the pool of a body.
+    /// The labels of a `br_table` that was read last: those of its token lie in them, as in the pool of a body. They are told of up
+    /// to the next call of [`next`](TokenReader::next), which may forget them, whatever token it reads.
     #[inline(always)]
     pub fn labels(&self) -> &[u32]
         ensures { result.now ≡ self.now.labels }
@@ -242,9 +247,9 @@ impl TokenReader {
 
     /// The next token of the expression, or none where its end is read: the `end` that closes no block.
     ///
-    /// A token stands for itself alone: the distance of a block to its end (`skip`) is 0, and the labels of a `br_table` are those
-    /// that [`labels`](TokenReader::labels) gives before the next call. The cursor moves past the token. Behind the end the reader
-    /// stands anywhere, until it begins anew.
+    /// A token stands for itself alone: the distance of a block to its end (`skip`) is 0, an `else` is told of even where its branch
+    /// is empty, and the labels of a `br_table` are those that [`labels`](TokenReader::labels) gives before the next call. The
+    /// cursor moves past the token. Behind the end the reader stands anywhere, until it begins anew.
     ///
     /// # Errors
     /// The first fault of the token from left to right, or `Memory` at 0 where a growth was refused. The cursor is as it was, and
@@ -274,16 +279,13 @@ fn take_groups(groups: &mut Vec<LocalGroup>, cursor: &mut Cursor<'_>) -> Result<
     ensures exact { MatchResult result
         (λ _. (local_groups_at cursor.old.end cursor.old.rest ≡ Ok (groups.new.items, cursor.new.rest)) × (cursor.new.end ≡ cursor.old.end))
         (λ e. FailsAs e e.kind (local_groups_at cursor.old.end cursor.old.rest)) }
-    ensures range { IfOk result (λ _. AreGroups groups.new.items) }
 {
     let count = cursor.u32()?;
-    // The proof asks what this says: each byte is below 256.
-    are_bytes(cursor.rest());
     groups_of(groups, count, cursor)
 }
 
 /// Reads the local groups of a body, at the front of what the cursor has left (5.5.13), into a room, and moves past them. What
-/// was in the room before is forgotten.
+/// was in the room before is forgotten. They are the groups of the one front that spells any.
 ///
 /// # Errors
 /// The first fault from left to right, as [`TooManyLocals`](ReadKind::TooManyLocals) where the groups declare 2^32 locals or
@@ -292,10 +294,13 @@ pub fn next_groups(groups: &mut Vec<LocalGroup>, cursor: &mut Cursor<'_>) -> Res
     ensures exact { MatchResult result
         (λ _. (local_groups_at cursor.old.end cursor.old.rest ≡ Ok (groups.new.items, cursor.new.rest)) × (cursor.new.end ≡ cursor.old.end))
         (λ e. FailsAs e e.kind (local_groups_at cursor.old.end cursor.old.rest)) }
+    ensures only { TakesOnly (λ _. groups.new.items) SpellsGroups cursor.old result cursor.new }
     ensures range { IfOk result (λ _. AreGroups groups.new.items) }
     ensures left { IfErr result (λ e. cursor.new ≡ cursor.old) }
     ensures fault { IfErr result (λ e. StandsOrMemory cursor.old e) }
 {
+    // The proof asks what this says: each byte is below 256.
+    are_bytes(cursor.rest());
     let mut ahead = cursor.ahead();
     take_groups(groups, &mut ahead)?;
     *cursor = ahead;

@@ -1,12 +1,12 @@
 //! Writes expressions and bodies in the one written form.
 
-ghost use Rattle.std.specs.Prelude.{◌≡◌, ◌≤◌, ◌<◌, ℕ, List, ◌++◌, ◌∷◌, ◌^◌, length, IfOk, OnOk, MatchResult};
+ghost use Rattle.std.specs.Prelude.{◌≡◌, ◌≤◌, ◌<◌, ℕ, List, ◌++◌, ◌∷◌, ◌^◌, length, IfOk, OnOk, OnErr, MatchResult};
 ghost use Rattle.std.specs.List.{flat_map, AllByRecursion};
 ghost use Rattle.byteorder.specs.Endian.{little_bytes};
 ghost use Rattle.wk_bytes.specs.LebLaws.{IsBytes};
 ghost use Rattle.wk_bytes.specs.Short.{short};
 ghost use Rattle.wk_body.specs.Kept.{told, all_told, IsWithin};
-ghost use Rattle.wk_body.specs.Written.{type_bytes, tok_bytes, written_expr, written_body, written_group, Fits, Unwritten};
+ghost use Rattle.wk_body.specs.Written.{type_bytes, tok_bytes, written_expr, written_body, written_group, Fits, Unwritten, StaysInFront};
 ghost use Rattle.wk_body.specs.Spelling.{SpellsExpr, SpellsBody};
 ghost use Rattle.wk_body.specs.Shape.{IsShaped, IsOf};
 ghost use Rattle.wk_body.specs.Tree.{Instrs, tokens_of};
@@ -24,7 +24,8 @@ use std::alloc::Global;
 use wk_bytes::{OutOfMemory, put_s32, put_s33, put_s64, put_u32};
 
 fn put_word32(out: &mut Vec<u8>, word: u32) -> Result<(), OutOfMemory>
-    ensures { OnOk result (out.new.items ≡ out.old.items ++ little_bytes 4 word) }
+    ensures ok { OnOk result (out.new.items ≡ out.old.items ++ little_bytes 4 word) }
+    ensures err { OnErr result (out.new.items ≡ out.old.items) }
 {
     let mut bytes = [0; 4];
     LittleEndian::write_u32(&mut bytes, word);
@@ -33,7 +34,8 @@ fn put_word32(out: &mut Vec<u8>, word: u32) -> Result<(), OutOfMemory>
 }
 
 fn put_word64(out: &mut Vec<u8>, word: u64) -> Result<(), OutOfMemory>
-    ensures { OnOk result (out.new.items ≡ out.old.items ++ little_bytes 8 word) }
+    ensures ok { OnOk result (out.new.items ≡ out.old.items ++ little_bytes 8 word) }
+    ensures err { OnErr result (out.new.items ≡ out.old.items) }
 {
     let mut bytes = [0; 8];
     LittleEndian::write_u64(&mut bytes, word);
@@ -42,7 +44,8 @@ fn put_word64(out: &mut Vec<u8>, word: u64) -> Result<(), OutOfMemory>
 }
 
 fn put_numbers(out: &mut Vec<u8>, numbers: &[u32]) -> Result<(), OutOfMemory>
-    ensures { OnOk result (out.new.items ≡ out.old.items ++ flat_map short numbers.now) }
+    ensures ok { OnOk result (out.new.items ≡ out.old.items ++ flat_map short numbers.now) }
+    ensures err { OnErr result (StaysInFront out.old.items out.new.items) }
 {
     for n in numbers {
         put_u32(out, *n)?;
@@ -52,7 +55,8 @@ fn put_numbers(out: &mut Vec<u8>, numbers: &[u32]) -> Result<(), OutOfMemory>
 
 // A block type (5.3.2).
 fn put_type(out: &mut Vec<u8>, ty: BlockType) -> Result<(), OutOfMemory>
-    ensures { OnOk result (out.new.items ≡ out.old.items ++ type_bytes ty) }
+    ensures ok { OnOk result (out.new.items ≡ out.old.items ++ type_bytes ty) }
+    ensures err { OnErr result (out.new.items ≡ out.old.items) }
 {
     match ty {
         BlockType::Empty => out.push(0x40)?,
@@ -64,7 +68,8 @@ fn put_type(out: &mut Vec<u8>, ty: BlockType) -> Result<(), OutOfMemory>
 
 // An opcode and a label or an index.
 fn put_index(out: &mut Vec<u8>, opcode: u8, x: u32) -> Result<(), OutOfMemory>
-    ensures { OnOk result (out.new.items ≡ out.old.items ++ (opcode ∷ short x)) }
+    ensures ok { OnOk result (out.new.items ≡ out.old.items ++ (opcode ∷ short x)) }
+    ensures err { OnErr result (StaysInFront out.old.items out.new.items) }
 {
     out.push(opcode)?;
     put_u32(out, x)
@@ -72,7 +77,8 @@ fn put_index(out: &mut Vec<u8>, opcode: u8, x: u32) -> Result<(), OutOfMemory>
 
 // An opcode and a block type.
 fn put_opening(out: &mut Vec<u8>, opcode: u8, ty: BlockType) -> Result<(), OutOfMemory>
-    ensures { OnOk result (out.new.items ≡ out.old.items ++ (opcode ∷ type_bytes ty)) }
+    ensures ok { OnOk result (out.new.items ≡ out.old.items ++ (opcode ∷ type_bytes ty)) }
+    ensures err { OnErr result (StaysInFront out.old.items out.new.items) }
 {
     out.push(opcode)?;
     put_type(out, ty)
@@ -81,7 +87,8 @@ fn put_opening(out: &mut Vec<u8>, opcode: u8, ty: BlockType) -> Result<(), OutOf
 // A token whose labels lie in the pool (5.4).
 fn put_token(out: &mut Vec<u8>, labels: &[u32], token: &Token) -> Result<(), OutOfMemory>
     requires { IsWithin (length labels.now) token.now }
-    ensures { OnOk result (out.new.items ≡ out.old.items ++ tok_bytes (told labels.now token.now)) }
+    ensures ok { OnOk result (out.new.items ≡ out.old.items ++ tok_bytes (told labels.now token.now)) }
+    ensures err { OnErr result (StaysInFront out.old.items out.new.items) }
 {
     match *token {
         Token::Unreachable => out.push(0x00)?,
@@ -143,7 +150,8 @@ fn put_token(out: &mut Vec<u8>, labels: &[u32], token: &Token) -> Result<(), Out
 // The tokens of an expression.
 fn put_tokens(out: &mut Vec<u8>, labels: &[u32], tokens: &[Token]) -> Result<(), OutOfMemory>
     requires { AllByRecursion (IsWithin (length labels.now)) tokens.now }
-    ensures { OnOk result (out.new.items ≡ out.old.items ++ flat_map tok_bytes (all_told labels.now tokens.now)) }
+    ensures ok { OnOk result (out.new.items ≡ out.old.items ++ flat_map tok_bytes (all_told labels.now tokens.now)) }
+    ensures err { OnErr result (StaysInFront out.old.items out.new.items) }
 {
     for token in tokens {
         put_token(out, labels, token)?;
@@ -151,9 +159,10 @@ fn put_tokens(out: &mut Vec<u8>, labels: &[u32], tokens: &[Token]) -> Result<(),
     Ok(())
 }
 
-/// Appends the written form of an expression, which spells it. Nothing is said of `out` after a refusal.
+/// Appends the written form of an expression, which spells it. After a refusal what stood in `out` stands at its front.
 pub fn append_expr(out: &mut Vec<u8>, expr: &Expr) -> Result<(), OutOfMemory>
     ensures ok { OnOk result (out.new.items ≡ out.old.items ++ written_expr expr.now) }
+    ensures err { OnErr result (StaysInFront out.old.items out.new.items) }
     ensures spells { (profile : Profile) → IsOf profile expr.now → SpellsExpr profile expr.now (written_expr expr.now) }
 {
     let (tokens, labels) = expr.tokens();
@@ -161,7 +170,8 @@ pub fn append_expr(out: &mut Vec<u8>, expr: &Expr) -> Result<(), OutOfMemory>
 }
 
 fn put_groups(out: &mut Vec<u8>, groups: &[LocalGroup]) -> Result<(), OutOfMemory>
-    ensures { OnOk result (out.new.items ≡ out.old.items ++ flat_map written_group groups.now) }
+    ensures ok { OnOk result (out.new.items ≡ out.old.items ++ flat_map written_group groups.now) }
+    ensures err { OnErr result (StaysInFront out.old.items out.new.items) }
 {
     for group in groups {
         put_u32(out, group.count)?;
@@ -170,9 +180,11 @@ fn put_groups(out: &mut Vec<u8>, groups: &[LocalGroup]) -> Result<(), OutOfMemor
     Ok(())
 }
 
-/// Appends the written form of a body, a code without its size, which spells it. Nothing is said of `out` after a refusal.
+/// Appends the written form of a body, a code without its size, which spells it. After a refusal what stood in `out` stands at its
+/// front.
 pub fn append_body(out: &mut Vec<u8>, body: &Body) -> Result<(), OutOfMemory>
     ensures ok { OnOk result (out.new.items ≡ out.old.items ++ written_body body.now) }
+    ensures err { OnErr result (StaysInFront out.old.items out.new.items) }
     ensures spells { OnOk result ((profile : Profile) → IsOf profile body.now.instrs → SpellsBody profile body.now (written_body body.now)) }
 {
     let groups = body.groups();
@@ -213,9 +225,9 @@ pub fn encode_body(alloc: Global, body: &Body) -> Result<Vec<u8>, EncodeFault>
     Ok(out)
 }
 
-/// The written form of a body that these bytes spell: a copy of them, where they are it.
+/// The written form of a body that these bytes spell, answered as by [`encode_body`]: a copy of the bytes, where they are it.
 ///
-/// It is answered as by [`encode_body`], and costs a look at each token where that writes each.
+/// A spelling is the written form exactly where it is as long. So this looks at each token where `encode_body` writes each.
 pub fn code_bytes(alloc: Global, body: &Body, spelled: &[u8]) -> Result<Vec<u8>, EncodeFault>
     requires { (profile : Profile) × SpellsBody profile body.now spelled.now }
     ensures { MatchResult result (λ v. (v.items ≡ written_body body.now) × Fits v.items) (Unwritten (written_body body.now)) }

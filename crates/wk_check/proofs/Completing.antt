@@ -17,8 +17,8 @@ use Rattle.wk_check.specs.declared.machine.Opener.{Opener}
 use Rattle.wk_check.specs.declared.machine.Opener.TheVariants as openers
 use Rattle.wk_check.specs.Answers.{Found}
 use Rattle.wk_check.specs.Own.{Own, pushed, fresh, ended}
-use Rattle.wk_check.specs.Effects.{results_of, effect_of, after_effect}
-use Rattle.wk_check.specs.Typing.{is_finish, else_count, count, entered, begun, label_types, typed, code_result}
+use Rattle.wk_check.specs.Effects.{results_of, effect_of}
+use Rattle.wk_check.specs.Typing.{after_effect, is_finish, else_count, count, entered, begun, label_types, typed, code_result}
 use Rattle.wk_check.specs.Levels.{Level, Blocks, blocks, with_own, with_top, opened, opener_of, labels_of, entering, halved, left, closed, step}
 use Rattle.wk_check.specs.Moves.{body_of}
 

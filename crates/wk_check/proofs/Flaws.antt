@@ -1,5 +1,5 @@
 -- The first flaw of a section, of sections that are put together, and of a module.
-use Rattle.std.proofs.Common.{◌≡◌, ℕ, suc, ◌+◌, ◌<◌, List, [], ◌∷◌, ◌++◌, length, Bool, true, false, nat_lt, get_or, take, drop, Option, Some, None, refl, ap, sym, ◌∙◌, add-zero, add-one, arith}
+use Rattle.std.proofs.Common.{◌≡◌, ℕ, suc, ◌+◌, ◌<◌, List, [], ◌∷◌, ◌++◌, length, map, Bool, true, false, nat_lt, get_or, take, drop, Option, Some, None, refl, ap, sym, ◌∙◌, add-zero, add-one, arith, length-append}
 use Rattle.std.proofs.Math.Nat.{zero-add}
 use Rattle.std.proofs.Math.Seq.{take-suc, drop-cons}
 use Rattle.std.specs.List.{AllByRecursion}
@@ -17,7 +17,8 @@ use Rattle.wk_check.specs.declared.fault.FaultKind.TheVariants.{TypeArity}
 use Rattle.wk_check.specs.Flaws.{fault_at, numbered, first_in, first_fault, verdict_by, AreFine, IsFirst, IsVerdictOn}
 use Rattle.wk_check.specs.Items.{earlier, unless, type_flaw}
 use Rattle.wk_check.specs.Spaces.{and_more, imported}
-use Rattle.wk_check.specs.Verdict.{type_flaws, code_flaws, data_flaws, code_fault, flaws_before_code, module_flaws, front_fault, verdict_from, verdict_around, module_verdict, IsVerdict, IsNotArity, extended}
+use Rattle.wk_check.specs.SpacesLaws.{imported_push}
+use Rattle.wk_check.specs.Verdict.{type_flaws, code_flaws, data_flaws, code_fault, flaws_before_code, module_flaws, front_fault, verdict_from, module_verdict, IsVerdict, IsNotArity, extended}
 
 -- ---- steps of loops
 
@@ -26,18 +27,17 @@ pub fine_step : {X : Type 0} (rule : ℕ → X → Option Flaw) (section item : 
     → first_in section item (numbered rule item (drop item xs)) ≡ first_in section (item + 1) (numbered rule (item + 1) (drop (item + 1) xs))
 fine_step rule section item xs x here is fine = rw (add-one, drop-cons xs item x, ← is, fine, add-one)
 
-longer : {X : Type 0} (o : Option X) (xs ys : List X) (n : ℕ) → length xs ≡ length ys + n → length (and_more o xs) ≡ length (and_more o ys) + n
-longer None xs ys n e = e
-longer (Some x) xs ys n e = omega arith
-
-imported_more : {X : Type 0} (pick : ImportDesc → Option X) (is : List Import) (i : Import) → length (imported pick (is ++ i ∷ [])) ≡ length (imported pick is) + length (and_more (pick i.desc) [])
-imported_more pick [] i = omega arith
-imported_more pick (j ∷ is) i = longer (pick j.desc) _ _ _ (imported_more pick is i)
+-- a rule that does not look at the index
+pub numbered_map : {X Y : Type 0} (f : Y → Option Flaw) (g : X → Y) (item : ℕ) (xs : List X) → numbered (λ at x. f (g x)) item xs ≡ map f (map g xs)
+numbered_map f g item [] = refl
+numbered_map f g item (x ∷ xs) = ap (λ ws. f (g x) ∷ ws) (numbered_map f g (item + 1) xs)
 
 -- one import more
 pub imported_step : {X : Type 0} (pick : ImportDesc → Option X) (is : List Import) (at : ℕ) (i : Import) → at < length is → i ≡ get_or is at i
     → length (imported pick (take (at + 1) is)) ≡ length (imported pick (take at is)) + length (and_more (pick i.desc) [])
-imported_step pick is at i here found = rw (add-one, take-suc is at i, ← found) (imported_more pick (take at is) i)
+imported_step pick is at i here found =
+    rw (add-one, take-suc is at i, ← found)
+    (ap (λ xs. length xs) (imported_push pick (take at is) i) ∙ length-append (imported pick (take at is)) (and_more (pick i.desc) []))
 
 -- ---- the first of several
 

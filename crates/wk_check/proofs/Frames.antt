@@ -1,5 +1,5 @@
 -- Only what a body's references find matters.
-use Rattle.std.proofs.Common.{◌≡◌, ℕ, suc, ◌+◌, Bool, true, false, List, [], ◌∷◌, ◌++◌, Result, Ok, Err, Option, refl, sym, ap, ◌∙◌, arith}
+use Rattle.std.proofs.Common.{◌≡◌, ℕ, suc, ◌+◌, Bool, true, false, List, [], ◌∷◌, ◌++◌, Result, Option, refl, sym, ap, ◌∙◌, arith}
 use Rattle.std.specs.List.{AllByRecursion}
 use Rattle.wk_bytes.specs.Leb.{◌>>=◌}
 use Rattle.wk_body.specs.declared.types.ValType.{ValType}
@@ -21,20 +21,10 @@ use Rattle.wk_check.specs.declared.fault.FaultKind.{FaultKind}
 use Rattle.wk_check.specs.Answers.{Found}
 use Rattle.wk_check.specs.Carried.{moved_ref, Agree, AgreeMoved}
 use Rattle.wk_check.specs.Own.{Own, TokenFault, at_token, popped, pushed, fresh, ended}
-use Rattle.wk_check.specs.Effects.{Takes, call_effect, indirect_effect, global_get, global_set, with_memory, access_effect, known, known_found, params_of, params_found, results_of, results_found, effect_of, after_effect, local_type}
-use Rattle.wk_check.specs.Typing.{is_finish, else_count, count, with_index, entered, begun, label_types, typed, code_result, verdict_of, body_verdict}
-
-pub split_left : {X : Type 0} (P : X → Type 0) (xs ys : List X) → AllByRecursion P (xs ++ ys) → AllByRecursion P xs
-split_left P [] ys h = tt
-split_left P (x ∷ xs) ys h = (h.0, split_left P xs ys h.1)
-
-pub split_right : {X : Type 0} (P : X → Type 0) (xs ys : List X) → AllByRecursion P (xs ++ ys) → AllByRecursion P ys
-split_right P [] ys h = h
-split_right P (x ∷ xs) ys h = split_right P xs ys h.1
-
-bind_ext : {A B E : Type 0} (m : Result A E) (f g : A → Result B E) → ((x : A) → f x ≡ g x) → (m >>= f) ≡ (m >>= g)
-bind_ext (Ok x) f g h = h x
-bind_ext (Err e) f g h = refl
+use Rattle.wk_check.specs.Effects.{Takes, call_effect, indirect_effect, global_get, global_set, with_memory, access_effect, known, known_found, params_of, params_found, results_of, results_found, effect_of, local_type}
+use Rattle.wk_check.specs.Typing.{after_effect, is_finish, else_count, count, with_index, entered, begun, label_types, typed, code_result, verdict_of, body_verdict}
+use Rattle.wk_check.proofs.All.{front, back}
+use Rattle.wk_check.proofs.Binds.{bind_ext}
 
 -- ---- the typing of a block from its parts
 
@@ -133,26 +123,26 @@ module _ (f : Plain → Plain) (g : Ref → Ref) (A1 A2 : Ref → Found) (goes :
     pub same_typed : (t : Instrs) → AllFind (refs_of t) → Same t
     same_typed Finish h labels k s = refl
     same_typed (One p rest) h labels k s =
-        let here = split_left Finds (plain_refs p) (refs_of rest) h in
-        let behind = split_right Finds (plain_refs p) (refs_of rest) h in
+        let here = front Finds (plain_refs p) (refs_of rest) h in
+        let behind = back Finds (plain_refs p) (refs_of rest) h in
         ap (λ m. at_token k (m >>= λ e. after_effect e s) >>= λ s'. typed A2 locals final labels (k + 1) (map_plain f rest) s') (goes.effects locals final labels p here)
         ∙ bind_ext (at_token k (effect_of A1 locals final labels p >>= λ e. after_effect e s)) _ _ (λ s'. same_typed rest behind labels (k + 1) s')
     same_typed (Block kind bt inside rest) h labels k s =
-        let here = split_left Finds (type_refs bt) (refs_of inside ++ refs_of rest) h in
-        let other = split_right Finds (type_refs bt) (refs_of inside ++ refs_of rest) h in
-        let within = split_left Finds (refs_of inside) (refs_of rest) other in
-        let behind = split_right Finds (refs_of inside) (refs_of rest) other in
+        let here = front Finds (type_refs bt) (refs_of inside ++ refs_of rest) h in
+        let other = back Finds (type_refs bt) (refs_of inside ++ refs_of rest) h in
+        let within = front Finds (refs_of inside) (refs_of rest) other in
+        let behind = back Finds (refs_of inside) (refs_of rest) other in
         let n : k + 1 + count (map_plain f inside) ≡ k + 1 + count inside = ap (λ n. k + 1 + n) (count_mapped f inside) in
         nest_ext k _ _ _ _ _ _ _ _ _ _ n (same_entered false bt s here) (same_results bt here)
         (same_inside bt inside here (same_typed inside within) _ _ labels (k + 1) (k + 1) (same_label kind bt here) refl)
         (λ s'. same_typed rest behind labels (k + 1 + count (map_plain f inside) + 1) s' ∙ ap (λ m. typed A1 locals final labels (m + 1) rest s') n)
     same_typed (If bt first second rest) h labels k s =
-        let here = split_left Finds (type_refs bt) (refs_of first ++ (refs_of second ++ refs_of rest)) h in
-        let other = split_right Finds (type_refs bt) (refs_of first ++ (refs_of second ++ refs_of rest)) h in
-        let within = split_left Finds (refs_of first) (refs_of second ++ refs_of rest) other in
-        let more = split_right Finds (refs_of first) (refs_of second ++ refs_of rest) other in
-        let within' = split_left Finds (refs_of second) (refs_of rest) more in
-        let behind = split_right Finds (refs_of second) (refs_of rest) more in
+        let here = front Finds (type_refs bt) (refs_of first ++ (refs_of second ++ refs_of rest)) h in
+        let other = back Finds (type_refs bt) (refs_of first ++ (refs_of second ++ refs_of rest)) h in
+        let within = front Finds (refs_of first) (refs_of second ++ refs_of rest) other in
+        let more = back Finds (refs_of first) (refs_of second ++ refs_of rest) other in
+        let within' = front Finds (refs_of second) (refs_of rest) more in
+        let behind = back Finds (refs_of second) (refs_of rest) more in
         let one = map_plain f first in
         let two = map_plain f second in
         let na : k + 1 + count one ≡ k + 1 + count first = ap (λ n. k + 1 + n) (count_mapped f first) in

@@ -8,18 +8,10 @@ use Rattle.wk_module.specs.declared.types.ImportDesc.TheVariants as desc
 use Rattle.wk_module.specs.declared.types.Limits.{Limits}
 use Rattle.wk_check.specs.Answers.{IsPresent}
 use Rattle.wk_check.specs.Spaces.{and_more, imported, func_in, table_in, memory_in, global_in, any_found}
+use Rattle.wk_check.specs.SpacesLaws.{imported_push}
 use Rattle.wk_check.specs.Whole.{AreImported}
 
 -- ---- one import more
-
-and_more-append : {X : Type 0} (o : Option X) (xs ys : List X) → and_more o (xs ++ ys) ≡ and_more o xs ++ ys
-and_more-append None xs ys = refl
-and_more-append (Some x) xs ys = refl
-
-imported_push : {X : Type 0} (pick : ImportDesc → Option X) (is : List Import) (i : Import) → imported pick (is ++ i ∷ []) ≡ imported pick is ++ and_more (pick i.desc) []
-imported_push pick [] i = refl
-imported_push pick (x ∷ xs) i =
-    ap (and_more (pick x.desc)) (imported_push pick xs i) ∙ and_more-append (pick x.desc) (imported pick xs) (and_more (pick i.desc) [])
 
 imported_more : {X : Type 0} (pick : ImportDesc → Option X) (is : List Import) (n : ℕ) (i : Import) (d : ImportDesc) → n < length is → i ≡ get_or is n i → i.desc ≡ d
     → imported pick (take (n + 1) is) ≡ imported pick (take n is) ++ and_more (pick d) []

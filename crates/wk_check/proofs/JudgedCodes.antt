@@ -29,11 +29,10 @@ use Rattle.wk_check.specs.declared.fault.Flaw.{Flaw}
 use Rattle.wk_check.specs.declared.fault.Fault.{Fault}
 use Rattle.wk_check.specs.declared.fault.Verdict.{Verdict}
 use Rattle.wk_check.specs.Flaws.{verdict_by}
-use Rattle.wk_check.specs.Items.{earlier}
-use Rattle.wk_check.specs.Spelled.{judged, IsVerdictOf, func_flaw, first_of, fault_read, codes_judged}
-use Rattle.wk_check.specs.Verdict.{front_fault, verdict_from, verdict_around, module_verdict, IsVerdict}
-use Rattle.wk_check.specs.Whole.{AreNumbered}
-use Rattle.wk_check.specs.WholeLaws.{are_numbered}
+use Rattle.wk_check.specs.Items.{earlier, body_flaw}
+use Rattle.wk_check.specs.Spaces.{answer_in, spaces_of}
+use Rattle.wk_check.specs.Spelled.{judged, IsVerdictOf, first_of, fault_read, codes_judged}
+use Rattle.wk_check.specs.Verdict.{func_verdict, front_fault, verdict_from, verdict_around, module_verdict, IsVerdict}
 use Rattle.wk_check.proofs.Flaws.{earlier_none, earlier_assoc, module_verdict_told}
 
 -- ---- one body after the other
@@ -54,13 +53,13 @@ all_judged profile l types codes = codes >>= λ bodies. answered (earlier (front
 abbrev put_front : BodyOf → List BodyOf × List ℕ → Result (List BodyOf × List ℕ) ReadFault
 put_front body xs = Ok (body ∷ xs.0, xs.1)
 
-by_flaw : (l : SectionLists) (item : ℕ) (f : Func) (funcs : List Func) (w : Option Flaw) → func_flaw l f ≡ w → first_of l item (f ∷ funcs) ≡ earlier (first_of l item (f ∷ [])) (first_of l (item + 1) funcs)
+by_flaw : (l : SectionLists) (item : ℕ) (f : Func) (funcs : List Func) (w : Option Flaw) → body_flaw (func_verdict (answer_in (spaces_of l)) f) ≡ w → first_of l item (f ∷ funcs) ≡ earlier (first_of l item (f ∷ [])) (first_of l (item + 1) funcs)
 by_flaw l item f funcs None is = rw is refl
 by_flaw l item f funcs (Some w) is = rw is refl
 
 one_more : (l : SectionLists) (before : Option Fault) (item : ℕ) (f : Func) (funcs : List Func) → earlier before (first_of l item (f ∷ funcs)) ≡ earlier (earlier before (first_of l item (f ∷ []))) (first_of l (item + 1) funcs)
 one_more l (Some fault) item f funcs = refl
-one_more l None item f funcs = by_flaw l item f funcs (func_flaw l f) refl
+one_more l None item f funcs = by_flaw l item f funcs (body_flaw (func_verdict (answer_in (spaces_of l)) f)) refl
 
 regroup : (l : SectionLists) (t : ℕ) (types : List ℕ) (before : Option Fault) (item : ℕ) (body : BodyOf) (r : Result (List BodyOf × List ℕ) ReadFault)
     → ((r >>= put_front body) >>= λ bodies. answered (earlier before (first_of l item (zipped (t ∷ types) bodies.0))) bodies.1)
@@ -260,13 +259,13 @@ fails_by (Err d) e h = cc
 abbrev read_lists : Profile → List ℕ → Result SectionLists ReadFault
 read_lists profile b = lists_read profile no_lists (sections_of b)
 
--- the verdict, and what judging asks of the lists
+-- the verdict, by the lists that are read
 abbrev pub IsJudged : Profile → List ℕ → SectionLists → Option Fault → Type 0
-IsJudged profile b l code = (judged (module_at profile b) ≡ Ok (verdict_around profile (record l { codes = [] }) code)) × AreNumbered (record l { codes = [] })
+IsJudged profile b l code = judged (module_at profile b) ≡ Ok (verdict_around profile (record l { codes = [] }) code)
 
 -- the same, where this is the first fault up to the code section
 abbrev pub IsJudgedFrom : Profile → List ℕ → SectionLists → Option Fault → Type 0
-IsJudgedFrom profile b l before = (judged (module_at profile b) ≡ Ok (verdict_from (record l { codes = [] }) before)) × AreNumbered (record l { codes = [] })
+IsJudgedFrom profile b l before = judged (module_at profile b) ≡ Ok (verdict_from (record l { codes = [] }) before)
 
 joined_same : (end : ℕ) (l : SectionLists) → length l.funcs ≡ length l.codes → joined_lists end l ≡ Ok l
 joined_same end l same = rw (eq-eqb (length l.funcs) (length l.codes) same) refl
@@ -298,12 +297,10 @@ lacking end l [] is none some = absurd (some refl)
 lacking end l (t ∷ types) is none some = rw (is, none, ne_eqb (suc (length types)) 0 (omega arith)) refl
 
 module _ (profile : Profile) (b : List ℕ) (is : IsReading profile b (module_at profile b)) (lists : AreListsOfModule profile b) where
-  judged_by : (l : SectionLists) → (read_lists profile b >>= joined_lists (length b)) ≡ Ok l → (judged (module_at profile b) ≡ Ok (lists_verdict profile l)) × AreNumbered (record l { codes = [] })
+  judged_by : (l : SectionLists) → (read_lists profile b >>= joined_lists (length b)) ≡ Ok l → judged (module_at profile b) ≡ Ok (lists_verdict profile l)
   judged_by l read =
-      let found = found_by profile b (module_at profile b) l is (lists ∙ read) in (
-        ap judged found.read ∙ ap (λ (v : Verdict). done v) (verdict_by_lists profile found.module_is found.is.0 ∙ ap (lists_verdict profile) found.lists_are),
-        subst (λ (x : SectionLists). AreNumbered (record x { codes = [] })) found.lists_are (are_numbered found.module_is found.is.3),
-      )
+      let found = found_by profile b (module_at profile b) l is (lists ∙ read) in
+      ap judged found.read ∙ ap (λ (v : Verdict). done v) (verdict_by_lists profile found.module_is found.is.0 ∙ ap (lists_verdict profile) found.lists_are)
 
   pub lists_fail : (e : ReadFault) → read_lists profile b ≡ Err e → judged (module_at profile b) ≡ Err e
   lists_fail e bad = fails_by (module_at profile b) e (lists ∙ rw bad refl)
@@ -313,8 +310,7 @@ module _ (profile : Profile) (b : List ℕ) (is : IsReading profile b (module_at
   pub judged_without_code : (l : SectionLists) → l.codes ≡ [] → l.funcs ≡ [] → read_lists profile b ≡ Ok l → IsJudged profile b l None
   judged_without_code l none no_funcs read =
       let joined : joined_lists (length b) l ≡ Ok l = rw (none, no_funcs) refl in
-      let judged_is = judged_by l (rw read joined) in
-      (judged_is.0 ∙ ap (λ (funcs : List ℕ). done (verdict_around profile l (first_of l 0 (zipped funcs l.codes)))) no_funcs, judged_is.1)
+      judged_by l (rw read joined) ∙ ap (λ (funcs : List ℕ). done (verdict_around profile l (first_of l 0 (zipped funcs l.codes)))) no_funcs
 
   pub lacks_code : (l : SectionLists) → l.codes ≡ [] → l.funcs ≢ [] → read_lists profile b ≡ Ok l → judged (module_at profile b) ≡ Err (record { kind = FuncCodeCount; at = length b })
   lacks_code l none some read = fails_by (module_at profile b) (record { kind = FuncCodeCount; at = length b }) (lists ∙ rw read (lacking (length b) l l.funcs refl none some))
@@ -360,8 +356,7 @@ module _ (profile : Profile) (b : List ℕ) (is : IsReading profile b (module_at
         let many : length a.0 ≡ length l.funcs = codes_many profile (length l.funcs) (section_end s) s.contents a.0 a.1 in
         let same : length q.funcs ≡ length a.0 = rw front.1 (sym many) in
         let joined : (read_lists profile b >>= joined_lists (length b)) ≡ Ok (with_codes a.0 q) = rw (read_behind a.0 a.1, ends) (joined_same (length b) (with_codes a.0 q) same) in
-        let judged_is = judged_by (with_codes a.0 q) joined in
-        (judged_is.0 ∙ ap (λ (v : Verdict). done v) (same_verdict front.0 q a.0 code front.1 a.2), judged_is.1)
+        judged_by (with_codes a.0 q) joined ∙ ap (λ (v : Verdict). done v) (same_verdict front.0 q a.0 code front.1 a.2)
 
 -- what sections are read of is no longer than the limit
 pub lists_few : (profile : Profile) (l q : SectionLists) (b : List ℕ) → lists_read profile l (sections_of b) ≡ Ok q → length b ≤ limit

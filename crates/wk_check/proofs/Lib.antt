@@ -1,9 +1,13 @@
 pub mod Alignment
+pub mod All
 pub mod Binds
 pub mod Bodies
 pub mod Completing
+pub mod ConstantRules
 pub mod Constants
 pub mod Cuts
+pub mod DerivedParts
+pub mod ExportNames
 pub mod FirstLocals
 pub mod Fits
 pub mod Flaws
@@ -12,8 +16,6 @@ pub mod Imported
 pub mod JudgedCodes
 pub mod Labels
 pub mod LocalEnds
-pub mod Names
-pub mod Parts
 pub mod Popping
 pub mod Runs
 pub mod Sound
@@ -21,5 +23,3 @@ pub mod Stacked
 pub mod Streamed
 pub mod Valid
 pub mod ValidFinds
-pub mod Growing
-pub mod StillValid

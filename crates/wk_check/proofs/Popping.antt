@@ -8,7 +8,8 @@ use Rattle.wk_check.proofs.Binds.{bind_assoc}
 use Rattle.wk_check.specs.Slots.{Slot, Known, same, selected}
 use Rattle.wk_check.specs.Own.{Own, popped, popped_any, popped_one, pushed, pushed_one, stopped, is_empty}
 use Rattle.wk_body.specs.declared.types.ValType.TheVariants.{I32}
-use Rattle.wk_check.specs.Effects.{same_types, after_effect, Takes, Selects}
+use Rattle.wk_check.specs.Effects.{same_types, Takes, Selects}
+use Rattle.wk_check.specs.Typing.{after_effect}
 use Rattle.wk_check.specs.Levels.{Blocks, with_top}
 use Rattle.wk_check.specs.Moves.{popped_on, popped_by, pushed_on, on_top, own_is_spent, Steps}
 use Rattle.std.proofs.lemmas.List.{take_more}

@@ -11,8 +11,8 @@ use Rattle.wk_check.specs.declared.machine.Opener.{Opener}
 use Rattle.wk_check.specs.declared.machine.Opener.TheVariants as openers
 use Rattle.wk_check.specs.Answers.{Found}
 use Rattle.wk_check.specs.Own.{Own, at_token, pushed, ended}
-use Rattle.wk_check.specs.Effects.{results_of, effect_of, after_effect}
-use Rattle.wk_check.specs.Typing.{is_finish, else_count, count, entered, begun, label_types, typed}
+use Rattle.wk_check.specs.Effects.{results_of, effect_of}
+use Rattle.wk_check.specs.Typing.{after_effect, is_finish, else_count, count, entered, begun, label_types, typed}
 use Rattle.wk_check.specs.Levels.{Level, Blocks, blocks, with_own, opened, opener_of, level_label, labels_of, closed, left, run}
 use Rattle.wk_check.proofs.Binds.{bind_ext, at_bind, at_bind2}
 

@@ -20,8 +20,8 @@ use Rattle.wk_check.specs.declared.fault.BodyVerdict.TheVariants.{Valid}
 use Rattle.wk_check.specs.Answers.{Found}
 use Rattle.wk_check.specs.Slots.{Slot, AnyType, Known, fits, selected}
 use Rattle.wk_check.specs.Own.{Own, TokenFault, at_token, popped, popped_any, checked, popped_one, pushed, pushed_one, fresh, stopped, ended}
-use Rattle.wk_check.specs.Effects.{Effect, Takes, Stops, Drops, Selects, after_effect, effect_of, known, params_of, results_of, local_type}
-use Rattle.wk_check.specs.Typing.{is_finish, else_count, count, with_index, entered, begun, label_types, typed, code_result, body_result, verdict_of, body_verdict}
+use Rattle.wk_check.specs.Effects.{Effect, Takes, Stops, Drops, Selects, effect_of, known, params_of, results_of, local_type}
+use Rattle.wk_check.specs.Typing.{after_effect, is_finish, else_count, count, with_index, entered, begun, label_types, typed, code_result, body_result, verdict_of, body_verdict}
 use Rattle.wk_check.specs.Derives.{HasType, label_of, Derives, IsDerived}
 use Rattle.wk_check.proofs.Fits.{Fit, at_good, same_good, same_is, same_refl, checked_good, any_back, pops_back, any_on, pops_on}
 use Rattle.wk_check.proofs.Stacked.{Suits, stacked-reverse, turned, written, before_popped, before_pushed, some_suits, before_end, at_begin, after_popped, after_pushed, all_suit, may_end}
@@ -259,30 +259,34 @@ module _ (A : Ref → Found) (locals : ℕ → Option ValType) (final : List Val
         f.2,
       )
 
--- ---- bodies
+-- ---- code and bodies
+
+pub code_derived : (A : Ref → Found) (locals : ℕ → Option ValType) (rs : List ValType) (is : Instrs) → code_result A locals rs is ≡ Ok tt → Derives A locals rs (rs ∷ []) is [] rs
+code_derived A locals rs is e =
+    let d = bind_ok (typed A locals rs (rs ∷ []) 0 is fresh) _ tt e in
+    let f = sound A locals rs is (rs ∷ []) 0 fresh d.0 d.1 rs (before_end rs d.0 (at_good (count is) _ tt d.2)) in
+    subst (λ p. Derives A locals rs (rs ∷ []) is p rs) (at_begin [] f.0 f.1) f.2
+
+pub code_typed : (A : Ref → Found) (locals : ℕ → Option ValType) (rs : List ValType) (is : Instrs) → Derives A locals rs (rs ∷ []) is [] rs → code_result A locals rs is ≡ Ok tt
+code_typed A locals rs is h =
+    let c = complete A locals rs is (rs ∷ []) 0 fresh [] rs h tt in
+    ap (λ m. m >>= λ s. at_token (count is) (ended rs s)) c.1 ∙ ap (at_token (count is)) (may_end rs c.0 c.2)
 
 body_derived : (A : Ref → Found) (t : ℕ) (b : BodyOf) → body_result A t b ≡ Ok tt → IsDerived A t b
 body_derived A t b e =
-    let rs = results_of A (Index t) in
-    let locals = local_type (params_of A (Index t)) b.groups in
     let c = bind_ok (at_token 0 (known A (Index t))) _ tt e in
-    let d = bind_ok (typed A locals rs (rs ∷ []) 0 b.instrs fresh) _ tt c.2 in
-    let f = sound A locals rs b.instrs (rs ∷ []) 0 fresh d.0 d.1 rs (before_end rs d.0 (at_good (count b.instrs) _ tt d.2)) in
     record {
       known_type = at_good 0 (known A (Index t)) tt c.1;
-      derives = subst (λ p. Derives A locals rs (rs ∷ []) b.instrs p rs) (at_begin [] f.0 f.1) f.2;
+      derives = code_derived A (local_type (params_of A (Index t)) b.groups) (results_of A (Index t)) b.instrs c.2;
     }
 
 body_typed : (A : Ref → Found) (t : ℕ) (b : BodyOf) → IsDerived A t b → body_result A t b ≡ Ok tt
 body_typed A t b h =
     let rs = results_of A (Index t) in
     let locals = local_type (params_of A (Index t)) b.groups in
-    let c = complete A locals rs b.instrs (rs ∷ []) 0 fresh [] rs h.derives tt in
-    ap (λ m. at_token 0 m >>= λ u. code_result A locals rs b.instrs) h.known_type
-    ∙ ap (λ m. m >>= λ s. at_token (count b.instrs) (ended rs s)) c.1
-    ∙ ap (at_token (count b.instrs)) (may_end rs c.0 c.2)
+    ap (λ m. at_token 0 m >>= λ u. code_result A locals rs b.instrs) h.known_type ∙ code_typed A locals rs b.instrs h.derives
 
-valid_good : (r : Result (Unit {0}) TokenFault) → Valid ≡ verdict_of r → r ≡ Ok tt
+pub valid_good : (r : Result (Unit {0}) TokenFault) → Valid ≡ verdict_of r → r ≡ Ok tt
 valid_good (Ok u) e = refl
 valid_good (Err f) e = cc
 

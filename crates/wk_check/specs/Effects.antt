@@ -18,8 +18,7 @@ use Rattle.wk_body.specs.Numeric.{numeric_type}
 use Rattle.wk_check.specs.declared.fault.FaultKind.{FaultKind}
 use Rattle.wk_check.specs.declared.fault.FaultKind.TheVariants.{UnknownType, UnknownFunc, UnknownLocal, UnknownLabel, LabelTypes, UnknownTable, UnknownMemory, UnknownGlobal, GlobalImmutable, Alignment}
 use Rattle.wk_check.specs.Answers.{Found, TypeIs, FuncIs, FuncOfNoType, GlobalIs, IsPresent}
-use Rattle.wk_check.specs.Slots.{selected, same}
-use Rattle.wk_check.specs.Own.{Own, popped, popped_any, popped_one, pushed, pushed_one, stopped}
+use Rattle.wk_check.specs.Slots.{same}
 
 -- what an instruction takes from its block's own stack and leaves there
 pub data Effect : Type 0 where
@@ -165,14 +164,6 @@ effect_of A locals final labels (plain.I64Const z) = Ok (Takes [] (I64 ∷ []))
 effect_of A locals final labels (plain.F32Const word) = Ok (Takes [] (F32 ∷ []))
 effect_of A locals final labels (plain.F64Const word) = Ok (Takes [] (F64 ∷ []))
 effect_of A locals final labels (plain.Numeric op) = Ok (numeric_effect (numeric_type op))
-
--- the own stack after an effect
-abbrev pub after_effect : Effect → Own → Result Own FaultKind
-after_effect (Takes ts us) s = popped ts s >>= λ s'. Ok (pushed us s')
-after_effect (Stops ts) s = popped ts s >>= λ s'. Ok stopped
-after_effect Drops s = popped_any s >>= λ p. Ok (p.1)
-after_effect Selects s =
-    popped (I32 ∷ []) s >>= λ s1. (popped_any s1 >>= λ p. (popped_one (p.0) (p.1) >>= λ q. Ok (pushed_one (selected (p.0) (q.0)) (q.1))))
 
 -- ---- block types (2.3.2; those of an index belong to the other profile): parameters and results, none where the type is unknown
 

@@ -12,8 +12,8 @@ use Rattle.wk_check.specs.declared.machine.Opener.{Opener}
 use Rattle.wk_check.specs.declared.machine.Opener.TheVariants as openers
 use Rattle.wk_check.specs.Answers.{Found}
 use Rattle.wk_check.specs.Own.{Own, TokenFault, at_token, pushed, ended}
-use Rattle.wk_check.specs.Effects.{params_of, results_of, effect_of, after_effect}
-use Rattle.wk_check.specs.Typing.{entered, begun}
+use Rattle.wk_check.specs.Effects.{params_of, results_of, effect_of}
+use Rattle.wk_check.specs.Typing.{after_effect, entered, begun}
 
 -- an open block
 pub record Level : Type 0 where

@@ -1,5 +1,6 @@
 pub mod Answers
 pub mod Carried
+pub mod ConstantRules
 pub mod Constants
 pub mod Cuts
 pub mod Derives
@@ -14,6 +15,7 @@ pub mod Moves
 pub mod Own
 pub mod Slots
 pub mod Spaces
+pub mod SpacesLaws
 pub mod Spelled
 pub mod Streaming
 pub mod Typing
@@ -21,4 +23,3 @@ pub mod Valid
 pub mod Verdict
 pub mod VerdictText
 pub mod Whole
-pub mod WholeLaws

@@ -10,7 +10,8 @@ use Rattle.wk_check.specs.declared.machine.Opener.{Opener}
 use Rattle.wk_check.specs.declared.machine.Opener.TheVariants as openers
 use Rattle.wk_check.specs.Slots.{Slot}
 use Rattle.wk_check.specs.Own.{Own, TokenFault, ended, pushed_one, stopped, fresh, is_empty}
-use Rattle.wk_check.specs.Effects.{Effect, after_effect}
+use Rattle.wk_check.specs.Effects.{Effect}
+use Rattle.wk_check.specs.Typing.{after_effect}
 use Rattle.wk_check.specs.Levels.{Level, Blocks, blocks, with_top}
 
 abbrev pub pushed_on : Slot → Blocks → Blocks

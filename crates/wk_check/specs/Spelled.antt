@@ -11,14 +11,11 @@ use Rattle.wk_module.specs.declared.types.Parts.{Parts}
 use Rattle.wk_module.specs.Formats.{all_at}
 use Rattle.wk_module.specs.Reading.{section_end, zipped}
 use Rattle.wk_module.specs.Sections.{SectionLists, codes_at}
-use Rattle.wk_check.specs.declared.fault.Flaw.{Flaw}
 use Rattle.wk_check.specs.declared.fault.Fault.{Fault}
 use Rattle.wk_check.specs.declared.fault.Verdict.{Verdict}
-use Rattle.wk_check.specs.Flaws.{numbered, first_in}
-use Rattle.wk_check.specs.Items.{earlier, body_flaw}
-use Rattle.wk_check.specs.Spaces.{answer_in, spaces_of}
-use Rattle.wk_check.specs.Typing.{body_verdict}
-use Rattle.wk_check.specs.Verdict.{front_fault, module_verdict, IsVerdict}
+use Rattle.wk_check.specs.Flaws.{first_in}
+use Rattle.wk_check.specs.Items.{earlier}
+use Rattle.wk_check.specs.Verdict.{code_flaws, front_fault, module_verdict, IsVerdict}
 
 -- the verdict of what reading gives, or its fault
 abbrev pub judged : Result Parts ReadFault → Result Verdict ReadFault
@@ -30,13 +27,9 @@ abbrev pub IsVerdictOf : Result Parts ReadFault → Verdict → Type 0
 IsVerdictOf (Ok m) verdict = IsVerdict m verdict
 IsVerdictOf (Err e) verdict = ⊥
 
--- what is wrong with a function of a module with these lists
-abbrev pub func_flaw : SectionLists → Func → Option Flaw
-func_flaw l f = body_flaw (body_verdict (answer_in (spaces_of l)) f.ty f.body)
-
 -- the first fault of the functions of these types and bodies, from an index on
 abbrev pub first_of : SectionLists → ℕ → List Func → Option Fault
-first_of l item funcs = first_in 10 item (numbered (λ at f. func_flaw l f) item funcs)
+first_of l item funcs = first_in 10 item (code_flaws l funcs)
 
 -- The first fault of the functions up to one of this type whose code is all of the bytes, where that of those before it is given;
 -- or the fault of reading it.

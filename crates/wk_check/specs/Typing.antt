@@ -15,8 +15,19 @@ use Rattle.wk_check.specs.declared.fault.FaultKind.{FaultKind}
 use Rattle.wk_check.specs.declared.fault.BodyVerdict.{BodyVerdict}
 use Rattle.wk_check.specs.declared.fault.BodyVerdict.TheVariants.{Valid, Invalid}
 use Rattle.wk_check.specs.Answers.{Found}
-use Rattle.wk_check.specs.Own.{Own, TokenFault, at_token, popped, pushed, fresh, ended}
-use Rattle.wk_check.specs.Effects.{known, params_of, results_of, effect_of, after_effect, local_type}
+use Rattle.wk_check.specs.Slots.{selected}
+use Rattle.wk_check.specs.Own.{Own, TokenFault, at_token, popped, popped_any, popped_one, pushed, pushed_one, fresh, stopped, ended}
+use Rattle.wk_check.specs.Effects.{Effect, Takes, Stops, Drops, Selects, known, params_of, results_of, effect_of, local_type}
+
+-- ---- one instruction that holds no others
+
+-- the own stack after an effect
+abbrev pub after_effect : Effect → Own → Result Own FaultKind
+after_effect (Takes ts us) s = popped ts s >>= λ s'. Ok (pushed us s')
+after_effect (Stops ts) s = popped ts s >>= λ s'. Ok stopped
+after_effect Drops s = popped_any s >>= λ p. Ok (p.1)
+after_effect Selects s =
+    popped (I32 ∷ []) s >>= λ s1. (popped_any s1 >>= λ p. (popped_one (p.0) (p.1) >>= λ q. Ok (pushed_one (selected (p.0) (q.0)) (q.1))))
 
 -- ---- numbers of tokens: instructions with `else` and `end`, in the order in which they are written
 

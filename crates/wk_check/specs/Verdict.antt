@@ -1,5 +1,6 @@
 -- The verdict of a module (3.4.10): the first fault by section, item, what is looked at, and number.
-use Rattle.std.specs.Prelude.{◌≢◌, ◌+◌, Option, List, [], ◌∷◌, ◌++◌, length, take}
+use Rattle.std.specs.Prelude.{◌≢◌, ◌+◌, Option, List, [], ◌∷◌, ◌++◌, length, map, take}
+use Rattle.wk_body.specs.declared.references.Ref.{Ref}
 use Rattle.wk_body.specs.declared.types.Profile.{Profile}
 use Rattle.wk_body.specs.declared.types.Profile.TheVariants.{Extended}
 use Rattle.wk_module.specs.declared.types.Func.{Func}
@@ -11,6 +12,8 @@ use Rattle.wk_check.specs.declared.fault.Flaw.{Flaw}
 use Rattle.wk_check.specs.declared.fault.Fault.{Fault}
 use Rattle.wk_check.specs.declared.fault.Verdict.{Verdict}
 use Rattle.wk_check.specs.declared.fault.Verdict.TheVariants.{Valid, Invalid}
+use Rattle.wk_check.specs.declared.fault.BodyVerdict.{BodyVerdict}
+use Rattle.wk_check.specs.Answers.{Found}
 use Rattle.wk_check.specs.Typing.{body_verdict}
 use Rattle.wk_check.specs.Spaces.{answer_in, spaces_of, initial_spaces, imported, table_in, memory_in}
 use Rattle.wk_check.specs.Items.{earlier, within, type_flaw, import_flaw, table_flaw, memory_flaw, global_flaw, export_flaw, start_flaws, elem_flaw, data_flaw, body_flaw}
@@ -43,9 +46,13 @@ export_flaws l = numbered (λ item e. export_flaw (spaces_of l) (take item l.exp
 abbrev pub elem_flaws : SectionLists → List (Option Flaw)
 elem_flaws l = numbered (λ item e. elem_flaw (spaces_of l) e) 0 l.elems
 
--- the functions that the module defines, each under its type
+-- the verdict of a function's body under the function's type, where references find A
+abbrev pub func_verdict : (Ref → Found) → Func → BodyVerdict
+func_verdict A f = body_verdict A f.ty f.body
+
+-- the functions that the module defines
 abbrev pub code_flaws : SectionLists → List Func → List (Option Flaw)
-code_flaws l funcs = numbered (λ item f. body_flaw (body_verdict (answer_in (spaces_of l)) f.ty f.body)) 0 funcs
+code_flaws l funcs = map body_flaw (map (func_verdict (answer_in (spaces_of l))) funcs)
 
 abbrev pub data_flaws : SectionLists → List (Option Flaw)
 data_flaws l = numbered (λ item d. data_flaw (spaces_of l) d) 0 l.datas

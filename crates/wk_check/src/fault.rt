@@ -2,6 +2,7 @@
 
 ghost use Rattle.std.specs.Prelude.{◌≡◌, None};
 ghost use Rattle.wk_check.specs.Flaws.{fault_at};
+ghost use Rattle.wk_check.specs.Items.{body_flaw};
 
 /// What is wrong with a module, V1 to V21 in this order.
 #[derive(Clone, Copy, Debug, PartialEq, Eq)]
@@ -46,7 +47,7 @@ pub enum FaultKind {
     ConstantExpected,
     /// V20: two exports have one name.
     DuplicateExport,
-    /// V21: the start function takes or gives values.
+    /// V21: the start function takes or gives values, or has no known type.
     StartType,
 }
 
@@ -91,6 +92,21 @@ pub enum BodyVerdict {
         /// The instruction, counted from 0 in written order with `else` and `end`.
         token: u32,
     },
+}
+
+impl BodyVerdict {
+    /// What is wrong with the body, if anything is.
+    pub(crate) fn flaw(self) -> Option<Flaw>
+        ensures { result ≡ body_flaw self }
+    {
+        match self {
+            BodyVerdict::Valid => None,
+            BodyVerdict::Invalid { kind, token } => Some(Flaw {
+                kind,
+                token: Some(token),
+            }),
+        }
+    }
 }
 
 /// What is wrong with an item of a section.

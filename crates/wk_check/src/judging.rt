@@ -1,8 +1,8 @@
 //! Judging a module (3.4.10).
 
-ghost use Rattle.std.specs.Prelude.{◌≡◌, ◌↔◌, ◌<◌, ◌^◌, [], ◌∷◌, length, map, true, IfOk};
+ghost use Rattle.std.specs.Prelude.{◌≡◌, ◌↔◌, ◌<◌, ◌^◌, [], ◌∷◌, length, map, IfOk};
 ghost use Rattle.wk_body.specs.declared.types.Profile.{Profile};
-ghost use Rattle.wk_module.specs.Listed.{listed};
+ghost use Rattle.wk_module.specs.Listed.{listed, AreNumbered};
 ghost use Rattle.wk_module.specs.Shape.{lists_of};
 ghost use Rattle.wk_check.specs.declared.fault.Verdict.{Verdict};
 ghost use Rattle.wk_check.specs.Flaws.{first_in, first_fault};
@@ -10,7 +10,6 @@ ghost use Rattle.wk_check.specs.Items.{earlier, start_flaws};
 ghost use Rattle.wk_check.specs.Spaces.{spaces_of};
 ghost use Rattle.wk_check.specs.Valid.{IsValidModule};
 ghost use Rattle.wk_check.specs.Verdict.{type_flaws, import_flaws, func_flaws, table_flaws, memory_flaws, global_flaws, export_flaws, elem_flaws, code_flaws, data_flaws, front_fault, verdict_from, verdict_around, module_verdict, IsVerdict, IsNotArity, extended};
-ghost use Rattle.wk_check.specs.Whole.{AreNumbered};
 
 use crate::exports::exports_fault;
 use crate::fault::{Fault, Verdict};
@@ -125,22 +124,6 @@ fn fault_of_datas(
     first_fault(&DataRule { whole }, 11, lists.datas, room)
 }
 
-/// Whether each list holds fewer items than there are numbers of 32 bits, as the lists of a module do.
-pub(crate) fn are_numbered(lists: &Lists<'_>) -> bool
-    ensures { result ≡ true → AreNumbered (listed lists.now) }
-{
-    let most = u32::MAX as usize;
-    lists.types.len() <= most
-        && lists.imports.len() <= most
-        && lists.funcs.len() <= most
-        && lists.tables.len() <= most
-        && lists.memories.len() <= most
-        && lists.globals.len() <= most
-        && lists.exports.len() <= most
-        && lists.elems.len() <= most
-        && lists.datas.len() <= most
-}
-
 // The verdict where this is the first fault of the sections up to the code section.
 fn verdict_behind(
     lists: &Lists<'_>,
@@ -212,19 +195,7 @@ fn lists_of<'a>(parts: &'a Parts, funcs: &'a [u32]) -> Lists<'a>
     ensures lists { listed result ≡ record (lists_of parts.now) { codes = [] } }
     ensures profile { result.profile ≡ parts.now.profile }
 {
-    Lists {
-        profile: parts.profile,
-        types: parts.types.as_slice(),
-        imports: parts.imports.as_slice(),
-        funcs,
-        tables: parts.tables.as_slice(),
-        memories: parts.memories.as_slice(),
-        globals: parts.globals.as_slice(),
-        exports: parts.exports.as_slice(),
-        start: parts.start,
-        elems: parts.elems.as_slice(),
-        datas: parts.datas.as_slice(),
-    }
+    Lists::of(parts, funcs)
 }
 
 // The first fault of the sections up to the code section. Bodies are typed only where nothing in front of them is wrong.
@@ -252,7 +223,8 @@ fn fault_up_to_code(
 pub fn judge(alloc: Global, module: &Module) -> Result<Verdict, OutOfMemory>
     ensures exact { IfOk result (λ verdict. verdict ≡ module_verdict «module».now) }
     ensures meaning { IfOk result (λ verdict. IsVerdict «module».now verdict) }
-    // It is valid exactly where the items of the other sections are fine and the declarative rules derive each body (chapter 3).
+    // It is valid exactly where the declarative rules derive each body, each initialiser and each offset, and nothing is wrong with
+    // the rest of it (chapter 3).
     ensures valid { IfOk result (λ verdict. verdict ≡ Verdict.Valid ↔ IsValidModule «module».now) }
     // Under the rules of the other profile the verdict is the same, unless the first fault was many results of a type.
     ensures extended { IfOk result (λ verdict. IsNotArity verdict → module_verdict (extended «module».now) ≡ verdict) }

@@ -1,14 +1,16 @@
 //! Verdicts that are kept: only what a body's references find matters.
 
-ghost use Rattle.std.specs.Prelude.{◌≡◌};
+ghost use Rattle.std.specs.Prelude.{◌≡◌, ◌<◌, ◌^◌, length, map};
 ghost use Rattle.wk_body.specs.References.{refs_of, shift_body};
 ghost use Rattle.wk_body.specs.declared.references.Ref.{Ref};
 ghost use Rattle.wk_check.specs.Carried.{Agree, AgreeMoved, Keeps, KeepsMoved};
 ghost use Rattle.wk_check.specs.Finds.{ValidFinds};
+ghost use Rattle.wk_check.specs.Flaws.{first_in};
+ghost use Rattle.wk_check.specs.Items.{body_flaw};
 ghost use Rattle.wk_check.specs.Typing.{body_verdict};
 
 use crate::env::Env;
-use crate::fault::BodyVerdict;
+use crate::fault::{BodyVerdict, Fault};
 use wk_module::{Body, Moving};
 
 /// The verdict of a body whose references find what they found, under types that are found to be the same: the verdict that it
@@ -45,6 +47,19 @@ pub fn carry_moved<O: Env, N: Env>(
     ensures { result ≡ body_verdict (N.answers _new.now) own_types.1 (shift_body _kind _from _body.now) }
 {
     verdict // its references, moved, find what they found
+}
+
+/// The first fault of the code section of a module, by the verdicts of its functions in their order. It takes no memory.
+pub fn first_code_fault(verdicts: &[BodyVerdict]) -> Option<Fault>
+    requires { length verdicts.now < 2 ^ 32 }
+    ensures { result ≡ first_in 10 0 (map body_flaw verdicts.now) }
+{
+    for (index, verdict) in verdicts.iter().enumerate() {
+        if let Some(flaw) = verdict.flaw() {
+            return Some(flaw.at(10, index as u32));
+        }
+    }
+    None
 }
 
 /// The laws by which verdicts are kept, for all bodies at once: [`carry`] and [`carry_moved`] are these of one body; and all that a valid

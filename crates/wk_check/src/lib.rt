@@ -26,7 +26,7 @@ mod whole;
 pub use env::{Answer, Env};
 pub use fault::{BodyVerdict, Fault, FaultKind, Place, Verdict};
 pub use judging::{judge, judge_around};
-pub use kept::{carry, carry_moved, verdicts_that_keep};
+pub use kept::{carry, carry_moved, first_code_fault, verdicts_that_keep};
 pub use meter::{Meter, declarative_rules, judge_body};
 pub use spelled::judge_bytes;
 pub use whole::Whole;

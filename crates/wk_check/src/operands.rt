@@ -3,8 +3,8 @@
 ghost use Rattle.std.specs.Prelude.{◌≡◌, [], ◌∷◌, length, OnOk};
 ghost use Rattle.wk_check.specs.Slots.{Known};
 ghost use Rattle.wk_check.specs.Own.{popped_one, popped, popped_any, pushed};
-ghost use Rattle.wk_check.specs.Effects.{same_types, Takes, Stops, Drops, Selects, after_effect};
-ghost use Rattle.wk_check.specs.Typing.{with_index};
+ghost use Rattle.wk_check.specs.Effects.{same_types, Takes, Stops, Drops, Selects};
+ghost use Rattle.wk_check.specs.Typing.{after_effect, with_index};
 ghost use Rattle.wk_check.specs.Levels.{with_top};
 ghost use Rattle.wk_check.specs.Moves.{Pops, popped_on, pushed_on, Does, Steps, on_top};
 ghost use Rattle.wk_body.specs.declared.types.ValType.TheVariants.{I32};

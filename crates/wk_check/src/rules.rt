@@ -4,12 +4,12 @@ ghost use Rattle.std.specs.Prelude.{◌≡◌, ◌+◌, ◌<◌, ◌^◌, ℕ, l
 ghost use Rattle.wk_check.specs.Flaws.{numbered, first_in};
 ghost use Rattle.wk_check.specs.Items.{in_order, in_range, all_within, table_flaw, memory_flaw, type_flaw, global_flaw, elem_flaw, data_flaw, body_flaw, import_flaw, unless, import_flaw_by, is_start, start_flaw};
 ghost use Rattle.wk_check.specs.Spaces.{answer_in, spaces_of, initial_spaces};
-ghost use Rattle.wk_check.specs.Typing.{body_verdict};
+ghost use Rattle.wk_check.specs.Verdict.{func_verdict};
 ghost use Rattle.wk_check.specs.Answers.{found};
 
 use crate::constant::constant_flaw;
 use crate::env::{Answer, Env};
-use crate::fault::{BodyVerdict, Fault, FaultKind, Flaw};
+use crate::fault::{Fault, FaultKind, Flaw};
 use crate::rule::Rule;
 use crate::typing::{Room, type_body};
 use crate::whole::{Initial, Whole};
@@ -254,7 +254,7 @@ pub(crate) struct CodeRule<'a> {
 impl<'a> Rule for CodeRule<'a> {
     type Item = Func;
 
-    ghost wrong = { λ rule _ f. body_flaw (body_verdict (answer_in (spaces_of rule.whole.now)) f.ty f.body) };
+    ghost wrong = { λ rule _ f. body_flaw (func_verdict (answer_in (spaces_of rule.whole.now)) f) };
 
     fn flaw(
         &self,
@@ -262,13 +262,8 @@ impl<'a> Rule for CodeRule<'a> {
         func: &Func,
         room: &mut Room,
     ) -> Result<Option<Flaw>, OutOfMemory> {
-        match type_body(self.whole, func.ty, &func.body, room)? {
-            BodyVerdict::Valid => Ok(None),
-            BodyVerdict::Invalid { kind, token } => Ok(Some(Flaw {
-                kind,
-                token: Some(token),
-            })),
-        }
+        let verdict = type_body(self.whole, func.ty, &func.body, room)?;
+        Ok(verdict.flaw())
     }
 }
 

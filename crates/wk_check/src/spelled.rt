@@ -4,7 +4,7 @@ ghost use Rattle.std.specs.Prelude.{◌≡◌, ◌↔◌, [], ◌∷◌, Ok, IfO
 ghost use Rattle.wk_bytes.specs.Frames.{sections_of};
 ghost use Rattle.wk_bytes.specs.Raw.{raw_view};
 ghost use Rattle.wk_body.specs.Reads.{Reads};
-ghost use Rattle.wk_module.specs.Listed.{listed};
+ghost use Rattle.wk_module.specs.Listed.{listed, AreNumbered};
 ghost use Rattle.wk_module.specs.ListReading.{IsReading, Rise, lists_read};
 ghost use Rattle.wk_module.specs.Reading.{module_at};
 ghost use Rattle.wk_module.specs.Sections.{no_lists};
@@ -12,10 +12,9 @@ ghost use Rattle.wk_check.specs.declared.fault.Verdict.{Verdict};
 ghost use Rattle.wk_check.specs.Items.{earlier};
 ghost use Rattle.wk_check.specs.Spelled.{judged, IsVerdictOf, first_of, fault_read, codes_judged};
 ghost use Rattle.wk_check.specs.Valid.{IsValidRead};
-ghost use Rattle.wk_check.specs.Whole.{AreNumbered};
 
 use crate::fault::{Fault, Verdict};
-use crate::judging::{are_numbered, fault_before_code, judge_around, judge_behind};
+use crate::judging::{fault_before_code, judge_around, judge_behind};
 use crate::rule::Rule;
 use crate::rules::CodeRule;
 use crate::streaming::{StreamRoom, is_valid_body};
@@ -135,9 +134,6 @@ fn judge_from_code(
 {
     reading_of_module(bytes, reader.lists().profile);
     let lists = reader.lists();
-    if !are_numbered(&lists) {
-        return Err(ReadFault::from(OutOfMemory));
-    }
     let fault = fault_of_section(alloc, &lists, section)?;
     let reader = reader.to_end(alloc, scratch)?;
     Ok(judge_behind(alloc, &reader.lists(), fault)?)
@@ -179,7 +175,8 @@ fn judge_without_code(
 pub fn judge_bytes(alloc: Global, bytes: &[u8], profile: Profile) -> Result<Verdict, ReadFault>
     ensures exact { Reads (λ v. v) result (judged (module_at profile bytes.now)) }
     ensures meaning { IfOk result (λ verdict. IsVerdictOf (module_at profile bytes.now) verdict) }
-    // It is valid exactly where the items of the other sections are fine and the declarative rules derive each body (chapter 3).
+    // It is valid exactly where the declarative rules derive each body, each initialiser and each offset, and nothing is wrong with
+    // the rest of it (chapter 3).
     ensures valid { IfOk result (λ verdict. verdict ≡ Verdict.Valid ↔ IsValidRead (module_at profile bytes.now)) }
     ensures is { IsReading profile bytes.now (module_at profile bytes.now) }
 {

@@ -108,7 +108,11 @@ fn read_words(alloc: Global, words: &[&[u8]]) -> Result<Option<Edit>, AllocError
 fn split<'a>(alloc: Global, bytes: &'a [u8]) -> Result<Vec<&'a [u8]>, AllocError>
     ensures { IfOk result (λ words. map (λ w. w.now) words.items ≡ pieces 32 bytes.now) }
 {
-    Pieces::new(bytes, b' ').collect(alloc)
+    let mut words = Vec::new(alloc);
+    for word in Pieces::new(bytes, b' ') {
+        words.push(word)?;
+    }
+    Ok(words)
 }
 
 fn has_high(bytes: &[u8]) -> bool

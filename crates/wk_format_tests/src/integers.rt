@@ -1,152 +1,128 @@
-//! Integers against spellings that are known from elsewhere: written, measured and read back, padded, and wrong.
+//! Integers against spellings that are known from elsewhere: written, measured and read back.
 
+use std::alloc::Global;
 use std::test::Fail;
 use wk_bytes::{
-    Cursor, ReadFault, ReadKind, Sink, leb_len_s64, leb_len_u32, one_spelling, out_u32, put_s32,
-    put_s33, put_s64, put_u32,
+    Cursor, OutOfMemory, Sink, leb_len_s64, leb_len_u32, out_u32, put_s32, put_s33, put_s64,
+    put_u32,
 };
+use wk_samples::integers::{SIGNED_32, SIGNED_33, SIGNED_64, Signed, UNSIGNED, Unsigned};
 
-#[test]
-fn spells_u32(rt: HostRuntime) -> Result<(), Fail> {
-    let rows: [(u32, &[u8]); 12] = [
-        (0, &[0x00]),
-        (1, &[0x01]),
-        (63, &[0x3f]),
-        (64, &[0x40]),
-        (127, &[0x7f]),
-        (128, &[0x80, 0x01]),
-        (300, &[0xac, 0x02]),
-        (16_383, &[0xff, 0x7f]),
-        (16_384, &[0x80, 0x80, 0x01]),
-        (624_485, &[0xe5, 0x8e, 0x26]),
-        (1 << 28, &[0x80, 0x80, 0x80, 0x80, 0x01]),
-        (u32::MAX, &[0xff, 0xff, 0xff, 0xff, 0x0f]),
-    ];
-    for (n, bytes) in rows {
-        assert_eq!(rt; leb_len_u32(n), bytes.len(), "{n}");
-        let mut out = Vec::new(rt.alloc());
-        put_u32(&mut out, n)?;
-        assert_eq!(rt; out.as_slice(), bytes, "{n}");
-        let mut sink = Sink::new(Vec::new(rt.alloc()));
-        out_u32(&mut sink, n)?;
-        assert_eq!(rt; sink.into_inner().as_slice(), bytes, "{n}");
-        assert!(rt; bytes.len() <= 5);
-        assert_eq!(rt; Cursor::new(bytes).u32(), Ok(n));
-    }
-    Ok(())
+// Whether the integer is measured and written so.
+fn is_written(alloc: Global, row: Unsigned) -> Result<bool, OutOfMemory> {
+    let mut out = Vec::new(alloc);
+    put_u32(&mut out, row.value)?;
+    Ok(out.as_slice() == row.bytes && leb_len_u32(row.value) == row.bytes.len())
 }
 
-// Numbers, and their shortest spellings.
-const SIGNED: [(i64, &[u8]); 22] = [
-    (0, &[0x00]),
-    (1, &[0x01]),
-    (63, &[0x3f]),
-    (64, &[0xc0, 0x00]),
-    (127, &[0xff, 0x00]),
-    (128, &[0x80, 0x01]),
-    (300, &[0xac, 0x02]),
-    (8_191, &[0xff, 0x3f]),
-    (8_192, &[0x80, 0xc0, 0x00]),
-    (624_485, &[0xe5, 0x8e, 0x26]),
-    (2_147_483_647, &[0xff, 0xff, 0xff, 0xff, 0x07]),
-    (4_294_967_295, &[0xff, 0xff, 0xff, 0xff, 0x0f]),
-    (
-        i64::MAX,
-        &[0xff, 0xff, 0xff, 0xff, 0xff, 0xff, 0xff, 0xff, 0xff, 0x00],
-    ),
-    (-1, &[0x7f]),
-    (-64, &[0x40]),
-    (-65, &[0xbf, 0x7f]),
-    (-127, &[0x81, 0x7f]),
-    (-128, &[0x80, 0x7f]),
-    (-123_456, &[0xc0, 0xbb, 0x78]),
-    (-2_147_483_648, &[0x80, 0x80, 0x80, 0x80, 0x78]),
-    (-4_294_967_296, &[0x80, 0x80, 0x80, 0x80, 0x70]),
-    (
-        i64::MIN,
-        &[0x80, 0x80, 0x80, 0x80, 0x80, 0x80, 0x80, 0x80, 0x80, 0x7f],
-    ),
-];
-
-#[test]
-fn spells_signed(rt: HostRuntime) -> Result<(), Fail> {
-    for (n, bytes) in SIGNED {
-        assert_eq!(rt; leb_len_s64(n), bytes.len(), "{n}");
-        assert!(rt; bytes.len() <= 10);
-        let mut out = Vec::new(rt.alloc());
-        put_s64(&mut out, n)?;
-        assert_eq!(rt; out.as_slice(), bytes, "{n}");
-        assert_eq!(rt; Cursor::new(bytes).s64(), Ok(n));
-    }
-    Ok(())
+// Whether it is put so to an output.
+fn is_put_out(alloc: Global, row: Unsigned) -> bool {
+    let mut sink = Sink::new(Vec::new(alloc));
+    let answer = out_u32(&mut sink, row.value);
+    answer.is_ok() && sink.into_inner().as_slice() == row.bytes
 }
 
-#[test]
-fn spells_signed_of_33_bits(rt: HostRuntime) -> Result<(), Fail> {
-    for (n, bytes) in SIGNED {
-        if -4_294_967_296 <= n && n < 4_294_967_296 {
-            let mut out = Vec::with_capacity(rt.alloc(), 10)?;
-            put_s33(&mut out, n)?;
-            assert_eq!(rt; out.as_slice(), bytes, "{n}");
-            assert!(rt; bytes.len() <= 10);
-            assert_eq!(rt; Cursor::new(bytes).s33(), Ok(n));
+fn is_read(row: Unsigned) -> bool {
+    row.bytes.len() <= 5 && Cursor::new(row.bytes).u32() == Ok(row.value)
+}
+
+// The first integer without a sign that is not spelled so.
+fn wrong_unsigned(alloc: Global) -> Option<u32> {
+    for row in UNSIGNED {
+        if is_written(alloc, row) != Ok(true) || !is_put_out(alloc, row) || !is_read(row) {
+            return Some(row.value);
         }
     }
-    Ok(())
+    None
 }
 
 #[test]
-fn spells_signed_of_32_bits(rt: HostRuntime) -> Result<(), Fail> {
-    for (wide, bytes) in SIGNED {
-        if let Ok(n) = i32::try_from(wide) {
-            let mut out = Vec::with_capacity(rt.alloc(), 10)?;
-            put_s32(&mut out, n)?;
-            assert_eq!(rt; out.as_slice(), bytes, "{n}");
-            assert!(rt; bytes.len() <= 10);
-            assert_eq!(rt; Cursor::new(bytes).s32(), Ok(n));
+fn spells_unsigned(rt: HostRuntime) -> Result<(), Fail> {
+    assert_eq!(rt; wrong_unsigned(rt.alloc()), None);
+    Ok(())
+}
+
+fn is_written_64(alloc: Global, row: Signed) -> Result<bool, OutOfMemory> {
+    let mut out = Vec::new(alloc);
+    put_s64(&mut out, row.value)?;
+    Ok(out.as_slice() == row.bytes && leb_len_s64(row.value) == row.bytes.len())
+}
+
+fn is_read_64(row: Signed) -> bool {
+    row.bytes.len() <= 10 && Cursor::new(row.bytes).s64() == Ok(row.value)
+}
+
+// The first of these integers that is not spelled so in 64 bits.
+fn wrong_64(alloc: Global, rows: &[Signed]) -> Option<i64> {
+    for row in rows {
+        if is_written_64(alloc, *row) != Ok(true) || !is_read_64(*row) {
+            return Some(row.value);
         }
     }
-    Ok(())
+    None
 }
 
 #[test]
-fn reads_padded_integers(rt: HostRuntime) -> Result<(), Fail> {
-    let padded: [(i64, &[u8]); 6] = [
-        (3, &[0x83, 0x00]),
-        (3, &[0x83, 0x80, 0x80, 0x80, 0x00]),
-        (-2, &[0xfe, 0x7f]),
-        (-2, &[0xfe, 0xff, 0x7f]),
-        (-2, &[0xfe, 0xff, 0xff, 0xff, 0x7f]),
-        (64, &[0xc0, 0x80, 0x80, 0x80, 0x00]),
-    ];
-    for (n, bytes) in padded {
-        assert!(rt; bytes.len() <= 5);
-        assert_eq!(rt; Cursor::new(bytes).s64(), Ok(n));
-        assert_eq!(rt; Cursor::new(bytes).s33(), Ok(n));
-        assert_eq!(rt; Cursor::new(bytes).s32().map(i64::from), Ok(n));
-        if let Ok(n) = u32::try_from(n) {
-            assert_eq!(rt; Cursor::new(bytes).u32(), Ok(n));
+fn spells_64_bits(rt: HostRuntime) -> Result<(), Fail> {
+    assert_eq!(rt; wrong_64(rt.alloc(), &SIGNED_32), None);
+    assert_eq!(rt; wrong_64(rt.alloc(), &SIGNED_33), None);
+    assert_eq!(rt; wrong_64(rt.alloc(), &SIGNED_64), None);
+    Ok(())
+}
+
+fn is_written_33(alloc: Global, row: Signed) -> Result<bool, OutOfMemory> {
+    let mut out = Vec::new(alloc);
+    if -4_294_967_296 <= row.value && row.value < 4_294_967_296 {
+        put_s33(&mut out, row.value)?;
+    }
+    Ok(out.as_slice() == row.bytes)
+}
+
+fn is_read_33(row: Signed) -> bool {
+    row.bytes.len() <= 5 && Cursor::new(row.bytes).s33() == Ok(row.value)
+}
+
+// The first of these integers that is not spelled so in 33 bits.
+fn wrong_33(alloc: Global, rows: &[Signed]) -> Option<i64> {
+    for row in rows {
+        if is_written_33(alloc, *row) != Ok(true) || !is_read_33(*row) {
+            return Some(row.value);
         }
     }
-    one_spelling();
-    Ok(())
+    None
 }
 
 #[test]
-fn refuses_wrong_integers(rt: HostRuntime) -> Result<(), Fail> {
-    let wrong: [(&[u8], ReadKind); 6] = [
-        (&[], ReadKind::UnexpectedEnd),
-        (&[0x80, 0x80], ReadKind::UnexpectedEnd),
-        (&[0x80, 0x80, 0x80, 0x80, 0x10], ReadKind::IntTooLarge),
-        (&[0xff, 0xff, 0xff, 0xff, 0x4f], ReadKind::IntTooLarge),
-        (&[0x80, 0x80, 0x80, 0x80, 0x80], ReadKind::IntTooLong),
-        (&[0x80, 0x80, 0x80, 0x80, 0x80, 0x00], ReadKind::IntTooLong),
-    ];
-    for (bytes, kind) in wrong {
-        assert!(rt; bytes.len() <= 6);
-        let fault = ReadFault { kind, at: 0 };
-        assert_eq!(rt; Cursor::new(bytes).u32(), Err(fault));
-        assert_eq!(rt; Cursor::new(bytes).s32(), Err(fault));
+fn spells_33_bits(rt: HostRuntime) -> Result<(), Fail> {
+    assert_eq!(rt; wrong_33(rt.alloc(), &SIGNED_32), None);
+    assert_eq!(rt; wrong_33(rt.alloc(), &SIGNED_33), None);
+    Ok(())
+}
+
+fn is_written_32(alloc: Global, row: Signed) -> Result<bool, OutOfMemory> {
+    let mut out = Vec::new(alloc);
+    if let Ok(value) = i32::try_from(row.value) {
+        put_s32(&mut out, value)?;
     }
+    Ok(out.as_slice() == row.bytes)
+}
+
+fn is_read_32(row: Signed) -> bool {
+    row.bytes.len() <= 5 && Cursor::new(row.bytes).s32().map(i64::from) == Ok(row.value)
+}
+
+// The first integer that is not spelled so in 32 bits.
+fn wrong_32(alloc: Global) -> Option<i64> {
+    for row in SIGNED_32 {
+        if is_written_32(alloc, row) != Ok(true) || !is_read_32(row) {
+            return Some(row.value);
+        }
+    }
+    None
+}
+
+#[test]
+fn spells_32_bits(rt: HostRuntime) -> Result<(), Fail> {
+    assert_eq!(rt; wrong_32(rt.alloc()), None);
     Ok(())
 }

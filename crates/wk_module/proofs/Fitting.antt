@@ -13,29 +13,12 @@ use Rattle.wk_module.specs.Sections.{SectionId, TypeSection, ImportSection, Func
 use Rattle.wk_module.specs.Shape.{lists_of}
 use Rattle.wk_module.specs.Modules.{SpellsSection, Spells}
 use Rattle.wk_module.specs.Writing.{framed, written_section, section_of, customs_at, section_and_customs, ids, encoded, Fits}
+use Rattle.wk_module.specs.WritingLaws.{framed_rises}
 use Rattle.wk_module.proofs.Laws.{IsSection, SectionLaws}
 use Rattle.wk_module.proofs.WrittenFrames.{frame_bytes, frames_bytes, up_from}
-use Rattle.wk_module.proofs.WrittenSections.{id_of_section, id_of_none, past_ids, every_id}
+use Rattle.wk_module.specs.SectionLaws.{of_number-number}
+use Rattle.wk_module.proofs.WrittenSections.{id_of_none, past_ids, every_id}
 use Rattle.wk_module.proofs.WrittenCustoms.{custom_least}
-
--- ---- longer contents have no shorter size
-
-rises_within : (k a b : ℕ) → a ≤ k → a ≤ b → length (short a) ≤ length (short b)
-rises_within zero a b within le = rw (short-last a (omega arith)) (short-some b)
-rises_within (suc k) a b within le =
-    elim (cases_lt a 128) [
-      | inl small ↦ rw (short-last a small) (short-some b)
-      | inr large ↦
-          let large_too : 128 ≤ b = omega arith in
-          let rest = rises_within k (a / 128) (b / 128) (omega arith) (omega arith) in
-          rw (short-more a large, short-more b large_too) (omega arith)
-    ]
-
-pub short-rises : (a b : ℕ) → a ≤ b → length (short a) ≤ length (short b)
-short-rises a b le = rises_within a a b (omega arith) le
-
-framed_rises : (i j : ℕ) (a b : List ℕ) → length a ≤ length b → length (framed i a) ≤ length (framed j b)
-framed_rises i j a b le = omega (arith, length-append (short (length a)) a, length-append (short (length b)) b, short-rises (length a) (length b) le)
 
 frames_least : (last : ℕ) (b : List ℕ) (fs : List Frame) → SpellsFrames last b fs → length (frames_bytes fs) ≤ length b
 frames_least last b [] spelled = omega arith
@@ -142,7 +125,7 @@ module _ (m : Parts) (sections : SectionLaws m.profile) (fs : List Frame) (spell
   least_at : (k : SectionId) → IsLeast (number k)
   least_at k =
       let one = section_least m.profile k (sections k) fs (omitted k) (contents (lists_of m) k) (spelled k) in
-      rw (id_of_section k) (omega (arith, ap length (omitted_bytes k)))
+      rw (of_number-number k) (omega (arith, ap length (omitted_bytes k)))
 
   least_after : (n : ℕ) → IsLeast (past_ids n)
   least_after n = rw (id_of_none (past_ids n) (omega arith)) (omega arith)

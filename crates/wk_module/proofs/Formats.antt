@@ -17,6 +17,7 @@ use Rattle.wk_bytes.specs.Stands.{Stands}
 use Rattle.wk_bytes.specs.StandsLaws.{ReadsFront, ReadsFront-done, ReadsFront-then, ReadsFront-byte_at, ReadsFront-piece_at, ReadsFront-u32_at, ReadsFront-name_at, Stands-here}
 use Rattle.wk_body.specs.Shape.{IsU32}
 use Rattle.wk_body.specs.Vectors.{SpellsItems, SpellsVector, items_at, vector_at, written_vector}
+use Rattle.wk_module.specs.WritingLaws.{length_le_flat_map}
 use Rattle.wk_module.specs.Formats.{Reader, SpellsBoth, both_at, SpellsKeyed, keyed_at, made_at, SpellsCoded, coded_at, SpellsBehind, this_byte_at, behind_at, SpellsBytes, bytes_at, written_bytes}
 use Rattle.wk_module.proofs.Laws.{IsFormat}
 
@@ -41,23 +42,6 @@ same_read {A = A} x y a b e =
 
 pub behind : (bytes front a b : List ℕ) → bytes ≡ front ++ a → a ≡ b → bytes ≡ front ++ b
 behind bytes front a b e f = e ∙ ap (λ (c : List ℕ). front ++ c) f
-
--- a larger number has no shorter spelling
-short_grows_by : (k m n : ℕ) → n ≤ k → m ≤ n → length (short m) ≤ length (short n)
-short_grows_by zero m n most le =
-    let same : m ≡ n = omega arith in
-    rw same (omega arith)
-short_grows_by (suc k) m n most le =
-    elim (cases_lt m 128) [
-      | inl small ↦ omega (arith, ap length (short-last m small), short-some n)
-      | inr large ↦
-          let more : 128 ≤ n = omega arith in
-          let less = short_grows_by k (m / 128) (n / 128) (omega arith) (omega arith) in
-          omega (arith, ap length (short-more m large), ap length (short-more n more), less)
-    ]
-
-pub short_grows : (m n : ℕ) → m ≤ n → length (short m) ≤ length (short n)
-short_grows m n le = short_grows_by n m n (omega arith) le
 
 -- ---- integers and names
 
@@ -256,10 +240,6 @@ module _ {A : Type 0} {Valid : A → Type 0} {Spells : List ℕ → A → Type 0
       ReadsFront-then read (λ x end bytes. items_at read n end bytes >>= λ xs. Ok (x ∷ xs.0, xs.1)) of.fronts
       (λ x. ReadsFront-then (items_at read n) (λ xs end bytes. Ok (x ∷ xs, bytes)) (items_front of n) (λ xs. ReadsFront-done (x ∷ xs)))
 
-  items_longer : IsFormat Valid Spells read written → (xs : List A) → length xs ≤ length (flat_map written xs)
-  items_longer of [] = omega arith
-  items_longer of (x ∷ xs) = omega (arith, length-append (written x) (flat_map written xs), of.some x, items_longer of xs)
-
   items_spell : IsFormat Valid Spells read written → (xs : List A) → AllByRecursion Valid xs → length (flat_map written xs) < 2 ^ 32 → SpellsItems Spells (flat_map written xs) xs
   items_spell of [] valid fits = refl
   items_spell of (x ∷ xs) valid fits =
@@ -302,7 +282,7 @@ module _ {A : Type 0} {Valid : A → Type 0} {Spells : List ℕ → A → Type 0
     some = λ xs. omega (arith, length-append (short (length xs)) (flat_map written xs), short-some (length xs));
     spells = λ xs valid fits.
         let both = length-append (short (length xs)) (flat_map written xs) in
-        let few : length xs < 2 ^ 32 = omega (arith, items_longer of xs) in
+        let few : length xs < 2 ^ 32 = omega (arith, length_le_flat_map written of.some xs) in
         record { count = short (length xs); items = flat_map written xs; parts = refl; counts = short-spells 32 (length xs) few; spelled = items_spell of xs valid (omega arith) };
     least = λ b xs s.
         omega (arith, length-append (short (length xs)) (flat_map written xs), ap length s.parts, length-append s.count s.items, short-least 32 (length xs) s.count s.counts, items_least of s.items xs s.spelled);

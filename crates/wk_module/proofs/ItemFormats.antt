@@ -30,7 +30,8 @@ use Rattle.wk_module.specs.Formats.{SpellsBoth, both_at, SpellsCoded, coded_at, 
 use Rattle.wk_module.specs.Types.{written_valtype, SpellsFuncType, func_type, functype_at, written_functype, flag_byte, flag_of, has_max, SpellsBounds, SpellsLimits, without_max, with_max, bounds_at, limits_at, written_bounds, written_limits, IsBound, AreLimits, SpellsTableType, tabletype_at, written_tabletype, SpellsGlobalType, global_type, globaltype_at, written_globaltype, kind_byte, kind_of}
 use Rattle.wk_module.specs.Items.{desc_kind, SpellsDescRest, SpellsDesc, desc_rest_at, desc_at, written_desc_rest, written_desc, IsDesc, SpellsImport, import_of, import_at, written_import, IsImport, SpellsInit, IsInit, SpellsGlobal, global_of, global_at, written_global, IsGlobal, SpellsExport, export_of, export_at, written_export, IsExport, SpellsElem, elem_of, elem_at, written_elem, IsElem, SpellsCode, code_at, written_code, IsCode, SpellsData, data_of, data_at, written_data, IsData}
 use Rattle.wk_module.proofs.Laws.{CodeLaws, IsFormat}
-use Rattle.wk_module.proofs.Formats.{IsRest, u32_format, name_format, bytes_format, both_format, made_format, made_front, made_again, made_found, valid_as, vector_format, coded_format, behind_format, keyed_format, read_to, same_read, bytes_parts, short_grows}
+use Rattle.wk_module.specs.WritingLaws.{short-rises}
+use Rattle.wk_module.proofs.Formats.{IsRest, u32_format, name_format, bytes_format, both_format, made_format, made_front, made_again, made_found, valid_as, vector_format, coded_format, behind_format, keyed_format, read_to, same_read, bytes_parts}
 
 -- ---- value types
 
@@ -331,7 +332,7 @@ module _ (profile : Profile) (laws : CodeLaws profile) where
         record { size = sized.size; code = written_body body; parts = sized.parts; counts = sized.counts; spelled = laws.body_written body valid.0 valid.1.0 valid.1.1 };
     least = λ b body s.
         let code : length (written_body body) ≤ length s.code = laws.body_least body s.code s.spelled in
-        omega (arith, code, length-append (short (length (written_body body))) (written_body body), ap length s.parts, length-append s.size s.code, short_grows (length (written_body body)) (length s.code) code, short-least 32 (length s.code) s.size s.counts);
+        omega (arith, code, length-append (short (length (written_body body))) (written_body body), ap length s.parts, length-append s.size s.code, short-rises (length (written_body body)) (length s.code) code, short-least 32 (length s.code) s.size s.counts);
     valid = λ b body bytes s.
         let code = IsBytes-after s.size s.code b s.parts bytes in
         (s.spelled.groups, laws.expr_shape body.instrs s.spelled.code (IsBytes-after s.spelled.locals s.spelled.code s.code s.spelled.parts code) s.spelled.spelled);

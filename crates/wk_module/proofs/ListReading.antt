@@ -22,7 +22,7 @@ use Rattle.wk_module.specs.Shape.{lists_of}
 use Rattle.wk_module.specs.Sections.{SectionId, CodeSection, of_number, SectionLists, ContentsOf, with_contents, contents_at}
 use Rattle.wk_module.specs.Customs.{custom_at}
 use Rattle.wk_module.specs.ListReading.{listed_by, with_listed, lists_read, IsFair, Rise, joined_lists, AreListsOfModule}
-use Rattle.wk_module.proofs.SectionIds.{number-of_number, pick_other}
+use Rattle.wk_module.specs.SectionLaws.{number-of_number, pick_other}
 use Rattle.wk_module.proofs.ModuleReading.{lists_of-module_of}
 
 -- ---- one section

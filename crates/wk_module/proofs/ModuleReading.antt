@@ -29,7 +29,7 @@ use Rattle.wk_module.specs.Reading.{Progress, at_start, section_end, with_custom
 use Rattle.wk_module.proofs.Laws.{CountIs, SectionLaws}
 use Rattle.wk_module.proofs.Formats.{behind}
 use Rattle.wk_module.proofs.Shaped.{section_stays}
-use Rattle.wk_module.proofs.SectionIds.{of_number-none, of_number-is, has_id, HasId, number_some, same_or_other, other_number, contents-here, contents-elsewhere, contents-none, same_lists}
+use Rattle.wk_module.specs.SectionLaws.{of_number-none, of_number-is, has_id, HasId, number_some, same_or_other, other_number, contents-here, contents-elsewhere, contents-none, same_lists}
 
 -- ---- custom sections
 
@@ -280,7 +280,7 @@ module _ (profile : Profile) (sections : SectionLaws profile) where
   custom_completes p s c fs lists cs fits is read rest =
       let spelled = custom_found p.place (section_end s) s.contents c fits read in
       record {
-        each = λ k. section_later (number k) (SpellsContents profile k) (contents p.lists k) (contents lists k) (frame_of s) fs (λ e. number_some k (sym e ∙ is)) (rest.each k);
+        each = λ k. section_later (number k) (SpellsContents profile k) (contents p.lists k) (contents lists k) (frame_of s) fs (λ e. omega (arith, number_some k, e, is)) (rest.each k);
         later = c ∷ rest.later;
         more = rest.more ∙ append_assoc p.customs (c ∷ []) rest.later;
         customs = inl (is, c, rest.later, refl, spelled.1, spelled.0, rest.customs);
@@ -294,7 +294,7 @@ module _ (profile : Profile) (sections : SectionLaws profile) where
         each = λ j. one_earlier k j x p.lists (frame_of s) fs lists is spelled (rest.each j);
         later = rest.later;
         more = rest.more;
-        customs = inr (λ e. number_some k (sym is ∙ e), place_behind k x p.place, place_after k p.place (frame_of s) x is spelled, rest.customs);
+        customs = inr (λ e. omega (arith, number_some k, is, e), place_behind k x p.place, place_after k p.place (frame_of s) x is spelled, rest.customs);
       }
 
   step_completes : (p : Progress) (s : Section) (q : Progress) (fs : List Frame) (lists : SectionLists) (cs : List Custom) → IsBytes s.contents → HasId s.id → with_section profile p s ≡ Ok q → Completes q fs lists cs → Completes p (frame_of s ∷ fs) lists cs
@@ -316,7 +316,7 @@ module _ (profile : Profile) (sections : SectionLaws profile) where
         with_custom p h.1,
         custom_step p s h.1 (of_number-none s.id h.0) read,
         record {
-          each = λ k. section_is_later (number k) (SpellsContents profile k) (contents p.lists k) (contents lists k) (frame_of s) fs (λ e. number_some k (sym e ∙ h.0)) (rest.each k);
+          each = λ k. section_is_later (number k) (SpellsContents profile k) (contents p.lists k) (contents lists k) (frame_of s) fs (λ e. omega (arith, number_some k, e, h.0)) (rest.each k);
           later = h.2;
           more = h.5 ∙ ap (λ (ds : List Custom). p.customs ++ ds) h.4 ∙ sym (append_assoc p.customs (h.1 ∷ []) h.2);
           customs = h.8;
@@ -353,7 +353,7 @@ module _ (profile : Profile) (sections : SectionLaws profile) where
   completes_step_by : (p : Progress) (s : Section) (last : ℕ) (b : List ℕ) (fs : List Frame) (lists : SectionLists) (cs : List Custom) → length lists.funcs ≡ length lists.codes → HasId s.id
       → SpellsFrames (max last s.id) b fs → Completes p (frame_of s ∷ fs) lists cs → (all : List Custom) → cs ≡ p.customs ++ all → SpellsCustoms p.place (frame_of s ∷ fs) all → Steps p s fs lists cs
   completes_step_by p s last b fs lists cs same (inl is) framed rest all more (inl h) = completes_custom p s fs lists cs rest (h.0, h.1, h.2, all, h.3, more, h.4, h.5, h.6)
-  completes_step_by p s last b fs lists cs same (inr is) framed rest all more (inl h) = absurd (number_some is.0 (sym is.1 ∙ h.0))
+  completes_step_by p s last b fs lists cs same (inr is) framed rest all more (inl h) = absurd (omega (arith, number_some is.0, is.1, h.0))
   completes_step_by p s last b fs lists cs same (inl is) framed rest all more (inr h) = absurd (h.0 is.0)
   completes_step_by p s last b fs lists cs same (inr is) framed rest all more (inr h) = completes_lists p s is.0 last b fs lists cs same is.1 framed rest (all, more, h.1, h.2, h.3)
 

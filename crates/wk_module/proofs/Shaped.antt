@@ -11,7 +11,8 @@ use Rattle.wk_module.specs.declared.types.Custom.{Custom}
 use Rattle.wk_module.specs.declared.types.Parts.{Parts}
 use Rattle.wk_module.specs.Customs.{IsEmptyFrame, SpellsCustoms}
 use Rattle.wk_module.specs.Sections.{SectionId, TypeSection, ImportSection, FunctionSection, TableSection, MemorySection, GlobalSection, ExportSection, StartSection, ElementSection, CodeSection, DataSection, number, ContentsOf, contents, omitted, is_full, SpellsContents, AreValid}
-use Rattle.wk_module.specs.ShapeLaws.{in_order_lower}
+use Rattle.wk_module.specs.SectionLaws.{number_some}
+use Rattle.wk_module.specs.ShapeLaws.{in_order_lower, omitted_valid}
 use Rattle.wk_module.specs.Shape.{lists_of, is_filled, lowered, settled_custom, IsInOrderFrom, AreNamed, IsShaped}
 use Rattle.wk_module.specs.Modules.{SpellsSection, Spells}
 use Rattle.wk_module.proofs.Laws.{SectionLaws}
@@ -31,10 +32,10 @@ abbrev pub HaveBytes : List Frame → Type 0
 HaveBytes [] = Unit {0}
 HaveBytes (f ∷ fs) = IsBytes f.contents × HaveBytes fs
 
-pub frames_bytes : (last : ℕ) (b : List ℕ) (fs : List Frame) → IsBytes b → SpellsFrames last b fs → HaveBytes fs
-frames_bytes last b [] fits s = tt
-frames_bytes last b (f ∷ fs) fits s =
-    (contents_bytes s.0 f (IsBytes-before s.0 s.1 b s.2 fits) s.4, frames_bytes (max last f.id) s.1 fs (IsBytes-after s.0 s.1 b s.2 fits) s.5)
+pub frames_of_bytes : (last : ℕ) (b : List ℕ) (fs : List Frame) → IsBytes b → SpellsFrames last b fs → HaveBytes fs
+frames_of_bytes last b [] fits s = tt
+frames_of_bytes last b (f ∷ fs) fits s =
+    (contents_bytes s.0 f (IsBytes-before s.0 s.1 b s.2 fits) s.4, frames_of_bytes (max last f.id) s.1 fs (IsBytes-after s.0 s.1 b s.2 fits) s.5)
 
 module _ {A : Type 0} (Spells : List ℕ → A → Type 0) (id : ℕ) where
   -- the same of what bytes spell
@@ -144,19 +145,6 @@ known_number (suc (suc (suc (suc (suc (suc (suc (suc (suc (suc zero)))))))))) so
 known_number (suc (suc (suc (suc (suc (suc (suc (suc (suc (suc (suc zero))))))))))) some small = (DataSection, refl)
 known_number (suc (suc (suc (suc (suc (suc (suc (suc (suc (suc (suc (suc more)))))))))))) some small = absurd (omega arith)
 
-pub some_number : (k : SectionId) → 0 < number k
-some_number TypeSection = omega arith
-some_number ImportSection = omega arith
-some_number FunctionSection = omega arith
-some_number TableSection = omega arith
-some_number MemorySection = omega arith
-some_number GlobalSection = omega arith
-some_number ExportSection = omega arith
-some_number StartSection = omega arith
-some_number ElementSection = omega arith
-some_number CodeSection = omega arith
-some_number DataSection = omega arith
-
 -- the id of a section is filled where the section is full
 pub filled_full : (m : Parts) (k : SectionId) → is_filled m (number k) ≡ is_full k (contents (lists_of m) k)
 filled_full m TypeSection = refl
@@ -170,19 +158,6 @@ filled_full m StartSection = refl
 filled_full m ElementSection = refl
 filled_full m CodeSection = refl
 filled_full m DataSection = refl
-
-omitted_valid : (profile : Profile) (k : SectionId) → AreValid profile k (omitted k)
-omitted_valid profile TypeSection = omega arith
-omitted_valid profile ImportSection = (omega arith, tt)
-omitted_valid profile FunctionSection = (omega arith, tt)
-omitted_valid profile TableSection = (omega arith, tt)
-omitted_valid profile MemorySection = (omega arith, tt)
-omitted_valid profile GlobalSection = (omega arith, tt)
-omitted_valid profile ExportSection = (omega arith, tt)
-omitted_valid profile StartSection = tt
-omitted_valid profile ElementSection = (omega arith, tt)
-omitted_valid profile CodeSection = (omega arith, tt)
-omitted_valid profile DataSection = (omega arith, tt)
 
 all_filled : (passes : ℕ → Bool) (last : ℕ) (b : List ℕ) (fs : List Frame) → SpellsFrames last b fs → ((k : SectionId) → IsFilledAt (number k) (passes (number k)) fs) → AreFilled passes fs
 all_filled passes last b [] framed each = tt
@@ -216,13 +191,13 @@ module _ (profile : Profile) (sections : SectionLaws profile) where
   sections_filled m b fs framed spelled =
       all_filled (is_filled m) 0 b fs framed
       (λ k. subst (λ (filled : Bool). IsFilledAt (number k) filled fs) (sym (filled_full m k))
-      (section_filled (SpellsContents profile k) (number k) (is_full k) (full_frame k) 0 b fs (omitted k) (contents (lists_of m) k) (some_number k) framed (spelled k)))
+      (section_filled (SpellsContents profile k) (number k) (is_full k) (full_frame k) 0 b fs (omitted k) (contents (lists_of m) k) (number_some k) framed (spelled k)))
 
 shaped_by : (b : List ℕ) (m : Parts) → SectionLaws m.profile → IsBytes b → Spells b m → IsShaped m
 shaped_by b m sections fits spelled =
     let framing = spelled.framing in
     let inner : IsBytes framing.frames = IsBytes-after (magic ++ version) framing.frames b framing.parts fits in
-    let have = frames_bytes 0 framing.frames spelled.frames inner framing.spelled in
+    let have = frames_of_bytes 0 framing.frames spelled.frames inner framing.spelled in
     let filled = sections_filled m.profile sections m framing.frames spelled.frames framing.spelled spelled.sections in
     let customs = customs_shaped (is_filled m) 0 0 framing.frames spelled.frames m.customs (omega arith) (omega arith) (inl refl) framing.spelled filled spelled.customs in
     record {

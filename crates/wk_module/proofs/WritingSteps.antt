@@ -7,8 +7,7 @@ use Rattle.wk_bytes.specs.Frames.{limit, magic, version}
 use Rattle.wk_module.specs.declared.types.Parts.{Parts}
 use Rattle.wk_module.specs.declared.types.Custom.{Custom}
 use Rattle.wk_module.specs.Writing.{section_of, customs_at, section_and_customs, ids, encoded, Fits}
-use Rattle.wk_module.specs.WritingLaws.{at_place, written_frame, customs_at-cons}
-use Rattle.wk_module.proofs.Lengths.{piece_le}
+use Rattle.wk_module.specs.WritingLaws.{at_place, written_frame, customs_at-cons, piece_le, id_is}
 
 -- a custom is no longer than all customs of its place
 pub custom_le : (cs : List Custom) (i : ℕ) (c : Custom) → i < length cs → c ≡ get_or cs i c → length (written_frame c) ≤ length (customs_at c.place cs)
@@ -19,10 +18,6 @@ custom_le (d ∷ cs) zero c within is =
     omega (arith, first, same, ap length (customs_at-cons d cs c.place), length-append (at_place d.place (written_frame d) c.place) (customs_at c.place cs))
 custom_le (d ∷ cs) (suc i) c within is =
     omega (arith, custom_le cs i c (omega arith) is, ap length (customs_at-cons d cs c.place), length-append (at_place d.place (written_frame d) c.place) (customs_at c.place cs))
-
--- an id stands at its own place among the ids
-pub id_is : (id : ℕ) → id < 12 → id ≡ get_or ids id id
-id_is id lt = omega (arith, get_or-range_with_len 0 12 id id lt)
 
 -- the ids from one on
 pub drop-ids : (id : ℕ) → id < 12 → drop id ids ≡ id ∷ drop (id + 1) ids

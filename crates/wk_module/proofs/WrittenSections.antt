@@ -12,48 +12,10 @@ use Rattle.wk_module.specs.Shape.{lists_of, is_written, is_filled}
 use Rattle.wk_module.specs.Modules.{SpellsSection}
 use Rattle.wk_module.specs.Writing.{framed, section_by, section_of}
 use Rattle.wk_module.proofs.Laws.{SectionLaws}
+use Rattle.wk_module.specs.SectionLaws.{number_some, of_number-number}
 use Rattle.wk_module.proofs.WrittenFrames.{frames_bytes, custom_frame, customs_frames, up_from, IsSectionAt, frames_at}
 
 -- ---- ids
-
-pub number_some : (k : SectionId) → 0 < number k
-number_some TypeSection = omega arith
-number_some ImportSection = omega arith
-number_some FunctionSection = omega arith
-number_some TableSection = omega arith
-number_some MemorySection = omega arith
-number_some GlobalSection = omega arith
-number_some ExportSection = omega arith
-number_some StartSection = omega arith
-number_some ElementSection = omega arith
-number_some CodeSection = omega arith
-number_some DataSection = omega arith
-
-pub number_most : (k : SectionId) → number k < 12
-number_most TypeSection = omega arith
-number_most ImportSection = omega arith
-number_most FunctionSection = omega arith
-number_most TableSection = omega arith
-number_most MemorySection = omega arith
-number_most GlobalSection = omega arith
-number_most ExportSection = omega arith
-number_most StartSection = omega arith
-number_most ElementSection = omega arith
-number_most CodeSection = omega arith
-number_most DataSection = omega arith
-
-pub id_of_section : (k : SectionId) → of_number (number k) ≡ Some k
-id_of_section TypeSection = refl
-id_of_section ImportSection = refl
-id_of_section FunctionSection = refl
-id_of_section TableSection = refl
-id_of_section MemorySection = refl
-id_of_section GlobalSection = refl
-id_of_section ExportSection = refl
-id_of_section StartSection = refl
-id_of_section ElementSection = refl
-id_of_section CodeSection = refl
-id_of_section DataSection = refl
 
 pub id_of_none : (n : ℕ) → 11 < n → of_number n ≡ None
 id_of_none n more =
@@ -160,7 +122,7 @@ module _ (m : Parts) (sections : SectionLaws m.profile) (spelled : (k : SectionI
 
   right_at : (k : SectionId) → IsRight (number k)
   right_at k =
-      rw (id_of_section k) (elim (cases_Bool (is_written m k)) [
+      rw (of_number-number k) (elim (cases_Bool (is_written m k)) [
         | inl full ↦ rw full (inr (section_frame k (contents (lists_of m) k), refl, refl, number_some k, full_frame k full, filled_is m k ∙ full))
         | inr none ↦ rw none (inl (refl, filled_is m k ∙ none))
       ])
@@ -238,7 +200,7 @@ module _ (section : ℕ → List Frame) (passes : ℕ → Bool) (customs : List 
 pub spelled_at : (m : Parts) → ((k : SectionId) → is_written m k ≡ true → SpellsContents m.profile k (written_contents k (contents (lists_of m) k)) (contents (lists_of m) k))
     → (k : SectionId) → IsSpelledBy (SpellsContents m.profile k) (number k) (omitted k) (contents (lists_of m) k) (section_frames m (number k))
 spelled_at m spelled k =
-    rw (id_of_section k) (elim (cases_Bool (is_written m k)) [
+    rw (of_number-number k) (elim (cases_Bool (is_written m k)) [
       | inl full ↦ rw full (inr (section_frame k (contents (lists_of m) k), refl, refl, spelled k full))
       | inr none ↦ rw none (inl (refl, is_omitted k (contents (lists_of m) k) none))
     ])

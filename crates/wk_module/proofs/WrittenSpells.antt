@@ -13,7 +13,8 @@ use Rattle.wk_module.specs.Modules.{Spells}
 use Rattle.wk_module.specs.Writing.{framed, section_of, customs_at, section_and_customs, ids, encoded, Fits}
 use Rattle.wk_module.proofs.Laws.{SectionLaws}
 use Rattle.wk_module.proofs.WrittenFrames.{frame_bytes, frames_bytes, small_all, frames_spelled, customs_frames, customs_bytes, up_from, frames_at, frames_rise}
-use Rattle.wk_module.proofs.WrittenSections.{number_some, number_most, id_of_section, section_frames, section_bytes, section_is, section_among, spelled_at}
+use Rattle.wk_module.specs.SectionLaws.{number_some, number_most, of_number-number}
+use Rattle.wk_module.proofs.WrittenSections.{section_frames, section_bytes, section_is, section_among, spelled_at}
 use Rattle.wk_module.proofs.WrittenCustoms.{AreLeft, parts_settled, customs_spelled}
 
 -- ---- the frames of a module
@@ -45,7 +46,7 @@ piece_within f q (suc count) p le lt =
 short_contents : (m : Parts) (k : SectionId) → is_written m k ≡ true → length (flat_map (section_and_customs m) ids) < 2 ^ 32 → length (written_contents k (contents (lists_of m) k)) < 2 ^ 32
 short_contents m k full fits =
     let bytes = written_contents k (contents (lists_of m) k) in
-    let is : section_of m (number k) ≡ framed (number k) bytes = rw (id_of_section k, full) refl in
+    let is : section_of m (number k) ≡ framed (number k) bytes = rw (of_number-number k, full) refl in
     let within = piece_within (section_and_customs m) (number k) 12 0 (omega arith) (omega (arith, number_most k)) in
     omega (arith, ap length is, length-append (short (length bytes)) bytes, length-append (section_of m (number k)) (customs_at (number k) m.customs))
 

@@ -8,9 +8,16 @@ pub mod Modules
 pub mod Reading
 pub mod ListReading
 pub mod Writing
+pub mod Sizes
 pub mod Listed
+pub mod SectionLaws
+pub mod NumberedLaws
 pub mod ShapeLaws
 pub mod ModuleLaws
 pub mod WritingLaws
+pub mod Imports
+pub mod ImportLaws
+pub mod Changes
+pub mod ChangeLaws
 pub mod Moving
 pub mod MovingLaws

@@ -12,6 +12,7 @@ use Rattle.wk_bytes.specs.Stands.{StandsIn}
 use Rattle.wk_body.specs.declared.types.Profile.{Profile}
 use Rattle.wk_module.specs.declared.types.Parts.{Parts}
 use Rattle.wk_module.specs.Formats.{all_at}
+use Rattle.wk_module.specs.Listed.{AreNumbered}
 use Rattle.wk_module.specs.Modules.{Spells, SpellsNone}
 use Rattle.wk_module.specs.Reading.{section_end, module_at}
 use Rattle.wk_module.specs.Sections.{SectionId, of_number, SectionLists, with_contents, no_lists, contents_at}
@@ -47,6 +48,11 @@ abbrev pub Rise : ℕ → List (Result Section ReadFault) → Type 0
 Rise last [] = Unit {0}
 Rise last (Err e ∷ items) = IsFair e e.kind
 Rise last (Ok s ∷ items) = MayCome last s.id × Rise (max last s.id) items
+
+-- lists that are read, of which each is numbered, and the sections that are left, which rise
+pub record IsUnderway (lists : SectionLists) (left : List (Result Section ReadFault)) : Type 0 where
+  pub rise : (last : ℕ) × Rise last left
+  pub few : AreNumbered lists
 
 -- The lists of the sections in front of the code section, that section unread, and what is left behind it; or all lists, where
 -- there is no code section; or the first fault.

@@ -183,6 +183,20 @@ is_full ElementSection xs = not (is_empty xs)
 is_full CodeSection xs = not (is_empty xs)
 is_full DataSection xs = not (is_empty xs)
 
+-- how many items it holds; the start section is no list
+abbrev pub item_count : (k : SectionId) → ContentsOf k → ℕ
+item_count TypeSection xs = length xs
+item_count ImportSection xs = length xs
+item_count FunctionSection xs = length xs
+item_count TableSection xs = length xs
+item_count MemorySection xs = length xs
+item_count GlobalSection xs = length xs
+item_count ExportSection xs = length xs
+item_count StartSection x = 0
+item_count ElementSection xs = length xs
+item_count CodeSection xs = length xs
+item_count DataSection xs = length xs
+
 -- ---- in the grammar
 
 -- the start section holds the index of a function (5.5.11)

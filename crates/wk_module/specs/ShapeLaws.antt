@@ -1,5 +1,5 @@
 -- Laws of settling, and what keeps a module shaped.
-use Rattle.std.proofs.Common.{◌≡◌, ℕ, zero, suc, ◌^◌, ◌<◌, ◌≤◌, Bool, true, false, not, inl, inr, List, [], ◌∷◌, ◌++◌, length, map, drop, filter, refl, ap, ◌∙◌, arith}
+use Rattle.std.proofs.Common.{◌≡◌, ℕ, zero, suc, ◌^◌, ◌<◌, ◌≤◌, Bool, true, false, not, inl, inr, List, [], ◌∷◌, ◌++◌, length, map, drop, filter, refl, sym, ap, subst, ◌∙◌, arith}
 use Rattle.std.proofs.lemmas.Bool.{cases_Bool, cases_lt, cond-true, cond-false, cond_both}
 use Rattle.std.proofs.Common.{slice_index_or}
 use Rattle.std.specs.Str.{IsUtf8}
@@ -8,7 +8,8 @@ use Rattle.wk_module.specs.declared.types.Parts.{Parts}
 use Rattle.wk_module.specs.declared.types.Custom.{Custom}
 use Rattle.wk_module.specs.declared.types.FuncType.{FuncType}
 use Rattle.wk_body.specs.declared.types.Profile.{Profile}
-use Rattle.wk_module.specs.Sections.{SectionId, TypeSection, ImportSection, FunctionSection, TableSection, MemorySection, GlobalSection, ExportSection, StartSection, ElementSection, CodeSection, DataSection, contents, AreValid}
+use Rattle.wk_module.specs.Sections.{SectionId, TypeSection, ImportSection, FunctionSection, TableSection, MemorySection, GlobalSection, ExportSection, StartSection, ElementSection, CodeSection, DataSection, ContentsOf, SectionLists, contents, omitted, with_contents, AreValid}
+use Rattle.wk_module.specs.SectionLaws.{same_or_other, contents-here, contents-elsewhere, contents-none}
 use Rattle.wk_module.specs.Shape.{lists_of, lowered, settled_custom, settle, filled_ids, is_filled, IsInOrderFrom, AreNamed, IsFormed, IsShaped, nothing}
 
 -- ---- the greatest id up to one that passes, or 0
@@ -140,36 +141,39 @@ second_more a b rest (suc (suc id)) h t = t
 filled_type : (t : FuncType) (m : Parts) (id : ℕ) → is_filled m id ≡ true → is_filled (record m { types = m.types ++ t ∷ [] }) id ≡ true
 filled_type t m id filled = second_more (not (is_empty m.types)) (not (is_empty (m.types ++ t ∷ []))) (drop 2 (filled_ids m)) id (λ _. some_types t m.types) filled
 
--- the lists of a module are valid whatever its types are, where those are few
-types_valid : (ts : List FuncType) (m : Parts) → length ts < 2 ^ 32 → ((k : SectionId) → AreValid m.profile k (contents (lists_of m) k)) → (k : SectionId) → AreValid m.profile k (contents (lists_of (record m { types = ts })) k)
-types_valid ts m few valid TypeSection = few
-types_valid ts m few valid ImportSection = valid ImportSection
-types_valid ts m few valid FunctionSection = valid FunctionSection
-types_valid ts m few valid TableSection = valid TableSection
-types_valid ts m few valid MemorySection = valid MemorySection
-types_valid ts m few valid GlobalSection = valid GlobalSection
-types_valid ts m few valid ExportSection = valid ExportSection
-types_valid ts m few valid StartSection = valid StartSection
-types_valid ts m few valid ElementSection = valid ElementSection
-types_valid ts m few valid CodeSection = valid CodeSection
-types_valid ts m few valid DataSection = valid DataSection
+-- ---- other contents of one section
 
--- a formed module is formed with any types that are few
+-- the contents of all sections are valid
+abbrev pub AreAllValid : Profile → SectionLists → Type 0
+AreAllValid profile l = (k : SectionId) → AreValid profile k (contents l k)
+
+pub valid_with : (profile : Profile) (j : SectionId) (x : ContentsOf j) (l : SectionLists) → AreValid profile j x → AreAllValid profile l → AreAllValid profile (with_contents j x l)
+valid_with profile j x l here all k =
+    elim (same_or_other j k) [
+      | inl same ↦ subst (λ (i : SectionId). AreValid profile i (contents (with_contents j x l) i)) same (subst (AreValid profile j) (sym (contents-here j x l)) here)
+      | inr other ↦ subst (AreValid profile k) (sym (contents-elsewhere j k x l other)) (all k)
+    ]
+
+-- a module is formed with any types that are few
 pub types_formed : (ts : List FuncType) (m : Parts) → length ts < 2 ^ 32 → IsFormed m → IsFormed (record m { types = ts })
-types_formed ts m few f = record { valid = types_valid ts m few f.valid; order = f.order; names = f.names }
+types_formed ts m few f = record { valid = valid_with m.profile TypeSection ts (lists_of m) few f.valid; order = f.order; names = f.names }
+
+-- what a section holds that is left out is valid
+pub omitted_valid : (profile : Profile) (k : SectionId) → AreValid profile k (omitted k)
+omitted_valid profile TypeSection = omega arith
+omitted_valid profile ImportSection = (omega arith, tt)
+omitted_valid profile FunctionSection = (omega arith, tt)
+omitted_valid profile TableSection = (omega arith, tt)
+omitted_valid profile MemorySection = (omega arith, tt)
+omitted_valid profile GlobalSection = (omega arith, tt)
+omitted_valid profile ExportSection = (omega arith, tt)
+omitted_valid profile StartSection = tt
+omitted_valid profile ElementSection = (omega arith, tt)
+omitted_valid profile CodeSection = (omega arith, tt)
+omitted_valid profile DataSection = (omega arith, tt)
 
 nothing_valid : (profile : Profile) (k : SectionId) → AreValid profile k (contents (lists_of (nothing profile)) k)
-nothing_valid profile TypeSection = omega arith
-nothing_valid profile ImportSection = (omega arith, tt)
-nothing_valid profile FunctionSection = (omega arith, tt)
-nothing_valid profile TableSection = (omega arith, tt)
-nothing_valid profile MemorySection = (omega arith, tt)
-nothing_valid profile GlobalSection = (omega arith, tt)
-nothing_valid profile ExportSection = (omega arith, tt)
-nothing_valid profile StartSection = tt
-nothing_valid profile ElementSection = (omega arith, tt)
-nothing_valid profile CodeSection = (omega arith, tt)
-nothing_valid profile DataSection = (omega arith, tt)
+nothing_valid profile k = subst (AreValid profile k) (sym (contents-none k)) (omitted_valid profile k)
 
 -- a module with nothing is shaped
 pub nothing_shaped : (profile : Profile) → IsShaped (nothing profile)
@@ -190,16 +194,21 @@ settle_shaped m f = record {
   settled = settle-settle m;
 }
 
+-- a formed module is formed with other customs that rise and are named
+pub customs_formed : (cs : List Custom) (m : Parts) → IsInOrderFrom 0 cs → AreNamed cs → IsFormed m → IsFormed (record m { customs = cs })
+customs_formed cs m order names f = record { valid = f.valid; order = order; names = names }
+
+-- with some of its own
+pub filter_formed : (keep : Custom → Bool) (m : Parts) → IsFormed m → IsFormed (record m { customs = filter keep m.customs })
+filter_formed keep m f =
+    customs_formed (filter keep m.customs) m (in_order_filter keep 0 m.customs f.order) (named_filter keep m.customs f.names) f
+
 -- a module with some of its customs is shaped
 pub filter_shaped : (keep : Custom → Bool) (m : Parts) → IsShaped m → IsShaped (record m { customs = filter keep m.customs })
 filter_shaped keep m s =
     let settled = ap (λ (n : Parts). n.customs) s.settled in
     record {
-      formed = record {
-        valid = s.formed.valid;
-        order = in_order_filter keep 0 m.customs s.formed.order;
-        names = named_filter keep m.customs s.formed.names;
-      };
+      formed = filter_formed keep m s.formed;
       settled = ap (λ (cs : List Custom). record m { customs = cs }) (settled_filter (is_filled m) keep m.customs settled);
     }
 
@@ -211,8 +220,5 @@ settle-type t m settled =
 
 -- a module with one more custom of the greatest place is formed
 pub push_formed : (c : Custom) (m : Parts) → c.place ≡ 11 → IsUtf8 c.name → IsFormed m → IsFormed (record m { customs = m.customs ++ c ∷ [] })
-push_formed c m last text f = record {
-  valid = f.valid;
-  order = in_order_push c 0 m.customs (omega arith) last f.order;
-  names = named_push c m.customs text f.names;
-}
+push_formed c m last text f =
+    customs_formed (m.customs ++ c ∷ []) m (in_order_push c 0 m.customs (omega arith) last f.order) (named_push c m.customs text f.names) f

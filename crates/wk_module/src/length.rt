@@ -6,6 +6,7 @@ ghost use Rattle.std.specs.List.{flat_map};
 ghost use Rattle.wk_module.specs.Customs.{written_custom};
 ghost use Rattle.wk_module.specs.Sections.{of_number};
 ghost use Rattle.wk_module.specs.Shape.{lists_of};
+ghost use Rattle.wk_module.specs.Sizes.{framed_size, section_size, whole_size};
 ghost use Rattle.wk_module.specs.Writing.{encoded, framed, section_of, ids, contents_by, SectionLen};
 
 use crate::format::{Codes, FuncIndices};
@@ -13,7 +14,7 @@ use crate::lists::Lists;
 use crate::module::Module;
 use crate::types::{Custom, Parts};
 use crate::writing::{list_len, plus, plus_bytes, plus_u32};
-use wk_bytes::Items;
+use wk_bytes::{Items, LIMIT};
 
 /// The length of the magic and the version.
 const HEADER_LEN: u32 = 8;
@@ -63,8 +64,50 @@ pub(crate) fn contents_len(parts: &Parts, id: u8) -> Option<u32>
     match id {
         FUNCTIONS => list_len::<FuncIndices>(parts.funcs.as_slice()),
         CODES => list_len::<Codes>(parts.funcs.as_slice()),
-        _ => Lists::but_funcs(parts).contents_len(id),
+        _ => Lists::of(parts, &[]).contents_len(id),
     }
+}
+
+/// How many bytes a section has whose contents are that many, with its id and its size; or nothing past 2,147,483,647. It takes no
+/// memory.
+pub fn framed_len(contents: u32) -> Option<u32>
+    ensures { result ≡ limited (framed_size contents) }
+{
+    plus_size(Some(0), contents as usize)
+}
+
+/// How many bytes a module has whose sections have that many contents, by their ids from 0 on, and whose custom sections have that
+/// many together, ids and sizes with them; or nothing past 2,147,483,647. A section without contents is left out. It takes no
+/// memory.
+pub fn measured(contents: &[usize], customs: usize) -> Option<u32>
+    ensures { result ≡ limited (whole_size contents.now customs) }
+{
+    let mut total = Some(HEADER_LEN);
+    for size in contents {
+        total = plus_sized(total, *size);
+    }
+    plus(total, customs)
+}
+
+/// A length with a section of that many contents added, which is left out where it has none.
+fn plus_sized(total: Option<u32>, contents: usize) -> Option<u32>
+    ensures { GrowsBy (section_size contents) total result }
+{
+    if contents == 0 {
+        return total;
+    }
+    plus_size(total, contents)
+}
+
+/// A length with a section of that many contents added, or nothing past the limit.
+fn plus_size(total: Option<u32>, contents: usize) -> Option<u32>
+    ensures { GrowsBy (framed_size contents) total result }
+{
+    if contents > LIMIT {
+        return None;
+    }
+    let total = plus_u32(plus(total, 1), contents as u32);
+    plus(total, contents)
 }
 
 /// A length with a section whose contents are so long added, or nothing past the limit.
@@ -72,8 +115,7 @@ fn plus_framed(total: Option<u32>, size: Option<u32>) -> Option<u32>
     ensures { (id : ℕ) (contents : List ℕ) → size ≡ limited (length contents) → GrowsBy (length (framed id contents)) total result }
 {
     let size = size?;
-    let total = plus_u32(plus(total, 1), size);
-    plus(total, size as usize)
+    plus_size(total, size as usize)
 }
 
 /// A length with the section of an id added, which is left out where it has no contents.

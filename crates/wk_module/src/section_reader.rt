@@ -2,13 +2,14 @@
 
 ghost use Rattle.std.specs.Prelude.{◌≡◌, ◌≢◌, ◌<◌, ◌-◌, ◌^◌, [], length, Ok, Err, IfOk, OnOk, IfErr, MatchResult};
 ghost use Rattle.wk_bytes.specs.Frames.{sections_of};
+ghost use Rattle.wk_bytes.specs.LebLaws.{IsBytes};
 ghost use Rattle.wk_bytes.specs.Raw.{raw_view};
 ghost use Rattle.wk_bytes.specs.Span.{fault};
 ghost use Rattle.wk_body.specs.Reads.{FailsAs, Parses, Reads};
 ghost use Rattle.wk_body.specs.Vectors.{items_at};
 ghost use Rattle.wk_module.specs.Formats.{bytes_at};
 ghost use Rattle.wk_module.specs.Items.{code_at};
-ghost use Rattle.wk_module.specs.Listed.{listed};
+ghost use Rattle.wk_module.specs.Listed.{listed, AreNumbered};
 ghost use Rattle.wk_module.specs.ListReading.{GoesTo, front_of, front_read, opened_at, rest_read, with_listed};
 ghost use Rattle.wk_module.specs.Reading.{section_end};
 ghost use Rattle.wk_module.specs.Sections.{codes_at, no_lists};
@@ -44,11 +45,15 @@ impl<'a> Model for SectionReader<'a> {
 
     ghost view = { λ r. record { profile = r.profile; lists = r.so_far.lists; left = r.left } };
 
-    ghost use Rattle.std.specs.Prelude.{ℕ};
-    ghost use Rattle.wk_module.specs.ListReading.{Rise};
+    ghost use Rattle.wk_module.specs.ListReading.{IsUnderway};
 
-    ghost invariant = { λ r. (last : ℕ) × Rise last r.left };
+    ghost invariant = { λ r. IsUnderway r.so_far.lists r.left };
 }
+
+// Bytes are below 256. It does nothing.
+fn are_bytes(bytes: &[u8])
+    ensures { IsBytes bytes.now }
+{}
 
 impl SoFar {
     // Reads one more section, and keeps nothing of a custom one.
@@ -62,7 +67,9 @@ impl SoFar {
     ) -> Result<(), ReadFault>
         ensures read { Reads (λ u. self.new.lists) result (with_listed profile self.old.lists (raw_view section.now)) }
         ensures codes { section.now.id ≢ 10 → IfOk result (λ u. self.new.lists.codes ≡ self.old.lists.codes) }
+        ensures few { AreNumbered self.old.lists → IfOk result (λ u. AreNumbered self.new.lists) }
     {
+        are_bytes(section.contents);
         match section.id {
             1..=5 => self.read_low_section(alloc, scratch, profile, section),
             6..=11 => self.read_high_section(alloc, scratch, profile, section),
@@ -160,15 +167,15 @@ impl<'a> SectionReader<'a> {
         })
     }
 
-    /// The lists that are read, but for codes.
+    /// The lists that are read, but for codes. Each holds fewer items than there are numbers of 32 bits.
     pub fn lists(&self) -> Lists<'_>
         ensures lists { listed result ≡ record self.now.lists { codes = [] } }
         ensures profile { result.profile ≡ self.now.profile }
+        ensures few { AreNumbered (listed result) }
     {
         Lists {
             profile: self.profile,
-            funcs: self.so_far.indices.as_slice(),
-            ..Lists::but_funcs(&self.so_far.parts)
+            ..Lists::of(&self.so_far.parts, self.so_far.indices.as_slice())
         }
     }
 }

@@ -42,18 +42,6 @@ fn kind_code(kind: Kind) -> u8
     }
 }
 
-// The kind of what is imported.
-fn kind_of(desc: &ImportDesc) -> Kind
-    ensures { result ≡ desc_kind desc.now }
-{
-    match desc {
-        ImportDesc::Func(_) => Kind::Func,
-        ImportDesc::Table(_) => Kind::Table,
-        ImportDesc::Memory(_) => Kind::Memory,
-        ImportDesc::Global(_) => Kind::Global,
-    }
-}
-
 // A length with limits added.
 fn plus_limits(total: Option<u32>, limits: Limits) -> Option<u32>
     ensures { GrowsBy (length (written_limits limits)) total result }
@@ -116,7 +104,7 @@ fn put_global_type(ty: GlobalType, bytes: &mut Vec<u8>) -> Result<(), OutOfMemor
 fn put_desc(desc: &ImportDesc, bytes: &mut Vec<u8>) -> Result<(), OutOfMemory>
     ensures { OnOk result (bytes.new.items ≡ bytes.old.items ++ written_desc desc.now) }
 {
-    bytes.push(kind_code(kind_of(desc)))?;
+    bytes.push(kind_code(desc.kind()))?;
     match *desc {
         ImportDesc::Func(ty) => put_u32(bytes, ty),
         ImportDesc::Table(limits) => put_table_type(limits, bytes),

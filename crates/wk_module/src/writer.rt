@@ -16,6 +16,7 @@ use crate::format::{Codes, FuncIndices};
 use crate::length::{CODES, FUNCTIONS, LAST, contents_len, custom_len, encoded_len};
 use crate::lists::Lists;
 use crate::module::Module;
+use crate::reader::one_module;
 use crate::types::{Custom, Parts};
 use crate::writing::{put_bytes, put_list};
 use std::alloc::Global;
@@ -45,9 +46,9 @@ pub fn encode(alloc: Global, module: &Module) -> Result<Vec<u8>, EncodeFault>
     ensures spells { Fits «module».now → Spells (encoded «module».now) «module».now }
     ensures alone { (n : Seen) → Fits «module».now → n.profile ≡ («module».now).profile → Spells (encoded «module».now) n → n ≡ «module».now }
 {
-    // The proof asks for what these two say of expressions and bodies.
-    reading_of_code();
-    written_form_of_code();
+    // The proof asks for what these two say of modules.
+    written_form_of_module();
+    one_module();
     let parts = module.parts();
     let Some(len) = encoded_len(module) else {
         return Err(EncodeFault::TooLarge);
@@ -125,7 +126,7 @@ fn put_contents(parts: &Parts, id: u8, bytes: &mut Vec<u8>) -> Result<(), OutOfM
     match id {
         FUNCTIONS => put_list::<FuncIndices>(parts.funcs.as_slice(), bytes),
         CODES => put_list::<Codes>(parts.funcs.as_slice(), bytes),
-        _ => Lists::but_funcs(parts).put_contents(id, bytes),
+        _ => Lists::of(parts, &[]).put_contents(id, bytes),
     }
 }
 

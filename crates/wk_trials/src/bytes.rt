@@ -1,125 +1,203 @@
 //! Calls of `wk_bytes`.
 
+ghost use Rattle.std.specs.Prelude.{◌≡◌, ◌<◌, ◌-◌, ◌^◌};
+
 use crate::mark::{call_begins, call_ends};
 use crate::outcome::Outcome;
-use crate::sinks::{BEFORE, Room, has_appended, sink};
-use std::alloc::{AllocError, Global};
+use crate::sinks::{BEFORE, Room, has_appended, holds, sink};
+use std::alloc::Global;
 use wk_bytes::{
-    Items, Out, OutFault, OutOfMemory, Sink, Text, out_u32, put_all, put_s32, put_s33, put_s64,
-    put_u32,
+    Cursor, Items, Out, OutFault, OutOfMemory, Sections, Sink, Stream, Text, out_u32, put_all,
+    put_s32, put_s33, put_s64, put_u32,
 };
+use wk_samples::modules::WHOLE;
 
-// 624,485, the usual example of LEB128.
-const SPELLING: [u8; 3] = [0xe5, 0x8e, 0x26];
+/// An integer, put to the end of a vector.
+#[derive(Clone, Copy)]
+pub(crate) enum Integer {
+    /// By `put_u32`.
+    U32,
+    /// By `put_s32`.
+    S32,
+    /// By `put_s33`.
+    S33,
+    /// By `put_s64`.
+    S64,
+}
 
-fn after_put(answer: Result<(), OutOfMemory>, bytes: &[u8], spelling: &[u8]) -> Outcome {
-    match answer {
-        Ok(()) => Outcome::answered(has_appended(bytes, spelling)),
-        Err(OutOfMemory) => Outcome::refused(has_appended(bytes, &[])),
+impl Integer {
+    fn put(self, out: &mut Vec<u8>) -> Result<(), OutOfMemory> {
+        match self {
+            Integer::U32 => put_u32(out, 624_485),
+            Integer::S32 => put_s32(out, -123_456),
+            Integer::S33 => put_s33(out, -4_294_967_296),
+            Integer::S64 => put_s64(out, i64::MIN),
+        }
+    }
+
+    fn spelling(self) -> &'static [u8] {
+        match self {
+            Integer::U32 => b"\xe5\x8e\x26",
+            Integer::S32 => b"\xc0\xbb\x78",
+            Integer::S33 => b"\x80\x80\x80\x80\x70",
+            Integer::S64 => b"\x80\x80\x80\x80\x80\x80\x80\x80\x80\x7f",
+        }
+    }
+
+    /// The call, on a full vector.
+    pub(crate) fn run(self, alloc: Global) -> Outcome {
+        match Vec::from_slice(alloc, &BEFORE) {
+            Ok(mut bytes) => self.run_on(alloc, &mut bytes),
+            Err(_) => Outcome::NO_SAMPLE,
+        }
+    }
+
+    fn run_on(self, alloc: Global, bytes: &mut Vec<u8>) -> Outcome {
+        call_begins(alloc);
+        let answer = self.put(bytes);
+        call_ends(alloc);
+        match answer {
+            Ok(()) => Outcome::answered(has_appended(bytes, self.spelling())),
+            Err(OutOfMemory) => Outcome::refused(has_appended(bytes, &[])),
+        }
     }
 }
 
-/// `put_u32` to a full vector.
-pub(crate) fn puts_u32(alloc: Global) -> Result<Outcome, AllocError> {
-    let mut bytes = Vec::from_slice(alloc, &BEFORE)?;
-    call_begins(alloc)?;
-    let answer = put_u32(&mut bytes, 624_485);
-    call_ends(alloc)?;
-    Ok(after_put(answer, &bytes, &SPELLING))
+/// What is put to a sink.
+#[derive(Clone, Copy, PartialEq, Eq)]
+pub(crate) enum Put {
+    /// Bytes, by `put_all`.
+    All,
+    /// An integer, by `out_u32`.
+    U32,
 }
 
-/// `put_s32` to a full vector.
-pub(crate) fn puts_s32(alloc: Global) -> Result<Outcome, AllocError> {
-    let mut bytes = Vec::from_slice(alloc, &BEFORE)?;
-    call_begins(alloc)?;
-    let answer = put_s32(&mut bytes, -123_456);
-    call_ends(alloc)?;
-    Ok(after_put(answer, &bytes, &[0xc0, 0xbb, 0x78]))
-}
+const MORE: &[u8] = b"more bytes";
 
-/// `put_s33` to a full vector.
-pub(crate) fn puts_s33(alloc: Global) -> Result<Outcome, AllocError> {
-    let mut bytes = Vec::from_slice(alloc, &BEFORE)?;
-    call_begins(alloc)?;
-    let answer = put_s33(&mut bytes, -4_294_967_296);
-    call_ends(alloc)?;
-    Ok(after_put(answer, &bytes, &[0x80, 0x80, 0x80, 0x80, 0x70]))
-}
+impl Put {
+    fn put(self, sink: &mut Sink) -> Result<(), OutFault>
+        requires { ⟦<Sink as Out>⟧.failed sink.old < 2 ^ 64 - 1 }
+    {
+        match self {
+            Put::All => put_all(sink, MORE),
+            Put::U32 => out_u32(sink, 624_485),
+        }
+    }
 
-/// `put_s64` to a full vector.
-pub(crate) fn puts_s64(alloc: Global) -> Result<Outcome, AllocError> {
-    let mut bytes = Vec::from_slice(alloc, &BEFORE)?;
-    call_begins(alloc)?;
-    let answer = put_s64(&mut bytes, i64::MIN);
-    call_ends(alloc)?;
-    Ok(after_put(
-        answer,
-        &bytes,
-        &[0x80, 0x80, 0x80, 0x80, 0x80, 0x80, 0x80, 0x80, 0x80, 0x7f],
-    ))
-}
+    fn bytes(self) -> &'static [u8] {
+        match self {
+            Put::All => MORE,
+            Put::U32 => Integer::U32.spelling(),
+        }
+    }
 
-fn after_out(answer: Result<(), OutFault>, sink: Sink, taken: &[u8]) -> Outcome {
-    let failures = sink.failures();
-    let bytes = sink.into_inner();
-    match answer {
-        Ok(()) => Outcome::answered(failures == 0 && has_appended(&bytes, taken)),
-        Err(OutFault) => Outcome::refused(failures == 1 && has_appended(&bytes, &[])),
+    /// The call, on a sink with that much room.
+    pub(crate) fn run(self, alloc: Global, room: Room) -> Outcome {
+        match sink(alloc, room) {
+            Some(sink) => self.run_on(alloc, sink),
+            None => Outcome::NO_SAMPLE,
+        }
+    }
+
+    fn run_on(self, alloc: Global, mut sink: Sink) -> Outcome
+        requires { ⟦<Sink as Out>⟧.failed sink ≡ 0 }
+    {
+        call_begins(alloc);
+        let answer = self.put(&mut sink);
+        call_ends(alloc);
+        match answer {
+            Ok(()) => Outcome::answered(holds(sink, 0, self.bytes())),
+            Err(OutFault) => Outcome::refused(holds(sink, 1, &[])),
+        }
     }
 }
 
-/// `put_all` to a sink with that much room.
-pub(crate) fn puts_all(alloc: Global, room: Room) -> Result<Outcome, AllocError> {
-    let mut sink = sink(alloc, room)?;
-    call_begins(alloc)?;
-    let answer = put_all(&mut sink, b"more bytes");
-    call_ends(alloc)?;
-    Ok(after_out(answer, sink, b"more bytes"))
+/// A call of `Items` or `Text`.
+#[derive(Clone, Copy)]
+pub(crate) enum Holder {
+    /// `Items::push`, which hands back what it refuses.
+    Push,
+    /// `Items::copy`.
+    Copy,
+    /// `Text::copy`.
+    Text,
 }
 
-/// `out_u32` to a sink with that much room.
-pub(crate) fn outs_u32(alloc: Global, room: Room) -> Result<Outcome, AllocError> {
-    let mut sink = sink(alloc, room)?;
-    call_begins(alloc)?;
-    let answer = out_u32(&mut sink, 624_485);
-    call_ends(alloc)?;
-    Ok(after_out(answer, sink, &SPELLING))
+impl Holder {
+    /// The call.
+    pub(crate) fn run(self, alloc: Global) -> Outcome {
+        match Vec::from_slice(alloc, &BEFORE) {
+            Ok(bytes) => self.run_on(alloc, Items::from_vec(bytes)),
+            Err(_) => Outcome::NO_SAMPLE,
+        }
+    }
+
+    fn run_on(self, alloc: Global, items: Items<u8>) -> Outcome {
+        match self {
+            Holder::Push => pushes(alloc, items),
+            Holder::Copy => copies(alloc, &items),
+            Holder::Text => copies_text(alloc),
+        }
+    }
 }
 
-/// `Items::push`, which hands back what it refuses.
-pub(crate) fn pushes_item(alloc: Global) -> Result<Outcome, AllocError> {
-    let mut items = Items::from_vec(Vec::from_slice(alloc, &BEFORE)?);
-    call_begins(alloc)?;
+fn pushes(alloc: Global, mut items: Items<u8>) -> Outcome {
+    call_begins(alloc);
     let answer = items.push(4);
-    call_ends(alloc)?;
-    Ok(match answer {
+    call_ends(alloc);
+    match answer {
         Ok(()) => Outcome::answered(has_appended(items.as_slice(), &[4])),
         Err(refused) => {
             Outcome::refused(refused.value == 4 && has_appended(items.as_slice(), &[]))
         }
-    })
+    }
 }
 
-/// `Items::copy`.
-pub(crate) fn copies_items(alloc: Global) -> Result<Outcome, AllocError> {
-    let items = Items::from_vec(Vec::from_slice(alloc, &BEFORE)?);
-    call_begins(alloc)?;
+fn copies(alloc: Global, items: &Items<u8>) -> Outcome {
+    call_begins(alloc);
     let answer = items.copy(alloc);
-    call_ends(alloc)?;
-    Ok(match answer {
+    call_ends(alloc);
+    match answer {
         Ok(copy) => Outcome::answered(has_appended(copy.as_slice(), &[])),
         Err(_) => Outcome::refused(has_appended(items.as_slice(), &[])),
-    })
+    }
 }
 
-/// `Text::copy`.
-pub(crate) fn copies_text(alloc: Global) -> Result<Outcome, AllocError> {
-    let text = Text::from_string(String::from_str(alloc, "text")?);
-    call_begins(alloc)?;
+fn copies_text(alloc: Global) -> Outcome {
+    match String::from_str(alloc, "text") {
+        Ok(text) => copies_of(alloc, &Text::from_string(text)),
+        Err(_) => Outcome::NO_SAMPLE,
+    }
+}
+
+fn copies_of(alloc: Global, text: &Text) -> Outcome {
+    call_begins(alloc);
     let answer = text.copy(alloc);
-    call_ends(alloc)?;
-    Ok(match answer {
+    call_ends(alloc);
+    match answer {
         Ok(copy) => Outcome::answered(copy.as_str() == "text"),
         Err(_) => Outcome::refused(text.as_str() == "text"),
-    })
+    }
+}
+
+// Whether the sections and a cursor find what stands there.
+fn looks(input: &[u8]) -> bool {
+    let mut count = 0;
+    for section in Sections::new(input) {
+        if section.is_ok() && count < 100 {
+            count += 1;
+        }
+    }
+    let mut cursor = Cursor::new(b"\x01a\xe5\x8e\x26");
+    cursor.name() == Ok("a") && cursor.u32() == Ok(624_485) && count == 14
+}
+
+/// `Sections`, `Cursor` and `Stream::new`.
+pub(crate) fn looks_at_bytes(alloc: Global) -> Outcome {
+    let bytes = Vec::new(alloc);
+    call_begins(alloc);
+    let is_right = looks(WHOLE);
+    let stream = Stream::new(bytes);
+    call_ends(alloc);
+    Outcome::answered(is_right && stream.into_inner().is_empty())
 }

@@ -1,13 +1,13 @@
 //! Calls of `wk_check`.
 
+use crate::bodies::NO_MEMORY;
 use crate::mark::{call_begins, call_ends};
-use crate::modules::{lists, module};
 use crate::outcome::Outcome;
-use crate::sample::{NO_MEMORY, VALID};
-use std::alloc::{AllocError, Global};
+use std::alloc::Global;
 use wk_bytes::OutOfMemory;
 use wk_check::{BodyVerdict, Meter, Verdict, Whole, judge, judge_around, judge_body, judge_bytes};
-use wk_module::{Func, Module, Profile};
+use wk_module::{Func, Lists, Module, Profile, read};
+use wk_samples::edits::VALID;
 
 // The types of the functions that `VALID` defines.
 const TYPES: &[u32] = &[1];
@@ -21,78 +21,97 @@ fn judged(answer: Result<Verdict, OutOfMemory>) -> Outcome {
 }
 
 /// `judge` of the valid module that these bytes spell.
-pub(crate) fn judges(alloc: Global, bytes: &[u8]) -> Result<Outcome, AllocError> {
-    judges_valid(alloc, &module(alloc, bytes)?)
+pub(crate) fn judges(alloc: Global, bytes: &[u8]) -> Outcome {
+    match read(alloc, bytes) {
+        Ok(module) => judges_valid(alloc, &module),
+        Err(_) => Outcome::NO_SAMPLE,
+    }
 }
 
-fn judges_valid(alloc: Global, module: &Module) -> Result<Outcome, AllocError> {
-    call_begins(alloc)?;
+fn judges_valid(alloc: Global, module: &Module) -> Outcome {
+    call_begins(alloc);
     let answer = judge(alloc, module);
-    call_ends(alloc)?;
-    Ok(judged(answer))
-}
-
-/// `judge_around`.
-pub(crate) fn judges_around(alloc: Global) -> Result<Outcome, AllocError> {
-    judges_around_of(alloc, &module(alloc, VALID)?)
-}
-
-fn judges_around_of(alloc: Global, module: &Module) -> Result<Outcome, AllocError> {
-    let lists = lists(module.parts(), TYPES);
-    call_begins(alloc)?;
-    let answer = judge_around(alloc, &lists, None);
-    call_ends(alloc)?;
-    Ok(judged(answer))
+    call_ends(alloc);
+    judged(answer)
 }
 
 /// `judge_bytes`.
-pub(crate) fn judges_bytes(alloc: Global) -> Result<Outcome, AllocError> {
-    call_begins(alloc)?;
+pub(crate) fn judges_bytes(alloc: Global) -> Outcome {
+    call_begins(alloc);
     let answer = judge_bytes(alloc, VALID, Profile::Core);
-    call_ends(alloc)?;
-    Ok(match answer {
+    call_ends(alloc);
+    match answer {
         Ok(verdict) => Outcome::answered(verdict == Verdict::Valid),
         Err(fault) => Outcome::refused(fault == NO_MEMORY),
-    })
+    }
 }
 
-/// `judge_body`, which counts the body also where it refuses.
-pub(crate) fn judges_body(alloc: Global) -> Result<Outcome, AllocError> {
-    judges_body_of(alloc, &module(alloc, VALID)?)
+/// A call that is lent the valid module.
+#[derive(Clone, Copy)]
+pub(crate) enum OfValid {
+    /// `judge_around`.
+    Around,
+    /// `Whole::of`.
+    Whole,
+    /// `judge_body`, which counts the body also where it refuses.
+    Body,
 }
 
-fn judges_body_of(alloc: Global, module: &Module) -> Result<Outcome, AllocError> {
-    let parts = module.parts();
-    let Some(func) = parts.funcs.as_slice().first() else {
-        return Ok(Outcome::Wrong("functions"));
-    };
-    let whole = Whole::of(alloc, lists(parts, TYPES)).map_err(|_| AllocError)?;
-    judges_func(alloc, &whole, func)
+impl OfValid {
+    /// The call.
+    pub(crate) fn run(self, alloc: Global) -> Outcome {
+        match read(alloc, VALID) {
+            Ok(module) => self.run_on(alloc, &module),
+            Err(_) => Outcome::NO_SAMPLE,
+        }
+    }
+
+    fn run_on(self, alloc: Global, module: &Module) -> Outcome {
+        match self {
+            OfValid::Around => judges_around(alloc, module),
+            OfValid::Whole => sees_whole(alloc, module),
+            OfValid::Body => judges_body(alloc, module),
+        }
+    }
 }
 
-fn judges_func(alloc: Global, whole: &Whole<'_>, func: &Func) -> Result<Outcome, AllocError> {
-    let mut meter = Meter::new(alloc);
-    call_begins(alloc)?;
-    let answer = judge_body(whole, func.ty, &func.body, &mut meter);
-    call_ends(alloc)?;
-    Ok(match answer {
-        Ok(verdict) => Outcome::answered(verdict == BodyVerdict::Valid && meter.typed() == 1),
-        Err(OutOfMemory) => Outcome::refused(meter.typed() == 1),
-    })
+fn judges_around(alloc: Global, module: &Module) -> Outcome {
+    let lists = Lists::of(module.parts(), TYPES);
+    call_begins(alloc);
+    let answer = judge_around(alloc, &lists, None);
+    call_ends(alloc);
+    judged(answer)
 }
 
-/// `Whole::of`.
-pub(crate) fn sees_whole(alloc: Global) -> Result<Outcome, AllocError> {
-    sees_whole_of(alloc, &module(alloc, VALID)?)
-}
-
-fn sees_whole_of(alloc: Global, module: &Module) -> Result<Outcome, AllocError> {
-    let lists = lists(module.parts(), TYPES);
-    call_begins(alloc)?;
+fn sees_whole(alloc: Global, module: &Module) -> Outcome {
+    let lists = Lists::of(module.parts(), TYPES);
+    call_begins(alloc);
     let answer = Whole::of(alloc, lists);
-    call_ends(alloc)?;
-    Ok(match answer {
+    call_ends(alloc);
+    match answer {
         Ok(_) => Outcome::answered(true),
         Err(OutOfMemory) => Outcome::refused(true),
-    })
+    }
+}
+
+fn judges_body(alloc: Global, module: &Module) -> Outcome {
+    let parts = module.parts();
+    match (
+        Whole::of(alloc, Lists::of(parts, TYPES)),
+        parts.funcs.as_slice().first(),
+    ) {
+        (Ok(whole), Some(func)) => judges_func(alloc, &whole, func),
+        _ => Outcome::NO_SAMPLE,
+    }
+}
+
+fn judges_func(alloc: Global, whole: &Whole<'_>, func: &Func) -> Outcome {
+    let mut meter = Meter::new(alloc);
+    call_begins(alloc);
+    let answer = judge_body(whole, func.ty, &func.body, &mut meter);
+    call_ends(alloc);
+    match answer {
+        Ok(verdict) => Outcome::answered(verdict == BodyVerdict::Valid && meter.typed() == 1),
+        Err(OutOfMemory) => Outcome::refused(meter.typed() == 1),
+    }
 }

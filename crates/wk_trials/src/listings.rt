@@ -1,142 +1,85 @@
 //! Calls of `wk_list`.
 
-use crate::mark::{call_begins, call_ends};
-use crate::modules::module;
-use crate::outcome::Outcome;
-use crate::sample::WHOLE;
-use crate::sinks::{Room, has_appended, has_begun, sink};
-use std::alloc::{AllocError, Global};
-use wk_bytes::Out;
-use wk_list::{ListFault, Part, Plain, list};
-use wk_module::Module;
+ghost use Rattle.std.specs.Prelude.{◌≡◌};
 
-/// A part of a module, and its lines.
-#[derive(Clone, Copy)]
-pub(crate) struct Listed {
-    /// The bytes of the module.
-    pub(crate) input: &'static [u8],
-    /// What is listed of it.
-    pub(crate) part: Part,
-    /// The lines.
-    pub(crate) text: &'static [u8],
+use crate::mark::{call_begins, call_ends};
+use crate::outcome::Outcome;
+use crate::sinks::{Room, has_appended, holds, holds_begun, sink, vector};
+use std::alloc::Global;
+use wk_bytes::{Out, OutOfMemory, Sink};
+use wk_list::{ListFault, Part, Plain, list, put_header};
+use wk_module::{Module, read};
+use wk_samples::listings::{CALLING, CODE, DETAILS, HEADERS, USES};
+use wk_samples::modules::WHOLE;
+
+// The module that has such a part, and its lines.
+fn sample(part: Part) -> (&'static [u8], &'static [u8]) {
+    match part {
+        Part::Headers => (WHOLE, HEADERS),
+        Part::Details => (WHOLE, DETAILS),
+        Part::Code => (CALLING, CODE),
+        Part::Uses => (CALLING, USES),
+    }
 }
 
-/// Headers of every section.
-pub(crate) const HEADERS: Listed = Listed {
-    input: WHOLE,
-    part: Part::Headers,
-    text: b"  Custom start=0x0000000a end=0x0000000d size=0x00000003 name=a
-    Type start=0x0000000f end=0x00000018 size=0x00000009 count=2
-  Import start=0x0000001a end=0x00000038 size=0x0000001e count=4
-Function start=0x0000003a end=0x0000003c size=0x00000002 count=1
-   Table start=0x0000003e end=0x00000042 size=0x00000004 count=1
-  Memory start=0x00000044 end=0x00000048 size=0x00000004 count=1
-  Global start=0x0000004a end=0x00000050 size=0x00000006 count=1
-  Export start=0x00000052 end=0x00000057 size=0x00000005 count=1
-   Start start=0x00000059 end=0x0000005a size=0x00000001 index=0
-    Elem start=0x0000005c end=0x00000064 size=0x00000008 count=1
-    Code start=0x00000066 end=0x0000006c size=0x00000006 count=1
-  Custom start=0x0000006e end=0x00000070 size=0x00000002 name=b
-    Data start=0x00000072 end=0x0000007a size=0x00000008 count=1
-  Custom start=0x0000007c end=0x0000007d size=0x00000001 name=x:
-",
-};
-
-/// Details of every section.
-pub(crate) const DETAILS: Listed = Listed {
-    input: WHOLE,
-    part: Part::Details,
-    text: b"Custom:
- - custom a bytes=aa
-Type[2]:
- - type[0] ()->()
- - type[1] (i32)->(i64)
-Import[4]:
- - import[0] a f func[0] type=0
- - import[1] a t table[0] min=1 max=2
- - import[2] a m memory[0] min=1
- - import[3] a g global[0] i32 const
-Function[1]:
- - func[1] type=0
-Table[1]:
- - table[1] min=3
-Memory[1]:
- - memory[1] min=1 max=2
-Global[1]:
- - global[1] i32 var init=41000b
-Export[1]:
- - export[0] f func 1
-Start:
- - start 0
-Elem[1]:
- - elem[0] table=0 offset=41000b funcs=0,1
-Code[1]:
- - func[1] size=4
-Custom:
- - custom b bytes=
-Data[1]:
- - data[0] memory=0 offset=41000b bytes=aabb
-Custom:
- - custom x: bytes=
-",
-};
-
-/// A function with a local, a block, and references of each kind.
-const CALLING: &[u8] = b"\0asm\x01\0\0\0\x01\x04\x01\x60\x00\x00\x03\x02\x01\x00\
-    \x0a\x14\x01\x12\x01\x01\x7e\x02\x40\x10\x00\x0b\x23\x00\x1a\x11\x00\x00\x3f\x00\x1a\x0b";
-
-/// Its code.
-pub(crate) const CODE: Listed = Listed {
-    input: CALLING,
-    part: Part::Code,
-    text: b"func[0] type=0:
- locals i64*1
- 00000019: block
- 0000001b:   call 0
- 0000001d: end
- 0000001e: global.get 0
- 00000020: drop
- 00000021: call_indirect type=0
- 00000024: memory.size
- 00000026: drop
- 00000027: end
-",
-};
-
-/// What it refers to.
-pub(crate) const USES: Listed = Listed {
-    input: CALLING,
-    part: Part::Uses,
-    text: b"func[0]: type[0] func[0] global[0] table memory\n",
-};
-
 /// `list` of a part, to a sink with that much room.
-pub(crate) fn lists(alloc: Global, listed: Listed, room: Room) -> Result<Outcome, AllocError> {
-    let module = module(alloc, listed.input)?;
-    let Some(plain) = Plain::of(&module) else {
-        return Ok(Outcome::Wrong("a small module does not fit"));
-    };
-    let mut sink = sink(alloc, room)?;
-    call_begins(alloc)?;
-    let answer = list(alloc, &plain, listed.part, &mut sink);
-    call_ends(alloc)?;
-    let failures = sink.failures();
-    let taken = sink.into_inner();
-    Ok(match answer {
-        Ok(()) => Outcome::answered(failures == 0 && has_appended(&taken, listed.text)),
-        Err(ListFault::Write) => Outcome::refused(failures == 1 && has_begun(&taken, listed.text)),
-        Err(ListFault::Memory) => Outcome::refused(failures == 0 && has_begun(&taken, listed.text)),
-    })
+pub(crate) fn lists(alloc: Global, part: Part, room: Room) -> Outcome {
+    let (input, _) = sample(part);
+    match read(alloc, input) {
+        Ok(module) => lists_of(alloc, &module, part, room),
+        Err(_) => Outcome::NO_SAMPLE,
+    }
+}
+
+fn lists_of(alloc: Global, module: &Module, part: Part, room: Room) -> Outcome {
+    match (Plain::of(module), sink(alloc, room)) {
+        (Some(plain), Some(sink)) => lists_to(alloc, &plain, part, sink),
+        _ => Outcome::NO_SAMPLE,
+    }
+}
+
+fn lists_to(alloc: Global, plain: &Plain<'_>, part: Part, mut sink: Sink) -> Outcome
+    requires { ⟦<Sink as Out>⟧.failed sink ≡ 0 }
+{
+    let (_, text) = sample(part);
+    call_begins(alloc);
+    let answer = list(alloc, plain, part, &mut sink);
+    call_ends(alloc);
+    match answer {
+        Ok(()) => Outcome::answered(holds(sink, 0, text)),
+        Err(ListFault::Write) => Outcome::refused(holds_begun(sink, 1, text)),
+        Err(ListFault::Memory) => Outcome::refused(holds_begun(sink, 0, text)),
+    }
 }
 
 /// `Plain::of`.
-pub(crate) fn sees_plain(alloc: Global) -> Result<Outcome, AllocError> {
-    sees_plain_of(alloc, &module(alloc, WHOLE)?)
+pub(crate) fn sees_plain(alloc: Global) -> Outcome {
+    match read(alloc, WHOLE) {
+        Ok(module) => sees_plain_of(alloc, &module),
+        Err(_) => Outcome::NO_SAMPLE,
+    }
 }
 
-fn sees_plain_of(alloc: Global, module: &Module) -> Result<Outcome, AllocError> {
-    call_begins(alloc)?;
+fn sees_plain_of(alloc: Global, module: &Module) -> Outcome {
+    call_begins(alloc);
     let plain = Plain::of(module);
-    call_ends(alloc)?;
-    Ok(Outcome::answered(plain.is_some()))
+    call_ends(alloc);
+    Outcome::answered(plain.is_some())
+}
+
+/// `put_header` to a full vector.
+pub(crate) fn puts_header(alloc: Global) -> Outcome {
+    match vector(alloc, Room::Full) {
+        Some(mut text) => {
+            call_begins(alloc);
+            let answer = put_header(&mut text, 11, 10, 20);
+            call_ends(alloc);
+            let line = b"    Data start=0x0000000a end=0x0000001e size=0x00000014";
+            match answer {
+                Ok(()) => Outcome::answered(has_appended(&text, line)),
+                Err(OutOfMemory) => Outcome::refused(true),
+            }
+        }
+        None => Outcome::NO_SAMPLE,
+    }
 }

@@ -1,6 +1,6 @@
 //! Calls of the libraries where memory may be wanting, one scenario a word.
 //!
-//! - `wk_trials SCENARIO` prints `fine`, `memory` or `wrong: ..`. Between two allocations of agreed sizes it makes the one
+//! - `wk_trials SCENARIO` prints `fine`, `memory`, `memory: PLACE` or `wrong: ..`. Between two allocations of agreed sizes it makes the one
 //!   call that it is about, so that a library loaded before it can refuse each allocation of that call in turn
 //!   (`tests/refusals`).
 //! - `wk_trials` runs each scenario once and prints a line for each.
@@ -14,21 +14,19 @@ mod listings;
 mod mark;
 mod modules;
 mod outcome;
-mod sample;
 mod scenario;
 mod sessions;
 mod sinks;
 
 use crate::outcome::Outcome;
-use crate::scenario::Scenario;
+use crate::scenario::{Scenario, TABLE};
 use anyhow::{Result, bail};
 use std::env;
 use std::process::ExitCode;
 
 fn run_all(rt: &(impl AllocGlobal + Print)) -> Result<()> {
-    for scenario in Scenario::ALL {
-        let name = scenario.name();
-        let outcome = scenario.run(rt.alloc())?;
+    for (name, scenario) in TABLE {
+        let outcome = scenario.run(rt.alloc());
         println!(rt; "{name}: {outcome}")?;
     }
     Ok(())
@@ -38,10 +36,10 @@ fn run_one(rt: &(impl AllocGlobal + Print), name: &str) -> Result<ExitCode> {
     let Some(scenario) = Scenario::named(name) else {
         bail!("no scenario has that name");
     };
-    let outcome = scenario.run(rt.alloc())?;
+    let outcome = scenario.run(rt.alloc());
     println!(rt; "{outcome}")?;
     Ok(match outcome {
-        Outcome::Fine | Outcome::Memory => ExitCode::SUCCESS,
+        Outcome::Fine | Outcome::Memory | Outcome::MemoryOf(_) => ExitCode::SUCCESS,
         Outcome::Wrong(_) => ExitCode::FAILURE,
     })
 }

@@ -6,17 +6,17 @@ const BEGINS: usize = 770_001;
 
 const ENDS: usize = 770_002;
 
-fn allocate(alloc: Global, size: usize) -> Result<(), AllocError> {
-    let _mark: Vec<u8> = Vec::with_capacity(alloc, size)?;
-    Ok(())
+// What it is answered makes no difference: a mark that is refused is not counted, which the script finds.
+fn allocate(alloc: Global, size: usize) {
+    let _mark: Result<Vec<u8>, AllocError> = Vec::with_capacity(alloc, size);
 }
 
 /// From here on allocations are counted.
-pub(crate) fn call_begins(alloc: Global) -> Result<(), AllocError> {
-    allocate(alloc, BEGINS)
+pub(crate) fn call_begins(alloc: Global) {
+    allocate(alloc, BEGINS);
 }
 
 /// From here on they are not.
-pub(crate) fn call_ends(alloc: Global) -> Result<(), AllocError> {
-    allocate(alloc, ENDS)
+pub(crate) fn call_ends(alloc: Global) {
+    allocate(alloc, ENDS);
 }

@@ -10,11 +10,16 @@ pub(crate) enum Outcome {
     Fine,
     /// It answered want of memory, and all was as before.
     Memory,
-    /// Neither, and what was wrong.
+    /// It answered want of memory in that place, and all is as it has to be then.
+    MemoryOf(&'static str),
+    /// None of these, and what was wrong.
     Wrong(&'static str),
 }
 
 impl Outcome {
+    /// There was no memory for what the scenario itself needs, or a sample is not what it has to be.
+    pub(crate) const NO_SAMPLE: Outcome = Outcome::Wrong("the sample was not made");
+
     /// The outcome of a call that answered.
     pub(crate) fn answered(is_right: bool) -> Outcome
         ensures { (result ≡ Outcome.Fine) ↔ IsTrue is_right }
@@ -26,14 +31,14 @@ impl Outcome {
         }
     }
 
-    /// The outcome of a call that answered want of memory.
+    /// The outcome of a call that answered a fault, whether it is want of memory and all is as before.
     pub(crate) fn refused(is_as_before: bool) -> Outcome
         ensures { (result ≡ Outcome.Memory) ↔ IsTrue is_as_before }
     {
         if is_as_before {
             Outcome::Memory
         } else {
-            Outcome::Wrong("a refusal left something changed")
+            Outcome::Wrong("a refusal left something changed, or has another cause")
         }
     }
 }
@@ -43,6 +48,7 @@ impl fmt::Display for Outcome {
         match self {
             Outcome::Fine => f.write_str("fine"),
             Outcome::Memory => f.write_str("memory"),
+            Outcome::MemoryOf(place) => write!(f, "memory: {place}"),
             Outcome::Wrong(what) => write!(f, "wrong: {what}"),
         }
     }

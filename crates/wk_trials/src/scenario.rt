@@ -1,324 +1,239 @@
 //! The scenarios and their names.
 
+use crate::bodies::{OfBody, OfExpr};
+use crate::bytes::{Holder, Integer, Put};
+use crate::jobs::{BAD_SCRIPT, EDIT_OF_CODE, EDITS, Job, Line, MALFORMED};
+use crate::judging::OfValid;
+use crate::modules::OfWhole;
 use crate::outcome::Outcome;
-use crate::sample::{MODULE, VALID, WHOLE, WITH_BYTES, WITH_CUSTOM, WITHOUT_CUSTOMS};
-use crate::sinks::Room;
+use crate::sessions::Change;
+use crate::sinks::Room::{self, Ample, Full};
 use crate::{bodies, bytes, jobs, judging, listings, modules, sessions};
-use std::alloc::{AllocError, Global};
-use wk_session::Edit;
+use std::alloc::Global;
+use wk_list::Part;
+use wk_samples::edits::{MODULE, VALID};
+use wk_samples::modules::WHOLE;
 
 /// A call under test.
-#[derive(Clone, Copy, Debug, PartialEq, Eq)]
+#[derive(Clone, Copy)]
 pub(crate) enum Scenario {
-    /// `put_u32` to a full vector.
-    PutU32,
-    /// `put_s32` to a full vector.
-    PutS32,
-    /// `put_s33` to a full vector.
-    PutS33,
-    /// `put_s64` to a full vector.
-    PutS64,
-    /// `put_all` to a full `Sink`.
-    SinkPut,
-    /// `put_all` to a `Sink` with room.
-    SinkPutInRoom,
-    /// `out_u32` to a full `Sink`.
-    OutU32,
-    /// `out_u32` to a `Sink` with room.
-    OutU32InRoom,
-    /// `Items::push`.
-    ItemsPush,
-    /// `Items::copy`.
-    ItemsCopy,
-    /// `Text::copy`.
-    TextCopy,
-    /// `wk_body::read_body`.
+    /// An integer to a full vector.
+    Put(Integer),
+    /// Bytes or an integer to a `Sink`.
+    PutOut(Put, Room),
+    /// A call of `Items` or `Text`.
+    Hold(Holder),
+    /// `Sections`, `Cursor` and `Stream::new`.
+    LookAtBytes,
+    /// `read_body`.
     ReadBody,
     /// `Scratch::read_body` in a room that was used before.
-    ReadCodeAgain,
-    /// `wk_body::next_expr_in`.
+    ReadBodyAgain,
+    /// `read_expr`.
+    ReadExpr,
+    /// `next_expr_in`.
     NextExpr,
-    /// `wk_body::encode_body`.
-    EncodeBody,
-    /// `wk_body::encode_expr`.
-    EncodeExpr,
-    /// `wk_body::body_len`.
-    BodyLen,
-    /// `wk_body::refs`.
-    Refs,
-    /// `wk_body::shift`.
-    Shift,
-    /// `wk_body::shift_expr`.
-    ShiftExpr,
-    /// `Body::clone`.
-    CloneBody,
-    /// `wk_module::read`.
-    Read,
-    /// `wk_module::encode`.
-    Encode,
-    /// `wk_module::read` of a module with every section.
-    ReadWhole,
-    /// `wk_module::encode` of a module with every section.
-    EncodeWhole,
-    /// `wk_module::encode_section` of exports.
-    EncodeSection,
-    /// `wk_module::encode_custom`.
-    EncodeCustom,
-    /// `wk_module::encoded_len` and `section_len`.
-    Lengths,
+    /// `Scratch::next_expr`.
+    NextExprInScratch,
+    /// A call that is lent a body.
+    OfBody(OfBody),
+    /// `refs` of many functions.
+    ManyRefs,
+    /// A call that is lent an expression.
+    OfExpr(OfExpr),
+    /// `read` of a module.
+    Read(&'static [u8]),
+    /// `encode` of a module.
+    Encode(&'static [u8]),
+    /// A call that is lent the module with every section.
+    OfWhole(OfWhole),
     /// `Module::of`.
     Settle,
-    /// `wk_check::judge`.
-    Judge,
-    /// `wk_check::judge` of a module without imports, exports and code, which takes no memory.
-    JudgeTypes,
-    /// `wk_check::judge_around`.
-    JudgeAround,
-    /// `wk_check::judge_bytes`.
+    /// `stripped`.
+    Strip,
+    /// `shift_lists`.
+    ShiftLists,
+    /// `SectionReader::up_to_code`.
+    UpToCode,
+    /// `SectionReader::to_end`.
+    ToEnd,
+    /// `CodeReader::next`.
+    NextCode,
+    /// `judge` of a valid module.
+    Judge(&'static [u8]),
+    /// `judge_bytes`.
     JudgeBytes,
-    /// `wk_check::judge_body`.
-    JudgeBody,
-    /// `Whole::of`.
-    SeeWhole,
+    /// A call that is lent the valid module.
+    OfValid(OfValid),
     /// `Plain::of`.
     Plain,
-    /// `list` of the headers of a module with every section.
-    ListHeaders,
-    /// `list` of its details.
-    ListDetails,
-    /// `list` of code.
-    ListCode,
-    /// `list` of what code refers to.
-    ListUses,
-    /// `list` of code to a full `Sink`.
-    ListToFull,
-    /// `Session::open`.
-    Open,
-    /// `Session::apply` of a type.
-    ApplyType,
-    /// `Session::apply` of a strip of two custom sections.
-    ApplyStrip,
-    /// `Session::apply` of bytes for a custom section.
-    ApplySet,
-    /// `Session::apply` of a new custom section.
-    ApplySetNew,
-    /// `Session::apply` of a strip of all custom sections.
-    ApplyStripAll,
-    /// `Session::apply` of a strip that finds no custom section.
-    ApplyRefused,
+    /// `put_header`.
+    PutHeader,
+    /// `list` of a part to a `Sink`.
+    List(Part, Room),
+    /// `Session::open` of a module.
+    Open(&'static [u8]),
+    /// `Session::verdict` and `Session::encoded_len`.
+    Tell,
+    /// `Session::apply` of an edit.
+    Apply(Change),
     /// `Session::run` of four edits, one of them refused in any case.
     Run,
-    /// `Session::write` to a `Sink` with room.
-    Write,
-    /// `Session::write` to a full `Sink`.
-    WriteToFull,
-    /// `wk_edit::read_script`.
+    /// `Session::write` to a `Sink`.
+    Write(Room),
+    /// `read_script`.
     ReadScript,
-    /// `wk_edit::edit` onto two outputs with room.
-    Edit,
-    /// `wk_edit::edit` where the output of the report alone is full.
-    EditReportFull,
-    /// `wk_edit::edit` onto two full outputs.
-    EditToFull,
-    /// `wk_edit::edit` of what is no module, onto two full outputs.
-    EditMalformed,
-    /// `wk_edit::edit` by a wrong script, onto two full outputs.
-    EditBadScript,
+    /// A line or a name.
+    Line(Line),
+    /// `edit` onto two outputs.
+    Edit(Job, Room, Room),
 }
 
+/// A scenario with its name, which ends in `-in-room` where it takes no memory.
+pub(crate) type Named = (&'static str, Scenario);
+
+/// All scenarios, in the order in which they are run.
+pub(crate) const TABLE: [Named; 83] = [
+    ("put-u32", Scenario::Put(Integer::U32)),
+    ("put-s32", Scenario::Put(Integer::S32)),
+    ("put-s33", Scenario::Put(Integer::S33)),
+    ("put-s64", Scenario::Put(Integer::S64)),
+    ("sink-put", Scenario::PutOut(Put::All, Full)),
+    ("sink-put-in-room", Scenario::PutOut(Put::All, Ample)),
+    ("out-u32", Scenario::PutOut(Put::U32, Full)),
+    ("out-u32-in-room", Scenario::PutOut(Put::U32, Ample)),
+    ("items-push", Scenario::Hold(Holder::Push)),
+    ("items-copy", Scenario::Hold(Holder::Copy)),
+    ("text-copy", Scenario::Hold(Holder::Text)),
+    ("cursor-in-room", Scenario::LookAtBytes),
+    ("read-body", Scenario::ReadBody),
+    ("read-body-again", Scenario::ReadBodyAgain),
+    ("read-expr", Scenario::ReadExpr),
+    ("next-expr", Scenario::NextExpr),
+    ("next-expr-in-scratch", Scenario::NextExprInScratch),
+    ("encode-body", Scenario::OfBody(OfBody::Encode)),
+    ("code-bytes", Scenario::OfBody(OfBody::Shorten)),
+    ("append-body", Scenario::OfBody(OfBody::Append)),
+    ("shift", Scenario::OfBody(OfBody::Shift)),
+    ("clone-body", Scenario::OfBody(OfBody::Clone)),
+    ("refs", Scenario::OfBody(OfBody::Refs)),
+    ("refs-of-many", Scenario::ManyRefs),
+    ("uses", Scenario::OfBody(OfBody::Uses)),
+    ("body-len-in-room", Scenario::OfBody(OfBody::Look)),
+    ("encode-expr", Scenario::OfExpr(OfExpr::Encode)),
+    ("append-expr", Scenario::OfExpr(OfExpr::Append)),
+    ("shift-expr", Scenario::OfExpr(OfExpr::Shift)),
+    ("clone-expr", Scenario::OfExpr(OfExpr::Clone)),
+    ("expr-len-in-room", Scenario::OfExpr(OfExpr::Len)),
+    ("read", Scenario::Read(MODULE)),
+    ("read-whole", Scenario::Read(WHOLE)),
+    ("read-valid", Scenario::Read(VALID)),
+    ("encode", Scenario::Encode(MODULE)),
+    ("encode-whole", Scenario::Encode(WHOLE)),
+    ("encode-valid", Scenario::Encode(VALID)),
+    ("encode-section", Scenario::OfWhole(OfWhole::Section)),
+    ("encode-custom", Scenario::OfWhole(OfWhole::Custom)),
+    ("lengths-in-room", Scenario::OfWhole(OfWhole::Lengths)),
+    ("settle-in-room", Scenario::Settle),
+    ("stripped-in-room", Scenario::Strip),
+    ("shift-lists", Scenario::ShiftLists),
+    ("up-to-code", Scenario::UpToCode),
+    ("to-end", Scenario::ToEnd),
+    ("next-code", Scenario::NextCode),
+    ("judge", Scenario::Judge(VALID)),
+    ("judge-types-in-room", Scenario::Judge(MODULE)),
+    ("judge-around", Scenario::OfValid(OfValid::Around)),
+    ("judge-bytes", Scenario::JudgeBytes),
+    ("judge-body", Scenario::OfValid(OfValid::Body)),
+    ("see-whole", Scenario::OfValid(OfValid::Whole)),
+    ("plain-in-room", Scenario::Plain),
+    ("put-header", Scenario::PutHeader),
+    ("list-headers", Scenario::List(Part::Headers, Ample)),
+    ("list-details", Scenario::List(Part::Details, Ample)),
+    ("list-code", Scenario::List(Part::Code, Ample)),
+    ("list-uses", Scenario::List(Part::Uses, Ample)),
+    ("list-headers-to-full", Scenario::List(Part::Headers, Full)),
+    ("list-code-to-full", Scenario::List(Part::Code, Full)),
+    ("open", Scenario::Open(MODULE)),
+    ("open-valid", Scenario::Open(VALID)),
+    ("verdict-in-room", Scenario::Tell),
+    ("apply-type", Scenario::Apply(Change::AddType)),
+    (
+        "apply-type-to-code",
+        Scenario::Apply(Change::AddTypeToValid),
+    ),
+    ("apply-strip-in-room", Scenario::Apply(Change::Strip)),
+    ("apply-set", Scenario::Apply(Change::Set)),
+    ("apply-set-new", Scenario::Apply(Change::SetNew)),
+    ("apply-strip-all-in-room", Scenario::Apply(Change::StripAll)),
+    (
+        "apply-refused-in-room",
+        Scenario::Apply(Change::StripAbsent),
+    ),
+    ("run", Scenario::Run),
+    ("write", Scenario::Write(Ample)),
+    ("write-to-full", Scenario::Write(Full)),
+    ("read-script", Scenario::ReadScript),
+    ("malformed-line", Scenario::Line(Line::Malformed)),
+    ("verdict-line", Scenario::Line(Line::Verdict)),
+    ("read-name", Scenario::Line(Line::Name)),
+    ("edit", Scenario::Edit(EDITS, Ample, Ample)),
+    ("edit-of-code", Scenario::Edit(EDIT_OF_CODE, Ample, Ample)),
+    ("edit-report-full", Scenario::Edit(EDITS, Ample, Full)),
+    ("edit-to-full", Scenario::Edit(EDITS, Full, Full)),
+    ("edit-malformed", Scenario::Edit(MALFORMED, Full, Full)),
+    ("edit-bad-script", Scenario::Edit(BAD_SCRIPT, Full, Full)),
+];
+
 impl Scenario {
-    /// All scenarios, in the order in which they are run.
-    pub(crate) const ALL: [Scenario; 57] = [
-        Scenario::PutU32,
-        Scenario::PutS32,
-        Scenario::PutS33,
-        Scenario::PutS64,
-        Scenario::SinkPut,
-        Scenario::SinkPutInRoom,
-        Scenario::OutU32,
-        Scenario::OutU32InRoom,
-        Scenario::ItemsPush,
-        Scenario::ItemsCopy,
-        Scenario::TextCopy,
-        Scenario::ReadBody,
-        Scenario::ReadCodeAgain,
-        Scenario::NextExpr,
-        Scenario::EncodeBody,
-        Scenario::EncodeExpr,
-        Scenario::BodyLen,
-        Scenario::Refs,
-        Scenario::Shift,
-        Scenario::ShiftExpr,
-        Scenario::CloneBody,
-        Scenario::Read,
-        Scenario::Encode,
-        Scenario::ReadWhole,
-        Scenario::EncodeWhole,
-        Scenario::EncodeSection,
-        Scenario::EncodeCustom,
-        Scenario::Lengths,
-        Scenario::Settle,
-        Scenario::Judge,
-        Scenario::JudgeTypes,
-        Scenario::JudgeAround,
-        Scenario::JudgeBytes,
-        Scenario::JudgeBody,
-        Scenario::SeeWhole,
-        Scenario::Plain,
-        Scenario::ListHeaders,
-        Scenario::ListDetails,
-        Scenario::ListCode,
-        Scenario::ListUses,
-        Scenario::ListToFull,
-        Scenario::Open,
-        Scenario::ApplyType,
-        Scenario::ApplyStrip,
-        Scenario::ApplySet,
-        Scenario::ApplySetNew,
-        Scenario::ApplyStripAll,
-        Scenario::ApplyRefused,
-        Scenario::Run,
-        Scenario::Write,
-        Scenario::WriteToFull,
-        Scenario::ReadScript,
-        Scenario::Edit,
-        Scenario::EditReportFull,
-        Scenario::EditToFull,
-        Scenario::EditMalformed,
-        Scenario::EditBadScript,
-    ];
-
-    /// The word that names it. One that ends in `-in-room` is of a call that takes no memory.
-    pub(crate) fn name(self) -> &'static str {
-        match self {
-            Scenario::PutU32 => "put-u32",
-            Scenario::PutS32 => "put-s32",
-            Scenario::PutS33 => "put-s33",
-            Scenario::PutS64 => "put-s64",
-            Scenario::SinkPut => "sink-put",
-            Scenario::SinkPutInRoom => "sink-put-in-room",
-            Scenario::OutU32 => "out-u32",
-            Scenario::OutU32InRoom => "out-u32-in-room",
-            Scenario::ItemsPush => "items-push",
-            Scenario::ItemsCopy => "items-copy",
-            Scenario::TextCopy => "text-copy",
-            Scenario::ReadBody => "read-body",
-            Scenario::ReadCodeAgain => "read-code-again",
-            Scenario::NextExpr => "next-expr",
-            Scenario::EncodeBody => "encode-body",
-            Scenario::EncodeExpr => "encode-expr",
-            Scenario::BodyLen => "body-len-in-room",
-            Scenario::Refs => "refs",
-            Scenario::Shift => "shift",
-            Scenario::ShiftExpr => "shift-expr",
-            Scenario::CloneBody => "clone-body",
-            Scenario::Read => "read",
-            Scenario::Encode => "encode",
-            Scenario::ReadWhole => "read-whole",
-            Scenario::EncodeWhole => "encode-whole",
-            Scenario::EncodeSection => "encode-section",
-            Scenario::EncodeCustom => "encode-custom",
-            Scenario::Lengths => "lengths-in-room",
-            Scenario::Settle => "settle-in-room",
-            Scenario::Judge => "judge",
-            Scenario::JudgeTypes => "judge-types-in-room",
-            Scenario::JudgeAround => "judge-around",
-            Scenario::JudgeBytes => "judge-bytes",
-            Scenario::JudgeBody => "judge-body",
-            Scenario::SeeWhole => "see-whole",
-            Scenario::Plain => "plain-in-room",
-            Scenario::ListHeaders => "list-headers",
-            Scenario::ListDetails => "list-details",
-            Scenario::ListCode => "list-code",
-            Scenario::ListUses => "list-uses",
-            Scenario::ListToFull => "list-to-full",
-            Scenario::Open => "open",
-            Scenario::ApplyType => "apply-type",
-            Scenario::ApplyStrip => "apply-strip-in-room",
-            Scenario::ApplySet => "apply-set",
-            Scenario::ApplySetNew => "apply-set-new",
-            Scenario::ApplyStripAll => "apply-strip-all-in-room",
-            Scenario::ApplyRefused => "apply-refused-in-room",
-            Scenario::Run => "run",
-            Scenario::Write => "write",
-            Scenario::WriteToFull => "write-to-full",
-            Scenario::ReadScript => "read-script",
-            Scenario::Edit => "edit",
-            Scenario::EditReportFull => "edit-report-full",
-            Scenario::EditToFull => "edit-to-full",
-            Scenario::EditMalformed => "edit-malformed",
-            Scenario::EditBadScript => "edit-bad-script",
-        }
-    }
-
-    /// The scenario of that word.
+    /// The scenario of that name.
     pub(crate) fn named(name: &str) -> Option<Scenario> {
-        Scenario::ALL
-            .iter()
-            .copied()
-            .find(|scenario| scenario.name() == name)
+        for (known, scenario) in TABLE {
+            if known == name {
+                return Some(scenario);
+            }
+        }
+        None
     }
 
-    /// Runs it. An error says that there was no memory for what the scenario itself needs.
-    pub(crate) fn run(self, alloc: Global) -> Result<Outcome, AllocError> {
+    /// Runs it.
+    pub(crate) fn run(self, alloc: Global) -> Outcome {
         match self {
-            Scenario::PutU32 => bytes::puts_u32(alloc),
-            Scenario::PutS32 => bytes::puts_s32(alloc),
-            Scenario::PutS33 => bytes::puts_s33(alloc),
-            Scenario::PutS64 => bytes::puts_s64(alloc),
-            Scenario::SinkPut => bytes::puts_all(alloc, Room::Full),
-            Scenario::SinkPutInRoom => bytes::puts_all(alloc, Room::Ample),
-            Scenario::OutU32 => bytes::outs_u32(alloc, Room::Full),
-            Scenario::OutU32InRoom => bytes::outs_u32(alloc, Room::Ample),
-            Scenario::ItemsPush => bytes::pushes_item(alloc),
-            Scenario::ItemsCopy => bytes::copies_items(alloc),
-            Scenario::TextCopy => bytes::copies_text(alloc),
+            Scenario::Put(integer) => integer.run(alloc),
+            Scenario::PutOut(put, room) => put.run(alloc, room),
+            Scenario::Hold(holder) => holder.run(alloc),
+            Scenario::LookAtBytes => bytes::looks_at_bytes(alloc),
             Scenario::ReadBody => bodies::reads(alloc),
-            Scenario::ReadCodeAgain => bodies::reads_again(alloc),
+            Scenario::ReadBodyAgain => bodies::reads_again(alloc),
+            Scenario::ReadExpr => bodies::reads_expr(alloc),
             Scenario::NextExpr => bodies::takes_expr(alloc),
-            Scenario::EncodeBody => bodies::encodes(alloc),
-            Scenario::EncodeExpr => bodies::encodes_expr(alloc),
-            Scenario::BodyLen => bodies::measures(alloc),
-            Scenario::Refs => bodies::finds_refs(alloc),
-            Scenario::Shift => bodies::shifts(alloc),
-            Scenario::ShiftExpr => bodies::shifts_expr(alloc),
-            Scenario::CloneBody => bodies::clones(alloc),
-            Scenario::Read => modules::reads(alloc, MODULE),
-            Scenario::Encode => modules::encodes(alloc, MODULE),
-            Scenario::ReadWhole => modules::reads(alloc, WHOLE),
-            Scenario::EncodeWhole => modules::encodes(alloc, WHOLE),
-            Scenario::EncodeSection => modules::encodes_exports(alloc),
-            Scenario::EncodeCustom => modules::encodes_custom(alloc),
-            Scenario::Lengths => modules::measures(alloc),
+            Scenario::NextExprInScratch => bodies::takes_expr_in_room(alloc),
+            Scenario::OfBody(call) => call.run(alloc),
+            Scenario::ManyRefs => bodies::finds_many(alloc),
+            Scenario::OfExpr(call) => call.run(alloc),
+            Scenario::Read(bytes) => modules::reads(alloc, bytes),
+            Scenario::Encode(bytes) => modules::encodes(alloc, bytes),
+            Scenario::OfWhole(call) => call.run(alloc),
             Scenario::Settle => modules::settles(alloc),
-            Scenario::Judge => judging::judges(alloc, VALID),
-            Scenario::JudgeTypes => judging::judges(alloc, MODULE),
-            Scenario::JudgeAround => judging::judges_around(alloc),
+            Scenario::Strip => modules::strips(alloc),
+            Scenario::ShiftLists => modules::shifts_lists(alloc),
+            Scenario::UpToCode => modules::reads_up_to_code(alloc),
+            Scenario::ToEnd => modules::reads_to_end(alloc),
+            Scenario::NextCode => modules::reads_code(alloc),
+            Scenario::Judge(bytes) => judging::judges(alloc, bytes),
             Scenario::JudgeBytes => judging::judges_bytes(alloc),
-            Scenario::JudgeBody => judging::judges_body(alloc),
-            Scenario::SeeWhole => judging::sees_whole(alloc),
+            Scenario::OfValid(call) => call.run(alloc),
             Scenario::Plain => listings::sees_plain(alloc),
-            Scenario::ListHeaders => listings::lists(alloc, listings::HEADERS, Room::Ample),
-            Scenario::ListDetails => listings::lists(alloc, listings::DETAILS, Room::Ample),
-            Scenario::ListCode => listings::lists(alloc, listings::CODE, Room::Ample),
-            Scenario::ListUses => listings::lists(alloc, listings::USES, Room::Ample),
-            Scenario::ListToFull => listings::lists(alloc, listings::CODE, Room::Full),
-            Scenario::Open => sessions::opens(alloc),
-            Scenario::ApplyType => sessions::applies_type(alloc),
-            Scenario::ApplyStrip => sessions::applies_strip(alloc),
-            Scenario::ApplySet => sessions::applies_set(alloc, "second", WITH_BYTES),
-            Scenario::ApplySetNew => sessions::applies_set(alloc, "new", WITH_CUSTOM),
-            Scenario::ApplyStripAll => sessions::applies(alloc, &Edit::StripAll, WITHOUT_CUSTOMS),
-            Scenario::ApplyRefused => sessions::declines_strip(alloc),
+            Scenario::PutHeader => listings::puts_header(alloc),
+            Scenario::List(part, room) => listings::lists(alloc, part, room),
+            Scenario::Open(bytes) => sessions::opens(alloc, bytes),
+            Scenario::Tell => sessions::tells(alloc),
+            Scenario::Apply(change) => change.run(alloc),
             Scenario::Run => sessions::runs(alloc),
-            Scenario::Write => sessions::writes(alloc, Room::Ample),
-            Scenario::WriteToFull => sessions::writes(alloc, Room::Full),
+            Scenario::Write(room) => sessions::writes(alloc, room),
             Scenario::ReadScript => jobs::reads_script(alloc),
-            Scenario::Edit => jobs::edits(alloc, jobs::EDITS, Room::Ample, Room::Ample),
-            Scenario::EditReportFull => jobs::edits(alloc, jobs::EDITS, Room::Ample, Room::Full),
-            Scenario::EditToFull => jobs::edits(alloc, jobs::EDITS, Room::Full, Room::Full),
-            Scenario::EditMalformed => jobs::edits(alloc, jobs::MALFORMED, Room::Full, Room::Full),
-            Scenario::EditBadScript => jobs::edits(alloc, jobs::BAD_SCRIPT, Room::Full, Room::Full),
+            Scenario::Line(line) => line.run(alloc),
+            Scenario::Edit(job, out, report) => job.run(alloc, out, report),
         }
     }
 }

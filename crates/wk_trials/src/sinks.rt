@@ -1,7 +1,7 @@
 //! Outputs in memory, full or with room.
-ghost use Rattle.std.specs.Prelude.{◌≡◌, IfOk};
+ghost use Rattle.std.specs.Prelude.{◌≡◌, IfSome};
 
-use std::alloc::{AllocError, Global};
+use std::alloc::Global;
 use wk_bytes::{Out, Sink};
 
 /// What each output holds before a scenario.
@@ -16,15 +16,23 @@ pub(crate) enum Room {
     Ample,
 }
 
-/// A sink that holds `BEFORE`.
-pub(crate) fn sink(alloc: Global, room: Room) -> Result<Sink, AllocError>
-    ensures { IfOk result (λ s. ⟦<Sink as Out>⟧.failed s ≡ 0) }
-{
-    let mut bytes = Vec::from_slice(alloc, &BEFORE)?;
+/// A vector that holds `BEFORE`.
+pub(crate) fn vector(alloc: Global, room: Room) -> Option<Vec<u8>> {
+    let mut bytes = Vec::from_slice(alloc, &BEFORE).ok()?;
     if room == Room::Ample {
-        bytes.reserve(1000)?;
+        bytes.reserve(1000).ok()?;
     }
-    Ok(Sink::new(bytes))
+    Some(bytes)
+}
+
+/// A sink that holds `BEFORE`.
+pub(crate) fn sink(alloc: Global, room: Room) -> Option<Sink>
+    ensures { IfSome result (λ s. ⟦<Sink as Out>⟧.failed s ≡ 0) }
+{
+    match vector(alloc, room) {
+        Some(bytes) => Some(Sink::new(bytes)),
+        None => None,
+    }
 }
 
 /// Whether the bytes are `BEFORE` and then these.
@@ -41,4 +49,18 @@ pub(crate) fn has_begun(bytes: &[u8], more: &[u8]) -> bool {
         Some(rest) => more.starts_with(rest),
         None => false,
     }
+}
+
+/// Whether the sink has counted so many failures, and holds `BEFORE` and then these bytes.
+pub(crate) fn holds(sink: Sink, failures: u64, more: &[u8]) -> bool {
+    let is_counted = sink.failures() == failures;
+    let bytes = sink.into_inner();
+    is_counted && has_appended(&bytes, more)
+}
+
+/// Whether the sink has counted so many failures, and holds `BEFORE` and then a beginning of these bytes.
+pub(crate) fn holds_begun(sink: Sink, failures: u64, more: &[u8]) -> bool {
+    let is_counted = sink.failures() == failures;
+    let bytes = sink.into_inner();
+    is_counted && has_begun(&bytes, more)
 }

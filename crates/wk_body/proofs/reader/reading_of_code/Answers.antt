@@ -1,4 +1,4 @@
-use Rattle.wk_body.proofs.Promised.{exprs_read, bodies_read}
+use Rattle.wk_body.proofs.Promised.{exprs_read, bodies_read, exprs_never_memory, bodies_never_memory}
 use Rattle.wk_body.proofs.Spelled.{expr_shaped, expr_allowed}
 use Rattle.wk_body.proofs.reader.reading_of_code.Goals as goal
 
@@ -10,3 +10,9 @@ returns-clause-body c = bodies_read
 
 pub returns-clause-expr_shape : goal.returns-clause-expr_shape
 returns-clause-expr_shape c = λ profile t bytes fits s. (expr_shaped profile t bytes fits s, expr_allowed profile t bytes s)
+
+pub returns-clause-never_memory_expr : goal.returns-clause-never_memory_expr
+returns-clause-never_memory_expr c = exprs_never_memory
+
+pub returns-clause-never_memory_body : goal.returns-clause-never_memory_body
+returns-clause-never_memory_body c = bodies_never_memory

@@ -3,7 +3,7 @@ use Rattle.wk_check.specs.declared.fault.Flaw.{Flaw}
 use Rattle.wk_check.specs.declared.fault.Fault.{Fault}
 use Rattle.wk_check.specs.Spaces.{spaces_of}
 use Rattle.wk_check.specs.Flaws.{fault_at}
-use Rattle.wk_check.proofs.Names.{was_there, was_new, exports_begin, exports_end, index_wrong, name_wrong, export_fine}
+use Rattle.wk_check.proofs.ExportNames.{was_there, was_new, exports_begin, exports_end, index_wrong, name_wrong, export_fine}
 use Rattle.wk_check.proofs.exports.exports_fault.Goals as goal
 
 pub loop-index-init : goal.loop-index-init

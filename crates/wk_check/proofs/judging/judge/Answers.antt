@@ -1,4 +1,4 @@
-use Rattle.std.proofs.Common.{◌≡◌, sym, ap, ◌∙◌, subst}
+use Rattle.std.proofs.Common.{◌≡◌, ◌<◌, ◌^◌, [], length, sym, ap, ◌∙◌, subst}
 use Rattle.std.proofs.lemmas.Result.{IfOk-weaker}
 use Rattle.wk_module.specs.Listed.{listed}
 use Rattle.wk_module.specs.declared.types.Parts.{Parts}
@@ -6,8 +6,18 @@ use Rattle.wk_check.specs.declared.fault.Verdict.{Verdict}
 use Rattle.wk_check.specs.Verdict.{module_verdict, IsVerdict, IsNotArity, extended}
 use Rattle.wk_check.proofs.Flaws.{verdict_of_lists, module_verdict_told, verdict_extended}
 use Rattle.wk_check.proofs.Valid.{valid_exactly}
-use Rattle.wk_check.specs.WholeLaws.{are_numbered, funcs_numbered}
+use Rattle.std.proofs.lemmas.List.{length-map}
+use Rattle.wk_module.specs.Listed.{AreNumbered}
+use Rattle.wk_module.specs.NumberedLaws.{module_numbered_with}
+use Rattle.wk_module.specs.Sections.{FunctionSection}
+use Rattle.wk_module.specs.Shape.{lists_of, IsShaped}
 use Rattle.wk_check.proofs.judging.judge.Goals as goal
+
+funcs_numbered : (m : Parts) → IsShaped m → length m.funcs < 2 ^ 32
+funcs_numbered m shaped = rw length-map at (shaped.formed.valid FunctionSection).0
+
+are_numbered : (m : Parts) → IsShaped m → AreNumbered (record (lists_of m) { codes = [] })
+are_numbered m shaped = module_numbered_with (lists_of m).funcs m (shaped.formed.valid FunctionSection).0 shaped
 
 abbrev IsKept : Parts → Verdict → Type 0
 IsKept m verdict = IsNotArity verdict → module_verdict (extended m) ≡ verdict

@@ -1,4 +1,4 @@
-use Rattle.wk_check.proofs.Parts.{part_by_part}
+use Rattle.wk_check.proofs.DerivedParts.{part_by_part}
 use Rattle.wk_check.proofs.meter.declarative_rules.Goals as goal
 
 pub returns : goal.returns

@@ -1,4 +1,4 @@
-use Rattle.std.proofs.Common.{sym, ap, subst, ◌∙◌}
+use Rattle.std.proofs.Common.{sym, ap, ◌∙◌}
 use Rattle.std.proofs.lemmas.Result.{err_from_is_err_and}
 use Rattle.wk_bytes.specs.LebLaws.{done}
 use Rattle.wk_bytes.specs.Raw.{raw_view}
@@ -8,7 +8,6 @@ use Rattle.wk_module.specs.ListReading.{IsReading, AreListsOfModule, lists_read}
 use Rattle.wk_module.specs.Reading.{module_at}
 use Rattle.wk_check.specs.declared.fault.Verdict.{Verdict}
 use Rattle.wk_check.specs.Spelled.{judged, codes_judged}
-use Rattle.wk_check.specs.Whole.{AreNumbered}
 use Rattle.wk_check.proofs.JudgedCodes.{codes_fail, behind_fails, judged_in_parts, told_codes, told_verdict}
 use Rattle.wk_check.proofs.spelled.judge_from_code.Goals as goal
 
@@ -40,13 +39,8 @@ returns-in_err-reader c =
     rw (p.1, p.2)
     (fails_on e e.kind (lists_read r.profile r.lists r.left) (judged (module_at r.profile b)) (λ bad. behind_fails r.profile b is lists r.lists s r.left c.requires.code c.requires.none c.requires.rise c.requires.read c.in_ok-fault.fault e (sym told ∙ c.in_ok-fault.ensures) bad) c.in_err-reader.ensures.read)
 
-pub judge_behind-requires : goal.judge_behind-requires
-judge_behind-requires c =
-    let judged_is = judged_in_parts c.args.reader c.args.bytes.now (raw_view c.args.section.now) c.lists-lists.result c.lists.result.profile c.in_ok-reader.reader.lists c.in_ok-fault.fault c.lists.ensures.profile c.reading_of_module.ensures.is c.reading_of_module.ensures.lists c.lists-lists.ensures.profile c.lists-lists.ensures.lists c.requires.code c.requires.none c.requires.rise c.requires.read c.in_ok-fault.ensures c.in_ok-reader.ensures.read in
-    subst AreNumbered (sym c.lists-2.ensures.lists) judged_is.1
-
 pub returns : goal.returns
 returns c =
     let judged_is = judged_in_parts c.args.reader c.args.bytes.now (raw_view c.args.section.now) c.lists-lists.result c.lists.result.profile c.in_ok-reader.reader.lists c.in_ok-fault.fault c.lists.ensures.profile c.reading_of_module.ensures.is c.reading_of_module.ensures.lists c.lists-lists.ensures.profile c.lists-lists.ensures.lists c.requires.code c.requires.none c.requires.rise c.requires.read c.in_ok-fault.ensures c.in_ok-reader.ensures.read in
     let told = told_verdict c.in_ok-reader.reader.lists (listed c.lists-2.result) c.in_ok-fault.fault c.in_ok-judge_behind.field-0 c.lists-2.ensures.lists c.in_ok-judge_behind.ensures in
-    judged_is.0 ∙ ap (λ (v : Verdict). done v) told
+    judged_is ∙ ap (λ (v : Verdict). done v) told

@@ -2,7 +2,6 @@ use Rattle.std.proofs.Common.{◌≡◌, None, sym, ap, subst, ◌∙◌, arith}
 use Rattle.wk_module.specs.ListReading.{IsReading, AreListsOfModule}
 use Rattle.wk_module.specs.Reading.{module_at}
 use Rattle.wk_module.specs.Sections.{SectionLists, no_lists}
-use Rattle.wk_check.specs.Whole.{AreNumbered}
 use Rattle.wk_check.proofs.JudgedCodes.{IsJudged, judged_without_code, no_items, lists_few}
 use Rattle.wk_check.proofs.spelled.judge_without_code.Goals as goal
 
@@ -18,6 +17,3 @@ judged_of c =
     let lists : AreListsOfModule r.profile b = rw c.lists-lists.ensures.profile at c.reading_of_module.ensures.lists in
     let funcs : c.lists-lists.result.funcs.now ≡ r.lists.funcs = ap (λ (l : SectionLists). l.funcs) c.lists-lists.ensures.lists in
     judged_without_code r.profile b is lists r.lists c.requires.none (sym funcs ∙ no_items c.lists-lists.result.funcs.now (sym c.is_empty.ensures ∙ c.if-not-is_empty.false)) c.requires.read
-
-pub judge_around-requires : goal.judge_around-requires
-judge_around-requires c = subst AreNumbered (sym c.lists-lists.ensures.lists) (judged_of c).1

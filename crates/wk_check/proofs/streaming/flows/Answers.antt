@@ -8,7 +8,7 @@ use Rattle.wk_check.proofs.streaming.flows.Goals as goal
 pub loop-token-init : goal.loop-token-init
 loop-token-init g c =
     let f = c.args.f.now in
-    rw c.ahead-ahead.ensures.same (starts (g.E.Env.answers c.args.env.now) (local_type f.locals.params f.locals.groups) f.results.now c.args.profile c.args.cursor.now c.begin.new.self.kinds c.args.block c.begin-2.new.self c.requires c.begin.ensures c.begin-2.ensures)
+    rw c.ahead-ahead.ensures.same (starts (g.E.Env.answers c.args.env.now) (local_type f.locals.params f.locals.groups) f.results.now c.args.profile c.args.cursor.now c.begin.new.self.kinds c.args.block c.begin-2.new.self c.requires c.begin.ensures.kinds c.begin-2.ensures)
 
 pub loop-token-smaller : goal.loop-token-smaller
 loop-token-smaller g c = token_is_shorter c.args.profile c.loop-token.reader c.next.new.self c.loop-token.ahead c.next.new.cursor c.in-Ok-Some.token (rw c.in-Ok-Some.field-0-is at c.in-Ok-Some.ensures.exact)

@@ -3,7 +3,8 @@ use Rattle.wk_body.specs.Lengths.{limited}
 use Rattle.wk_module.specs.Sections.{of_number}
 use Rattle.wk_module.specs.Shape.{lists_of}
 use Rattle.wk_module.specs.Writing.{contents_by, section_of}
-use Rattle.wk_module.proofs.Lengths.{is_zero, not_zero, section_none, section_some}
+use Rattle.wk_module.specs.WritingLaws.{section_none, section_some}
+use Rattle.wk_module.proofs.Lengths.{is_zero, not_zero}
 use Rattle.wk_module.proofs.length.plus_section.Goals as goal
 
 pub returns-then-eq : goal.returns-then-eq

@@ -4,7 +4,7 @@ use Rattle.std.specs.List.{flat_map}
 use Rattle.wk_body.specs.Lengths.{limited}
 use Rattle.wk_module.specs.Writing.{section_of, ids}
 use Rattle.wk_module.proofs.Lengths.{length_more}
-use Rattle.wk_module.proofs.WritingSteps.{id_is}
+use Rattle.wk_module.specs.WritingLaws.{id_is}
 use Rattle.wk_module.proofs.length.plus_sections.Goals as goal
 
 pub loop-id-preserved : goal.loop-id-preserved

@@ -3,7 +3,8 @@ use Rattle.std.proofs.lemmas.List.{append-nil}
 use Rattle.wk_module.specs.Sections.{of_number}
 use Rattle.wk_module.specs.Shape.{lists_of}
 use Rattle.wk_module.specs.Writing.{contents_by, section_of}
-use Rattle.wk_module.proofs.Lengths.{limited_some, section_none}
+use Rattle.wk_module.specs.WritingLaws.{section_none}
+use Rattle.wk_body.specs.LengthsLaws.{limited_some}
 use Rattle.wk_module.proofs.writer.put_section.Goals as goal
 
 pub returns-then-size-eq0 : goal.returns-then-size-eq0

@@ -2,7 +2,7 @@ use Rattle.std.proofs.Common.{length, arith, length-append}
 use Rattle.std.specs.List.{flat_map}
 use Rattle.wk_bytes.specs.Short.{short}
 use Rattle.wk_module.specs.WritingLaws.{length_le_flat_map}
-use Rattle.wk_module.proofs.Lengths.{piece_le}
+use Rattle.wk_module.specs.WritingLaws.{piece_le}
 use Rattle.wk_module.proofs.writing.put_vector.Goals as goal
 
 pub overflow_cast-items : goal.overflow_cast-items

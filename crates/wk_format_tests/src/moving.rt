@@ -1,0 +1,272 @@
+//! What bodies, expressions and lists refer to, and what they move to.
+
+use std::alloc::{AllocError, Global};
+use std::collections::BTreeSet;
+use std::test::Fail;
+use wk_body::{
+    Body, EncodeFault, Movement, Moving, Ref, ShiftFault, encode_body, encode_expr, expr_movement,
+    read_body, read_expr, refs, shift, shift_expr, shift_index, uses,
+};
+use wk_bytes::{OutOfMemory, ReadFault};
+use wk_samples::bodies::{
+    BODY, EXPR, GREAT_CALL, GREATEST_CALL, GREATEST_EXPR, MOVED_EXPR, WITH_FUNC_MOVED,
+    WITH_GLOBAL_MOVED,
+};
+
+// What the body refers to, in order, and the type of its function.
+const REFS: [Ref; 5] = [
+    Ref::Ty(3),
+    Ref::Func(5),
+    Ref::Global(7),
+    Ref::Table,
+    Ref::Memory,
+];
+
+const USES: [Ref; 6] = [
+    Ref::Ty(3),
+    Ref::Ty(4),
+    Ref::Func(5),
+    Ref::Global(7),
+    Ref::Table,
+    Ref::Memory,
+];
+
+fn are_refs(answer: Result<BTreeSet<Ref>, OutOfMemory>, wanted: &[Ref]) -> bool {
+    match answer {
+        Ok(found) => found.len() == wanted.len()
+            && found.iter().zip(wanted.iter()).all(|(a, b)| a == b),
+        Err(OutOfMemory) => false,
+    }
+}
+
+fn finds(alloc: Global, body: &Body) -> bool {
+    are_refs(refs(alloc, body), &REFS)
+        && are_refs(uses(alloc, 3, body), &REFS)
+        && are_refs(uses(alloc, 4, body), &USES)
+}
+
+fn finds_in(alloc: Global, answer: &Result<Body, ReadFault>) -> bool {
+    match answer {
+        Ok(body) => finds(alloc, body),
+        Err(_) => false,
+    }
+}
+
+#[test]
+fn finds_references(rt: HostRuntime) -> Result<(), Fail> {
+    assert!(rt; finds_in(rt.alloc(), &read_body(rt.alloc(), BODY)));
+    Ok(())
+}
+
+// How a body's references move, and what it becomes: nothing where an index has no next.
+#[derive(Clone, Copy)]
+struct Move {
+    body: &'static [u8],
+    kind: Moving,
+    from: u32,
+    becomes: Option<&'static [u8]>,
+}
+
+const MOVES: [Move; 10] = [
+    Move {
+        body: BODY,
+        kind: Moving::Func,
+        from: 0,
+        becomes: Some(WITH_FUNC_MOVED),
+    },
+    Move {
+        body: BODY,
+        kind: Moving::Func,
+        from: 5,
+        becomes: Some(WITH_FUNC_MOVED),
+    },
+    Move {
+        body: BODY,
+        kind: Moving::Func,
+        from: 6,
+        becomes: Some(BODY),
+    },
+    Move {
+        body: BODY,
+        kind: Moving::Global,
+        from: 7,
+        becomes: Some(WITH_GLOBAL_MOVED),
+    },
+    Move {
+        body: BODY,
+        kind: Moving::Global,
+        from: 8,
+        becomes: Some(BODY),
+    },
+    Move {
+        body: GREATEST_CALL,
+        kind: Moving::Func,
+        from: 0,
+        becomes: None,
+    },
+    Move {
+        body: GREATEST_CALL,
+        kind: Moving::Func,
+        from: u32::MAX,
+        becomes: None,
+    },
+    Move {
+        body: GREATEST_CALL,
+        kind: Moving::Global,
+        from: 0,
+        becomes: Some(GREATEST_CALL),
+    },
+    Move {
+        body: GREAT_CALL,
+        kind: Moving::Func,
+        from: u32::MAX - 1,
+        becomes: Some(GREATEST_CALL),
+    },
+    Move {
+        body: GREAT_CALL,
+        kind: Moving::Func,
+        from: u32::MAX,
+        becomes: Some(GREAT_CALL),
+    },
+];
+
+fn is_encoded(answer: Result<Vec<u8>, EncodeFault>, bytes: &[u8]) -> bool {
+    match answer {
+        Ok(written) => written.as_slice() == bytes,
+        Err(_) => false,
+    }
+}
+
+// Whether the body moves so.
+fn moves(alloc: Global, body: &Body, row: Move) -> bool {
+    match (shift(alloc, body, row.kind, row.from), row.becomes) {
+        (Ok(moved), Some(bytes)) => is_encoded(encode_body(alloc, &moved), bytes),
+        (Err(ShiftFault::Overflow), None) => true,
+        _ => false,
+    }
+}
+
+// Whether what moves of it is told so.
+fn is_told(body: &Body, row: Move) -> bool {
+    let found = expr_movement(body.expr(), row.kind, row.from);
+    let stuck = row.becomes.is_none();
+    let moves = stuck || row.becomes != Some(row.body);
+    found == Movement { moves, stuck }
+}
+
+fn moves_as_read(alloc: Global, row: Move) -> bool {
+    match read_body(alloc, row.body) {
+        Ok(body) => moves(alloc, &body, row) && is_told(&body, row),
+        Err(_) => false,
+    }
+}
+
+// The first row of the table that is wrong.
+fn wrong_move(alloc: Global) -> Option<(Moving, u32)> {
+    for row in MOVES {
+        if !moves_as_read(alloc, row) {
+            return Some((row.kind, row.from));
+        }
+    }
+    None
+}
+
+#[test]
+fn moves_bodies(rt: HostRuntime) -> Result<(), Fail> {
+    assert_eq!(rt; wrong_move(rt.alloc()), None);
+    Ok(())
+}
+
+// What an expression becomes, as a body.
+fn expr_moves(alloc: Global, bytes: &[u8], from: u32, becomes: Option<&[u8]>) -> bool {
+    match read_expr(alloc, bytes) {
+        Ok(expr) => match (shift_expr(alloc, &expr, from), becomes) {
+            (Ok(moved), Some(bytes)) => is_encoded(encode_expr(alloc, &moved), bytes),
+            (Err(ShiftFault::Overflow), None) => true,
+            _ => false,
+        },
+        Err(_) => false,
+    }
+}
+
+#[test]
+fn moves_expressions(rt: HostRuntime) -> Result<(), Fail> {
+    assert!(rt; expr_moves(rt.alloc(), EXPR, 0, Some(MOVED_EXPR)));
+    assert!(rt; expr_moves(rt.alloc(), EXPR, 7, Some(MOVED_EXPR)));
+    assert!(rt; expr_moves(rt.alloc(), EXPR, 8, Some(EXPR)));
+    assert!(rt; expr_moves(rt.alloc(), GREATEST_EXPR, 9, None));
+    Ok(())
+}
+
+#[test]
+fn moves_indexes(rt: HostRuntime) -> Result<(), Fail> {
+    assert_eq!(rt; shift_index(4, 3), Ok(3));
+    assert_eq!(rt; shift_index(4, 4), Ok(5));
+    assert_eq!(rt; shift_index(4, u32::MAX), Err(ShiftFault::Overflow));
+    let stuck = Movement::of_index(4, u32::MAX);
+    assert_eq!(rt;
+        Movement::NONE.or(stuck),
+        Movement {
+            moves: true,
+            stuck: true
+        }
+    );
+    Ok(())
+}
+
+#[test]
+fn says_faults(rt: HostRuntime) -> Result<(), Fail> {
+    let text = format!(in rt.alloc(); "{}, {}", EncodeFault::TooLarge, EncodeFault::Memory)?;
+    assert_eq!(rt; text.as_str(), "too large, out of memory");
+    let text = format!(in rt.alloc(); "{}, {}", ShiftFault::Overflow, ShiftFault::Memory)?;
+    assert_eq!(rt; text.as_str(), "index overflow, out of memory");
+    Ok(())
+}
+
+// 20,000 blocks, one in the other, and a call in the innermost.
+fn nested(alloc: Global, callee: u8) -> Result<Vec<u8>, AllocError> {
+    let mut bytes = Vec::new(alloc);
+    bytes.push(0)?;
+    for _ in 0..20_000 {
+        bytes.extend_from_slice(b"\x02\x40")?;
+    }
+    bytes.extend_from_slice(&[0x10, callee])?;
+    for _ in 0..20_001 {
+        bytes.push(0x0b)?;
+    }
+    Ok(bytes)
+}
+
+fn copy_of(alloc: Global, bytes: &[u8]) -> Option<Body> {
+    match read_body(alloc, bytes) {
+        Ok(body) => body.clone().ok(),
+        Err(_) => None,
+    }
+}
+
+// A copy of a body with its references to functions moved; the body itself is gone.
+fn moved_copy(alloc: Global, bytes: &[u8]) -> Option<Body> {
+    match copy_of(alloc, bytes) {
+        Some(copy) => shift(alloc, &copy, Moving::Func, 0).ok(),
+        None => None,
+    }
+}
+
+fn is_deep(alloc: Global, bytes: &[u8], becomes: &[u8]) -> bool {
+    match moved_copy(alloc, bytes) {
+        Some(body) => is_encoded(encode_body(alloc, &body), becomes),
+        None => false,
+    }
+}
+
+fn moves_deep(alloc: Global) -> Result<bool, AllocError> {
+    let bytes = nested(alloc, 0)?;
+    let becomes = nested(alloc, 1)?;
+    Ok(is_deep(alloc, &bytes, &becomes))
+}
+
+#[test]
+fn moves_and_copies_20_000_blocks(rt: HostRuntime) -> Result<(), Fail> {
+    assert_eq!(rt; moves_deep(rt.alloc()), Ok(true));
+    Ok(())
+}

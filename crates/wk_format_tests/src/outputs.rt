@@ -1,0 +1,173 @@
+//! Where bytes go: into memory, and to a writer that fails once.
+
+use std::alloc::Global;
+use std::io;
+use std::io::Write;
+use std::test::Fail;
+use wk_bytes::{Out, Sink, Stream, put_all};
+
+const TEXT: &[u8] = b"abcdefghijklmnopqrstuvwxyz";
+
+/// What a writer does at its bad call.
+#[derive(Clone, Copy, PartialEq, Eq)]
+enum Answer {
+    Fault,
+    Nothing,
+}
+
+// A writer that counts its calls, and takes all or at most so many bytes at each, but for one call, at which it takes none.
+#[derive(Drop)]
+struct Writer {
+    taken: Vec<u8>,
+    most: usize,
+    calls: u32,
+    bad_call: u32,
+    answer: Answer,
+}
+
+impl Write for Writer {
+    fn write(&mut self, bytes: &[u8]) -> io::Result<usize> {
+        self.calls = self.calls.saturating_add(1);
+        if self.calls == self.bad_call {
+            return match self.answer {
+                Answer::Fault => Err(io::Error::from(io::ErrorKind::Other)),
+                Answer::Nothing => Ok(0),
+            };
+        }
+        let n = bytes.len().min(self.most);
+        self.taken.extend_from_slice(&bytes[..n])?;
+        Ok(n)
+    }
+
+    fn flush(&mut self) -> io::Result<()> {
+        Ok(())
+    }
+}
+
+// A writer's habit, and what it was called and has taken when the text was put.
+#[derive(Clone, Copy)]
+struct Row {
+    most: usize,
+    bad_call: u32,
+    answer: Answer,
+    calls: u32,
+    taken: usize,
+}
+
+// Whether the stream counts that failure, makes no call for no bytes, and then hands its writer out as the row says.
+fn is_left_so(mut stream: Stream<Writer>, failures: u64, row: Row) -> bool {
+    let is_counted = stream.failures() == failures && failures < 2 && stream.put(b"") == Ok(0);
+    let writer = stream.into_inner();
+    is_counted
+        && writer.calls == row.calls
+        && TEXT.starts_with(&writer.taken)
+        && writer.taken.len() == row.taken
+}
+
+// Whether the text is put as the row says.
+fn is_put(alloc: Global, row: Row) -> bool {
+    let taken = Vec::new(alloc);
+    let Row {
+        most,
+        bad_call,
+        answer,
+        ..
+    } = row;
+    let mut stream = Stream::new(Writer {
+        taken,
+        most,
+        calls: 0,
+        bad_call,
+        answer,
+    });
+    match put_all(&mut stream, TEXT) {
+        Ok(()) => bad_call == 0 && is_left_so(stream, 0, row),
+        Err(_) => bad_call != 0 && is_left_so(stream, 1, row),
+    }
+}
+
+// A failure is answered and counted once, and the writer, which would take all from then on, is not called again.
+const ROWS: [Row; 7] = [
+    Row {
+        most: 100,
+        bad_call: 0,
+        answer: Answer::Fault,
+        calls: 1,
+        taken: 26,
+    },
+    Row {
+        most: 10,
+        bad_call: 0,
+        answer: Answer::Fault,
+        calls: 3,
+        taken: 26,
+    },
+    Row {
+        most: 100,
+        bad_call: 1,
+        answer: Answer::Fault,
+        calls: 1,
+        taken: 0,
+    },
+    Row {
+        most: 10,
+        bad_call: 2,
+        answer: Answer::Fault,
+        calls: 2,
+        taken: 10,
+    },
+    Row {
+        most: 10,
+        bad_call: 3,
+        answer: Answer::Fault,
+        calls: 3,
+        taken: 20,
+    },
+    Row {
+        most: 100,
+        bad_call: 1,
+        answer: Answer::Nothing,
+        calls: 1,
+        taken: 0,
+    },
+    Row {
+        most: 10,
+        bad_call: 2,
+        answer: Answer::Nothing,
+        calls: 2,
+        taken: 10,
+    },
+];
+
+// The bad call and the greatest piece of the first writer that is called or has taken otherwise.
+fn wrong_writer(alloc: Global) -> Option<(u32, usize)> {
+    for row in ROWS {
+        if !is_put(alloc, row) {
+            return Some((row.bad_call, row.most));
+        }
+    }
+    None
+}
+
+#[test]
+fn stops_where_the_writer_fails(rt: HostRuntime) -> Result<(), Fail> {
+    assert_eq!(rt; wrong_writer(rt.alloc()), None);
+    Ok(())
+}
+
+// Whether a sink takes text behind text, and none.
+fn is_gathered(alloc: Global) -> bool {
+    let mut sink = Sink::new(Vec::new(alloc));
+    let are_put = put_all(&mut sink, b"").is_ok()
+        && put_all(&mut sink, TEXT).is_ok()
+        && sink.put(b"!") == Ok(1);
+    let failures = sink.failures();
+    let bytes = sink.into_inner();
+    are_put && failures == 0 && bytes.strip_prefix(TEXT) == Some(b"!".as_slice())
+}
+
+#[test]
+fn gathers(rt: HostRuntime) -> Result<(), Fail> {
+    assert!(rt; is_gathered(rt.alloc()));
+    Ok(())
+}

@@ -1,0 +1,175 @@
+//! Integers, and their shortest spellings in LEB128.
+
+/// An integer without a sign.
+#[derive(Clone, Copy)]
+pub struct Unsigned {
+    /// The integer.
+    pub value: u32,
+    /// Its spelling.
+    pub bytes: &'static [u8],
+}
+
+/// An integer with a sign.
+#[derive(Clone, Copy)]
+pub struct Signed {
+    /// The integer.
+    pub value: i64,
+    /// Its spelling, in the form for integers with a sign.
+    pub bytes: &'static [u8],
+}
+
+/// Integers of each length of spelling, and 624,485, the usual example.
+pub const UNSIGNED: [Unsigned; 12] = [
+    Unsigned {
+        value: 0,
+        bytes: b"\x00",
+    },
+    Unsigned {
+        value: 1,
+        bytes: b"\x01",
+    },
+    Unsigned {
+        value: 63,
+        bytes: b"\x3f",
+    },
+    Unsigned {
+        value: 64,
+        bytes: b"\x40",
+    },
+    Unsigned {
+        value: 127,
+        bytes: b"\x7f",
+    },
+    Unsigned {
+        value: 128,
+        bytes: b"\x80\x01",
+    },
+    Unsigned {
+        value: 300,
+        bytes: b"\xac\x02",
+    },
+    Unsigned {
+        value: 16_383,
+        bytes: b"\xff\x7f",
+    },
+    Unsigned {
+        value: 16_384,
+        bytes: b"\x80\x80\x01",
+    },
+    Unsigned {
+        value: 624_485,
+        bytes: b"\xe5\x8e\x26",
+    },
+    Unsigned {
+        value: 1 << 28,
+        bytes: b"\x80\x80\x80\x80\x01",
+    },
+    Unsigned {
+        value: u32::MAX,
+        bytes: b"\xff\xff\xff\xff\x0f",
+    },
+];
+
+/// Integers of 32 bits.
+pub const SIGNED_32: [Signed; 17] = [
+    Signed {
+        value: 0,
+        bytes: b"\x00",
+    },
+    Signed {
+        value: 1,
+        bytes: b"\x01",
+    },
+    Signed {
+        value: 63,
+        bytes: b"\x3f",
+    },
+    Signed {
+        value: 64,
+        bytes: b"\xc0\x00",
+    },
+    Signed {
+        value: 127,
+        bytes: b"\xff\x00",
+    },
+    Signed {
+        value: 128,
+        bytes: b"\x80\x01",
+    },
+    Signed {
+        value: 300,
+        bytes: b"\xac\x02",
+    },
+    Signed {
+        value: 8_191,
+        bytes: b"\xff\x3f",
+    },
+    Signed {
+        value: 8_192,
+        bytes: b"\x80\xc0\x00",
+    },
+    Signed {
+        value: 624_485,
+        bytes: b"\xe5\x8e\x26",
+    },
+    Signed {
+        value: 2_147_483_647,
+        bytes: b"\xff\xff\xff\xff\x07",
+    },
+    Signed {
+        value: -1,
+        bytes: b"\x7f",
+    },
+    Signed {
+        value: -64,
+        bytes: b"\x40",
+    },
+    Signed {
+        value: -65,
+        bytes: b"\xbf\x7f",
+    },
+    Signed {
+        value: -128,
+        bytes: b"\x80\x7f",
+    },
+    Signed {
+        value: -123_456,
+        bytes: b"\xc0\xbb\x78",
+    },
+    Signed {
+        value: -2_147_483_648,
+        bytes: b"\x80\x80\x80\x80\x78",
+    },
+];
+
+/// Integers of 33 bits and no fewer.
+pub const SIGNED_33: [Signed; 4] = [
+    Signed {
+        value: 2_147_483_648,
+        bytes: b"\x80\x80\x80\x80\x08",
+    },
+    Signed {
+        value: 4_294_967_295,
+        bytes: b"\xff\xff\xff\xff\x0f",
+    },
+    Signed {
+        value: -2_147_483_649,
+        bytes: b"\xff\xff\xff\xff\x77",
+    },
+    Signed {
+        value: -4_294_967_296,
+        bytes: b"\x80\x80\x80\x80\x70",
+    },
+];
+
+/// Integers of 64 bits and no fewer.
+pub const SIGNED_64: [Signed; 2] = [
+    Signed {
+        value: i64::MAX,
+        bytes: b"\xff\xff\xff\xff\xff\xff\xff\xff\xff\x00",
+    },
+    Signed {
+        value: i64::MIN,
+        bytes: b"\x80\x80\x80\x80\x80\x80\x80\x80\x80\x7f",
+    },
+];

@@ -1,0 +1,8 @@
+//! Samples for the crates that test: integers, bodies and modules, and what is known of them from elsewhere.
+#![tactic(auto)]
+
+pub mod bodies;
+pub mod edits;
+pub mod integers;
+pub mod listings;
+pub mod modules;

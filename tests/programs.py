@@ -1,0 +1,62 @@
+"""The built programs of the repository, for the scripts that test them."""
+import os
+import shutil
+import subprocess
+import sys
+
+TOP = os.path.dirname(os.path.dirname(os.path.realpath(__file__)))
+
+
+def die(why):
+    """Ends a script that can test nothing."""
+    print(f"{os.path.relpath(os.path.realpath(sys.argv[0]), TOP)}: {why}\n0 passed, 1 failed")
+    sys.exit(1)
+
+
+def libraries_below(name):
+    """The crate and those of the repository that it stands on."""
+    with open(f"{TOP}/crates.txt") as it:
+        lines = [line.partition("#")[0].partition(":") for line in it]
+    uses = {head.split()[0]: tail.split() for head, _, tail in lines if head.strip()}
+    found, waiting = set(), [name]
+    while waiting:
+        crate = waiting.pop()
+        if crate in uses and crate not in found:
+            found.add(crate)
+            waiting += uses[crate]
+    return found
+
+
+def newest_source(name):
+    """When the newest source of the program was written."""
+    times = [os.path.getmtime(f"{TOP}/crates.txt")]
+    for crate in libraries_below(name):
+        for folder, _, names in os.walk(f"{TOP}/crates/{crate}/src"):
+            times += [os.path.getmtime(f"{folder}/{it}") for it in names]
+    return max(times)
+
+
+def is_current(program, name):
+    """Whether the program is there, and younger than each of its sources."""
+    return os.path.isfile(program) and newest_source(name) < os.path.getmtime(program)
+
+
+def built(name, words, rt=shutil.which("rt")):
+    """The built program of a crate. Where it is not there or older than a source, `rt run` builds it, and runs it on these words."""
+    program = f"{TOP}/crates/{name}/out/{name}"
+    if is_current(program, name):
+        return program
+    if not rt:
+        die(f"{name} is not built from the sources as they are, and the command rt is not on PATH")
+    print(f"building {name}", flush=True)
+    quiet = {"stdin": subprocess.DEVNULL, "stdout": subprocess.DEVNULL}
+    ran = subprocess.run([rt, "run", "--", *words], cwd=f"{TOP}/crates/{name}", **quiet)
+    if ran.returncode or not os.path.isfile(program):
+        die(f"{name} was not built")
+    return program
+
+
+def wasmkit():
+    """The built program `wasmkit`."""
+    examples = f"{TOP}/examples"
+    return built("wasmkit", ["edit", f"{examples}/empty.wasm", f"{examples}/add-type.script", os.devnull])
