@@ -3,6 +3,7 @@ pub mod Counting
 pub mod CustomSteps
 pub mod Digits
 pub mod Entries
+pub mod Fronts
 pub mod HeaderSteps
 pub mod Headings
 pub mod HexText

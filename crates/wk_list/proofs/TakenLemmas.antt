@@ -1,7 +1,6 @@
 -- What an `Out` takes of a text, piece after piece.
-use Rattle.std.proofs.Common.{◌≡◌, ℕ, List, ◌++◌, refl, [], append-nil, Option, Some, None, sym, ap, ◌∙◌, subst, append_assoc}
+use Rattle.std.proofs.Common.{◌≡◌, ℕ, List, ◌++◌, refl, [], Option, sym, ap, ◌∙◌, subst, append_assoc}
 use Rattle.std.specs.Prelude.{Result, Ok, Err, OnErr}
-use Rattle.std.specs.Io.KnownBytes.{Appends}
 use Rattle.wk_bytes.specs.Taken.{TakesFront}
 use Rattle.wk_bytes.specs.TakenLaws.{Appends-none, Appends-then, TakesFront-first}
 use Rattle.wk_list.specs.Taken.{Leaves}
