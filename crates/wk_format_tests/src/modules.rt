@@ -90,7 +90,7 @@ fn counts(module: &Module) -> bool {
     import_count(imports, Kind::Func) == 1
         && import_count(imports, Kind::Global) == 1
         && framed_len(30) == Some(32)
-        && measured(&[0, 9, 30], 5) == Some(56)
+        && whole_len(&[0, 9, 30], 5) == Some(56)
 }
 
 fn empty_is_a_header(alloc: Global) -> bool {
