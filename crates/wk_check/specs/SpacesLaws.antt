@@ -221,9 +221,9 @@ func_moves m i t is (Func x) =
     let back = map (λ (f : Function). f.ty) m.funcs in
     let from = length front in
     ap (func_found m.types) (
-      ap (λ (xs : List ℕ). slice_get (xs ++ map (λ (f : Function). f.ty) (map (moved_func kinds.Func from) m.funcs)) (moved from x)) (imported_last func_in m.imports i t (ap func_in is))
-      ∙ ap (λ (xs : List ℕ). slice_get ((front ++ t ∷ []) ++ xs) (moved from x)) (types_stay kinds.Func from m.funcs)
-      ∙ at_moved front back t x
+    ap (λ (xs : List ℕ). slice_get (xs ++ map (λ (f : Function). f.ty) (map (moved_func kinds.Func from) m.funcs)) (moved from x)) (imported_last func_in m.imports i t (ap func_in is))
+    ∙ ap (λ (xs : List ℕ). slice_get ((front ++ t ∷ []) ++ xs) (moved from x)) (types_stay kinds.Func from m.funcs)
+    ∙ at_moved front back t x
     )
 func_moves m i t is (Global x) =
     ap (λ (gs : List GlobalType). global_found (slice_get gs x)) (globals_aside kinds.Func (length (imported func_in m.imports)) i m (ap global_in is))
@@ -240,9 +240,9 @@ global_moves m i g is (Global x) =
     let back = map (λ (d : GlobalDef). d.ty) m.globals in
     let from = length front in
     ap global_found (
-      ap (λ (xs : List GlobalType). slice_get (xs ++ map (λ (d : GlobalDef). d.ty) (map (moved_global kinds.Global from) m.globals)) (moved from x)) (imported_last global_in m.imports i g (ap global_in is))
-      ∙ ap (λ (xs : List GlobalType). slice_get ((front ++ g ∷ []) ++ xs) (moved from x)) (global_types_stay kinds.Global from m.globals)
-      ∙ at_moved front back g x
+    ap (λ (xs : List GlobalType). slice_get (xs ++ map (λ (d : GlobalDef). d.ty) (map (moved_global kinds.Global from) m.globals)) (moved from x)) (imported_last global_in m.imports i g (ap global_in is))
+    ∙ ap (λ (xs : List GlobalType). slice_get ((front ++ g ∷ []) ++ xs) (moved from x)) (global_types_stay kinds.Global from m.globals)
+    ∙ at_moved front back g x
     )
 global_moves m i g is Table = ap any_found (tables_aside kinds.Global (length (imported global_in m.imports)) i m (ap table_in is))
 global_moves m i g is Memory = ap any_found (memories_aside kinds.Global (length (imported global_in m.imports)) i m (ap memory_in is))
@@ -251,14 +251,14 @@ global_moves m i g is Memory = ap any_found (memories_aside kinds.Global (length
 
 count_func : (d : ImportDesc) (xs : List ℕ) → length (and_more (func_in d) xs) ≡ (if is_of_kind kinds.Func d then 1 else 0) + length xs
 count_func (desc.Func x) xs = omega arith
-count_func (desc.Table l) xs = refl
-count_func (desc.Memory l) xs = refl
-count_func (desc.Global g) xs = refl
+count_func (desc.Table l) xs = omega arith
+count_func (desc.Memory l) xs = omega arith
+count_func (desc.Global g) xs = omega arith
 
 count_global : (d : ImportDesc) (xs : List GlobalType) → length (and_more (global_in d) xs) ≡ (if is_of_kind kinds.Global d then 1 else 0) + length xs
-count_global (desc.Func x) xs = refl
-count_global (desc.Table l) xs = refl
-count_global (desc.Memory l) xs = refl
+count_global (desc.Func x) xs = omega arith
+count_global (desc.Table l) xs = omega arith
+count_global (desc.Memory l) xs = omega arith
 count_global (desc.Global g) xs = omega arith
 
 pub imported_funcs : (is : List Import) → length (imported func_in is) ≡ import_count kinds.Func is
