@@ -119,6 +119,9 @@ const MOVES: [Move; 6] = [
 
 // Appends the id and the contents of a section that moved.
 fn put_moved(alloc: Global, out: &mut Vec<u8>, lists: &Lists<'_>, id: u8) -> Option<()> {
+    if id < 1 || 11 < id || id == 10 {
+        return None;
+    }
     let contents = encode_section(alloc, lists, id).ok()?;
     out.push(id).ok()?;
     out.extend_from_slice(&contents).ok()
