@@ -5,3 +5,4 @@ pub mod TypeEdits
 pub mod CustomEdits
 pub mod CustomPuts
 pub mod WrittenBack
+pub mod Keeping

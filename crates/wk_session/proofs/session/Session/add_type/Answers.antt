@@ -11,6 +11,9 @@ use Rattle.wk_session.proofs.session.Session.add_type.Goals as goal
 pub push_type-requires : goal.push_type-requires
 push_type-requires c = room c.self.inside.module _ _ c.self.invariant
 
+pub invariant_of-self : goal.invariant_of-self
+invariant_of-self c = rw c.in_err-push_type.ensures.err c.self.invariant
+
 pub invariant_of-self-in-Err : goal.invariant_of-self-in-Err
 invariant_of-self-in-Err c =
     let shaped = c.in_ok-push_type.ensures.shaped in
