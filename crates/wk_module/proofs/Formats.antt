@@ -1,6 +1,6 @@
 -- The formats of integers, names and bytes, and of things spelled one behind the other.
-use Rattle.std.proofs.Common.{◌≡◌, ℕ, zero, suc, ◌/◌, ◌^◌, ◌<◌, ◌≤◌, Bool, true, false, cond, eqb, List, [], ◌∷◌, ◌++◌, length, Option, Some, None, Result, Ok, Err, refl, sym, ap, subst, ◌∙◌, inl, inr, append_assoc, length-append, arith}
-use Rattle.std.proofs.lemmas.Bool.{eqb-true, eq-eqb, cases_lt}
+use Rattle.std.proofs.Common.{◌≡◌, ℕ, zero, suc, ◌^◌, ◌<◌, ◌≤◌, Bool, true, false, cond, eqb, List, [], ◌∷◌, ◌++◌, length, Option, Some, None, Result, Ok, Err, refl, sym, ap, subst, ◌∙◌, inl, inr, append_assoc, length-append, arith}
+use Rattle.std.proofs.lemmas.Bool.{eqb-true, eq-eqb}
 use Rattle.std.specs.List.{flat_map, AllByRecursion}
 use Rattle.std.specs.Str.{IsUtf8}
 use Rattle.wk_bytes.specs.declared.fault.ReadKind.TheVariants.{BadByte}
@@ -8,7 +8,7 @@ use Rattle.wk_bytes.specs.declared.fault.ReadFault.{ReadFault}
 use Rattle.wk_bytes.specs.Leb.{◌>>=◌, or_fail, SpellsU}
 use Rattle.wk_bytes.specs.LebLaws.{IsBytes, bind_ok, chosen, or_fail_ok, SpellsU-below}
 use Rattle.wk_bytes.specs.Short.{short}
-use Rattle.wk_bytes.specs.ShortLaws.{short-some, short-spells, short-least, short-last, short-more}
+use Rattle.wk_bytes.specs.ShortLaws.{short-some, short-spells, short-least}
 use Rattle.wk_bytes.specs.Span.{fault, byte_at, piece_at, u32_at, name_at}
 use Rattle.wk_bytes.specs.SpanLaws.{ok_is, IsBytes-after, IsBytes-before, byte_at-takes, piece_at-takes, piece_at-again}
 use Rattle.wk_bytes.specs.Pieces.{SpellsName}

@@ -1,5 +1,5 @@
 -- Each change on a small module: what is added comes last, and of what is named the first is meant.
-use Rattle.std.proofs.Common.{◌≡◌, ℕ, List, [], ◌∷◌, Some, None, refl}
+use Rattle.std.proofs.Common.{◌≡◌, ℕ, [], ◌∷◌, Some, None, refl}
 use Rattle.wk_body.specs.declared.types.Profile.TheVariants.{Core}
 use Rattle.wk_body.specs.declared.types.ValType.TheVariants.{I32}
 use Rattle.wk_body.specs.Bodies.{BodyOf}

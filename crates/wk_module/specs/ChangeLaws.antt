@@ -1,12 +1,10 @@
 -- What each change leaves: the module is formed as before, and without an export it is no longer.
-use Rattle.std.proofs.Common.{◌≡◌, ℕ, zero, suc, ◌+◌, ◌^◌, ◌<◌, ◌≤◌, Bool, true, false, if◌then◌else◌, inl, inr, Option, Some, None, List, [], ◌∷◌, ◌++◌, length, map, take, drop, filter, refl, sym, ap, subst, ◌∙◌, arith, length-append}
+use Rattle.std.proofs.Common.{◌≡◌, ℕ, zero, suc, ◌+◌, ◌^◌, ◌<◌, ◌≤◌, Bool, true, false, if◌then◌else◌, Option, Some, None, List, [], ◌∷◌, ◌++◌, length, map, take, drop, refl, sym, ap, subst, arith, length-append}
 use Rattle.std.specs.Prelude.{option_map}
 use Rattle.std.specs.List.{AllByRecursion, flat_map}
-use Rattle.std.specs.Str.{bytes_eq, IsUtf8}
-use Rattle.std.proofs.lemmas.Bool.{cases_Bool}
+use Rattle.std.specs.Str.{bytes_eq}
 use Rattle.std.proofs.lemmas.List.{length-map, map_push}
 use Rattle.wk_bytes.specs.Short.{short}
-use Rattle.wk_body.specs.declared.types.Profile.{Profile}
 use Rattle.wk_body.specs.Bodies.{BodyOf}
 use Rattle.wk_body.specs.Shape.{IsU32}
 use Rattle.wk_body.specs.Tree.{Instrs}
@@ -14,15 +12,14 @@ use Rattle.wk_body.specs.Vectors.{written_vector}
 use Rattle.wk_module.specs.declared.types.GlobalType.{GlobalType}
 use Rattle.wk_module.specs.declared.types.Import.{Import}
 use Rattle.wk_module.specs.declared.types.Func.{Func}
-use Rattle.wk_module.specs.declared.types.Custom.{Custom}
 use Rattle.wk_module.specs.declared.types.Export.{Export}
 use Rattle.wk_module.specs.declared.types.Parts.{Parts}
 use Rattle.wk_module.specs.Changes.{with_import, with_func, first_given, with_body, with_global, with_export, without_first}
 use Rattle.wk_module.specs.Items.{written_export, IsImport, IsInit, IsExport, IsCode}
-use Rattle.wk_module.specs.Sections.{SectionId, TypeSection, ImportSection, FunctionSection, TableSection, MemorySection, GlobalSection, ExportSection, StartSection, ElementSection, CodeSection, DataSection, ContentsOf, SectionLists, contents, with_contents, written_contents, AreItems, AreValid}
+use Rattle.wk_module.specs.Sections.{SectionId, TypeSection, ImportSection, FunctionSection, TableSection, MemorySection, GlobalSection, ExportSection, StartSection, ElementSection, CodeSection, DataSection, contents, with_contents, AreItems}
 use Rattle.wk_module.specs.Shape.{lists_of, IsFormed}
 use Rattle.wk_module.specs.ShapeLaws.{valid_with}
-use Rattle.wk_module.specs.Writing.{framed, written_section, encoded}
+use Rattle.wk_module.specs.Writing.{written_section, encoded}
 use Rattle.wk_module.specs.WritingLaws.{short-rises, framed_rises, length-encoded_le}
 
 -- ---- one more item

@@ -8,8 +8,8 @@ pub mod Modules
 pub mod Reading
 pub mod ListReading
 pub mod Writing
-pub mod Sizes
 pub mod Listed
+pub mod Sizes
 pub mod SectionLaws
 pub mod NumberedLaws
 pub mod ShapeLaws

@@ -1,5 +1,5 @@
 -- Laws of lists that hold fewer items than there are numbers of 32 bits.
-use Rattle.std.proofs.Common.{◌≡◌, ◌<◌, ◌^◌, ℕ, inl, inr, List, [], length, sym, subst, arith}
+use Rattle.std.proofs.Common.{◌<◌, ◌^◌, ℕ, inl, inr, List, length, sym, subst, arith}
 use Rattle.std.proofs.lemmas.List.{length-map}
 use Rattle.wk_body.specs.declared.types.Profile.{Profile}
 use Rattle.wk_body.specs.Shape.{IsU32}

@@ -1,20 +1,26 @@
 //! How long written forms get.
 
-ghost use Rattle.std.specs.Prelude.{◌≡◌, ℕ, List, length};
+ghost use Rattle.std.specs.Prelude.{◌≡◌, ◌+◌, ℕ, List, length, map};
+ghost use Rattle.wk_body.specs.Bodies.{BodyOf};
 ghost use Rattle.wk_body.specs.Lengths.{limited, GrowsBy};
 ghost use Rattle.std.specs.List.{flat_map};
 ghost use Rattle.wk_module.specs.Customs.{written_custom};
-ghost use Rattle.wk_module.specs.Sections.{of_number};
-ghost use Rattle.wk_module.specs.Shape.{lists_of};
-ghost use Rattle.wk_module.specs.Sizes.{framed_size, section_size, whole_size};
-ghost use Rattle.wk_module.specs.Writing.{encoded, framed, section_of, ids, contents_by, SectionLen};
+ghost use Rattle.wk_module.specs.Formats.{written_bytes};
+ghost use Rattle.wk_module.specs.Items.{written_export};
+ghost use Rattle.wk_module.specs.Types.{written_functype};
+ghost use Rattle.wk_module.specs.declared.types.Parts.{Parts as PartsOf};
+ghost use Rattle.wk_module.specs.Listed.{listed};
+ghost use Rattle.wk_module.specs.Sections.{SectionLists, CodeSection, of_number};
+ghost use Rattle.wk_module.specs.Shape.{lists_of, IsInOrderFrom};
+ghost use Rattle.wk_module.specs.Sizes.{body_size, entry_size, framed_size, section_size, whole_size, AreListsOf};
+ghost use Rattle.wk_module.specs.Writing.{encoded, framed, section_by, section_of, section_contents, ids, contents_by, SectionLen};
 
-use crate::format::{Codes, FuncIndices};
+use crate::format::{Codes, Exports, FuncIndices, FuncTypes};
 use crate::lists::Lists;
 use crate::module::Module;
-use crate::types::{Custom, Parts};
-use crate::writing::{list_len, plus, plus_bytes, plus_u32};
-use wk_bytes::{Items, LIMIT};
+use crate::types::{Custom, Export, FuncType, Parts};
+use crate::writing::{Writable, list_len, plus, plus_bytes, plus_count, plus_u32};
+use wk_bytes::{Items, LIMIT, Text};
 
 /// The length of the magic and the version.
 const HEADER_LEN: u32 = 8;
@@ -53,8 +59,30 @@ pub fn section_len(module: &Module, id: u8) -> Option<u32>
 pub fn custom_len(custom: &Custom) -> Option<u32>
     ensures { result ≡ limited (length (written_custom custom.now)) }
 {
-    let total = plus_bytes(custom.name.as_str().as_bytes(), Some(0));
-    plus(total, custom.bytes.len())
+    named_len(&custom.name, custom.bytes.len())
+}
+
+/// How many bytes the contents of a custom section have that has a name and so many bytes behind it, or nothing past 2,147,483,647. It
+/// takes no memory.
+pub fn named_len(name: &Text, len: usize) -> Option<u32>
+    ensures { result ≡ limited (length (written_bytes name.now) + len) }
+{
+    let total = plus_bytes(name.as_str().as_bytes(), Some(0));
+    plus(total, len)
+}
+
+/// How many bytes a type has in the written form of a type section, or nothing past 2,147,483,647. It takes no memory.
+pub fn type_len(ty: &FuncType) -> Option<u32>
+    ensures { result ≡ limited (length (written_functype ty.now)) }
+{
+    FuncTypes::measure(ty, Some(0))
+}
+
+/// How many bytes an export has in the written form of an export section, or nothing past 2,147,483,647. It takes no memory.
+pub fn export_len(export: &Export) -> Option<u32>
+    ensures { result ≡ limited (length (written_export export.now)) }
+{
+    Exports::measure(export, Some(0))
 }
 
 /// The length of the contents of the section of an id: 0 where it is left out or is one of other ids, nothing past the limit.
@@ -66,6 +94,18 @@ pub(crate) fn contents_len(parts: &Parts, id: u8) -> Option<u32>
         CODES => list_len::<Codes>(parts.funcs.as_slice()),
         _ => Lists::of(parts, &[]).contents_len(id),
     }
+}
+
+/// How many bytes the written form has of a module with these lists, whose bodies have these sizes, each without the size that stands in
+/// front of it, and with these custom sections; or nothing past 2,147,483,647. It takes no memory.
+pub fn len_of_lists(lists: &Lists<'_>, code_sizes: &[u32], customs: &Items<Custom>) -> Option<u32>
+    ensures { (m : PartsOf) → AreListsOf (listed lists.now) code_sizes.now m → customs.now ≡ m.customs → IsInOrderFrom 0 m.customs → result ≡ limited (length (encoded m)) }
+{
+    let mut total = Some(HEADER_LEN);
+    for id in 0..=LAST {
+        total = plus_lent(total, lists, code_sizes, id);
+    }
+    plus_customs(total, customs)
 }
 
 /// How many bytes a section has whose contents are that many, with its id and its size; or nothing past 2,147,483,647. It takes no
@@ -110,6 +150,27 @@ fn plus_size(total: Option<u32>, contents: usize) -> Option<u32>
     plus(total, contents)
 }
 
+/// A length with an entry of the code section added whose body has that many bytes.
+fn plus_code(total: Option<u32>, size: u32) -> Option<u32>
+    ensures { GrowsBy (entry_size size) total result }
+{
+    plus(plus_u32(total, size), size as usize)
+}
+
+/// The length of the contents of the code section by the sizes of its bodies, or nothing past the limit.
+fn codes_len(code_sizes: &[u32]) -> Option<u32>
+    ensures { (bodies : List BodyOf) → code_sizes.now ≡ map body_size bodies → result ≡ limited (length (section_contents CodeSection bodies)) }
+{
+    if code_sizes.is_empty() {
+        return Some(0);
+    }
+    let mut total = Some(0);
+    for size in code_sizes {
+        total = plus_code(total, *size);
+    }
+    plus_count(total, code_sizes.len())
+}
+
 /// A length with a section whose contents are so long added, or nothing past the limit.
 fn plus_framed(total: Option<u32>, size: Option<u32>) -> Option<u32>
     ensures { (id : ℕ) (contents : List ℕ) → size ≡ limited (length contents) → GrowsBy (length (framed id contents)) total result }
@@ -118,15 +179,33 @@ fn plus_framed(total: Option<u32>, size: Option<u32>) -> Option<u32>
     plus_size(total, size as usize)
 }
 
-/// A length with the section of an id added, which is left out where it has no contents.
-fn plus_section(total: Option<u32>, parts: &Parts, id: u8) -> Option<u32>
-    ensures { GrowsBy (length (section_of parts.now id)) total result }
+/// A length with the section of an id added whose contents are so long, which is left out where it has none.
+fn plus_contents(total: Option<u32>, size: Option<u32>, id: u8) -> Option<u32>
+    ensures { (l : SectionLists) → size ≡ limited (length (contents_by l (of_number id))) → GrowsBy (length (section_by l (of_number id))) total result }
 {
-    let size = contents_len(parts, id);
     if size == Some(0) {
         return total;
     }
     plus_framed(total, size)
+}
+
+/// A length with the section of an id added.
+fn plus_section(total: Option<u32>, parts: &Parts, id: u8) -> Option<u32>
+    ensures { GrowsBy (length (section_of parts.now id)) total result }
+{
+    plus_contents(total, contents_len(parts, id), id)
+}
+
+/// A length with the section of an id added, by lists that are lent and the sizes of bodies.
+fn plus_lent(total: Option<u32>, lists: &Lists<'_>, code_sizes: &[u32], id: u8) -> Option<u32>
+    ensures { (m : PartsOf) → AreListsOf (listed lists.now) code_sizes.now m → GrowsBy (length (section_of m id)) total result }
+{
+    let size = if id == CODES {
+        codes_len(code_sizes)
+    } else {
+        lists.contents_len(id)
+    };
+    plus_contents(total, size, id)
 }
 
 /// A length with the sections that are no custom ones added.

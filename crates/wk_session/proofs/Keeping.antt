@@ -1,13 +1,18 @@
--- What is kept of a module, when the session goes on to another one.
-use Rattle.std.proofs.Common.{◌≡◌, ℕ, length, Some, sym, ap, ◌∙◌}
-use Rattle.wk_module.specs.declared.types.Parts.{Parts}
+-- What is kept of a module is kept of it with its customs settled, which have no say in it but by their length.
+use Rattle.std.proofs.Common.{◌≡◌, length, ap, ◌∙◌}
 use Rattle.wk_body.specs.Lengths.{limited}
-use Rattle.wk_module.specs.Writing.{encoded}
-use Rattle.wk_check.specs.declared.fault.Verdict.{Verdict}
-use Rattle.wk_check.specs.Verdict.{module_verdict}
+use Rattle.wk_module.specs.declared.types.Parts.{Parts}
+use Rattle.wk_module.specs.Shape.{settle, IsFormed}
+use Rattle.wk_module.specs.WritingLaws.{length-encoded_settle}
+use Rattle.wk_session.specs.declared.kept.Kept.{Kept}
 use Rattle.wk_session.specs.Kept.{IsKept}
 
--- the verdict stays, where the other module has the same
-pub kept_over : (m n other : Parts) (v : Verdict) (len other_len : ℕ) → IsKept m v len → n ≡ other → module_verdict other ≡ module_verdict m
-    → limited (length (encoded n)) ≡ Some other_len → IsKept n v other_len
-kept_over m n other v len other_len kept is same long = record { verdict_is = kept.verdict_is ∙ sym (ap module_verdict is ∙ same); len_is = long }
+pub kept_settled : (m : Parts) (k : Kept) → IsFormed m → IsKept m k → IsKept (settle m) k
+kept_settled m k formed kept = record {
+  verdict = kept.verdict;
+  len = ap limited (length-encoded_settle m formed.order) ∙ kept.len;
+  types = kept.types;
+  verdicts = kept.verdicts;
+  refs = kept.refs;
+  code_sizes = kept.code_sizes;
+}

@@ -1,8 +1,11 @@
+pub mod Rows
+pub mod SameFound
+pub mod Judging
 pub mod Popped
 pub mod RunSteps
 pub mod Outcomes
-pub mod TypeEdits
 pub mod CustomEdits
 pub mod CustomPuts
 pub mod WrittenBack
 pub mod Keeping
+pub mod Lasting

@@ -10,8 +10,9 @@ use Rattle.wk_session.specs.declared.edit.Edit.{Edit}
 use Rattle.wk_session.specs.declared.edit.Work.{Work}
 use Rattle.wk_session.specs.declared.edit.EditFault.{EditFault}
 use Rattle.wk_session.specs.declared.edit.EditFault.TheVariants.{NoSuchFunction, NoSuchExport, NoSuchCustom, IndexOverflow, TooLarge, BadBytes, WouldBreak, Memory}
-use Rattle.wk_session.specs.Edits.{fitting, edited}
-use Rattle.wk_session.specs.Runs.{left_by, is_memory, reply_to, reply_of, after_one, work_of}
+use Rattle.wk_session.specs.Dependents.{work_of}
+use Rattle.wk_session.specs.Edits.{fitting, made}
+use Rattle.wk_session.specs.Runs.{left_by, is_memory, reply_to, reply_of, after_one}
 
 -- ---- refusals
 
@@ -19,39 +20,39 @@ abbrev pub refusal : EditFault → Result Work EditFault
 refusal f = Err f
 
 -- the fault of an edit, unless it is want of memory
-abbrev pub Refuses : Edit → Parts → EditFault → Type 0
-Refuses e m f = f ≢ Memory → edited e m ≡ Err f
+abbrev pub Refuses : Bool → Edit → Parts → EditFault → Type 0
+Refuses keep e m f = f ≢ Memory → made keep e m ≡ Err f
 
-pub reply_refused : (e : Edit) (m : Parts) (f : EditFault) → Refuses e m f → refusal f ≡ reply_of e (is_memory (refusal f)) m
-reply_refused e m NoSuchFunction h = sym (ap (reply_to e) (h (λ q. absurd cc)))
-reply_refused e m NoSuchExport h = sym (ap (reply_to e) (h (λ q. absurd cc)))
-reply_refused e m NoSuchCustom h = sym (ap (reply_to e) (h (λ q. absurd cc)))
-reply_refused e m IndexOverflow h = sym (ap (reply_to e) (h (λ q. absurd cc)))
-reply_refused e m TooLarge h = sym (ap (reply_to e) (h (λ q. absurd cc)))
-reply_refused e m (BadBytes g) h = sym (ap (reply_to e) (h (λ q. absurd cc)))
-reply_refused e m (WouldBreak g) h = sym (ap (reply_to e) (h (λ q. absurd cc)))
-reply_refused e m Memory h = refl
+pub reply_refused : (keep : Bool) (e : Edit) (m : Parts) (f : EditFault) → Refuses keep e m f → refusal f ≡ reply_of keep e (is_memory (refusal f)) m
+reply_refused keep e m NoSuchFunction h = sym (ap (reply_to e m) (h (λ q. absurd cc)))
+reply_refused keep e m NoSuchExport h = sym (ap (reply_to e m) (h (λ q. absurd cc)))
+reply_refused keep e m NoSuchCustom h = sym (ap (reply_to e m) (h (λ q. absurd cc)))
+reply_refused keep e m IndexOverflow h = sym (ap (reply_to e m) (h (λ q. absurd cc)))
+reply_refused keep e m TooLarge h = sym (ap (reply_to e m) (h (λ q. absurd cc)))
+reply_refused keep e m (BadBytes g) h = sym (ap (reply_to e m) (h (λ q. absurd cc)))
+reply_refused keep e m (WouldBreak g) h = sym (ap (reply_to e m) (h (λ q. absurd cc)))
+reply_refused keep e m Memory h = refl
 
-pub after_refused : (e : Edit) (m : Parts) (f : EditFault) → Refuses e m f → m ≡ after_one e (is_memory (refusal f)) m
-after_refused e m NoSuchFunction h = sym (ap (left_by m) (h (λ q. absurd cc)))
-after_refused e m NoSuchExport h = sym (ap (left_by m) (h (λ q. absurd cc)))
-after_refused e m NoSuchCustom h = sym (ap (left_by m) (h (λ q. absurd cc)))
-after_refused e m IndexOverflow h = sym (ap (left_by m) (h (λ q. absurd cc)))
-after_refused e m TooLarge h = sym (ap (left_by m) (h (λ q. absurd cc)))
-after_refused e m (BadBytes g) h = sym (ap (left_by m) (h (λ q. absurd cc)))
-after_refused e m (WouldBreak g) h = sym (ap (left_by m) (h (λ q. absurd cc)))
-after_refused e m Memory h = refl
+pub after_refused : (keep : Bool) (e : Edit) (m : Parts) (f : EditFault) → Refuses keep e m f → m ≡ after_one keep e (is_memory (refusal f)) m
+after_refused keep e m NoSuchFunction h = sym (ap (left_by m) (h (λ q. absurd cc)))
+after_refused keep e m NoSuchExport h = sym (ap (left_by m) (h (λ q. absurd cc)))
+after_refused keep e m NoSuchCustom h = sym (ap (left_by m) (h (λ q. absurd cc)))
+after_refused keep e m IndexOverflow h = sym (ap (left_by m) (h (λ q. absurd cc)))
+after_refused keep e m TooLarge h = sym (ap (left_by m) (h (λ q. absurd cc)))
+after_refused keep e m (BadBytes g) h = sym (ap (left_by m) (h (λ q. absurd cc)))
+after_refused keep e m (WouldBreak g) h = sym (ap (left_by m) (h (λ q. absurd cc)))
+after_refused keep e m Memory h = refl
 
 -- ---- acceptances
 
 abbrev pub acceptance : Work → Result Work EditFault
 acceptance w = Ok w
 
-pub reply_accepted : (e : Edit) (m n : Parts) → edited e m ≡ Ok n → acceptance (work_of e) ≡ reply_to e (edited e m)
-reply_accepted e m n h = sym (ap (reply_to e) h)
+pub reply_accepted : (keep : Bool) (e : Edit) (m n : Parts) → made keep e m ≡ Ok n → acceptance (work_of e m n) ≡ reply_to e m (made keep e m)
+reply_accepted keep e m n h = sym (ap (reply_to e m) h)
 
-pub after_accepted : (e : Edit) (m n : Parts) → edited e m ≡ Ok n → n ≡ left_by m (edited e m)
-after_accepted e m n h = sym (ap (left_by m) h)
+pub after_accepted : (keep : Bool) (e : Edit) (m n : Parts) → made keep e m ≡ Ok n → n ≡ left_by m (made keep e m)
+after_accepted keep e m n h = sym (ap (left_by m) h)
 
 -- ---- lengths
 

@@ -1,7 +1,7 @@
 pub mod Edits
+pub mod Dependents
 pub mod Runs
 pub mod Kept
-pub mod Put
 pub mod Stripped
 pub mod Written
 pub mod EditText

@@ -1,9 +1,12 @@
 //! A module under edits.
 #![tactic(auto)]
 
-mod changes;
+mod appraisal;
 mod display;
 mod edit;
+mod edits;
+mod judged;
+mod kept;
 mod session;
 mod strip;
 mod write;

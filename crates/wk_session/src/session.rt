@@ -1,50 +1,95 @@
 //! A session over a module.
-ghost use Rattle.std.specs.Prelude.{◌≡◌, ◌≢◌, ◌<◌, ◌+◌, ◌-◌, ◌^◌, IfOk, IfErr, OnOk, OnErr, length};
-ghost use Rattle.wk_module.specs.declared.types.Parts.{Parts};
+ghost use Rattle.std.specs.Prelude.{◌≡◌, ◌≢◌, ◌<◌, ◌-◌, ◌^◌, false, true, IfOk, IfErr, OnOk, OnErr, length, option_map, slice_get};
+ghost use Rattle.std.specs.Io.KnownBytes.{Appends};
 ghost use Rattle.wk_bytes.specs.Stands.{StandsIn};
+ghost use Rattle.wk_bytes.specs.Taken.{TakesFront};
 ghost use Rattle.wk_body.specs.Reads.{Reads};
+ghost use Rattle.wk_module.specs.declared.types.Parts.{Parts as PartsOf};
 ghost use Rattle.wk_module.specs.Modules.{Spells, SpellsNone};
 ghost use Rattle.wk_module.specs.Reading.{module_at};
+ghost use Rattle.wk_module.specs.Shape.{IsShaped};
 ghost use Rattle.wk_module.specs.Writing.{encoded, Fits};
 ghost use Rattle.wk_check.specs.Verdict.{module_verdict};
-ghost use Rattle.std.specs.Io.KnownBytes.{Appends};
+ghost use Rattle.wk_list.specs.Listing.{listing};
+ghost use Rattle.wk_list.specs.Taken.{failed_after};
+ghost use Rattle.wk_session.specs.Edits.{is_decided};
+ghost use Rattle.wk_session.specs.Kept.{IsKept, Leads, uses_of};
 ghost use Rattle.wk_session.specs.Written.{Leaves, failures_after_write};
 ghost use Rattle.wk_session.specs.Runs.{reply_of, after_one, is_memory, replies_of, after, refused_for_memory};
 
-use crate::changes::{
-    appraise, has_custom, pop_type, push_type, put_custom, remove_all_customs, remove_customs,
+use crate::edit::{Edit, EditFault, Reply};
+use crate::edits::{
+    add_export, add_func, add_global, add_import, add_type, put_body, remove_export, set_custom,
+    strip_all, strip_custom,
 };
-use crate::edit::{Edit, EditFault, Reply, Work};
+use crate::kept::Kept;
 use crate::write::WriteFault;
 use std::alloc::Global;
+use std::collections::BTreeSet;
 use std::marker::Model;
-use wk_bytes::{Items, Out, OutFault, OutOfMemory, ReadFault, ReadKind, Text, put_all};
-use wk_check::{Verdict, judge};
-use wk_module::{EncodeFault, FuncType, Module, Profile, encode, encoded_len, read_in};
+use std::mem;
+use wk_bytes::{Out, OutFault, OutOfMemory, ReadFault, ReadKind, put_all};
+use wk_check::{Meter, Verdict};
+use wk_list::{ListFault, Part, Plain, list};
+use wk_module::{EncodeFault, Module, Parts, Profile, Ref, encode, read_in};
 
 /// A module under edits, seen by contracts as its plain lists.
 #[derive(Drop)]
 pub struct Session {
     alloc: Global,
     module: Module,
-    verdict: Verdict,
-    len: u32,
+    kept: Kept,
 }
 
 impl Model for Session {
-    ghost use Rattle.wk_module.specs.declared.types.Parts.{Parts};
+    ghost use Rattle.wk_module.specs.declared.types.Parts.{Parts as Seen};
     ghost use Rattle.std.specs.Coded.{codes};
     ghost use Rattle.wk_body.specs.Bodies.{coded_body};
     ghost use Rattle.wk_body.specs.TreeCode.{coded_instrs};
     ghost use Rattle.wk_session.specs.Kept.{IsKept};
 
-    ghost Value = { Parts };
+    ghost Value = { Seen };
 
     ghost coded = { Prim.hlevel (codes, coded_instrs, coded_body) };
 
     ghost view = { λ s. s.«module» };
 
-    ghost invariant = { λ s. IsKept s.«module» s.verdict s.len };
+    ghost invariant = { λ s. IsKept s.«module» s.kept };
+}
+
+// The parts of a module, which is empty until it is given parts again.
+fn take_parts(alloc: Global, module: &mut Module) -> Parts
+    ensures value { result ≡ «module».old }
+    ensures shaped { IsShaped «module».old }
+{
+    mem::replace(module, Module::empty(alloc, Profile::Core)).into_parts()
+}
+
+// Makes one edit of the parts of a module.
+fn edit_parts(
+    alloc: Global,
+    keep: bool,
+    parts: &mut Parts,
+    kept: &mut Kept,
+    edit: &Edit,
+) -> Reply
+    requires shaped { IsShaped parts.old }
+    requires kept { IsKept parts.old kept.old }
+    ensures { Leads keep edit.now parts.old result parts.new kept.new }
+{
+    let mut meter = Meter::new(alloc);
+    match edit {
+        Edit::Ty(ty) => add_type(alloc, keep, parts, kept, &mut meter, ty),
+        Edit::Import(import) => add_import(alloc, keep, parts, kept, &mut meter, import),
+        Edit::Func { ty, code } => add_func(alloc, keep, parts, kept, &mut meter, *ty, code),
+        Edit::Body { func, code } => put_body(alloc, keep, parts, kept, &mut meter, *func, code),
+        Edit::Global { ty, init } => add_global(alloc, keep, parts, kept, &mut meter, *ty, init),
+        Edit::Export(export) => add_export(alloc, keep, parts, kept, export),
+        Edit::Unexport(name) => remove_export(alloc, keep, parts, kept, name),
+        Edit::SetCustom { name, bytes } => set_custom(alloc, keep, parts, kept, name, bytes),
+        Edit::StripCustom(name) => strip_custom(alloc, keep, parts, kept, name),
+        Edit::StripAll => strip_all(alloc, keep, parts, kept),
+    }
 }
 
 impl Session {
@@ -58,21 +103,17 @@ impl Session {
         ensures exact { Reads (λ m. m) result (module_at profile bytes.now) }
         ensures found { IfOk result (λ m. Spells bytes.now m) }
         ensures profile { IfOk result (λ m. m.profile ≡ profile) }
-        ensures only { IfOk result (λ m. (n : Parts) → n.profile ≡ profile → Spells bytes.now n → n ≡ m) }
+        ensures only { IfOk result (λ m. (n : PartsOf) → n.profile ≡ profile → Spells bytes.now n → n ≡ m) }
         ensures refused { IfErr result (λ e. e.kind ≢ ReadKind.Memory → SpellsNone profile bytes.now) }
         ensures fits { IfOk result (λ m. Fits m) }
         ensures fault { IfErr result (λ e. StandsIn bytes.now e) }
     {
         let module = read_in(alloc, bytes, profile)?;
-        let verdict = judge(alloc, &module)?;
-        let Some(len) = encoded_len(&module) else {
-            unreachable!()
-        };
+        let kept = Kept::of(alloc, &module)?;
         Ok(Session {
             alloc,
             module,
-            verdict,
-            len,
+            kept,
         })
     }
 
@@ -81,7 +122,7 @@ impl Session {
         ensures exact { Reads (λ m. m) result (module_at Profile.Core bytes.now) }
         ensures found { IfOk result (λ m. Spells bytes.now m) }
         ensures profile { IfOk result (λ m. m.profile ≡ Profile.Core) }
-        ensures only { IfOk result (λ m. (n : Parts) → n.profile ≡ Profile.Core → Spells bytes.now n → n ≡ m) }
+        ensures only { IfOk result (λ m. (n : PartsOf) → n.profile ≡ Profile.Core → Spells bytes.now n → n ≡ m) }
         ensures refused { IfErr result (λ e. e.kind ≢ ReadKind.Memory → SpellsNone Profile.Core bytes.now) }
         ensures fits { IfOk result (λ m. Fits m) }
         ensures fault { IfErr result (λ e. StandsIn bytes.now e) }
@@ -93,7 +134,7 @@ impl Session {
     pub fn verdict(&self) -> &Verdict
         ensures { result.now ≡ module_verdict self.now }
     {
-        &self.verdict
+        &self.kept.verdict
     }
 
     /// The length of the written form, in bytes: at most 2,147,483,647.
@@ -101,7 +142,7 @@ impl Session {
         ensures value { result ≡ length (encoded self.now) }
         ensures fits { Fits self.now }
     {
-        self.len
+        self.kept.len
     }
 
     /// Writes the written form, which reading gives back as this module and no other.
@@ -114,7 +155,7 @@ impl Session {
         ensures err { IfErr result (Leaves (W.taken out.old) (W.taken out.new) (encoded self.now)) }
         ensures failures { W.failed out.new ≡ failures_after_write (W.failed out.old) result }
         ensures spells { Spells (encoded self.now) self.now }
-        ensures alone { (n : Parts) → n.profile ≡ (self.now).profile → Spells (encoded self.now) n → n ≡ self.now }
+        ensures alone { (n : PartsOf) → n.profile ≡ (self.now).profile → Spells (encoded self.now) n → n ≡ self.now }
     {
         let bytes = match encode(self.alloc, &self.module) {
             Ok(bytes) => bytes,
@@ -127,114 +168,116 @@ impl Session {
         }
     }
 
-    // Appends a type.
-    fn add_type(&mut self, ty: &FuncType) -> Reply
-        ensures reply { result ≡ reply_of (Edit.Ty ty.now) (is_memory result) self.old }
-        ensures module_is { self.new ≡ after_one (Edit.Ty ty.now) (is_memory result) self.old }
+    /// Writes a part of the listing of the module.
+    ///
+    /// # Errors
+    ///
+    /// `Write` only where the [`Out`] failed in this call, and else `Memory` where a growth was refused. After either a beginning of
+    /// the text was taken. The session stays as it is.
+    pub fn list<W: Out>(&self, part: Part, out: &mut W) -> Result<(), ListFault>
+        requires { W.failed out.old < 2 ^ 64 - 1 }
+        ensures ok { OnOk result (Appends (W.taken out.old) (W.taken out.new) (listing self.now part)) }
+        ensures err { OnErr result (TakesFront (W.taken out.old) (W.taken out.new) (listing self.now part)) }
+        ensures failures { W.failed out.new ≡ failed_after (W.failed out.old) result }
     {
-        let copy = ty.copy(self.alloc)?;
-        push_type(self.alloc, &mut self.module, copy)?;
-        match appraise(self.alloc, &self.module) {
-            Ok((verdict, len)) => {
-                self.verdict = verdict;
-                self.len = len;
-                Ok(Work {
-                    typed: 0,
-                    encoded: 0,
-                    sections: 1,
-                })
-            }
-            Err(fault) => {
-                pop_type(self.alloc, &mut self.module);
-                Err(fault)
-            }
-        }
-    }
-
-    // Removes the custom sections of a name.
-    fn strip_custom(&mut self, name: &Text) -> Reply
-        ensures reply { result ≡ reply_of (Edit.StripCustom name.now) (is_memory result) self.old }
-        ensures module_is { self.new ≡ after_one (Edit.StripCustom name.now) (is_memory result) self.old }
-    {
-        if !has_custom(self.module.parts(), name) {
-            return Err(EditFault::NoSuchCustom);
-        }
-        remove_customs(self.alloc, &mut self.module, name);
-        let Some(len) = encoded_len(&self.module) else {
+        let Some(plain) = Plain::of(&self.module) else {
             unreachable!()
         };
-        self.len = len;
-        Ok(Work {
-            typed: 0,
-            encoded: 0,
-            sections: 0,
-        })
+        list(self.alloc, &plain, part, out)
     }
 
-    // Gives the first custom section of a name other bytes, or appends one.
-    fn set_custom(&mut self, name: &Text, bytes: &Items<u8>) -> Reply
-        ensures reply { result ≡ reply_of (Edit.SetCustom name.now bytes.now) (is_memory result) self.old }
-        ensures module_is { self.new ≡ after_one (Edit.SetCustom name.now bytes.now) (is_memory result) self.old }
+    /// What the function of a code entry refers to, with its own type, each once and in the order of [`Ref`]; or nothing past the last
+    /// entry. It takes no memory.
+    pub fn uses(&self, entry: u32) -> Option<&BTreeSet<Ref>>
+        ensures { option_map (λ s. s.now.keys) result ≡ option_map uses_of (slice_get self.now.funcs entry) }
     {
-        self.len = put_custom(self.alloc, &mut self.module, name, bytes)?;
-        Ok(Work {
-            typed: 0,
-            encoded: 0,
-            sections: 1,
-        })
+        self.kept.refs.get(entry as usize)
     }
 
-    // Removes all custom sections.
-    fn strip_all(&mut self) -> Reply
-        ensures reply { result ≡ reply_of Edit.StripAll (is_memory result) self.old }
-        ensures module_is { self.new ≡ after_one Edit.StripAll (is_memory result) self.old }
-        ensures never { OnErr result ⊥ }
+    // Makes one edit, which has to leave a valid module where `keep` says so.
+    fn apply_with(&mut self, keep: bool, edit: &Edit) -> Reply
+        ensures reply { result ≡ reply_of keep edit.now (is_memory result) self.old }
+        ensures module_is { self.new ≡ after_one keep edit.now (is_memory result) self.old }
+        ensures decided { IfErr result (λ f. f ≡ EditFault.Memory → is_decided edit.now self.old ≡ false) }
     {
-        remove_all_customs(self.alloc, &mut self.module);
-        let Some(left) = encoded_len(&self.module) else {
-            unreachable!()
-        };
-        self.len = left;
-        Ok(Work {
-            typed: 0,
-            encoded: 0,
-            sections: 0,
-        })
+        let mut parts = take_parts(self.alloc, &mut self.module);
+        let reply = edit_parts(self.alloc, keep, &mut parts, &mut self.kept, edit);
+        self.module = Module::of(parts);
+        reply
     }
 
     /// Makes one edit. A refusal leaves the session as it was.
     ///
     /// # Errors
     ///
-    /// `NoSuchCustom` where no custom section has the name to strip, `TooLarge` where the written form with the new type or
-    /// custom section would pass 2,147,483,647 bytes, `Memory` where a growth is refused.
+    /// The first that is due of `NoSuchFunction`, `NoSuchExport`, `NoSuchCustom`, `BadBytes`, `IndexOverflow` and `TooLarge`; or
+    /// `Memory` where a growth was refused. Look-ups take no memory, nor do `StripCustom` and `StripAll`, and a type, an export or a
+    /// custom section with which the written form would get too long is refused before any growth.
     pub fn apply(&mut self, edit: &Edit) -> Reply
-        ensures reply { result ≡ reply_of edit.now (is_memory result) self.old }
-        ensures module_is { self.new ≡ after_one edit.now (is_memory result) self.old }
-        // Stripping all takes no memory.
-        ensures always { edit.now ≡ Edit.StripAll → OnErr result ⊥ }
+        ensures reply { result ≡ reply_of false edit.now (is_memory result) self.old }
+        ensures module_is { self.new ≡ after_one false edit.now (is_memory result) self.old }
+        // What is decided without memory is never answered by want of it.
+        ensures decided { IfErr result (λ f. f ≡ EditFault.Memory → is_decided edit.now self.old ≡ false) }
     {
-        match edit {
-            Edit::Ty(ty) => self.add_type(ty),
-            Edit::StripCustom(name) => self.strip_custom(name),
-            Edit::SetCustom { name, bytes } => self.set_custom(name, bytes),
-            Edit::StripAll => self.strip_all(),
-        }
+        self.apply_with(false, edit)
     }
 
-    /// Makes edits in order, and answers each. The room for the replies comes first: where it is refused, nothing
-    /// has changed.
-    pub fn run(&mut self, edits: &[Edit]) -> Result<Vec<Reply>, OutOfMemory>
-        ensures replies { IfOk result (λ rs. rs.items ≡ replies_of edits.now (refused_for_memory rs.items) self.old) }
+    /// Makes one edit, as [`Session::apply`], but refuses it where the module would be invalid after it.
+    ///
+    /// # Errors
+    ///
+    /// Those of [`Session::apply`], and behind them all `WouldBreak` with the first fault of the module that the edit would make.
+    pub fn apply_kept(&mut self, edit: &Edit) -> Reply
+        ensures reply { result ≡ reply_of true edit.now (is_memory result) self.old }
+        ensures module_is { self.new ≡ after_one true edit.now (is_memory result) self.old }
+        // What is decided without memory is never answered by want of it.
+        ensures decided { IfErr result (λ f. f ≡ EditFault.Memory → is_decided edit.now self.old ≡ false) }
+    {
+        self.apply_with(true, edit)
+    }
+
+    // Makes edits in order, and answers each.
+    fn run_with(&mut self, keep: bool, edits: &[Edit]) -> Result<Vec<Reply>, OutOfMemory>
+        ensures replies { IfOk result (λ rs. rs.items ≡ replies_of keep edits.now (refused_for_memory rs.items) self.old) }
         ensures count { IfOk result (λ rs. length rs.items ≡ length edits.now) }
-        ensures module_is { IfOk result (λ rs. self.new ≡ after edits.now (refused_for_memory rs.items) self.old) }
+        ensures module_is { IfOk result (λ rs. self.new ≡ after keep edits.now (refused_for_memory rs.items) self.old) }
         ensures err { OnErr result (self.new ≡ self.old) }
     {
         let mut replies = Vec::with_capacity(self.alloc, edits.len())?;
         for edit in edits {
-            let reply = self.apply(edit);
+            let reply = self.apply_with(keep, edit);
             replies.push_reserved(reply);
         }
         Ok(replies)
+    }
+
+    /// Makes edits in order, each by [`Session::apply`], and answers each.
+    ///
+    /// # Errors
+    ///
+    /// Want of memory for the replies alone, whose room comes first: then nothing has changed.
+    pub fn run(&mut self, edits: &[Edit]) -> Result<Vec<Reply>, OutOfMemory>
+        ensures replies { IfOk result (λ rs. rs.items ≡ replies_of false edits.now (refused_for_memory rs.items) self.old) }
+        ensures count { IfOk result (λ rs. length rs.items ≡ length edits.now) }
+        ensures module_is { IfOk result (λ rs. self.new ≡ after false edits.now (refused_for_memory rs.items) self.old) }
+        ensures err { OnErr result (self.new ≡ self.old) }
+    {
+        self.run_with(false, edits)
+    }
+
+    /// Makes edits in order, each by [`Session::apply_kept`], and answers each. A valid module is valid after any of them.
+    ///
+    /// # Errors
+    ///
+    /// Want of memory for the replies alone, whose room comes first: then nothing has changed.
+    pub fn run_kept(&mut self, edits: &[Edit]) -> Result<Vec<Reply>, OutOfMemory>
+        ensures replies { IfOk result (λ rs. rs.items ≡ replies_of true edits.now (refused_for_memory rs.items) self.old) }
+        ensures count { IfOk result (λ rs. length rs.items ≡ length edits.now) }
+        ensures module_is { IfOk result (λ rs. self.new ≡ after true edits.now (refused_for_memory rs.items) self.old) }
+        // What was valid is valid.
+        ensures valid { module_verdict self.old ≡ Verdict.Valid → module_verdict self.new ≡ Verdict.Valid }
+        ensures err { OnErr result (self.new ≡ self.old) }
+    {
+        self.run_with(true, edits)
     }
 }

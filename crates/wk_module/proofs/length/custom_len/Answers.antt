@@ -1,12 +1,10 @@
-use Rattle.std.proofs.Common.{ℕ, List, ◌++◌, length, refl, ap, ◌∙◌, arith, length-append}
+use Rattle.std.proofs.Common.{◌++◌, length, ap, ◌∙◌, arith, length-append}
 use Rattle.wk_bytes.specs.Short.{short}
 use Rattle.wk_body.specs.Lengths.{limited}
-use Rattle.wk_module.specs.Formats.{written_bytes}
 use Rattle.wk_module.proofs.length.custom_len.Goals as goal
 
 pub returns : goal.returns
 returns c =
     let custom = c.args.custom.now in
-    let name = ap (λ (b : List ℕ). length (written_bytes b)) (c.as_bytes.ensures.value ∙ c.as_str.ensures.value) in
-    c.plus.ensures _ (c.plus_bytes-total.ensures 0 refl)
-    ∙ ap limited (omega (arith, name, c.len.ensures, length-append (short (length custom.name)) custom.name, length-append (short (length custom.name)) (custom.name ++ custom.bytes), length-append custom.name custom.bytes))
+    c.named_len.ensures
+    ∙ ap limited (omega (arith, c.len.ensures, length-append (short (length custom.name)) custom.name, length-append (short (length custom.name)) (custom.name ++ custom.bytes), length-append custom.name custom.bytes))

@@ -1,4 +1,4 @@
-use Rattle.std.proofs.Common.{◌+◌, refl, ap, ◌∙◌, arith}
+use Rattle.std.proofs.Common.{refl, ap, ◌∙◌, arith}
 use Rattle.wk_body.specs.Lengths.{limited}
 use Rattle.wk_module.proofs.length.framed_len.Goals as goal
 

@@ -1,4 +1,4 @@
-use Rattle.std.proofs.Common.{◌+◌, ap, ◌∙◌, arith}
+use Rattle.std.proofs.Common.{ap, ◌∙◌, arith}
 use Rattle.wk_body.specs.Lengths.{limited}
 use Rattle.wk_module.specs.WritingLaws.{size_some}
 use Rattle.wk_module.proofs.length.plus_sized.Goals as goal

@@ -1,4 +1,3 @@
-use Rattle.std.proofs.Common.{arith}
 use Rattle.wk_bytes.specs.Raw.{raw_view}
 use Rattle.wk_module.proofs.ListReading.{reads_listed, codes_kept}
 use Rattle.wk_module.proofs.NumberedReading.{numbered_kept}

