@@ -5,7 +5,6 @@ pub mod Popped
 pub mod RunSteps
 pub mod Outcomes
 pub mod CustomEdits
-pub mod CustomPuts
 pub mod WrittenBack
 pub mod Keeping
 pub mod Lasting

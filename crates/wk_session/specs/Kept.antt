@@ -44,13 +44,13 @@ pub record IsKept (m : Parts) (k : Kept) : Type 0 where
 
 -- ---- a module that an edit would make, by lists that are lent and parts that would be kept of it
 
-pub record IsPending (lists : Lists) (verdicts : List BodyVerdict) (code_sizes : List ℕ) (customs : List Custom) (n : Parts) : Type 0 where
+pub record IsPending (l : Lists) (vs : List BodyVerdict) (sizes : List ℕ) (cs : List Custom) (n : Parts) : Type 0 where
   pub formed : IsFormed n
-  pub profile : lists.profile ≡ n.profile
-  pub lists : listed lists ≡ listed_with (map (λ f. f.ty) n.funcs) n
-  pub verdicts : verdicts ≡ map (func_verdict (answers_of n)) n.funcs
-  pub code_sizes : code_sizes ≡ map code_size n.funcs
-  pub customs : customs ≡ n.customs
+  pub profile : l.profile ≡ n.profile
+  pub lists : listed l ≡ listed_with (map (λ f. f.ty) n.funcs) n
+  pub verdicts : vs ≡ map (func_verdict (answers_of n)) n.funcs
+  pub code_sizes : sizes ≡ map code_size n.funcs
+  pub customs : cs ≡ n.customs
 
 -- the module, or why the edit that makes it is refused where `keep` says whether it has to be valid
 abbrev pub standing : Bool → Parts → Result Parts EditFault

@@ -4,6 +4,7 @@ ghost use Rattle.std.specs.Prelude.{◌≡◌, ◌<◌, ◌≤◌, ◌^◌, leng
 ghost use Rattle.std.specs.List.{AllByRecursion};
 ghost use Rattle.wk_bytes.specs.Frames.{limit};
 ghost use Rattle.wk_module.specs.declared.types.Func.{Func as FuncOf};
+ghost use Rattle.wk_module.specs.Listed.{listed};
 ghost use Rattle.wk_module.specs.Writing.{Fits};
 ghost use Rattle.wk_check.specs.Spaces.{answer_in, spaces_of};
 ghost use Rattle.wk_check.specs.Verdict.{func_verdict};
@@ -39,24 +40,26 @@ fn types_of(alloc: Global, funcs: &Items<Func>) -> Result<Vec<u32>, OutOfMemory>
 {
     let mut types = Vec::with_capacity(alloc, funcs.len())?;
     for func in funcs.as_slice() {
-        types.push_reserved(func.ty);
+        types.push(func.ty)?;
     }
     Ok(types)
 }
 
-// The verdicts of functions.
+// The verdicts of functions in a module with these lists.
 fn verdicts_of(
     alloc: Global,
-    whole: &Whole<'_>,
+    lists: Lists<'_>,
     funcs: &Items<Func>,
 ) -> Result<Vec<BodyVerdict>, OutOfMemory>
     requires { length funcs.now < 2 ^ 32 }
-    ensures { IfOk result (λ v. v.items ≡ map (func_verdict (answer_in (spaces_of whole.now))) funcs.now) }
+    ensures { IfOk result (λ v. v.items ≡ map (func_verdict (answer_in (spaces_of (listed lists.entry)))) funcs.now) }
 {
+    let whole = Whole::of(alloc, lists)?;
     let mut meter = Meter::new(alloc);
     let mut verdicts = Vec::with_capacity(alloc, funcs.len())?;
     for func in funcs.as_slice() {
-        verdicts.push_reserved(judged(whole, func.ty, &func.body, &mut meter)?);
+        let verdict = judged(&whole, func.ty, &func.body, &mut meter)?;
+        verdicts.push(verdict)?;
     }
     Ok(verdicts)
 }
@@ -78,7 +81,8 @@ fn refs_of(alloc: Global, funcs: &Items<Func>) -> Result<Vec<BTreeSet<Ref>>, Out
 {
     let mut refs = Vec::with_capacity(alloc, funcs.len())?;
     for func in funcs.as_slice() {
-        refs.push_reserved(func_uses(alloc, func.ty, &func.body)?);
+        let found = func_uses(alloc, func.ty, &func.body)?;
+        refs.push(found)?;
     }
     Ok(refs)
 }
@@ -93,7 +97,7 @@ fn code_sizes_of(alloc: Global, funcs: &Items<Func>) -> Result<Vec<u32>, OutOfMe
         let Some(size) = body_len(&func.body) else {
             unreachable!()
         };
-        sizes.push_reserved(size);
+        sizes.push(size)?;
     }
     Ok(sizes)
 }
@@ -107,8 +111,7 @@ impl Kept {
         let parts = module.parts();
         let types = types_of(alloc, &parts.funcs)?;
         let lists = Lists::of(parts, &types);
-        let whole = Whole::of(alloc, lists)?;
-        let verdicts = verdicts_of(alloc, &whole, &parts.funcs)?;
+        let verdicts = verdicts_of(alloc, lists, &parts.funcs)?;
         let verdict = judge_around(alloc, &lists, first_code_fault(&verdicts))?;
         let refs = refs_of(alloc, &parts.funcs)?;
         let code_sizes = code_sizes_of(alloc, &parts.funcs)?;

@@ -1,6 +1,7 @@
 //! Custom sections: other bytes for one, one more, or some less.
 
 ghost use Rattle.wk_module.specs.Shape.{IsShaped};
+ghost use Rattle.wk_session.specs.declared.edit.Edit.{Edit};
 ghost use Rattle.wk_session.specs.Kept.{IsKept, Leads};
 
 use crate::edit::{EditFault, Reply};

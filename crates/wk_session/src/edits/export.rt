@@ -1,6 +1,7 @@
 //! Exports: one more, or one less.
 
 ghost use Rattle.wk_module.specs.Shape.{IsShaped};
+ghost use Rattle.wk_session.specs.declared.edit.Edit.{Edit};
 ghost use Rattle.wk_session.specs.Kept.{IsKept, Leads};
 
 use crate::edit::{EditFault, Reply};

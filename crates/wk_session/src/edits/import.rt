@@ -2,6 +2,7 @@
 
 ghost use Rattle.std.specs.Prelude.{◌≡◌};
 ghost use Rattle.wk_module.specs.Shape.{IsShaped};
+ghost use Rattle.wk_session.specs.declared.edit.Edit.{Edit};
 ghost use Rattle.wk_session.specs.Kept.{IsKept, Leads};
 
 use crate::edit::{EditFault, Reply};
