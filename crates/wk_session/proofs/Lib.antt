@@ -8,4 +8,7 @@ pub mod Appraising
 pub mod CustomEdits
 pub mod WrittenBack
 pub mod Keeping
+pub mod Leading
+pub mod Used
+pub mod Opening
 pub mod Lasting
