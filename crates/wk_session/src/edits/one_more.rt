@@ -1,6 +1,6 @@
 //! What edits share that add to a module something that references may find.
 
-ghost use Rattle.std.specs.Prelude.{◌≡◌, ◌<◌, ◌^◌, Ok, Err, count_by, length, map, IfOk, IfErr, OnOk};
+ghost use Rattle.std.specs.Prelude.{◌≡◌, ◌<◌, ◌^◌, count_by, length, map, IfOk, OnOk};
 ghost use Rattle.wk_module.specs.Listed.{listed};
 ghost use Rattle.wk_module.specs.Shape.{IsFormed};
 ghost use Rattle.wk_check.specs.Finds.{Grows};
@@ -8,8 +8,7 @@ ghost use Rattle.wk_check.specs.Spaces.{answer_in, spaces_of};
 ghost use Rattle.wk_check.specs.SpacesLaws.{answers_of};
 ghost use Rattle.wk_check.specs.Verdict.{func_verdict};
 ghost use Rattle.wk_session.specs.Dependents.{is_retyped_in};
-ghost use Rattle.wk_session.specs.Kept.{IsAppraised};
-ghost use Rattle.wk_session.specs.Judged.{AreKept};
+ghost use Rattle.wk_session.specs.Judged.{AreKept, IsJudged};
 
 use crate::appraisal::{Appraisal, appraise};
 use crate::edit::EditFault;
@@ -71,10 +70,7 @@ pub(crate) fn judge_grown(
     requires grows { Grows (answer_in (spaces_of (listed before))) (answers_of parts.now) }
     requires kept { AreKept (answer_in (spaces_of (listed before))) parts.now kept.now }
     requires fresh { meter.old ≡ 0 }
-    ensures verdicts { IfOk result (λ j. j.verdicts.items ≡ map (func_verdict (answers_of parts.now)) parts.now.funcs) }
-    ensures typed { OnOk result (meter.new ≡ count_by (is_retyped_in (answer_in (spaces_of (listed before.entry))) (answers_of parts.now)) parts.now.funcs) }
-    ensures ok { IfOk result (λ j. IsAppraised keep parts.now (Ok j.appraisal)) }
-    ensures err { IfErr result (λ e. IsAppraised keep parts.now (Err e)) }
+    ensures { IsJudged keep (answer_in (spaces_of (listed before.entry))) parts.now meter.new result }
 {
     let verdicts = verdicts_grown(alloc, before, parts, kept, meter)?;
     let lists = Lists::of(parts, &kept.types);
@@ -90,4 +86,13 @@ pub(crate) fn judge_grown(
         verdicts,
         appraisal,
     })
+}
+
+/// Keeps what is to be kept of a module that an edit makes.
+pub(crate) fn keep_judgement(kept: &mut Kept, judgement: Judgement)
+    ensures { kept.new ≡ record kept.old { verdict = judgement.appraisal.verdict; len = judgement.appraisal.len; verdicts = judgement.verdicts } }
+{
+    kept.verdict = judgement.appraisal.verdict;
+    kept.len = judgement.appraisal.len;
+    kept.verdicts = judgement.verdicts;
 }
