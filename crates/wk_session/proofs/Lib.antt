@@ -10,3 +10,6 @@ pub mod WrittenBack
 pub mod Keeping
 pub mod Lasting
 pub mod ItemLengths
+pub mod Works
+pub mod Leading
+pub mod LastItems

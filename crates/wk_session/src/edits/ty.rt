@@ -1,6 +1,7 @@
 //! A type more.
 
-ghost use Rattle.std.specs.Prelude.{◌≡◌, OnOk, OnErr};
+ghost use Rattle.std.specs.Prelude.{◌≡◌, ◌<◌, ◌-◌, length, take, OnOk, OnErr};
+ghost use Rattle.wk_module.specs.Listed.{listed};
 ghost use Rattle.wk_module.specs.Changes.{with_type};
 ghost use Rattle.wk_module.specs.Shape.{IsShaped};
 ghost use Rattle.wk_check.specs.SpacesLaws.{answers_of};
@@ -15,6 +16,15 @@ use crate::kept::Kept;
 use std::alloc::Global;
 use wk_check::Meter;
 use wk_module::{FuncType, Lists, Parts};
+
+// The lists without the last type.
+fn without_last_type<'a>(lists: Lists<'a>) -> Lists<'a>
+    requires { 0 < length lists.types.now }
+    ensures { listed result ≡ record (listed lists.entry) { types = take (length lists.entry.types.now - 1) lists.entry.types.now } }
+{
+    let types = &lists.types[..lists.types.len() - 1];
+    Lists { types, ..lists }
+}
 
 // Appends a type where the module with it may stay, and says what is to be kept of it; or leaves the parts as they were.
 fn push_type(
@@ -33,11 +43,7 @@ fn push_type(
     ensures judged { IsJudged keep (answers_of parts.old) (with_type ty parts.old) meter.new result }
 {
     parts.types.push(ty)?;
-    let types = parts.types.as_slice();
-    let before = Lists {
-        types: &types[..types.len() - 1],
-        ..Lists::of(parts, &kept.types)
-    };
+    let before = without_last_type(Lists::of(parts, &kept.types));
     let judged = judge_grown(alloc, keep, before, parts, kept, meter);
     if judged.is_err() {
         let _ = parts.types.pop();
