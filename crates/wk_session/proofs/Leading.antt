@@ -36,11 +36,15 @@ module _ (keep : Bool) (e : Edit) (m : Parts) (k : Kept) (kept : IsKept m k) whe
       let at : Leads keep e m (Err Memory) m k = ((λ other. absurd (other refl)), (λ same. decided), refl, kept) in
       subst (λ (q : Result Work EditFault). Leads keep e m q m k) (sym (returned r Memory p)) at
 
+  pub refused_for : (p : Parts) (f : EditFault) (r : Result Work EditFault) → Returns r f → (f ≢ Memory → made keep e m ≡ Err f) → (f ≡ Memory → is_decided e m ≡ false) → p ≡ m → Leads keep e m r p k
+  refused_for p f r returns due decided same =
+      let at : Leads keep e m (Err f) p k = (due, decided, same, kept) in
+      subst (λ (q : Result Work EditFault). Leads keep e m q p k) (sym (returned r f returns)) at
+
   -- where the edit makes n, if that may stay
   pub refused : (n p : Parts) (f : EditFault) (r : Result Work EditFault) → Returns r f → made keep e m ≡ standing keep n → IsAppraised keep n (Err f) → (f ≡ Memory → is_decided e m ≡ false) → p ≡ m → Leads keep e m r p k
   refused n p f r returns makes judged decided same =
-      let at : Leads keep e m (Err f) p k = ((λ other. makes ∙ judged other), decided, same, kept) in
-      subst (λ (q : Result Work EditFault). Leads keep e m q p k) (sym (returned r f returns)) at
+      refused_for p f r returns (λ other. makes ∙ judged other) decided same
 
 -- ---- a module that gets too large, or does not
 
