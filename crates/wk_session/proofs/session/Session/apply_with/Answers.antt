@@ -3,7 +3,7 @@ use Rattle.wk_module.specs.declared.types.Parts.{Parts}
 use Rattle.wk_module.specs.Shape.{IsShaped}
 use Rattle.wk_session.specs.Kept.{IsKept}
 use Rattle.wk_session.specs.Runs.{is_memory, reply_of}
-use Rattle.wk_session.proofs.Leading.{kept_after, reply_after}
+use Rattle.wk_session.proofs.Settling.{kept_after, reply_after}
 use Rattle.wk_session.proofs.session.Session.apply_with.Goals as goal
 
 pub edit_parts-reply-requires-clause-kept : goal.edit_parts-reply-requires-clause-kept
