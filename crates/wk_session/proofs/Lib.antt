@@ -6,6 +6,7 @@ pub mod RunSteps
 pub mod Outcomes
 pub mod Appraising
 pub mod CustomEdits
+pub mod CustomPuts
 pub mod WrittenBack
 pub mod Keeping
 pub mod Settling

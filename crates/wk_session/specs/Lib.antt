@@ -7,3 +7,4 @@ pub mod Written
 pub mod EditText
 pub mod ItemSizes
 pub mod Judged
+pub mod Customs

@@ -1,14 +1,234 @@
 //! Custom sections: other bytes for one, one more, or some less.
 
-ghost use Rattle.wk_module.specs.Shape.{IsShaped};
+ghost use Rattle.std.specs.Prelude.{◌≡◌, ◌-◌, ◌+◌, ◌<◌, ◌≤◌, ℕ, Some, [], ◌∷◌, ◌++◌, not, filter, map, length, position, OnOk, OnErr};
+ghost use Rattle.std.specs.List.{list_any};
+ghost use Rattle.wk_bytes.specs.Frames.{limit};
+ghost use Rattle.wk_body.specs.Lengths.{limited};
+ghost use Rattle.wk_module.specs.declared.types.Custom.{Custom as CustomOf};
+ghost use Rattle.wk_module.specs.declared.types.Parts.{Parts as PartsOf};
+ghost use Rattle.wk_module.specs.Shape.{IsFormed, IsInOrderFrom, IsShaped};
+ghost use Rattle.wk_module.specs.Writing.{encoded, Fits};
+ghost use Rattle.wk_check.specs.Verdict.{module_verdict};
+ghost use Rattle.wk_module.specs.WritingLaws.{written_frame};
 ghost use Rattle.wk_session.specs.declared.edit.Edit.{Edit};
-ghost use Rattle.wk_session.specs.Kept.{IsKept, Leads};
+ghost use Rattle.wk_session.specs.Customs.{MayLast, IsChecked, IsPut, bytes_at, last_custom};
+ghost use Rattle.wk_session.specs.Edits.{is_named, without_customs};
+ghost use Rattle.wk_session.specs.Kept.{IsKept, Leads, code_size};
 
-use crate::edit::{EditFault, Reply};
+use crate::edit::{EditFault, Reply, Work};
 use crate::kept::Kept;
-use std::alloc::Global;
-use wk_bytes::{Items, Text};
-use wk_module::Parts;
+use std::alloc::{AllocError, Global};
+use std::mem;
+use wk_bytes::{Items, LIMIT, Text};
+use wk_check::Verdict;
+use wk_module::{Custom, Lists, Parts, framed_len, len_of_lists, named_len};
+
+/// The greatest place of a custom section, which settling lowers.
+const LAST: u8 = 11;
+
+// What it takes to change custom sections, where so many of them are encoded.
+fn work_on(sections: u32) -> Work
+    ensures { result ≡ record { typed = 0; encoded = 0; sections = sections } }
+{
+    Work {
+        typed: 0,
+        encoded: 0,
+        sections,
+    }
+}
+
+// The length of a module, where it is not too large and may stay; or why it is refused. `keep` says whether it has to be valid.
+fn check_module(keep: bool, verdict: &Verdict, len: Option<u32>) -> Result<u32, EditFault>
+    ensures { (n : PartsOf) → IsFormed n → module_verdict n ≡ verdict.now → len ≡ limited (length (encoded n)) → IsChecked keep n result }
+{
+    let Some(len) = len else {
+        return Err(EditFault::TooLarge);
+    };
+    match verdict {
+        Verdict::Invalid(fault) if keep => Err(EditFault::WouldBreak(*fault)),
+        _ => Ok(len),
+    }
+}
+
+// Whether a module with this verdict may stay, where `keep` says whether it has to be valid.
+fn check_verdict(keep: bool, verdict: &Verdict) -> Result<(), EditFault>
+    ensures { MayLast keep verdict.now result }
+{
+    match verdict {
+        Verdict::Invalid(fault) if keep => Err(EditFault::WouldBreak(*fault)),
+        _ => Ok(()),
+    }
+}
+
+// The length of a module that fits, and of which this is kept but for its customs.
+fn measure(parts: &Parts, kept: &Kept) -> u32
+    requires types { kept.now.types.items ≡ map (λ f. f.ty) parts.now.funcs }
+    requires codes { kept.now.code_sizes.items ≡ map code_size parts.now.funcs }
+    requires order { IsInOrderFrom 0 parts.now.customs }
+    requires fits { Fits parts.now }
+    ensures { limited (length (encoded parts.now)) ≡ Some result }
+{
+    let lists = Lists::of(parts, &kept.types);
+    let Some(len) = len_of_lists(&lists, &kept.code_sizes, &parts.customs) else {
+        unreachable!()
+    };
+    len
+}
+
+// Whether a custom section has the name.
+fn has_custom(parts: &Parts, name: &Text) -> bool
+    ensures { result ≡ list_any (is_named name.now) parts.now.customs }
+{
+    parts
+        .customs
+        .as_slice()
+        .iter()
+        .any(|custom| custom.name.as_str() == name.as_str())
+}
+
+// The customs without those of a name.
+fn without_name(customs: Items<Custom>, name: &Text) -> Items<Custom>
+    ensures { result ≡ filter (λ c. not (is_named name.now c)) customs }
+{
+    let mut customs = customs.into_vec();
+    customs.retain(|custom| custom.name.as_str() != name.as_str());
+    Items::from_vec(customs)
+}
+
+// Removes the custom sections of a name.
+fn remove_customs(alloc: Global, parts: &mut Parts, name: &Text)
+    ensures { parts.new ≡ without_customs name.now parts.old }
+{
+    let customs = mem::replace(&mut parts.customs, Items::new(alloc));
+    parts.customs = without_name(customs, name);
+}
+
+// Where the first custom section of the name stands among them.
+fn find_custom(parts: &Parts, name: &Text) -> Option<usize>
+    ensures { result ≡ position (is_named name.now) parts.now.customs }
+{
+    parts
+        .customs
+        .as_slice()
+        .iter()
+        .position(|custom| custom.name.as_str() == name.as_str())
+}
+
+// The length of a custom section with a name and so many bytes, its id and its size with it, or nothing past 2,147,483,647.
+fn frame_len(name: &Text, len: usize) -> Option<u32>
+    ensures { (c : CustomOf) → c.name ≡ name.now → length c.bytes ≡ len → result ≡ limited (length (written_frame c)) }
+{
+    framed_len(named_len(name, len)?)
+}
+
+// A length with one part in the place of another, or nothing past 2,147,483,647.
+fn exchange(len: u32, old: u32, new: Option<u32>) -> Option<u32>
+    requires old { old ≤ len }
+    requires len { len ≤ limit }
+    ensures { (n : ℕ) → new ≡ limited n → result ≡ limited (len - old + n) }
+{
+    let new = new?;
+    let rest = len - old;
+    if new as usize > LIMIT - rest as usize {
+        return None;
+    }
+    Some(rest + new)
+}
+
+// The length of a module with these bytes in the custom section at an index, or nothing past 2,147,483,647.
+fn len_with_bytes(parts: &Parts, kept: &Kept, index: usize, bytes: &Items<u8>) -> Option<u32>
+    requires order { IsInOrderFrom 0 parts.now.customs }
+    requires len { limited (length (encoded parts.now)) ≡ Some kept.now.len }
+    requires within { index < length parts.now.customs }
+    ensures { result ≡ limited (length (encoded (record parts.now { customs = bytes_at index bytes.now parts.now.customs }))) }
+{
+    let custom = &parts.customs.as_slice()[index];
+    let Some(old) = frame_len(&custom.name, custom.bytes.len()) else {
+        unreachable!()
+    };
+    exchange(kept.len, old, frame_len(&custom.name, bytes.len()))
+}
+
+// The length of a module with one custom section more behind all others, or nothing past 2,147,483,647.
+fn len_with_custom(parts: &Parts, kept: &Kept, name: &Text, bytes: &Items<u8>) -> Option<u32>
+    requires order { IsInOrderFrom 0 parts.now.customs }
+    requires len { limited (length (encoded parts.now)) ≡ Some kept.now.len }
+    ensures { result ≡ limited (length (encoded (record parts.now { customs = parts.now.customs ++ last_custom name.now bytes.now ∷ [] }))) }
+{
+    exchange(kept.len, 0, frame_len(name, bytes.len()))
+}
+
+// Gives the custom section at an index these bytes.
+fn put_bytes(alloc: Global, parts: &mut Parts, index: usize, bytes: Items<u8>)
+    requires { index < length parts.old.customs }
+    ensures { parts.new ≡ record parts.old { customs = bytes_at index bytes parts.old.customs } }
+{
+    let mut customs = mem::replace(&mut parts.customs, Items::new(alloc)).into_vec();
+    customs[index].bytes = bytes;
+    parts.customs = Items::from_vec(customs);
+}
+
+// Appends a custom section behind all others, or changes nothing.
+fn push_custom(
+    alloc: Global,
+    parts: &mut Parts,
+    name: &Text,
+    bytes: &Items<u8>,
+) -> Result<(), AllocError>
+    ensures ok { OnOk result (parts.new ≡ record parts.old { customs = parts.old.customs ++ last_custom name.now bytes.now ∷ [] }) }
+    ensures err { OnErr result (parts.new ≡ parts.old) }
+{
+    let custom = Custom {
+        place: LAST,
+        name: name.copy(alloc)?,
+        bytes: bytes.copy(alloc)?,
+    };
+    parts.customs.push(custom).map_err(|_| AllocError)
+}
+
+// Gives the custom section at an index a copy of these bytes, unless the module is then too large or may not stay.
+fn replace_bytes(
+    alloc: Global,
+    keep: bool,
+    parts: &mut Parts,
+    kept: &mut Kept,
+    index: usize,
+    bytes: &Items<u8>,
+) -> Result<(), EditFault>
+    requires shaped { IsShaped parts.old }
+    requires kept { IsKept parts.old kept.old }
+    requires within { index < length parts.old.customs }
+    ensures { IsPut keep parts.old (record parts.old { customs = bytes_at index bytes.now parts.old.customs }) kept.old result parts.new kept.new }
+{
+    let len = len_with_bytes(parts, kept, index, bytes);
+    let len = check_module(keep, &kept.verdict, len)?;
+    let bytes = bytes.copy(alloc)?;
+    put_bytes(alloc, parts, index, bytes);
+    kept.len = len;
+    Ok(())
+}
+
+// Appends a custom section behind all others, unless the module is then too large or may not stay.
+fn append_custom(
+    alloc: Global,
+    keep: bool,
+    parts: &mut Parts,
+    kept: &mut Kept,
+    name: &Text,
+    bytes: &Items<u8>,
+) -> Result<(), EditFault>
+    requires shaped { IsShaped parts.old }
+    requires kept { IsKept parts.old kept.old }
+    ensures { IsPut keep parts.old (record parts.old { customs = parts.old.customs ++ last_custom name.now bytes.now ∷ [] }) kept.old result parts.new kept.new }
+{
+    // The text's contract says that it is UTF-8, which a module asks of its names.
+    let _text = name.as_str();
+    let len = len_with_custom(parts, kept, name, bytes);
+    let len = check_module(keep, &kept.verdict, len)?;
+    push_custom(alloc, parts, name, bytes)?;
+    kept.len = len;
+    Ok(())
+}
 
 /// Gives the first custom section of a name other bytes, or appends one.
 pub(crate) fn set_custom(
@@ -23,7 +243,11 @@ pub(crate) fn set_custom(
     requires kept { IsKept parts.old kept.old }
     ensures { Leads keep (Edit.SetCustom name.now bytes.now) parts.old result parts.new kept.new }
 {
-    Err(EditFault::Memory)
+    match find_custom(parts, name) {
+        Some(index) => replace_bytes(alloc, keep, parts, kept, index, bytes)?,
+        None => append_custom(alloc, keep, parts, kept, name, bytes)?,
+    }
+    Ok(work_on(1))
 }
 
 /// Removes all custom sections of a name.
@@ -38,19 +262,23 @@ pub(crate) fn strip_custom(
     requires kept { IsKept parts.old kept.old }
     ensures { Leads keep (Edit.StripCustom name.now) parts.old result parts.new kept.new }
 {
-    Err(EditFault::Memory)
+    if !has_custom(parts, name) {
+        return Err(EditFault::NoSuchCustom);
+    }
+    check_verdict(keep, &kept.verdict)?;
+    remove_customs(alloc, parts, name);
+    kept.len = measure(parts, kept);
+    Ok(work_on(0))
 }
 
 /// Removes all custom sections.
-pub(crate) fn strip_all(
-    alloc: Global,
-    keep: bool,
-    parts: &mut Parts,
-    kept: &mut Kept,
-) -> Reply
+pub(crate) fn strip_all(alloc: Global, keep: bool, parts: &mut Parts, kept: &mut Kept) -> Reply
     requires shaped { IsShaped parts.old }
     requires kept { IsKept parts.old kept.old }
-    ensures { Leads keep (Edit.StripAll) parts.old result parts.new kept.new }
+    ensures { Leads keep Edit.StripAll parts.old result parts.new kept.new }
 {
-    Err(EditFault::Memory)
+    check_verdict(keep, &kept.verdict)?;
+    parts.customs = Items::new(alloc);
+    kept.len = measure(parts, kept);
+    Ok(work_on(0))
 }

@@ -1,0 +1,34 @@
+use Rattle.std.proofs.Common.{◌≡◌, List, ℕ, ◌++◌, ◌∷◌, [], length, Some, refl, sym, ap, subst, ◌∙◌}
+use Rattle.std.proofs.lemmas.Result.{err_from_is_err_and}
+use Rattle.wk_module.specs.declared.types.Parts.{Parts}
+use Rattle.wk_session.specs.declared.kept.Kept.{Kept}
+use Rattle.wk_session.specs.Customs.{bytes_at, last_custom}
+use Rattle.wk_session.specs.Kept.{IsKept}
+use Rattle.wk_session.proofs.CustomEdits.{fits_settled, customs_kept, put_checked, put_wanting}
+use Rattle.wk_session.proofs.CustomPuts.{last_formed}
+use Rattle.wk_session.proofs.edits.custom.append_custom.Goals as goal
+
+pub returns-in_err-len : goal.returns-in_err-len
+returns-in_err-len c =
+    let m = c.args.parts.now in
+    let n : Parts = record m { customs = m.customs ++ last_custom c.args.name.now c.args.bytes.now ∷ [] } in
+    let checked = c.in_err-len.ensures n (last_formed c.args.name.now c.args.bytes.now m c.as_str-text.ensures.utf8 c.requires.shaped.formed) (sym c.requires.kept.verdict) c.len_with_custom-len.ensures in
+    put_checked c.args.keep m n c.args.kept.now c.from_residual.result c.in_err-len.field-0.0 (err_from_is_err_and c.from_residual.result c.from_residual.ensures.1) checked
+
+pub returns-in_err-push_custom : goal.returns-in_err-push_custom
+returns-in_err-push_custom c =
+    let m = c.args.parts.now in
+    let n : Parts = record m { customs = m.customs ++ last_custom c.args.name.now c.args.bytes.now ∷ [] } in
+    let formed = last_formed c.args.name.now c.args.bytes.now m c.as_str-text.ensures.utf8 c.requires.shaped.formed in
+    let checked = c.in_ok-len.ensures n formed (sym c.requires.kept.verdict) c.len_with_custom-len.ensures in
+    let result = c.from_residual-in_err-push_custom.result in
+    ?
+
+pub returns : goal.returns
+returns c =
+    let m = c.args.parts.now in
+    let cs = m.customs ++ last_custom c.args.name.now c.args.bytes.now ∷ [] in
+    let n : Parts = record m { customs = cs } in
+    let formed = last_formed c.args.name.now c.args.bytes.now m c.as_str-text.ensures.utf8 c.requires.shaped.formed in
+    let checked = c.in_ok-len.ensures n formed (sym c.requires.kept.verdict) c.len_with_custom-len.ensures in
+    (checked.0, c.in_ok-push_custom.ensures.ok, formed, customs_kept m cs c.args.kept.now c.in_ok-len.len c.requires.kept checked.1)

@@ -1,0 +1,36 @@
+use Rattle.std.proofs.Common.{◌≡◌, List, ℕ, ◌++◌, ◌∷◌, [], length, Some, refl, sym, ap, subst, ◌∙◌}
+use Rattle.std.proofs.lemmas.Result.{err_from_is_err_and}
+use Rattle.wk_module.specs.declared.types.Parts.{Parts}
+use Rattle.wk_session.specs.declared.kept.Kept.{Kept}
+use Rattle.wk_session.specs.Customs.{bytes_at, last_custom}
+use Rattle.wk_session.specs.Kept.{IsKept}
+use Rattle.wk_session.proofs.CustomEdits.{fits_settled, customs_kept, put_checked, put_wanting}
+use Rattle.wk_session.proofs.CustomPuts.{bytes_formed}
+use Rattle.wk_session.proofs.edits.custom.replace_bytes.Goals as goal
+
+pub returns-in_err-len : goal.returns-in_err-len
+returns-in_err-len c =
+    let m = c.args.parts.now in
+    let n : Parts = record m { customs = bytes_at c.args.index c.args.bytes.now m.customs } in
+    let checked = c.in_err-len.ensures n (bytes_formed c.args.index c.args.bytes.now m c.requires.shaped.formed) (sym c.requires.kept.verdict) c.len_with_bytes-len.ensures in
+    put_checked c.args.keep m n c.args.kept.now c.from_residual.result c.in_err-len.field-0.0 (err_from_is_err_and c.from_residual.result c.from_residual.ensures.1) checked
+
+pub returns-in_err-bytes : goal.returns-in_err-bytes
+returns-in_err-bytes c =
+    let m = c.args.parts.now in
+    let n : Parts = record m { customs = bytes_at c.args.index c.args.bytes.now m.customs } in
+    let formed = bytes_formed c.args.index c.args.bytes.now m c.requires.shaped.formed in
+    let checked = c.in_ok-len.ensures n formed (sym c.requires.kept.verdict) c.len_with_bytes-len.ensures in
+    let result = c.from_residual-in_err-bytes.result in
+    put_wanting c.args.keep m n c.args.kept.now result _ (err_from_is_err_and result c.from_residual-in_err-bytes.ensures.1) (fits_settled n c.in_ok-len.len formed checked.1)
+
+pub returns : goal.returns
+returns c =
+    let m = c.args.parts.now in
+    let i = c.args.index in
+    let bytes = c.args.bytes.now in
+    let n : Parts = record m { customs = bytes_at i bytes m.customs } in
+    let formed = bytes_formed i bytes m c.requires.shaped.formed in
+    let checked = c.in_ok-len.ensures n formed (sym c.requires.kept.verdict) c.len_with_bytes-len.ensures in
+    let same = c.put_bytes.ensures ∙ ap (λ (b : List ℕ). let p : Parts = record m { customs = bytes_at i b m.customs } in p) c.in_ok-bytes.ensures in
+    (checked.0, same, formed, customs_kept m (bytes_at i bytes m.customs) c.args.kept.now c.in_ok-len.len c.requires.kept checked.1)
