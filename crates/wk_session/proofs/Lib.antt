@@ -8,3 +8,4 @@ pub mod CustomEdits
 pub mod WrittenBack
 pub mod Keeping
 pub mod Lasting
+pub mod EntryEdits
