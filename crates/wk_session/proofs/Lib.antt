@@ -9,3 +9,4 @@ pub mod WrittenBack
 pub mod Keeping
 pub mod Lasting
 pub mod EntryEdits
+pub mod BodyEdits
