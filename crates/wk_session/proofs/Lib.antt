@@ -4,6 +4,7 @@ pub mod Judging
 pub mod Popped
 pub mod RunSteps
 pub mod Outcomes
+pub mod Appraising
 pub mod CustomEdits
 pub mod WrittenBack
 pub mod Keeping
