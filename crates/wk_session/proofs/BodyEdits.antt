@@ -1,7 +1,6 @@
 -- Another body for a function: what references find stays, and so do the verdicts of the others.
-use Rattle.std.proofs.Common.{◌≡◌, ℕ, zero, suc, ◌+◌, ◌<◌, ◌^◌, Bool, true, false, Option, Some, None, List, [], ◌∷◌, ◌++◌, length, map, get_or, take, drop, count_by, Result, Ok, Err, refl, sym, ap, subst, ◌∙◌, arith}
+use Rattle.std.proofs.Common.{◌≡◌, ℕ, zero, suc, ◌+◌, ◌<◌, Bool, Option, Some, None, List, [], ◌∷◌, length, map, get_or, count_by, Result, Ok, Err, refl, sym, ap, subst, ◌∙◌, arith}
 use Rattle.std.specs.Prelude.{slice_get, slice_set, option_map}
-use Rattle.std.specs.List.{list_any}
 use Rattle.std.proofs.lemmas.List.{map-set, length-set, get_or-set_same}
 use Rattle.wk_bytes.specs.Leb.{◌>>=◌}
 use Rattle.wk_body.specs.Bodies.{BodyOf}
@@ -12,8 +11,7 @@ use Rattle.wk_module.specs.declared.lists.Lists.{Lists}
 use Rattle.wk_module.specs.declared.types.Func.{Func}
 use Rattle.wk_module.specs.declared.types.Parts.{Parts}
 use Rattle.wk_module.specs.Changes.{with_body}
-use Rattle.wk_module.specs.ChangeLaws.{funcs_given, types_given, body_formed}
-use Rattle.wk_module.specs.Items.{IsCode}
+use Rattle.wk_module.specs.ChangeLaws.{funcs_given, types_given}
 use Rattle.wk_module.specs.Listed.{listed, listed_with}
 use Rattle.wk_module.specs.Sections.{SectionLists}
 use Rattle.wk_module.specs.Shape.{IsFormed, settle}
@@ -24,7 +22,6 @@ use Rattle.wk_check.specs.Spaces.{answer_in, spaces_of}
 use Rattle.wk_check.specs.SpacesLaws.{answers_of}
 use Rattle.wk_check.specs.Verdict.{func_verdict}
 use Rattle.wk_session.specs.declared.edit.Edit.TheVariants as edits
-use Rattle.wk_session.specs.declared.edit.Work.{Work}
 use Rattle.wk_session.specs.declared.edit.EditFault.{EditFault}
 use Rattle.wk_session.specs.declared.edit.EditFault.TheVariants.{TooLarge}
 use Rattle.wk_session.specs.declared.edits.entry.Entry.{Entry}
@@ -121,7 +118,7 @@ pub body_work : (x : ℕ) (code : List ℕ) (m : Parts) (entry : ℕ) (b : BodyO
 body_work x code m entry b typed once =
     let others = all_but (entry_of x m) m.funcs in
     let none : count_by (is_retyped_in (answers_of m) (answers_of (with_body entry b m))) others ≡ 0 =
-        ap (λ (B : Ref → Found). count_by (is_retyped_in (answers_of m) B) others) (answers_stay entry b m) ∙ none_retyped (answers_of m) others in
+    ap (λ (B : Ref → Found). count_by (is_retyped_in (answers_of m) B) others) (answers_stay entry b m) ∙ none_retyped (answers_of m) others in
     ap (λ (k : ℕ). record { typed = k; encoded = 1; sections = 0 }) once
     ∙ (ap (λ (k : ℕ). record { typed = 1 + k; encoded = 1; sections = 0 }) (sym none)
     ∙ ap (λ (k : ℕ). record { typed = 1 + count_by (is_retyped_in (answers_of m) (answers_of (with_body entry b m))) others; encoded = 1 + k; sections = 0 }) (sym (none_of others)))

@@ -1,5 +1,5 @@
 -- Edits that give or replace a code entry: what the module that they make is judged by, and what is kept of it.
-use Rattle.std.proofs.Common.{◌≡◌, ◌≢◌, ℕ, zero, suc, ◌+◌, ◌<◌, ◌≤◌, ◌^◌, Bool, true, false, Option, Some, None, List, [], ◌∷◌, ◌++◌, length, map, get_or, count_by, Result, Ok, Err, refl, sym, ap, subst, ◌∙◌, inl, inr, arith, leb, nat_le, if◌then◌else◌, length-append}
+use Rattle.std.proofs.Common.{◌≡◌, ℕ, ◌+◌, ◌<◌, ◌^◌, Bool, false, Some, None, List, [], ◌∷◌, ◌++◌, length, map, get_or, count_by, Result, Ok, Err, refl, sym, ap, subst, ◌∙◌, inl, inr, arith, leb, nat_le, length-append}
 use Rattle.std.proofs.lemmas.Bool.{lt-leb, cond-false}
 use Rattle.std.proofs.lemmas.List.{length-map, map_push}
 use Rattle.std.proofs.lemmas.List.Sums.{count_by-le-length}
@@ -31,7 +31,6 @@ use Rattle.wk_check.specs.Spaces.{answer_in, spaces_of}
 use Rattle.wk_check.specs.SpacesLaws.{answers_of}
 use Rattle.wk_check.specs.Verdict.{func_verdict}
 use Rattle.wk_session.specs.declared.edit.Edit.TheVariants as edits
-use Rattle.wk_session.specs.declared.edit.Work.{Work}
 use Rattle.wk_session.specs.declared.edit.EditFault.{EditFault}
 use Rattle.wk_session.specs.declared.edit.EditFault.TheVariants.{TooLarge}
 use Rattle.wk_session.specs.declared.edits.entry.Entry.{Entry}

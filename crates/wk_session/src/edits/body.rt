@@ -1,6 +1,6 @@
 //! Another body for a function.
 
-ghost use Rattle.std.specs.Prelude.{◌≡◌, ◌≢◌, ◌+◌, ◌<◌, Ok, Err, IfOk, IfErr, IfSome, OnOk, length, map, slice_get, option_map, Some, ℕ};
+ghost use Rattle.std.specs.Prelude.{◌≡◌, ◌≢◌, ◌<◌, Err, IfOk, IfErr, OnOk, length, map, slice_get, option_map, Some, ℕ};
 ghost use Rattle.wk_module.specs.Changes.{with_body};
 ghost use Rattle.wk_module.specs.Items.{IsCode};
 ghost use Rattle.wk_module.specs.Shape.{IsShaped};

@@ -1,6 +1,6 @@
 //! A function more.
 
-ghost use Rattle.std.specs.Prelude.{◌≡◌, ◌≢◌, ◌+◌, [], ◌∷◌, ◌++◌, Ok, Err, IfOk, IfErr, OnOk, count_by, map};
+ghost use Rattle.std.specs.Prelude.{◌≡◌, ◌≢◌, ◌+◌, [], ◌∷◌, ◌++◌, Err, IfOk, IfErr, OnOk, count_by, map};
 ghost use Rattle.wk_module.specs.Changes.{with_func};
 ghost use Rattle.wk_module.specs.Items.{IsCode};
 ghost use Rattle.wk_module.specs.Shape.{IsShaped};

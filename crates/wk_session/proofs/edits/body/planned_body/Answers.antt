@@ -1,4 +1,4 @@
-use Rattle.std.proofs.Common.{◌≡◌, ◌<◌, ◌^◌, ℕ, List, length, ap, sym, ◌∙◌, refl, arith}
+use Rattle.std.proofs.Common.{ℕ, List, length, ap, sym, ◌∙◌, refl, arith}
 use Rattle.std.proofs.lemmas.List.{length-map}
 use Rattle.std.proofs.lemmas.Result.{err_from_is_err_and}
 use Rattle.wk_module.specs.Changes.{with_body}
@@ -38,8 +38,8 @@ returns-in_err-appraisal-clause-err c =
     let n = with_body c.args.entry b m in
     let formed : IsFormed n = body_formed c.args.entry b m c.requires.valid c.requires.shaped.formed in
     let pending : IsPending c.of-lists.result c.in_ok-verdicts.verdicts.items c.in_ok-code_sizes.code_sizes.items m.customs n =
-        body_pending c.args.entry b m c.args.ty c.args.kept.now c.of-lists.result c.in_ok-verdicts.verdicts.items c.in_ok-code_sizes.code_sizes.items c.in-Some.size c.requires.ty c.requires.kept formed
-        c.of-lists.ensures.profile (c.of-lists.ensures.lists ∙ ap (λ (ts : List ℕ). listed_with ts m) c.deref.ensures.value) c.in_ok-verdicts.ensures.verdicts c.in_ok-code_sizes.ensures (sym c.in-Some.ensures) in
+    body_pending c.args.entry b m c.args.ty c.args.kept.now c.of-lists.result c.in_ok-verdicts.verdicts.items c.in_ok-code_sizes.code_sizes.items c.in-Some.size c.requires.ty c.requires.kept formed
+    c.of-lists.ensures.profile (c.of-lists.ensures.lists ∙ ap (λ (ts : List ℕ). listed_with ts m) c.deref.ensures.value) c.in_ok-verdicts.ensures.verdicts c.in_ok-code_sizes.ensures (sym c.in-Some.ensures) in
     let p = err_from_is_err_and c.from_residual-in_err-appraisal.result c.from_residual-in_err-appraisal.ensures.1 in
     rw (p.1, p.2) (c.in_err-appraisal.ensures n pending)
 
@@ -50,6 +50,6 @@ returns-clause-ok c =
     let n = with_body c.args.entry b m in
     let formed : IsFormed n = body_formed c.args.entry b m c.requires.valid c.requires.shaped.formed in
     let pending : IsPending c.of-lists.result c.in_ok-verdicts.verdicts.items c.in_ok-code_sizes.code_sizes.items m.customs n =
-        body_pending c.args.entry b m c.args.ty c.args.kept.now c.of-lists.result c.in_ok-verdicts.verdicts.items c.in_ok-code_sizes.code_sizes.items c.in-Some.size c.requires.ty c.requires.kept formed
-        c.of-lists.ensures.profile (c.of-lists.ensures.lists ∙ ap (λ (ts : List ℕ). listed_with ts m) c.deref.ensures.value) c.in_ok-verdicts.ensures.verdicts c.in_ok-code_sizes.ensures (sym c.in-Some.ensures) in
+    body_pending c.args.entry b m c.args.ty c.args.kept.now c.of-lists.result c.in_ok-verdicts.verdicts.items c.in_ok-code_sizes.code_sizes.items c.in-Some.size c.requires.ty c.requires.kept formed
+    c.of-lists.ensures.profile (c.of-lists.ensures.lists ∙ ap (λ (ts : List ℕ). listed_with ts m) c.deref.ensures.value) c.in_ok-verdicts.ensures.verdicts c.in_ok-code_sizes.ensures (sym c.in-Some.ensures) in
     planned c.args.keep c.args.ty b n c.of-lists.result m.customs _ pending (c.in_ok-uses.ensures (record { ty = c.args.ty; body = b }) refl refl) (c.in_ok-appraisal.ensures n pending)

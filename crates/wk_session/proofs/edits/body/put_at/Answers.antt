@@ -1,4 +1,4 @@
-use Rattle.std.proofs.Common.{◌≡◌, ap, ◌∙◌}
+use Rattle.std.proofs.Common.{ap, ◌∙◌}
 use Rattle.wk_session.proofs.BodyEdits.{body_kept, body_leads, other_at}
 use Rattle.wk_session.proofs.edits.body.put_at.Goals as goal
 

@@ -1,4 +1,4 @@
-use Rattle.std.proofs.Common.{◌≡◌, ◌<◌, ◌^◌, ℕ, List, length, ap, sym, ◌∙◌, refl, arith}
+use Rattle.std.proofs.Common.{ℕ, List, length, ap, sym, ◌∙◌, refl, arith}
 use Rattle.std.proofs.lemmas.Result.{err_from_is_err_and}
 use Rattle.wk_module.specs.Listed.{listed_with}
 use Rattle.std.proofs.lemmas.List.{length-map}
@@ -35,8 +35,8 @@ returns-in_err-appraisal-clause-err c =
     let n = with_func c.args.ty b m in
     let formed : IsFormed n = func_formed_from c.args.ty b m c.args.kept.now c.requires.kept c.ranges.ty.fits c.requires.valid c.requires.shaped.formed in
     let pending : IsPending c.of-lists.result c.in_ok-verdicts.verdicts.items c.in_ok-code_sizes.code_sizes.items m.customs n =
-        func_pending c.args.ty b m c.args.kept.now c.of-lists.result c.in_ok-verdicts.verdicts.items c.args.types.now.items c.in_ok-code_sizes.code_sizes.items c.in-Some.size c.requires.kept formed
-        c.of-lists.ensures.profile (c.of-lists.ensures.lists ∙ ap (λ (ts : List ℕ). listed_with ts m) c.deref.ensures.value) c.requires.types c.in_ok-verdicts.ensures.verdicts c.in_ok-code_sizes.ensures (sym c.in-Some.ensures) in
+    func_pending c.args.ty b m c.args.kept.now c.of-lists.result c.in_ok-verdicts.verdicts.items c.args.types.now.items c.in_ok-code_sizes.code_sizes.items c.in-Some.size c.requires.kept formed
+    c.of-lists.ensures.profile (c.of-lists.ensures.lists ∙ ap (λ (ts : List ℕ). listed_with ts m) c.deref.ensures.value) c.requires.types c.in_ok-verdicts.ensures.verdicts c.in_ok-code_sizes.ensures (sym c.in-Some.ensures) in
     let p = err_from_is_err_and c.from_residual-in_err-appraisal.result c.from_residual-in_err-appraisal.ensures.1 in
     rw (p.1, p.2) (c.in_err-appraisal.ensures n pending)
 
@@ -47,6 +47,6 @@ returns-clause-ok c =
     let n = with_func c.args.ty b m in
     let formed : IsFormed n = func_formed_from c.args.ty b m c.args.kept.now c.requires.kept c.ranges.ty.fits c.requires.valid c.requires.shaped.formed in
     let pending : IsPending c.of-lists.result c.in_ok-verdicts.verdicts.items c.in_ok-code_sizes.code_sizes.items m.customs n =
-        func_pending c.args.ty b m c.args.kept.now c.of-lists.result c.in_ok-verdicts.verdicts.items c.args.types.now.items c.in_ok-code_sizes.code_sizes.items c.in-Some.size c.requires.kept formed
-        c.of-lists.ensures.profile (c.of-lists.ensures.lists ∙ ap (λ (ts : List ℕ). listed_with ts m) c.deref.ensures.value) c.requires.types c.in_ok-verdicts.ensures.verdicts c.in_ok-code_sizes.ensures (sym c.in-Some.ensures) in
+    func_pending c.args.ty b m c.args.kept.now c.of-lists.result c.in_ok-verdicts.verdicts.items c.args.types.now.items c.in_ok-code_sizes.code_sizes.items c.in-Some.size c.requires.kept formed
+    c.of-lists.ensures.profile (c.of-lists.ensures.lists ∙ ap (λ (ts : List ℕ). listed_with ts m) c.deref.ensures.value) c.requires.types c.in_ok-verdicts.ensures.verdicts c.in_ok-code_sizes.ensures (sym c.in-Some.ensures) in
     planned c.args.keep c.args.ty b n c.of-lists.result m.customs _ pending (c.in_ok-uses.ensures (record { ty = c.args.ty; body = b }) refl refl) (c.in_ok-appraisal.ensures n pending)
