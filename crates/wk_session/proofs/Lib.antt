@@ -8,6 +8,13 @@ pub mod Appraising
 pub mod CustomEdits
 pub mod WrittenBack
 pub mod Keeping
+pub mod Settling
+pub mod Leading
+pub mod Used
+pub mod Opening
 pub mod Lasting
 pub mod EntryEdits
 pub mod BodyEdits
+pub mod ItemLengths
+pub mod Works
+pub mod LastItems

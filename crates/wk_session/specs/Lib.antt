@@ -6,3 +6,5 @@ pub mod Stripped
 pub mod Written
 pub mod EditText
 pub mod Functions
+pub mod ItemSizes
+pub mod Judged

@@ -7,6 +7,8 @@ mod export;
 mod function;
 mod global;
 mod import;
+mod item_len;
+mod one_more;
 mod ty;
 
 pub(crate) use body::put_body;
