@@ -14,6 +14,8 @@ pub mod Leading
 pub mod Used
 pub mod Opening
 pub mod Lasting
+pub mod EntryEdits
+pub mod BodyEdits
 pub mod ItemLengths
 pub mod Works
 pub mod LastItems

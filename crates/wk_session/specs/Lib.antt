@@ -5,6 +5,7 @@ pub mod Kept
 pub mod Stripped
 pub mod Written
 pub mod EditText
+pub mod Functions
 pub mod ItemSizes
 pub mod Judged
 pub mod Customs
