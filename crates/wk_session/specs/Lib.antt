@@ -5,3 +5,4 @@ pub mod Kept
 pub mod Stripped
 pub mod Written
 pub mod EditText
+pub mod MovedEntries

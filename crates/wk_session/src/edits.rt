@@ -5,6 +5,7 @@ mod export;
 mod function;
 mod global;
 mod import;
+mod moved;
 mod ty;
 
 pub(crate) use custom::{set_custom, strip_all, strip_custom};
