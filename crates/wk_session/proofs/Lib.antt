@@ -4,6 +4,7 @@ pub mod Judging
 pub mod Popped
 pub mod Replacing
 pub mod MovedCode
+pub mod ImportEdits
 pub mod RunSteps
 pub mod Outcomes
 pub mod CustomEdits

@@ -6,3 +6,4 @@ pub mod Stripped
 pub mod Written
 pub mod EditText
 pub mod MovedEntries
+pub mod Imported
