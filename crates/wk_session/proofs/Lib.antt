@@ -5,6 +5,7 @@ pub mod Popped
 pub mod Replacing
 pub mod MovedCode
 pub mod ImportEdits
+pub mod ImportOutcome
 pub mod RunSteps
 pub mod Outcomes
 pub mod CustomEdits
