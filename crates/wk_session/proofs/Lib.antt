@@ -8,7 +8,17 @@ pub mod ImportEdits
 pub mod ImportOutcome
 pub mod RunSteps
 pub mod Outcomes
+pub mod Appraising
 pub mod CustomEdits
 pub mod WrittenBack
 pub mod Keeping
+pub mod Settling
+pub mod Leading
+pub mod Used
+pub mod Opening
 pub mod Lasting
+pub mod EntryEdits
+pub mod BodyEdits
+pub mod ItemLengths
+pub mod Works
+pub mod LastItems

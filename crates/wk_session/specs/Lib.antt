@@ -7,3 +7,6 @@ pub mod Written
 pub mod EditText
 pub mod MovedEntries
 pub mod Imported
+pub mod Functions
+pub mod ItemSizes
+pub mod Judged

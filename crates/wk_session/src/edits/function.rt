@@ -1,16 +1,94 @@
-//! Functions: one more, or another body for one.
+//! A function more.
 
-ghost use Rattle.std.specs.Prelude.{◌≡◌};
+ghost use Rattle.std.specs.Prelude.{◌≡◌, ◌≢◌, ◌+◌, [], ◌∷◌, ◌++◌, Err, IfOk, IfErr, OnOk, count_by, map};
+ghost use Rattle.wk_module.specs.Changes.{with_func};
+ghost use Rattle.wk_module.specs.Items.{IsCode};
 ghost use Rattle.wk_module.specs.Shape.{IsShaped};
+ghost use Rattle.wk_check.specs.SpacesLaws.{answers_of};
+ghost use Rattle.wk_check.specs.Verdict.{func_verdict};
 ghost use Rattle.wk_session.specs.declared.edit.Edit.{Edit};
-ghost use Rattle.wk_session.specs.Kept.{IsKept, Leads};
+ghost use Rattle.wk_session.specs.Dependents.{is_retyped_in};
+ghost use Rattle.wk_session.specs.Functions.{IsPlanned};
+ghost use Rattle.wk_session.specs.Kept.{IsKept, Leads, standing};
 
-use crate::edit::{EditFault, Reply};
-use crate::kept::Kept;
+use crate::appraisal::appraise;
+use crate::edit::{EditFault, Reply, Work};
+use crate::edits::entry::{Entry, keep_entry, spelled_body, with_item};
+use crate::judged::{judged, rejudged};
+use crate::kept::{Kept, func_uses};
 use std::alloc::Global;
-use wk_bytes::Items;
-use wk_check::Meter;
-use wk_module::Parts;
+use wk_bytes::{Items, OutOfMemory};
+use wk_check::{BodyVerdict, Meter, Whole};
+use wk_module::{Body, Func, Lists, Parts, body_len};
+
+// The verdicts of all bodies where a function comes, whose type is the last of these types.
+fn verdicts_with(
+    alloc: Global,
+    parts: &Parts,
+    kept: &Kept,
+    types: &Vec<u32>,
+    ty: u32,
+    body: &Body,
+    meter: &mut Meter,
+) -> Result<Vec<BodyVerdict>, OutOfMemory>
+    requires shaped { IsShaped parts.now }
+    requires kept { IsKept parts.now kept.now }
+    requires types { types.now.items ≡ kept.now.types.items ++ ty ∷ [] }
+    requires fresh { meter.old ≡ 0 }
+    ensures verdicts { IfOk result (λ v. v.items ≡ map (func_verdict (answers_of (with_func ty body.now parts.now))) (with_func ty body.now parts.now).funcs) }
+    ensures typed { OnOk result (meter.new ≡ 1 + count_by (is_retyped_in (answers_of parts.now) (answers_of (with_func ty body.now parts.now))) parts.now.funcs) }
+{
+    let old = Whole::of(alloc, Lists::of(parts, &kept.types))?;
+    let new = Whole::of(alloc, Lists::of(parts, types))?;
+    let mut verdicts = rejudged(
+        alloc,
+        &old,
+        &new,
+        &parts.funcs,
+        &kept.refs,
+        &kept.verdicts,
+        meter,
+    )?;
+    let own = judged(&new, ty, body, meter)?;
+    verdicts.push(own)?;
+    Ok(verdicts)
+}
+
+// What is to be kept of the module with a function more; or why it may not be.
+fn planned_func(
+    alloc: Global,
+    keep: bool,
+    parts: &Parts,
+    kept: &Kept,
+    types: &Vec<u32>,
+    ty: u32,
+    body: &Body,
+    meter: &mut Meter,
+) -> Result<Entry, EditFault>
+    requires shaped { IsShaped parts.now }
+    requires kept { IsKept parts.now kept.now }
+    requires types { types.now.items ≡ kept.now.types.items ++ ty ∷ [] }
+    requires valid { IsCode parts.now.profile body.now }
+    requires fresh { meter.old ≡ 0 }
+    ensures ok { IfOk result (IsPlanned keep ty body.now (with_func ty body.now parts.now)) }
+    ensures err { IfErr result (λ f. f ≢ EditFault.Memory → standing keep (with_func ty body.now parts.now) ≡ Err f) }
+    ensures typed { OnOk result (meter.new ≡ 1 + count_by (is_retyped_in (answers_of parts.now) (answers_of (with_func ty body.now parts.now))) parts.now.funcs) }
+{
+    let Some(size) = body_len(body) else {
+        return Err(EditFault::TooLarge);
+    };
+    let code_sizes = with_item(alloc, &kept.code_sizes, size)?;
+    let uses = func_uses(alloc, ty, body)?;
+    let verdicts = verdicts_with(alloc, parts, kept, types, ty, body, meter)?;
+    let lists = Lists::of(parts, types);
+    let appraisal = appraise(alloc, keep, &lists, &verdicts, &code_sizes, &parts.customs)?;
+    Ok(Entry {
+        uses,
+        verdicts,
+        code_sizes,
+        appraisal,
+    })
+}
 
 /// Appends a function.
 pub(crate) fn add_func(
@@ -27,23 +105,17 @@ pub(crate) fn add_func(
     requires fresh { meter.old ≡ 0 }
     ensures { Leads keep (Edit.Func ty code.now) parts.old result parts.new kept.new }
 {
-    Err(EditFault::Memory)
-}
-
-/// Replaces the body of a function that the module defines.
-pub(crate) fn put_body(
-    alloc: Global,
-    keep: bool,
-    parts: &mut Parts,
-    kept: &mut Kept,
-    meter: &mut Meter,
-    func: u32,
-    code: &Items<u8>,
-) -> Reply
-    requires shaped { IsShaped parts.old }
-    requires kept { IsKept parts.old kept.old }
-    requires fresh { meter.old ≡ 0 }
-    ensures { Leads keep (Edit.Body func code.now) parts.old result parts.new kept.new }
-{
-    Err(EditFault::Memory)
+    let body = spelled_body(alloc, parts.profile, code)?;
+    let types = with_item(alloc, &kept.types, ty)?;
+    let entry = planned_func(alloc, keep, parts, kept, &types, ty, &body, meter)?;
+    kept.refs.reserve(1)?;
+    parts.funcs.push(Func { ty, body })?;
+    let uses = keep_entry(kept, entry);
+    kept.types = types;
+    kept.refs.push_reserved(uses);
+    Ok(Work {
+        typed: meter.typed() as u32,
+        encoded: 1,
+        sections: 1,
+    })
 }

@@ -1,0 +1,155 @@
+-- Another body for a function: what references find stays, and so do the verdicts of the others.
+use Rattle.std.proofs.Common.{◌≡◌, ℕ, zero, suc, ◌+◌, ◌<◌, Bool, Option, Some, None, List, [], ◌∷◌, length, map, get_or, count_by, Result, Ok, Err, refl, sym, ap, subst, ◌∙◌, arith}
+use Rattle.std.specs.Prelude.{slice_get, slice_set, option_map}
+use Rattle.std.proofs.lemmas.List.{map-set, length-set, get_or-set_same}
+use Rattle.wk_bytes.specs.Leb.{◌>>=◌}
+use Rattle.wk_body.specs.Bodies.{BodyOf}
+use Rattle.wk_body.specs.Lengths.{limited}
+use Rattle.wk_body.specs.Written.{written_body}
+use Rattle.wk_body.specs.declared.references.Ref.{Ref}
+use Rattle.wk_module.specs.declared.lists.Lists.{Lists}
+use Rattle.wk_module.specs.declared.types.Func.{Func}
+use Rattle.wk_module.specs.declared.types.Parts.{Parts}
+use Rattle.wk_module.specs.Changes.{with_body}
+use Rattle.wk_module.specs.ChangeLaws.{funcs_given, types_given}
+use Rattle.wk_module.specs.Listed.{listed, listed_with}
+use Rattle.wk_module.specs.Sections.{SectionLists}
+use Rattle.wk_module.specs.Shape.{IsFormed, settle}
+use Rattle.wk_check.specs.declared.fault.BodyVerdict.{BodyVerdict}
+use Rattle.wk_check.specs.Answers.{Found}
+use Rattle.wk_check.specs.Carried.{Agree}
+use Rattle.wk_check.specs.Spaces.{answer_in, spaces_of}
+use Rattle.wk_check.specs.SpacesLaws.{answers_of}
+use Rattle.wk_check.specs.Verdict.{func_verdict}
+use Rattle.wk_session.specs.declared.edit.Edit.TheVariants as edits
+use Rattle.wk_session.specs.declared.edit.EditFault.{EditFault}
+use Rattle.wk_session.specs.declared.edit.EditFault.TheVariants.{TooLarge}
+use Rattle.wk_session.specs.declared.edits.entry.Entry.{Entry}
+use Rattle.wk_session.specs.declared.kept.Kept.{Kept}
+use Rattle.wk_session.specs.Dependents.{held, all_but, is_retyped_in, work_of}
+use Rattle.wk_session.specs.Edits.{entry_of, fitting, lasting, made, body_put}
+use Rattle.wk_session.specs.Functions.{IsPlanned, body_spelled}
+use Rattle.wk_session.specs.Kept.{IsKept, IsPending, Leads, code_size, uses_of, standing}
+use Rattle.wk_session.proofs.Judging.{agree_none}
+use Rattle.wk_session.proofs.EntryEdits.{lent, lent_is, answers_in, answers_lent, limited_is, entry_too_large, none_of}
+
+-- ---- one item of a list
+
+-- the type of the function at an index
+abbrev pub HasType : List Func → ℕ → ℕ → Type 0
+HasType fs i t = Some t ≡ option_map (λ f. f.ty) (slice_get fs i)
+
+-- another body for one function is another function in its place
+pub given_set : (entry : ℕ) (b : BodyOf) (fs : List Func) (t : ℕ) → HasType fs entry t → funcs_given entry b fs ≡ slice_set fs entry (record { ty = t; body = b })
+given_set zero b [] t is = absurd cc
+given_set zero b (f ∷ fs) t is =
+    let same : f.ty ≡ t = cc in
+    ap (λ (x : ℕ). record { ty = x; body = b } ∷ fs) same
+given_set (suc entry) b [] t is = absurd cc
+given_set (suc entry) b (f ∷ fs) t is = ap (λ (gs : List Func). f ∷ gs) (given_set entry b fs t is)
+
+-- what is told of each function, where it is told of that one anew
+pub told_given : {C : Type 0} (g : Func → C) (entry : ℕ) (b : BodyOf) (fs : List Func) (t : ℕ) (old new : List C) (y : C)
+    → HasType fs entry t → new ≡ slice_set old entry y → old ≡ map g fs → y ≡ g (record { ty = t; body = b }) → new ≡ map g (funcs_given entry b fs)
+told_given {C = C} g entry b fs t old new y has is told same =
+    is ∙ (ap (λ (ys : List C). slice_set ys entry y) told ∙ (ap (slice_set (map g fs) entry) same ∙ (sym (map-set g fs entry (record { ty = t; body = b })) ∙ ap (map g) (sym (given_set entry b fs t has)))))
+
+pub length-given : (entry : ℕ) (b : BodyOf) (fs : List Func) (t : ℕ) → HasType fs entry t → length (funcs_given entry b fs) ≡ length fs
+length-given entry b fs t has = ap length (given_set entry b fs t has) ∙ length-set fs entry (record { ty = t; body = b })
+
+pub at_given : (entry : ℕ) (b : BodyOf) (fs : List Func) (t : ℕ) (d : Func) → HasType fs entry t → entry < length fs → record { ty = t; body = b } ≡ get_or (funcs_given entry b fs) entry d
+at_given entry b fs t d has within =
+    sym (get_or-set_same fs entry (record { ty = t; body = b }) d within) ∙ ap (λ (gs : List Func). get_or gs entry d) (sym (given_set entry b fs t has))
+
+-- ---- what is found and lent stays
+
+pub answers_stay : (entry : ℕ) (b : BodyOf) (m : Parts) → answers_of (with_body entry b m) ≡ answers_of m
+answers_stay entry b m = ap (λ (ts : List ℕ). answer_in (spaces_of (listed_with ts m))) (types_given entry b m.funcs)
+
+pub lent_given : (entry : ℕ) (b : BodyOf) (m : Parts) (types : List ℕ) (w : SectionLists) → w ≡ listed_with types m → types ≡ map (λ f. f.ty) m.funcs → w ≡ lent (with_body entry b m)
+lent_given entry b m types w is told = lent_is (with_body entry b m) types w is (told ∙ sym (types_given entry b m.funcs))
+
+pub verdicts_given : (entry : ℕ) (b : BodyOf) (m : Parts) (t : ℕ) (w : SectionLists) (old new : List BodyVerdict) (v : BodyVerdict) → w ≡ lent m → HasType m.funcs entry t
+    → old ≡ map (func_verdict (answers_of m)) m.funcs → v ≡ func_verdict (answers_in w) (record { ty = t; body = b }) → new ≡ slice_set old entry v
+    → new ≡ map (func_verdict (answers_of (with_body entry b m))) (with_body entry b m).funcs
+verdicts_given entry b m t w old new v is has told same set_there =
+    told_given (func_verdict (answers_of m)) entry b m.funcs t old new v has set_there told (same ∙ ap (λ (A : Ref → Found). func_verdict A (record { ty = t; body = b })) (answers_lent m w is))
+    ∙ ap (λ (A : Ref → Found). map (func_verdict A) (with_body entry b m).funcs) (sym (answers_stay entry b m))
+
+-- ---- what is pending
+
+module _ (entry : ℕ) (b : BodyOf) (m : Parts) (t : ℕ) (k : Kept) (l : Lists) (vs : List BodyVerdict) (sizes : List ℕ) (size : ℕ) where
+  pub body_pending : HasType m.funcs entry t → IsKept m k → IsFormed (with_body entry b m) → l.profile ≡ m.profile → listed l ≡ listed_with k.types.items m
+      → vs ≡ map (func_verdict (answers_of (with_body entry b m))) (with_body entry b m).funcs → sizes ≡ slice_set k.code_sizes.items entry size → limited (length (written_body b)) ≡ Some size
+      → IsPending l vs sizes m.customs (with_body entry b m)
+  body_pending has kept formed profile lists verdicts sized measured = record {
+    formed = formed;
+    profile = profile;
+    lists = lent_given entry b m k.types.items (listed l) lists kept.types;
+    verdicts = verdicts;
+    code_sizes = told_given code_size entry b m.funcs t k.code_sizes.items sizes size has sized kept.code_sizes (limited_is (length (written_body b)) size measured);
+    customs = refl;
+  }
+
+pub body_too_large : (keep : Bool) (entry : ℕ) (b : BodyOf) (m : Parts) (t : ℕ) → HasType m.funcs entry t → entry < length m.funcs → limited (length (written_body b)) ≡ None → standing keep (with_body entry b m) ≡ Err TooLarge
+body_too_large keep entry b m t has within none =
+    let f : Func = record { ty = t; body = b } in
+    entry_too_large keep (with_body entry b m) entry f (omega (arith, within, length-given entry b m.funcs t has)) (at_given entry b m.funcs t f has within) none
+
+-- ---- what the edit comes to
+
+pub made_body : (keep : Bool) (x : ℕ) (code : List ℕ) (m : Parts) (entry : ℕ) (b : BodyOf) → entry_of x m ≡ Some entry → body_spelled m.profile code ≡ Ok b
+    → made keep (edits.Body x code) m ≡ standing keep (with_body entry b m)
+made_body keep x code m entry b is read =
+    ap (λ (o : Option ℕ). body_put o code m >>= lasting keep) is
+    ∙ ap (λ (r : Result BodyOf EditFault). (r >>= λ (body : BodyOf). fitting (settle (with_body entry body m))) >>= lasting keep) read
+
+all_agree : (A : Ref → Found) (rs : List Ref) → Agree A A rs
+all_agree A [] = tt
+all_agree A (r ∷ rs) = (refl, all_agree A rs)
+
+-- where the same is found, nothing is found to be another thing
+none_retyped : (A : Ref → Found) (fs : List Func) → count_by (is_retyped_in A A) fs ≡ 0
+none_retyped A [] = refl
+none_retyped A (f ∷ fs) = rw (agree_none A A (held f) (all_agree A (held f))) (none_retyped A fs)
+
+pub body_work : (x : ℕ) (code : List ℕ) (m : Parts) (entry : ℕ) (b : BodyOf) (typed : ℕ) → typed ≡ 1
+    → record { typed = typed; encoded = 1; sections = 0 } ≡ work_of (edits.Body x code) m (settle (with_body entry b m))
+body_work x code m entry b typed once =
+    let others = all_but (entry_of x m) m.funcs in
+    let none : count_by (is_retyped_in (answers_of m) (answers_of (with_body entry b m))) others ≡ 0 =
+    ap (λ (B : Ref → Found). count_by (is_retyped_in (answers_of m) B) others) (answers_stay entry b m) ∙ none_retyped (answers_of m) others in
+    ap (λ (k : ℕ). record { typed = k; encoded = 1; sections = 0 }) once
+    ∙ (ap (λ (k : ℕ). record { typed = 1 + k; encoded = 1; sections = 0 }) (sym none)
+    ∙ ap (λ (k : ℕ). record { typed = 1 + count_by (is_retyped_in (answers_of m) (answers_of (with_body entry b m))) others; encoded = 1 + k; sections = 0 }) (sym (none_of others)))
+
+-- what is told of each item, where that one is another
+told_set : {A B C : Type 0} (f : A → C) (g : B → C) (xs : List A) (ys : List B) (i : ℕ) (x : A) (y : B) → map f xs ≡ map g ys → f x ≡ g y → map f (slice_set xs i x) ≡ map g (slice_set ys i y)
+told_set {C = C} f g xs ys i x y told same =
+    map-set f xs i x ∙ (ap (λ (zs : List C). slice_set zs i (f x)) told ∙ (ap (slice_set (map g ys) i) same ∙ sym (map-set g ys i y)))
+
+-- what is kept of the module with another body
+module _ (keep : Bool) (entry : ℕ) (t : ℕ) (b : BodyOf) (m : Parts) (p : Entry) (k new : Kept) where
+  pub body_kept : HasType m.funcs entry t → IsPlanned keep t b (with_body entry b m) p → IsKept m k → new.verdict ≡ p.appraisal.verdict → new.len ≡ p.appraisal.len → new.types ≡ k.types
+      → new.verdicts ≡ p.verdicts → new.refs.items ≡ slice_set k.refs.items entry p.uses → new.code_sizes ≡ p.code_sizes → IsKept (with_body entry b m) new
+  body_kept has plan kept verdict len types verdicts refs sizes = record {
+    verdict = verdict ∙ plan.verdict;
+    len = plan.len ∙ ap Some (sym len);
+    types = ap (λ v. v.items) types ∙ (kept.types ∙ sym (types_given entry b m.funcs));
+    verdicts = ap (λ v. v.items) verdicts ∙ plan.verdicts;
+    refs =
+        ap (map (λ s. s.keys)) refs
+        ∙ (told_set (λ s. s.keys) uses_of k.refs.items m.funcs entry p.uses (record { ty = t; body = b }) kept.refs plan.uses ∙ ap (map uses_of) (sym (given_set entry b m.funcs t has)));
+    code_sizes = ap (λ v. v.items) sizes ∙ plan.code_sizes;
+  }
+
+  pub body_leads : (x : ℕ) (code : List ℕ) (fs : List Func) (typed : ℕ) → entry_of x m ≡ Some entry → body_spelled m.profile code ≡ Ok b → HasType m.funcs entry t
+      → fs ≡ slice_set m.funcs entry (record { ty = t; body = b }) → IsPlanned keep t b (with_body entry b m) p → IsKept (with_body entry b m) new → typed ≡ 1
+      → Leads keep (edits.Body x code) m (Ok (record { typed = typed; encoded = 1; sections = 0 })) (record m { funcs = fs }) new
+  body_leads x code fs typed is read has replaced plan kept once =
+      subst (λ (gs : List Func). Leads keep (edits.Body x code) m (Ok (record { typed = typed; encoded = 1; sections = 0 })) (record m { funcs = gs }) new)
+      (given_set entry b m.funcs t has ∙ sym replaced)
+      (made_body keep x code m entry b is read ∙ plan.stands, body_work x code m entry b typed once, plan.formed, kept)
+
+pub other_at : {A : Type 0} (old same : List A) (i : ℕ) (x y : A) → same ≡ old → y ≡ x → slice_set same i y ≡ slice_set old i x
+other_at {A = A} old same i x y told is = ap (λ (xs : List A). slice_set xs i y) told ∙ ap (slice_set old i) is

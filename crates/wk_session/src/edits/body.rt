@@ -1,0 +1,152 @@
+//! Another body for a function.
+
+ghost use Rattle.std.specs.Prelude.{◌≡◌, ◌≢◌, ◌<◌, Err, IfOk, IfErr, OnOk, length, map, slice_get, option_map, Some, ℕ};
+ghost use Rattle.wk_module.specs.Changes.{with_body};
+ghost use Rattle.wk_module.specs.Items.{IsCode};
+ghost use Rattle.wk_module.specs.Shape.{IsShaped};
+ghost use Rattle.wk_check.specs.SpacesLaws.{answers_of};
+ghost use Rattle.wk_check.specs.Verdict.{func_verdict};
+ghost use Rattle.wk_session.specs.declared.edit.Edit.{Edit};
+ghost use Rattle.wk_session.specs.Edits.{entry_of as entry_of_index};
+ghost use Rattle.wk_session.specs.Functions.{IsPlanned};
+ghost use Rattle.wk_session.specs.Kept.{IsKept, Leads, standing};
+
+use crate::appraisal::appraise;
+use crate::edit::{EditFault, Reply, Work};
+use crate::edits::entry::{Entry, keep_entry, spelled_body, with_other};
+use crate::judged::judged;
+use crate::kept::{Kept, func_uses};
+use std::alloc::Global;
+use std::mem;
+use wk_bytes::{Items, OutOfMemory};
+use wk_check::{BodyVerdict, Meter, Whole};
+use wk_module::{Body, Func, Kind, Lists, Parts, body_len, import_count};
+
+// Which of the functions that the module defines has an index.
+fn entry_of(parts: &Parts, func: u32) -> Option<usize>
+    ensures { result ≡ entry_of_index func parts.now }
+{
+    let imported = import_count(parts.imports.as_slice(), Kind::Func);
+    let index = func as usize;
+    if index < imported || index - imported >= parts.funcs.len() {
+        return None;
+    }
+    Some(index - imported)
+}
+
+// The type of a code entry.
+fn type_at(funcs: &Items<Func>, entry: usize) -> u32
+    requires { entry < length funcs.now }
+    ensures { Some result ≡ option_map (λ f. f.ty) (slice_get funcs.now entry) }
+{
+    funcs.as_slice()[entry].ty
+}
+
+// The verdicts of all bodies where one is replaced.
+fn verdicts_with(
+    alloc: Global,
+    parts: &Parts,
+    kept: &Kept,
+    entry: usize,
+    ty: u32,
+    body: &Body,
+    meter: &mut Meter,
+) -> Result<Vec<BodyVerdict>, OutOfMemory>
+    requires kept { IsKept parts.now kept.now }
+    requires within { entry < length parts.now.funcs }
+    requires ty { Some ty ≡ option_map (λ f. f.ty) (slice_get parts.now.funcs entry) }
+    requires fresh { meter.old ≡ 0 }
+    ensures verdicts { IfOk result (λ v. v.items ≡ map (func_verdict (answers_of (with_body entry body.now parts.now))) (with_body entry body.now parts.now).funcs) }
+    ensures typed { OnOk result (meter.new ≡ 1) }
+{
+    let whole = Whole::of(alloc, Lists::of(parts, &kept.types))?;
+    let own = judged(&whole, ty, body, meter)?;
+    with_other(alloc, &kept.verdicts, entry, own)
+}
+
+// What is to be kept of the module with another body; or why it may not be.
+fn planned_body(
+    alloc: Global,
+    keep: bool,
+    parts: &Parts,
+    kept: &Kept,
+    entry: usize,
+    ty: u32,
+    body: &Body,
+    meter: &mut Meter,
+) -> Result<Entry, EditFault>
+    requires shaped { IsShaped parts.now }
+    requires kept { IsKept parts.now kept.now }
+    requires within { entry < length parts.now.funcs }
+    requires ty { Some ty ≡ option_map (λ f. f.ty) (slice_get parts.now.funcs entry) }
+    requires valid { IsCode parts.now.profile body.now }
+    requires fresh { meter.old ≡ 0 }
+    ensures ok { IfOk result (IsPlanned keep ty body.now (with_body entry body.now parts.now)) }
+    ensures err { IfErr result (λ f. f ≢ EditFault.Memory → standing keep (with_body entry body.now parts.now) ≡ Err f) }
+    ensures typed { OnOk result (meter.new ≡ 1) }
+{
+    let Some(size) = body_len(body) else {
+        return Err(EditFault::TooLarge);
+    };
+    let code_sizes = with_other(alloc, &kept.code_sizes, entry, size)?;
+    let uses = func_uses(alloc, ty, body)?;
+    let verdicts = verdicts_with(alloc, parts, kept, entry, ty, body, meter)?;
+    let lists = Lists::of(parts, &kept.types);
+    let appraisal = appraise(alloc, keep, &lists, &verdicts, &code_sizes, &parts.customs)?;
+    Ok(Entry {
+        uses,
+        verdicts,
+        code_sizes,
+        appraisal,
+    })
+}
+
+// Replaces the body of a code entry.
+fn put_at(
+    alloc: Global,
+    keep: bool,
+    parts: &mut Parts,
+    kept: &mut Kept,
+    meter: &mut Meter,
+    entry: usize,
+    code: &Items<u8>,
+) -> Reply
+    requires shaped { IsShaped parts.old }
+    requires kept { IsKept parts.old kept.old }
+    requires within { entry < length parts.old.funcs }
+    requires fresh { meter.old ≡ 0 }
+    ensures { (func : ℕ) → entry_of_index func parts.old ≡ Some entry → Leads keep (Edit.Body func code.now) parts.old result parts.new kept.new }
+{
+    let body = spelled_body(alloc, parts.profile, code)?;
+    let ty = type_at(&parts.funcs, entry);
+    let planned = planned_body(alloc, keep, parts, kept, entry, ty, &body, meter)?;
+    let _before = parts.funcs.set(entry, Func { ty, body });
+    let uses = keep_entry(kept, planned);
+    let _unused = mem::replace(&mut kept.refs[entry], uses);
+    Ok(Work {
+        typed: meter.typed() as u32,
+        encoded: 1,
+        sections: 0,
+    })
+}
+
+/// Replaces the body of a function that the module defines.
+pub(crate) fn put_body(
+    alloc: Global,
+    keep: bool,
+    parts: &mut Parts,
+    kept: &mut Kept,
+    meter: &mut Meter,
+    func: u32,
+    code: &Items<u8>,
+) -> Reply
+    requires shaped { IsShaped parts.old }
+    requires kept { IsKept parts.old kept.old }
+    requires fresh { meter.old ≡ 0 }
+    ensures { Leads keep (Edit.Body func code.now) parts.old result parts.new kept.new }
+{
+    match entry_of(parts, func) {
+        Some(entry) => put_at(alloc, keep, parts, kept, meter, entry, code),
+        None => Err(EditFault::NoSuchFunction),
+    }
+}

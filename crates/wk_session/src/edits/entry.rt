@@ -1,0 +1,94 @@
+//! What is kept of a code entry that an edit gives or replaces.
+
+ghost use Rattle.std.specs.Prelude.{◌≡◌, ◌≢◌, ◌<◌, [], ◌∷◌, ◌++◌, length, slice_set, IfOk, IfErr, Ok, Err};
+ghost use Rattle.wk_module.specs.Items.{IsCode};
+ghost use Rattle.wk_session.specs.Functions.{body_spelled};
+
+use crate::appraisal::Appraisal;
+use crate::edit::EditFault;
+use crate::kept::Kept;
+use std::alloc::Global;
+use std::collections::BTreeSet;
+use wk_bytes::{Items, OutOfMemory, ReadKind};
+use wk_check::BodyVerdict;
+use wk_module::{Body, Profile, Ref, read_body_in};
+
+/// What is to be kept of a module with a code entry that an edit gives or replaces.
+#[derive(Drop)]
+pub(super) struct Entry {
+    /// What the function refers to, its own type too.
+    pub(super) uses: BTreeSet<Ref>,
+    /// The verdict of each body of the module.
+    pub(super) verdicts: Vec<BodyVerdict>,
+    /// How long the written form of each body is, in bytes, without its size.
+    pub(super) code_sizes: Vec<u32>,
+    /// What is kept of the module as a whole.
+    pub(super) appraisal: Appraisal,
+}
+
+/// The body that the bytes of an edit spell.
+pub(super) fn spelled_body(
+    alloc: Global,
+    profile: Profile,
+    code: &Items<u8>,
+) -> Result<Body, EditFault>
+    ensures ok { IfOk result (λ b. body_spelled profile code.now ≡ Ok b) }
+    ensures valid { IfOk result (λ b. IsCode profile b) }
+    ensures err { IfErr result (λ f. f ≢ EditFault.Memory → body_spelled profile code.now ≡ Err f) }
+{
+    let body = match read_body_in(alloc, code.as_slice(), profile) {
+        Ok(body) => body,
+        Err(fault) if fault.kind == ReadKind::Memory => return Err(EditFault::Memory),
+        Err(fault) => return Err(EditFault::BadBytes(fault)),
+    };
+    // The proof asks what these say: that the body is one that bytes can spell.
+    let _ = body.groups();
+    let _ = body.tokens();
+    Ok(body)
+}
+
+/// A copy with one item more.
+pub(super) fn with_item<T: Copy>(
+    alloc: Global,
+    items: &Vec<T>,
+    item: T,
+) -> Result<Vec<T>, OutOfMemory>
+    ensures { IfOk result (λ v. v.items ≡ items.now.items ++ item ∷ []) }
+{
+    let mut copy = Vec::from_slice(alloc, items.as_slice())?;
+    copy.push(item)?;
+    Ok(copy)
+}
+
+/// A copy with another item at an index.
+pub(super) fn with_other<T: Copy>(
+    alloc: Global,
+    items: &Vec<T>,
+    index: usize,
+    item: T,
+) -> Result<Vec<T>, OutOfMemory>
+    requires { index < length items.now.items }
+    ensures { IfOk result (λ v. v.items ≡ slice_set items.now.items index item) }
+{
+    let mut copy = Vec::from_slice(alloc, items.as_slice())?;
+    copy[index] = item;
+    Ok(copy)
+}
+
+/// Keeps what is to be kept of a module, but for the types of its functions and what they refer to.
+pub(super) fn keep_entry(kept: &mut Kept, entry: Entry) -> BTreeSet<Ref>
+    ensures uses { result ≡ entry.uses }
+    ensures kept { kept.new ≡ record kept.old { verdict = entry.appraisal.verdict; len = entry.appraisal.len; verdicts = entry.verdicts; code_sizes = entry.code_sizes } }
+{
+    let Entry {
+        uses,
+        verdicts,
+        code_sizes,
+        appraisal,
+    } = entry;
+    kept.verdict = appraisal.verdict;
+    kept.len = appraisal.len;
+    kept.verdicts = verdicts;
+    kept.code_sizes = code_sizes;
+    uses
+}
