@@ -51,7 +51,7 @@ use Rattle.wk_session.specs.Dependents.{held, ref_moved, is_retyped, answers_aft
 use Rattle.wk_session.specs.Edits.{import_place, made, lasting, fitting}
 use Rattle.wk_session.specs.Imported.{after_import, before_import, IsImportPlan, IsReady}
 use Rattle.wk_session.specs.Kept.{IsKept, uses_of, code_size, standing}
-use Rattle.wk_session.specs.MovedEntries.{uses_movement, replaced, is_too_long}
+use Rattle.wk_session.specs.MovedEntries.{uses_movement, with_items, is_too_long}
 use Rattle.wk_session.proofs.Judging.{agree_none}
 use Rattle.wk_session.proofs.MovedCode.{uses_as_code, any_told}
 

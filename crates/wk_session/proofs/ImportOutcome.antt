@@ -30,9 +30,9 @@ use Rattle.wk_session.specs.declared.kept.Kept.{Kept}
 use Rattle.wk_session.specs.Edits.{import_place, made, lasting}
 use Rattle.wk_session.specs.Imported.{after_import, IsImportPlan, IsUnplanned}
 use Rattle.wk_session.specs.Kept.{IsKept, uses_of, code_size, standing}
-use Rattle.wk_session.specs.MovedEntries.{replaced, is_too_long}
+use Rattle.wk_session.specs.MovedEntries.{with_items, is_too_long}
 use Rattle.wk_session.proofs.ImportEdits.{AreLaid, made_free, made_stuck}
-use Rattle.wk_session.proofs.Replacing.{map-replaced}
+use Rattle.wk_session.proofs.Replacing.{map-with_items}
 
 -- ---- refusals
 
@@ -65,7 +65,7 @@ too_large keep n order some =
     let long = passing (λ (f : Func). nat_lt limit (code_size f)) n.funcs some in
     let body = written_body long.item.body in
     let past : limit < length (encoded (settle n)) =
-        omega (arith, ltb-true limit (code_size long.item) long.passes, code_within n long.place long.item long.within long.at, length-append (short (length body)) body, length-encoded_settle n order) in
+    omega (arith, ltb-true limit (code_size long.item) long.passes, code_within n long.place long.item long.within long.at, length-append (short (length body)) body, length-encoded_settle n order) in
     ap (λ (b : Bool). (if b then Ok (settle n) else Err TooLarge) >>= lasting keep) (lt-leb (length (encoded (settle n))) limit past)
 
 pub too_long : (keep : Bool) (i : Import) (m : Parts) → IsFormed m → list_any (is_too_long (desc_kind i.desc) (import_place i m)) m.funcs ≡ true → standing keep (after_import i m) ≡ Err TooLarge
@@ -86,13 +86,13 @@ unplanned keep i m kind from e is_kind is_from formed why some =
 
 -- the parts, with what moved in its place
 pub laid_parts : AreLaid → (i : Import) (m p : Parts) (plan : ImportPlan) → p ≡ with_import i m → IsImportPlan (desc_kind i.desc) (import_place i m) m plan
-    → record (with_lists plan.lists p) { funcs = replaced p.funcs plan.entries.funcs.items } ≡ after_import i m
+    → record (with_lists plan.lists p) { funcs = with_items p.funcs plan.entries.funcs.items } ≡ after_import i m
 laid_parts laid i m p plan pushed planned =
     let kind = desc_kind i.desc in
     let from = import_place i m in
-    ap (λ (q : Parts). record (with_lists plan.lists q) { funcs = replaced q.funcs plan.entries.funcs.items }) pushed
-    ∙ ap (λ (v : MovedLists). with_import i (record (with_lists v m) { funcs = replaced m.funcs plan.entries.funcs.items })) planned.lists
-    ∙ ap (λ (q : Parts). with_import i (record q { funcs = replaced m.funcs plan.entries.funcs.items })) (laid kind from m)
+    ap (λ (q : Parts). record (with_lists plan.lists q) { funcs = with_items q.funcs plan.entries.funcs.items }) pushed
+    ∙ ap (λ (v : MovedLists). with_import i (record (with_lists v m) { funcs = with_items m.funcs plan.entries.funcs.items })) planned.lists
+    ∙ ap (λ (q : Parts). with_import i (record q { funcs = with_items m.funcs plan.entries.funcs.items })) (laid kind from m)
     ∙ ap (λ (fs : List Func). with_import i (record (moved_parts kind from m) { funcs = fs })) planned.entries.funcs
 
 abbrev set_keys : BTreeSet Ref Global → List Ref
@@ -100,12 +100,12 @@ set_keys s = s.keys
 
 -- what functions refer to, with the sets of those that moved in their places
 pub laid_refs : (i : Import) (m : Parts) (plan : ImportPlan) (sets now : List (BTreeSet Ref Global)) → map set_keys sets ≡ map uses_of m.funcs → IsImportPlan (desc_kind i.desc) (import_place i m) m plan
-    → now ≡ replaced sets plan.entries.refs.items → map set_keys now ≡ map uses_of (after_import i m).funcs
+    → now ≡ with_items sets plan.entries.refs.items → map set_keys now ≡ map uses_of (after_import i m).funcs
 laid_refs i m plan sets now were planned is =
     let news = plan.entries.refs.items in
     ap (map set_keys) is
-    ∙ map-replaced set_keys sets news
-    ∙ ap (λ (xs : List (List Ref)). replaced xs (map (option_map set_keys) news)) were
+    ∙ map-with_items set_keys sets news
+    ∙ ap (λ (xs : List (List Ref)). with_items xs (map (option_map set_keys) news)) were
     ∙ planned.entries.refs
 
 pub same_work : (typed encoded sections : ℕ) (w : Work) → typed ≡ w.typed → encoded ≡ w.encoded → sections ≡ w.sections → record { typed = typed; encoded = encoded; sections = sections } ≡ w

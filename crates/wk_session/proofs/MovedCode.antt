@@ -20,8 +20,8 @@ use Rattle.wk_session.specs.declared.edits.moved.MovedEntry.{MovedEntry}
 use Rattle.wk_session.specs.declared.edits.moved.MovedEntries.{MovedEntries}
 use Rattle.wk_session.specs.Dependents.{held}
 use Rattle.wk_session.specs.Kept.{uses_of, code_size}
-use Rattle.wk_session.specs.MovedEntries.{uses_movement, replaced, IsMovedEntry, AreMovedEntries}
-use Rattle.wk_session.proofs.Replacing.{replaced_push}
+use Rattle.wk_session.specs.MovedEntries.{uses_movement, with_items, IsMovedEntry, AreMovedEntries}
+use Rattle.wk_session.proofs.Replacing.{with_items_push}
 
 -- ---- sets
 
@@ -60,12 +60,12 @@ count_push p xs x =
 module _ {A B : Type 0} (part : A → B) (change : A → A) where
   -- part is what is kept of each, and change what becomes of it
   part_push : (xs : List A) (x : A) (ns : List (Option B)) (n : Option B) → length ns ≡ length xs → unwrap_or n (part x) ≡ part (change x)
-      → replaced (map part xs) ns ≡ map part (map change xs) → replaced (map part (xs ++ x ∷ [])) (ns ++ n ∷ []) ≡ map part (map change (xs ++ x ∷ []))
+      → with_items (map part xs) ns ≡ map part (map change xs) → with_items (map part (xs ++ x ∷ [])) (ns ++ n ∷ []) ≡ map part (map change (xs ++ x ∷ []))
   part_push xs x ns n count is all =
       let aligned : length ns ≡ length (map part xs) = count ∙ sym (length-map xs part) in
-      ap (λ (ys : List B). replaced ys (ns ++ n ∷ [])) (map_push part xs x)
-      ∙ replaced_push (map part xs) ns (part x) n aligned
-      ∙ ap (λ (y : B). replaced (map part xs) ns ++ y ∷ []) is
+      ap (λ (ys : List B). with_items ys (ns ++ n ∷ [])) (map_push part xs x)
+      ∙ with_items_push (map part xs) ns (part x) n aligned
+      ∙ ap (λ (y : B). with_items (map part xs) ns ++ y ∷ []) is
       ∙ ap (λ (ys : List B). ys ++ part (change x) ∷ []) all
       ∙ sym (map_push part (map change xs) (change x))
       ∙ ap (map part) (sym (map_push change xs x))
@@ -75,28 +75,28 @@ entries_push : (kind : Kind) (from : ℕ) (xs : List Func) (f : Func) (e n : Mov
     → IsMovedEntry kind from f m → AreMovedEntries kind from xs e → AreMovedEntries kind from (xs ++ f ∷ []) n
 entries_push kind from xs f e n m funcs refs sizes is all = record {
   funcs =
-    ap (replaced (xs ++ f ∷ [])) funcs
-    ∙ replaced_push xs e.funcs.items f m.func all.func_count
-    ∙ ap (λ (g : Func). replaced xs e.funcs.items ++ g ∷ []) is.func
-    ∙ ap (λ (gs : List Func). gs ++ moved_func kind from f ∷ []) all.funcs
-    ∙ sym (map_push (moved_func kind from) xs f);
+      ap (with_items (xs ++ f ∷ [])) funcs
+      ∙ with_items_push xs e.funcs.items f m.func all.func_count
+      ∙ ap (λ (g : Func). with_items xs e.funcs.items ++ g ∷ []) is.func
+      ∙ ap (λ (gs : List Func). gs ++ moved_func kind from f ∷ []) all.funcs
+      ∙ sym (map_push (moved_func kind from) xs f);
   refs =
-    ap (λ (sets : List (Option (BTreeSet Ref Global))). replaced (map uses_of (xs ++ f ∷ [])) (map (option_map set_keys) sets)) refs
-    ∙ ap (replaced (map uses_of (xs ++ f ∷ []))) (map_push (option_map set_keys) e.refs.items m.refs)
-    ∙ part_push uses_of (moved_func kind from) xs f (map (option_map set_keys) e.refs.items) (option_map set_keys m.refs) (length-map e.refs.items (option_map set_keys) ∙ all.ref_count) is.refs all.refs;
+      ap (λ (sets : List (Option (BTreeSet Ref Global))). with_items (map uses_of (xs ++ f ∷ [])) (map (option_map set_keys) sets)) refs
+      ∙ ap (with_items (map uses_of (xs ++ f ∷ []))) (map_push (option_map set_keys) e.refs.items m.refs)
+      ∙ part_push uses_of (moved_func kind from) xs f (map (option_map set_keys) e.refs.items) (option_map set_keys m.refs) (length-map e.refs.items (option_map set_keys) ∙ all.ref_count) is.refs all.refs;
   code_sizes =
-    sizes
-    ∙ ap (λ (n : ℕ). e.code_sizes.items ++ n ∷ []) is.code_size
-    ∙ ap (λ (ns : List ℕ). ns ++ code_size (moved_func kind from f) ∷ []) all.code_sizes
-    ∙ sym (map_push code_size (map (moved_func kind from) xs) (moved_func kind from f))
-    ∙ ap (map code_size) (sym (map_push (moved_func kind from) xs f));
+      sizes
+      ∙ ap (λ (n : ℕ). e.code_sizes.items ++ n ∷ []) is.code_size
+      ∙ ap (λ (ns : List ℕ). ns ++ code_size (moved_func kind from f) ∷ []) all.code_sizes
+      ∙ sym (map_push code_size (map (moved_func kind from) xs) (moved_func kind from f))
+      ∙ ap (map code_size) (sym (map_push (moved_func kind from) xs f));
   moves =
-    let test = λ (g : Func). is_code_moving kind from g.body.instrs in
-    ap (count_by is_some) funcs
-    ∙ count_push is_some e.funcs.items m.func
-    ∙ ap (λ (b : Bool). count_by is_some e.funcs.items + cond b 1 0) is.moves
-    ∙ ap (λ (k : ℕ). k + cond (test f) 1 0) all.moves
-    ∙ sym (count_push test xs f);
+      let test = λ (g : Func). is_code_moving kind from g.body.instrs in
+      ap (count_by is_some) funcs
+      ∙ count_push is_some e.funcs.items m.func
+      ∙ ap (λ (b : Bool). count_by is_some e.funcs.items + cond b 1 0) is.moves
+      ∙ ap (λ (k : ℕ). k + cond (test f) 1 0) all.moves
+      ∙ sym (count_push test xs f);
   func_count = omega (arith, all.func_count, ap length funcs, length-append e.funcs.items (m.func ∷ []), length-append xs (f ∷ []));
   ref_count = omega (arith, all.ref_count, ap length refs, length-append e.refs.items (m.refs ∷ []), length-append xs (f ∷ []));
 }

@@ -23,10 +23,10 @@ uses_movement Global from keys = movement_of moving.Global from keys
 uses_movement _ from keys = record { moves = false; stuck = false }
 
 -- a list with each new item that there is in the place of the old one
-abbrev pub replaced : {A : Type 0} → List A → List (Option A) → List A
-replaced [] news = []
-replaced (x ∷ xs) [] = x ∷ xs
-replaced (x ∷ xs) (new ∷ news) = unwrap_or new x ∷ replaced xs news
+abbrev pub with_items : {A : Type 0} → List A → List (Option A) → List A
+with_items [] news = []
+with_items (x ∷ xs) [] = x ∷ xs
+with_items (x ∷ xs) (new ∷ news) = unwrap_or new x ∷ with_items xs news
 
 -- whether the code of a function, moved, is longer than a module may be
 abbrev pub is_too_long : Kind → ℕ → FuncOf → Bool
@@ -41,8 +41,8 @@ pub record IsMovedEntry (kind : Kind) (from : ℕ) (f : FuncOf) (e : MovedEntry)
 
 -- what it makes of all
 pub record AreMovedEntries (kind : Kind) (from : ℕ) (fs : List FuncOf) (e : MovedEntries) : Type 0 where
-  pub funcs : replaced fs e.funcs.items ≡ map (moved_func kind from) fs
-  pub refs : replaced (map uses_of fs) (map (option_map (λ s. s.keys)) e.refs.items) ≡ map uses_of (map (moved_func kind from) fs)
+  pub funcs : with_items fs e.funcs.items ≡ map (moved_func kind from) fs
+  pub refs : with_items (map uses_of fs) (map (option_map (λ s. s.keys)) e.refs.items) ≡ map uses_of (map (moved_func kind from) fs)
   pub code_sizes : e.code_sizes.items ≡ map code_size (map (moved_func kind from) fs)
   pub moves : count_by is_some e.funcs.items ≡ count_by (λ f. is_code_moving kind from f.body.instrs) fs
   pub func_count : length e.funcs.items ≡ length fs

@@ -19,7 +19,7 @@ ghost use Rattle.wk_session.specs.Dependents.{is_retyped, is_retyped_in, one_if,
 ghost use Rattle.wk_session.specs.Edits.{import_place};
 ghost use Rattle.wk_session.specs.Imported.{after_import, before_import, IsImportPlan, IsUnplanned, IsReady, IsJudgement};
 ghost use Rattle.wk_session.specs.Kept.{IsKept, Leads, standing};
-ghost use Rattle.wk_session.specs.MovedEntries.{replaced};
+ghost use Rattle.wk_session.specs.MovedEntries.{with_items};
 
 use crate::appraisal::{Appraisal, appraise};
 use crate::edit::{EditFault, Reply, Work};
@@ -32,8 +32,8 @@ use std::alloc::Global;
 use wk_bytes::OutOfMemory;
 use wk_check::{BodyVerdict, Meter, Whole, verdicts_that_keep};
 use wk_module::{
-    Import, ImportDesc, Kind, Limits, Lists, MovedLists, Parts, ShiftFault, import_count, moving_of_code,
-    moving_of_module, shift_lists,
+    Import, ImportDesc, Kind, Limits, Lists, MovedLists, Parts, ShiftFault, import_count,
+    moving_of_code, moving_of_module, shift_lists,
 };
 
 /// What an import makes of a module beside its list of imports.
@@ -116,7 +116,7 @@ fn lists_after(
 }
 
 // All that an import of the kind at the index `from` moves.
-fn planned(
+fn plan_import(
     alloc: Global,
     parts: &Parts,
     kept: &Kept,
@@ -277,7 +277,7 @@ fn push_judged(
 }
 
 // 1 for a list that moved.
-fn counted(is_moved: bool) -> u32
+fn one_where(is_moved: bool) -> u32
     ensures value { result ≡ one_if is_moved }
     ensures few { result ≤ 1 }
 {
@@ -289,11 +289,11 @@ fn moved_sections(lists: &MovedLists) -> u32
     ensures value { (kind : KindOf) → (from : ℕ) → (m : PartsOf) → lists.now ≡ moved_lists kind from m → result ≡ sections_moving kind from m }
     ensures few { result ≤ 5 }
 {
-    counted(lists.globals.is_some())
-        + counted(lists.exports.is_some())
-        + counted(lists.start.is_some())
-        + counted(lists.elems.is_some())
-        + counted(lists.datas.is_some())
+    one_where(lists.globals.is_some())
+        + one_where(lists.exports.is_some())
+        + one_where(lists.start.is_some())
+        + one_where(lists.elems.is_some())
+        + one_where(lists.datas.is_some())
 }
 
 // Puts all that moved, and what is kept of it, in their places. It takes no memory.
@@ -306,12 +306,12 @@ fn put_import(
 )
     requires funcs { length plan.entries.funcs.items ≤ length parts.old.funcs }
     requires refs { length plan.entries.refs.items ≤ length kept.old.refs.items }
-    ensures parts { parts.new ≡ record (with_lists plan.lists parts.old) { funcs = replaced parts.old.funcs plan.entries.funcs.items } }
+    ensures parts { parts.new ≡ record (with_lists plan.lists parts.old) { funcs = with_items parts.old.funcs plan.entries.funcs.items } }
     ensures verdict { kept.new.verdict ≡ judgement.appraisal.verdict }
     ensures len { kept.new.len ≡ judgement.appraisal.len }
     ensures types { kept.new.types ≡ kept.old.types }
     ensures verdicts { kept.new.verdicts ≡ unwrap_or judgement.verdicts kept.old.verdicts }
-    ensures refs { kept.new.refs.items ≡ replaced kept.old.refs.items plan.entries.refs.items }
+    ensures refs { kept.new.refs.items ≡ with_items kept.old.refs.items plan.entries.refs.items }
     ensures code_sizes { kept.new.code_sizes ≡ plan.entries.code_sizes }
 {
     let ImportPlan { lists, entries } = plan;
@@ -351,7 +351,7 @@ pub(crate) fn add_import(
     moving_of_module();
     let kind = import.desc.kind();
     let from = import_count(parts.imports.as_slice(), kind) as u32;
-    let plan = planned(alloc, parts, kept, kind, from)?;
+    let plan = plan_import(alloc, parts, kept, kind, from)?;
     let judgement = push_judged(alloc, keep, parts, kept, meter, import, &plan)?;
     let work = Work {
         typed: meter.typed() as u32,

@@ -6,7 +6,7 @@ ghost use Rattle.wk_body.specs.Moves.{is_moving, movement_of};
 ghost use Rattle.wk_body.specs.References.{is_stuck, any_stuck, refs_of, shift_body};
 ghost use Rattle.wk_module.specs.Moving.{moved_func, is_code_moving, is_code_stuck, with_lists};
 ghost use Rattle.wk_session.specs.Kept.{uses_of, code_size};
-ghost use Rattle.wk_session.specs.MovedEntries.{uses_movement, replaced, is_too_long, IsMovedEntry, AreMovedEntries, IsTooLong};
+ghost use Rattle.wk_session.specs.MovedEntries.{uses_movement, with_items, is_too_long, IsMovedEntry, AreMovedEntries, IsTooLong};
 
 use crate::edit::EditFault;
 use crate::kept::func_uses;
@@ -87,12 +87,7 @@ pub(crate) fn is_any_code_stuck(kind: Kind, from: u32, refs: &Vec<BTreeSet<Ref>>
 }
 
 // A body moved, of which nothing is stuck.
-fn shifted(
-    alloc: Global,
-    body: &Body,
-    kind: Moving,
-    from: u32,
-) -> Result<Body, OutOfMemory>
+fn shifted_body(alloc: Global, body: &Body, kind: Moving, from: u32) -> Result<Body, OutOfMemory>
     requires { any_stuck kind from (refs_of body.now.instrs) ≡ false }
     ensures { IfOk result (λ b. b ≡ shift_body kind from body.now) }
 {
@@ -104,32 +99,22 @@ fn shifted(
 }
 
 // A function with its body moved, of which something moves and nothing is stuck.
-fn shifted_func(
-    alloc: Global,
-    func: &Func,
-    kind: Kind,
-    from: u32,
-) -> Result<Func, OutOfMemory>
+fn shifted_func(alloc: Global, func: &Func, kind: Kind, from: u32) -> Result<Func, OutOfMemory>
     requires moves { is_code_moving kind from func.now.body.instrs ≡ true }
     requires free { is_code_stuck kind from func.now.body.instrs ≡ false }
     ensures { IfOk result (λ f. f ≡ moved_func kind from func.now) }
 {
     let ty = func.ty;
     let body = match kind {
-        Kind::Func => shifted(alloc, &func.body, Moving::Func, from)?,
-        Kind::Global => shifted(alloc, &func.body, Moving::Global, from)?,
+        Kind::Func => shifted_body(alloc, &func.body, Moving::Func, from)?,
+        Kind::Global => shifted_body(alloc, &func.body, Moving::Global, from)?,
         Kind::Table | Kind::Memory => unreachable!(),
     };
     Ok(Func { ty, body })
 }
 
 // An entry whose body moves.
-fn shifted_entry(
-    alloc: Global,
-    func: &Func,
-    kind: Kind,
-    from: u32,
-) -> Result<MovedEntry, EditFault>
+fn shifted_entry(alloc: Global, func: &Func, kind: Kind, from: u32) -> Result<MovedEntry, EditFault>
     requires moves { is_code_moving kind from func.now.body.instrs ≡ true }
     requires free { is_code_stuck kind from func.now.body.instrs ≡ false }
     ensures { MatchResult result (IsMovedEntry kind from func.now) (IsTooLong (is_too_long kind from func.now)) }
@@ -232,7 +217,7 @@ pub(crate) fn moved_count(funcs: &Vec<Option<Func>>) -> usize
 /// Puts each new item that there is in the place of the old one. It takes no memory.
 pub(crate) fn replace_each<T: Drop>(items: &mut Vec<T>, news: Vec<Option<T>>)
     requires { length news.items ≤ length items.old.items }
-    ensures { items.new.items ≡ replaced items.old.items news.items }
+    ensures { items.new.items ≡ with_items items.old.items news.items }
 {
     let mut news = news;
     while let Some(new) = news.pop() {
@@ -251,7 +236,7 @@ pub(crate) fn put_moved(
     funcs: Vec<Option<Func>>,
 )
     requires { length funcs.items ≤ length parts.old.funcs }
-    ensures { parts.new ≡ record (with_lists lists parts.old) { funcs = replaced parts.old.funcs funcs.items } }
+    ensures { parts.new ≡ record (with_lists lists parts.old) { funcs = with_items parts.old.funcs funcs.items } }
 {
     let before = mem::replace(parts, Parts::new(alloc, Profile::Core));
     let mut now = lists.put_into(before);

@@ -98,8 +98,7 @@ returns c =
     let judged = c.in_ok-judgement.ensures in
     let is = c.put_import.ensures.parts ∙ laid_parts c.moving_of_module.ensures.lists i m c.push_judged.new.parts c.in_ok-plan.plan judged.ok plan in
     subst (λ (q : Parts). (made c.args.keep (edits.Import i) m ≡ Ok (settle q)) × (◌≡◌ {A = Work} (record { typed = c.typed.result; encoded = c.moved_count.result; sections = 1 + c.moved_sections.result }) (work_of (edits.Import i) m (settle q))) × IsFormed q × IsKept q c.put_import.new.kept)
-    (sym is)
-    (
+    (sym is) (
       made_free c.args.keep i m plan.free ∙ judged.judgement.stands,
       work_now (goal.at.returns c).After-put_import plan,
       judged.formed,

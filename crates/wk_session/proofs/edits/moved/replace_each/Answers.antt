@@ -1,6 +1,6 @@
 use Rattle.std.proofs.Common.{◌≡◌, ◌≤◌, ◌<◌, length, arith, ap, sym, ◌∙◌, List, [], ◌∷◌, ◌++◌, Some, None, Option, length-append, length-set}
-use Rattle.wk_session.specs.MovedEntries.{replaced}
-use Rattle.wk_session.proofs.Replacing.{replaced_all, replaced_none, replaced_some, empty_list}
+use Rattle.wk_session.specs.MovedEntries.{with_items}
+use Rattle.wk_session.proofs.Replacing.{with_items_all, with_items_none, with_items_some, empty_list}
 use Rattle.wk_session.proofs.edits.moved.replace_each.Goals as goal
 
 pub loop-new-preserved-in-Some-new : goal.loop-new-preserved-in-Some-new
@@ -11,7 +11,7 @@ loop-new-preserved-in-Some-new g c =
     let shorter : length ns < length xs = omega (arith, ap length popped, length-append ns (Some c.in-Some-new.item ∷ []), c.loop-new.invariant.fits) in
     record {
       fits = rw length-set (omega (arith, shorter));
-      same = replaced_some xs ns _ c.in-Some-new.item (c.len-index.ensures ∙ c.pop.new.self.ok.0) shorter ∙ (ap (replaced xs) (sym popped) ∙ c.loop-new.invariant.same);
+      same = with_items_some xs ns _ c.in-Some-new.item (c.len-index.ensures ∙ c.pop.new.self.ok.0) shorter ∙ (ap (with_items xs) (sym popped) ∙ c.loop-new.invariant.same);
     }
 
 pub loop-new-preserved : goal.loop-new-preserved
@@ -19,11 +19,11 @@ loop-new-preserved g c =
     let popped = rw c.in_default-new.is at c.in-Some.ensures.items in
     record {
       fits = omega (arith, ap length popped, length-append c.pop.new.self.items (None ∷ []), c.loop-new.invariant.fits);
-      same = sym (replaced_none c.loop-new.items.items c.pop.new.self.items) ∙ (ap (replaced c.loop-new.items.items) (sym popped) ∙ c.loop-new.invariant.same);
+      same = sym (with_items_none c.loop-new.items.items c.pop.new.self.items) ∙ (ap (with_items c.loop-new.items.items) (sym popped) ∙ c.loop-new.invariant.same);
     }
 
 pub returns : goal.returns
 returns g c =
     let ns = c.loop-new.news.items in
     let none : ns ≡ [] = empty_list ns (omega (arith, c.in_default.ensures.cases)) in
-    sym (replaced_all c.loop-new.items.items) ∙ (ap (replaced c.loop-new.items.items) (sym none) ∙ c.loop-new.invariant.same)
+    sym (with_items_all c.loop-new.items.items) ∙ (ap (with_items c.loop-new.items.items) (sym none) ∙ c.loop-new.invariant.same)
