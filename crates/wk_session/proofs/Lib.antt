@@ -2,6 +2,10 @@ pub mod Rows
 pub mod SameFound
 pub mod Judging
 pub mod Popped
+pub mod Replacing
+pub mod MovedCode
+pub mod ImportEdits
+pub mod ImportOutcome
 pub mod RunSteps
 pub mod Outcomes
 pub mod Appraising

@@ -5,6 +5,8 @@ pub mod Kept
 pub mod Stripped
 pub mod Written
 pub mod EditText
+pub mod MovedEntries
+pub mod Imported
 pub mod Functions
 pub mod ItemSizes
 pub mod Judged

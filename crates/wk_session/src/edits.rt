@@ -8,6 +8,7 @@ mod function;
 mod global;
 mod import;
 mod item_len;
+mod moved;
 mod one_more;
 mod ty;
 

@@ -1,0 +1,109 @@
+-- What an import moves of code entries.
+use Rattle.std.proofs.Common.{◌≡◌, ℕ, suc, ◌+◌, ◌<◌, ◌≤◌, Bool, true, false, cond, ◌||◌, List, [], ◌∷◌, ◌++◌, length, map, take, get_or, count_by, Option, Some, None, unwrap_or, is_some, Global, refl, ap, sym, subst, ◌∙◌, arith, length-append}
+use Rattle.std.specs.Prelude.{option_map}
+use Rattle.std.specs.declared.collections.BTreeSet.{BTreeSet}
+use Rattle.std.specs.List.{list_any, sum_by}
+use Rattle.std.proofs.lemmas.List.{take_more, map_push, length-map}
+use Rattle.std.proofs.lemmas.List.Sums.{sum_by-append}
+use Rattle.wk_body.specs.declared.moves.Moving.TheVariants as moving
+use Rattle.wk_body.specs.declared.moves.Movement.{Movement}
+use Rattle.wk_body.specs.declared.references.Ref.{Ref}
+use Rattle.wk_body.specs.Moves.{movement_of, MoveAlike}
+use Rattle.wk_body.specs.References.{refs_of, AreSame}
+use Rattle.wk_module.specs.declared.types.Func.{Func}
+use Rattle.wk_module.specs.declared.types.Kind.{Kind}
+use Rattle.wk_module.specs.declared.types.Kind.TheVariants as kinds
+use Rattle.wk_module.specs.Moving.{moved_func, is_code_moving, is_code_stuck}
+use Rattle.wk_list.specs.Uses.{in_order}
+use Rattle.wk_list.specs.UsesLaws.{in_order_same}
+use Rattle.wk_session.specs.declared.edits.moved.MovedEntry.{MovedEntry}
+use Rattle.wk_session.specs.declared.edits.moved.MovedEntries.{MovedEntries}
+use Rattle.wk_session.specs.Dependents.{held}
+use Rattle.wk_session.specs.Kept.{uses_of, code_size}
+use Rattle.wk_session.specs.MovedEntries.{uses_movement, with_items, IsMovedEntry, AreMovedEntries}
+use Rattle.wk_session.proofs.Replacing.{with_items_push}
+
+-- ---- sets
+
+-- what moves of a function's code
+abbrev code_movement : Kind → ℕ → Func → Movement
+code_movement kind from f = record { moves = is_code_moving kind from f.body.instrs; stuck = is_code_stuck kind from f.body.instrs }
+
+-- of what a function refers to, its own type too, there moves what moves of its code
+pub uses_as_code : MoveAlike → (kind : Kind) (from : ℕ) (f : Func) (keys : List Ref) → keys ≡ uses_of f → uses_movement kind from keys ≡ code_movement kind from f
+uses_as_code alike kinds.Func from f keys e = alike moving.Func from keys (refs_of f.body.instrs) f.ty (subst (λ (ks : List Ref). AreSame ks (held f)) (sym e) (in_order_same (held f)))
+uses_as_code alike kinds.Global from f keys e = alike moving.Global from keys (refs_of f.body.instrs) f.ty (subst (λ (ks : List Ref). AreSame ks (held f)) (sym e) (in_order_same (held f)))
+uses_as_code alike kinds.Table from f keys e = refl
+uses_as_code alike kinds.Memory from f keys e = refl
+
+module _ {A B C : Type 0} (f : A → C) (g : B → C) (p : C → Bool) (q : B → Bool) (same : (y : B) → p (g y) ≡ q y) where
+  -- two lists of which the same is told, and a test that is told too
+  pub any_told : (xs : List A) (ys : List B) → map f xs ≡ map g ys → list_any (λ x. p (f x)) xs ≡ list_any q ys
+  any_told [] [] e = refl
+  any_told [] (y ∷ ys) e = absurd cc
+  any_told (x ∷ xs) [] e = absurd cc
+  any_told (x ∷ xs) (y ∷ ys) e =
+      let first : f x ≡ g y = cc in
+      let rest : map f xs ≡ map g ys = cc in
+      ap (λ (b : Bool). b || list_any (λ x. p (f x)) xs) (ap p first ∙ same y) ∙ ap (λ (b : Bool). q y || b) (any_told xs ys rest)
+
+-- ---- one entry more
+
+abbrev set_keys : BTreeSet Ref Global → List Ref
+set_keys s = s.keys
+
+count_push : {A : Type 0} (p : A → Bool) (xs : List A) (x : A) → count_by p (xs ++ x ∷ []) ≡ count_by p xs + cond (p x) 1 0
+count_push p xs x =
+    let one : count_by p (x ∷ []) ≡ cond (p x) 1 0 = omega arith in
+    sum_by-append (λ y. cond (p y) 1 0) xs (x ∷ []) ∙ ap (λ (n : ℕ). count_by p xs + n) one
+
+module _ {A B : Type 0} (part : A → B) (change : A → A) where
+  -- part is what is kept of each, and change what becomes of it
+  part_push : (xs : List A) (x : A) (ns : List (Option B)) (n : Option B) → length ns ≡ length xs → unwrap_or n (part x) ≡ part (change x)
+      → with_items (map part xs) ns ≡ map part (map change xs) → with_items (map part (xs ++ x ∷ [])) (ns ++ n ∷ []) ≡ map part (map change (xs ++ x ∷ []))
+  part_push xs x ns n count is all =
+      let aligned : length ns ≡ length (map part xs) = count ∙ sym (length-map xs part) in
+      ap (λ (ys : List B). with_items ys (ns ++ n ∷ [])) (map_push part xs x)
+      ∙ with_items_push (map part xs) ns (part x) n aligned
+      ∙ ap (λ (y : B). with_items (map part xs) ns ++ y ∷ []) is
+      ∙ ap (λ (ys : List B). ys ++ part (change x) ∷ []) all
+      ∙ sym (map_push part (map change xs) (change x))
+      ∙ ap (map part) (sym (map_push change xs x))
+
+entries_push : (kind : Kind) (from : ℕ) (xs : List Func) (f : Func) (e n : MovedEntries) (m : MovedEntry)
+    → n.funcs.items ≡ e.funcs.items ++ m.func ∷ [] → n.refs.items ≡ e.refs.items ++ m.refs ∷ [] → n.code_sizes.items ≡ e.code_sizes.items ++ m.code_size ∷ []
+    → IsMovedEntry kind from f m → AreMovedEntries kind from xs e → AreMovedEntries kind from (xs ++ f ∷ []) n
+entries_push kind from xs f e n m funcs refs sizes is all = record {
+  funcs =
+      ap (with_items (xs ++ f ∷ [])) funcs
+      ∙ with_items_push xs e.funcs.items f m.func all.func_count
+      ∙ ap (λ (g : Func). with_items xs e.funcs.items ++ g ∷ []) is.func
+      ∙ ap (λ (gs : List Func). gs ++ moved_func kind from f ∷ []) all.funcs
+      ∙ sym (map_push (moved_func kind from) xs f);
+  refs =
+      ap (λ (sets : List (Option (BTreeSet Ref Global))). with_items (map uses_of (xs ++ f ∷ [])) (map (option_map set_keys) sets)) refs
+      ∙ ap (with_items (map uses_of (xs ++ f ∷ []))) (map_push (option_map set_keys) e.refs.items m.refs)
+      ∙ part_push uses_of (moved_func kind from) xs f (map (option_map set_keys) e.refs.items) (option_map set_keys m.refs) (length-map e.refs.items (option_map set_keys) ∙ all.ref_count) is.refs all.refs;
+  code_sizes =
+      sizes
+      ∙ ap (λ (n : ℕ). e.code_sizes.items ++ n ∷ []) is.code_size
+      ∙ ap (λ (ns : List ℕ). ns ++ code_size (moved_func kind from f) ∷ []) all.code_sizes
+      ∙ sym (map_push code_size (map (moved_func kind from) xs) (moved_func kind from f))
+      ∙ ap (map code_size) (sym (map_push (moved_func kind from) xs f));
+  moves =
+      let test = λ (g : Func). is_code_moving kind from g.body.instrs in
+      ap (count_by is_some) funcs
+      ∙ count_push is_some e.funcs.items m.func
+      ∙ ap (λ (b : Bool). count_by is_some e.funcs.items + cond b 1 0) is.moves
+      ∙ ap (λ (k : ℕ). k + cond (test f) 1 0) all.moves
+      ∙ sym (count_push test xs f);
+  func_count = omega (arith, all.func_count, ap length funcs, length-append e.funcs.items (m.func ∷ []), length-append xs (f ∷ []));
+  ref_count = omega (arith, all.ref_count, ap length refs, length-append e.refs.items (m.refs ∷ []), length-append xs (f ∷ []));
+}
+
+pub entries_more : (kind : Kind) (from : ℕ) (fs : List Func) (i : ℕ) (f : Func) (e n : MovedEntries) (m : MovedEntry) → i < length fs → f ≡ get_or fs i f
+    → n.funcs.items ≡ e.funcs.items ++ m.func ∷ [] → n.refs.items ≡ e.refs.items ++ m.refs ∷ [] → n.code_sizes.items ≡ e.code_sizes.items ++ m.code_size ∷ []
+    → IsMovedEntry kind from f m → AreMovedEntries kind from (take i fs) e → AreMovedEntries kind from (take (i + 1) fs) n
+entries_more kind from fs i f e n m within at funcs refs sizes is all =
+    let more : take (i + 1) fs ≡ take i fs ++ f ∷ [] = take_more fs i f within ∙ ap (λ (y : Func). take i fs ++ y ∷ []) (sym at) in
+    subst (λ (xs : List Func). AreMovedEntries kind from xs n) (sym more) (entries_push kind from (take i fs) f e n m funcs refs sizes is all)

@@ -1,0 +1,106 @@
+use Rattle.std.proofs.Common.{◌≡◌, ℕ, ◌+◌, ◌<◌, ◌≤◌, ap, sym, subst, ◌∙◌, refl, arith, List, length, map, count_by, is_some, Some, Ok, Err}
+use Rattle.std.proofs.lemmas.List.Sums.{count_by-le-length}
+use Rattle.std.proofs.lemmas.Result.{err_from_is_err_and}
+use Rattle.wk_module.specs.declared.types.Func.{Func}
+use Rattle.wk_module.specs.declared.types.Import.{Import}
+use Rattle.wk_module.specs.declared.types.Kind.{Kind}
+use Rattle.wk_module.specs.declared.types.Parts.{Parts}
+use Rattle.wk_module.specs.Imports.{import_count}
+use Rattle.wk_module.specs.ImportLaws.{import_count_le}
+use Rattle.wk_module.specs.Items.{desc_kind}
+use Rattle.wk_module.specs.MovedLaws.{types_stay}
+use Rattle.wk_module.specs.NumberedLaws.{funcs_numbered, module_numbered}
+use Rattle.wk_module.specs.Shape.{IsFormed, settle}
+use Rattle.wk_session.specs.declared.edit.Edit.TheVariants as edits
+use Rattle.wk_session.specs.declared.edit.Work.{Work}
+use Rattle.wk_session.specs.Dependents.{is_retyped, work_of}
+use Rattle.wk_session.specs.Edits.{import_place, made}
+use Rattle.wk_session.specs.Imported.{after_import, IsImportPlan}
+use Rattle.wk_session.specs.Kept.{IsKept}
+use Rattle.wk_session.proofs.ImportEdits.{made_free}
+use Rattle.wk_session.proofs.ImportOutcome.{unplanned, laid_parts, laid_refs, same_work}
+use Rattle.wk_session.proofs.edits.import.add_import.Goals as goal
+use Rattle.wk_session.proofs.edits.import.add_import.Goals.{After-import_count-from, In_ok-plan, After-put_import}
+
+place : (c : After-import_count-from) → c.import_count-from.result ≡ import_place c.args.import.now c.args.parts.now
+place c =
+    c.import_count-from.ensures
+    ∙ ap (λ (k : Kind). import_count k c.as_slice.result.now) c.kind-kind.ensures
+    ∙ ap (λ (is : List Import). import_count (desc_kind c.args.import.now.desc) is) c.as_slice.ensures
+
+pub overflow_cast-from : goal.overflow_cast-from
+overflow_cast-from c =
+    let m = c.args.parts.now in
+    omega (arith, c.import_count-from.ensures, import_count_le c.kind-kind.result c.as_slice.result.now, ap length c.as_slice.ensures, (module_numbered m c.requires.shaped.formed).imports)
+
+pub returns-in_err-plan : goal.returns-in_err-plan
+returns-in_err-plan c =
+    let p = err_from_is_err_and c.from_residual.result c.from_residual.ensures.1 in
+    let m = c.args.parts.now in
+    rw (p.1, p.2) (
+      λ some. unplanned c.args.keep c.args.import.now m c.kind-kind.result c.import_count-from.result c.in_err-plan.field-0.0 c.kind-kind.ensures (place (goal.at.returns-in_err-plan c).After-import_count-from) c.requires.shaped.formed c.in_err-plan.ensures some,
+      λ none. refl,
+      refl,
+      c.requires.kept,
+    )
+
+planned : (c : In_ok-plan) → c.import_count-from.result ≡ import_place c.args.import.now c.args.parts.now → IsImportPlan (desc_kind c.args.import.now.desc) (import_place c.args.import.now c.args.parts.now) c.args.parts.now c.in_ok-plan.plan
+planned c at =
+    let m = c.args.parts.now in
+    let i = c.args.import.now in
+    let told : IsImportPlan c.kind-kind.result c.import_count-from.result m c.in_ok-plan.plan = c.in_ok-plan.ensures in
+    subst (λ (x : ℕ). IsImportPlan (desc_kind i.desc) x m c.in_ok-plan.plan) at
+    (subst (λ (k : Kind). IsImportPlan k c.import_count-from.result m c.in_ok-plan.plan) c.kind-kind.ensures told)
+
+pub overflow_cast-work : goal.overflow_cast-work
+overflow_cast-work c =
+    let m = c.args.parts.now in
+    let i = c.args.import.now in
+    omega (arith, c.typed.ensures, c.in_ok-judgement.ensures.typed, count_by-le-length (is_retyped (edits.Import i) m (after_import i m)) m.funcs, funcs_numbered m c.requires.shaped.formed)
+
+pub overflow_cast-work-2 : goal.overflow_cast-work-2
+overflow_cast-work-2 c =
+    let m = c.args.parts.now in
+    omega (arith, c.moved_count.ensures, count_by-le-length is_some c.in_ok-plan.plan.entries.funcs.items, c.in_ok-plan.ensures.entries.func_count, funcs_numbered m c.requires.shaped.formed)
+
+kept_now : (c : After-put_import) → IsImportPlan (desc_kind c.args.import.now.desc) (import_place c.args.import.now c.args.parts.now) c.args.parts.now c.in_ok-plan.plan
+    → IsKept (after_import c.args.import.now c.args.parts.now) c.put_import.new.kept
+kept_now c plan =
+    let i = c.args.import.now in
+    let m = c.args.parts.now in
+    let was = c.requires.kept in
+    let put = c.put_import.ensures in
+    let judged = c.in_ok-judgement.ensures.judgement in
+    record {
+      verdict = put.verdict ∙ judged.verdict;
+      len = judged.len ∙ ap Some (sym put.len);
+      types = ap (λ v. v.items) put.types ∙ was.types ∙ sym (types_stay (desc_kind i.desc) (import_place i m) m.funcs);
+      verdicts = ap (λ v. v.items) put.verdicts ∙ judged.verdicts;
+      refs = laid_refs i m c.in_ok-plan.plan c.args.kept.now.refs.items c.put_import.new.kept.refs.items was.refs plan put.refs;
+      code_sizes = ap (λ v. v.items) put.code_sizes ∙ plan.entries.code_sizes;
+    }
+
+work_now : (c : After-put_import) → IsImportPlan (desc_kind c.args.import.now.desc) (import_place c.args.import.now c.args.parts.now) c.args.parts.now c.in_ok-plan.plan
+    → ◌≡◌ {A = Work} (record { typed = c.typed.result; encoded = c.moved_count.result; sections = 1 + c.moved_sections.result }) (work_of (edits.Import c.args.import.now) c.args.parts.now (settle (after_import c.args.import.now c.args.parts.now)))
+work_now c plan =
+    let i = c.args.import.now in
+    let m = c.args.parts.now in
+    same_work c.typed.result c.moved_count.result (1 + c.moved_sections.result) (work_of (edits.Import i) m (settle (after_import i m)))
+    (omega (arith, c.typed.ensures, c.in_ok-judgement.ensures.typed))
+    (omega (arith, c.moved_count.ensures, plan.entries.moves))
+    (ap (λ (n : ℕ). 1 + n) (c.moved_sections.ensures.value (desc_kind i.desc) (import_place i m) m plan.lists))
+
+pub returns : goal.returns
+returns c =
+    let i = c.args.import.now in
+    let m = c.args.parts.now in
+    let plan = planned (goal.at.returns c).In_ok-plan (place (goal.at.returns c).After-import_count-from) in
+    let judged = c.in_ok-judgement.ensures in
+    let is = c.put_import.ensures.parts ∙ laid_parts c.moving_of_module.ensures.lists i m c.push_judged.new.parts c.in_ok-plan.plan judged.ok plan in
+    subst (λ (q : Parts). (made c.args.keep (edits.Import i) m ≡ Ok (settle q)) × (◌≡◌ {A = Work} (record { typed = c.typed.result; encoded = c.moved_count.result; sections = 1 + c.moved_sections.result }) (work_of (edits.Import i) m (settle q))) × IsFormed q × IsKept q c.put_import.new.kept)
+    (sym is) (
+      made_free c.args.keep i m plan.free ∙ judged.judgement.stands,
+      work_now (goal.at.returns c).After-put_import plan,
+      judged.formed,
+      kept_now (goal.at.returns c).After-put_import plan,
+    )

@@ -1,0 +1,37 @@
+use Rattle.std.proofs.Common.{◌≡◌, ◌-◌, ap, sym, ◌∙◌, map, take, length, List, count_by, arith}
+use Rattle.std.proofs.lemmas.Result.{IfOk-weaker, on_ok_weaker}
+use Rattle.wk_body.specs.declared.references.Ref.{Ref}
+use Rattle.wk_module.specs.Sections.{SectionLists}
+use Rattle.wk_check.specs.Answers.{Found}
+use Rattle.wk_check.specs.Spaces.{answer_in, spaces_of}
+use Rattle.wk_check.specs.SpacesLaws.{answers_of}
+use Rattle.wk_check.specs.Verdict.{func_verdict}
+use Rattle.wk_session.specs.Dependents.{is_retyped_in}
+use Rattle.wk_session.specs.Imported.{before_import}
+use Rattle.wk_session.proofs.ImportEdits.{before_finds}
+use Rattle.wk_session.proofs.edits.import.verdicts_beside.Goals as goal
+use Rattle.wk_session.proofs.edits.import.verdicts_beside.Goals.{In_ok-old}
+
+finds : (c : In_ok-old) → answer_in (spaces_of c.in_ok-old.old) ≡ answers_of (before_import c.args.parts.now)
+finds c =
+    let is = c.as_slice-imports.result.now in
+    before_finds c.args.parts.now c.in_ok-old.old c.deref.result.now is (c.deref.ensures.value ∙ c.requires.kept.types) c.as_slice-imports.ensures
+    (c.in_ok-old.ensures ∙ ap (λ (w : SectionLists). record w { imports = take (length is - 1) is }) c.of.ensures.lists)
+
+pub rejudged-requires-clause-were : goal.rejudged-requires-clause-were
+rejudged-requires-clause-were c =
+    c.requires.kept.verdicts ∙ ap (λ (A : Ref → Found). map (func_verdict A) c.args.parts.now.funcs) (sym (finds (goal.at.rejudged-requires-clause-were c).In_ok-old))
+
+pub returns-clause-verdicts : goal.returns-clause-verdicts
+returns-clause-verdicts c =
+    let now = ap (λ (w : SectionLists). map (func_verdict (answer_in (spaces_of w))) c.args.parts.now.funcs) c.in_ok-new.ensures in
+    IfOk-weaker c.rejudged.result _ _ (λ v e. e ∙ now) c.rejudged.ensures.verdicts
+
+pub returns-clause-typed : goal.returns-clause-typed
+returns-clause-typed c =
+    let fs = c.args.parts.now.funcs in
+    let new = answer_in (spaces_of c.in_ok-new.new) in
+    let A = answers_of (before_import c.args.parts.now) in
+    let old = ap (λ (B : Ref → Found). count_by (is_retyped_in B new) fs) (finds (goal.at.returns-clause-typed c).In_ok-old) in
+    let now = ap (λ (w : SectionLists). count_by (is_retyped_in A (answer_in (spaces_of w))) fs) c.in_ok-new.ensures in
+    on_ok_weaker c.rejudged.result (λ e. omega (arith, e, old, now, c.requires.fresh)) c.rejudged.ensures.typed

@@ -1,0 +1,57 @@
+-- A module with an import more, and what is planned before it stands.
+use Rattle.std.specs.Prelude.{◌≡◌, ◌≢◌, ◌⊎◌, ◌-◌, ℕ, Bool, true, false, Some, List, length, take, map, unwrap_or, Ok}
+use Rattle.std.specs.List.{list_any}
+use Rattle.wk_body.specs.Lengths.{limited}
+use Rattle.wk_module.specs.declared.types.Import.{Import}
+use Rattle.wk_module.specs.declared.types.Kind.{Kind}
+use Rattle.wk_module.specs.declared.types.Parts.{Parts}
+use Rattle.wk_module.specs.Changes.{with_import}
+use Rattle.wk_module.specs.Items.{desc_kind}
+use Rattle.wk_module.specs.Moving.{moved_parts, moved_lists, are_parts_stuck}
+use Rattle.wk_module.specs.Shape.{IsFormed, settle}
+use Rattle.wk_module.specs.Writing.{encoded}
+use Rattle.wk_check.specs.SpacesLaws.{answers_of}
+use Rattle.wk_check.specs.Verdict.{func_verdict, module_verdict}
+use Rattle.wk_session.specs.declared.edit.EditFault.{EditFault}
+use Rattle.wk_session.specs.declared.edit.EditFault.TheVariants.{IndexOverflow, TooLarge, Memory}
+use Rattle.wk_session.specs.declared.edits.import.ImportPlan.{ImportPlan}
+use Rattle.wk_session.specs.declared.edits.import.Judgement.{Judgement}
+use Rattle.wk_session.specs.declared.kept.Kept.{Kept}
+use Rattle.wk_session.specs.Edits.{import_place}
+use Rattle.wk_session.specs.Kept.{IsKept, standing}
+use Rattle.wk_session.specs.MovedEntries.{AreMovedEntries, is_too_long}
+
+-- the module with the import, and with each reference moved that it moves; its customs are not settled
+abbrev pub after_import : Import → Parts → Parts
+after_import i m = with_import i (moved_parts (desc_kind i.desc) (import_place i m) m)
+
+-- the module without its last import, as it was before that was pushed
+abbrev pub before_import : Parts → Parts
+before_import p = record p { imports = take (length p.imports - 1) p.imports }
+
+-- what an import of the kind at the index `from` makes of the lists and the code entries of a module
+pub record IsImportPlan (kind : Kind) (from : ℕ) (m : Parts) (plan : ImportPlan) : Type 0 where
+  pub free : are_parts_stuck kind from m ≡ false
+  pub lists : plan.lists ≡ moved_lists kind from m
+  pub entries : AreMovedEntries kind from m.funcs plan.entries
+
+-- why there is no such plan: a reference can't move, or a code gets too long; or memory was wanted
+abbrev pub IsUnplanned : Kind → ℕ → Parts → EditFault → Type 0
+IsUnplanned kind from m e =
+    e ≢ Memory
+    → ((e ≡ IndexOverflow) × (are_parts_stuck kind from m ≡ true))
+    ⊎ ((e ≡ TooLarge) × (are_parts_stuck kind from m ≡ false) × (list_any (is_too_long kind from) m.funcs ≡ true))
+
+-- The import is pushed on m, all else that it changes is planned, and beside it stands what is kept of m.
+pub record IsReady (i : Import) (m p : Parts) (k : Kept) (all : ImportPlan) : Type 0 where
+  pub pushed : p ≡ with_import i m
+  pub kept : IsKept m k
+  pub plan : IsImportPlan (desc_kind i.desc) (import_place i m) m all
+  pub formed : IsFormed (after_import i m)
+
+-- the module may stay, and what is to be kept of it; where no verdicts stand, those that are kept stay
+pub record IsJudgement (keep : Bool) (n : Parts) (k : Kept) (j : Judgement) : Type 0 where
+  pub stands : standing keep n ≡ Ok (settle n)
+  pub verdict : j.appraisal.verdict ≡ module_verdict n
+  pub len : limited (length (encoded n)) ≡ Some j.appraisal.len
+  pub verdicts : (unwrap_or j.verdicts k.verdicts).items ≡ map (func_verdict (answers_of n)) n.funcs
