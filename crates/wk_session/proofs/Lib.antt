@@ -13,3 +13,4 @@ pub mod ItemLengths
 pub mod Works
 pub mod Leading
 pub mod LastItems
+pub mod Removals
