@@ -14,3 +14,4 @@ pub mod Works
 pub mod Leading
 pub mod LastItems
 pub mod Removals
+pub mod Shrinking

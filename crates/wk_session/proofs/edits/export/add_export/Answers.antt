@@ -1,9 +1,10 @@
-use Rattle.std.proofs.Common.{◌≡◌, ◌∙◌, ℕ, sym, ap, subst, refl, arith, zero-add, length, Bool, true, false, None, Result, Ok, Err, count_by, [], ◌∷◌, ◌++◌}
+use Rattle.std.proofs.Common.{rules, ◌≡◌, ◌∙◌, ℕ, sym, ap, subst, refl, arith, zero-add, length, Bool, true, false, None, Result, Ok, Err, count_by, [], ◌∷◌, ◌++◌}
 use Rattle.std.proofs.lemmas.Result.{err_from_is_err_and}
 use Rattle.wk_module.specs.declared.types.Export.{Export}
 use Rattle.wk_module.specs.declared.types.Parts.{Parts}
 use Rattle.wk_module.specs.Changes.{with_export}
 use Rattle.wk_module.specs.ChangeLaws.{export_formed}
+use Rattle.wk_module.specs.Items.{IsExport}
 use Rattle.wk_module.specs.Sections.{ExportSection}
 use Rattle.wk_module.specs.Shape.{settle, IsFormed}
 use Rattle.wk_module.specs.Writing.{encoded}
@@ -52,7 +53,8 @@ returns c =
     let may = subst (λ (y : Export). IsAppraised c.args.keep (with_export y m) (Ok a)) c.in_ok-export.ensures c.in_ok-appraisal.ensures.appraised in
     let same = c.in_ok-appraisal.ensures.ok ∙ ap (λ (y : Export). with_export y m) c.in_ok-export.ensures in
     let few = room m ExportSection (limited-some (length (encoded m)) k.len c.requires.kept.len) in
-    let valid = rw c.in_ok-export.ensures at (c.as_str-_name.ensures.utf8) in
-    let formed : IsFormed n = ? in
+    let y = c.in_ok-export.export in
+    let valid : IsExport y = (c.as_str-name.ensures.utf8, search rules) in
+    let formed : IsFormed n = subst (λ (z : Export). IsFormed (with_export z m)) c.in_ok-export.ensures (export_formed y m few valid c.requires.shaped.formed) in
     let keeps = subst (IsKept n) (sym c.keep_appraisal.ensures) (appraised_kept c.args.keep (m.exports ++ x ∷ []) m k a c.requires.kept may) in
     accepted c.args.keep (edits.Export x) m n c.push_export.new.parts k c.keep_appraisal.new.kept (record { typed = 0; encoded = 0; sections = 1 }) same refl may.0 (export_work x m (settle n) (λ r. refl)) formed keeps
