@@ -1,5 +1,5 @@
 -- The first export of a name, taken out and put back.
-use Rattle.std.proofs.Common.{◌≡◌, ℕ, zero, suc, ◌+◌, ◌<◌, Bool, true, false, cond, if◌then◌else◌, Option, Some, None, List, [], ◌∷◌, length, get_or, refl, sym, ap, ◌∙◌, arith}
+use Rattle.std.proofs.Common.{◌≡◌, ℕ, zero, suc, ◌+◌, ◌<◌, Bool, true, false, cond, if◌then◌else◌, Option, Some, None, List, [], ◌∷◌, length, get_or, refl, ap, ◌∙◌, arith}
 use Rattle.std.specs.Prelude.{insert, remove, option_map}
 use Rattle.std.specs.List.{position_from}
 use Rattle.std.specs.Str.{bytes_eq}
@@ -60,10 +60,3 @@ without_found name es i is =
 
 pub without_missing : (name : List ℕ) (es : List Export) → position_from (λ e. bytes_eq e.name name) 0 es ≡ None → without_first name es ≡ None
 without_missing name es is = missing_from name es 0 is
-
--- ---- what is put back where it was
-
-pub back_again : {A : Type 0} (xs : List A) (i : ℕ) (x : A) → i < length xs → x ≡ get_or xs i x → insert (remove xs i) i x ≡ xs
-back_again [] i x within is = absurd (omega arith)
-back_again {A = A} (y ∷ xs) zero x within is = ap (λ (z : A). z ∷ xs) is
-back_again {A = A} (y ∷ xs) (suc i) x within is = ap (λ (ys : List A). y ∷ ys) (back_again xs i x (omega (arith, within)) is)

@@ -1,5 +1,5 @@
 -- A module without one of its exports is not too large where it was not.
-use Rattle.std.proofs.Common.{◌≡◌, ℕ, ◌≤◌, nat_le, Bool, Some, List, Result, Ok, Err, length, sym, ap, ◌∙◌, arith}
+use Rattle.std.proofs.Common.{◌≡◌, ℕ, ◌≤◌, nat_le, Bool, Some, List, Result, Ok, Err, length, sym, ap, arith}
 use Rattle.std.proofs.lemmas.Bool.{cond-true, le-leb}
 use Rattle.wk_bytes.specs.Frames.{limit}
 use Rattle.wk_bytes.specs.Leb.{◌>>=◌}

@@ -1,7 +1,6 @@
-use Rattle.std.proofs.Common.{rules, ◌≡◌, ◌∙◌, ℕ, sym, ap, subst, refl, arith, zero-add, length, Bool, true, false, None, Result, Ok, Err, count_by, [], ◌∷◌, ◌++◌}
+use Rattle.std.proofs.Common.{rules, ◌≡◌, ◌∙◌, sym, ap, subst, refl, length, false, Ok, Err, [], ◌∷◌, ◌++◌}
 use Rattle.std.proofs.lemmas.Result.{err_from_is_err_and}
 use Rattle.wk_module.specs.declared.types.Export.{Export}
-use Rattle.wk_module.specs.declared.types.Parts.{Parts}
 use Rattle.wk_module.specs.Changes.{with_export}
 use Rattle.wk_module.specs.ChangeLaws.{export_formed}
 use Rattle.wk_module.specs.Items.{IsExport}
@@ -9,7 +8,6 @@ use Rattle.wk_module.specs.Sections.{ExportSection}
 use Rattle.wk_module.specs.Shape.{settle, IsFormed}
 use Rattle.wk_module.specs.Writing.{encoded}
 use Rattle.wk_module.specs.WritingLaws.{room}
-use Rattle.wk_check.specs.SpacesLaws.{answers_of}
 use Rattle.wk_session.specs.declared.edit.Edit.TheVariants as edits
 use Rattle.wk_session.specs.Edits.{is_large, is_decided}
 use Rattle.wk_session.specs.Kept.{IsKept, IsAppraised}

@@ -1,8 +1,6 @@
-use Rattle.std.proofs.Common.{◌<◌, ◌^◌, ◌∙◌, ap, sym, length, arith, List}
+use Rattle.std.proofs.Common.{◌<◌, ◌^◌, ap, length, arith}
 use Rattle.std.proofs.lemmas.List.{length-map}
-use Rattle.wk_module.specs.declared.types.Export.{Export}
 use Rattle.wk_module.specs.declared.types.Func.{Func}
-use Rattle.wk_module.specs.Listed.{AreNumbered}
 use Rattle.wk_module.specs.NumberedLaws.{funcs_numbered, module_numbered_with}
 use Rattle.wk_module.specs.Sections.{SectionLists}
 use Rattle.wk_check.specs.SpacesLaws.{answers_of}

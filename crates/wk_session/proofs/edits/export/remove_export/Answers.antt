@@ -1,15 +1,13 @@
-use Rattle.std.proofs.Common.{◌≡◌, ◌∙◌, ℕ, sym, ap, subst, refl, length, Bool, true, false, Option, Some, None, Result, Ok, Err, List}
+use Rattle.std.proofs.Common.{◌≡◌, ◌∙◌, sym, ap, subst, refl, Option, Some, List}
 use Rattle.std.specs.Prelude.{remove}
 use Rattle.std.proofs.lemmas.Result.{err_from_is_err_and}
 use Rattle.wk_bytes.specs.Leb.{◌>>=◌}
 use Rattle.wk_module.specs.declared.types.Export.{Export}
-use Rattle.wk_module.specs.declared.types.Parts.{Parts}
 use Rattle.wk_module.specs.Changes.{without_first}
 use Rattle.wk_module.specs.ChangeLaws.{without_export_formed}
 use Rattle.wk_module.specs.Shape.{settle, IsFormed}
 use Rattle.wk_session.specs.declared.edit.Edit.TheVariants as edits
-use Rattle.wk_session.specs.declared.edit.EditFault.{EditFault}
-use Rattle.wk_session.specs.Edits.{is_none, is_decided, lasting, made, with_exports}
+use Rattle.wk_session.specs.Edits.{is_none, lasting, made, with_exports}
 use Rattle.wk_session.specs.Kept.{IsKept, standing}
 use Rattle.wk_session.proofs.Leading.{refused, appraised_kept, accepted}
 use Rattle.wk_session.proofs.Removals.{found_within, without_found, without_missing}
