@@ -8,10 +8,13 @@ pub mod Appraising
 pub mod CustomEdits
 pub mod WrittenBack
 pub mod Keeping
+pub mod Settling
+pub mod Leading
+pub mod Used
+pub mod Opening
 pub mod Lasting
 pub mod ItemLengths
 pub mod Works
-pub mod Leading
 pub mod LastItems
 pub mod Removals
 pub mod Shrinking

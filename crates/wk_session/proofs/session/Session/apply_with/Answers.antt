@@ -1,30 +1,21 @@
-use Rattle.std.proofs.Common.{rules, ◌≡◌, ◌≢◌, ◌<◌, ◌-◌, ◌^◌, false, true, IfOk, IfErr, OnOk, OnErr, length, option_map, slice_get, ℕ, ◌+◌, ◌*◌, ◌≤◌, ◌/◌, ◌%◌, Bool, nat_eq, nat_lt, List, [], ◌∷◌, ◌++◌, slice_index_or, slice_set, bit_and, bit_or, w8, w32, w64, Bor, MutBor}
-use Rattle.std.specs.Io.KnownBytes.{Appends}
-use Rattle.wk_bytes.specs.Stands.{StandsIn}
-use Rattle.wk_bytes.specs.Taken.{TakesFront}
-use Rattle.wk_body.specs.Reads.{Reads}
-use Rattle.wk_module.specs.declared.types.Parts.{Parts as PartsOf}
-use Rattle.wk_module.specs.Modules.{Spells, SpellsNone}
-use Rattle.wk_module.specs.Reading.{module_at}
+use Rattle.std.proofs.Common.{◌≡◌, sym, ap, subst, ◌∙◌}
+use Rattle.wk_module.specs.declared.types.Parts.{Parts}
 use Rattle.wk_module.specs.Shape.{IsShaped}
-use Rattle.wk_module.specs.Writing.{encoded, Fits}
-use Rattle.wk_check.specs.Verdict.{module_verdict}
-use Rattle.wk_list.specs.Listing.{listing}
-use Rattle.wk_list.specs.Taken.{failed_after}
-use Rattle.wk_session.specs.Edits.{is_decided}
-use Rattle.wk_session.specs.Kept.{IsKept, Leads, uses_of}
-use Rattle.wk_session.specs.Written.{Leaves, failures_after_write}
-use Rattle.wk_session.specs.Runs.{reply_of, after_one, is_memory, replies_of, after, refused_for_memory}
+use Rattle.wk_session.specs.Kept.{IsKept}
+use Rattle.wk_session.specs.Runs.{is_memory, reply_of}
+use Rattle.wk_session.proofs.Settling.{kept_after, reply_after}
 use Rattle.wk_session.proofs.session.Session.apply_with.Goals as goal
 
--- src/session.rt:204:13
 pub edit_parts-reply-requires-clause-kept : goal.edit_parts-reply-requires-clause-kept
-edit_parts-reply-requires-clause-kept c = ?
+edit_parts-reply-requires-clause-kept c = subst (λ (m : Parts). IsKept m c.self.inside.kept) (sym c.take_parts-parts.ensures.value) c.self.invariant
 
--- src/session.rt:198:5
 pub invariant_of-self : goal.invariant_of-self
-invariant_of-self c = ?
+invariant_of-self c =
+    let shaped : IsShaped c.take_parts-parts.result = subst IsShaped (sym c.take_parts-parts.ensures.value) c.take_parts-parts.ensures.shaped in
+    subst (λ (m : Parts). IsKept m c.edit_parts-reply.new.kept) (sym c.of.ensures)
+    (kept_after c.args.keep c.args.edit.now c.take_parts-parts.result c.edit_parts-reply.new.parts c.edit_parts-reply.new.kept c.edit_parts-reply.result shaped c.edit_parts-reply.ensures)
 
--- src/session.rt:198:5
 pub returns-clause-reply : goal.returns-clause-reply
-returns-clause-reply c = ?
+returns-clause-reply c =
+    reply_after c.args.keep c.args.edit.now c.take_parts-parts.result c.edit_parts-reply.new.parts c.edit_parts-reply.new.kept c.edit_parts-reply.result c.edit_parts-reply.ensures
+    ∙ ap (reply_of c.args.keep c.args.edit.now (is_memory c.edit_parts-reply.result)) (c.take_parts-parts.ensures.value ∙ c.self.view_is)
