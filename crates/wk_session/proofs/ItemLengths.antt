@@ -1,6 +1,6 @@
 -- How long a module gets with one item more in one of its lists.
-use Rattle.std.proofs.Common.{◌≡◌, ℕ, ◌+◌, ◌-◌, ◌≤◌, ◌<◌, ◌==◌, nat_le, inl, inr, Some, None, List, [], ◌∷◌, ◌++◌, length, map, refl, sym, ap, ◌∙◌, arith, length-append}
-use Rattle.std.specs.List.{flat_map, sum_by}
+use Rattle.std.proofs.Common.{◌≡◌, ℕ, ◌+◌, ◌-◌, ◌≤◌, ◌<◌, nat_le, inl, inr, Some, None, List, [], ◌∷◌, ◌++◌, length, sym, ap, ◌∙◌, arith, length-append}
+use Rattle.std.specs.List.{flat_map}
 use Rattle.std.proofs.lemmas.List.Concat.{flat_map-append}
 use Rattle.std.proofs.lemmas.Bool.{cases_eq, cond-false, lt-leb}
 use Rattle.wk_bytes.specs.Frames.{limit}
@@ -15,10 +15,10 @@ use Rattle.wk_module.specs.Changes.{with_type, with_export}
 use Rattle.wk_module.specs.Items.{written_export}
 use Rattle.wk_module.specs.Types.{written_functype}
 use Rattle.wk_module.specs.Shape.{IsInOrderFrom}
-use Rattle.wk_module.specs.Sizes.{framed_size, section_size, whole_size}
-use Rattle.wk_module.specs.Writing.{encoded, ids, list_contents}
+use Rattle.wk_module.specs.Sizes.{framed_size, section_size}
+use Rattle.wk_module.specs.Writing.{encoded, list_contents}
 use Rattle.wk_session.specs.ItemSizes.{size_with_item}
-use Rattle.wk_module.specs.WritingLaws.{written_frame, contents_size, length-encoded_sizes, size_some}
+use Rattle.wk_module.specs.WritingLaws.{length-encoded_sizes, size_some}
 
 -- ---- of a list
 
@@ -38,7 +38,7 @@ pub record AreTold {A : Type 0} (written : A → List ℕ) (xs : List A) (x : A)
   pub within : (contents : ℕ) → Some contents ≡ limited (length (list_contents written xs)) → section_size contents ≤ kept
   pub long : None ≡ limited (length (written x)) → None ≡ limited whole
   pub result : (contents item : ℕ) → Some contents ≡ limited (length (list_contents written xs)) → Some item ≡ limited (length (written x))
-    → limited (kept - section_size contents + framed_size (size_with_item contents (length xs) item)) ≡ limited whole
+      → limited (kept - section_size contents + framed_size (size_with_item contents (length xs) item)) ≡ limited whole
 
 module _ {A : Type 0} (written : A → List ℕ) where
   item_more : (xs : List A) (x : A) → length (list_contents written (xs ++ x ∷ [])) ≡ size_with_item (length (list_contents written xs)) (length xs) (length (written x))
@@ -80,9 +80,9 @@ module _ {A : Type 0} (written : A → List ℕ) where
       within = λ contents is. let same = limited_some contents (length (list_contents written xs)) is in rw (same.0, all.0) section_within;
       long = λ none. past_limit whole (omega (arith, limited_none (length (written x)) none, item_within));
       result = λ contents item is item_is.
-        let same = limited_some contents (length (list_contents written xs)) is in
-        let item_same = limited_some item (length (written x)) item_is in
-        rw (same.0, item_same.0, all.0) (ap limited (sym whole_is));
+          let same = limited_some contents (length (list_contents written xs)) is in
+          let item_same = limited_some item (length (written x)) item_is in
+          rw (same.0, item_same.0, all.0) (ap limited (sym whole_is));
     }
 
 -- ---- of a module, in its types or its exports

@@ -1,14 +1,16 @@
 -- What an edit leaves, by how judging the module that it makes was answered.
-use Rattle.std.proofs.Common.{◌≡◌, ◌≢◌, ℕ, Bool, true, false, Option, Some, None, Result, Ok, Err, length, refl, sym, ap, subst, ◌∙◌}
+use Rattle.std.proofs.Common.{◌≡◌, ◌≢◌, ℕ, Bool, true, false, Option, Some, None, List, Result, Ok, Err, length, refl, sym, ap, subst, ◌∙◌}
 use Rattle.std.specs.Option.{is_some}
 use Rattle.wk_bytes.specs.Leb.{◌>>=◌}
 use Rattle.wk_body.specs.declared.references.Ref.{Ref}
 use Rattle.wk_body.specs.Lengths.{limited}
+use Rattle.wk_module.specs.declared.types.Export.{Export}
 use Rattle.wk_module.specs.declared.types.Parts.{Parts}
 use Rattle.wk_module.specs.Shape.{settle, IsFormed, IsInOrderFrom}
 use Rattle.wk_module.specs.Writing.{encoded}
 use Rattle.wk_module.specs.WritingLaws.{length-encoded_settle}
 use Rattle.wk_check.specs.Answers.{Found}
+use Rattle.wk_session.specs.declared.appraisal.Appraisal.{Appraisal}
 use Rattle.wk_session.specs.declared.edit.Edit.{Edit}
 use Rattle.wk_session.specs.declared.edit.EditFault.{EditFault}
 use Rattle.wk_session.specs.declared.edit.EditFault.TheVariants.{TooLarge, Memory}
@@ -80,3 +82,14 @@ pub accepted : (keep : Bool) (e : Edit) (m n p : Parts) (k new : Kept) (w : Work
 accepted keep e m n p k new w same makes stands works formed kept =
     let at : Leads keep e m (Ok w) n new = (makes ∙ stands, works, formed, kept) in
     subst (λ (q : Parts). Leads keep e m (Ok w) q new) (sym same) at
+
+-- the same where the exports alone are others, which verdicts of bodies do not see
+pub appraised_kept : (keep : Bool) (es : List Export) (m : Parts) (k : Kept) (a : Appraisal) → IsKept m k → IsAppraised keep (record m { exports = es }) (Ok a) → IsKept (record m { exports = es }) (record k { verdict = a.verdict; len = a.len })
+appraised_kept keep es m k a kept may = record {
+  verdict = may.1;
+  len = may.2;
+  types = kept.types;
+  verdicts = kept.verdicts;
+  refs = kept.refs;
+  code_sizes = kept.code_sizes;
+}

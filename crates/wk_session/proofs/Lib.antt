@@ -23,3 +23,5 @@ pub mod BodyEdits
 pub mod ItemLengths
 pub mod Works
 pub mod LastItems
+pub mod Removals
+pub mod Shrinking

@@ -1,13 +1,15 @@
 -- The work of edits by which references find what they found, and no body is encoded.
 use Rattle.std.proofs.Common.{◌≡◌, ℕ, ◌+◌, Bool, false, cond, List, [], ◌∷◌, count_by, refl, sym, ap, ◌∙◌, zero-add, arith}
-use Rattle.std.specs.List.{list_any}
 use Rattle.std.proofs.lemmas.List.Sums.{sum_by-cons}
 use Rattle.wk_body.specs.declared.references.Ref.{Ref}
+use Rattle.wk_module.specs.declared.types.Export.{Export}
 use Rattle.wk_module.specs.declared.types.Func.{Func}
 use Rattle.wk_module.specs.declared.types.Parts.{Parts}
 use Rattle.wk_check.specs.Answers.{Found}
 use Rattle.wk_check.specs.Carried.{Agree}
+use Rattle.wk_check.specs.SpacesLaws.{answers_of}
 use Rattle.wk_session.specs.declared.edit.Edit.{Edit}
+use Rattle.wk_session.specs.declared.edit.Edit.TheVariants as edits
 use Rattle.wk_session.specs.declared.edit.Work.{Work}
 use Rattle.wk_session.specs.Dependents.{given, held, left, is_retyped, is_retyped_in, is_reencoded, sections_made, work_of}
 use Rattle.wk_session.proofs.Judging.{agree_none}
@@ -34,3 +36,18 @@ work_is e m n typed encoded sections is_typed is_encoded is_sections =
     ap (λ (t : ℕ). let w : Work = record { typed = t; encoded = encoded; sections = sections } in w) is_typed
     ∙ ap (λ (c : ℕ). let w : Work = record { typed = given e + count_by (is_retyped e m n) (left e m); encoded = c; sections = sections } in w) is_encoded
     ∙ ap (λ (s : ℕ). let w : Work = record { typed = given e + count_by (is_retyped e m n) (left e m); encoded = given e + count_by (is_reencoded e m) (left e m); sections = s } in w) is_sections
+
+-- edits of the exports, which no reference sees
+pub export_work : (x : Export) (m n : Parts) → ((r : Ref) → answers_of n r ≡ answers_of m r) → record { typed = 0; encoded = 0; sections = 1 } ≡ work_of (edits.Export x) m n
+export_work x m n same =
+    work_is (edits.Export x) m n 0 0 1
+    (sym (zero-add (count_by (is_retyped (edits.Export x) m n) m.funcs) ∙ count_zero (is_retyped (edits.Export x) m n) (not_retyped (answers_of m) (answers_of n) same) m.funcs))
+    (sym (zero-add (count_by (is_reencoded (edits.Export x) m) m.funcs) ∙ count_zero (is_reencoded (edits.Export x) m) (λ f. refl) m.funcs))
+    refl
+
+pub unexport_work : (name : List ℕ) (m n : Parts) → ((r : Ref) → answers_of n r ≡ answers_of m r) → record { typed = 0; encoded = 0; sections = 1 } ≡ work_of (edits.Unexport name) m n
+unexport_work name m n same =
+    work_is (edits.Unexport name) m n 0 0 1
+    (sym (zero-add (count_by (is_retyped (edits.Unexport name) m n) m.funcs) ∙ count_zero (is_retyped (edits.Unexport name) m n) (not_retyped (answers_of m) (answers_of n) same) m.funcs))
+    (sym (zero-add (count_by (is_reencoded (edits.Unexport name) m) m.funcs) ∙ count_zero (is_reencoded (edits.Unexport name) m) (λ f. refl) m.funcs))
+    refl

@@ -82,5 +82,10 @@ pub(crate) fn len_with_export(parts: &Parts, kept: &Kept, export: &Export) -> Op
     let Some(contents) = Lists::of(parts, &kept.types).contents_len(7) else {
         unreachable!()
     };
-    len_with_item(kept.len, contents, parts.exports.len() as u32, export_len(export)?)
+    len_with_item(
+        kept.len,
+        contents,
+        parts.exports.len() as u32,
+        export_len(export)?,
+    )
 }

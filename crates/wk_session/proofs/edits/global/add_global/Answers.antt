@@ -1,10 +1,8 @@
-use Rattle.std.proofs.Common.{◌≡◌, ◌≢◌, ◌∙◌, ◌<◌, ◌+◌, ◌^◌, ℕ, sym, ap, subst, refl, arith, zero-add, length, Bool, true, false, None, Result, Ok, Err, count_by, [], ◌∷◌, ◌++◌, length-append}
+use Rattle.std.proofs.Common.{◌≡◌, ◌≢◌, ◌∙◌, sym, ap, subst, refl, arith, zero-add, length, Result, Err, count_by}
 use Rattle.std.proofs.lemmas.Result.{err_from_is_err_and}
 use Rattle.std.proofs.lemmas.List.Sums.{count_by-le-length}
 use Rattle.wk_bytes.specs.Leb.{◌>>=◌}
 use Rattle.wk_body.specs.Tree.{Instrs}
-use Rattle.wk_module.specs.declared.types.GlobalDef.{GlobalDef}
-use Rattle.wk_module.specs.declared.types.Parts.{Parts}
 use Rattle.wk_module.specs.Changes.{with_global}
 use Rattle.wk_module.specs.ChangeLaws.{global_formed}
 use Rattle.wk_module.specs.NumberedLaws.{funcs_numbered}
@@ -17,8 +15,8 @@ use Rattle.wk_session.specs.declared.edit.Edit.TheVariants as edits
 use Rattle.wk_session.specs.declared.edit.EditFault.{EditFault}
 use Rattle.wk_session.specs.Dependents.{is_retyped_in, is_reencoded}
 use Rattle.wk_session.specs.Edits.{fitting, lasting, made}
-use Rattle.wk_session.specs.Judged.{AreKept, MayStay}
-use Rattle.wk_session.specs.Kept.{IsKept, IsAppraised, standing}
+use Rattle.wk_session.specs.Judged.{AreKept}
+use Rattle.wk_session.specs.Kept.{IsKept, standing}
 use Rattle.wk_session.proofs.Leading.{refused_for, refused, judged_kept, accepted}
 use Rattle.wk_session.proofs.Outcomes.{limited-some}
 use Rattle.wk_session.proofs.Works.{work_is, count_zero}

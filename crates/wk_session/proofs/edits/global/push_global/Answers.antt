@@ -1,8 +1,6 @@
-use Rattle.std.proofs.Common.{◌≡◌, ◌<◌, ◌+◌, ◌^◌, ℕ, List, [], ◌∷◌, ◌++◌, length, map, sym, ap, subst, ◌∙◌, arith, length-append}
+use Rattle.std.proofs.Common.{◌≡◌, List, length, map, sym, ap, subst, ◌∙◌}
 use Rattle.wk_body.specs.declared.references.Ref.{Ref}
 use Rattle.wk_module.specs.declared.types.GlobalDef.{GlobalDef}
-use Rattle.wk_module.specs.declared.types.Parts.{Parts}
-use Rattle.wk_module.specs.Changes.{with_global}
 use Rattle.wk_module.specs.Listed.{listed}
 use Rattle.wk_module.specs.Sections.{SectionLists, GlobalSection}
 use Rattle.wk_module.specs.Shape.{IsFormed}
@@ -14,7 +12,7 @@ use Rattle.wk_check.specs.Finds.{Grows}
 use Rattle.wk_check.specs.Spaces.{answer_in, spaces_of}
 use Rattle.wk_check.specs.SpacesLaws.{answers_of, global_grows}
 use Rattle.wk_check.specs.Verdict.{func_verdict}
-use Rattle.wk_session.specs.Judged.{AreKept, IsJudged}
+use Rattle.wk_session.specs.Judged.{IsJudged}
 use Rattle.wk_session.proofs.Outcomes.{limited-some}
 use Rattle.wk_session.proofs.LastItems.{but_last, globals_before}
 use Rattle.wk_session.proofs.edits.global.push_global.Goals as goal

@@ -17,8 +17,8 @@ fails_with _ e read other f = f
 pub returns-in-Err-clause-fault : goal.returns-in-Err-clause-fault
 returns-in-Err-clause-fault c =
     λ other.
-      let e = c.in-Err.fault in
-      let read : Result Instrs ReadFault = whole_at (all_expr_at c.args.profile) c.args.init.now in
-      let not_memory : e.kind ≢ Memory = λ wants. other (c.refusal_of.ensures.memory wants) in
-      let exact = rw c.as_slice.ensures at c.in-Err.ensures.exact in
-      ap from_bytes (fails_with e.kind e read not_memory exact) ∙ ap (λ (f : EditFault). let r : Result Instrs EditFault = Err f in r) (sym (c.refusal_of.ensures.bytes not_memory))
+    let e = c.in-Err.fault in
+    let read : Result Instrs ReadFault = whole_at (all_expr_at c.args.profile) c.args.init.now in
+    let not_memory : e.kind ≢ Memory = λ wants. other (c.refusal_of.ensures.memory wants) in
+    let exact = rw c.as_slice.ensures at c.in-Err.ensures.exact in
+    ap from_bytes (fails_with e.kind e read not_memory exact) ∙ ap (λ (f : EditFault). let r : Result Instrs EditFault = Err f in r) (sym (c.refusal_of.ensures.bytes not_memory))

@@ -1,4 +1,4 @@
-use Rattle.std.proofs.Common.{arith, ◌<◌, ◌^◌, ◌+◌, ℕ}
+use Rattle.std.proofs.Common.{arith, ◌+◌}
 use Rattle.wk_bytes.specs.ShortLaws.{short-few}
 use Rattle.wk_session.proofs.edits.item_len.contents_with_item.Goals as goal
 

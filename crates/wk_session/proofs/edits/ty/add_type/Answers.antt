@@ -1,8 +1,7 @@
-use Rattle.std.proofs.Common.{◌≡◌, ◌≢◌, ◌∙◌, ◌<◌, ◌+◌, ◌^◌, ℕ, sym, ap, subst, refl, arith, zero-add, length, Bool, true, false, None, Result, Ok, Err, count_by, [], ◌∷◌, ◌++◌, length-append}
+use Rattle.std.proofs.Common.{◌≡◌, ◌∙◌, sym, ap, subst, refl, arith, zero-add, length, false, Err, count_by, [], ◌∷◌, ◌++◌, length-append}
 use Rattle.std.proofs.lemmas.Result.{err_from_is_err_and}
 use Rattle.std.proofs.lemmas.List.Sums.{count_by-le-length}
 use Rattle.wk_module.specs.declared.types.FuncType.{FuncType}
-use Rattle.wk_module.specs.declared.types.Parts.{Parts}
 use Rattle.wk_module.specs.Changes.{with_type}
 use Rattle.wk_module.specs.NumberedLaws.{funcs_numbered}
 use Rattle.wk_module.specs.Sections.{TypeSection}
@@ -12,7 +11,6 @@ use Rattle.wk_module.specs.WritingLaws.{room}
 use Rattle.wk_module.specs.Writing.{encoded}
 use Rattle.wk_check.specs.SpacesLaws.{answers_of}
 use Rattle.wk_session.specs.declared.edit.Edit.TheVariants as edits
-use Rattle.wk_session.specs.declared.edit.EditFault.{EditFault}
 use Rattle.wk_session.specs.Dependents.{is_retyped_in, is_reencoded}
 use Rattle.wk_session.specs.Edits.{is_large, is_decided}
 use Rattle.wk_session.specs.Judged.{AreKept, MayStay}

@@ -1,0 +1,16 @@
+use Rattle.std.proofs.Common.{List, length, sym, subst, ◌∙◌}
+use Rattle.wk_module.specs.declared.types.Export.{Export}
+use Rattle.wk_module.specs.ChangeLaws.{export_formed}
+use Rattle.wk_module.specs.Sections.{ExportSection}
+use Rattle.wk_module.specs.Shape.{IsFormed}
+use Rattle.wk_module.specs.Writing.{encoded}
+use Rattle.wk_module.specs.WritingLaws.{room}
+use Rattle.wk_session.proofs.Outcomes.{limited-some}
+use Rattle.wk_session.proofs.edits.export.push_export.Goals as goal
+
+pub appraise_exports-appraised-requires-clause-formed : goal.appraise_exports-appraised-requires-clause-formed
+appraise_exports-appraised-requires-clause-formed c =
+    let m = c.args.parts.now in
+    let few = room m ExportSection (limited-some (length (encoded m)) c.args.kept.now.len c.requires.kept.len) in
+    let formed = export_formed c.args.export m few c.requires.valid c.requires.shaped.formed in
+    subst (λ (es : List Export). IsFormed (record m { exports = es })) (sym (c.as_slice.ensures ∙ c.in_ok-push.ensures.ok)) formed
