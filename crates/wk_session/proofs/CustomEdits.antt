@@ -1,5 +1,7 @@
 -- Custom sections changed, and what is kept then.
-use Rattle.std.proofs.Common.{◌≡◌, ◌≢◌, ℕ, ◌≤◌, Bool, false, List, [], ◌∷◌, not, filter, length, None, Option, Some, Result, Ok, Err, refl, sym, ap, subst, ◌∙◌, arith}
+use Rattle.std.proofs.Common.{◌≡◌, ◌≢◌, ℕ, ◌≤◌, Bool, true, false, if◌then◌else◌, List, [], ◌∷◌, not, filter, length, None, Option, Some, Result, Ok, Err, refl, sym, ap, subst, ◌∙◌, arith}
+use Rattle.std.specs.List.{list_any}
+use Rattle.wk_bytes.specs.Leb.{◌>>=◌}
 use Rattle.wk_body.specs.Lengths.{limited}
 use Rattle.wk_module.specs.declared.types.Custom.{Custom}
 use Rattle.wk_module.specs.declared.types.Parts.{Parts}
@@ -7,13 +9,16 @@ use Rattle.wk_module.specs.Shape.{IsFormed, settle}
 use Rattle.wk_module.specs.Writing.{encoded, Fits}
 use Rattle.wk_module.specs.WritingLaws.{length-encoded_filter, length-encoded_settle}
 use Rattle.wk_check.specs.Verdict.{module_verdict}
+use Rattle.wk_session.specs.declared.edit.Edit.TheVariants as edits
 use Rattle.wk_session.specs.declared.edit.EditFault.{EditFault}
-use Rattle.wk_session.specs.declared.edit.EditFault.TheVariants.{Memory}
+use Rattle.wk_session.specs.declared.edit.EditFault.TheVariants.{NoSuchCustom, Memory}
+use Rattle.wk_session.specs.declared.edit.Work.{Work}
 use Rattle.wk_session.specs.declared.kept.Kept.{Kept}
 use Rattle.wk_session.specs.Customs.{IsChecked, IsPut}
-use Rattle.wk_session.specs.Edits.{fitting}
-use Rattle.wk_session.specs.Kept.{IsKept, standing}
+use Rattle.wk_session.specs.Edits.{fitting, is_large, is_named, with_custom, without_customs, lasting, made}
+use Rattle.wk_session.specs.Kept.{IsKept, Leads, standing}
 use Rattle.wk_session.proofs.Outcomes.{fitting-kept}
+use Rattle.wk_session.proofs.Works.{set_work}
 
 pub filtered_fits : (keep : Custom → Bool) (m n : Parts) → n ≡ record m { customs = filter keep m.customs } → Fits m → Fits n
 filtered_fits keep m n is fits = omega (arith, fits, length-encoded_filter keep m, ap (λ (p : Parts). length (encoded p)) is)
@@ -40,12 +45,43 @@ customs_kept m cs k len kept is = record {
   code_sizes = kept.code_sizes;
 }
 
-module _ {A : Type 0} (keep : Bool) (m n : Parts) (k : Kept) where
-  put_refused : (r : Result A EditFault) (f : EditFault) → (y : EditFault) × (r ≡ Err y) × (y ≡ f) → IsPut {A} keep m n k (Err f) m k → IsPut keep m n k r m k
-  put_refused r f p at = subst (λ (q : Result A EditFault). IsPut keep m n k q m k) (sym (p.1 ∙ ap (λ (y : EditFault). let q : Result A EditFault = Err y in q) p.2)) at
+module _ {A : Type 0} (keep : Bool) (m n p : Parts) (k : Kept) (same : p ≡ m) where
+  put_refused : (r : Result A EditFault) (f : EditFault) → (y : EditFault) × (r ≡ Err y) × (y ≡ f) → (f ≢ Memory → standing keep n ≡ Err f) → (f ≡ Memory → fitting (settle n) ≡ Ok (settle n)) → IsPut keep m n k r p k
+  put_refused r f returns due fits =
+      let refused : Result A EditFault = Err f in
+      let at : IsPut keep m n k refused p k = (due, fits, same, refl) in
+      subst (λ (q : Result A EditFault). IsPut keep m n k q p k) (sym (returns.1 ∙ ap (λ (y : EditFault). let q : Result A EditFault = Err y in q) returns.2)) at
 
-  pub put_checked : (r : Result A EditFault) (f : EditFault) → (y : EditFault) × (r ≡ Err y) × (y ≡ f) → IsChecked keep n (Err f) → IsPut keep m n k r m k
-  put_checked r f p at = put_refused r f p ((λ other. at.1), (λ same. absurd (at.0 same)), refl, refl)
+  pub put_checked : (r : Result A EditFault) (f : EditFault) → (y : EditFault) × (r ≡ Err y) × (y ≡ f) → IsChecked keep n (Err f) → IsPut keep m n k r p k
+  put_checked r f returns at = put_refused r f returns (λ other. at.1) (λ wanted. absurd (at.0 wanted))
 
-  pub put_wanting : (r : Result A EditFault) (f : EditFault) → (y : EditFault) × (r ≡ Err y) × (y ≡ Memory) → fitting (settle n) ≡ Ok (settle n) → IsPut keep m n k r m k
-  put_wanting r f p fits = put_refused r Memory p ((λ other. absurd (other refl)), (λ same. fits), refl, refl)
+  pub put_wanting : (r : Result A EditFault) → (y : EditFault) × (r ≡ Err y) × (y ≡ Memory) → fitting (settle n) ≡ Ok (settle n) → IsPut keep m n k r p k
+  put_wanting r returns fits = put_refused r Memory returns (λ other. absurd (other refl)) (λ wanted. fits)
+
+-- ---- what an edit of customs makes
+
+-- customs of a name that are there are stripped
+pub stripped_made : (keep : Bool) (name : List ℕ) (m : Parts) → list_any (is_named name) m.customs ≡ true → made keep (edits.StripCustom name) m ≡ lasting keep (settle (without_customs name m))
+stripped_made keep name m is = ap (λ (b : Bool). (if b then Ok (settle (without_customs name m)) else Err NoSuchCustom) >>= lasting keep) is
+
+pub absent_made : (keep : Bool) (name : List ℕ) (m : Parts) → list_any (is_named name) m.customs ≡ false → made keep (edits.StripCustom name) m ≡ Err NoSuchCustom
+absent_made keep name m is = ap (λ (b : Bool). (if b then Ok (settle (without_customs name m)) else Err NoSuchCustom) >>= lasting keep) is
+
+-- what was put leads to the module with the custom
+pub put_leads : (keep : Bool) (name bytes : List ℕ) (m p : Parts) (k j : Kept) → standing keep (with_custom name bytes m) ≡ Ok (settle (with_custom name bytes m)) → p ≡ with_custom name bytes m
+    → IsFormed (with_custom name bytes m) → IsKept (with_custom name bytes m) j → Leads keep (edits.SetCustom name bytes) m (Ok (record { typed = 0; encoded = 0; sections = 1 })) p j
+put_leads keep name bytes m p k j stands same formed kept =
+    let e = edits.SetCustom name bytes in
+    let n = with_custom name bytes m in
+    let w : Work = record { typed = 0; encoded = 0; sections = 1 } in
+    let at : Leads keep e m (Ok w) n j = (stands, set_work name bytes m (settle n) (λ r. refl), formed, kept) in
+    subst (λ (q : Parts). Leads keep e m (Ok w) q j) (sym same) at
+
+pub put_refusal : (keep : Bool) (name bytes : List ℕ) (m p : Parts) (k j : Kept) (out : Result Work EditFault) (f : EditFault) → (y : EditFault) × (out ≡ Err y) × (y ≡ f) → IsKept m k
+    → (f ≢ Memory → standing keep (with_custom name bytes m) ≡ Err f) → (f ≡ Memory → fitting (settle (with_custom name bytes m)) ≡ Ok (settle (with_custom name bytes m))) → p ≡ m → j ≡ k
+    → Leads keep (edits.SetCustom name bytes) m out p j
+put_refusal keep name bytes m p k j out f returns kept due fits same stays =
+    let e = edits.SetCustom name bytes in
+    let refused : Result Work EditFault = Err f in
+    let at : Leads keep e m refused p j = (due, (λ wanted. ap is_large (fits wanted)), same, subst (IsKept m) (sym stays) kept) in
+    subst (λ (q : Result Work EditFault). Leads keep e m q p j) (sym (returns.1 ∙ ap (λ (y : EditFault). let q : Result Work EditFault = Err y in q) returns.2)) at

@@ -9,6 +9,7 @@ pub mod ImportOutcome
 pub mod RunSteps
 pub mod Outcomes
 pub mod Appraising
+pub mod Works
 pub mod CustomEdits
 pub mod CustomPuts
 pub mod WrittenBack
@@ -21,7 +22,6 @@ pub mod Lasting
 pub mod EntryEdits
 pub mod BodyEdits
 pub mod ItemLengths
-pub mod Works
 pub mod LastItems
 pub mod Removals
 pub mod Shrinking

@@ -51,3 +51,24 @@ unexport_work name m n same =
     (sym (zero-add (count_by (is_retyped (edits.Unexport name) m n) m.funcs) ∙ count_zero (is_retyped (edits.Unexport name) m n) (not_retyped (answers_of m) (answers_of n) same) m.funcs))
     (sym (zero-add (count_by (is_reencoded (edits.Unexport name) m) m.funcs) ∙ count_zero (is_reencoded (edits.Unexport name) m) (λ f. refl) m.funcs))
     refl
+
+pub set_work : (name bytes : List ℕ) (m n : Parts) → ((r : Ref) → answers_of n r ≡ answers_of m r) → record { typed = 0; encoded = 0; sections = 1 } ≡ work_of (edits.SetCustom name bytes) m n
+set_work name bytes m n same =
+    let e = edits.SetCustom name bytes in
+    work_is e m n 0 0 1
+    (sym (zero-add (count_by (is_retyped e m n) m.funcs) ∙ count_zero (is_retyped e m n) (λ f. not_retyped (answers_of m) (answers_of n) same f) m.funcs))
+    (sym (zero-add (count_by (is_reencoded e m) m.funcs) ∙ count_zero (is_reencoded e m) (λ f. refl) m.funcs)) refl
+
+pub strip_work : (name : List ℕ) (m n : Parts) → ((r : Ref) → answers_of n r ≡ answers_of m r) → record { typed = 0; encoded = 0; sections = 0 } ≡ work_of (edits.StripCustom name) m n
+strip_work name m n same =
+    let e = edits.StripCustom name in
+    work_is e m n 0 0 0
+    (sym (zero-add (count_by (is_retyped e m n) m.funcs) ∙ count_zero (is_retyped e m n) (not_retyped (answers_of m) (answers_of n) same) m.funcs))
+    (sym (zero-add (count_by (is_reencoded e m) m.funcs) ∙ count_zero (is_reencoded e m) (λ f. refl) m.funcs)) refl
+
+pub strip_all_work : (m n : Parts) → ((r : Ref) → answers_of n r ≡ answers_of m r) → record { typed = 0; encoded = 0; sections = 0 } ≡ work_of edits.StripAll m n
+strip_all_work m n same =
+    let e = edits.StripAll in
+    work_is e m n 0 0 0
+    (sym (zero-add (count_by (is_retyped e m n) m.funcs) ∙ count_zero (is_retyped e m n) (not_retyped (answers_of m) (answers_of n) same) m.funcs))
+    (sym (zero-add (count_by (is_reencoded e m) m.funcs) ∙ count_zero (is_reencoded e m) (λ f. refl) m.funcs)) refl

@@ -1,6 +1,6 @@
 //! Custom sections: other bytes for one, one more, or some less.
 
-ghost use Rattle.std.specs.Prelude.{◌≡◌, ◌-◌, ◌+◌, ◌<◌, ◌≤◌, ℕ, Some, [], ◌∷◌, ◌++◌, not, filter, map, length, position, OnOk, OnErr};
+ghost use Rattle.std.specs.Prelude.{◌≡◌, ◌-◌, ◌+◌, ◌<◌, ◌≤◌, ℕ, Some, [], ◌∷◌, ◌++◌, not, filter, map, length, position, IfSome, OnOk, OnErr};
 ghost use Rattle.std.specs.List.{list_any};
 ghost use Rattle.wk_bytes.specs.Frames.{limit};
 ghost use Rattle.wk_body.specs.Lengths.{limited};
@@ -12,7 +12,7 @@ ghost use Rattle.wk_check.specs.Verdict.{module_verdict};
 ghost use Rattle.wk_module.specs.WritingLaws.{written_frame};
 ghost use Rattle.wk_session.specs.declared.edit.Edit.{Edit};
 ghost use Rattle.wk_session.specs.Customs.{MayLast, IsChecked, IsPut, bytes_at, last_custom};
-ghost use Rattle.wk_session.specs.Edits.{is_named, without_customs};
+ghost use Rattle.wk_session.specs.Edits.{is_named, with_custom, without_customs};
 ghost use Rattle.wk_session.specs.Kept.{IsKept, Leads, code_size};
 
 use crate::edit::{EditFault, Reply, Work};
@@ -105,7 +105,8 @@ fn remove_customs(alloc: Global, parts: &mut Parts, name: &Text)
 
 // Where the first custom section of the name stands among them.
 fn find_custom(parts: &Parts, name: &Text) -> Option<usize>
-    ensures { result ≡ position (is_named name.now) parts.now.customs }
+    ensures place { result ≡ position (is_named name.now) parts.now.customs }
+    ensures within { IfSome result (λ i. i < length parts.now.customs) }
 {
     parts
         .customs
@@ -230,6 +231,25 @@ fn append_custom(
     Ok(())
 }
 
+// Gives the first custom section of a name these bytes, or appends one, unless the module is then too large or may not stay.
+fn put_custom(
+    alloc: Global,
+    keep: bool,
+    parts: &mut Parts,
+    kept: &mut Kept,
+    name: &Text,
+    bytes: &Items<u8>,
+) -> Result<(), EditFault>
+    requires shaped { IsShaped parts.old }
+    requires kept { IsKept parts.old kept.old }
+    ensures { IsPut keep parts.old (with_custom name.now bytes.now parts.old) kept.old result parts.new kept.new }
+{
+    match find_custom(parts, name) {
+        Some(index) => replace_bytes(alloc, keep, parts, kept, index, bytes),
+        None => append_custom(alloc, keep, parts, kept, name, bytes),
+    }
+}
+
 /// Gives the first custom section of a name other bytes, or appends one.
 pub(crate) fn set_custom(
     alloc: Global,
@@ -243,10 +263,7 @@ pub(crate) fn set_custom(
     requires kept { IsKept parts.old kept.old }
     ensures { Leads keep (Edit.SetCustom name.now bytes.now) parts.old result parts.new kept.new }
 {
-    match find_custom(parts, name) {
-        Some(index) => replace_bytes(alloc, keep, parts, kept, index, bytes)?,
-        None => append_custom(alloc, keep, parts, kept, name, bytes)?,
-    }
+    put_custom(alloc, keep, parts, kept, name, bytes)?;
     Ok(work_on(1))
 }
 

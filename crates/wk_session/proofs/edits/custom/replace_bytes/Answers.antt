@@ -13,7 +13,7 @@ returns-in_err-len c =
     let m = c.args.parts.now in
     let n : Parts = record m { customs = bytes_at c.args.index c.args.bytes.now m.customs } in
     let checked = c.in_err-len.ensures n (bytes_formed c.args.index c.args.bytes.now m c.requires.shaped.formed) (sym c.requires.kept.verdict) c.len_with_bytes-len.ensures in
-    put_checked c.args.keep m n c.args.kept.now c.from_residual.result c.in_err-len.field-0.0 (err_from_is_err_and c.from_residual.result c.from_residual.ensures.1) checked
+    put_checked c.args.keep m n c.args.parts.now c.args.kept.now refl c.from_residual.result c.in_err-len.field-0.0 (err_from_is_err_and c.from_residual.result c.from_residual.ensures.1) checked
 
 pub returns-in_err-bytes : goal.returns-in_err-bytes
 returns-in_err-bytes c =
@@ -22,7 +22,7 @@ returns-in_err-bytes c =
     let formed = bytes_formed c.args.index c.args.bytes.now m c.requires.shaped.formed in
     let checked = c.in_ok-len.ensures n formed (sym c.requires.kept.verdict) c.len_with_bytes-len.ensures in
     let result = c.from_residual-in_err-bytes.result in
-    put_wanting c.args.keep m n c.args.kept.now result _ (err_from_is_err_and result c.from_residual-in_err-bytes.ensures.1) (fits_settled n c.in_ok-len.len formed checked.1)
+    put_wanting c.args.keep m n c.args.parts.now c.args.kept.now refl result (err_from_is_err_and result c.from_residual-in_err-bytes.ensures.1) (fits_settled n c.in_ok-len.len formed checked.1)
 
 pub returns : goal.returns
 returns c =
