@@ -1,12 +1,10 @@
 -- An import more.
-use Rattle.std.proofs.Common.{◌≡◌, ℕ, ◌+◌, ◌-◌, ◌^◌, ◌<◌, ◌≤◌, Bool, true, false, ◌||◌, if◌then◌else◌, cond, List, [], ◌∷◌, ◌++◌, length, map, take, get_or, count_by, Option, Some, None, unwrap_or, is_some, Result, Ok, Err, refl, ap, sym, subst, ◌∙◌, arith, length-append}
+use Rattle.std.proofs.Common.{◌≡◌, ℕ, ◌-◌, ◌^◌, ◌<◌, Bool, true, false, ◌||◌, if◌then◌else◌, cond, List, [], ◌∷◌, ◌++◌, length, map, take, count_by, Err, refl, ap, sym, subst, ◌∙◌, arith, length-append}
 use Rattle.std.specs.List.{list_any, AllByRecursion}
 use Rattle.std.proofs.lemmas.List.{length-map}
 use Rattle.std.proofs.lemmas.List.Sums.{sum_by-cons}
 use Rattle.std.proofs.Math.Seq.{take-append_seam}
-use Rattle.std.proofs.lemmas.Bool.{or_parts, lt-leb, leb-true, leb-false, cond-false, cond-true}
 use Rattle.wk_bytes.specs.Leb.{◌>>=◌}
-use Rattle.wk_bytes.specs.Frames.{limit}
 use Rattle.wk_body.specs.declared.moves.Moving.TheVariants as moving
 use Rattle.wk_body.specs.declared.references.Ref.{Ref}
 use Rattle.wk_body.specs.declared.references.Ref.TheVariants as refs
@@ -28,30 +26,29 @@ use Rattle.wk_module.specs.Imports.{import_count}
 use Rattle.wk_module.specs.ChangeLaws.{import_formed}
 use Rattle.wk_module.specs.Items.{desc_kind, IsImport}
 use Rattle.wk_module.specs.Listed.{AreNumbered, listed_with}
-use Rattle.wk_module.specs.MovedLaws.{types_stay, moved_lent}
-use Rattle.wk_module.specs.Moving.{moved_func, moved_parts, moved_lists, with_moved, with_lists, is_code_moving, is_code_stuck, are_lists_stuck, are_parts_stuck}
+use Rattle.wk_module.specs.MovedLaws.{types_stay}
+use Rattle.wk_module.specs.Moving.{moved_func, moved_parts, moved_lists, with_moved, with_lists, is_code_stuck, are_parts_stuck}
 use Rattle.wk_module.specs.NumberedLaws.{funcs_numbered, module_numbered_with}
 use Rattle.wk_module.specs.Sections.{SectionLists, ImportSection}
 use Rattle.wk_module.specs.Shape.{IsFormed, settle}
 use Rattle.wk_module.specs.Writing.{encoded}
-use Rattle.wk_module.specs.WritingLaws.{code_within, length-encoded_settle, room}
+use Rattle.wk_module.specs.WritingLaws.{room}
 use Rattle.wk_check.specs.Answers.{Found}
 use Rattle.wk_check.specs.declared.fault.BodyVerdict.{BodyVerdict}
 use Rattle.wk_check.specs.Finds.{Grows}
 use Rattle.wk_check.specs.Spaces.{answer_in, spaces_of}
-use Rattle.wk_check.specs.Carried.{moved_ref, Agree, AgreeMoved, KeepsMoved}
+use Rattle.wk_check.specs.Carried.{moved_ref, KeepsMoved}
 use Rattle.wk_check.specs.SpacesLaws.{answers_of, func_import_moves, global_import_moves, table_import_grows, memory_import_grows}
 use Rattle.wk_check.specs.Verdict.{func_verdict}
 use Rattle.wk_session.specs.declared.edit.Edit.TheVariants as edits
-use Rattle.wk_session.specs.declared.edit.EditFault.{EditFault}
-use Rattle.wk_session.specs.declared.edit.EditFault.TheVariants.{IndexOverflow, TooLarge}
+use Rattle.wk_session.specs.declared.edit.EditFault.TheVariants.{IndexOverflow}
 use Rattle.wk_session.specs.declared.edits.import.ImportPlan.{ImportPlan}
 use Rattle.wk_session.specs.declared.kept.Kept.{Kept}
-use Rattle.wk_session.specs.Dependents.{held, ref_moved, is_retyped, answers_after, differs_in, is_retyped_in}
+use Rattle.wk_session.specs.Dependents.{held, ref_moved, is_retyped, answers_after, is_retyped_in}
 use Rattle.wk_session.specs.Edits.{import_place, made, lasting, fitting}
 use Rattle.wk_session.specs.Imported.{after_import, before_import, IsImportPlan, IsReady}
-use Rattle.wk_session.specs.Kept.{IsKept, uses_of, code_size, standing}
-use Rattle.wk_session.specs.MovedEntries.{uses_movement, with_items, is_too_long}
+use Rattle.wk_session.specs.Kept.{IsKept, uses_of, standing}
+use Rattle.wk_session.specs.MovedEntries.{uses_movement}
 use Rattle.wk_session.proofs.Judging.{agree_none}
 use Rattle.wk_session.proofs.MovedCode.{uses_as_code, any_told}
 

@@ -1,5 +1,5 @@
 -- What an import comes to: why it is refused, or what is left of the module and beside it.
-use Rattle.std.proofs.Common.{◌≡◌, ℕ, suc, ◌+◌, ◌<◌, ◌≤◌, Bool, true, false, ◌||◌, if◌then◌else◌, inl, inr, List, [], ◌∷◌, ◌++◌, length, map, get_or, count_by, Option, Some, unwrap_or, is_some, Result, Ok, Err, Global, refl, ap, sym, subst, ◌∙◌, arith, length-append}
+use Rattle.std.proofs.Common.{◌≡◌, ℕ, suc, ◌<◌, Bool, true, ◌||◌, if◌then◌else◌, inl, inr, List, [], ◌∷◌, length, map, get_or, Ok, Err, Global, refl, ap, sym, subst, ◌∙◌, arith, length-append}
 use Rattle.std.specs.Prelude.{◌≢◌, nat_lt, option_map}
 use Rattle.std.specs.List.{list_any}
 use Rattle.std.specs.declared.collections.BTreeSet.{BTreeSet}
@@ -16,8 +16,7 @@ use Rattle.wk_module.specs.declared.types.Kind.{Kind}
 use Rattle.wk_module.specs.declared.types.Parts.{Parts}
 use Rattle.wk_module.specs.Changes.{with_import}
 use Rattle.wk_module.specs.Items.{desc_kind}
-use Rattle.wk_module.specs.MovedLaws.{types_stay}
-use Rattle.wk_module.specs.Moving.{moved_func, moved_parts, moved_lists, with_lists, are_parts_stuck}
+use Rattle.wk_module.specs.Moving.{moved_func, moved_parts, with_lists}
 use Rattle.wk_module.specs.Shape.{IsFormed, IsInOrderFrom, settle}
 use Rattle.wk_module.specs.Writing.{encoded}
 use Rattle.wk_module.specs.WritingLaws.{code_within, length-encoded_settle}
@@ -26,10 +25,9 @@ use Rattle.wk_session.specs.declared.edit.EditFault.{EditFault}
 use Rattle.wk_session.specs.declared.edit.EditFault.TheVariants.{TooLarge, Memory}
 use Rattle.wk_session.specs.declared.edit.Work.{Work}
 use Rattle.wk_session.specs.declared.edits.import.ImportPlan.{ImportPlan}
-use Rattle.wk_session.specs.declared.kept.Kept.{Kept}
 use Rattle.wk_session.specs.Edits.{import_place, made, lasting}
 use Rattle.wk_session.specs.Imported.{after_import, IsImportPlan, IsUnplanned}
-use Rattle.wk_session.specs.Kept.{IsKept, uses_of, code_size, standing}
+use Rattle.wk_session.specs.Kept.{uses_of, code_size, standing}
 use Rattle.wk_session.specs.MovedEntries.{with_items, is_too_long}
 use Rattle.wk_session.proofs.ImportEdits.{AreLaid, made_free, made_stuck}
 use Rattle.wk_session.proofs.Replacing.{map-with_items}

@@ -1,20 +1,19 @@
 -- What an import moves of code entries.
-use Rattle.std.proofs.Common.{◌≡◌, ℕ, suc, ◌+◌, ◌<◌, ◌≤◌, Bool, true, false, cond, ◌||◌, List, [], ◌∷◌, ◌++◌, length, map, take, get_or, count_by, Option, Some, None, unwrap_or, is_some, Global, refl, ap, sym, subst, ◌∙◌, arith, length-append}
+use Rattle.std.proofs.Common.{◌≡◌, ℕ, ◌+◌, ◌<◌, Bool, cond, ◌||◌, List, [], ◌∷◌, ◌++◌, length, map, take, get_or, count_by, Option, unwrap_or, is_some, Global, refl, ap, sym, subst, ◌∙◌, arith, length-append}
 use Rattle.std.specs.Prelude.{option_map}
 use Rattle.std.specs.declared.collections.BTreeSet.{BTreeSet}
-use Rattle.std.specs.List.{list_any, sum_by}
+use Rattle.std.specs.List.{list_any}
 use Rattle.std.proofs.lemmas.List.{take_more, map_push, length-map}
 use Rattle.std.proofs.lemmas.List.Sums.{sum_by-append}
 use Rattle.wk_body.specs.declared.moves.Moving.TheVariants as moving
 use Rattle.wk_body.specs.declared.moves.Movement.{Movement}
 use Rattle.wk_body.specs.declared.references.Ref.{Ref}
-use Rattle.wk_body.specs.Moves.{movement_of, MoveAlike}
+use Rattle.wk_body.specs.Moves.{MoveAlike}
 use Rattle.wk_body.specs.References.{refs_of, AreSame}
 use Rattle.wk_module.specs.declared.types.Func.{Func}
 use Rattle.wk_module.specs.declared.types.Kind.{Kind}
 use Rattle.wk_module.specs.declared.types.Kind.TheVariants as kinds
 use Rattle.wk_module.specs.Moving.{moved_func, is_code_moving, is_code_stuck}
-use Rattle.wk_list.specs.Uses.{in_order}
 use Rattle.wk_list.specs.UsesLaws.{in_order_same}
 use Rattle.wk_session.specs.declared.edits.moved.MovedEntry.{MovedEntry}
 use Rattle.wk_session.specs.declared.edits.moved.MovedEntries.{MovedEntries}

@@ -1,5 +1,5 @@
 -- A module with an import more, and what is planned before it stands.
-use Rattle.std.specs.Prelude.{◌≡◌, ◌≢◌, ◌⊎◌, ◌-◌, ℕ, Bool, true, false, Some, List, length, take, map, unwrap_or, Ok}
+use Rattle.std.specs.Prelude.{◌≡◌, ◌≢◌, ◌⊎◌, ◌-◌, ℕ, Bool, true, false, Some, length, take, map, unwrap_or, Ok}
 use Rattle.std.specs.List.{list_any}
 use Rattle.wk_body.specs.Lengths.{limited}
 use Rattle.wk_module.specs.declared.types.Import.{Import}

@@ -1,4 +1,4 @@
-use Rattle.std.proofs.Common.{◌≡◌, ◌||◌, Bool, sym, ap, ◌∙◌, refl, true, false}
+use Rattle.std.proofs.Common.{◌||◌, Bool, sym, ap, ◌∙◌, refl}
 use Rattle.wk_module.specs.Moving.{are_lists_stuck}
 use Rattle.wk_session.proofs.ImportEdits.{sets_stuck}
 use Rattle.wk_session.proofs.edits.import.lists_after.Goals as goal

@@ -1,4 +1,4 @@
-use Rattle.std.proofs.Common.{◌≡◌, ap, sym, ◌∙◌, List, ◌++◌, ◌∷◌, [], count_by}
+use Rattle.std.proofs.Common.{◌≡◌, ap, ◌∙◌, List, ◌++◌, ◌∷◌, [], count_by}
 use Rattle.std.proofs.lemmas.Result.{on_ok_weaker}
 use Rattle.wk_module.specs.declared.types.Import.{Import}
 use Rattle.wk_module.specs.declared.types.Parts.{Parts}

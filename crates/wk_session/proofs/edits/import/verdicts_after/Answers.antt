@@ -1,5 +1,4 @@
-use Rattle.std.proofs.Common.{◌≡◌, ap, sym, ◌∙◌, map, subst, List, count_by}
-use Rattle.wk_module.specs.declared.types.Func.{Func}
+use Rattle.std.proofs.Common.{ap, sym, ◌∙◌, map, subst, count_by}
 use Rattle.wk_module.specs.Sections.{SectionLists}
 use Rattle.wk_check.specs.Finds.{Grows}
 use Rattle.wk_check.specs.Spaces.{answer_in, spaces_of}

@@ -1,4 +1,4 @@
-use Rattle.std.proofs.Common.{◌≡◌, ◌≤◌, ◌<◌, length, arith, ap, sym, ◌∙◌, List, [], ◌∷◌, ◌++◌, Some, None, Option, length-append, length-set}
+use Rattle.std.proofs.Common.{◌≡◌, ◌<◌, length, arith, ap, sym, ◌∙◌, [], ◌∷◌, Some, None, length-append, length-set}
 use Rattle.wk_session.specs.MovedEntries.{with_items}
 use Rattle.wk_session.proofs.Replacing.{with_items_all, with_items_none, with_items_some, empty_list}
 use Rattle.wk_session.proofs.edits.moved.replace_each.Goals as goal
