@@ -5,4 +5,6 @@ pub mod ReportSteps
 pub mod OutcomeLemmas
 pub mod Joining
 pub mod WordLaws
+pub mod NumberLaws
+pub mod EditLaws
 pub mod ScriptLaws

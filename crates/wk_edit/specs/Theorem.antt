@@ -1,0 +1,66 @@
+-- What the main call does, from bytes to bytes, in the words of the grammars. `edit` and `edit_in` promise `IsReport` of the outcome that
+-- they write, wherever they wrote anything; `keep` says whether each edit has to leave a valid module.
+use Rattle.std.specs.Prelude.{◌≡◌, ◌≢◌, ◌⊎◌, Bool, Option, Some, None, List, [], ℕ}
+use Rattle.wk_bytes.specs.declared.fault.ReadFault.{ReadFault}
+use Rattle.wk_bytes.specs.declared.fault.ReadKind.TheVariants as kinds
+use Rattle.wk_bytes.specs.Stands.{StandsIn}
+use Rattle.wk_body.specs.declared.types.Profile.{Profile}
+use Rattle.wk_module.specs.declared.types.Parts.{Parts}
+use Rattle.wk_module.specs.Modules.{Spells, SpellsNone}
+use Rattle.wk_module.specs.Writing.{encoded}
+use Rattle.wk_check.specs.Verdict.{module_verdict}
+use Rattle.wk_session.specs.declared.edit.Edit.{Edit}
+use Rattle.wk_session.specs.Runs.{replies_of, after}
+use Rattle.wk_edit.specs.declared.fault.ScriptFault.{ScriptFault}
+use Rattle.wk_edit.specs.declared.fault.Status.TheVariants.{Malformed, BadScript}
+use Rattle.wk_edit.specs.Outcome.{Outcome, out_of, run_status}
+use Rattle.wk_edit.specs.ReportText.{malformed_text, script_text, report_text}
+use Rattle.wk_edit.specs.ScriptGrammar.{IsScript, IsOnlyScript, IsNoScript, IsFaultOf}
+
+-- The input spells no module of the profile. Nothing is written of one, and the report is one line, with a fault that stands in the input
+-- and is never want of memory.
+pub record IsMalformed (profile : Profile) (input : List ℕ) (o : Outcome) : Type 0 where
+  pub fault : ReadFault
+  pub none : SpellsNone profile input
+  pub stands : StandsIn input fault
+  pub other : fault.kind ≢ kinds.Memory
+  pub out : out_of o ≡ []
+  pub report : o.report ≡ malformed_text fault
+  pub status : o.status ≡ Malformed
+
+-- The input spells a module, and the script is none. Nothing is written of a module, and the report is one line, with the script's first
+-- faulty line.
+pub record IsBadScript (script : List ℕ) (o : Outcome) : Type 0 where
+  pub fault : ScriptFault
+  pub none : IsNoScript script
+  pub first : IsFaultOf script fault
+  pub out : out_of o ≡ []
+  pub report : o.report ≡ script_text fault
+  pub status : o.status ≡ BadScript
+
+-- The script spells edits, and no others. They are made in order on the module that the input spells, where one that is refused leaves it as it was. What
+-- is written spells the module that they make, and no other of its profile. The report has a line for each edit, and last the verdict on
+-- that module.
+pub record IsRun (keep : Bool) (m : Parts) (script : List ℕ) (o : Outcome) : Type 0 where
+  pub edits : List Edit
+  pub spelled : IsScript script edits
+  pub only : IsOnlyScript script edits
+  pub edited : Parts
+  pub made : edited ≡ after keep edits [] m
+  pub out : out_of o ≡ encoded edited
+  pub spells : Spells (out_of o) edited
+  pub alone : (n : Parts) → n.profile ≡ edited.profile → Spells (out_of o) n → n ≡ edited
+  pub report : o.report ≡ report_text 1 (replies_of keep edits [] m) (module_verdict edited)
+  pub status : o.status ≡ run_status (replies_of keep edits [] m) (module_verdict edited)
+
+-- The input spells a module of the profile, and no other.
+pub record IsRead (profile : Profile) (input : List ℕ) (m : Parts) : Type 0 where
+  pub profile_is : m.profile ≡ profile
+  pub spelled : Spells input m
+  pub only : (n : Parts) → n.profile ≡ profile → Spells input n → n ≡ m
+
+-- The module is read first, then the script.
+abbrev pub IsReport : Bool → Profile → List ℕ → List ℕ → Outcome → Type 0
+IsReport keep profile input script o =
+    IsMalformed profile input o
+    ⊎ ((m : Parts) × IsRead profile input m × (IsBadScript script o ⊎ IsRun keep m script o))
