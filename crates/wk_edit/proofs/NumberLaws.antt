@@ -1,14 +1,14 @@
 -- Numbers in decimal.
-use Rattle.std.proofs.Common.{◌≡◌, ◌&&◌, ◌<◌, ◌^◌, ℕ, nat_lt, Bool, true, false, cond, List, Option, Some, None, Result, Ok, Err, refl, sym, ap, subst, ◌∙◌, arith}
+use Rattle.std.proofs.Common.{◌≡◌, ◌&&◌, ◌<◌, ◌^◌, ℕ, nat_lt, Bool, true, false, cond, List, [], ◌∷◌, Option, Some, None, Result, Ok, Err, refl, sym, ap, subst, ◌∙◌, arith}
 use Rattle.std.specs.Prelude.{decimal}
 use Rattle.std.specs.Str.{IsUtf8, bytes_eq}
-use Rattle.std.specs.Str.Parse.{digits_value, ParsesUnsigned}
+use Rattle.std.specs.Str.Parse.{AllDigits, digits_value, ParsesUnsigned}
 use Rattle.std.proofs.lemmas.Fmt.{IsAscii-decimal, decimal_is_IsNumeral, parse-decimal}
 use Rattle.std.proofs.lemmas.Slice.Eq.{bytes_eq-Decides}
 use Rattle.std.proofs.lemmas.Str.{IsUtf8-from_ascii}
-use Rattle.std.specs.Int.{IsInRange}
 use Rattle.std.specs.List.{AllPass}
-use Rattle.std.proofs.lemmas.Str.Parse.{digit_at}
+use Rattle.std.proofs.lemmas.List.Elements.{All-nil, All-cons}
+use Rattle.std.proofs.lemmas.Str.Parse.{digit_from_value}
 use Rattle.wk_edit.specs.Words.{is_graphic, number_of}
 
 -- a word that says a number is its text
@@ -45,11 +45,14 @@ number_none w never = by (number_of w) refl
 pub number_not_text : (w : List ℕ) → ¬ (IsUtf8 w) → None ≡ number_of w
 number_not_text w bad = number_none w (λ n is small. bad (subst IsUtf8 (sym is) (IsUtf8-from_ascii (decimal n) (IsAscii-decimal n (omega (arith, small))))))
 
+graphic_digits : (ds : List ℕ) → AllDigits 10 ds → AllPass is_graphic ds
+graphic_digits [] h = All-nil (λ x. is_graphic x ≡ true)
+graphic_digits (c ∷ cs) h =
+    let range = digit_from_value c h.0 in
+    All-cons (λ x. is_graphic x ≡ true) c cs (grind (arith, range.0, range.1)) (graphic_digits cs h.1)
+
 pub graphic_number : (n : ℕ) → n < 2 ^ 32 → AllPass is_graphic (decimal n)
-graphic_number n small k d within = graphic_digit _ (digit_at (decimal n) k (decimal_is_IsNumeral n (omega (arith, small))).0.1 within)
-  where
-    graphic_digit : (x : ℕ) → IsInRange 48 57 x → is_graphic x ≡ true
-    graphic_digit x within = grind (arith, within.0, within.1)
+graphic_number n small = graphic_digits (decimal n) (decimal_is_IsNumeral n (omega (arith, small))).0.1
 
 -- ---- what was parsed
 

@@ -1,4 +1,3 @@
-use Rattle.std.proofs.Common.{sym, ◌∙◌}
 use Rattle.wk_edit.proofs.EditLaws.{import_short}
 use Rattle.wk_edit.proofs.edits.read_import.Goals as goal
 
