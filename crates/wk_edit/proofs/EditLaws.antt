@@ -119,11 +119,16 @@ import_told (kind ∷ from ∷ name ∷ more) e h =
     let c = bind_some (name_of from) _ e b.2 in
     let d = bind_some (name_of name) _ e c.2 in
     let said = desc_told a.0 more b.0 b.1 in
-    subst (SpellsEdit (codes "import" ∷ kind ∷ from ∷ name ∷ more)) (some_is _ e d.2)
-    (from, name,
-    ap (λ (w : List ℕ). codes "import" ∷ w ∷ from ∷ name ∷ more) (kind_told kind a.0 a.1 ∙ ap kind_word said.0)
-    ∙ ap (λ (ws : List (List ℕ)). codes "import" ∷ kind_word (desc_kind b.0) ∷ from ∷ name ∷ ws) said.1,
-    name_told from c.0 c.1, name_told name d.0 d.1, said.2)
+    subst (SpellsEdit (codes "import" ∷ kind ∷ from ∷ name ∷ more)) (some_is _ e d.2) (
+      from,
+      name,
+      ap (λ (w : List ℕ). codes "import" ∷ w ∷ from ∷ name ∷ more) (kind_told kind a.0 a.1 ∙ ap kind_word said.0)
+          ∙ ap (λ (ws : List (List ℕ)). codes "import" ∷ kind_word (desc_kind b.0) ∷ from ∷ name ∷ ws) said.1,
+      name_told from c.0 c.1,
+      name_told name d.0 d.1,
+      said.2,
+    )
+
 func_told : (ws : List (List ℕ)) (e : Edit) → func_edit ws ≡ Some e → SpellsEdit (codes "func" ∷ ws) e
 func_told [] e h = absurd cc
 func_told (a ∷ []) e h = absurd cc
@@ -154,10 +159,11 @@ global_told (val ∷ set ∷ digits ∷ []) e h =
     let a = bind_some (global_type_of val set) _ e h in
     let b = bind_some (data_of digits) _ e a.2 in
     let t = global_type_told val set a.0 a.1 in
-    subst (SpellsEdit (codes "global" ∷ val ∷ set ∷ digits ∷ [])) (some_is _ e b.2)
-    (digits,
-    ap (λ (w : List ℕ). codes "global" ∷ w ∷ set ∷ digits ∷ []) t.0 ∙ ap (λ (w : List ℕ). codes "global" ∷ type_name a.0.val ∷ w ∷ digits ∷ []) t.1,
-    data_told digits b.0 b.1)
+    subst (SpellsEdit (codes "global" ∷ val ∷ set ∷ digits ∷ [])) (some_is _ e b.2) (
+      digits,
+      ap (λ (w : List ℕ). codes "global" ∷ w ∷ set ∷ digits ∷ []) t.0 ∙ ap (λ (w : List ℕ). codes "global" ∷ type_name a.0.val ∷ w ∷ digits ∷ []) t.1,
+      data_told digits b.0 b.1,
+    )
 global_told (a ∷ b ∷ c ∷ d ∷ ws) e h = absurd cc
 
 export_told : (ws : List (List ℕ)) (e : Edit) → export_edit ws ≡ Some e → SpellsEdit (codes "export" ∷ ws) e
@@ -169,10 +175,12 @@ export_told (kind ∷ name ∷ index ∷ []) e h =
     let b = bind_some (number_of index) _ e a.2 in
     let c = bind_some (name_of name) _ e b.2 in
     let t = number_told index b.0 b.1 in
-    subst (SpellsEdit (codes "export" ∷ kind ∷ name ∷ index ∷ [])) (some_is _ e c.2)
-    (name,
-    ap (λ (w : List ℕ). codes "export" ∷ w ∷ name ∷ index ∷ []) (kind_told kind a.0 a.1) ∙ ap (λ (w : List ℕ). codes "export" ∷ kind_word a.0 ∷ name ∷ w ∷ []) t.0,
-    name_told name c.0 c.1, t.1)
+    subst (SpellsEdit (codes "export" ∷ kind ∷ name ∷ index ∷ [])) (some_is _ e c.2) (
+      name,
+      ap (λ (w : List ℕ). codes "export" ∷ w ∷ name ∷ index ∷ []) (kind_told kind a.0 a.1) ∙ ap (λ (w : List ℕ). codes "export" ∷ kind_word a.0 ∷ name ∷ w ∷ []) t.0,
+      name_told name c.0 c.1,
+      t.1,
+    )
 export_told (a ∷ b ∷ c ∷ d ∷ ws) e h = absurd cc
 
 unexport_told : (ws : List (List ℕ)) (e : Edit) → unexport_edit ws ≡ Some e → SpellsEdit (codes "unexport" ∷ ws) e

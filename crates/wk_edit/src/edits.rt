@@ -132,11 +132,7 @@ fn read_unexport(alloc: Global, words: &[&[u8]]) -> Result<Option<Edit>, AllocEr
 }
 
 // `custom strip NAME`
-fn read_strip_custom(
-    alloc: Global,
-    kind: &[u8],
-    name: &[u8],
-) -> Result<Option<Edit>, AllocError>
+fn read_strip_custom(alloc: Global, kind: &[u8], name: &[u8]) -> Result<Option<Edit>, AllocError>
     ensures { IfOk result (λ edit. edit ≡ custom_edit (kind.now ∷ name.now ∷ [])) }
 {
     if kind != b"strip".as_slice() {
@@ -192,7 +188,11 @@ fn read_strip(words: &[&[u8]]) -> Option<Edit>
 }
 
 /// The edit of a line, by its first word and the others. `None` where these are wrong.
-pub(crate) fn read_edit(alloc: Global, verb: Verb, words: &[&[u8]]) -> Result<Option<Edit>, AllocError>
+pub(crate) fn read_edit(
+    alloc: Global,
+    verb: Verb,
+    words: &[&[u8]],
+) -> Result<Option<Edit>, AllocError>
     ensures { IfOk result (λ edit. edit ≡ edit_by verb (map (λ w. w.now) words.now)) }
 {
     match verb {

@@ -86,13 +86,5 @@ pub fn edit<W: Out, X: Out>(
     ensures report_failures { X.failed report.new ≡ report_failures (X.failed report.old) result }
     ensures means { OnRun result (IsReport keep_valid Profile.Core input.now script.now (outcome_of keep_valid Profile.Core input.now script.now)) }
 {
-    edit_in(
-        alloc,
-        input,
-        script,
-        keep_valid,
-        Profile::Core,
-        out,
-        report,
-    )
+    edit_in(alloc, input, script, keep_valid, Profile::Core, out, report)
 }
