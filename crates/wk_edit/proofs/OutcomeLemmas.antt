@@ -3,13 +3,12 @@ use Rattle.std.proofs.Common.{◌≡◌, ◌≢◌, ℕ, Bool, true, false, ◌|
 use Rattle.std.specs.Prelude.{IfOk, OnOk, Some}
 use Rattle.std.specs.List.{list_any}
 use Rattle.wk_bytes.specs.declared.fault.ReadKind.{ReadKind}
-use Rattle.wk_bytes.specs.declared.fault.ReadKind.TheVariants as ReadKind
 use Rattle.wk_bytes.specs.declared.fault.ReadFault.{ReadFault}
 use Rattle.wk_module.specs.declared.types.Parts.{Parts}
 use Rattle.wk_bytes.specs.Stands.{StandsIn}
 use Rattle.wk_body.specs.declared.types.Profile.{Profile}
 use Rattle.wk_body.specs.Reads.{FailsAs}
-use Rattle.wk_module.specs.Modules.{Spells, SpellsNone}
+use Rattle.wk_module.specs.Modules.{SpellsNone}
 use Rattle.wk_module.specs.Reading.{module_at}
 use Rattle.wk_check.specs.declared.fault.Verdict.{Verdict}
 use Rattle.wk_check.specs.Verdict.{module_verdict}
@@ -18,7 +17,6 @@ use Rattle.wk_session.specs.declared.edit.Work.{Work}
 use Rattle.wk_session.specs.declared.edit.EditFault.{EditFault}
 use Rattle.wk_session.specs.Runs.{is_memory, reply_of, after_one, replies_of, after, refused_for_memory}
 use Rattle.wk_edit.specs.declared.fault.ScriptFault.{ScriptFault}
-use Rattle.wk_edit.specs.declared.fault.ScriptFault.TheVariants as ScriptFault
 use Rattle.wk_edit.specs.declared.fault.Status.{Status}
 use Rattle.wk_edit.specs.declared.fault.RunFault.{RunFault}
 use Rattle.wk_edit.specs.declared.prepared.Prepared.{Prepared}
@@ -27,7 +25,7 @@ use Rattle.wk_edit.specs.ScriptGrammar.{IsScript, IsOnlyScript, IsNoScript, IsFa
 use Rattle.wk_edit.specs.ReportText.{report_text}
 use Rattle.wk_edit.specs.Outcome.{Outcome, malformed_outcome, run_status, run_outcome, script_outcome, outcome_on, outcome_of}
 use Rattle.wk_edit.specs.Prepared.{IsPrepared, IsSpelled}
-use Rattle.wk_edit.specs.Theorem.{IsMalformed, IsBadScript, IsRun, IsRead, IsReport}
+use Rattle.wk_edit.specs.Theorem.{IsRun, IsRead, IsReport}
 
 -- ---- no edit was refused for want of memory
 

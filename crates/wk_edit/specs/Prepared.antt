@@ -1,6 +1,5 @@
 -- An outcome before it is written.
-use Rattle.std.specs.Prelude.{◌≡◌, Option, Some, None, List, ℕ, string_bytes}
-use Rattle.wk_body.specs.declared.types.Profile.{Profile}
+use Rattle.std.specs.Prelude.{◌≡◌, Option, Some, None, string_bytes}
 use Rattle.wk_module.specs.declared.types.Parts.{Parts}
 use Rattle.wk_module.specs.Modules.{Spells}
 use Rattle.wk_module.specs.Writing.{encoded}
