@@ -26,6 +26,7 @@ use Rattle.wk_edit.specs.ReportText.{report_text}
 use Rattle.wk_edit.specs.Outcome.{Outcome, malformed_outcome, run_status, run_outcome, script_outcome, outcome_on, outcome_of}
 use Rattle.wk_edit.specs.Prepared.{IsPrepared, IsSpelled}
 use Rattle.wk_edit.specs.Theorem.{IsRun, IsRead, IsReport}
+use Rattle.wk_edit.proofs.Unread.{all_told}
 
 -- ---- no edit was refused for want of memory
 
@@ -109,6 +110,7 @@ module _ (keep : Bool) (profile : Profile) (input script : List ℕ) where
     out = refl;
     spells = spelled.0;
     alone = spelled.1;
+    told = all_told keep es m;
     report = refl;
     status = refl;
   }
