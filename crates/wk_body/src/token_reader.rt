@@ -266,10 +266,14 @@ impl TokenReader {
         ensures left { IfErr result (λ e. cursor.new ≡ cursor.old) }
         ensures fault { IfErr result (λ e. StandsOrMemory cursor.old e) }
     {
-        let mut ahead = cursor.ahead();
-        let token = self.take(profile, &mut ahead)?;
-        *cursor = ahead;
-        Ok(token)
+        let before = cursor.ahead();
+        match self.take(profile, cursor) {
+            Ok(token) => Ok(token),
+            Err(fault) => {
+                *cursor = before;
+                Err(fault)
+            }
+        }
     }
 }
 

@@ -4,7 +4,15 @@ pub mod Judging
 pub mod Popped
 pub mod RunSteps
 pub mod Outcomes
+pub mod Appraising
 pub mod CustomEdits
 pub mod WrittenBack
 pub mod Keeping
+pub mod Settling
+pub mod Leading
+pub mod Used
+pub mod Opening
 pub mod Lasting
+pub mod ItemLengths
+pub mod Works
+pub mod LastItems

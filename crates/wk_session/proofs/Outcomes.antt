@@ -77,3 +77,11 @@ fitting-kept m len h = fits (leb (length (encoded m)) limit) h
     fits : (b : Bool) → cond b (Some (length (encoded m))) None ≡ Some len → cond b (Ok m) (Err TooLarge) ≡ Ok m
     fits true h = refl
     fits false h = absurd cc
+
+-- one that has no length up to the limit is
+pub fitting-none : (m : Parts) → limited (length (encoded m)) ≡ None → fitting m ≡ Err TooLarge
+fitting-none m h = large (leb (length (encoded m)) limit) h
+  where
+    large : (b : Bool) → cond b (Some (length (encoded m))) None ≡ None → cond b (Ok m) (Err TooLarge) ≡ Err TooLarge
+    large true h = absurd cc
+    large false h = refl

@@ -5,3 +5,5 @@ pub mod Kept
 pub mod Stripped
 pub mod Written
 pub mod EditText
+pub mod ItemSizes
+pub mod Judged

@@ -5,6 +5,8 @@ mod export;
 mod function;
 mod global;
 mod import;
+mod item_len;
+mod one_more;
 mod ty;
 
 pub(crate) use custom::{set_custom, strip_all, strip_custom};

@@ -14,7 +14,7 @@ use crate::judged::judged;
 use std::alloc::Global;
 use std::collections::BTreeSet;
 use wk_bytes::{Items, OutOfMemory};
-use wk_check::{BodyVerdict, Meter, Verdict, Whole, first_code_fault, judge_around};
+use wk_check::{BodyVerdict, Env, Meter, Verdict, Whole, first_code_fault, judge_around};
 use wk_module::{Body, Func, Lists, Module, Ref, body_len, encoded_len, uses};
 
 /// What is kept beside a module: each part is what computing it from the module would give (`IsKept` of `specs/Kept`).
@@ -45,6 +45,24 @@ fn types_of(alloc: Global, funcs: &Items<Func>) -> Result<Vec<u32>, OutOfMemory>
     Ok(types)
 }
 
+// The verdicts of functions.
+fn verdicts_in<E: Env>(
+    alloc: Global,
+    env: &E,
+    funcs: &Items<Func>,
+) -> Result<Vec<BodyVerdict>, OutOfMemory>
+    requires { length funcs.now < 2 ^ 32 }
+    ensures { IfOk result (λ v. v.items ≡ map (func_verdict (E.answers env.now)) funcs.now) }
+{
+    let mut meter = Meter::new(alloc);
+    let mut verdicts = Vec::with_capacity(alloc, funcs.len())?;
+    for func in funcs.as_slice() {
+        let verdict = judged(env, func.ty, &func.body, &mut meter)?;
+        verdicts.push(verdict)?;
+    }
+    Ok(verdicts)
+}
+
 // The verdicts of functions in a module with these lists.
 fn verdicts_of(
     alloc: Global,
@@ -55,13 +73,7 @@ fn verdicts_of(
     ensures { IfOk result (λ v. v.items ≡ map (func_verdict (answer_in (spaces_of (listed lists.entry)))) funcs.now) }
 {
     let whole = Whole::of(alloc, lists)?;
-    let mut meter = Meter::new(alloc);
-    let mut verdicts = Vec::with_capacity(alloc, funcs.len())?;
-    for func in funcs.as_slice() {
-        let verdict = judged(&whole, func.ty, &func.body, &mut meter)?;
-        verdicts.push(verdict)?;
-    }
-    Ok(verdicts)
+    verdicts_in(alloc, &whole, funcs)
 }
 
 /// What a function refers to, its own type too.

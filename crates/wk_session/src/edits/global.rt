@@ -1,16 +1,85 @@
 //! A global more.
 
-ghost use Rattle.std.specs.Prelude.{◌≡◌};
+ghost use Rattle.std.specs.Prelude.{◌≡◌, ◌≢◌, ◌<◌, ◌-◌, ◌∷◌, ◌++◌, [], Ok, Err, length, take, IfOk, IfErr, OnOk, OnErr};
+ghost use Rattle.wk_body.specs.Reading.{all_expr_at, whole_at};
+ghost use Rattle.wk_module.specs.Items.{IsInit};
+ghost use Rattle.wk_module.specs.Listed.{listed};
 ghost use Rattle.wk_module.specs.Shape.{IsShaped};
+ghost use Rattle.wk_check.specs.SpacesLaws.{answers_of};
 ghost use Rattle.wk_session.specs.declared.edit.Edit.{Edit};
+ghost use Rattle.wk_session.specs.Edits.{from_bytes};
+ghost use Rattle.wk_session.specs.Judged.{IsJudged};
 ghost use Rattle.wk_session.specs.Kept.{IsKept, Leads};
 
-use crate::edit::{EditFault, Reply};
+use crate::edit::{EditFault, Reply, Work};
+use crate::edits::one_more::{Judgement, judge_grown, keep_judgement};
 use crate::kept::Kept;
 use std::alloc::Global;
-use wk_bytes::Items;
+use wk_bytes::{Items, ReadFault, ReadKind};
 use wk_check::Meter;
-use wk_module::{GlobalType, Parts};
+use wk_module::{Expr, GlobalDef, GlobalType, Lists, Parts, Profile, read_expr_in};
+
+// What an edit is answered whose bytes cannot be read.
+fn refusal_of(fault: ReadFault) -> EditFault
+    ensures memory { fault.kind ≡ ReadKind.Memory → result ≡ EditFault.Memory }
+    ensures bytes { fault.kind ≢ ReadKind.Memory → result ≡ EditFault.BadBytes fault }
+{
+    if let ReadKind::Memory = fault.kind {
+        return EditFault::Memory;
+    }
+    EditFault::BadBytes(fault)
+}
+
+// The expression of a first value, which is all of the bytes.
+fn read_init(alloc: Global, profile: Profile, init: &Items<u8>) -> Result<Expr, EditFault>
+    ensures read { IfOk result (λ e. from_bytes (whole_at (all_expr_at profile) init.now) ≡ Ok e) }
+    ensures valid { IfOk result (IsInit profile) }
+    ensures fault { IfErr result (λ f. f ≢ EditFault.Memory → from_bytes (whole_at (all_expr_at profile) init.now) ≡ Err f) }
+{
+    match read_expr_in(alloc, init.as_slice(), profile) {
+        Ok(expr) => {
+            // The proof asks what this says: the expression is shaped.
+            let _tokens = expr.tokens();
+            Ok(expr)
+        }
+        Err(fault) => Err(refusal_of(fault)),
+    }
+}
+
+// The lists without the last global.
+fn without_last_global<'a>(lists: Lists<'a>) -> Lists<'a>
+    requires { 0 < length lists.globals.now }
+    ensures { listed result ≡ record (listed lists.entry) { globals = take (length lists.entry.globals.now - 1) lists.entry.globals.now } }
+{
+    let globals = &lists.globals[..lists.globals.len() - 1];
+    Lists { globals, ..lists }
+}
+
+// Appends a global where the module with it may stay, and says what is to be kept of it; or leaves the parts as they were.
+fn push_global(
+    alloc: Global,
+    keep: bool,
+    parts: &mut Parts,
+    kept: &Kept,
+    meter: &mut Meter,
+    global: GlobalDef,
+) -> Result<Judgement, EditFault>
+    requires shaped { IsShaped parts.old }
+    requires kept { IsKept parts.old kept.now }
+    requires valid { IsInit parts.old.profile global.init }
+    requires fresh { meter.old ≡ 0 }
+    ensures ok { OnOk result (parts.new ≡ record parts.old { globals = parts.old.globals ++ global ∷ [] }) }
+    ensures err { OnErr result (parts.new ≡ parts.old) }
+    ensures judged { IsJudged keep (answers_of parts.old) (record parts.old { globals = parts.old.globals ++ global ∷ [] }) meter.new result }
+{
+    parts.globals.push(global)?;
+    let before = without_last_global(Lists::of(parts, &kept.types));
+    let judged = judge_grown(alloc, keep, before, parts, kept, meter);
+    if judged.is_err() {
+        let _ = parts.globals.pop();
+    }
+    judged
+}
 
 /// Appends a global.
 pub(crate) fn add_global(
@@ -27,5 +96,13 @@ pub(crate) fn add_global(
     requires fresh { meter.old ≡ 0 }
     ensures { Leads keep (Edit.Global ty init.now) parts.old result parts.new kept.new }
 {
-    Err(EditFault::Memory)
+    let init = read_init(alloc, parts.profile, init)?;
+    let global = GlobalDef { ty, init };
+    let judgement = push_global(alloc, keep, parts, kept, meter, global)?;
+    keep_judgement(kept, judgement);
+    Ok(Work {
+        typed: meter.typed() as u32,
+        encoded: 0,
+        sections: 1,
+    })
 }

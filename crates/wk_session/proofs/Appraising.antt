@@ -1,0 +1,54 @@
+-- What the length and the verdict of a module say of whether it may stay.
+use Rattle.std.proofs.Common.{◌≡◌, ℕ, Bool, true, false, Option, Some, None, Result, Ok, Err, List, length, map, refl, sym, ap, subst, ◌∙◌}
+use Rattle.wk_bytes.specs.Leb.{◌>>=◌}
+use Rattle.wk_body.specs.declared.types.Profile.{Profile}
+use Rattle.wk_body.specs.Lengths.{limited}
+use Rattle.wk_module.specs.declared.lists.Lists.{Lists}
+use Rattle.wk_module.specs.declared.types.Custom.{Custom}
+use Rattle.wk_module.specs.declared.types.Func.{Func}
+use Rattle.wk_module.specs.declared.types.Parts.{Parts}
+use Rattle.wk_module.specs.Listed.{listed}
+use Rattle.wk_module.specs.Sections.{SectionLists}
+use Rattle.wk_module.specs.Shape.{IsFormed, lists_of, settle}
+use Rattle.wk_module.specs.Writing.{encoded}
+use Rattle.wk_module.specs.WritingLaws.{length-encoded_settle}
+use Rattle.wk_check.specs.declared.fault.BodyVerdict.{BodyVerdict}
+use Rattle.wk_check.specs.declared.fault.Fault.{Fault}
+use Rattle.wk_check.specs.declared.fault.Verdict.{Verdict}
+use Rattle.wk_check.specs.declared.fault.Verdict.TheVariants.{Valid, Invalid}
+use Rattle.wk_check.specs.Flaws.{first_in}
+use Rattle.wk_check.specs.Items.{body_flaw}
+use Rattle.wk_check.specs.Verdict.{verdict_around, module_verdict}
+use Rattle.wk_session.specs.declared.edit.EditFault.{EditFault}
+use Rattle.wk_session.specs.declared.edit.EditFault.TheVariants.{TooLarge, WouldBreak}
+use Rattle.wk_session.specs.Edits.{fitting, lasting, unbroken}
+use Rattle.wk_session.specs.Kept.{IsPending, standing}
+use Rattle.wk_session.proofs.Outcomes.{fitting-kept, fitting-none}
+
+-- their verdict is that of the module
+pub verdict_lent : (l : Lists) (vs : List BodyVerdict) (sizes : List ℕ) (cs : List Custom) (n : Parts) → IsPending l vs sizes cs n
+    → verdict_around l.profile (listed l) (first_in 10 0 (map body_flaw vs)) ≡ module_verdict n
+verdict_lent l vs sizes cs n p =
+    ap (λ (f : Profile). verdict_around f (listed l) (first_in 10 0 (map body_flaw vs))) p.profile
+    ∙ ap (λ (s : SectionLists). verdict_around n.profile s (first_in 10 0 (map body_flaw vs))) p.lists
+    ∙ ap (λ (ws : List BodyVerdict). verdict_around n.profile (lists_of n) (first_in 10 0 (map body_flaw ws))) p.verdicts
+
+module _ (keep : Bool) (n : Parts) (formed : IsFormed n) where
+  settled_length : limited (length (encoded (settle n))) ≡ limited (length (encoded n))
+  settled_length = ap limited (length-encoded_settle n formed.order)
+
+  pub too_large : limited (length (encoded n)) ≡ None → standing keep n ≡ Err TooLarge
+  too_large none = ap (λ (r : Result Parts EditFault). r >>= lasting keep) (fitting-none (settle n) (settled_length ∙ none))
+
+  pub fitting_stands : (len : ℕ) → limited (length (encoded n)) ≡ Some len → standing keep n ≡ lasting keep (settle n)
+  fitting_stands len some = ap (λ (r : Result Parts EditFault). r >>= lasting keep) (fitting-kept (settle n) len (settled_length ∙ some))
+
+pub any_lasts : (keep : Bool) (n : Parts) → keep ≡ false → lasting keep (settle n) ≡ Ok (settle n)
+any_lasts keep n is = ap (λ (k : Bool). lasting k (settle n)) is
+
+pub valid_lasts : (keep : Bool) (n : Parts) → module_verdict n ≡ Valid → lasting keep (settle n) ≡ Ok (settle n)
+valid_lasts false n is = refl
+valid_lasts true n is = ap (unbroken (settle n)) is
+
+pub broken : (keep : Bool) (n : Parts) (f : Fault) → keep ≡ true → module_verdict n ≡ Invalid f → lasting keep (settle n) ≡ Err (WouldBreak f)
+broken keep n f is invalid = ap (λ (k : Bool). lasting k (settle n)) is ∙ ap (unbroken (settle n)) invalid

@@ -1,0 +1,59 @@
+use Rattle.std.proofs.Common.{◌≡◌, ◌<◌, ◌+◌, ◌^◌, ℕ, List, [], ◌∷◌, ◌++◌, length, map, sym, ap, subst, ◌∙◌, arith, length-append}
+use Rattle.wk_body.specs.declared.references.Ref.{Ref}
+use Rattle.wk_module.specs.declared.types.FuncType.{FuncType}
+use Rattle.wk_module.specs.declared.types.Parts.{Parts}
+use Rattle.wk_module.specs.Changes.{with_type}
+use Rattle.wk_module.specs.Listed.{listed}
+use Rattle.wk_module.specs.Sections.{SectionLists, TypeSection}
+use Rattle.wk_module.specs.ShapeLaws.{types_formed}
+use Rattle.wk_module.specs.WritingLaws.{room}
+use Rattle.wk_module.specs.Writing.{encoded}
+use Rattle.wk_check.specs.Answers.{Found}
+use Rattle.wk_check.specs.Finds.{Grows}
+use Rattle.wk_check.specs.Spaces.{answer_in, spaces_of}
+use Rattle.wk_check.specs.SpacesLaws.{answers_of, type_grows}
+use Rattle.wk_check.specs.Verdict.{func_verdict}
+use Rattle.wk_session.specs.Judged.{AreKept, IsJudged}
+use Rattle.wk_session.proofs.Outcomes.{limited-some}
+use Rattle.wk_session.proofs.LastItems.{but_last, types_before}
+use Rattle.wk_session.proofs.edits.ty.push_type.Goals as goal
+use Rattle.wk_session.proofs.edits.ty.push_type.Goals.{After-without_last_type-before}
+
+-- references find in the lists without the type what they find in the module that was there
+before_is : (c : After-without_last_type-before) → answer_in (spaces_of (listed c.without_last_type-before.result)) ≡ answers_of c.args.parts.now
+before_is c =
+    let lists = c.without_last_type-before.ensures ∙ ap (λ (l : SectionLists). record l { types = but_last l.types }) c.of.ensures.lists in
+    types_before c.args.parts.now c.args.ty c.push.new.self c.deref.result.now (listed c.without_last_type-before.result) lists c.in_ok-push.ensures.ok (c.deref.ensures.value ∙ c.requires.kept.types)
+
+pub judge_grown-judged-requires-clause-formed : goal.judge_grown-judged-requires-clause-formed
+judge_grown-judged-requires-clause-formed c =
+    let m = c.args.parts.now in
+    let few = room m TypeSection (limited-some (length (encoded m)) c.args.kept.now.len c.requires.kept.len) in
+    let count = ap length c.in_ok-push.ensures.ok ∙ length-append m.types (c.args.ty ∷ []) in
+    types_formed c.push.new.self m (omega (arith, few, count)) c.requires.shaped.formed
+
+pub judge_grown-judged-requires-clause-grows : goal.judge_grown-judged-requires-clause-grows
+judge_grown-judged-requires-clause-grows c =
+    let m = c.args.parts.now in
+    let before = before_is (goal.at.judge_grown-judged-requires-clause-grows c).After-without_last_type-before in
+    let grows = subst (λ (ts : List FuncType). Grows (answers_of m) (answers_of (record m { types = ts }))) (sym c.in_ok-push.ensures.ok) (type_grows m c.args.ty) in
+    subst (λ (A : Ref → Found). Grows A (answers_of (record m { types = c.push.new.self }))) (sym before) grows
+
+pub judge_grown-judged-requires-clause-kept : goal.judge_grown-judged-requires-clause-kept
+judge_grown-judged-requires-clause-kept c =
+    let before = before_is (goal.at.judge_grown-judged-requires-clause-kept c).After-without_last_type-before in
+    record {
+      types = c.requires.kept.types;
+      verdicts = c.requires.kept.verdicts ∙ ap (λ (A : Ref → Found). map (func_verdict A) c.args.parts.now.funcs) (sym before);
+      refs = c.requires.kept.refs;
+      code_sizes = c.requires.kept.code_sizes;
+    }
+
+pub returns-else-is_err-clause-judged : goal.returns-else-is_err-clause-judged
+returns-else-is_err-clause-judged c =
+    let m = c.args.parts.now in
+    let before = before_is (goal.at.returns-else-is_err-clause-judged c).After-without_last_type-before in
+    let typed = c.judge_grown-judged.new.meter in
+    let result = c.judge_grown-judged.result in
+    let judged = subst (λ (A : Ref → Found). IsJudged c.args.keep A (record m { types = c.push.new.self }) typed result) before c.judge_grown-judged.ensures in
+    subst (λ (ts : List FuncType). IsJudged c.args.keep (answers_of m) (record m { types = ts }) typed result) c.in_ok-push.ensures.ok judged

@@ -1,0 +1,75 @@
+use Rattle.std.proofs.Common.{◌≡◌, ◌<◌, ◌^◌, ◌≤◌, List, ℕ, length, map, refl, sym, ap, subst, ◌∙◌, arith}
+use Rattle.std.proofs.lemmas.List.{length-map}
+use Rattle.std.specs.List.{AllByRecursion}
+use Rattle.wk_bytes.specs.Frames.{limit}
+use Rattle.wk_body.specs.declared.types.Profile.{Profile}
+use Rattle.wk_module.specs.declared.types.Func.{Func}
+use Rattle.wk_module.specs.declared.types.Parts.{Parts}
+use Rattle.wk_module.specs.Listed.{listed, listed_with, AreNumbered}
+use Rattle.wk_module.specs.NumberedLaws.{funcs_numbered, module_numbered_with}
+use Rattle.wk_module.specs.Sections.{SectionLists}
+use Rattle.wk_check.specs.declared.fault.BodyVerdict.{BodyVerdict}
+use Rattle.wk_check.specs.Flaws.{first_in}
+use Rattle.wk_check.specs.Items.{body_flaw}
+use Rattle.wk_check.specs.Spaces.{answer_in, spaces_of}
+use Rattle.wk_check.specs.SpacesLaws.{answers_of}
+use Rattle.wk_check.specs.Verdict.{func_verdict, verdict_around}
+use Rattle.wk_session.specs.Kept.{IsPending, code_size, uses_of}
+use Rattle.wk_session.proofs.Appraising.{verdict_lent}
+use Rattle.wk_session.proofs.Opening.{codes_small}
+use Rattle.wk_session.proofs.kept.Kept.of.Goals as goal
+use Rattle.wk_session.proofs.kept.Kept.of.Goals.{After-of-lists}
+
+-- the lists that are lent are those of the module
+lent : (c : After-of-lists) → listed c.of-lists.result ≡ listed_with (map (λ f. f.ty) c.args.module.now.funcs) c.args.module.now
+lent c =
+    c.of-lists.ensures.lists
+    ∙ ap (λ (ts : List ℕ). listed_with ts c.parts-parts.result.now) (c.deref.ensures.value ∙ c.in_ok-types.ensures)
+    ∙ ap (λ (p : Parts). listed_with (map (λ (f : Func). f.ty) p.funcs) p) c.parts-parts.ensures.value
+
+pub verdicts_of-requires : goal.verdicts_of-requires
+verdicts_of-requires c = subst (λ (p : Parts). length p.funcs < 2 ^ 32) (sym c.parts-parts.ensures.value) (funcs_numbered c.args.module.now c.parts-parts.ensures.shaped.formed)
+
+pub first_code_fault-requires : goal.first_code_fault-requires
+first_code_fault-requires c =
+    let few : length c.parts-parts.result.now.funcs < 2 ^ 32 = subst (λ (p : Parts). length p.funcs < 2 ^ 32) (sym c.parts-parts.ensures.value) (funcs_numbered c.args.module.now c.parts-parts.ensures.shaped.formed) in
+    let count = ap length (c.deref-2.ensures.value ∙ c.in_ok-verdicts.ensures) ∙ length-map c.parts-parts.result.now.funcs _ in
+    omega (arith, few, count)
+
+pub judge_around-requires : goal.judge_around-requires
+judge_around-requires c =
+    let m = c.args.module.now in
+    let formed = c.parts-parts.ensures.shaped.formed in
+    let types = map (λ (f : Func). f.ty) m.funcs in
+    subst AreNumbered (sym (lent (goal.at.judge_around-requires c).After-of-lists)) (module_numbered_with types m (omega (arith, funcs_numbered m formed, length-map m.funcs (λ (f : Func). f.ty))) formed)
+
+pub code_sizes_of-requires : goal.code_sizes_of-requires
+code_sizes_of-requires c = subst (λ (p : Parts). AllByRecursion (λ (f : Func). code_size f ≤ limit) p.funcs) (sym c.parts-parts.ensures.value) (codes_small c.args.module.now c.requires)
+
+pub returns : goal.returns
+returns c =
+    let m = c.args.module.now in
+    let value = c.parts-parts.ensures.value in
+    let lists = lent (goal.at.returns c).After-of-lists in
+    let verdicts : c.in_ok-verdicts.verdicts.items ≡ map (func_verdict (answers_of m)) m.funcs =
+        c.in_ok-verdicts.ensures
+        ∙ ap (λ (l : SectionLists). map (func_verdict (answer_in (spaces_of l))) c.parts-parts.result.now.funcs) lists
+        ∙ ap (λ (p : Parts). map (func_verdict (answers_of m)) p.funcs) value in
+    let sizes = c.in_ok-code_sizes.ensures ∙ ap (λ (p : Parts). map code_size p.funcs) value in
+    let pending : IsPending c.of-lists.result c.in_ok-verdicts.verdicts.items c.in_ok-code_sizes.code_sizes.items m.customs m = record {
+        formed = c.parts-parts.ensures.shaped.formed;
+        profile = c.of-lists.ensures.profile ∙ ap (λ (p : Parts). p.profile) value;
+        lists = lists;
+        verdicts = verdicts;
+        code_sizes = sizes;
+        customs = refl;
+    } in
+    let code = c.first_code_fault.ensures ∙ ap (λ (vs : List BodyVerdict). first_in 10 0 (map body_flaw vs)) c.deref-2.ensures.value in
+    record {
+      verdict = c.in_ok-verdict.ensures ∙ ap (verdict_around c.of-lists.result.profile (listed c.of-lists.result)) code ∙ verdict_lent c.of-lists.result _ _ _ m pending;
+      len = sym c.encoded_len.ensures ∙ c.in-Some.is;
+      types = c.in_ok-types.ensures ∙ ap (λ (p : Parts). map (λ (f : Func). f.ty) p.funcs) value;
+      verdicts = verdicts;
+      refs = c.in_ok-refs.ensures ∙ ap (λ (p : Parts). map uses_of p.funcs) value;
+      code_sizes = sizes;
+    }

@@ -1,0 +1,21 @@
+use Rattle.std.proofs.Common.{◌≡◌, sym, ap, subst, ◌∙◌}
+use Rattle.wk_module.specs.declared.types.Parts.{Parts}
+use Rattle.wk_module.specs.Shape.{IsShaped}
+use Rattle.wk_session.specs.Kept.{IsKept}
+use Rattle.wk_session.specs.Runs.{is_memory, reply_of}
+use Rattle.wk_session.proofs.Settling.{kept_after, reply_after}
+use Rattle.wk_session.proofs.session.Session.apply_with.Goals as goal
+
+pub edit_parts-reply-requires-clause-kept : goal.edit_parts-reply-requires-clause-kept
+edit_parts-reply-requires-clause-kept c = subst (λ (m : Parts). IsKept m c.self.inside.kept) (sym c.take_parts-parts.ensures.value) c.self.invariant
+
+pub invariant_of-self : goal.invariant_of-self
+invariant_of-self c =
+    let shaped : IsShaped c.take_parts-parts.result = subst IsShaped (sym c.take_parts-parts.ensures.value) c.take_parts-parts.ensures.shaped in
+    subst (λ (m : Parts). IsKept m c.edit_parts-reply.new.kept) (sym c.of.ensures)
+    (kept_after c.args.keep c.args.edit.now c.take_parts-parts.result c.edit_parts-reply.new.parts c.edit_parts-reply.new.kept c.edit_parts-reply.result shaped c.edit_parts-reply.ensures)
+
+pub returns-clause-reply : goal.returns-clause-reply
+returns-clause-reply c =
+    reply_after c.args.keep c.args.edit.now c.take_parts-parts.result c.edit_parts-reply.new.parts c.edit_parts-reply.new.kept c.edit_parts-reply.result c.edit_parts-reply.ensures
+    ∙ ap (reply_of c.args.keep c.args.edit.now (is_memory c.edit_parts-reply.result)) (c.take_parts-parts.ensures.value ∙ c.self.view_is)

@@ -1,0 +1,35 @@
+-- What is kept of a module to which something comes that is no function, and what judging it gives.
+use Rattle.std.specs.Prelude.{◌≡◌, ℕ, Bool, Some, Result, Ok, Err, length, map, count_by}
+use Rattle.wk_body.specs.declared.references.Ref.{Ref}
+use Rattle.wk_body.specs.Lengths.{limited}
+use Rattle.wk_module.specs.declared.types.Parts.{Parts}
+use Rattle.wk_module.specs.Shape.{settle}
+use Rattle.wk_module.specs.Writing.{encoded}
+use Rattle.wk_check.specs.Answers.{Found}
+use Rattle.wk_check.specs.SpacesLaws.{answers_of}
+use Rattle.wk_check.specs.Verdict.{func_verdict, module_verdict}
+use Rattle.wk_session.specs.declared.edit.EditFault.{EditFault}
+use Rattle.wk_session.specs.declared.edits.one_more.Judgement.{Judgement}
+use Rattle.wk_session.specs.declared.kept.Kept.{Kept}
+use Rattle.wk_session.specs.Dependents.{is_retyped_in}
+use Rattle.wk_session.specs.Kept.{uses_of, code_size, standing, IsAppraised}
+
+-- Each part that is kept of functions is that of the functions of n, and the verdicts are those by what references found before.
+pub record AreKept (before : Ref → Found) (n : Parts) (k : Kept) : Type 0 where
+  pub types : k.types.items ≡ map (λ f. f.ty) n.funcs
+  pub verdicts : k.verdicts.items ≡ map (func_verdict before) n.funcs
+  pub refs : map (λ s. s.keys) k.refs.items ≡ map uses_of n.funcs
+  pub code_sizes : k.code_sizes.items ≡ map code_size n.funcs
+
+-- n may stay, and that is to be kept of it; so many bodies were typed: those that find another thing than before
+pub record MayStay (keep : Bool) (before : Ref → Found) (n : Parts) (typed : ℕ) (j : Judgement) : Type 0 where
+  pub stands : standing keep n ≡ Ok (settle n)
+  pub verdict : j.appraisal.verdict ≡ module_verdict n
+  pub len : limited (length (encoded n)) ≡ Some j.appraisal.len
+  pub verdicts : j.verdicts.items ≡ map (func_verdict (answers_of n)) n.funcs
+  pub typed_are : typed ≡ count_by (is_retyped_in before (answers_of n)) n.funcs
+
+-- that, or why the edit that makes n is refused, unless memory was wanted
+abbrev pub IsJudged : Bool → (Ref → Found) → Parts → ℕ → Result Judgement EditFault → Type 0
+IsJudged keep before n typed (Ok j) = MayStay keep before n typed j
+IsJudged keep before n typed (Err e) = IsAppraised keep n (Err e)
