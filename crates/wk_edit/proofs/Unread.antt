@@ -1,10 +1,9 @@
 -- What cannot be read is told of rightly.
-use Rattle.std.proofs.Common.{◌≡◌, ◌≢◌, ◌⊎◌, ◌≤◌, ◌<◌, ◌++◌, ℕ, nat_le, Bool, true, false, cond, inl, inr, Option, Some, None, List, [], ◌∷◌, length, Result, Ok, Err, refl, sym, ap, subst, ◌∙◌, append-nil, arith}
+use Rattle.std.proofs.Common.{◌≡◌, ◌⊎◌, ◌≤◌, ◌<◌, ℕ, nat_le, Bool, true, false, cond, inl, inr, Option, Some, None, List, [], ◌∷◌, length, Result, Ok, Err, refl, sym, ap, subst, ◌∙◌, append-nil, arith}
 use Rattle.std.specs.List.{list_any}
 use Rattle.wk_bytes.specs.declared.fault.ReadFault.{ReadFault}
 use Rattle.wk_bytes.specs.Frames.{limit}
 use Rattle.wk_bytes.specs.Leb.{◌>>=◌}
-use Rattle.wk_bytes.specs.Span.{Span}
 use Rattle.wk_bytes.specs.Fault.{long_input}
 use Rattle.wk_bytes.specs.Stands.{Stands}
 use Rattle.wk_body.specs.declared.types.Profile.{Profile}
@@ -29,8 +28,6 @@ use Rattle.wk_session.specs.declared.edit.Edit.{Edit}
 use Rattle.wk_session.specs.declared.edit.Edit.TheVariants as edits
 use Rattle.wk_session.specs.declared.edit.EditFault.{EditFault}
 use Rattle.wk_session.specs.declared.edit.EditFault.TheVariants.{NoSuchFunction, NoSuchExport, NoSuchCustom, IndexOverflow, TooLarge, BadBytes, WouldBreak, Memory}
-use Rattle.wk_session.specs.declared.edit.Work.{Work}
-use Rattle.wk_session.specs.Dependents.{work_of}
 use Rattle.wk_session.specs.Edits.{fitting, from_bytes, import_place, entry_of, body_put, with_exports, is_named, without_customs, with_custom, without_all_customs, edited, unbroken, lasting, made}
 use Rattle.wk_session.specs.Runs.{left_by, reply_to, after_one, replies_of}
 use Rattle.wk_edit.specs.Theorem.{IsUnread, HasBadBytes, IsTold, AreTold}
@@ -226,6 +223,7 @@ one_told e m (Err Memory) tells = tt
 
 pub all_told : (keep : Bool) (es : List Edit) (m : Parts) → AreTold m.profile es (replies_of keep es [] m)
 all_told keep [] m = tt
-all_told keep (e ∷ es) m =
-    (one_told e m (made keep e m) (λ f h. bad_bytes keep f e m h),
-    subst (λ (p : Profile). AreTold p es (replies_of keep es [] (after_one keep e false m))) (after_keeps keep e m) (all_told keep es (after_one keep e false m)))
+all_told keep (e ∷ es) m = (
+  one_told e m (made keep e m) (λ f h. bad_bytes keep f e m h),
+  subst (λ (p : Profile). AreTold p es (replies_of keep es [] (after_one keep e false m))) (after_keeps keep e m) (all_told keep es (after_one keep e false m)),
+)
