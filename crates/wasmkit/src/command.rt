@@ -23,9 +23,11 @@ pub enum Asked<'a> {
     Validate(ValidateCommand<'a>),
 }
 
-/// `edit [--extended] FILE SCRIPT OUT`: the names of files, as they stand.
+/// `edit [--keep-valid] [--extended] FILE SCRIPT OUT`: the names of files, as they stand.
 #[derive(Clone, Copy, Debug)]
 pub struct EditCommand<'a> {
+    /// Whether an edit is refused where the module would be invalid after it.
+    pub keep_valid: bool,
     /// The profile that the module is read in.
     pub profile: Profile,
     /// The module.
@@ -113,6 +115,11 @@ fn profile_of(found: &ArgMatches<'_>) -> Profile {
 fn edit_command<'a>(alloc: Global) -> Result<Command<'a>, AllocError> {
     Command::new(alloc, "edit")
         .about("Makes the edits of a script on a module")
+        .arg(flag(
+            alloc,
+            "keep-valid",
+            "refuses an edit that would leave an invalid module",
+        ))?
         .arg(extended(alloc))?
         .arg(word(alloc, "FILE", "the module"))?
         .arg(word(alloc, "SCRIPT", "the edits, one a line"))?
@@ -185,6 +192,7 @@ fn read_edit<'a>(found: &ArgMatches<'a>) -> Result<EditCommand<'a>, ProgramFault
         return Err(ProgramFault::BadWords);
     }
     Ok(EditCommand {
+        keep_valid: found.get_flag("keep-valid"),
         profile: profile_of(found),
         file,
         script,

@@ -26,6 +26,7 @@ fn run_edit<'a, S: Store, X: Out>(
     requires { X.failed out.old < 2 ^ 64 - 1 }
 {
     let EditCommand {
+        keep_valid,
         profile,
         file,
         script: script_file,
@@ -39,7 +40,15 @@ fn run_edit<'a, S: Store, X: Out>(
         .map_err(|fault| ProgramFault::of_load(fault, script_file))?;
     let mut module = Sink::new(Vec::new(alloc));
     let mut report = Sink::new(Vec::new(alloc));
-    let status = edit_in(alloc, &input, &script, profile, &mut module, &mut report)?;
+    let status = edit_in(
+        alloc,
+        &input,
+        &script,
+        keep_valid,
+        profile,
+        &mut module,
+        &mut report,
+    )?;
     if let Status::Accepted | Status::Refused = status {
         let bytes = module.into_inner();
         store

@@ -171,6 +171,51 @@ fn edits(rt: HostRuntime) -> Result<(), Fail> {
     Ok(())
 }
 
+const KEEP_VALID: [&str; 5] = ["edit", "--keep-valid", "in.wasm", "script", "out.wasm"];
+
+// A module, a script, the status, the report and what is saved, where edits have to leave a valid module.
+const KEPT_EDITS: [(&[u8], &str, u8, &str, &[u8]); 4] = [
+    (EMPTY, "type - -\n", 0, "1 ok\nvalid\n", ONE_TYPE),
+    (
+        EMPTY,
+        "type i32 i32,i32\ntype - -\n",
+        1,
+        "1 refused E7 WouldBreak V1 TypeArity at section 1 item 0\n2 ok\nvalid\n",
+        ONE_TYPE,
+    ),
+    (
+        TWO_RESULTS,
+        "strip\n",
+        1,
+        "1 refused E7 WouldBreak V1 TypeArity at section 1 item 0\ninvalid V1 TypeArity at section 1 item 0\n",
+        TWO_RESULTS,
+    ),
+    (
+        TWO_RESULTS,
+        "",
+        1,
+        "invalid V1 TypeArity at section 1 item 0\n",
+        TWO_RESULTS,
+    ),
+];
+
+#[test]
+fn edits_keep_modules_valid(rt: HostRuntime) -> Result<(), Fail> {
+    let alloc = rt.alloc();
+    let words = owned(alloc, &KEEP_VALID)?;
+    for (module, script, status, report, saved) in KEPT_EDITS {
+        let mut store = stocked(alloc, module, script);
+        let mut out = Sink::new(Vec::new(alloc));
+        let mut err = Sink::new(Vec::new(alloc));
+        let found = program(alloc, &words, &mut store, &mut out, &mut err);
+        assert_eq!(rt; found, status, "{report}");
+        assert_eq!(rt; out.into_inner().as_slice(), report.as_bytes(), "{report}");
+        assert!(rt; err.into_inner().is_empty(), "{report}");
+        assert_eq!(rt; store.saved.as_deref(), Some(saved), "{report}");
+    }
+    Ok(())
+}
+
 // Words, the status, and what is said.
 const REFUSED: [(&[&str], u8, &str); 43] = [
     (
@@ -211,7 +256,14 @@ const REFUSED: [(&[&str], u8, &str); 43] = [
     (&["edit", "in.wasm", "script"], 3, ""),
     (&["edit", "in.wasm", "script", "out.wasm", "more"], 3, ""),
     (
-        &["edit", "--keep-valid", "in.wasm", "script", "out.wasm"],
+        &[
+            "edit",
+            "--keep-valid",
+            "--keep-valid",
+            "in.wasm",
+            "script",
+            "out.wasm",
+        ],
         3,
         "",
     ),

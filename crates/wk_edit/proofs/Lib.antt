@@ -2,7 +2,10 @@ pub mod Cutting
 pub mod Utf8
 pub mod ScriptSteps
 pub mod ReportSteps
+pub mod Unread
 pub mod OutcomeLemmas
 pub mod Joining
 pub mod WordLaws
+pub mod NumberLaws
+pub mod EditLaws
 pub mod ScriptLaws

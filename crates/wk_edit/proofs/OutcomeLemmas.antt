@@ -1,17 +1,15 @@
 -- What is prepared is the outcome.
 use Rattle.std.proofs.Common.{◌≡◌, ◌≢◌, ℕ, Bool, true, false, ◌||◌, List, [], ◌∷◌, Result, Ok, Err, refl, sym, ap, subst, ◌∙◌, inl, inr}
-use Rattle.std.specs.Prelude.{IfOk, OnOk}
+use Rattle.std.specs.Prelude.{IfOk, OnOk, Some}
 use Rattle.std.specs.List.{list_any}
 use Rattle.wk_bytes.specs.declared.fault.ReadKind.{ReadKind}
-use Rattle.wk_bytes.specs.declared.fault.ReadKind.TheVariants as ReadKind
 use Rattle.wk_bytes.specs.declared.fault.ReadFault.{ReadFault}
 use Rattle.wk_module.specs.declared.types.Parts.{Parts}
 use Rattle.wk_bytes.specs.Stands.{StandsIn}
 use Rattle.wk_body.specs.declared.types.Profile.{Profile}
 use Rattle.wk_body.specs.Reads.{FailsAs}
-use Rattle.wk_module.specs.Modules.{Spells, SpellsNone}
+use Rattle.wk_module.specs.Modules.{SpellsNone}
 use Rattle.wk_module.specs.Reading.{module_at}
-use Rattle.wk_module.specs.Writing.{encoded}
 use Rattle.wk_check.specs.declared.fault.Verdict.{Verdict}
 use Rattle.wk_check.specs.Verdict.{module_verdict}
 use Rattle.wk_session.specs.declared.edit.Edit.{Edit}
@@ -19,15 +17,16 @@ use Rattle.wk_session.specs.declared.edit.Work.{Work}
 use Rattle.wk_session.specs.declared.edit.EditFault.{EditFault}
 use Rattle.wk_session.specs.Runs.{is_memory, reply_of, after_one, replies_of, after, refused_for_memory}
 use Rattle.wk_edit.specs.declared.fault.ScriptFault.{ScriptFault}
-use Rattle.wk_edit.specs.declared.fault.ScriptFault.TheVariants as ScriptFault
 use Rattle.wk_edit.specs.declared.fault.Status.{Status}
 use Rattle.wk_edit.specs.declared.fault.RunFault.{RunFault}
 use Rattle.wk_edit.specs.declared.prepared.Prepared.{Prepared}
 use Rattle.wk_edit.specs.Script.{script_of}
-use Rattle.wk_edit.specs.ScriptGrammar.{IsScript, IsNoScript, IsFaultOf}
+use Rattle.wk_edit.specs.ScriptGrammar.{IsScript, IsOnlyScript, IsNoScript, IsFaultOf}
 use Rattle.wk_edit.specs.ReportText.{report_text}
-use Rattle.wk_edit.specs.Outcome.{Outcome, malformed_outcome, run_status, run_outcome, script_outcome, outcome_on, outcome_of, IsReport}
-use Rattle.wk_edit.specs.Prepared.{IsPrepared}
+use Rattle.wk_edit.specs.Outcome.{Outcome, malformed_outcome, run_status, run_outcome, script_outcome, outcome_on, outcome_of}
+use Rattle.wk_edit.specs.Prepared.{IsPrepared, IsSpelled}
+use Rattle.wk_edit.specs.Theorem.{IsRun, IsRead, IsReport}
+use Rattle.wk_edit.proofs.Unread.{all_told}
 
 -- ---- no edit was refused for want of memory
 
@@ -35,49 +34,50 @@ either : (a b : Bool) → (a || b) ≡ false → (a ≡ false) × (b ≡ false)
 either true b h = absurd cc
 either false b h = (refl, h)
 
-after_unmarked : (es : List Edit) (rs : List (Result Work EditFault)) (m : Parts) → list_any is_memory rs ≡ false → after es (refused_for_memory rs) m ≡ after es [] m
-after_unmarked [] rs m h = refl
-after_unmarked (e ∷ es) [] m h = refl
-after_unmarked (e ∷ es) (r ∷ rs) m h =
-    let parts = either (is_memory r) (list_any is_memory rs) h in
-    ap (λ (b : Bool). after es (refused_for_memory rs) (after_one e b m)) parts.0 ∙ after_unmarked es rs (after_one e false m) parts.1
+module _ (keep : Bool) where
+  after_unmarked : (es : List Edit) (rs : List (Result Work EditFault)) (m : Parts) → list_any is_memory rs ≡ false → after keep es (refused_for_memory rs) m ≡ after keep es [] m
+  after_unmarked [] rs m h = refl
+  after_unmarked (e ∷ es) [] m h = refl
+  after_unmarked (e ∷ es) (r ∷ rs) m h =
+      let parts = either (is_memory r) (list_any is_memory rs) h in
+      ap (λ (b : Bool). after keep es (refused_for_memory rs) (after_one keep e b m)) parts.0 ∙ after_unmarked es rs (after_one keep e false m) parts.1
 
-replies_unmarked : (es : List Edit) (rs : List (Result Work EditFault)) (m : Parts) → list_any is_memory rs ≡ false → replies_of es (refused_for_memory rs) m ≡ replies_of es [] m
-replies_unmarked [] rs m h = refl
-replies_unmarked (e ∷ es) [] m h = refl
-replies_unmarked (e ∷ es) (r ∷ rs) m h =
-    let parts = either (is_memory r) (list_any is_memory rs) h in
-    ap (λ (b : Bool). reply_of e b m ∷ replies_of es (refused_for_memory rs) (after_one e b m)) parts.0
-    ∙ ap (λ (more : List (Result Work EditFault)). reply_of e false m ∷ more) (replies_unmarked es rs (after_one e false m) parts.1)
+  replies_unmarked : (es : List Edit) (rs : List (Result Work EditFault)) (m : Parts) → list_any is_memory rs ≡ false → replies_of keep es (refused_for_memory rs) m ≡ replies_of keep es [] m
+  replies_unmarked [] rs m h = refl
+  replies_unmarked (e ∷ es) [] m h = refl
+  replies_unmarked (e ∷ es) (r ∷ rs) m h =
+      let parts = either (is_memory r) (list_any is_memory rs) h in
+      ap (λ (b : Bool). reply_of keep e b m ∷ replies_of keep es (refused_for_memory rs) (after_one keep e b m)) parts.0
+      ∙ ap (λ (more : List (Result Work EditFault)). reply_of keep e false m ∷ more) (replies_unmarked es rs (after_one keep e false m) parts.1)
 
-module _ (m n : Parts) (es : List Edit) (rs : List (Result Work EditFault)) (v : Verdict) (no_memory : list_any is_memory rs ≡ false) (replies : rs ≡ replies_of es (refused_for_memory rs) m) (module_is : n ≡ after es (refused_for_memory rs) m) (judged : v ≡ module_verdict n) where
-  n_is : n ≡ after es [] m
-  n_is = module_is ∙ after_unmarked es rs m no_memory
+module _ (keep : Bool) (m n : Parts) (es : List Edit) (rs : List (Result Work EditFault)) (v : Verdict) (no_memory : list_any is_memory rs ≡ false) (replies : rs ≡ replies_of keep es (refused_for_memory rs) m) (module_is : n ≡ after keep es (refused_for_memory rs) m) (judged : v ≡ module_verdict n) where
+  n_is : n ≡ after keep es [] m
+  n_is = module_is ∙ after_unmarked keep es rs m no_memory
 
-  rs_are : rs ≡ replies_of es [] m
-  rs_are = replies ∙ replies_unmarked es rs m no_memory
+  rs_are : rs ≡ replies_of keep es [] m
+  rs_are = replies ∙ replies_unmarked keep es rs m no_memory
 
-  v_is : v ≡ module_verdict (after es [] m)
+  v_is : v ≡ module_verdict (after keep es [] m)
   v_is = judged ∙ ap module_verdict n_is
 
-  pub ran_out : encoded n ≡ (run_outcome m es).out
-  ran_out = ap encoded n_is
+  pub ran_session : (Some n) ≡ (run_outcome keep m es).edited
+  ran_session = ap Some n_is
 
-  pub ran_report : (text : List ℕ) → text ≡ report_text 1 rs v → text ≡ (run_outcome m es).report
-  ran_report text is = is ∙ ap (λ (r : List (Result Work EditFault)). report_text 1 r v) rs_are ∙ ap (report_text 1 (replies_of es [] m)) v_is
+  pub ran_report : (text : List ℕ) → text ≡ report_text 1 rs v → text ≡ (run_outcome keep m es).report
+  ran_report text is = is ∙ ap (λ (r : List (Result Work EditFault)). report_text 1 r v) rs_are ∙ ap (report_text 1 (replies_of keep es [] m)) v_is
 
-  pub ran_status : (status : Status) → status ≡ run_status rs v → status ≡ (run_outcome m es).status
-  ran_status status is = is ∙ ap (λ (r : List (Result Work EditFault)). run_status r v) rs_are ∙ ap (run_status (replies_of es [] m)) v_is
+  pub ran_status : (status : Status) → status ≡ run_status rs v → status ≡ (run_outcome keep m es).status
+  ran_status status is = is ∙ ap (λ (r : List (Result Work EditFault)). run_status r v) rs_are ∙ ap (run_status (replies_of keep es [] m)) v_is
 
 -- ---- the outcome by what was read
 
-pub outcome_ran : (profile : Profile) (input script : List ℕ) (m : Parts) (s : Result (List Edit) ScriptFault) → module_at profile input ≡ Ok m → script_of script ≡ s → outcome_of profile input script ≡ outcome_on m s
+outcome_ran : (keep : Bool) (profile : Profile) (input script : List ℕ) (m : Parts) (s : Result (List Edit) ScriptFault) → module_at profile input ≡ Ok m → script_of script ≡ s → outcome_of keep profile input script ≡ outcome_on keep m s
 unfolding outcome_of
-outcome_ran profile input script m s read said = rw (read, said) refl
+outcome_ran keep profile input script m s read said = rw (read, said) refl
 
-outcome_malformed : (profile : Profile) (input script : List ℕ) (e : ReadFault) → module_at profile input ≡ Err e → outcome_of profile input script ≡ malformed_outcome e
+outcome_malformed : (keep : Bool) (profile : Profile) (input script : List ℕ) (e : ReadFault) → module_at profile input ≡ Err e → outcome_of keep profile input script ≡ malformed_outcome e
 unfolding outcome_of
-outcome_malformed profile input script e read = rw read refl
+outcome_malformed keep profile input script e read = rw read refl
 
 other_fault : (e : ReadFault) (k : ReadKind) (read : Result Parts ReadFault) → k ≢ ReadKind.Memory → FailsAs e k read → read ≡ Err e
 other_fault e ReadKind.Memory read other fails = absurd (other refl)
@@ -85,26 +85,50 @@ other_fault e _ read other fails = fails
 
 -- ---- what `prepare` answers
 
-module _ (profile : Profile) (input script : List ℕ) where
-  pub malformed_ok : (r : Result Prepared RunFault) (e : ReadFault) → IfOk r (IsPrepared (malformed_outcome e)) → OnOk r (e.kind ≢ ReadKind.Memory) → FailsAs e e.kind (module_at profile input) → IfOk r (IsPrepared (outcome_of profile input script))
-  malformed_ok (Ok p) e is other fails = subst (λ (o : Outcome). IsPrepared o p) (sym (outcome_malformed profile input script e (other_fault e e.kind (module_at profile input) other fails))) is
+module _ (keep : Bool) (profile : Profile) (input script : List ℕ) where
+  pub malformed_ok : (r : Result Prepared RunFault) (e : ReadFault) → IfOk r (IsPrepared (malformed_outcome e)) → OnOk r (e.kind ≢ ReadKind.Memory) → FailsAs e e.kind (module_at profile input) → IfOk r (IsPrepared (outcome_of keep profile input script))
+  malformed_ok (Ok p) e is other fails = subst (λ (o : Outcome). IsPrepared o p) (sym (outcome_malformed keep profile input script e (other_fault e e.kind (module_at profile input) other fails))) is
   malformed_ok (Err f) e is other fails = tt
 
-  pub malformed_means : (r : Result Prepared RunFault) (e : ReadFault) → OnOk r (e.kind ≢ ReadKind.Memory) → FailsAs e e.kind (module_at profile input) → (e.kind ≢ ReadKind.Memory → SpellsNone profile input) → StandsIn input e → OnOk r (IsReport profile input script (outcome_of profile input script))
-  malformed_means (Ok p) e other fails none stands = inl (none other, (e, other, stands, outcome_malformed profile input script e (other_fault e e.kind (module_at profile input) other fails)))
+  pub malformed_means : (r : Result Prepared RunFault) (e : ReadFault) → OnOk r (e.kind ≢ ReadKind.Memory) → FailsAs e e.kind (module_at profile input) → (e.kind ≢ ReadKind.Memory → SpellsNone profile input) → StandsIn input e
+      → OnOk r (IsSpelled (outcome_of keep profile input script).edited → IsReport keep profile input script (outcome_of keep profile input script))
+  malformed_means (Ok p) e other fails none stands = λ _.
+      subst (IsReport keep profile input script) (sym (outcome_malformed keep profile input script e (other_fault e e.kind (module_at profile input) other fails)))
+      (inl (record { fault = e; none = none other; stands = stands; other = other; out = refl; report = refl; status = refl }))
   malformed_means (Err f) e other fails none stands = tt
 
-  pub ran_ok : (r : Result Prepared RunFault) (m : Parts) (s : Result (List Edit) ScriptFault) → IfOk r (IsPrepared (outcome_on m s)) → module_at profile input ≡ Ok m → script_of script ≡ s → IfOk r (IsPrepared (outcome_of profile input script))
-  ran_ok r m s is read said = subst (λ (o : Outcome). IfOk r (IsPrepared o)) (sym (outcome_ran profile input script m s read said)) is
+  pub ran_ok : (r : Result Prepared RunFault) (m : Parts) (s : Result (List Edit) ScriptFault) → IfOk r (IsPrepared (outcome_on keep m s)) → module_at profile input ≡ Ok m → script_of script ≡ s → IfOk r (IsPrepared (outcome_of keep profile input script))
+  ran_ok r m s is read said = subst (λ (o : Outcome). IfOk r (IsPrepared o)) (sym (outcome_ran keep profile input script m s read said)) is
 
-  pub ran_means : (r : Result Prepared RunFault) (m : Parts) (es : List Edit) → m.profile ≡ profile → Spells input m → module_at profile input ≡ Ok m → IsScript script es → script_of script ≡ Ok es → OnOk r (IsReport profile input script (outcome_of profile input script))
-  ran_means (Ok p) m es of spelled read is said = inr (m, of, spelled, inl (es, is, outcome_ran profile input script m (Ok es) read said))
-  ran_means (Err e) m es of spelled read is said = tt
+  run_told : (m : Parts) (es : List Edit) → IsScript script es → IsOnlyScript script es → IsSpelled (run_outcome keep m es).edited → IsRun keep m script (run_outcome keep m es)
+  run_told m es is only spelled = record {
+    edits = es;
+    spelled = is;
+    only = only;
+    edited = after keep es [] m;
+    made = refl;
+    out = refl;
+    spells = spelled.0;
+    alone = spelled.1;
+    told = all_told keep es m;
+    report = refl;
+    status = refl;
+  }
 
-  pub script_means : (r : Result Prepared RunFault) (m : Parts) (f : ScriptFault) → OnOk r (f ≢ ScriptFault.Memory) → m.profile ≡ profile → Spells input m → module_at profile input ≡ Ok m → (f ≢ ScriptFault.Memory → script_of script ≡ Err f) → (f ≢ ScriptFault.Memory → IsNoScript script) → (f ≢ ScriptFault.Memory → IsFaultOf script f) → OnOk r (IsReport profile input script (outcome_of profile input script))
-  script_means (Ok p) m f other of spelled read said none faulty = inr (m, of, spelled, inr (f, none other, faulty other, outcome_ran profile input script m (Err f) read (said other)))
-  script_means (Err e) m f other of spelled read said none faulty = tt
+  pub ran_means : (r : Result Prepared RunFault) (m : Parts) (es : List Edit) → IsRead profile input m → module_at profile input ≡ Ok m → IsScript script es → IsOnlyScript script es → script_of script ≡ Ok es
+      → OnOk r (IsSpelled (outcome_of keep profile input script).edited → IsReport keep profile input script (outcome_of keep profile input script))
+  ran_means (Ok p) m es of read is only said =
+      subst (λ (o : Outcome). IsSpelled o.edited → IsReport keep profile input script o) (sym (outcome_ran keep profile input script m (Ok es) read said))
+      (λ spelled. inr (m, of, inr (run_told m es is only spelled)))
+  ran_means (Err e) m es of read is only said = tt
 
-  pub script_ok : (r : Result Prepared RunFault) (m : Parts) (f : ScriptFault) → IfOk r (IsPrepared (script_outcome f)) → OnOk r (f ≢ ScriptFault.Memory) → module_at profile input ≡ Ok m → (f ≢ ScriptFault.Memory → script_of script ≡ Err f) → IfOk r (IsPrepared (outcome_of profile input script))
-  script_ok (Ok p) m f is other read said = subst (λ (o : Outcome). IsPrepared o p) (sym (outcome_ran profile input script m (Err f) read (said other))) is
+  pub script_means : (r : Result Prepared RunFault) (m : Parts) (f : ScriptFault) → OnOk r (f ≢ ScriptFault.Memory) → IsRead profile input m → module_at profile input ≡ Ok m → (f ≢ ScriptFault.Memory → script_of script ≡ Err f) → (f ≢ ScriptFault.Memory → IsNoScript script) → (f ≢ ScriptFault.Memory → IsFaultOf script f)
+      → OnOk r (IsSpelled (outcome_of keep profile input script).edited → IsReport keep profile input script (outcome_of keep profile input script))
+  script_means (Ok p) m f other of read said none faulty = λ _.
+      subst (IsReport keep profile input script) (sym (outcome_ran keep profile input script m (Err f) read (said other)))
+      (inr (m, of, inl (record { fault = f; none = none other; first = faulty other; out = refl; report = refl; status = refl })))
+  script_means (Err e) m f other of read said none faulty = tt
+
+  pub script_ok : (r : Result Prepared RunFault) (m : Parts) (f : ScriptFault) → IfOk r (IsPrepared (script_outcome f)) → OnOk r (f ≢ ScriptFault.Memory) → module_at profile input ≡ Ok m → (f ≢ ScriptFault.Memory → script_of script ≡ Err f) → IfOk r (IsPrepared (outcome_of keep profile input script))
+  script_ok (Ok p) m f is other read said = subst (λ (o : Outcome). IsPrepared o p) (sym (outcome_ran keep profile input script m (Err f) read (said other))) is
   script_ok (Err e) m f is other read said = tt

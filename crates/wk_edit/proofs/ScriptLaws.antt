@@ -1,146 +1,23 @@
 -- A script that is read is one, and one that is refused is none.
-use Rattle.std.proofs.Common.{◌≡◌, ◌==◌, ℕ, ◌+◌, ◌<◌, ◌≤◌, Bool, true, false, cond, inl, inr, ◌⊎◌, List, [], ◌∷◌, ◌++◌, length, Option, Some, None, Result, Ok, Err, codes, refl, sym, ap, subst, ◌∙◌, arith}
+use Rattle.std.proofs.Common.{◌≡◌, ◌==◌, ℕ, ◌+◌, ◌<◌, ◌≤◌, Bool, true, false, cond, inl, inr, ◌⊎◌, List, [], ◌∷◌, ◌++◌, length, Option, Some, None, Result, Ok, Err, refl, sym, ap, subst, ◌∙◌, arith}
 use Rattle.std.specs.Prelude.{All, ◌≢◌, IfOk, IfErr}
-use Rattle.std.specs.List.{AllPass, join_with_byte, list_any}
+use Rattle.std.specs.List.{join_with_byte, list_any}
 use Rattle.std.proofs.lemmas.List.{nil_from_length, length-append}
 use Rattle.std.proofs.lemmas.List.Elements.{All-nil, All-cons}
 use Rattle.std.proofs.lemmas.List.Folds.{list_any_none}
-use Rattle.std.proofs.lemmas.List.Sums.{AllPass-from_list_all}
 use Rattle.std.proofs.lemmas.List.Splits.{join_with_byte-slice_split}
 use Rattle.wk_session.specs.declared.edit.Edit.{Edit}
-use Rattle.wk_session.specs.declared.edit.Edit.TheVariants.{Ty, StripCustom, SetCustom, StripAll}
 use Rattle.wk_edit.specs.declared.fault.ScriptFault.{ScriptFault}
 use Rattle.wk_edit.specs.declared.fault.ScriptFault.TheVariants.{BadWord, NotAscii, Memory}
-use Rattle.wk_edit.specs.declared.line.Verb.{Verb}
-use Rattle.wk_edit.specs.declared.line.Verb.TheVariants.{TypeLine, CustomLine, StripLine}
 use Rattle.wk_edit.specs.Pieces.{pieces}
-use Rattle.wk_edit.specs.Words.{◌>>=◌, types_of, name_of, data_of, is_graphic}
-use Rattle.wk_edit.specs.Script.{Reads, type_edit, custom_edit, set_edit, verb_named, edit_by, edit_of, or_bad_word, is_high, line_edit, then_more, lines_from, script_of}
-use Rattle.wk_edit.specs.ScriptGrammar.{types_word, SpellsEdit, SpellsLine, SpellsLines, IsScript, IsOnlyScript, IsNoScript, IsFineLine, IsFirstWrong, IsFaultOf}
+use Rattle.wk_edit.specs.Words.{is_graphic}
+use Rattle.wk_edit.specs.Script.{Reads, edit_of, or_bad_word, is_high, line_edit, then_more, lines_from, script_of}
+use Rattle.wk_edit.specs.ScriptGrammar.{SpellsLine, SpellsLines, IsScript, IsOnlyScript, IsNoScript, IsFineLine, IsFirstWrong, IsFaultOf}
+use Rattle.wk_edit.proofs.EditLaws.{edit_told, edit_said, words_told}
 use Rattle.wk_edit.proofs.Joining.{IsWithout, pieces-join, All-join}
-use Rattle.wk_edit.proofs.WordLaws.{bind_some, some_is, tested, types_told, types_said, graphic_types, name_told, name_said, graphic_name, data_told, data_said, graphic_data}
-
--- ---- words of a line
-
-type_told : (params results : List ℕ) (e : Edit) → type_edit params results ≡ Some e → SpellsEdit (codes "type" ∷ params ∷ results ∷ []) e
-type_told params results e h =
-    let a = bind_some (types_of params) (λ ps. types_of results >>= λ rs. Some (Ty (record { params = ps; results = rs }))) e h in
-    let b = bind_some (types_of results) (λ rs. Some (Ty (record { params = a.0; results = rs }))) e a.2 in
-    subst (SpellsEdit (codes "type" ∷ params ∷ results ∷ [])) (some_is _ e b.2)
-    (ap (λ (w : List ℕ). codes "type" ∷ w ∷ results ∷ []) (types_told params a.0 a.1)
-    ∙ ap (λ (w : List ℕ). codes "type" ∷ types_word a.0 ∷ w ∷ []) (types_told results b.0 b.1))
-
-custom_told : (kind name : List ℕ) (e : Edit) → custom_edit kind name ≡ Some e → SpellsEdit (codes "custom" ∷ kind ∷ name ∷ []) e
-custom_told kind name e h = elim (tested kind (codes "strip") (name_of name >>= λ n. Some (StripCustom n)) None (Some e) h) [
-  | inl p ↦
-      let a = bind_some (name_of name) (λ n. Some (StripCustom n)) e p.1 in
-      subst (SpellsEdit (codes "custom" ∷ kind ∷ name ∷ [])) (some_is _ e a.2)
-      (name, ap (λ (w : List ℕ). codes "custom" ∷ w ∷ name ∷ []) p.0, name_told name a.0 a.1)
-  | inr p ↦ absurd cc
-]
-
-set_told : (kind name digits : List ℕ) (e : Edit) → set_edit kind name digits ≡ Some e → SpellsEdit (codes "custom" ∷ kind ∷ name ∷ digits ∷ []) e
-set_told kind name digits e h = elim (tested kind (codes "set") (name_of name >>= λ n. data_of digits >>= λ bytes. Some (SetCustom n bytes)) None (Some e) h) [
-  | inl p ↦
-      let a = bind_some (name_of name) (λ n. data_of digits >>= λ bytes. Some (SetCustom n bytes)) e p.1 in
-      let b = bind_some (data_of digits) (λ bytes. Some (SetCustom a.0 bytes)) e a.2 in
-      subst (SpellsEdit (codes "custom" ∷ kind ∷ name ∷ digits ∷ [])) (some_is _ e b.2)
-      (name, digits, ap (λ (w : List ℕ). codes "custom" ∷ w ∷ name ∷ digits ∷ []) p.0, name_told name a.0 a.1, data_told digits b.0 b.1)
-  | inr p ↦ absurd cc
-]
-
-verb_word : Verb → List ℕ
-verb_word TypeLine = codes "type"
-verb_word CustomLine = codes "custom"
-verb_word StripLine = codes "strip"
-
-verb_is : (w : List ℕ) (v : Verb) → verb_named w ≡ Some v → w ≡ verb_word v
-unfolding verb_word
-verb_is w v e = elim (tested w (codes "type") _ _ _ e) [
-  | inl p ↦ p.0 ∙ ap verb_word (some_is TypeLine v p.1)
-  | inr p ↦ elim (tested w (codes "custom") _ _ _ p.1) [
-    | inl q ↦ q.0 ∙ ap verb_word (some_is CustomLine v q.1)
-    | inr q ↦ elim (tested w (codes "strip") _ _ _ q.1) [
-      | inl r ↦ r.0 ∙ ap verb_word (some_is StripLine v r.1)
-      | inr r ↦ absurd cc
-    ]
-  ]
-]
-
-by_told : (v : Verb) (ws : List (List ℕ)) (e : Edit) → edit_by v ws ≡ Some e → SpellsEdit (verb_word v ∷ ws) e
-unfolding verb_word
-by_told TypeLine [] e h = absurd cc
-by_told TypeLine (a ∷ []) e h = absurd cc
-by_told TypeLine (a ∷ b ∷ []) e h = type_told a b e h
-by_told TypeLine (a ∷ b ∷ c ∷ ws) e h = absurd cc
-by_told CustomLine [] e h = absurd cc
-by_told CustomLine (a ∷ []) e h = absurd cc
-by_told CustomLine (a ∷ b ∷ []) e h = custom_told a b e h
-by_told CustomLine (a ∷ b ∷ c ∷ []) e h = set_told a b c e h
-by_told CustomLine (a ∷ b ∷ c ∷ d ∷ ws) e h = absurd cc
-by_told StripLine [] e h = subst (SpellsEdit (codes "strip" ∷ [])) (some_is StripAll e h) refl
-by_told StripLine (a ∷ ws) e h = absurd cc
-
-edit_told : (ws : List (List ℕ)) (e : Edit) → edit_of ws ≡ Some e → SpellsEdit ws e
-edit_told [] e h = absurd cc
-edit_told (w ∷ ws) e h =
-    let a = bind_some (verb_named w) (λ v. edit_by v ws) e h in
-    subst (λ (v : List ℕ). SpellsEdit (v ∷ ws) e) (sym (verb_is w a.0 a.1)) (by_told a.0 ws e a.2)
-
-edit_said : (ws : List (List ℕ)) (e : Edit) → SpellsEdit ws e → edit_of ws ≡ Some e
-edit_said ws (Ty t) h = rw (h, types_said t.params, types_said t.results) refl
-edit_said ws (StripCustom name) h = rw (h.1, name_said h.0 name h.2) refl
-edit_said ws (SetCustom name bytes) h = rw (h.2, name_said h.0 name h.3, data_said h.1 bytes h.4) refl
-edit_said ws StripAll h = rw h refl
+use Rattle.wk_edit.proofs.WordLaws.{some_is}
 
 -- ---- lines
-
--- the words of a spelled edit
-record AreWords (ws : List (List ℕ)) : Type 0 where
-  first : List ℕ
-  more : List (List ℕ)
-  parts : ws ≡ first ∷ more
-  some : 0 < length first
-  graphic : All (AllPass is_graphic) ws
-
-three_graphic : (a b c : List ℕ) → AllPass is_graphic a → AllPass is_graphic b → AllPass is_graphic c → All (AllPass is_graphic) (a ∷ b ∷ c ∷ [])
-three_graphic a b c is_a is_b is_c =
-    All-cons (AllPass is_graphic) a (b ∷ c ∷ []) is_a (All-cons (AllPass is_graphic) b (c ∷ []) is_b (All-cons (AllPass is_graphic) c [] is_c (All-nil (AllPass is_graphic))))
-
-words_told : (ws : List (List ℕ)) (e : Edit) → SpellsEdit ws e → AreWords ws
-words_told ws (Ty t) h = record {
-  first = codes "type";
-  more = types_word t.params ∷ types_word t.results ∷ [];
-  parts = h;
-  some = omega arith;
-  graphic = subst (All (AllPass is_graphic)) (sym h)
-      (three_graphic (codes "type") (types_word t.params) (types_word t.results) (AllPass-from_list_all is_graphic (codes "type") refl) (graphic_types t.params) (graphic_types t.results));
-}
-words_told ws (StripCustom name) h = record {
-  first = codes "custom";
-  more = codes "strip" ∷ h.0 ∷ [];
-  parts = h.1;
-  some = omega arith;
-  graphic = subst (All (AllPass is_graphic)) (sym h.1)
-      (three_graphic (codes "custom") (codes "strip") h.0 (AllPass-from_list_all is_graphic (codes "custom") refl) (AllPass-from_list_all is_graphic (codes "strip") refl) (graphic_name h.0 name h.2));
-}
-words_told ws (SetCustom name bytes) h = record {
-  first = codes "custom";
-  more = codes "set" ∷ h.0 ∷ h.1 ∷ [];
-  parts = h.2;
-  some = omega arith;
-  graphic = subst (All (AllPass is_graphic)) (sym h.2)
-      (All-cons (AllPass is_graphic) (codes "custom") (codes "set" ∷ h.0 ∷ h.1 ∷ []) (AllPass-from_list_all is_graphic (codes "custom") refl)
-      (three_graphic (codes "set") h.0 h.1 (AllPass-from_list_all is_graphic (codes "set") refl) (graphic_name h.0 name h.3) (graphic_data h.1 bytes h.4)));
-}
-words_told ws StripAll h = record {
-  first = codes "strip";
-  more = [];
-  parts = h;
-  some = omega arith;
-  graphic = subst (All (AllPass is_graphic)) (sym h)
-      (All-cons (AllPass is_graphic) (codes "strip") [] (AllPass-from_list_all is_graphic (codes "strip") refl) (All-nil (AllPass is_graphic)));
-}
 
 graphic_below : (x : ℕ) → is_graphic x ≡ true → is_high x ≡ false
 graphic_below x e = grind (arith, e)

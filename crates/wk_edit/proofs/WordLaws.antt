@@ -14,9 +14,11 @@ use Rattle.hex.specs.declared.error.FromHexError.{FromHexError}
 use Rattle.hex.proofs.HexLemmas.{decode_of-ok}
 use Rattle.wk_body.specs.declared.types.ValType.{ValType}
 use Rattle.wk_body.specs.declared.types.ValType.TheVariants.{I32, I64, F32, F64}
+use Rattle.wk_module.specs.declared.types.Kind.{Kind}
+use Rattle.wk_module.specs.declared.types.Kind.TheVariants as kinds
 use Rattle.wk_edit.specs.Pieces.{pieces}
-use Rattle.wk_edit.specs.Words.{◌>>=◌, type_named, all_named, types_of, is_graphic, is_plain, utf8_of, name_of, spelled_of, data_of}
-use Rattle.wk_edit.specs.ScriptGrammar.{type_name, types_word, IsPlainName, IsHexName, SpellsName, SpellsData}
+use Rattle.wk_edit.specs.Words.{◌>>=◌, kind_named, mutable_named, type_named, all_named, types_of, is_graphic, is_plain, utf8_of, name_of, spelled_of, data_of}
+use Rattle.wk_edit.specs.ScriptGrammar.{kind_word, mutable_word, type_name, types_word, IsPlainName, IsHexName, SpellsName, SpellsData}
 use Rattle.wk_edit.proofs.Joining.{IsWithout, pieces-join, All-join}
 
 -- ---- tests and steps
@@ -45,7 +47,7 @@ unequal a b differ = by (bytes_eq a b) refl
 
 -- ---- types
 
-type_is : (w : List ℕ) (t : ValType) → type_named w ≡ Some t → w ≡ type_name t
+pub type_is : (w : List ℕ) (t : ValType) → type_named w ≡ Some t → w ≡ type_name t
 type_is w t e = elim (tested w (codes "i32") _ _ _ e) [
   | inl p ↦ p.0 ∙ ap type_name (some_is I32 t p.1)
   | inr p ↦ elim (tested w (codes "i64") _ _ _ p.1) [
@@ -85,7 +87,7 @@ types_told w ts e = elim (tested w (codes "-") (Some []) (all_named (pieces 44 w
   | inr p ↦ joined_types w ts (types_are (pieces 44 w) ts p.1)
 ]
 
-type_back : (t : ValType) → type_named (type_name t) ≡ Some t
+pub type_back : (t : ValType) → type_named (type_name t) ≡ Some t
 type_back I32 = refl
 type_back I64 = refl
 type_back F32 = refl
@@ -96,7 +98,7 @@ unfolding all_named
 types_back [] = refl
 types_back (t ∷ ts) = rw (type_back t, types_back ts) refl
 
-graphic_type : (t : ValType) → AllPass is_graphic (type_name t)
+pub graphic_type : (t : ValType) → AllPass is_graphic (type_name t)
 graphic_type I32 = AllPass-from_list_all is_graphic (codes "i32") refl
 graphic_type I64 = AllPass-from_list_all is_graphic (codes "i64") refl
 graphic_type F32 = AllPass-from_list_all is_graphic (codes "f32") refl
@@ -138,6 +140,52 @@ types_said (t ∷ ts) =
 pub graphic_types : (ts : List ValType) → AllPass is_graphic (types_word ts)
 graphic_types [] = AllPass-from_list_all is_graphic (codes "-") refl
 graphic_types (t ∷ ts) = All-join (λ x. is_graphic x ≡ true) 44 (map type_name (t ∷ ts)) refl (each_type (AllPass is_graphic) graphic_type (t ∷ ts))
+
+-- ---- kinds and globals
+
+pub kind_told : (w : List ℕ) (k : Kind) → kind_named w ≡ Some k → w ≡ kind_word k
+kind_told w k e = elim (tested w (codes "func") _ _ _ e) [
+  | inl p ↦ p.0 ∙ ap kind_word (some_is kinds.Func k p.1)
+  | inr p ↦ elim (tested w (codes "table") _ _ _ p.1) [
+    | inl q ↦ q.0 ∙ ap kind_word (some_is kinds.Table k q.1)
+    | inr q ↦ elim (tested w (codes "memory") _ _ _ q.1) [
+      | inl r ↦ r.0 ∙ ap kind_word (some_is kinds.Memory k r.1)
+      | inr r ↦ elim (tested w (codes "global") _ _ _ r.1) [
+        | inl s ↦ s.0 ∙ ap kind_word (some_is kinds.Global k s.1)
+        | inr s ↦ absurd cc
+      ]
+    ]
+  ]
+]
+
+pub kind_said : (k : Kind) → kind_named (kind_word k) ≡ Some k
+kind_said kinds.Func = refl
+kind_said kinds.Table = refl
+kind_said kinds.Memory = refl
+kind_said kinds.Global = refl
+
+pub graphic_kind : (k : Kind) → AllPass is_graphic (kind_word k)
+graphic_kind kinds.Func = AllPass-from_list_all is_graphic (codes "func") refl
+graphic_kind kinds.Table = AllPass-from_list_all is_graphic (codes "table") refl
+graphic_kind kinds.Memory = AllPass-from_list_all is_graphic (codes "memory") refl
+graphic_kind kinds.Global = AllPass-from_list_all is_graphic (codes "global") refl
+
+pub mutable_told : (w : List ℕ) (b : Bool) → mutable_named w ≡ Some b → w ≡ mutable_word b
+mutable_told w b e = elim (tested w (codes "const") _ _ _ e) [
+  | inl p ↦ p.0 ∙ ap mutable_word (some_is false b p.1)
+  | inr p ↦ elim (tested w (codes "var") _ _ _ p.1) [
+    | inl q ↦ q.0 ∙ ap mutable_word (some_is true b q.1)
+    | inr q ↦ absurd cc
+  ]
+]
+
+pub mutable_said : (b : Bool) → mutable_named (mutable_word b) ≡ Some b
+mutable_said false = refl
+mutable_said true = refl
+
+pub graphic_mutable : (b : Bool) → AllPass is_graphic (mutable_word b)
+graphic_mutable false = AllPass-from_list_all is_graphic (codes "const") refl
+graphic_mutable true = AllPass-from_list_all is_graphic (codes "var") refl
 
 -- ---- names
 

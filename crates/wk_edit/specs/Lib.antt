@@ -5,3 +5,4 @@ pub mod ReportText
 pub mod Outcome
 pub mod Prepared
 pub mod ScriptGrammar
+pub mod Theorem

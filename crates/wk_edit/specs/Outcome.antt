@@ -1,14 +1,11 @@
--- What the main job gives: the bytes of the edited module, the report and the status.
-use Rattle.std.specs.Prelude.{◌≡◌, ◌≢◌, ℕ, ◌+◌, Bool, true, false, ◌&&◌, ◌⊎◌, if◌then◌else◌, Option, List, [], Result, Ok, Err}
+-- What the main job gives: the edited module, the report and the status.
+use Rattle.std.specs.Prelude.{◌≡◌, ℕ, ◌+◌, Bool, true, false, ◌&&◌, if◌then◌else◌, Option, Some, None, List, [], Result, Ok, Err}
 use Rattle.std.specs.List.{list_all}
 use Rattle.std.specs.Io.KnownBytes.{Appends}
-use Rattle.wk_bytes.specs.declared.fault.ReadKind.TheVariants as kinds
 use Rattle.wk_bytes.specs.declared.fault.ReadFault.{ReadFault}
 use Rattle.wk_bytes.specs.Taken.{TakesFront}
 use Rattle.wk_module.specs.declared.types.Parts.{Parts}
-use Rattle.wk_bytes.specs.Stands.{StandsIn}
 use Rattle.wk_body.specs.declared.types.Profile.{Profile}
-use Rattle.wk_module.specs.Modules.{Spells, SpellsNone}
 use Rattle.wk_module.specs.Reading.{module_at}
 use Rattle.wk_module.specs.Writing.{encoded}
 use Rattle.wk_check.specs.declared.fault.Verdict.{Verdict}
@@ -24,21 +21,30 @@ use Rattle.wk_edit.specs.declared.fault.Status.TheVariants.{Accepted, Refused, M
 use Rattle.wk_edit.specs.declared.fault.RunFault.{RunFault}
 use Rattle.wk_edit.specs.declared.fault.RunFault.TheVariants.{Out, Report, Memory}
 use Rattle.wk_edit.specs.Script.{script_of}
-use Rattle.wk_edit.specs.ScriptGrammar.{IsScript, IsNoScript, IsFaultOf}
 use Rattle.wk_edit.specs.ReportText.{malformed_text, script_text, report_text}
 
 pub record Outcome : Type 0 where
-  pub out : List ℕ
+  -- the edited module, where a module and a script were read
+  pub edited : Option Parts
   pub report : List ℕ
   pub status : Status
+
+-- the written form of the module, if there is one
+abbrev pub bytes_of : Option Parts → List ℕ
+bytes_of None = []
+bytes_of (Some m) = encoded m
+
+-- what is written of the module
+abbrev pub out_of : Outcome → List ℕ
+out_of o = bytes_of o.edited
 
 -- ---- of a module that cannot be read, of a script that cannot be read, of a run
 
 abbrev pub malformed_outcome : ReadFault → Outcome
-malformed_outcome fault = record { out = []; report = malformed_text fault; status = Malformed }
+malformed_outcome fault = record { edited = None; report = malformed_text fault; status = Malformed }
 
 abbrev pub script_outcome : ScriptFault → Outcome
-script_outcome fault = record { out = []; report = script_text fault; status = BadScript }
+script_outcome fault = record { edited = None; report = script_text fault; status = BadScript }
 
 abbrev pub is_accepted : Result Work EditFault → Bool
 is_accepted (Ok work) = true
@@ -52,42 +58,28 @@ is_valid (Invalid fault) = false
 abbrev pub run_status : List (Result Work EditFault) → Verdict → Status
 run_status replies verdict = if list_all is_accepted replies && is_valid verdict then Accepted else Refused
 
--- the module after the edits, their replies, and the verdict, with no edit refused for want of memory
-abbrev pub run_outcome : Parts → List Edit → Outcome
-run_outcome m edits =
-    let n = after edits [] m in
-    let replies = replies_of edits [] m in
+-- The module after the edits, their replies, and the verdict, with no edit refused for want of memory. `keep` says whether each edit has to
+-- leave a valid module.
+abbrev pub run_outcome : Bool → Parts → List Edit → Outcome
+run_outcome keep m edits =
+    let n = after keep edits [] m in
+    let replies = replies_of keep edits [] m in
     let verdict = module_verdict n in
-    record { out = encoded n; report = report_text 1 replies verdict; status = run_status replies verdict }
+    record { edited = Some n; report = report_text 1 replies verdict; status = run_status replies verdict }
 
 -- ---- of bytes
 
-abbrev pub outcome_on : Parts → Result (List Edit) ScriptFault → Outcome
-outcome_on m (Ok edits) = run_outcome m edits
-outcome_on m (Err fault) = script_outcome fault
+abbrev pub outcome_on : Bool → Parts → Result (List Edit) ScriptFault → Outcome
+outcome_on keep m (Ok edits) = run_outcome keep m edits
+outcome_on keep m (Err fault) = script_outcome fault
 
-abbrev pub outcome_by : Result Parts ReadFault → Result (List Edit) ScriptFault → Outcome
-outcome_by (Ok m) script = outcome_on m script
-outcome_by (Err fault) script = malformed_outcome fault
+abbrev pub outcome_by : Bool → Result Parts ReadFault → Result (List Edit) ScriptFault → Outcome
+outcome_by keep (Ok m) script = outcome_on keep m script
+outcome_by keep (Err fault) script = malformed_outcome fault
 
 -- the module is read first, then the script
-unfoldable pub outcome_of : Profile → List ℕ → List ℕ → Outcome
-outcome_of profile input script = outcome_by (module_at profile input) (script_of script)
-
--- ---- in the words of the grammars
-
--- The script spells edits, and they are made on the module; or it spells none, and the report names its first faulty line.
-abbrev pub IsReportOn : Parts → List ℕ → Outcome → Type 0
-IsReportOn m script o =
-    ((edits : List Edit) × IsScript script edits × (o ≡ run_outcome m edits))
-    ⊎ ((fault : ScriptFault) × IsNoScript script × IsFaultOf script fault × (o ≡ script_outcome fault))
-
--- The input spells no module of the profile, and the report names a fault that stands in it, which is never want of memory;
--- or it spells a module.
-abbrev pub IsReport : Profile → List ℕ → List ℕ → Outcome → Type 0
-IsReport profile input script o =
-    (SpellsNone profile input × ((fault : ReadFault) × (fault.kind ≢ kinds.Memory) × StandsIn input fault × (o ≡ malformed_outcome fault)))
-    ⊎ ((m : Parts) × (m.profile ≡ profile) × Spells input m × IsReportOn m script o)
+unfoldable pub outcome_of : Bool → Profile → List ℕ → List ℕ → Outcome
+outcome_of keep profile input script = outcome_by keep (module_at profile input) (script_of script)
 
 -- ---- statuses
 
@@ -109,9 +101,9 @@ OnRun (Err Memory) P = Unit {0}
 
 -- what the output of the module took
 abbrev pub OutTakes : Option (List ℕ) → Option (List ℕ) → Outcome → Result Status RunFault → Type 0
-OutTakes old new o (Ok status) = Appends old new o.out
-OutTakes old new o (Err Out) = TakesFront old new o.out
-OutTakes old new o (Err Report) = Appends old new o.out
+OutTakes old new o (Ok status) = Appends old new (out_of o)
+OutTakes old new o (Err Out) = TakesFront old new (out_of o)
+OutTakes old new o (Err Report) = Appends old new (out_of o)
 OutTakes old new o (Err Memory) = new ≡ old
 
 -- what the output of the report took

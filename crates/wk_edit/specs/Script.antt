@@ -3,51 +3,117 @@ use Rattle.std.specs.Prelude.{◌≡◌, ◌≢◌, ℕ, ◌+◌, nat_le, Bool, 
 use Rattle.std.specs.List.{list_any}
 use Rattle.std.specs.Str.{bytes_eq}
 use Rattle.wk_session.specs.declared.edit.Edit.{Edit}
-use Rattle.wk_session.specs.declared.edit.Edit.TheVariants.{Ty, StripCustom, SetCustom, StripAll}
-use Rattle.wk_edit.specs.declared.line.Verb.{Verb}
-use Rattle.wk_edit.specs.declared.line.Verb.TheVariants.{TypeLine, CustomLine, StripLine}
+use Rattle.wk_session.specs.declared.edit.Edit.TheVariants as edits
+use Rattle.wk_edit.specs.declared.verb.Verb.{Verb}
+use Rattle.wk_edit.specs.declared.verb.Verb.TheVariants as verbs
 use Rattle.wk_edit.specs.declared.fault.ScriptFault.{ScriptFault}
 use Rattle.wk_edit.specs.declared.fault.ScriptFault.TheVariants.{BadWord, NotAscii, Memory}
 use Rattle.wk_edit.specs.Pieces.{pieces}
-use Rattle.wk_edit.specs.Words.{◌>>=◌, types_of, name_of, data_of}
+use Rattle.wk_edit.specs.Words.{◌>>=◌, types_of, number_of, kind_named, global_type_of, desc_of, name_of, data_of}
 
--- ---- lines
+-- ---- edits, by the words behind the first one
 
--- `type PARAMS RESULTS`: a type of these parameters and results
-abbrev pub type_edit : List ℕ → List ℕ → Option Edit
-type_edit params results = do
+-- `type PARAMS RESULTS`
+abbrev pub type_edit : List (List ℕ) → Option Edit
+type_edit (params ∷ results ∷ []) = do
   ps ← types_of params
   rs ← types_of results
-  Some (Ty (record { params = ps; results = rs }))
+  Some (edits.Ty (record { params = ps; results = rs }))
+type_edit _ = None
 
--- `custom strip NAME`: the customs of that name go
-abbrev pub custom_edit : List ℕ → List ℕ → Option Edit
-custom_edit kind name = if bytes_eq kind (codes "strip") then (do
+-- `import KIND MODULE NAME ..`, where what stands behind the names depends on the kind
+abbrev pub import_edit : List (List ℕ) → Option Edit
+import_edit (kind ∷ «module» ∷ name ∷ more) = do
+  k ← kind_named kind
+  desc ← desc_of k more
+  from ← name_of «module»
   n ← name_of name
-  Some (StripCustom n)) else None
+  Some (edits.Import (record { from = from; name = n; desc = desc }))
+import_edit _ = None
 
--- `custom set NAME BYTES`: a custom of that name has these bytes
-abbrev pub set_edit : List ℕ → List ℕ → List ℕ → Option Edit
-set_edit kind name digits = if bytes_eq kind (codes "set") then (do
+-- `func TYPE CODE`
+abbrev pub func_edit : List (List ℕ) → Option Edit
+func_edit (ty ∷ digits ∷ []) = do
+  t ← number_of ty
+  code ← data_of digits
+  Some (edits.Func t code)
+func_edit _ = None
+
+-- `body FUNCTION CODE`
+abbrev pub body_edit : List (List ℕ) → Option Edit
+body_edit (func ∷ digits ∷ []) = do
+  x ← number_of func
+  code ← data_of digits
+  Some (edits.Body x code)
+body_edit _ = None
+
+-- `global VALTYPE MUT INIT`
+abbrev pub global_edit : List (List ℕ) → Option Edit
+global_edit (val ∷ set ∷ digits ∷ []) = do
+  t ← global_type_of val set
+  init ← data_of digits
+  Some (edits.Global t init)
+global_edit _ = None
+
+-- `export KIND NAME INDEX`
+abbrev pub export_edit : List (List ℕ) → Option Edit
+export_edit (kind ∷ name ∷ index ∷ []) = do
+  k ← kind_named kind
+  x ← number_of index
+  n ← name_of name
+  Some (edits.Export (record { name = n; kind = k; index = x }))
+export_edit _ = None
+
+-- `unexport NAME`
+abbrev pub unexport_edit : List (List ℕ) → Option Edit
+unexport_edit (name ∷ []) = do
+  n ← name_of name
+  Some (edits.Unexport n)
+unexport_edit _ = None
+
+-- `custom set NAME BYTES` and `custom strip NAME`
+abbrev pub custom_edit : List (List ℕ) → Option Edit
+custom_edit (kind ∷ name ∷ []) = if bytes_eq kind (codes "strip") then (do
+  n ← name_of name
+  Some (edits.StripCustom n)) else None
+custom_edit (kind ∷ name ∷ digits ∷ []) = if bytes_eq kind (codes "set") then (do
   n ← name_of name
   bytes ← data_of digits
-  Some (SetCustom n bytes)) else None
+  Some (edits.SetCustom n bytes)) else None
+custom_edit _ = None
+
+-- `strip`
+abbrev pub strip_edit : List (List ℕ) → Option Edit
+strip_edit [] = Some edits.StripAll
+strip_edit _ = None
+
+-- ---- lines
 
 -- what the first word of a line asks for
 abbrev pub verb_named : List ℕ → Option Verb
 verb_named w =
-    if bytes_eq w (codes "type") then Some TypeLine
-    else if bytes_eq w (codes "custom") then Some CustomLine
-    else if bytes_eq w (codes "strip") then Some StripLine
+    if bytes_eq w (codes "type") then Some verbs.TypeLine
+    else if bytes_eq w (codes "import") then Some verbs.ImportLine
+    else if bytes_eq w (codes "func") then Some verbs.FuncLine
+    else if bytes_eq w (codes "body") then Some verbs.BodyLine
+    else if bytes_eq w (codes "global") then Some verbs.GlobalLine
+    else if bytes_eq w (codes "export") then Some verbs.ExportLine
+    else if bytes_eq w (codes "unexport") then Some verbs.UnexportLine
+    else if bytes_eq w (codes "custom") then Some verbs.CustomLine
+    else if bytes_eq w (codes "strip") then Some verbs.StripLine
     else None
 
 -- the edit that a line asks for by its other words
 abbrev pub edit_by : Verb → List (List ℕ) → Option Edit
-edit_by TypeLine (params ∷ results ∷ []) = type_edit params results
-edit_by CustomLine (kind ∷ name ∷ []) = custom_edit kind name
-edit_by CustomLine (kind ∷ name ∷ digits ∷ []) = set_edit kind name digits
-edit_by StripLine [] = Some StripAll
-edit_by _ _ = None
+edit_by verbs.TypeLine words = type_edit words
+edit_by verbs.ImportLine words = import_edit words
+edit_by verbs.FuncLine words = func_edit words
+edit_by verbs.BodyLine words = body_edit words
+edit_by verbs.GlobalLine words = global_edit words
+edit_by verbs.ExportLine words = export_edit words
+edit_by verbs.UnexportLine words = unexport_edit words
+edit_by verbs.CustomLine words = custom_edit words
+edit_by verbs.StripLine words = strip_edit words
 
 -- the edit that the words of a line name
 abbrev pub edit_of : List (List ℕ) → Option Edit

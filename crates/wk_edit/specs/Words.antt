@@ -1,11 +1,18 @@
 -- What the words of a script's line say.
-use Rattle.std.specs.Prelude.{ℕ, nat_le, ◌&&◌, not, ◌==◌, Bool, if◌then◌else◌, Option, Some, None, List, [], ◌∷◌, take, drop, length, Result, Ok, Err, codes}
+use Rattle.std.specs.Prelude.{ℕ, ◌^◌, nat_le, nat_lt, ◌&&◌, not, ◌==◌, Bool, true, false, if◌then◌else◌, Option, Some, None, List, [], ◌∷◌, take, drop, length, Result, Ok, Err, codes, decimal}
 use Rattle.std.specs.List.{list_all}
 use Rattle.std.specs.Str.{bytes_eq, is_utf8}
+use Rattle.std.specs.Str.Parse.{digits_value}
 use Rattle.hex.specs.Hex.{decode_of}
 use Rattle.hex.specs.declared.error.FromHexError.{FromHexError}
 use Rattle.wk_body.specs.declared.types.ValType.{ValType}
 use Rattle.wk_body.specs.declared.types.ValType.TheVariants.{I32, I64, F32, F64}
+use Rattle.wk_module.specs.declared.types.GlobalType.{GlobalType}
+use Rattle.wk_module.specs.declared.types.ImportDesc.{ImportDesc}
+use Rattle.wk_module.specs.declared.types.ImportDesc.TheVariants as descs
+use Rattle.wk_module.specs.declared.types.Kind.{Kind}
+use Rattle.wk_module.specs.declared.types.Kind.TheVariants as kinds
+use Rattle.wk_module.specs.declared.types.Limits.{Limits}
 use Rattle.wk_edit.specs.Pieces.{pieces}
 
 -- the `?` of options
@@ -36,6 +43,66 @@ all_named (w ∷ ws) = do
 -- `-` is no types; else names joined by `,`
 abbrev pub types_of : List ℕ → Option (List ValType)
 types_of w = if bytes_eq w (codes "-") then Some [] else all_named (pieces 44 w)
+
+-- ---- numbers
+
+-- the number that the digits write, where it is below 2 ^ 32 and the word is its text in decimal
+unfoldable pub number_of : List ℕ → Option ℕ
+number_of w =
+    let n = digits_value 10 w in
+    if nat_lt n (2 ^ 32) && bytes_eq w (decimal n) then Some n else None
+
+-- a number, and another or none
+abbrev pub limits_of : List (List ℕ) → Option Limits
+limits_of (min ∷ []) = do
+  n ← number_of min
+  Some (record { min = n; max = None })
+limits_of (min ∷ max ∷ []) = do
+  n ← number_of min
+  x ← number_of max
+  Some (record { min = n; max = Some x })
+limits_of _ = None
+
+-- ---- kinds, globals and imports
+
+-- the kind of a name
+abbrev pub kind_named : List ℕ → Option Kind
+kind_named w =
+    if bytes_eq w (codes "func") then Some kinds.Func
+    else if bytes_eq w (codes "table") then Some kinds.Table
+    else if bytes_eq w (codes "memory") then Some kinds.Memory
+    else if bytes_eq w (codes "global") then Some kinds.Global
+    else None
+
+-- whether a global may be set
+abbrev pub mutable_named : List ℕ → Option Bool
+mutable_named w =
+    if bytes_eq w (codes "const") then Some false
+    else if bytes_eq w (codes "var") then Some true
+    else None
+
+-- the type of a global, by the names of its value's type and of whether it may be set
+abbrev pub global_type_of : List ℕ → List ℕ → Option GlobalType
+global_type_of val set = do
+  t ← type_named val
+  mutable ← mutable_named set
+  Some (record { val = t; mutable = mutable })
+
+-- what is imported, by its kind and the words behind its names
+abbrev pub desc_of : Kind → List (List ℕ) → Option ImportDesc
+desc_of kinds.Func (ty ∷ []) = do
+  t ← number_of ty
+  Some (descs.Func t)
+desc_of kinds.Table words = do
+  l ← limits_of words
+  Some (descs.Table l)
+desc_of kinds.Memory words = do
+  l ← limits_of words
+  Some (descs.Memory l)
+desc_of kinds.Global (val ∷ set ∷ []) = do
+  g ← global_type_of val set
+  Some (descs.Global g)
+desc_of _ _ = None
 
 -- ---- names
 

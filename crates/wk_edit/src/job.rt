@@ -1,16 +1,34 @@
 //! The main job, from bytes to bytes.
-ghost use Rattle.std.specs.Prelude.{◌≡◌, ◌-◌, ◌<◌, ◌^◌, IfOk};
-ghost use Rattle.wk_edit.specs.Outcome.{outcome_of, out_failures, report_failures, IsReport, OnRun, OutTakes, ReportTakes};
+ghost use Rattle.std.specs.Prelude.{◌≡◌, ◌-◌, ◌<◌, ◌^◌, IfOk, OnOk, IfErr};
+ghost use Rattle.std.specs.Io.KnownBytes.{Appends};
+ghost use Rattle.wk_session.specs.Written.{Leaves, failures_after_write};
+ghost use Rattle.wk_edit.specs.Outcome.{bytes_of, outcome_of, out_failures, report_failures, OnRun, OutTakes, ReportTakes};
+ghost use Rattle.wk_edit.specs.Prepared.{IsSpelled};
+ghost use Rattle.wk_edit.specs.Theorem.{IsReport};
 
 use crate::fault::{RunFault, Status};
 use crate::prepared::{Prepared, prepare};
 use std::alloc::Global;
 use wk_bytes::{Out, OutFault, put_all};
 use wk_module::Profile;
-use wk_session::WriteFault;
+use wk_session::{Session, WriteFault};
+
+// Writes the edited module, if there is one.
+fn write_edited<W: Out>(session: &Option<Session>, out: &mut W) -> Result<(), WriteFault>
+    requires { W.failed out.old < 2 ^ 64 - 1 }
+    ensures ok { OnOk result (Appends (W.taken out.old) (W.taken out.new) (bytes_of session.now)) }
+    ensures err { IfErr result (Leaves (W.taken out.old) (W.taken out.new) (bytes_of session.now)) }
+    ensures failures { W.failed out.new ≡ failures_after_write (W.failed out.old) result }
+    ensures spelled { IsSpelled session.now }
+{
+    match session {
+        Some(session) => session.write(out),
+        None => Ok(()),
+    }
+}
 
 /// Reads the module `input` of a profile, makes the edits of `script` on it in order, writes the edited module to `out` and a
-/// report to `report`.
+/// report to `report`. Where `keep_valid` says so, an edit that would leave an invalid module is refused.
 ///
 /// The module is read first, then the script, and all is computed before the first byte is written. A module or a
 /// script that cannot be read gives a report of one line and no module. Want of memory, also where an edit met it, is
@@ -19,31 +37,30 @@ pub fn edit_in<W: Out, X: Out>(
     alloc: Global,
     input: &[u8],
     script: &[u8],
+    keep_valid: bool,
     profile: Profile,
     out: &mut W,
     report: &mut X,
 ) -> Result<Status, RunFault>
     requires out { W.failed out.old < 2 ^ 64 - 1 }
     requires report { X.failed report.old < 2 ^ 64 - 1 }
-    ensures status { IfOk result (λ status. status ≡ (outcome_of profile input.now script.now).status) }
-    ensures out { OutTakes (W.taken out.old) (W.taken out.new) (outcome_of profile input.now script.now) result }
-    ensures report { ReportTakes (X.taken report.old) (X.taken report.new) (outcome_of profile input.now script.now) result }
+    ensures status { IfOk result (λ status. status ≡ (outcome_of keep_valid profile input.now script.now).status) }
+    ensures out { OutTakes (W.taken out.old) (W.taken out.new) (outcome_of keep_valid profile input.now script.now) result }
+    ensures report { ReportTakes (X.taken report.old) (X.taken report.new) (outcome_of keep_valid profile input.now script.now) result }
     ensures out_failures { W.failed out.new ≡ out_failures (W.failed out.old) result }
     ensures report_failures { X.failed report.new ≡ report_failures (X.failed report.old) result }
-    // The outcome is what the grammar, the edits and the verdict say.
-    ensures means { OnRun result (IsReport profile input.now script.now (outcome_of profile input.now script.now)) }
+    // The outcome is what the grammar, the edits and the verdict say, and what is written spells the edited module and no other.
+    ensures means { OnRun result (IsReport keep_valid profile input.now script.now (outcome_of keep_valid profile input.now script.now)) }
 {
     let Prepared {
         session,
         text,
         status,
-    } = prepare(alloc, input, script, profile)?;
-    if let Some(session) = session {
-        match session.write(out) {
-            Ok(()) => {}
-            Err(WriteFault::Write) => return Err(RunFault::Out),
-            Err(WriteFault::Memory) => return Err(RunFault::Memory),
-        }
+    } = prepare(alloc, input, script, keep_valid, profile)?;
+    match write_edited(&session, out) {
+        Ok(()) => {}
+        Err(WriteFault::Write) => return Err(RunFault::Out),
+        Err(WriteFault::Memory) => return Err(RunFault::Memory),
     }
     match put_all(report, text.as_bytes()) {
         Ok(()) => Ok(status),
@@ -56,17 +73,18 @@ pub fn edit<W: Out, X: Out>(
     alloc: Global,
     input: &[u8],
     script: &[u8],
+    keep_valid: bool,
     out: &mut W,
     report: &mut X,
 ) -> Result<Status, RunFault>
     requires out { W.failed out.old < 2 ^ 64 - 1 }
     requires report { X.failed report.old < 2 ^ 64 - 1 }
-    ensures status { IfOk result (λ status. status ≡ (outcome_of Profile.Core input.now script.now).status) }
-    ensures out { OutTakes (W.taken out.old) (W.taken out.new) (outcome_of Profile.Core input.now script.now) result }
-    ensures report { ReportTakes (X.taken report.old) (X.taken report.new) (outcome_of Profile.Core input.now script.now) result }
+    ensures status { IfOk result (λ status. status ≡ (outcome_of keep_valid Profile.Core input.now script.now).status) }
+    ensures out { OutTakes (W.taken out.old) (W.taken out.new) (outcome_of keep_valid Profile.Core input.now script.now) result }
+    ensures report { ReportTakes (X.taken report.old) (X.taken report.new) (outcome_of keep_valid Profile.Core input.now script.now) result }
     ensures out_failures { W.failed out.new ≡ out_failures (W.failed out.old) result }
     ensures report_failures { X.failed report.new ≡ report_failures (X.failed report.old) result }
-    ensures means { OnRun result (IsReport Profile.Core input.now script.now (outcome_of Profile.Core input.now script.now)) }
+    ensures means { OnRun result (IsReport keep_valid Profile.Core input.now script.now (outcome_of keep_valid Profile.Core input.now script.now)) }
 {
-    edit_in(alloc, input, script, Profile::Core, out, report)
+    edit_in(alloc, input, script, keep_valid, Profile::Core, out, report)
 }

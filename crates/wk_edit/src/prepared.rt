@@ -2,15 +2,16 @@
 ghost use Rattle.std.specs.Prelude.{◌≡◌, ◌≢◌, Err, IfOk, IfErr, OnOk, false};
 ghost use Rattle.std.specs.List.{list_all, list_any};
 ghost use Rattle.wk_session.specs.declared.edit.EditFault.{EditFault};
-ghost use Rattle.wk_session.specs.Runs.{is_memory};
-ghost use Rattle.wk_edit.specs.Outcome.{is_accepted, is_valid, malformed_outcome, outcome_of, run_outcome, run_status, script_outcome, IsReport};
-ghost use Rattle.wk_edit.specs.Prepared.{IsPrepared};
+ghost use Rattle.wk_session.specs.Runs.{is_memory, replies_of, after, refused_for_memory};
+ghost use Rattle.wk_edit.specs.Outcome.{is_accepted, is_valid, malformed_outcome, outcome_of, run_outcome, run_status, script_outcome};
+ghost use Rattle.wk_edit.specs.Prepared.{IsPrepared, IsSpelled};
+ghost use Rattle.wk_edit.specs.Theorem.{IsReport};
 
 use crate::fault::{RunFault, ScriptFault, Status};
 use crate::lines::{malformed_line, refused_script, report};
 use crate::script::read_script;
 use std::alloc::Global;
-use wk_bytes::{ReadFault, ReadKind};
+use wk_bytes::{OutOfMemory, ReadFault, ReadKind};
 use wk_check::Verdict;
 use wk_module::Profile;
 use wk_session::{Edit, EditFault, Reply, Session};
@@ -85,13 +86,34 @@ fn status_of(replies: &[Reply], verdict: &Verdict) -> Status
     }
 }
 
+// Makes edits in order, each of which has to leave a valid module where `keep_valid` says so.
+fn make_edits(
+    session: &mut Session,
+    edits: &[Edit],
+    keep_valid: bool,
+) -> Result<Vec<Reply>, OutOfMemory>
+    ensures replies { IfOk result (λ rs. rs.items ≡ replies_of keep_valid edits.now (refused_for_memory rs.items) session.old) }
+    ensures module_is { IfOk result (λ rs. session.new ≡ after keep_valid edits.now (refused_for_memory rs.items) session.old) }
+{
+    if keep_valid {
+        session.run_kept(edits)
+    } else {
+        session.run(edits)
+    }
+}
+
 // Of a run of edits.
-fn of_run(alloc: Global, session: Session, edits: &[Edit]) -> Result<Prepared, RunFault>
-    ensures ok { IfOk result (IsPrepared (run_outcome session edits.now)) }
+fn of_run(
+    alloc: Global,
+    session: Session,
+    edits: &[Edit],
+    keep_valid: bool,
+) -> Result<Prepared, RunFault>
+    ensures ok { IfOk result (IsPrepared (run_outcome keep_valid session edits.now)) }
     ensures memory { IfErr result (λ e. e ≡ RunFault.Memory) }
 {
     let mut session = session;
-    let replies = session.run(edits)?;
+    let replies = make_edits(&mut session, edits, keep_valid)?;
     if has_memory(&replies) {
         return Err(RunFault::Memory);
     }
@@ -109,10 +131,12 @@ pub(crate) fn prepare(
     alloc: Global,
     input: &[u8],
     script: &[u8],
+    keep_valid: bool,
     profile: Profile,
 ) -> Result<Prepared, RunFault>
-    ensures ok { IfOk result (IsPrepared (outcome_of profile input.now script.now)) }
-    ensures means { OnOk result (IsReport profile input.now script.now (outcome_of profile input.now script.now)) }
+    ensures ok { IfOk result (IsPrepared (outcome_of keep_valid profile input.now script.now)) }
+    ensures means { OnOk result (IsSpelled (outcome_of keep_valid profile input.now script.now).edited
+        → IsReport keep_valid profile input.now script.now (outcome_of keep_valid profile input.now script.now)) }
     ensures memory { IfErr result (λ e. e ≡ RunFault.Memory) }
 {
     let session = match Session::open_in(alloc, input, profile) {
@@ -120,7 +144,7 @@ pub(crate) fn prepare(
         Err(fault) => return of_malformed(alloc, &fault),
     };
     match read_script(alloc, script) {
-        Ok(edits) => of_run(alloc, session, &edits),
+        Ok(edits) => of_run(alloc, session, &edits, keep_valid),
         Err(fault) => of_script(alloc, &fault),
     }
 }

@@ -31,13 +31,21 @@ fn read_lines(alloc: Global, bytes: &[u8]) -> Result<Vec<Edit>, ScriptFault>
 /// Lines end with LF, which the last one may lack, and count from 1. An empty line gives no edit.
 /// Any other is one edit, in words of the bytes `21` to `7E` parted by exactly one space:
 ///
-/// - `type TYPES TYPES` appends a type of these parameters and results. TYPES is `-` for none,
-///   or `i32`, `i64`, `f32` and `f64` joined by `,`.
-/// - `custom strip NAME` removes the custom sections of that name. NAME is a word that does not
-///   begin with `x:`, or `x:` and the name's bytes in hexadecimal, which are UTF-8.
-/// - `custom set NAME BYTES` gives the first custom section of that name these bytes, or appends one. BYTES is `-` for none,
-///   or two hexadecimal digits for each.
+/// - `type TYPES TYPES` appends a type of these parameters and results.
+/// - `import func NAME NAME U32`, `import table NAME NAME U32 [U32]`, `import memory NAME NAME U32 [U32]` and
+///   `import global NAME NAME VALTYPE MUT` append an import: its module's name, its name there, and the index of its type, its least
+///   and its greatest size, or its type.
+/// - `func U32 BYTES` appends a function of the type with this index, and `body U32 BYTES` replaces the body of the function with this
+///   index; the bytes are its code, without the size.
+/// - `global VALTYPE MUT BYTES` appends a global, whose first value is that of the expression of these bytes.
+/// - `export KIND NAME U32` appends an export, and `unexport NAME` removes the first of that name.
+/// - `custom set NAME BYTES` gives the first custom section of that name these bytes, or appends one, and `custom strip NAME` removes
+///   those of that name.
 /// - `strip` removes all custom sections.
+///
+/// TYPES is `-` for none, or value types joined by `,`. VALTYPE is `i32`, `i64`, `f32` or `f64`, MUT is `const` or `var`, and KIND is
+/// `func`, `table`, `memory` or `global`. U32 is decimal, without a zero in front. NAME is a word that does not begin with `x:`, or
+/// `x:` and the name's bytes in hexadecimal, which are UTF-8. BYTES is `-` for none, or two hexadecimal digits for each.
 ///
 /// A wrong line with a byte of `80` or above is S2, any other S1.
 pub fn read_script(alloc: Global, bytes: &[u8]) -> Result<Vec<Edit>, ScriptFault>

@@ -176,7 +176,7 @@ fn edits(rt: HostRuntime) -> Result<(), Fail> {
     for (input, script, status, whole, text) in ROWS {
         let mut out = Sink::new(Vec::from_slice(rt.alloc(), b"a")?);
         let mut report = Sink::new(Vec::from_slice(rt.alloc(), b"b")?);
-        let answer = edit(rt.alloc(), input, script, &mut out, &mut report);
+        let answer = edit(rt.alloc(), input, script, false, &mut out, &mut report);
         assert_eq!(rt; answer, Ok(status), "{script:?}");
         assert_eq!(rt;
             out.into_inner().strip_prefix(b"a"),
@@ -200,7 +200,7 @@ fn stops_where_the_module_fails(rt: HostRuntime) -> Result<(), Fail> {
             for left in 0..CALLS {
                 let mut out = Chopped::new(rt.alloc(), most, left);
                 let mut report = Sink::new(Vec::new(rt.alloc()));
-                let answer = edit(rt.alloc(), input, script, &mut out, &mut report);
+                let answer = edit(rt.alloc(), input, script, false, &mut out, &mut report);
                 is_written = out.failures() == 0;
                 let (wanted, line) = if is_written {
                     (Ok(status), text)
@@ -229,7 +229,7 @@ fn stops_where_the_report_fails(rt: HostRuntime) -> Result<(), Fail> {
             for left in 0..CALLS {
                 let mut out = Sink::new(Vec::new(rt.alloc()));
                 let mut report = Chopped::new(rt.alloc(), most, left);
-                let answer = edit(rt.alloc(), input, script, &mut out, &mut report);
+                let answer = edit(rt.alloc(), input, script, false, &mut out, &mut report);
                 is_written = report.failures() == 0;
                 let wanted = if is_written {
                     Ok(status)

@@ -101,7 +101,7 @@ impl Job {
         requires report { ⟦<Sink as Out>⟧.failed report ≡ 0 }
     {
         call_begins(alloc);
-        let answer = edit(alloc, self.input, self.script, &mut out, &mut report);
+        let answer = edit(alloc, self.input, self.script, false, &mut out, &mut report);
         call_ends(alloc);
         match answer {
             Ok(status) => {

@@ -5,13 +5,14 @@ use Rattle.wk_session.specs.declared.edit.EditFault.{EditFault}
 use Rattle.wk_session.specs.Runs.{is_memory}
 use Rattle.wk_edit.specs.Outcome.{run_status}
 use Rattle.wk_edit.specs.ReportText.{report_text}
-use Rattle.wk_edit.proofs.OutcomeLemmas.{ran_out, ran_report, ran_status}
+use Rattle.wk_edit.proofs.OutcomeLemmas.{ran_session, ran_report, ran_status}
 use Rattle.wk_edit.proofs.prepared.of_run.Goals as goal
 
 pub returns-clause-ok : goal.returns-clause-ok
 returns-clause-ok c =
+    let keep = c.args.keep_valid in
     let m = c.args.session in
-    let n = c.run.new.self in
+    let n = c.make_edits.new.session in
     let es = c.args.edits.now in
     let rs = c.in_ok-replies.replies.items in
     let none : list_any is_memory rs ≡ false = ap (list_any is_memory) (sym c.deref.ensures.value) ∙ sym c.has_memory.ensures ∙ c.if-has_memory.false in
@@ -20,7 +21,7 @@ returns-clause-ok c =
     let text = c.in_ok-text.ensures ∙ ap (λ (r : List (Result Work EditFault)). report_text 1 r c.verdict.result.now) c.deref-2.ensures.value in
     let status = c.status_of-status.ensures ∙ ap (λ (r : List (Result Work EditFault)). run_status r c.verdict-2.result.now) c.deref-3.ensures.value in
     record {
-      out = ran_out m n es rs c.verdict.result.now none replies module_is c.verdict.ensures;
-      report = ran_report m n es rs c.verdict.result.now none replies module_is c.verdict.ensures _ text;
-      status = ran_status m n es rs c.verdict-2.result.now none replies module_is c.verdict-2.ensures _ status;
+      session = ran_session keep m n es rs c.verdict.result.now none replies module_is c.verdict.ensures;
+      report = ran_report keep m n es rs c.verdict.result.now none replies module_is c.verdict.ensures _ text;
+      status = ran_status keep m n es rs c.verdict-2.result.now none replies module_is c.verdict-2.ensures _ status;
     }
