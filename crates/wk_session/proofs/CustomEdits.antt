@@ -1,5 +1,5 @@
 -- Custom sections changed, and what is kept then.
-use Rattle.std.proofs.Common.{◌≡◌, ◌≢◌, ℕ, ◌≤◌, Bool, true, false, if◌then◌else◌, List, [], ◌∷◌, not, filter, length, None, Option, Some, Result, Ok, Err, refl, sym, ap, subst, ◌∙◌, arith}
+use Rattle.std.proofs.Common.{◌≡◌, ◌≢◌, ℕ, Bool, true, false, if◌then◌else◌, List, [], ◌∷◌, filter, length, Some, Result, Ok, Err, refl, sym, ap, subst, ◌∙◌, arith}
 use Rattle.std.specs.List.{list_any}
 use Rattle.wk_bytes.specs.Leb.{◌>>=◌}
 use Rattle.wk_body.specs.Lengths.{limited}
@@ -8,7 +8,6 @@ use Rattle.wk_module.specs.declared.types.Parts.{Parts}
 use Rattle.wk_module.specs.Shape.{IsFormed, settle}
 use Rattle.wk_module.specs.Writing.{encoded, Fits}
 use Rattle.wk_module.specs.WritingLaws.{length-encoded_filter, length-encoded_settle}
-use Rattle.wk_check.specs.Verdict.{module_verdict}
 use Rattle.wk_session.specs.declared.edit.Edit.TheVariants as edits
 use Rattle.wk_session.specs.declared.edit.EditFault.{EditFault}
 use Rattle.wk_session.specs.declared.edit.EditFault.TheVariants.{NoSuchCustom, Memory}

@@ -1,5 +1,5 @@
 -- A custom given other bytes, or put behind all others.
-use Rattle.std.proofs.Common.{◌≡◌, ℕ, zero, suc, ◌+◌, ◌<◌, ◌≤◌, nat_lt, Bool, true, false, cond, inl, inr, Option, Some, None, List, [], ◌∷◌, ◌++◌, length, slice_index_or, slice_set, refl, sym, ap, ◌∙◌, arith, length-append}
+use Rattle.std.proofs.Common.{◌≡◌, ℕ, zero, suc, ◌+◌, ◌<◌, ◌≤◌, nat_lt, Bool, true, false, cond, inl, inr, Some, None, List, [], ◌∷◌, ◌++◌, length, slice_index_or, slice_set, refl, ap, ◌∙◌, arith, length-append}
 use Rattle.std.proofs.lemmas.Bool.{cases_Bool}
 use Rattle.std.specs.List.{flat_map, position, position_or_len}
 use Rattle.std.specs.Str.{IsUtf8}
@@ -7,7 +7,7 @@ use Rattle.wk_module.specs.declared.types.Parts.{Parts}
 use Rattle.wk_module.specs.declared.types.Custom.{Custom}
 use Rattle.wk_module.specs.Shape.{IsInOrderFrom, AreNamed, IsFormed}
 use Rattle.wk_module.specs.ShapeLaws.{customs_formed, push_formed}
-use Rattle.wk_module.specs.Writing.{encoded, section_of, ids}
+use Rattle.wk_module.specs.Writing.{encoded}
 use Rattle.wk_module.specs.WritingLaws.{length-encoded, written_frame}
 use Rattle.wk_session.specs.Customs.{bytes_at, last_custom}
 use Rattle.wk_session.specs.Edits.{is_named, with_bytes, custom_put}

@@ -1,17 +1,16 @@
 -- What is found before and now, and what that says of a body's verdict.
-use Rattle.std.proofs.Common.{◌≡◌, ℕ, zero, suc, ◌+◌, ◌<◌, Bool, true, false, not, ◌||◌, List, [], ◌∷◌, length, take, map, get_or, count_by, refl, sym, ap, subst, ◌∙◌, inl, inr, arith}
-use Rattle.std.specs.Prelude.{◌↔◌, OnOk, Result, Ok, Err}
-use Rattle.std.specs.List.{list_any, AllByRecursion}
-use Rattle.std.proofs.lemmas.Bool.{cases_Bool, or_parts, or_left, or_right, false≢true}
+use Rattle.std.proofs.Common.{◌≡◌, ℕ, zero, suc, ◌+◌, ◌<◌, Bool, true, false, not, List, [], ◌∷◌, length, take, map, get_or, count_by, refl, sym, ap, ◌∙◌, inl, inr, arith}
+use Rattle.std.specs.Prelude.{OnOk, Result, Ok, Err}
+use Rattle.std.specs.List.{list_any}
+use Rattle.std.proofs.lemmas.Bool.{cases_Bool, or_parts}
 use Rattle.std.proofs.lemmas.List.Sums.{count_by_more_yes, count_by_more_no}
 use Rattle.wk_body.specs.declared.references.Ref.{Ref}
-use Rattle.wk_body.specs.declared.references.Ref.TheVariants as refs
 use Rattle.wk_module.specs.declared.types.Func.{Func}
 use Rattle.wk_list.specs.UsesLaws.{any_in_order}
 use Rattle.wk_check.specs.Answers.{Found}
 use Rattle.wk_check.specs.Carried.{Agree}
-use Rattle.wk_check.specs.Finds.{is_there, AreThere, Grows}
-use Rattle.wk_session.specs.Dependents.{same_found, held, differs_in, is_retyped_in, one_if}
+use Rattle.wk_check.specs.Finds.{AreThere, Grows}
+use Rattle.wk_session.specs.Dependents.{same_found, held, differs_in, one_if}
 use Rattle.wk_session.specs.Kept.{uses_of}
 use Rattle.wk_session.proofs.SameFound.{found_exact, found_same}
 

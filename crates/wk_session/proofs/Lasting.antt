@@ -1,5 +1,5 @@
 -- A valid module is valid after edits that have to leave a valid one.
-use Rattle.std.proofs.Common.{◌≡◌, Bool, true, false, List, [], ◌∷◌, Result, Ok, Err, refl, sym, ap, subst, ◌∙◌}
+use Rattle.std.proofs.Common.{◌≡◌, Bool, true, false, List, [], ◌∷◌, Result, Ok, Err, refl, ap, ◌∙◌}
 use Rattle.std.specs.Prelude.{IfOk, OnErr}
 use Rattle.wk_bytes.specs.Leb.{◌>>=◌}
 use Rattle.wk_module.specs.declared.types.Parts.{Parts}
@@ -8,7 +8,7 @@ use Rattle.wk_check.specs.declared.fault.Verdict.TheVariants.{Valid, Invalid}
 use Rattle.wk_check.specs.Verdict.{module_verdict}
 use Rattle.wk_session.specs.declared.edit.Edit.{Edit}
 use Rattle.wk_session.specs.declared.edit.EditFault.{EditFault}
-use Rattle.wk_session.specs.Edits.{edited, made, lasting, unbroken}
+use Rattle.wk_session.specs.Edits.{edited, lasting, unbroken}
 use Rattle.wk_session.specs.Runs.{left_by, after_one, after}
 
 unbroken_valid : (m n : Parts) (v : Verdict) → module_verdict m ≡ Valid → module_verdict n ≡ v → module_verdict (left_by m (unbroken n v)) ≡ Valid

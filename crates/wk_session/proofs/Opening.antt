@@ -1,15 +1,14 @@
 -- What is kept of a module that is opened.
-use Rattle.std.proofs.Common.{◌≡◌, ℕ, ◌<◌, ◌≤◌, ◌^◌, List, [], ◌∷◌, length, map, arith, length-append}
+use Rattle.std.proofs.Common.{ℕ, ◌≤◌, List, [], ◌∷◌, length, map, arith, length-append}
 use Rattle.std.specs.List.{AllByRecursion, flat_map}
 use Rattle.wk_bytes.specs.Frames.{limit}
 use Rattle.wk_bytes.specs.Short.{short}
-use Rattle.wk_body.specs.Bodies.{BodyOf}
 use Rattle.wk_body.specs.Written.{written_body}
 use Rattle.wk_module.specs.declared.types.Func.{Func}
 use Rattle.wk_module.specs.declared.types.Parts.{Parts}
 use Rattle.wk_module.specs.Items.{written_code}
 use Rattle.wk_module.specs.Sections.{CodeSection}
-use Rattle.wk_module.specs.Writing.{encoded, section_contents, Fits}
+use Rattle.wk_module.specs.Writing.{section_contents, Fits}
 use Rattle.wk_module.specs.WritingLaws.{contents_within}
 use Rattle.wk_session.specs.Kept.{code_size}
 use Rattle.std.proofs.Common.{Some}

@@ -1,5 +1,5 @@
 -- Worked modules: what edits make of them and take, by computing.
-use Rattle.std.proofs.Common.{◌≡◌, ℕ, true, false, Option, Some, None, List, [], ◌∷◌, ◌++◌, Result, Ok, Err, refl}
+use Rattle.std.proofs.Common.{◌≡◌, ℕ, false, Some, None, [], ◌∷◌, Ok, Err, refl}
 use Rattle.wk_body.specs.declared.types.Profile.TheVariants.{Core}
 use Rattle.wk_body.specs.declared.types.ValType.TheVariants.{I32}
 use Rattle.wk_body.specs.Instructions.{Call, GlobalGet, I32Const}
@@ -18,10 +18,9 @@ use Rattle.wk_check.specs.Verdict.{module_verdict}
 use Rattle.wk_check.specs.declared.fault.Verdict.TheVariants.{Valid, Invalid}
 use Rattle.wk_session.specs.declared.edit.Edit.TheVariants as edits
 use Rattle.wk_session.specs.declared.edit.Work.{Work}
-use Rattle.wk_session.specs.declared.edit.EditFault.{EditFault}
-use Rattle.wk_session.specs.declared.edit.EditFault.TheVariants.{NoSuchExport, NoSuchFunction, WouldBreak}
+use Rattle.wk_session.specs.declared.edit.EditFault.TheVariants.{NoSuchExport}
 use Rattle.wk_module.specs.Changes.{with_import, with_type, with_func, with_body, without_first}
-use Rattle.wk_session.specs.Edits.{entry_of, export_removed, custom_stripped, lasting, made}
+use Rattle.wk_session.specs.Edits.{entry_of, export_removed}
 use Rattle.wk_session.specs.Dependents.{work_of}
 
 abbrev plain_type : FuncType

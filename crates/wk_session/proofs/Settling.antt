@@ -1,5 +1,5 @@
 -- What an edit leads to, told of the module with its customs settled.
-use Rattle.std.proofs.Common.{◌≡◌, Bool, false, Result, Ok, Err, refl, sym, ap, subst, ◌∙◌}
+use Rattle.std.proofs.Common.{◌≡◌, Bool, false, Result, Ok, Err, sym, ap, subst, ◌∙◌}
 use Rattle.std.specs.Prelude.{IfErr}
 use Rattle.wk_module.specs.declared.types.Parts.{Parts}
 use Rattle.wk_module.specs.Shape.{IsFormed, IsShaped, settle}
@@ -8,9 +8,9 @@ use Rattle.wk_session.specs.declared.edit.EditFault.{EditFault}
 use Rattle.wk_session.specs.declared.edit.EditFault.TheVariants.{Memory}
 use Rattle.wk_session.specs.declared.edit.Work.{Work}
 use Rattle.wk_session.specs.declared.kept.Kept.{Kept}
-use Rattle.wk_session.specs.Edits.{is_decided, made}
+use Rattle.wk_session.specs.Edits.{is_decided}
 use Rattle.wk_session.specs.Kept.{IsKept, Leads}
-use Rattle.wk_session.specs.Runs.{is_memory, reply_of, reply_to, after_one}
+use Rattle.wk_session.specs.Runs.{is_memory, reply_of, after_one}
 use Rattle.wk_session.proofs.Keeping.{kept_settled}
 use Rattle.wk_session.proofs.Outcomes.{reply_refused, after_refused, reply_accepted, after_accepted}
 

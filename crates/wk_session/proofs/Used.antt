@@ -1,5 +1,5 @@
 -- The sets of references, by their code entries.
-use Rattle.std.proofs.Common.{◌≡◌, ℕ, Result, Ok, Err, Option, Some, None, List, [], ◌∷◌, length, map, refl, sym, ap, ◌∙◌, Bor}
+use Rattle.std.proofs.Common.{◌≡◌, ℕ, Result, Ok, Err, Option, Some, None, List, ◌∷◌, length, map, refl, sym, ap, ◌∙◌, Bor}
 use Rattle.std.specs.BTreeSet.{BTreeSet}
 use Rattle.std.specs.Prelude.{option_map, slice_get, IfOk}
 use Rattle.std.specs.Slice.{IsItemAt}

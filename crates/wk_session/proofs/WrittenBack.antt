@@ -1,5 +1,5 @@
 -- The written form of a session's module spells no other.
-use Rattle.std.proofs.Common.{◌≡◌, ℕ, ◌∙◌, ap, sym, subst, length}
+use Rattle.std.proofs.Common.{◌≡◌, ◌∙◌, ap, sym, subst, length}
 use Rattle.wk_module.specs.declared.types.Parts.{Parts}
 use Rattle.wk_module.specs.Modules.{Spells}
 use Rattle.wk_module.specs.Writing.{encoded, Fits}

@@ -66,13 +66,7 @@ fn take_parts(alloc: Global, module: &mut Module) -> Parts
 }
 
 // Makes one edit of the parts of a module.
-fn edit_parts(
-    alloc: Global,
-    keep: bool,
-    parts: &mut Parts,
-    kept: &mut Kept,
-    edit: &Edit,
-) -> Reply
+fn edit_parts(alloc: Global, keep: bool, parts: &mut Parts, kept: &mut Kept, edit: &Edit) -> Reply
     requires shaped { IsShaped parts.old }
     requires kept { IsKept parts.old kept.old }
     ensures { Leads keep edit.now parts.old result parts.new kept.new }

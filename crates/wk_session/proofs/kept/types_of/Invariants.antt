@@ -1,5 +1,4 @@
 use Rattle.std.proofs.Common.{◌≡◌, take, map}
-
 use Rattle.wk_session.proofs.kept.types_of.Given as goal
 
 abbrev pub invariant-loop-func : goal.invariant-loop-func

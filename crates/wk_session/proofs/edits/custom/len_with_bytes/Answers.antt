@@ -1,10 +1,9 @@
-use Rattle.std.proofs.Common.{◌≡◌, ◌≤◌, ◌+◌, List, length, slice_index_or, refl, sym, ap, ◌∙◌, arith}
+use Rattle.std.proofs.Common.{◌≡◌, ◌≤◌, List, length, slice_index_or, refl, sym, ap, ◌∙◌, arith}
 use Rattle.wk_body.specs.Lengths.{limited}
 use Rattle.wk_body.specs.LengthsLaws.{limited_some, limited_none}
 use Rattle.wk_module.specs.declared.types.Custom.{Custom}
 use Rattle.wk_module.specs.Writing.{encoded}
 use Rattle.wk_module.specs.WritingLaws.{custom_within, written_frame}
-use Rattle.wk_session.specs.Customs.{bytes_at}
 use Rattle.wk_session.specs.Edits.{with_bytes}
 use Rattle.wk_session.proofs.CustomPuts.{length_bytes}
 use Rattle.wk_session.proofs.edits.custom.len_with_bytes.Goals as goal

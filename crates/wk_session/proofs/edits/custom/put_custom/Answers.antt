@@ -1,6 +1,5 @@
-use Rattle.std.proofs.Common.{◌≡◌, List, ap, sym, subst, ◌∙◌, ◌++◌, ◌∷◌, []}
+use Rattle.std.proofs.Common.{List, sym, subst, ◌∙◌}
 use Rattle.wk_module.specs.declared.types.Custom.{Custom}
-use Rattle.wk_module.specs.declared.types.Parts.{Parts}
 use Rattle.wk_session.specs.Customs.{IsPut}
 use Rattle.wk_session.proofs.CustomPuts.{put_at, put_last}
 use Rattle.wk_session.proofs.edits.custom.put_custom.Goals as goal

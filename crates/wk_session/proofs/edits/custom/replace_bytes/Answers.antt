@@ -1,9 +1,7 @@
-use Rattle.std.proofs.Common.{◌≡◌, List, ℕ, ◌++◌, ◌∷◌, [], length, Some, refl, sym, ap, subst, ◌∙◌}
+use Rattle.std.proofs.Common.{List, ℕ, refl, sym, ap, ◌∙◌}
 use Rattle.std.proofs.lemmas.Result.{err_from_is_err_and}
 use Rattle.wk_module.specs.declared.types.Parts.{Parts}
-use Rattle.wk_session.specs.declared.kept.Kept.{Kept}
-use Rattle.wk_session.specs.Customs.{bytes_at, last_custom}
-use Rattle.wk_session.specs.Kept.{IsKept}
+use Rattle.wk_session.specs.Customs.{bytes_at}
 use Rattle.wk_session.proofs.CustomEdits.{fits_settled, customs_kept, put_checked, put_wanting}
 use Rattle.wk_session.proofs.CustomPuts.{bytes_formed}
 use Rattle.wk_session.proofs.edits.custom.replace_bytes.Goals as goal

@@ -1,8 +1,7 @@
 use Rattle.std.proofs.Common.{◌≡◌, List, [], Some, Ok, length, refl, sym, ap, subst, ◌∙◌}
 use Rattle.wk_body.specs.Lengths.{limited}
 use Rattle.wk_module.specs.declared.types.Custom.{Custom}
-use Rattle.wk_module.specs.declared.types.Parts.{Parts}
-use Rattle.wk_module.specs.Shape.{IsFormed, settle}
+use Rattle.wk_module.specs.Shape.{settle}
 use Rattle.wk_module.specs.ShapeLaws.{customs_formed}
 use Rattle.wk_module.specs.Writing.{encoded, Fits}
 use Rattle.wk_session.specs.declared.edit.Edit.TheVariants as edits

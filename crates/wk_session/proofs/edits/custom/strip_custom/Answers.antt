@@ -5,12 +5,11 @@ use Rattle.wk_module.specs.declared.types.Custom.{Custom}
 use Rattle.wk_module.specs.declared.types.Parts.{Parts}
 use Rattle.wk_module.specs.Shape.{IsFormed, IsInOrderFrom, settle}
 use Rattle.wk_module.specs.ShapeLaws.{filter_formed}
-use Rattle.wk_module.specs.Writing.{encoded, Fits}
+use Rattle.wk_module.specs.Writing.{encoded}
 use Rattle.wk_session.specs.declared.edit.Edit.TheVariants as edits
-use Rattle.wk_session.specs.declared.edit.Work.{Work}
 use Rattle.wk_session.specs.declared.kept.Kept.{Kept}
 use Rattle.wk_session.specs.Edits.{is_named, without_customs}
-use Rattle.wk_session.specs.Kept.{IsKept, Leads}
+use Rattle.wk_session.specs.Kept.{Leads}
 use Rattle.wk_session.proofs.CustomEdits.{filtered_fits, customs_kept, stripped_made}
 use Rattle.wk_session.proofs.Outcomes.{limited-some}
 use Rattle.wk_session.proofs.Works.{strip_work}

@@ -2,7 +2,6 @@ use Rattle.std.proofs.Common.{◌≡◌, ◌<◌, ◌^◌, ◌≤◌, List, ℕ,
 use Rattle.std.proofs.lemmas.List.{length-map}
 use Rattle.std.specs.List.{AllByRecursion}
 use Rattle.wk_bytes.specs.Frames.{limit}
-use Rattle.wk_body.specs.declared.types.Profile.{Profile}
 use Rattle.wk_module.specs.declared.types.Func.{Func}
 use Rattle.wk_module.specs.declared.types.Parts.{Parts}
 use Rattle.wk_module.specs.Listed.{listed, listed_with, AreNumbered}
@@ -52,17 +51,17 @@ returns c =
     let value = c.parts-parts.ensures.value in
     let lists = lent (goal.at.returns c).After-of-lists in
     let verdicts : c.in_ok-verdicts.verdicts.items ≡ map (func_verdict (answers_of m)) m.funcs =
-        c.in_ok-verdicts.ensures
-        ∙ ap (λ (l : SectionLists). map (func_verdict (answer_in (spaces_of l))) c.parts-parts.result.now.funcs) lists
-        ∙ ap (λ (p : Parts). map (func_verdict (answers_of m)) p.funcs) value in
+    c.in_ok-verdicts.ensures
+    ∙ ap (λ (l : SectionLists). map (func_verdict (answer_in (spaces_of l))) c.parts-parts.result.now.funcs) lists
+    ∙ ap (λ (p : Parts). map (func_verdict (answers_of m)) p.funcs) value in
     let sizes = c.in_ok-code_sizes.ensures ∙ ap (λ (p : Parts). map code_size p.funcs) value in
     let pending : IsPending c.of-lists.result c.in_ok-verdicts.verdicts.items c.in_ok-code_sizes.code_sizes.items m.customs m = record {
-        formed = c.parts-parts.ensures.shaped.formed;
-        profile = c.of-lists.ensures.profile ∙ ap (λ (p : Parts). p.profile) value;
-        lists = lists;
-        verdicts = verdicts;
-        code_sizes = sizes;
-        customs = refl;
+      formed = c.parts-parts.ensures.shaped.formed;
+      profile = c.of-lists.ensures.profile ∙ ap (λ (p : Parts). p.profile) value;
+      lists = lists;
+      verdicts = verdicts;
+      code_sizes = sizes;
+      customs = refl;
     } in
     let code = c.first_code_fault.ensures ∙ ap (λ (vs : List BodyVerdict). first_in 10 0 (map body_flaw vs)) c.deref-2.ensures.value in
     record {

@@ -1,5 +1,4 @@
-use Rattle.std.proofs.Common.{List, ℕ, Option, map, sym, ap, subst, ◌∙◌, ◌≡◌}
-use Rattle.std.specs.BTreeSet.{BTreeSet}
+use Rattle.std.proofs.Common.{map, ap, ◌∙◌}
 use Rattle.std.specs.Prelude.{option_map, slice_get}
 use Rattle.wk_module.specs.declared.types.Parts.{Parts}
 use Rattle.wk_session.specs.Kept.{uses_of}
