@@ -1,5 +1,6 @@
 pub mod Edits
 pub mod Dependents
+pub mod DependentsLaws
 pub mod Runs
 pub mod Kept
 pub mod Stripped
