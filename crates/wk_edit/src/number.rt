@@ -1,11 +1,20 @@
 //! Numbers of a script.
 
-ghost use Rattle.std.specs.Prelude.{◌≡◌, map};
+ghost use Rattle.std.specs.Prelude.{◌≡◌, decimal, map};
+ghost use Rattle.std.specs.Str.{bytes_eq};
 ghost use Rattle.wk_edit.specs.Words.{limits_of, number_of};
 
 use itoa::Buffer;
 use std::str;
 use wk_module::Limits;
+
+// Whether a word is what a number is written as.
+fn is_text_of(word: &[u8], number: u32) -> bool
+    ensures { result ≡ bytes_eq word.now (decimal number) }
+{
+    let mut buffer = Buffer::new();
+    word == buffer.format(number).as_bytes()
+}
 
 /// The number of a word, in decimal and at most 4,294,967,295. `None` where it is none, or has a sign or a zero in front.
 pub(crate) fn read_number(word: &[u8]) -> Option<u32>
@@ -18,8 +27,7 @@ pub(crate) fn read_number(word: &[u8]) -> Option<u32>
         return None;
     };
     // What `parse` takes as well, a sign or zeros in front, is not written back.
-    let mut buffer = Buffer::new();
-    if word == buffer.format(number).as_bytes() {
+    if is_text_of(word, number) {
         Some(number)
     } else {
         None
