@@ -39,13 +39,13 @@ Meet xs ys = (r : Ref) × IsAmong r xs × IsAmong r ys
 
 -- ---- moving can be undone, so it tells references apart
 
-unmoved : ℕ → ℕ → ℕ
+abbrev unmoved : ℕ → ℕ → ℕ
 unmoved from x = if nat_lt from x then x - 1 else x
 
 unmoved-moved : (from x : ℕ) → unmoved from (moved from x) ≡ x
 unmoved-moved from x = grind (arith, nat_tests)
 
-back : Moving → ℕ → Ref → Ref
+abbrev back : Moving → ℕ → Ref → Ref
 back moving.Func from (Func x) = Func (unmoved from x)
 back moving.Global from (Global x) = Global (unmoved from x)
 back kind from r = r
