@@ -1,11 +1,12 @@
 -- What an edit leads to, told of the module with its customs settled.
 use Rattle.std.proofs.Common.{◌≡◌, Bool, false, Result, Ok, Err, sym, ap, subst, ◌∙◌}
-use Rattle.std.specs.Prelude.{IfErr}
+use Rattle.std.specs.Prelude.{IfErr, OnErr}
 use Rattle.wk_module.specs.declared.types.Parts.{Parts}
 use Rattle.wk_module.specs.Shape.{IsFormed, IsShaped, settle}
 use Rattle.wk_session.specs.declared.edit.Edit.{Edit}
+use Rattle.wk_session.specs.declared.edit.Edit.TheVariants as edits
 use Rattle.wk_session.specs.declared.edit.EditFault.{EditFault}
-use Rattle.wk_session.specs.declared.edit.EditFault.TheVariants.{Memory}
+use Rattle.wk_session.specs.declared.edit.EditFault.TheVariants.{NoSuchFunction, NoSuchExport, NoSuchCustom, IndexOverflow, TooLarge, BadBytes, WouldBreak, Memory}
 use Rattle.wk_session.specs.declared.edit.Work.{Work}
 use Rattle.wk_session.specs.declared.kept.Kept.{Kept}
 use Rattle.wk_session.specs.Edits.{is_decided}
@@ -34,3 +35,15 @@ module _ (keep : Bool) (e : Edit) (m n : Parts) (k : Kept) where
   pub decided_after : (r : Result Work EditFault) → Leads keep e m r n k → IfErr r (λ f. f ≡ Memory → is_decided e m ≡ false)
   decided_after (Ok w) leads = tt
   decided_after (Err f) leads = leads.1
+
+-- stripping all customs of any module is never refused
+pub strip_always : (m : Parts) (r : Result Work EditFault) → r ≡ reply_of false edits.StripAll (is_memory r) m → IfErr r (λ f. f ≡ Memory → is_decided edits.StripAll m ≡ false) → OnErr r ⊥
+strip_always m (Ok w) reply decided = tt
+strip_always m (Err NoSuchFunction) reply decided = absurd cc
+strip_always m (Err NoSuchExport) reply decided = absurd cc
+strip_always m (Err NoSuchCustom) reply decided = absurd cc
+strip_always m (Err IndexOverflow) reply decided = absurd cc
+strip_always m (Err TooLarge) reply decided = absurd cc
+strip_always m (Err (BadBytes f)) reply decided = absurd cc
+strip_always m (Err (WouldBreak f)) reply decided = absurd cc
+strip_always m (Err Memory) reply decided = let never = decided refl in absurd cc

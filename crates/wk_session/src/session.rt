@@ -212,6 +212,8 @@ impl Session {
         ensures module_is { self.new ≡ after_one false edit.now (is_memory result) self.old }
         // What is decided without memory is never answered by want of it.
         ensures decided { IfErr result (λ f. f ≡ EditFault.Memory → is_decided edit.now self.old ≡ false) }
+        // Stripping all custom sections is never refused.
+        ensures always { edit.now ≡ Edit.StripAll → OnErr result ⊥ }
     {
         self.apply_with(false, edit)
     }
