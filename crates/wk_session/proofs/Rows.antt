@@ -41,28 +41,28 @@ works typed encoded sections = record { typed = typed; encoded = encoded; sectio
 abbrev importing : Parts → Parts
 importing m = with_import imported (moved_parts kinds.Func 0 m)
 
--- a call moves with the function that it finds, and is encoded again (row 10)
+-- a call moves with the function that it finds, and is encoded again
 pub call_moves : work_of (edits.Import imported) (calling 0) (importing (calling 0)) ≡ works 0 1 1
 call_moves = refl
 
 still_valid : module_verdict (settle (importing (calling 0))) ≡ Valid
 still_valid = refl
 
--- one that finds none stays so, and moves too (row 12)
+-- one that finds none stays so, and moves too
 dangling_moves : work_of (edits.Import imported) (calling 127) (importing (calling 127)) ≡ works 0 1 1
 dangling_moves = refl
 
 still_dangling : module_verdict (settle (importing (calling 127))) ≡ Invalid (record { kind = UnknownFunc; place = record { section = 10; item = 0; token = Some 0 } })
 still_dangling = refl
 
--- a type comes for a function without one, and for its caller (row 11)
+-- a type comes for a function without one, and for its caller
 abbrev untyped : Parts
 untyped = record (nothing Core) { types = plain_type ∷ []; funcs = func 0 (One (Call 1) Finish) ∷ func 1 Finish ∷ [] }
 
 type_comes : work_of (edits.Ty plain_type) untyped (with_type plain_type untyped) ≡ works 2 0 1
 type_comes = refl
 
--- a function comes that a call was waiting for (row 6.2)
+-- a function comes that a call was waiting for
 func_comes : work_of (edits.Func 0 (0 ∷ 11 ∷ [])) (calling 1) (with_func 0 (record { groups = []; instrs = Finish }) (calling 1)) ≡ works 2 1 1
 func_comes = refl
 
@@ -70,7 +70,7 @@ func_comes = refl
 another_comes : work_of (edits.Func 0 (0 ∷ 11 ∷ [])) (calling 0) (with_func 0 (record { groups = []; instrs = Finish }) (calling 0)) ≡ works 1 1 1
 another_comes = refl
 
--- a body is replaced (row 6.3)
+-- a body is replaced
 body_comes : work_of (edits.Body 0 (0 ∷ 11 ∷ [])) (calling 0) (with_body 0 (record { groups = []; instrs = Finish }) (calling 0)) ≡ works 1 1 0
 body_comes = refl
 
@@ -80,7 +80,7 @@ no_body = refl
 import_has_no_body : entry_of 0 (importing (calling 0)) ≡ None
 import_has_no_body = refl
 
--- a start function and an element segment move with the function (row 6.1)
+-- a start function and an element segment move with the function
 abbrev started : Parts
 started = record (calling 0) {
   funcs = func 0 Finish ∷ [];
@@ -92,7 +92,7 @@ started = record (calling 0) {
 three_sections : work_of (edits.Import imported) started (importing started) ≡ works 0 0 3
 three_sections = refl
 
--- an offset moves with the global that it reads (row 6.4)
+-- an offset moves with the global that it reads
 abbrev offset : Parts
 offset = record (nothing Core) {
   memories = record { min = 1; max = None } ∷ [];
@@ -109,7 +109,7 @@ two_sections = refl
 offset_valid : module_verdict (settle (with_import global_imported (moved_parts kinds.Global 0 offset))) ≡ Valid
 offset_valid = refl
 
--- the first export of a name goes (row 16), and a custom behind the exports with them (row 13)
+-- the first export of a name goes, and a custom behind the exports with them
 abbrev exporting : Parts
 exporting = record (calling 0) {
   exports = record { name = 97 ∷ []; kind = kinds.Func; index = 0 } ∷ record { name = 97 ∷ []; kind = kinds.Memory; index = 7 } ∷ [];

@@ -15,7 +15,7 @@ ghost use Rattle.wk_list.specs.Taken.{failed_after};
 ghost use Rattle.wk_session.specs.Edits.{is_decided};
 ghost use Rattle.wk_session.specs.Kept.{IsKept, Leads, uses_of};
 ghost use Rattle.wk_session.specs.Written.{Leaves, failures_after_write};
-ghost use Rattle.wk_session.specs.Runs.{reply_of, after_one, is_memory, replies_of, after, refused_for_memory};
+ghost use Rattle.wk_session.specs.Runs.{reply_of, after_one, is_memory, replies_of, after, refused_for_memory, AreUndecided};
 
 use crate::edit::{Edit, EditFault, Reply};
 use crate::edits::{
@@ -237,6 +237,7 @@ impl Session {
         ensures replies { IfOk result (λ rs. rs.items ≡ replies_of keep edits.now (refused_for_memory rs.items) self.old) }
         ensures count { IfOk result (λ rs. length rs.items ≡ length edits.now) }
         ensures module_is { IfOk result (λ rs. self.new ≡ after keep edits.now (refused_for_memory rs.items) self.old) }
+        ensures decided { IfOk result (λ rs. AreUndecided keep edits.now (refused_for_memory rs.items) self.old) }
         ensures err { OnErr result (self.new ≡ self.old) }
     {
         let mut replies = Vec::with_capacity(self.alloc, edits.len())?;
@@ -256,6 +257,8 @@ impl Session {
         ensures replies { IfOk result (λ rs. rs.items ≡ replies_of false edits.now (refused_for_memory rs.items) self.old) }
         ensures count { IfOk result (λ rs. length rs.items ≡ length edits.now) }
         ensures module_is { IfOk result (λ rs. self.new ≡ after false edits.now (refused_for_memory rs.items) self.old) }
+        // What is decided without memory is never answered by want of it.
+        ensures decided { IfOk result (λ rs. AreUndecided false edits.now (refused_for_memory rs.items) self.old) }
         ensures err { OnErr result (self.new ≡ self.old) }
     {
         self.run_with(false, edits)
@@ -270,6 +273,8 @@ impl Session {
         ensures replies { IfOk result (λ rs. rs.items ≡ replies_of true edits.now (refused_for_memory rs.items) self.old) }
         ensures count { IfOk result (λ rs. length rs.items ≡ length edits.now) }
         ensures module_is { IfOk result (λ rs. self.new ≡ after true edits.now (refused_for_memory rs.items) self.old) }
+        // What is decided without memory is never answered by want of it.
+        ensures decided { IfOk result (λ rs. AreUndecided true edits.now (refused_for_memory rs.items) self.old) }
         // What was valid is valid.
         ensures valid { module_verdict self.old ≡ Verdict.Valid → module_verdict self.new ≡ Verdict.Valid }
         ensures err { OnErr result (self.new ≡ self.old) }

@@ -1,5 +1,5 @@
 use Rattle.std.proofs.Common.{◌≡◌, length, arith, sym, ◌∙◌}
-use Rattle.wk_session.proofs.RunSteps.{replies_more, after_more}
+use Rattle.wk_session.proofs.RunSteps.{was_undecided, replies_more, after_more, undecided_more}
 use Rattle.wk_session.proofs.session.Session.run_with.Goals as goal
 
 pub loop-edit-preserved : goal.loop-edit-preserved
@@ -11,6 +11,7 @@ loop-edit-preserved c =
     record {
       replies = replies_more c.args.keep es i c.edit-item.result c.loop-edit.replies.items c.push_reserved.new.self.items c.apply_with-reply.result c.args.self.now c.loop-edit.self c.apply_with-reply.new.self c.loop-edit-test.true c.edit-item.is len c.push_reserved.ensures.items inv.module_is c.apply_with-reply.ensures.reply inv.replies;
       module_is = after_more c.args.keep es i c.edit-item.result c.loop-edit.replies.items c.push_reserved.new.self.items c.apply_with-reply.result c.args.self.now c.loop-edit.self c.apply_with-reply.new.self c.loop-edit-test.true c.edit-item.is len c.push_reserved.ensures.items inv.module_is c.apply_with-reply.ensures.module_is;
+      decided = undecided_more c.args.keep es i c.edit-item.result c.loop-edit.replies.items c.push_reserved.new.self.items c.apply_with-reply.result c.args.self.now c.loop-edit.self c.apply_with-reply.new.self c.loop-edit-test.true c.edit-item.is len c.push_reserved.ensures.items inv.module_is (was_undecided c.edit-item.result c.loop-edit.self c.apply_with-reply.result c.apply_with-reply.ensures.decided) inv.decided;
       count = omega (arith, c.push_reserved.ensures.len, inv.count);
       room = omega (arith, c.push_reserved.ensures.capacity, inv.room);
     }
