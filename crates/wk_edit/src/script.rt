@@ -44,8 +44,8 @@ fn read_lines(alloc: Global, bytes: &[u8]) -> Result<Vec<Edit>, ScriptFault>
 /// - `strip` removes all custom sections.
 ///
 /// TYPES is `-` for none, or value types joined by `,`. VALTYPE is `i32`, `i64`, `f32` or `f64`, MUT is `const` or `var`, and KIND is
-/// `func`, `table`, `memory` or `global`. U32 is decimal, without a zero in front. NAME is a word that does not begin with `x:`, or
-/// `x:` and the name's bytes in hexadecimal, which are UTF-8. BYTES is `-` for none, or two hexadecimal digits for each.
+/// `func`, `table`, `memory` or `global`. U32 is decimal, at most 4294967295, without a zero in front unless it is `0`. NAME is a word that does not begin with `x:`, or
+/// `x:` and the name's bytes in hexadecimal, which are UTF-8. BYTES is `-` for none, or two hexadecimal digits of either case for each.
 ///
 /// A wrong line with a byte of `80` or above is S2, any other S1.
 pub fn read_script(alloc: Global, bytes: &[u8]) -> Result<Vec<Edit>, ScriptFault>

@@ -141,7 +141,9 @@ impl Session {
 
     /// Writes the written form, which reading gives back as this module and no other.
     ///
-    /// After a fault of the output a beginning of the written form was taken; after want of memory nothing was. The
+    /// # Errors
+    ///
+    /// `Write` only where the [`Out`] failed in this call, and `Memory` where a growth was refused. After a fault of the output a beginning of the written form was taken; after want of memory nothing was. The
     /// session stays as it is.
     pub fn write<W: Out>(&self, out: &mut W) -> Result<(), WriteFault>
         requires { W.failed out.old < 2 ^ 64 - 1 }
@@ -204,7 +206,8 @@ impl Session {
     ///
     /// # Errors
     ///
-    /// The first that is due of `NoSuchFunction`, `NoSuchExport`, `NoSuchCustom`, `BadBytes`, `IndexOverflow` and `TooLarge`; or
+    /// The first that is due of `NoSuchFunction`, `NoSuchExport`, `NoSuchCustom`, `BadBytes` with the first fault of the edit's bytes,
+    /// `IndexOverflow` and `TooLarge`, in this order; or
     /// `Memory` where a growth was refused. Look-ups take no memory, nor do `StripCustom` and `StripAll`, and a type, an export or a
     /// custom section with which the written form would get too long is refused before any growth.
     pub fn apply(&mut self, edit: &Edit) -> Reply
