@@ -398,6 +398,7 @@ fn runs_where_the_module_stays_valid(rt: HostRuntime) -> Result<(), Fail> {
     looks(&rt, rt.alloc(), &session, EXPORTED, VALID)
 }
 
+// Whether these are the references, in their order.
 fn are_refs(found: Option<&BTreeSet<Ref>>, wanted: &[Ref]) -> bool {
     match found {
         Some(found) => found.len() == wanted.len()
