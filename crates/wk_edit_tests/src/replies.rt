@@ -315,67 +315,72 @@ fn edited(
     Ok((session, reply))
 }
 
-// The edits are accepted, for this work.
-fn accepts(rt: &impl Abort, alloc: Global, keep: bool, rows: &[Accepted]) -> Result<(), Fail> {
-    for (bytes, script, [typed, encoded, sections], verdict, whole) in rows {
-        let (session, reply) = edited(alloc, keep, bytes, script)?;
-        let work = Work {
-            typed: *typed,
-            encoded: *encoded,
-            sections: *sections,
-        };
-        assert_eq!(rt; reply, Ok(work), "{script:?}");
-        looks(rt, alloc, &session, whole, *verdict)?;
-    }
-    Ok(())
+// The edit is accepted, for this work.
+fn accepts(rt: &impl Abort, alloc: Global, keep: bool, row: Accepted) -> Result<(), Fail> {
+    let (bytes, script, [typed, encoded, sections], verdict, whole) = row;
+    let (session, reply) = edited(alloc, keep, bytes, script)?;
+    let work = Work {
+        typed,
+        encoded,
+        sections,
+    };
+    assert_eq!(rt; reply, Ok(work), "{script:?}");
+    looks(rt, alloc, &session, whole, verdict)
 }
 
-// The edits are refused, and leave the module as it was.
-fn refuses(rt: &impl Abort, alloc: Global, keep: bool, rows: &[Refused]) -> Result<(), Fail> {
-    for (bytes, script, fault, verdict) in rows {
-        let (session, reply) = edited(alloc, keep, bytes, script)?;
-        assert_eq!(rt; reply, Err(*fault), "{script:?}");
-        looks(rt, alloc, &session, bytes, *verdict)?;
-    }
-    Ok(())
+// The edit is refused, and leaves the module as it was.
+fn refuses(rt: &impl Abort, alloc: Global, keep: bool, row: Refused) -> Result<(), Fail> {
+    let (bytes, script, fault, verdict) = row;
+    let (session, reply) = edited(alloc, keep, bytes, script)?;
+    assert_eq!(rt; reply, Err(fault), "{script:?}");
+    looks(rt, alloc, &session, bytes, verdict)
 }
 
 #[test]
 fn adds_types_functions_and_globals(rt: HostRuntime) -> Result<(), Fail> {
-    accepts(&rt, rt.alloc(), false, &TYPES_AND_FUNCTIONS)
+    for row in TYPES_AND_FUNCTIONS {
+        accepts(&rt, rt.alloc(), false, row)?;
+    }
+    Ok(())
 }
 
 #[test]
 fn adds_imports(rt: HostRuntime) -> Result<(), Fail> {
-    accepts(&rt, rt.alloc(), false, &IMPORTS)
+    for row in IMPORTS {
+        accepts(&rt, rt.alloc(), false, row)?;
+    }
+    Ok(())
 }
 
 #[test]
 fn changes_exports_and_customs(rt: HostRuntime) -> Result<(), Fail> {
-    accepts(&rt, rt.alloc(), false, &EXPORTS_AND_CUSTOMS)
+    for row in EXPORTS_AND_CUSTOMS {
+        accepts(&rt, rt.alloc(), false, row)?;
+    }
+    Ok(())
 }
 
 #[test]
 fn refuses_edits(rt: HostRuntime) -> Result<(), Fail> {
-    refuses(&rt, rt.alloc(), false, &REFUSED)
+    for row in REFUSED {
+        refuses(&rt, rt.alloc(), false, row)?;
+    }
+    Ok(())
 }
 
 #[test]
 fn refuses_to_break_modules(rt: HostRuntime) -> Result<(), Fail> {
-    refuses(&rt, rt.alloc(), true, &KEPT)
+    for row in KEPT {
+        refuses(&rt, rt.alloc(), true, row)?;
+    }
+    Ok(())
 }
 
 // It is accepted where the module is valid afterwards, as one that was not.
 #[test]
 fn mends_a_module(rt: HostRuntime) -> Result<(), Fail> {
-    let row = (
-        NO_TYPE,
-        b"type - -".as_slice(),
-        [2, 0, 1],
-        VALID,
-        NO_TYPE_TYPED,
-    );
-    accepts(&rt, rt.alloc(), true, &[row])
+    let row: Accepted = (NO_TYPE, b"type - -", [2, 0, 1], VALID, NO_TYPE_TYPED);
+    accepts(&rt, rt.alloc(), true, row)
 }
 
 const REPLIES: [Reply; 3] = [
