@@ -14,6 +14,8 @@ mod listing_details;
 #[cfg(test)]
 mod listing_output;
 #[cfg(test)]
+mod replies;
+#[cfg(test)]
 mod script;
 #[cfg(test)]
 mod session;

@@ -15,6 +15,35 @@ pub(crate) const TABLE: &[u8] = b"\x01\x04\x01\x60\0\0\x03\x02\x01\0\x04\x04\x01
 pub(crate) const CALLS: &[u8] = b"\x01\x04\x01\x60\0\0\x02\x09\x01\x03env\x01f\0\0\
     \x03\x02\x01\0\x0a\x06\x01\x04\0\x10\x01\x0b";
 
+/// What is listed of `CALLS`.
+pub(crate) const CALLS_LISTED: [(Part, &[u8]); 4] = [
+    (
+        Part::Headers,
+        b"    Type start=0x0000000a end=0x0000000e size=0x00000004 count=1
+  Import start=0x00000010 end=0x00000019 size=0x00000009 count=1
+Function start=0x0000001b end=0x0000001d size=0x00000002 count=1
+    Code start=0x0000001f end=0x00000025 size=0x00000006 count=1
+",
+    ),
+    (
+        Part::Details,
+        b"Type[1]:
+ - type[0] ()->()
+Import[1]:
+ - import[0] env f func[0] type=0
+Function[1]:
+ - func[1] type=0
+Code[1]:
+ - func[1] size=4
+",
+    ),
+    (
+        Part::Code,
+        b"func[1] type=0:\n 00000022: call 1\n 00000024: end\n",
+    ),
+    (Part::Uses, b"func[1]: type[0] func[1]\n"),
+];
+
 /// A block whose type is the index of a function type.
 const INDEXED: &[u8] = b"\x01\x09\x02\x60\0\0\x60\x01\x7f\x01\x7f\x03\x02\x01\0\
     \x0a\x0b\x01\x09\0\x41\0\x02\x01\x45\x0b\x1a\x0b";
@@ -63,34 +92,7 @@ fn lists_nothing_of_nothing(rt: HostRuntime) -> Result<(), Fail> {
 
 #[test]
 fn lists_calls(rt: HostRuntime) -> Result<(), Fail> {
-    let rows: [(Part, &[u8]); 4] = [
-        (
-            Part::Headers,
-            b"    Type start=0x0000000a end=0x0000000e size=0x00000004 count=1
-  Import start=0x00000010 end=0x00000019 size=0x00000009 count=1
-Function start=0x0000001b end=0x0000001d size=0x00000002 count=1
-    Code start=0x0000001f end=0x00000025 size=0x00000006 count=1
-",
-        ),
-        (
-            Part::Details,
-            b"Type[1]:
- - type[0] ()->()
-Import[1]:
- - import[0] env f func[0] type=0
-Function[1]:
- - func[1] type=0
-Code[1]:
- - func[1] size=4
-",
-        ),
-        (
-            Part::Code,
-            b"func[1] type=0:\n 00000022: call 1\n 00000024: end\n",
-        ),
-        (Part::Uses, b"func[1]: type[0] func[1]\n"),
-    ];
-    for (part, lines) in rows {
+    for (part, lines) in CALLS_LISTED {
         lists(&rt, rt.alloc(), Profile::Core, part, &[(CALLS, lines)])?;
     }
     Ok(())

@@ -53,8 +53,8 @@ fn written(alloc: Global, session: &Session) -> Result<Vec<u8>, Fail> {
     Ok(out.into_inner())
 }
 
-// Looks at all that a session says.
-fn looks(
+/// Looks at all that a session says.
+pub(crate) fn looks(
     rt: &impl Abort,
     alloc: Global,
     session: &Session,
