@@ -2,7 +2,6 @@ pub mod Cutting
 pub mod Utf8
 pub mod ScriptSteps
 pub mod ReportSteps
-pub mod Unread
 pub mod OutcomeLemmas
 pub mod Joining
 pub mod WordLaws

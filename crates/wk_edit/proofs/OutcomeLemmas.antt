@@ -26,7 +26,7 @@ use Rattle.wk_edit.specs.ReportText.{report_text}
 use Rattle.wk_edit.specs.Outcome.{Outcome, malformed_outcome, run_status, run_outcome, script_outcome, outcome_on, outcome_of}
 use Rattle.wk_edit.specs.Prepared.{IsPrepared, IsSpelled}
 use Rattle.wk_edit.specs.Theorem.{IsRun, IsRead, IsReport}
-use Rattle.wk_edit.proofs.Unread.{all_told}
+use Rattle.wk_session.specs.ToldLaws.{all_told}
 
 -- ---- no edit was refused for want of memory
 

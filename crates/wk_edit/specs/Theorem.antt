@@ -5,18 +5,13 @@ use Rattle.wk_bytes.specs.declared.fault.ReadFault.{ReadFault}
 use Rattle.wk_bytes.specs.declared.fault.ReadKind.TheVariants as kinds
 use Rattle.wk_bytes.specs.Stands.{StandsIn}
 use Rattle.wk_body.specs.declared.types.Profile.{Profile}
-use Rattle.wk_body.specs.Meaning.{Whole}
-use Rattle.wk_body.specs.Spelling.{SpellsBody, SpellsExpr}
 use Rattle.wk_module.specs.declared.types.Parts.{Parts}
 use Rattle.wk_module.specs.Modules.{Spells, SpellsNone}
 use Rattle.wk_module.specs.Writing.{encoded}
 use Rattle.wk_check.specs.Verdict.{module_verdict}
 use Rattle.wk_session.specs.declared.edit.Edit.{Edit}
-use Rattle.wk_session.specs.declared.edit.Edit.TheVariants as edits
-use Rattle.wk_session.specs.declared.edit.EditFault.{EditFault}
-use Rattle.wk_session.specs.declared.edit.EditFault.TheVariants.{BadBytes}
-use Rattle.wk_session.specs.declared.edit.Work.{Work}
 use Rattle.wk_session.specs.Runs.{replies_of, after}
+use Rattle.wk_session.specs.Told.{AreTold}
 use Rattle.wk_edit.specs.declared.fault.ScriptFault.{ScriptFault}
 use Rattle.wk_edit.specs.declared.fault.Status.TheVariants.{Malformed, BadScript}
 use Rattle.wk_edit.specs.Outcome.{Outcome, out_of, run_status}
@@ -43,29 +38,6 @@ pub record IsBadScript (script : List ℕ) (o : Outcome) : Type 0 where
   pub out : out_of o ≡ []
   pub report : o.report ≡ script_text fault
   pub status : o.status ≡ BadScript
-
--- Bytes that cannot be read spell nothing, and the fault stands in them and is never want of memory.
-pub record IsUnread {V : Type 0} (SpelledBy : V → List ℕ → Type 0) (bytes : List ℕ) (fault : ReadFault) : Type 0 where
-  pub none : (v : V) → ¬ (Whole SpelledBy v bytes)
-  pub stands : StandsIn bytes fault
-  pub other : fault.kind ≢ kinds.Memory
-
--- The edit is refused for its code or its expression. No other edit is refused so.
-abbrev pub HasBadBytes : Profile → Edit → ReadFault → Type 0
-HasBadBytes profile (edits.Func ty code) fault = IsUnread (SpellsBody profile) code fault
-HasBadBytes profile (edits.Body func code) fault = IsUnread (SpellsBody profile) code fault
-HasBadBytes profile (edits.Global t init) fault = IsUnread (SpellsExpr profile) init fault
-HasBadBytes profile e fault = ⊥
-
--- what a reply tells of an edit's bytes is so
-abbrev pub IsTold : Profile → Edit → Result Work EditFault → Type 0
-IsTold profile e (Err (BadBytes fault)) = HasBadBytes profile e fault
-IsTold profile e reply = Unit {0}
-
-abbrev pub AreTold : Profile → List Edit → List (Result Work EditFault) → Type 0
-AreTold profile [] replies = Unit {0}
-AreTold profile (e ∷ es) [] = Unit {0}
-AreTold profile (e ∷ es) (reply ∷ replies) = IsTold profile e reply × AreTold profile es replies
 
 -- The script spells edits, and no others. They are made in order on the module that the input spells, where one that is refused leaves it as it was. What
 -- is written spells the module that they make, and no other of its profile. The report has a line for each edit, and last the verdict on

@@ -2,6 +2,8 @@ pub mod Edits
 pub mod Dependents
 pub mod DependentsLaws
 pub mod Runs
+pub mod Told
+pub mod ToldLaws
 pub mod Kept
 pub mod Stripped
 pub mod Written

@@ -14,6 +14,7 @@ ghost use Rattle.wk_list.specs.Listing.{listing};
 ghost use Rattle.wk_list.specs.Taken.{failed_after};
 ghost use Rattle.wk_session.specs.Edits.{is_decided};
 ghost use Rattle.wk_session.specs.Kept.{IsKept, Leads, uses_of};
+ghost use Rattle.wk_session.specs.Told.{IsTold};
 ghost use Rattle.wk_session.specs.Written.{Leaves, failures_after_write};
 ghost use Rattle.wk_session.specs.Runs.{reply_of, after_one, is_memory, replies_of, after, refused_for_memory, AreUndecided};
 
@@ -194,6 +195,7 @@ impl Session {
     fn apply_with(&mut self, keep: bool, edit: &Edit) -> Reply
         ensures reply { result ≡ reply_of keep edit.now (is_memory result) self.old }
         ensures module_is { self.new ≡ after_one keep edit.now (is_memory result) self.old }
+        ensures told { IsTold self.old.profile edit.now result }
         ensures decided { IfErr result (λ f. f ≡ EditFault.Memory → is_decided edit.now self.old ≡ false) }
     {
         let mut parts = take_parts(self.alloc, &mut self.module);
@@ -213,6 +215,8 @@ impl Session {
     pub fn apply(&mut self, edit: &Edit) -> Reply
         ensures reply { result ≡ reply_of false edit.now (is_memory result) self.old }
         ensures module_is { self.new ≡ after_one false edit.now (is_memory result) self.old }
+        // Bytes that are refused spell nothing, and the fault stands in them.
+        ensures told { IsTold self.old.profile edit.now result }
         // What is decided without memory is never answered by want of it.
         ensures decided { IfErr result (λ f. f ≡ EditFault.Memory → is_decided edit.now self.old ≡ false) }
         // Stripping all custom sections is never refused.
@@ -229,6 +233,8 @@ impl Session {
     pub fn apply_kept(&mut self, edit: &Edit) -> Reply
         ensures reply { result ≡ reply_of true edit.now (is_memory result) self.old }
         ensures module_is { self.new ≡ after_one true edit.now (is_memory result) self.old }
+        // Bytes that are refused spell nothing, and the fault stands in them.
+        ensures told { IsTold self.old.profile edit.now result }
         // What is decided without memory is never answered by want of it.
         ensures decided { IfErr result (λ f. f ≡ EditFault.Memory → is_decided edit.now self.old ≡ false) }
     {

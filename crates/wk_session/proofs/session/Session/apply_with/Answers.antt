@@ -3,6 +3,7 @@ use Rattle.wk_module.specs.declared.types.Parts.{Parts}
 use Rattle.wk_module.specs.Shape.{IsShaped}
 use Rattle.wk_session.specs.Kept.{IsKept}
 use Rattle.wk_session.specs.Runs.{is_memory, reply_of}
+use Rattle.wk_session.specs.ToldLaws.{reply_told}
 use Rattle.wk_session.proofs.Settling.{kept_after, reply_after}
 use Rattle.wk_session.proofs.session.Session.apply_with.Goals as goal
 
@@ -19,3 +20,6 @@ pub returns-clause-reply : goal.returns-clause-reply
 returns-clause-reply c =
     reply_after c.args.keep c.args.edit.now c.take_parts-parts.result c.edit_parts-reply.new.parts c.edit_parts-reply.new.kept c.edit_parts-reply.result c.edit_parts-reply.ensures
     ∙ ap (reply_of c.args.keep c.args.edit.now (is_memory c.edit_parts-reply.result)) (c.take_parts-parts.ensures.value ∙ c.self.view_is)
+
+pub returns-clause-told : goal.returns-clause-told
+returns-clause-told c = reply_told c.args.keep c.args.edit.now c.args.self.now c.edit_parts-reply.result (returns-clause-reply c)

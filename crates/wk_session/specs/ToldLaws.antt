@@ -1,4 +1,4 @@
--- What cannot be read is told of rightly.
+-- Where an edit is refused for its bytes, they spell nothing, and the fault stands in them.
 use Rattle.std.proofs.Common.{◌≡◌, ◌⊎◌, ◌≤◌, ◌<◌, ℕ, nat_le, Bool, true, false, cond, inl, inr, Option, Some, None, List, [], ◌∷◌, length, Result, Ok, Err, refl, sym, ap, subst, ◌∙◌, append-nil, arith}
 use Rattle.std.specs.List.{list_any}
 use Rattle.wk_bytes.specs.declared.fault.ReadFault.{ReadFault}
@@ -29,8 +29,9 @@ use Rattle.wk_session.specs.declared.edit.Edit.TheVariants as edits
 use Rattle.wk_session.specs.declared.edit.EditFault.{EditFault}
 use Rattle.wk_session.specs.declared.edit.EditFault.TheVariants.{NoSuchFunction, NoSuchExport, NoSuchCustom, IndexOverflow, TooLarge, BadBytes, WouldBreak, Memory}
 use Rattle.wk_session.specs.Edits.{fitting, from_bytes, import_place, entry_of, body_put, with_exports, is_named, without_customs, with_custom, without_all_customs, edited, unbroken, lasting, made}
-use Rattle.wk_session.specs.Runs.{left_by, reply_to, after_one, replies_of}
-use Rattle.wk_edit.specs.Theorem.{IsUnread, HasBadBytes, IsTold, AreTold}
+use Rattle.wk_session.specs.declared.edit.Work.{Work}
+use Rattle.wk_session.specs.Runs.{left_by, is_memory, reply_to, reply_of, after_one, replies_of}
+use Rattle.wk_session.specs.Told.{IsUnread, HasBadBytes, IsTold, AreTold}
 
 -- which way a choice went
 chosen : {A : Type 0} (b : Bool) (x y z : A) → cond b x y ≡ z → ((b ≡ true) × (x ≡ z)) ⊎ ((b ≡ false) × (y ≡ z))
@@ -220,6 +221,22 @@ one_told e m (Err IndexOverflow) tells = tt
 one_told e m (Err TooLarge) tells = tt
 one_told e m (Err (WouldBreak g)) tells = tt
 one_told e m (Err Memory) tells = tt
+
+-- a reply that is the definition's tells so
+reply_inverts : (e : Edit) (m : Parts) (r : Result Parts EditFault) (f : ReadFault) → Err (BadBytes f) ≡ reply_to e m r → r ≡ Err (BadBytes f)
+reply_inverts e m (Ok n) f h = absurd cc
+reply_inverts e m (Err g) f h = let is : BadBytes f ≡ g = cc in ap (λ (x : EditFault). let q : Result Parts EditFault = Err x in q) (sym is)
+
+pub reply_told : (keep : Bool) (e : Edit) (m : Parts) (r : Result Work EditFault) → r ≡ reply_of keep e (is_memory r) m → IsTold m.profile e r
+reply_told keep e m (Ok w) h = tt
+reply_told keep e m (Err (BadBytes f)) h = bad_bytes keep f e m (reply_inverts e m (made keep e m) f h)
+reply_told keep e m (Err NoSuchFunction) h = tt
+reply_told keep e m (Err NoSuchExport) h = tt
+reply_told keep e m (Err NoSuchCustom) h = tt
+reply_told keep e m (Err IndexOverflow) h = tt
+reply_told keep e m (Err TooLarge) h = tt
+reply_told keep e m (Err (WouldBreak g)) h = tt
+reply_told keep e m (Err Memory) h = tt
 
 pub all_told : (keep : Bool) (es : List Edit) (m : Parts) → AreTold m.profile es (replies_of keep es [] m)
 all_told keep [] m = tt
