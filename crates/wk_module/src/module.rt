@@ -14,7 +14,7 @@ use wk_body::Profile;
 /// Its lists are formed: numbers are in their ranges, names are UTF-8, expressions and bodies belong to its profile, and custom
 /// sections stand in the order of their places, which are at most 11. And each custom section is settled: its place is the id of
 /// a section that is not empty, or 0.
-#[derive(Drop)]
+#[derive(Debug, Drop)]
 pub struct Module {
     parts: Parts,
 }

@@ -31,7 +31,7 @@ use wk_bytes::{Items, OutOfMemory, RawSection, ReadFault, ReadKind, Sections};
 
 // What was read so far: the lists, where the functions are parted into their types and their bodies, and the id of the last
 // section that is not empty.
-#[derive(Drop)]
+#[derive(Debug, Drop)]
 pub(crate) struct SoFar {
     pub(crate) parts: Parts,
     pub(crate) indices: Items<u32>,

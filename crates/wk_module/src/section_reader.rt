@@ -26,7 +26,7 @@ use wk_bytes::{Cursor, RawSection, ReadFault, ReadKind, Sections};
 const CODE: u8 = 10;
 
 /// The lists of a module of which some sections are read, and the sections that are left.
-#[derive(Drop)]
+#[derive(Debug, Drop)]
 pub struct SectionReader<'a> {
     so_far: SoFar,
     left: Sections<'a>,
@@ -181,7 +181,7 @@ impl<'a> SectionReader<'a> {
 }
 
 /// The codes of a code section, one after the other (5.5.13).
-#[derive(Drop)]
+#[derive(Debug, Drop)]
 pub struct CodeReader<'a> {
     cursor: Cursor<'a>,
 }
