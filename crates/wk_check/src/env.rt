@@ -7,7 +7,7 @@ use wk_module::{FuncType, GlobalType, Ref};
 
 /// What a reference finds (3.1.1): a reference to a type `Ty` or `NoType`, one to a function `Func`, `FuncOfNoType` or `NoFunc`,
 /// one to a global `Global` or `NoGlobal`, the table and the memory `Present` or `Absent`.
-#[derive(Clone, Copy)]
+#[derive(Clone, Copy, Debug)]
 pub enum Answer<'a> {
     /// The type.
     Ty(&'a FuncType),

@@ -40,7 +40,7 @@ pub(crate) struct Frame {
 }
 
 /// The open blocks, each with its own stack, which a contract sees: one operand stack of all of them, cut by control frames.
-#[derive(Drop)]
+#[derive(Debug, Drop)]
 pub(crate) struct Machine {
     operands: Vec<Operand>,
     inner: Frame,

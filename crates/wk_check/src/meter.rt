@@ -15,7 +15,7 @@ use wk_bytes::OutOfMemory;
 use wk_module::Body;
 
 /// Counts the bodies that were judged, and keeps the room that their typing uses again.
-#[derive(Drop)]
+#[derive(Debug, Drop)]
 pub struct Meter {
     typed: u64,
     room: Room,

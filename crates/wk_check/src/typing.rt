@@ -20,7 +20,7 @@ use wk_bytes::OutOfMemory;
 use wk_module::{BlockType, Body, Expr, Token, ValType};
 
 /// The room in which code is typed, used again from one body to the next.
-#[derive(Drop)]
+#[derive(Debug, Drop)]
 pub(crate) struct Room {
     pub(crate) machine: Machine,
     ends: Vec<u32>,

@@ -14,7 +14,7 @@ use wk_module::{GlobalType, ImportDesc, Lists, Ref};
 
 /// The lists of a module with what its imports are, so that each reference is found in constant time: functions and globals that
 /// are imported come first in their spaces (2.5.1).
-#[derive(Drop)]
+#[derive(Debug, Drop)]
 pub struct Whole<'a> {
     lists: Lists<'a>,
     // the type of each imported function
@@ -218,7 +218,7 @@ impl<'a> Env for Whole<'a> {
 }
 
 /// The same module as the initialisers of its globals see it: of the globals they see the imported ones alone (3.4.10).
-#[derive(Clone, Copy)]
+#[derive(Clone, Copy, Debug)]
 pub(crate) struct Initial<'a> {
     pub(crate) whole: &'a Whole<'a>,
 }
