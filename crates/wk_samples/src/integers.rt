@@ -1,7 +1,7 @@
 //! Integers, and their shortest spellings in LEB128.
 
 /// An integer without a sign.
-#[derive(Clone, Copy)]
+#[derive(Clone, Copy, Debug)]
 pub struct Unsigned {
     /// The integer.
     pub value: u32,
@@ -10,7 +10,7 @@ pub struct Unsigned {
 }
 
 /// An integer with a sign.
-#[derive(Clone, Copy)]
+#[derive(Clone, Copy, Debug)]
 pub struct Signed {
     /// The integer.
     pub value: i64,

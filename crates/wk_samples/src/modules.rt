@@ -21,7 +21,7 @@ pub const WHOLE: &[u8] = b"\0asm\x01\0\0\0\
     \x00\x01\x00";
 
 /// The contents of a section.
-#[derive(Clone, Copy)]
+#[derive(Clone, Copy, Debug)]
 pub struct Contents {
     /// The id of the section.
     pub id: u8,
