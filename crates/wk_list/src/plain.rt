@@ -8,7 +8,7 @@ use std::marker::Model;
 use wk_module::{Module, Parts, body_len, custom_len, encoded_len, section_len};
 
 /// A module that fits, whose lengths are counted when they are asked for. It is seen as the module.
-#[derive(Drop)]
+#[derive(Debug, Drop)]
 pub struct Plain<'a> {
     whole: &'a Module,
 }
