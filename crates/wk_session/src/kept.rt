@@ -18,7 +18,7 @@ use wk_check::{BodyVerdict, Env, Meter, Verdict, Whole, first_code_fault, judge_
 use wk_module::{Body, Func, Lists, Module, Ref, body_len, encoded_len, uses};
 
 /// What is kept beside a module: each part is what computing it from the module would give (`IsKept` of `specs/Kept`).
-#[derive(Drop)]
+#[derive(Debug, Drop)]
 pub(crate) struct Kept {
     /// The verdict of the module.
     pub(crate) verdict: Verdict,

@@ -35,7 +35,7 @@ use wk_list::{ListFault, Part, Plain, list};
 use wk_module::{EncodeFault, Module, Parts, Profile, Ref, encode, read_in};
 
 /// A module under edits, seen by contracts as its plain lists.
-#[derive(Drop)]
+#[derive(Debug, Drop)]
 pub struct Session {
     alloc: Global,
     module: Module,
