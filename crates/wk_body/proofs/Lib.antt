@@ -25,3 +25,9 @@ pub mod MovedTrees
 pub mod Unmoved
 pub mod RefSets
 pub mod OnlyShort
+pub mod WrittenSteps
+pub mod WrittenParts
+pub mod ElseBranch
+pub mod CopyingLoop
+pub mod Walking
+pub mod Immediates

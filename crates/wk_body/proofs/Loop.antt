@@ -44,20 +44,20 @@ begins profile b from good toks kinds size = record {
   reads = rw (toks, kinds) (changed-same (parts_at profile (suc (length from.rest)) [] from.end from.rest));
 }
 
-one_more : (profile : Profile) (n end : ℕ) (ks next : List Bool) (rest behind : List ℕ) (t : Tok) → token_at profile ks end rest ≡ Ok (t, behind) → after t ks ≡ Some next → parts_at profile (suc n) ks end rest ≡ in_front t (parts_at profile n next end behind)
+pub one_more : (profile : Profile) (n end : ℕ) (ks next : List Bool) (rest behind : List ℕ) (t : Tok) → token_at profile ks end rest ≡ Ok (t, behind) → after t ks ≡ Some next → parts_at profile (suc n) ks end rest ≡ in_front t (parts_at profile n next end behind)
 unfolding parts_at
 one_more profile n end ks next rest behind t e h = rw (e, h) refl
 
-one_fails : (profile : Profile) (n end : ℕ) (ks : List Bool) (rest : List ℕ) (f : ReadFault) → token_at profile ks end rest ≡ Err f → parts_at profile (suc n) ks end rest ≡ Err f
+pub one_fails : (profile : Profile) (n end : ℕ) (ks : List Bool) (rest : List ℕ) (f : ReadFault) → token_at profile ks end rest ≡ Err f → parts_at profile (suc n) ks end rest ≡ Err f
 unfolding parts_at
 one_fails profile n end ks rest f e = rw e refl
 
-one_last : (profile : Profile) (n end : ℕ) (rest behind : List ℕ) → token_at profile [] end rest ≡ Ok (Close, behind) → parts_at profile (suc n) [] end rest ≡ Ok (before Close [], behind)
+pub one_last : (profile : Profile) (n end : ℕ) (rest behind : List ℕ) → token_at profile [] end rest ≡ Ok (Close, behind) → parts_at profile (suc n) [] end rest ≡ Ok (before Close [], behind)
 unfolding parts_at
 one_last profile n end rest behind e = rw e refl
 
 -- reading up to the same end
-moved_end : (profile : Profile) (ks : List Bool) (rest : List ℕ) (end other : ℕ) (read : Result (Tok × List ℕ) ReadFault) → end ≡ other → token_at profile ks end rest ≡ read → token_at profile ks other rest ≡ read
+pub moved_end : (profile : Profile) (ks : List Bool) (rest : List ℕ) (end other : ℕ) (read : Result (Tok × List ℕ) ReadFault) → end ≡ other → token_at profile ks end rest ≡ read → token_at profile ks other rest ≡ read
 moved_end profile ks rest end other read same e = subst (λ (end : ℕ). token_at profile ks end rest ≡ read) same e
 
 more : (profile : Profile) (from : Span) (now next : Scratch) (at to : Span) → Next profile false now at next to → Underway profile from now at

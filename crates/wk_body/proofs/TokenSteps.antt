@@ -63,7 +63,7 @@ groups_range count end bytes groups rest below fits e =
 
 -- ---- tokens that open and close nothing
 
-labels_read : (from counted labelled to : Span) (labels : List ℕ) (count other : ℕ) → (u32_at from.end from.rest ≡ Ok (count, counted.rest)) × (counted.end ≡ from.end)
+pub labels_read : (from counted labelled to : Span) (labels : List ℕ) (count other : ℕ) → (u32_at from.end from.rest ≡ Ok (count, counted.rest)) × (counted.end ≡ from.end)
     → (items_at u32_at count counted.end counted.rest ≡ Ok (labels, labelled.rest)) × (labelled.end ≡ counted.end) → (u32_at labelled.end labelled.rest ≡ Ok (other, to.rest)) × (to.end ≡ labelled.end) → labels_at from.end from.rest ≡ Ok ((labels, other), to.rest)
 unfolding labels_at vector_at
 labels_read from counted labelled to labels count other e f g =

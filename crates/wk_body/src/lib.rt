@@ -6,6 +6,7 @@ mod copying;
 mod display;
 mod expr;
 mod fault;
+mod layout;
 mod length;
 mod memory;
 mod moves;
@@ -18,6 +19,7 @@ mod scratch;
 mod token;
 mod token_reader;
 mod types;
+mod walk;
 mod writing;
 
 pub use body::Body;

@@ -34,7 +34,7 @@ pub(crate) fn are_bytes(bytes: &[u8])
 // A reserved byte, which is 00.
 #[tactic(auto, unfolding(crate::specs::Reading::reserved_at))]
 #[inline(always)]
-fn reserved(cursor: &mut Cursor<'_>) -> Result<u8, ReadFault>
+pub(crate) fn reserved(cursor: &mut Cursor<'_>) -> Result<u8, ReadFault>
     ensures { Parses (λ x. x) reserved_at cursor.old result cursor.new }
 {
     let at = cursor.at();
@@ -130,7 +130,7 @@ fn double_of(cursor: &mut Cursor<'_>) -> Result<Token, ReadFault>
 
 // The numeric instruction of an opcode.
 #[inline(always)]
-fn numeric_of(profile: Profile, opcode: u8) -> Option<NumericOp>
+pub(crate) fn numeric_of(profile: Profile, opcode: u8) -> Option<NumericOp>
     ensures { result ≡ numeric_in profile opcode }
 {
     if profile == Profile::Core && opcode > LAST_CORE {

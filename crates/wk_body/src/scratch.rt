@@ -8,6 +8,7 @@ ghost use Rattle.wk_body.specs.Building.{Good, Adds, AddsEnd, Closes, GoodWith, 
 
 use crate::expr::Expr;
 use crate::token::Token;
+use crate::token_reader::TokenReader;
 use crate::types::{BlockKind, BlockType};
 use std::alloc::Global;
 use wk_bytes::OutOfMemory;
@@ -28,6 +29,9 @@ pub struct Scratch {
     pub(crate) tokens: Vec<Token>,
     pub(crate) labels: Vec<u32>,
     pub(crate) blocks: Vec<Opened>,
+    // where a code is written again while it is read
+    pub(crate) reader: TokenReader,
+    pub(crate) written: Vec<u8>,
 }
 
 // The token with another distance to its end.
@@ -89,6 +93,8 @@ impl Scratch {
             tokens: Vec::new(alloc),
             labels: Vec::new(alloc),
             blocks: Vec::new(alloc),
+            reader: TokenReader::new(alloc),
+            written: Vec::new(alloc),
         }
     }
 

@@ -1,0 +1,35 @@
+-- A code that is read and written again: what is written of it, and the run of its bytes that is still to be copied.
+use Rattle.std.specs.Prelude.{◌≡◌, ℕ, List, ◌∷◌, ◌++◌, Result, Ok}
+use Rattle.wk_bytes.specs.declared.fault.ReadFault.{ReadFault}
+use Rattle.wk_body.specs.declared.walk.Walk.{Walk}
+use Rattle.wk_body.specs.declared.types.Profile.{Profile}
+use Rattle.wk_body.specs.Instructions.{Plain}
+use Rattle.wk_body.specs.Reading.{plain_at}
+use Rattle.wk_body.specs.Written.{plain_bytes}
+
+-- the bytes that are written, with those of the run that lie in front of the cursor
+abbrev pub Holds : List ℕ → Walk → List ℕ → Type 0
+Holds out w written = (said : List ℕ) × (w.run.now ≡ said ++ w.cursor.rest) × (written ≡ out ++ said)
+
+-- a call wrote these bytes behind what was written
+abbrev pub Adds : List ℕ → List ℕ → Walk → List ℕ → Walk → Type 0
+Adds bytes out from after to = (written : List ℕ) → Holds out from written → Holds after to (written ++ bytes)
+
+-- a call read that value and wrote its bytes
+pub record Passed {A : Type 0} (read : ℕ → List ℕ → Result (A × List ℕ) ReadFault) (x : A) (bytes : List ℕ) (out : List ℕ) (from : Walk) (after : List ℕ) (to : Walk) : Type 0 where
+  pub is : read from.cursor.end from.cursor.rest ≡ Ok (x, to.cursor.rest)
+  pub same_end : to.cursor.end ≡ from.cursor.end
+  pub adds : Adds bytes out from after to
+
+-- a call read that value and left its bytes in the run, whatever is written
+abbrev pub Kept : {A : Type 0} → (ℕ → List ℕ → Result (A × List ℕ) ReadFault) → A → List ℕ → Walk → Walk → Type 0
+Kept read x bytes from to = (out : List ℕ) → Passed read x bytes out from out to
+
+-- a call read an instruction that holds no others, behind its opcode, and wrote what stands behind that
+pub record PassedPlain (profile : Profile) (opcode : ℕ) (out : List ℕ) (from : Walk) (after : List ℕ) (to : Walk) : Type 0 where
+  pub instr : Plain
+  pub is : (e : ReadFault) → plain_at profile e opcode from.cursor.end from.cursor.rest ≡ Ok (instr, to.cursor.rest)
+  pub same_end : to.cursor.end ≡ from.cursor.end
+  pub bytes : List ℕ
+  pub spelled : plain_bytes instr ≡ opcode ∷ bytes
+  pub adds : Adds bytes out from after to

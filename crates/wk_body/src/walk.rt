@@ -1,0 +1,210 @@
+//! Passes over the pieces of a code that is written again.
+//!
+//! What stands there as it is written stays in a run of bytes that is copied at once. A call that answers nothing met something
+//! unclear, or a growth was refused: then nothing is said of what it wrote.
+
+ghost use Rattle.std.specs.Prelude.{◌≡◌, ℕ, ◌∷◌, [], List, ◌++◌, ◌-◌, length, take, IfSome};
+ghost use Rattle.std.specs.List.{flat_map};
+ghost use Rattle.byteorder.specs.Endian.{little_bytes};
+ghost use Rattle.wk_bytes.specs.Short.{short, short_signed};
+ghost use Rattle.wk_bytes.specs.Span.{u32_at, signed_at, word_at};
+ghost use Rattle.wk_body.specs.Vectors.{items_at, written_vector};
+ghost use Rattle.wk_body.specs.Reading.{reserved_at, labels_at};
+ghost use Rattle.wk_body.specs.Walks.{Passed, Kept, PassedPlain};
+
+use crate::layout::{Layout, layout_of};
+use crate::reading::{are_bytes, reserved};
+use crate::types::Profile;
+use wk_bytes::{Cursor, leb_len_s64, leb_len_u32, put_s64, put_u32};
+
+/// A code that is read, and the run of its bytes from the first that is not written yet.
+pub(crate) struct Walk<'a> {
+    pub(crate) cursor: Cursor<'a>,
+    pub(crate) run: &'a [u8],
+}
+
+// Writes the bytes of the run that lie in front of its last `left` ones.
+pub(crate) fn write_run(out: &mut Vec<u8>, run: &[u8], left: usize) -> Option<()>
+    ensures { IfSome result (λ _. out.new.items ≡ out.old.items ++ take (length run.now - left) run.now) }
+{
+    let said = run.get(..run.len().checked_sub(left)?)?;
+    out.extend_from_slice(said).ok()
+}
+
+// Writes the run in front of an unsigned integer, and the integer.
+#[inline(never)]
+fn respell_u32(out: &mut Vec<u8>, run: &[u8], left: usize, n: u32) -> Option<()>
+    ensures { IfSome result (λ _. out.new.items ≡ (out.old.items ++ take (length run.now - left) run.now) ++ short n) }
+{
+    write_run(out, run, left)?;
+    put_u32(out, n).ok()
+}
+
+// Writes the run in front of a signed integer, and the integer.
+#[inline(never)]
+fn respell_signed(out: &mut Vec<u8>, run: &[u8], left: usize, n: i64) -> Option<()>
+    ensures { IfSome result (λ _. out.new.items ≡ (out.old.items ++ take (length run.now - left) run.now) ++ short_signed n) }
+{
+    write_run(out, run, left)?;
+    put_s64(out, n).ok()
+}
+
+impl Walk<'_> {
+    // An unsigned integer.
+    #[inline(always)]
+    pub(crate) fn pass_u32(&mut self, out: &mut Vec<u8>) -> Option<u32>
+        ensures { IfSome result (λ n. Passed u32_at n (short n) out.old.items self.old out.new.items self.new) }
+    {
+        let left = self.cursor.rest().len();
+        let Ok(n) = self.cursor.u32() else {
+            return None;
+        };
+        let rest = self.cursor.rest();
+        if left - rest.len() != leb_len_u32(n) {
+            respell_u32(out, self.run, left, n)?;
+            self.run = rest;
+        }
+        Some(n)
+    }
+
+    // A signed integer of 32 bits.
+    #[inline(always)]
+    fn pass_s32(&mut self, out: &mut Vec<u8>) -> Option<i32>
+        ensures { IfSome result (λ n. Passed (signed_at 32) n (short_signed n) out.old.items self.old out.new.items self.new) }
+    {
+        let left = self.cursor.rest().len();
+        let Ok(n) = self.cursor.s32() else {
+            return None;
+        };
+        let rest = self.cursor.rest();
+        if left - rest.len() != leb_len_s64(i64::from(n)) {
+            respell_signed(out, self.run, left, i64::from(n))?;
+            self.run = rest;
+        }
+        Some(n)
+    }
+
+    // A signed integer of 64 bits.
+    #[inline(always)]
+    fn pass_s64(&mut self, out: &mut Vec<u8>) -> Option<i64>
+        ensures { IfSome result (λ n. Passed (signed_at 64) n (short_signed n) out.old.items self.old out.new.items self.new) }
+    {
+        let left = self.cursor.rest().len();
+        let Ok(n) = self.cursor.s64() else {
+            return None;
+        };
+        let rest = self.cursor.rest();
+        if left - rest.len() != leb_len_s64(n) {
+            respell_signed(out, self.run, left, n)?;
+            self.run = rest;
+        }
+        Some(n)
+    }
+
+    // A word of four bytes.
+    #[inline(always)]
+    fn pass_word32(&mut self) -> Option<u32>
+        ensures { IfSome result (λ word. Kept (word_at 4) word (little_bytes 4 word) self.old self.new) }
+    {
+        // The proof asks what this says: each byte is below 256.
+        are_bytes(self.cursor.rest());
+        let Ok(word) = self.cursor.word32() else {
+            return None;
+        };
+        Some(word)
+    }
+
+    // A word of eight bytes.
+    #[inline(always)]
+    fn pass_word64(&mut self) -> Option<u64>
+        ensures { IfSome result (λ word. Kept (word_at 8) word (little_bytes 8 word) self.old self.new) }
+    {
+        // The proof asks what this says: each byte is below 256.
+        are_bytes(self.cursor.rest());
+        let Ok(word) = self.cursor.word64() else {
+            return None;
+        };
+        Some(word)
+    }
+
+    // A reserved byte.
+    #[inline(always)]
+    fn pass_reserved(&mut self) -> Option<u8>
+        ensures { IfSome result (λ zero. Kept reserved_at zero (0x00 ∷ []) self.old self.new) }
+    {
+        let Ok(zero) = reserved(&mut self.cursor) else {
+            return None;
+        };
+        Some(zero)
+    }
+
+    // So many labels.
+    #[inline(always)]
+    fn pass_labels(&mut self, count: u32, out: &mut Vec<u8>) -> Option<()>
+        ensures { IfSome result (λ _. (labels : List ℕ) × Passed (items_at u32_at count) labels (flat_map short labels) out.old.items self.old out.new.items self.new) }
+    {
+        for _ in 0..count {
+            self.pass_u32(out)?;
+        }
+        Some(())
+    }
+
+    // What stands behind the opcode of a `br_table`.
+    #[inline(always)]
+    fn pass_table(&mut self, out: &mut Vec<u8>) -> Option<()>
+        ensures { IfSome result (λ _. (t : List ℕ × ℕ) × Passed labels_at t (written_vector short t.0 ++ short t.1) out.old.items self.old out.new.items self.new) }
+    {
+        let count = self.pass_u32(out)?;
+        self.pass_labels(count, out)?;
+        self.pass_u32(out)?;
+        Some(())
+    }
+
+    // What stands behind the opcode of an instruction that holds no others.
+    #[inline(always)]
+    pub(crate) fn pass_plain(&mut self, profile: Profile, opcode: u8, out: &mut Vec<u8>) -> Option<()>
+        ensures { IfSome result (λ _. PassedPlain profile opcode out.old.items self.old out.new.items self.new) }
+    {
+        match layout_of(profile, opcode)? {
+            Layout::Nothing => Some(()),
+            Layout::Reserved => {
+                self.pass_reserved()?;
+                Some(())
+            }
+            Layout::Index => {
+                self.pass_u32(out)?;
+                Some(())
+            }
+            Layout::IndexReserved => {
+                self.pass_u32(out)?;
+                self.pass_reserved()?;
+                Some(())
+            }
+            Layout::Labels => {
+                self.pass_table(out)?;
+                Some(())
+            }
+            Layout::Memarg => {
+                self.pass_u32(out)?;
+                self.pass_u32(out)?;
+                Some(())
+            }
+            Layout::Signed32 => {
+                self.pass_s32(out)?;
+                Some(())
+            }
+            Layout::Signed64 => {
+                self.pass_s64(out)?;
+                Some(())
+            }
+            Layout::Word32 => {
+                self.pass_word32()?;
+                Some(())
+            }
+            Layout::Word64 => {
+                self.pass_word64()?;
+                Some(())
+            }
+        }
+    }
+}
