@@ -210,6 +210,14 @@ exprs_read profile = record {
   stands = ReadsFront-expr_at profile;
 }
 
+pub all_exprs_read : (profile : Profile) → IsAllReadAs (SpellsExpr profile) (all_expr_at profile)
+unfolding all_expr_at
+all_exprs_read profile = record {
+  takes = all_takes (SpellsExpr profile) (expr_at profile) (exprs profile);
+  again = λ end t bytes s. all_again (SpellsExpr profile) (expr_at profile) (exprs profile) end bytes t s;
+  stands = all_expr_stands profile;
+}
+
 pub bodies_read : (profile : Profile) → IsAllReadAs (SpellsBody profile) (all_body_at profile)
 unfolding all_body_at
 bodies_read profile = record {

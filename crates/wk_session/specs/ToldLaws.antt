@@ -5,16 +5,10 @@ use Rattle.wk_bytes.specs.declared.fault.ReadFault.{ReadFault}
 use Rattle.wk_bytes.specs.Frames.{limit}
 use Rattle.wk_bytes.specs.Leb.{◌>>=◌}
 use Rattle.wk_bytes.specs.Fault.{long_input}
-use Rattle.wk_bytes.specs.Stands.{Stands}
 use Rattle.wk_body.specs.declared.types.Profile.{Profile}
-use Rattle.wk_body.specs.Bodies.{BodyOf}
 use Rattle.wk_body.specs.Spelling.{SpellsBody, SpellsExpr}
-use Rattle.wk_body.specs.Meaning.{NeverMemory}
-use Rattle.wk_body.specs.Reading.{all_body_at, all_expr_at, body_at, expr_at, taking_all, whole_at}
-use Rattle.wk_body.specs.Tree.{Instrs}
-use Rattle.wk_body.proofs.Grammar.{body_again, expr_again}
-use Rattle.wk_body.proofs.Promised.{bodies_never_memory, exprs_never_memory}
-use Rattle.wk_body.proofs.Standing.{all_body_stands, all_expr_stands}
+use Rattle.wk_body.specs.Meaning.{IsAllReadAs, NeverMemory}
+use Rattle.wk_body.specs.Reading.{all_body_at, all_expr_at, whole_at}
 use Rattle.wk_module.specs.declared.types.Parts.{Parts}
 use Rattle.wk_module.specs.Changes.{with_type, with_import, with_func, with_body, with_global, with_export, without_first}
 use Rattle.wk_module.specs.Items.{desc_kind}
@@ -40,18 +34,15 @@ chosen false x y z h = inr (refl, h)
 
 -- ---- bytes that are not read
 
-module _ {V : Type 0} (Spells : V → List ℕ → Type 0) (read : ℕ → List ℕ → Result V ReadFault)
-    (again : (end : ℕ) (v : V) (bytes : List ℕ) → Spells v bytes → read end bytes ≡ Ok v)
-    (stands : (end : ℕ) (bytes : List ℕ) (e : ReadFault) → read end bytes ≡ Err e → length bytes ≤ end → Stands (record { rest = bytes; end = end }) e)
-    (never : NeverMemory read) where
+module _ {V : Type 0} (Spells : V → List ℕ → Type 0) (read : ℕ → List ℕ → Result V ReadFault) (reads : IsAllReadAs Spells read) (never : NeverMemory read) where
   unread : (bytes : List ℕ) (f : ReadFault) → whole_at read bytes ≡ Err f → IsUnread Spells bytes f
   unfolding whole_at
   unread bytes f h = elim (chosen (nat_le (length bytes) 2147483647) (read (length bytes) bytes) (Err long_input) (Err f) h) [
     | inl p ↦
         let fails : read (length bytes) bytes ≡ Err f = p.1 in
         record {
-          none = λ v w. let back = again (length bytes) v bytes w.1 in absurd cc;
-          stands = inr (inr (stands (length bytes) bytes f fails (omega arith)));
+          none = λ v w. let back = reads.again (length bytes) v bytes w.1 in absurd cc;
+          stands = inr (inr (reads.stands (length bytes) bytes f fails (omega arith)));
           other = never bytes f h;
         }
     | inr p ↦
@@ -60,27 +51,23 @@ module _ {V : Type 0} (Spells : V → List ℕ → Type 0) (read : ℕ → List 
         record { none = λ v w. absurd (omega (arith, w.0, long)); stands = inr (inl (sym is, long)); other = never bytes f h }
   ]
 
-body_back : (profile : Profile) (end : ℕ) (b : BodyOf) (bytes : List ℕ) → SpellsBody profile b bytes → all_body_at profile end bytes ≡ Ok b
-unfolding all_body_at
-body_back profile end b bytes s =
-    let e : body_at profile end bytes ≡ Ok (b, []) = ap (body_at profile end) (sym (append-nil bytes)) ∙ body_again profile end b bytes [] s in
-    ap (λ (r : Result (BodyOf × List ℕ) ReadFault). r >>= taking_all end) e
+-- what `reading_of_code` of `wk_body` says of reading a code or an expression that is all of the bytes
+pub record ReadsCode : Type 0 where
+  pub body : (profile : Profile) → IsAllReadAs (SpellsBody profile) (all_body_at profile)
+  pub expr : (profile : Profile) → IsAllReadAs (SpellsExpr profile) (all_expr_at profile)
+  pub body_never : (profile : Profile) → NeverMemory (all_body_at profile)
+  pub expr_never : (profile : Profile) → NeverMemory (all_expr_at profile)
 
-expr_back : (profile : Profile) (end : ℕ) (t : Instrs) (bytes : List ℕ) → SpellsExpr profile t bytes → all_expr_at profile end bytes ≡ Ok t
-unfolding all_expr_at
-expr_back profile end t bytes s =
-    let e : expr_at profile end bytes ≡ Ok (t, []) = ap (expr_at profile end) (sym (append-nil bytes)) ∙ expr_again profile end t bytes [] s in
-    ap (λ (r : Result (Instrs × List ℕ) ReadFault). r >>= taking_all end) e
+module _ (code : ReadsCode) where
+  unread_body : (profile : Profile) (bytes : List ℕ) (f : ReadFault) → whole_at (all_body_at profile) bytes ≡ Err f → IsUnread (SpellsBody profile) bytes f
+  unread_body profile = unread (SpellsBody profile) (all_body_at profile) (code.body profile) (code.body_never profile)
 
-unread_body : (profile : Profile) (code : List ℕ) (f : ReadFault) → whole_at (all_body_at profile) code ≡ Err f → IsUnread (SpellsBody profile) code f
-unread_body profile code f h = unread (SpellsBody profile) (all_body_at profile) (body_back profile) (all_body_stands profile) (bodies_never_memory profile) code f h
-
-unread_expr : (profile : Profile) (init : List ℕ) (f : ReadFault) → whole_at (all_expr_at profile) init ≡ Err f → IsUnread (SpellsExpr profile) init f
-unread_expr profile init f h = unread (SpellsExpr profile) (all_expr_at profile) (expr_back profile) (all_expr_stands profile) (exprs_never_memory profile) init f h
+  unread_expr : (profile : Profile) (bytes : List ℕ) (f : ReadFault) → whole_at (all_expr_at profile) bytes ≡ Err f → IsUnread (SpellsExpr profile) bytes f
+  unread_expr profile = unread (SpellsExpr profile) (all_expr_at profile) (code.expr profile) (code.expr_never profile)
 
 -- ---- edits that are refused for their bytes
 
-module _ (keep : Bool) (f : ReadFault) where
+module _ (reads : ReadsCode) (keep : Bool) (f : ReadFault) where
   lasting_other : (n : Parts) → lasting keep n ≡ Err (BadBytes f) → ⊥
   lasting_other n h = by keep (module_verdict n) refl h
     where
@@ -104,7 +91,7 @@ module _ (keep : Bool) (f : ReadFault) where
   body_told : (x : ℕ) (code : List ℕ) (m : Parts) (entry : Option ℕ) → (body_put entry code m >>= lasting keep) ≡ Err (BadBytes f) → IsUnread (SpellsBody m.profile) code f
   body_told x code m None h = absurd cc
   body_told x code m (Some entry) h =
-      bytes_told (SpellsBody m.profile) code (whole_at (all_body_at m.profile) code) (λ b. settle (with_body entry b m)) (unread_body m.profile code) h
+      bytes_told (SpellsBody m.profile) code (whole_at (all_body_at m.profile) code) (λ b. settle (with_body entry b m)) (unread_body reads m.profile code) h
 
   import_other : (b : Bool) (n : Parts) → (cond b (Err IndexOverflow) (fitting n) >>= lasting keep) ≡ Err (BadBytes f) → ⊥
   import_other true n h = absurd cc
@@ -123,10 +110,10 @@ module _ (keep : Bool) (f : ReadFault) where
   bad_bytes (edits.Import i) m h =
       import_other (are_parts_stuck (desc_kind i.desc) (import_place i m) m) (settle (with_import i (moved_parts (desc_kind i.desc) (import_place i m) m))) h
   bad_bytes (edits.Func t code) m h =
-      bytes_told (SpellsBody m.profile) code (whole_at (all_body_at m.profile) code) (λ b. settle (with_func t b m)) (unread_body m.profile code) h
+      bytes_told (SpellsBody m.profile) code (whole_at (all_body_at m.profile) code) (λ b. settle (with_func t b m)) (unread_body reads m.profile code) h
   bad_bytes (edits.Body x code) m h = body_told x code m (entry_of x m) h
   bad_bytes (edits.Global t init) m h =
-      bytes_told (SpellsExpr m.profile) init (whole_at (all_expr_at m.profile) init) (λ e. settle (with_global t e m)) (unread_expr m.profile init) h
+      bytes_told (SpellsExpr m.profile) init (whole_at (all_expr_at m.profile) init) (λ e. settle (with_global t e m)) (unread_expr reads m.profile init) h
   bad_bytes (edits.Export e) m h = fitting_other (settle (with_export e m)) h
   bad_bytes (edits.Unexport name) m h = exports_other (without_first name m.exports) m h
   bad_bytes (edits.SetCustom name bytes) m h = fitting_other (settle (with_custom name bytes m)) h
@@ -227,20 +214,20 @@ reply_inverts : (e : Edit) (m : Parts) (r : Result Parts EditFault) (f : ReadFau
 reply_inverts e m (Ok n) f h = absurd cc
 reply_inverts e m (Err g) f h = let is : BadBytes f ≡ g = cc in ap (λ (x : EditFault). let q : Result Parts EditFault = Err x in q) (sym is)
 
-pub reply_told : (keep : Bool) (e : Edit) (m : Parts) (r : Result Work EditFault) → r ≡ reply_of keep e (is_memory r) m → IsTold m.profile e r
-reply_told keep e m (Ok w) h = tt
-reply_told keep e m (Err (BadBytes f)) h = bad_bytes keep f e m (reply_inverts e m (made keep e m) f h)
-reply_told keep e m (Err NoSuchFunction) h = tt
-reply_told keep e m (Err NoSuchExport) h = tt
-reply_told keep e m (Err NoSuchCustom) h = tt
-reply_told keep e m (Err IndexOverflow) h = tt
-reply_told keep e m (Err TooLarge) h = tt
-reply_told keep e m (Err (WouldBreak g)) h = tt
-reply_told keep e m (Err Memory) h = tt
+pub reply_told : ReadsCode → (keep : Bool) (e : Edit) (m : Parts) (r : Result Work EditFault) → r ≡ reply_of keep e (is_memory r) m → IsTold m.profile e r
+reply_told reads keep e m (Ok w) h = tt
+reply_told reads keep e m (Err (BadBytes f)) h = bad_bytes reads keep f e m (reply_inverts e m (made keep e m) f h)
+reply_told reads keep e m (Err NoSuchFunction) h = tt
+reply_told reads keep e m (Err NoSuchExport) h = tt
+reply_told reads keep e m (Err NoSuchCustom) h = tt
+reply_told reads keep e m (Err IndexOverflow) h = tt
+reply_told reads keep e m (Err TooLarge) h = tt
+reply_told reads keep e m (Err (WouldBreak g)) h = tt
+reply_told reads keep e m (Err Memory) h = tt
 
-pub all_told : (keep : Bool) (es : List Edit) (m : Parts) → AreTold m.profile es (replies_of keep es [] m)
-all_told keep [] m = tt
-all_told keep (e ∷ es) m = (
-  one_told e m (made keep e m) (λ f h. bad_bytes keep f e m h),
-  subst (λ (p : Profile). AreTold p es (replies_of keep es [] (after_one keep e false m))) (after_keeps keep e m) (all_told keep es (after_one keep e false m)),
+pub all_told : ReadsCode → (keep : Bool) (es : List Edit) (m : Parts) → AreTold m.profile es (replies_of keep es [] m)
+all_told reads keep [] m = tt
+all_told reads keep (e ∷ es) m = (
+  one_told e m (made keep e m) (λ f h. bad_bytes reads keep f e m h),
+  subst (λ (p : Profile). AreTold p es (replies_of keep es [] (after_one keep e false m))) (after_keeps keep e m) (all_told reads keep es (after_one keep e false m)),
 )

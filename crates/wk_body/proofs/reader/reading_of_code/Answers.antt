@@ -1,4 +1,4 @@
-use Rattle.wk_body.proofs.Promised.{exprs_read, bodies_read, exprs_never_memory, bodies_never_memory}
+use Rattle.wk_body.proofs.Promised.{exprs_read, all_exprs_read, bodies_read, exprs_never_memory, bodies_never_memory}
 use Rattle.wk_body.proofs.Spelled.{expr_shaped, expr_allowed}
 use Rattle.wk_body.proofs.reader.reading_of_code.Goals as goal
 
@@ -16,3 +16,6 @@ returns-clause-never_memory_expr c = exprs_never_memory
 
 pub returns-clause-never_memory_body : goal.returns-clause-never_memory_body
 returns-clause-never_memory_body c = bodies_never_memory
+
+pub returns-clause-all_expr : goal.returns-clause-all_expr
+returns-clause-all_expr c = all_exprs_read
