@@ -26,7 +26,7 @@ use Rattle.wk_edit.specs.ReportText.{report_text}
 use Rattle.wk_edit.specs.Outcome.{Outcome, malformed_outcome, run_status, run_outcome, script_outcome, outcome_on, outcome_of}
 use Rattle.wk_edit.specs.Prepared.{IsPrepared, IsSpelled}
 use Rattle.wk_edit.specs.Theorem.{IsRun, IsRead, IsReport}
-use Rattle.wk_session.specs.ToldLaws.{all_told}
+use Rattle.wk_session.specs.ToldLaws.{ReadsCode, all_told}
 
 -- ---- no edit was refused for want of memory
 
@@ -100,8 +100,8 @@ module _ (keep : Bool) (profile : Profile) (input script : List ℕ) where
   pub ran_ok : (r : Result Prepared RunFault) (m : Parts) (s : Result (List Edit) ScriptFault) → IfOk r (IsPrepared (outcome_on keep m s)) → module_at profile input ≡ Ok m → script_of script ≡ s → IfOk r (IsPrepared (outcome_of keep profile input script))
   ran_ok r m s is read said = subst (λ (o : Outcome). IfOk r (IsPrepared o)) (sym (outcome_ran keep profile input script m s read said)) is
 
-  run_told : (m : Parts) (es : List Edit) → IsScript script es → IsOnlyScript script es → IsSpelled (run_outcome keep m es).edited → IsRun keep m script (run_outcome keep m es)
-  run_told m es is only spelled = record {
+  run_told : ReadsCode → (m : Parts) (es : List Edit) → IsScript script es → IsOnlyScript script es → IsSpelled (run_outcome keep m es).edited → IsRun keep m script (run_outcome keep m es)
+  run_told reads m es is only spelled = record {
     edits = es;
     spelled = is;
     only = only;
@@ -110,17 +110,17 @@ module _ (keep : Bool) (profile : Profile) (input script : List ℕ) where
     out = refl;
     spells = spelled.0;
     alone = spelled.1;
-    told = all_told keep es m;
+    told = all_told reads keep es m;
     report = refl;
     status = refl;
   }
 
-  pub ran_means : (r : Result Prepared RunFault) (m : Parts) (es : List Edit) → IsRead profile input m → module_at profile input ≡ Ok m → IsScript script es → IsOnlyScript script es → script_of script ≡ Ok es
+  pub ran_means : ReadsCode → (r : Result Prepared RunFault) (m : Parts) (es : List Edit) → IsRead profile input m → module_at profile input ≡ Ok m → IsScript script es → IsOnlyScript script es → script_of script ≡ Ok es
       → OnOk r (IsSpelled (outcome_of keep profile input script).edited → IsReport keep profile input script (outcome_of keep profile input script))
-  ran_means (Ok p) m es of read is only said =
+  ran_means reads (Ok p) m es of read is only said =
       subst (λ (o : Outcome). IsSpelled o.edited → IsReport keep profile input script o) (sym (outcome_ran keep profile input script m (Ok es) read said))
-      (λ spelled. inr (m, of, inr (run_told m es is only spelled)))
-  ran_means (Err e) m es of read is only said = tt
+      (λ spelled. inr (m, of, inr (run_told reads m es is only spelled)))
+  ran_means reads (Err e) m es of read is only said = tt
 
   pub script_means : (r : Result Prepared RunFault) (m : Parts) (f : ScriptFault) → OnOk r (f ≢ ScriptFault.Memory) → IsRead profile input m → module_at profile input ≡ Ok m → (f ≢ ScriptFault.Memory → script_of script ≡ Err f) → (f ≢ ScriptFault.Memory → IsNoScript script) → (f ≢ ScriptFault.Memory → IsFaultOf script f)
       → OnOk r (IsSpelled (outcome_of keep profile input script).edited → IsReport keep profile input script (outcome_of keep profile input script))

@@ -13,7 +13,7 @@ use crate::script::read_script;
 use std::alloc::Global;
 use wk_bytes::{OutOfMemory, ReadFault, ReadKind};
 use wk_check::Verdict;
-use wk_module::Profile;
+use wk_module::{Profile, reading_of_code};
 use wk_session::{Edit, EditFault, Reply, Session};
 
 /// What is to be written.
@@ -139,6 +139,8 @@ pub(crate) fn prepare(
         → IsReport keep_valid profile input.now script.now (outcome_of keep_valid profile input.now script.now)) }
     ensures memory { IfErr result (λ e. e ≡ RunFault.Memory) }
 {
+    // The proof asks what this says: what code that is refused spells, and where its fault stands.
+    reading_of_code();
     let session = match Session::open_in(alloc, input, profile) {
         Ok(session) => session,
         Err(fault) => return of_malformed(alloc, &fault),

@@ -32,7 +32,7 @@ use std::mem;
 use wk_bytes::{Out, OutFault, OutOfMemory, ReadFault, ReadKind, put_all};
 use wk_check::{Meter, Verdict};
 use wk_list::{ListFault, Part, Plain, list};
-use wk_module::{EncodeFault, Module, Parts, Profile, Ref, encode, read_in};
+use wk_module::{EncodeFault, Module, Parts, Profile, Ref, encode, read_in, reading_of_code};
 
 /// A module under edits, seen by contracts as its plain lists.
 #[derive(Debug, Drop)]
@@ -198,6 +198,8 @@ impl Session {
         ensures told { IsTold self.old.profile edit.now result }
         ensures decided { IfErr result (λ f. f ≡ EditFault.Memory → is_decided edit.now self.old ≡ false) }
     {
+        // The proof asks what this says: what code that is refused spells, and where its fault stands.
+        reading_of_code();
         let mut parts = take_parts(self.alloc, &mut self.module);
         let reply = edit_parts(self.alloc, keep, &mut parts, &mut self.kept, edit);
         self.module = Module::of(parts);

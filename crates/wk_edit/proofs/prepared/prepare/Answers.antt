@@ -1,4 +1,5 @@
 use Rattle.std.proofs.Common.{Ok}
+use Rattle.wk_session.specs.ToldLaws.{ReadsCode}
 use Rattle.wk_edit.proofs.OutcomeLemmas.{malformed_ok, malformed_means, ran_ok, ran_means, script_ok, script_means}
 use Rattle.wk_edit.proofs.prepared.prepare.Goals as goal
 
@@ -13,7 +14,13 @@ returns-in-Ok-read_script-clause-ok c = ran_ok c.args.keep_valid c.args.profile 
 
 pub returns-in-Ok-read_script-clause-means : goal.returns-in-Ok-read_script-clause-means
 returns-in-Ok-read_script-clause-means c =
-    ran_means c.args.keep_valid c.args.profile c.args.input.now c.args.script.now _ c.in-Ok.session c.in-Ok-read_script.edits.items
+    let reads : ReadsCode = record {
+      body = c.reading_of_code.ensures.body;
+      expr = c.reading_of_code.ensures.all_expr;
+      body_never = c.reading_of_code.ensures.never_memory_body;
+      expr_never = c.reading_of_code.ensures.never_memory_expr;
+    } in
+    ran_means reads c.args.keep_valid c.args.profile c.args.input.now c.args.script.now _ c.in-Ok.session c.in-Ok-read_script.edits.items
     (record { profile_is = c.in-Ok.ensures.profile; spelled = c.in-Ok.ensures.found; only = c.in-Ok.ensures.only })
     c.in-Ok.ensures.exact c.in-Ok-read_script.ensures.found c.in-Ok-read_script.ensures.only c.in-Ok-read_script.ensures.exact
 

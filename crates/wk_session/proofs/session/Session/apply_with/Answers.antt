@@ -3,7 +3,7 @@ use Rattle.wk_module.specs.declared.types.Parts.{Parts}
 use Rattle.wk_module.specs.Shape.{IsShaped}
 use Rattle.wk_session.specs.Kept.{IsKept}
 use Rattle.wk_session.specs.Runs.{is_memory, reply_of}
-use Rattle.wk_session.specs.ToldLaws.{reply_told}
+use Rattle.wk_session.specs.ToldLaws.{ReadsCode, reply_told}
 use Rattle.wk_session.proofs.Settling.{kept_after, reply_after}
 use Rattle.wk_session.proofs.session.Session.apply_with.Goals as goal
 
@@ -22,4 +22,11 @@ returns-clause-reply c =
     ∙ ap (reply_of c.args.keep c.args.edit.now (is_memory c.edit_parts-reply.result)) (c.take_parts-parts.ensures.value ∙ c.self.view_is)
 
 pub returns-clause-told : goal.returns-clause-told
-returns-clause-told c = reply_told c.args.keep c.args.edit.now c.args.self.now c.edit_parts-reply.result (returns-clause-reply c)
+returns-clause-told c =
+    let reads : ReadsCode = record {
+      body = c.reading_of_code.ensures.body;
+      expr = c.reading_of_code.ensures.all_expr;
+      body_never = c.reading_of_code.ensures.never_memory_body;
+      expr_never = c.reading_of_code.ensures.never_memory_expr;
+    } in
+    reply_told reads c.args.keep c.args.edit.now c.args.self.now c.edit_parts-reply.result (returns-clause-reply c)
