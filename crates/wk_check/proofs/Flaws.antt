@@ -125,7 +125,7 @@ verdict_told flaws = told flaws (first_fault 1 flaws) (found_from 1 flaws)
 -- ---- modules
 
 -- the code section comes behind those in front of it, and the data section behind it
-module_flaws_are : (m : Parts) → verdict_by (first_fault 1 (module_flaws m)) ≡ module_verdict m
+pub module_flaws_are : (m : Parts) → verdict_by (first_fault 1 (module_flaws m)) ≡ module_verdict m
 module_flaws_are m =
     let before = flaws_before_code m.profile (lists_of m) in
     let codes = code_flaws (lists_of m) m.funcs in

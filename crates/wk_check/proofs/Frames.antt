@@ -54,7 +54,7 @@ finish_mapped f (One p rest) = refl
 finish_mapped f (Block kind bt inside rest) = refl
 finish_mapped f (If bt first second rest) = refl
 
-count_mapped : (f : Plain → Plain) (t : Instrs) → count (map_plain f t) ≡ count t
+pub count_mapped : (f : Plain → Plain) (t : Instrs) → count (map_plain f t) ≡ count t
 count_mapped f Finish = refl
 count_mapped f (One p rest) = ap suc (count_mapped f rest)
 count_mapped f (Block kind bt inside rest) = omega (arith, count_mapped f inside, count_mapped f rest)
@@ -184,7 +184,7 @@ frame A1 A2 t1 t2 b own h =
 
 -- ---- an import comes in front
 
-moved_effect : (kind : Moving) (from : ℕ) (A1 A2 : Ref → Found) (locals : ℕ → Option ValType) (final : List ValType) (labels : List (List ValType)) (p : Plain) → AllByRecursion (λ r. A2 (moved_ref kind from r) ≡ A1 r) (plain_refs p) → effect_of A2 locals final labels (moved_plain kind from p) ≡ effect_of A1 locals final labels p
+pub moved_effect : (kind : Moving) (from : ℕ) (A1 A2 : Ref → Found) (locals : ℕ → Option ValType) (final : List ValType) (labels : List (List ValType)) (p : Plain) → AllByRecursion (λ r. A2 (moved_ref kind from r) ≡ A1 r) (plain_refs p) → effect_of A2 locals final labels (moved_plain kind from p) ≡ effect_of A1 locals final labels p
 moved_effect moving.Func from A1 A2 locals final labels (plain.Call x) h = ap call_effect h.0
 moved_effect moving.Global from A1 A2 locals final labels (plain.Call x) h = ap call_effect h.0
 moved_effect moving.Func from A1 A2 locals final labels (plain.CallIndirect x) h =
@@ -204,7 +204,7 @@ moved_effect moving.Global from A1 A2 locals final labels plain.MemoryGrow h = a
 moved_effect moving.Func from A1 A2 locals final labels _ h = refl
 moved_effect moving.Global from A1 A2 locals final labels _ h = refl
 
-type_stays : (kind : Moving) (from x : ℕ) → moved_ref kind from (refs.Ty x) ≡ refs.Ty x
+pub type_stays : (kind : Moving) (from x : ℕ) → moved_ref kind from (refs.Ty x) ≡ refs.Ty x
 type_stays moving.Func from x = refl
 type_stays moving.Global from x = refl
 

@@ -1,11 +1,14 @@
 -- What is imported of each kind, import by import.
-use Rattle.std.proofs.Common.{◌≡◌, ◌≢◌, ℕ, ◌+◌, ◌<◌, ◌≤◌, ◌==◌, false, List, [], ◌∷◌, ◌++◌, length, take, get_or, Option, Some, None, refl, sym, ap, ◌∙◌, arith, length-append}
+use Rattle.std.proofs.Common.{◌≡◌, ◌≢◌, ℕ, ◌+◌, ◌<◌, ◌≤◌, ◌==◌, false, if◌then◌else◌, List, [], ◌∷◌, ◌++◌, length, take, get_or, Option, Some, None, refl, sym, ap, ◌∙◌, arith, length-append}
 use Rattle.std.proofs.lemmas.List.{append-nil, take_more, length-take-le}
 use Rattle.wk_module.specs.declared.types.GlobalType.{GlobalType}
 use Rattle.wk_module.specs.declared.types.Import.{Import}
 use Rattle.wk_module.specs.declared.types.ImportDesc.{ImportDesc}
 use Rattle.wk_module.specs.declared.types.ImportDesc.TheVariants as desc
+use Rattle.wk_module.specs.declared.types.Kind.TheVariants as kinds
 use Rattle.wk_module.specs.declared.types.Limits.{Limits}
+use Rattle.wk_module.specs.Imports.{is_of_kind, import_count}
+use Rattle.wk_module.specs.ImportLaws.{counts_imports}
 use Rattle.wk_check.specs.Answers.{IsPresent}
 use Rattle.wk_check.specs.Spaces.{and_more, imported, func_in, table_in, memory_in, global_in, any_found}
 use Rattle.wk_check.specs.SpacesLaws.{imported_push}
@@ -102,3 +105,27 @@ pub found_behind : {X : Type 0} (xs ys : List X) → length ys == 0 ≡ false �
 found_behind [] [] h = cc
 found_behind [] (y ∷ ys) h = refl
 found_behind (x ∷ xs) ys h = refl
+
+-- ---- how many are imported of each kind
+
+count_table : (d : ImportDesc) (ls : List Limits) → length (and_more (table_in d) ls) ≡ (if is_of_kind kinds.Table d then 1 else 0) + length ls
+count_table (desc.Func x) ls = omega arith
+count_table (desc.Table l) ls = omega arith
+count_table (desc.Memory l) ls = omega arith
+count_table (desc.Global g) ls = omega arith
+
+count_memory : (d : ImportDesc) (ls : List Limits) → length (and_more (memory_in d) ls) ≡ (if is_of_kind kinds.Memory d then 1 else 0) + length ls
+count_memory (desc.Func x) ls = omega arith
+count_memory (desc.Table l) ls = omega arith
+count_memory (desc.Memory l) ls = omega arith
+count_memory (desc.Global g) ls = omega arith
+
+pub imported_tables : (is : List Import) → length (imported table_in is) ≡ import_count kinds.Table is
+imported_tables is = counts_imports kinds.Table (λ js. length (imported table_in js)) refl (λ i js. count_table i.desc (imported table_in js)) is
+
+pub imported_memories : (is : List Import) → length (imported memory_in is) ≡ import_count kinds.Memory is
+imported_memories is = counts_imports kinds.Memory (λ js. length (imported memory_in js)) refl (λ i js. count_memory i.desc (imported memory_in js)) is
+
+-- so many items a space holds
+pub space_length : {X : Type 0} (imports own : List X) (n k : ℕ) → length imports ≡ n → length own ≡ k → n + k ≡ length (imports ++ own)
+space_length imports own n k few many = omega (arith, few, many, length-append imports own)

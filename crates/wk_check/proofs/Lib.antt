@@ -3,6 +3,7 @@ pub mod All
 pub mod Binds
 pub mod Bodies
 pub mod Completing
+pub mod ConstantFrames
 pub mod ConstantRules
 pub mod Constants
 pub mod Cuts
@@ -10,11 +11,13 @@ pub mod DerivedParts
 pub mod ExportNames
 pub mod FirstLocals
 pub mod Fits
+pub mod FlawLists
 pub mod Flaws
 pub mod Frames
 pub mod Imported
 pub mod JudgedCodes
 pub mod Labels
+pub mod LargerSpaces
 pub mod LocalEnds
 pub mod Popping
 pub mod Runs
@@ -23,3 +26,4 @@ pub mod Stacked
 pub mod Streamed
 pub mod Valid
 pub mod ValidFinds
+pub mod ValidGrowth

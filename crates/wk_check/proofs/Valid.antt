@@ -39,7 +39,7 @@ use Rattle.wk_check.proofs.Sound.{valid_derived, derived_valid}
 
 -- ---- bodies
 
-is_valid : (v : BodyVerdict) → body_flaw v ≡ None → v ≡ bodies.Valid
+pub is_valid : (v : BodyVerdict) → body_flaw v ≡ None → v ≡ bodies.Valid
 is_valid bodies.Valid fine = refl
 is_valid (bodies.Invalid kind token) fine = absurd cc
 
@@ -60,32 +60,32 @@ derived_fine A (f ∷ funcs) derived =
 
 -- no item has a flaw by a rule exactly where each is as it should be
 module _ {X : Type 0} (rule : ℕ → X → Option Flaw) (P : X → Type 0) where
-  from_fine : ((item : ℕ) (x : X) → rule item x ≡ None → P x) → (item : ℕ) (xs : List X) → AreFine (numbered rule item xs) → AllByRecursion P xs
+  pub from_fine : ((item : ℕ) (x : X) → rule item x ≡ None → P x) → (item : ℕ) (xs : List X) → AreFine (numbered rule item xs) → AllByRecursion P xs
   from_fine each item [] fine = tt
   from_fine each item (x ∷ xs) fine = (each item x fine.0, from_fine each (item + 1) xs fine.1)
 
-  to_fine : ((item : ℕ) (x : X) → P x → rule item x ≡ None) → (item : ℕ) (xs : List X) → AllByRecursion P xs → AreFine (numbered rule item xs)
+  pub to_fine : ((item : ℕ) (x : X) → P x → rule item x ≡ None) → (item : ℕ) (xs : List X) → AllByRecursion P xs → AreFine (numbered rule item xs)
   to_fine each item [] all = tt
   to_fine each item (x ∷ xs) all = (each item x all.0, to_fine each (item + 1) xs all.1)
 
-both_none : {X : Type 0} (a b : Option X) → earlier a b ≡ None → (a ≡ None) × (b ≡ None)
+pub both_none : {X : Type 0} (a b : Option X) → earlier a b ≡ None → (a ≡ None) × (b ≡ None)
 both_none None b e = (refl, e)
 both_none (Some x) b e = absurd cc
 
-none_both : {X : Type 0} (a b : Option X) → a ≡ None → b ≡ None → earlier a b ≡ None
+pub none_both : {X : Type 0} (a b : Option X) → a ≡ None → b ≡ None → earlier a b ≡ None
 none_both a b ea eb = ap (λ x. earlier x b) ea ∙ eb
 
-unless_true : (kind : FaultKind) (b : Bool) → unless kind b ≡ None → b ≡ true
+pub unless_true : (kind : FaultKind) (b : Bool) → unless kind b ≡ None → b ≡ true
 unless_true kind true e = refl
 unless_true kind false e = absurd cc
 
-within_less : {X : Type 0} (kind : FaultKind) (space : List X) (x : ℕ) → within kind space x ≡ None → x < length space
+pub within_less : {X : Type 0} (kind : FaultKind) (space : List X) (x : ℕ) → within kind space x ≡ None → x < length space
 within_less kind space x e = ltb-true x (length space) (unless_true kind (nat_lt x (length space)) e)
 
-less_within : {X : Type 0} (kind : FaultKind) (space : List X) (x : ℕ) → x < length space → within kind space x ≡ None
+pub less_within : {X : Type 0} (kind : FaultKind) (space : List X) (x : ℕ) → x < length space → within kind space x ≡ None
 less_within kind space x h = ap (unless kind) (lt-ltb x (length space) h)
 
-all_less : (n : ℕ) (xs : List ℕ) → all_within n xs ≡ true → AllByRecursion (λ x. x < n) xs
+pub all_less : (n : ℕ) (xs : List ℕ) → all_within n xs ≡ true → AllByRecursion (λ x. x < n) xs
 all_less n [] e = tt
 all_less n (x ∷ xs) e =
     elim (cases_Bool (nat_lt x n)) [
@@ -93,7 +93,7 @@ all_less n (x ∷ xs) e =
       | inr f ↦ let wrong : false ≡ true = rw f at e in absurd cc
     ]
 
-less_all : (n : ℕ) (xs : List ℕ) → AllByRecursion (λ x. x < n) xs → all_within n xs ≡ true
+pub less_all : (n : ℕ) (xs : List ℕ) → AllByRecursion (λ x. x < n) xs → all_within n xs ≡ true
 less_all n [] all = refl
 less_all n (x ∷ xs) all =
     ap (λ (b : Bool). if b then all_within n xs else false) (lt-ltb x n all.0) ∙ less_all n xs all.1

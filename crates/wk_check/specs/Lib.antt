@@ -8,6 +8,7 @@ pub mod DerivesLaws
 pub mod Effects
 pub mod Finds
 pub mod Flaws
+pub mod Growth
 pub mod Items
 pub mod Levels
 pub mod Locals

@@ -7,6 +7,7 @@ mod display;
 mod env;
 mod exports;
 mod fault;
+mod growth;
 mod judging;
 mod kept;
 mod locals;
@@ -25,6 +26,10 @@ mod whole;
 
 pub use env::{Answer, Env};
 pub use fault::{BodyVerdict, Fault, FaultKind, Place, Verdict};
+pub use growth::{
+    laws_of_valid_modules, verdict_with_body, verdict_with_export, verdict_with_func,
+    verdict_with_global, verdict_with_type,
+};
 pub use judging::{judge, judge_around};
 pub use kept::{carry, carry_moved, first_code_fault, verdicts_that_keep};
 pub use meter::{Meter, declarative_rules, judge_body};

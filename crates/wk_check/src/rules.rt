@@ -70,6 +70,16 @@ fn flaw_of_memory(limits: &Limits, is_first: bool) -> Option<Flaw>
     None
 }
 
+/// What is wrong with a type of a module of a profile: in WebAssembly 1.0 it has at most one result.
+pub(crate) fn flaw_of_type(profile: Profile, ty: &FuncType) -> Option<Flaw>
+    ensures { result ≡ type_flaw profile ty.now }
+{
+    if profile == Profile::Core && ty.results.len() > 1 {
+        return Some(Flaw::of(FaultKind::TypeArity));
+    }
+    None
+}
+
 /// A type has at most one result, in WebAssembly 1.0.
 #[derive(Clone, Copy)]
 pub(crate) struct TypeRule {
@@ -87,10 +97,7 @@ impl Rule for TypeRule {
         ty: &FuncType,
         _room: &mut Room,
     ) -> Result<Option<Flaw>, OutOfMemory> {
-        if self.profile == Profile::Core && ty.results.len() > 1 {
-            return Ok(Some(Flaw::of(FaultKind::TypeArity)));
-        }
-        Ok(None)
+        Ok(flaw_of_type(self.profile, ty))
     }
 }
 

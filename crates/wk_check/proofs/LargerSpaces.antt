@@ -1,0 +1,147 @@
+-- Where index spaces hold all that they held and more, nothing goes wrong with what was there.
+use Rattle.std.proofs.Common.{◌≡◌, ℕ, ◌+◌, ◌<◌, ◌≤◌, nat_lt, Bool, true, false, List, [], ◌∷◌, ◌++◌, length, map, take, Option, Some, None, refl, sym, ap, ◌∙◌, arith}
+use Rattle.std.specs.List.{AllByRecursion, list_any}
+use Rattle.std.specs.Str.{bytes_eq}
+use Rattle.wk_body.specs.declared.references.Ref.{Ref}
+use Rattle.wk_body.specs.declared.references.Ref.TheVariants as refs
+use Rattle.wk_body.specs.declared.types.ValType.TheVariants.{I32}
+use Rattle.wk_body.specs.References.{refs_of}
+use Rattle.wk_module.specs.declared.types.FuncType.{FuncType}
+use Rattle.wk_module.specs.declared.types.Func.{Func}
+use Rattle.wk_module.specs.declared.types.GlobalDef.{GlobalDef}
+use Rattle.wk_module.specs.declared.types.Export.{Export}
+use Rattle.wk_module.specs.declared.types.Elem.{Elem}
+use Rattle.wk_module.specs.declared.types.DataSeg.{DataSeg}
+use Rattle.wk_module.specs.declared.types.Import.{Import}
+use Rattle.wk_module.specs.declared.types.ImportDesc.{ImportDesc}
+use Rattle.wk_module.specs.declared.types.ImportDesc.TheVariants as desc
+use Rattle.wk_module.specs.declared.types.Kind.{Kind}
+use Rattle.wk_module.specs.declared.types.Kind.TheVariants as kinds
+use Rattle.wk_check.specs.declared.fault.FaultKind.{FaultKind}
+use Rattle.wk_check.specs.declared.fault.FaultKind.TheVariants.{UnknownType, UnknownFunc, UnknownTable, UnknownMemory, UnknownGlobal, StartType}
+use Rattle.wk_check.specs.declared.fault.BodyVerdict.TheVariants as bodies
+use Rattle.wk_check.specs.Answers.{Found, FuncIs}
+use Rattle.wk_check.specs.Carried.{Agree}
+use Rattle.wk_check.specs.Constants.{constant_flaw}
+use Rattle.wk_check.specs.Finds.{is_there, Grows}
+use Rattle.wk_check.specs.Flaws.{numbered, AreFine}
+use Rattle.wk_check.specs.Items.{unless, within, all_within, import_flaw, global_flaw, elem_flaw, data_flaw, index_flaw, export_flaw, is_start, start_flaw, start_flaws, body_flaw}
+use Rattle.wk_check.specs.Spaces.{Spaces, answer_in}
+use Rattle.wk_check.specs.Typing.{body_verdict}
+use Rattle.wk_check.specs.Verdict.{func_verdict}
+use Rattle.wk_check.proofs.ConstantFrames.{agree, constant_fine}
+use Rattle.wk_check.proofs.FlawLists.{still_fine}
+use Rattle.wk_check.proofs.Frames.{frame}
+use Rattle.wk_check.proofs.Valid.{is_valid, both_none, none_both, unless_true, within_less, less_within, all_less, less_all}
+use Rattle.wk_check.proofs.ValidFinds.{valid_finds}
+
+-- ---- indexes
+
+more_within : {X : Type 0} (kind : FaultKind) (xs ys : List X) (x : ℕ) → length xs ≤ length ys → within kind xs x ≡ None → within kind ys x ≡ None
+more_within kind xs ys x more e = less_within kind ys x (omega (arith, within_less kind xs x e, more))
+
+pub imports_fine : (ts us : List FuncType) (is : List Import) → length ts ≤ length us → AreFine (numbered (λ item i. import_flaw ts (take item is) i.desc) 0 is) → AreFine (numbered (λ item i. import_flaw us (take item is) i.desc) 0 is)
+imports_fine ts us is more = still_fine _ _ (λ item i. still (take item is) i.desc) 0 is
+  where
+    still : (before : List Import) (d : ImportDesc) → import_flaw ts before d ≡ None → import_flaw us before d ≡ None
+    still before (desc.Func x) e = more_within UnknownType ts us x more e
+    still before (desc.Table l) e = e
+    still before (desc.Memory l) e = e
+    still before (desc.Global g) e = e
+
+pub funcs_fine : (ts us : List FuncType) (xs : List ℕ) → length ts ≤ length us → AreFine (numbered (λ item x. within UnknownType ts x) 0 xs) → AreFine (numbered (λ item x. within UnknownType us x) 0 xs)
+funcs_fine ts us xs more = still_fine _ _ (λ item x. more_within UnknownType ts us x more) 0 xs
+
+-- ---- what is found
+
+starts_there : (w : Found) → is_start w ≡ true → is_there w ≡ true
+starts_there (FuncIs t) e = refl
+starts_there w e = absurd cc
+
+module _ (A B : Ref → Found) (grows : Grows A B) where
+  pub globals_fine : (gs : List GlobalDef) → AreFine (numbered (λ item g. global_flaw A g) 0 gs) → AreFine (numbered (λ item g. global_flaw B g) 0 gs)
+  globals_fine gs = still_fine _ _ (λ item g. constant_fine A B grows g.ty.val g.init) 0 gs
+
+  -- the references of a function whose body is valid
+  func_agrees : (f : Func) → func_verdict A f ≡ bodies.Valid → Agree A B (refs.Ty f.ty ∷ refs_of f.body.instrs)
+  func_agrees f valid = agree A B grows (refs.Ty f.ty ∷ refs_of f.body.instrs) (valid_finds A f.ty f.body valid)
+
+  func_still : (f : Func) → func_verdict A f ≡ bodies.Valid → func_verdict B f ≡ func_verdict A f
+  func_still f valid =
+      let h = func_agrees f valid in
+      frame A B f.ty f.ty f.body h.0 h.1
+
+  pub bodies_agree : (fs : List Func) → AllByRecursion (λ f. func_verdict A f ≡ bodies.Valid) fs → AllByRecursion (λ (f : Func). Agree A B (refs.Ty f.ty ∷ refs_of f.body.instrs)) fs
+  bodies_agree [] valid = tt
+  bodies_agree (f ∷ fs) valid = (func_agrees f valid.0, bodies_agree fs valid.1)
+
+  pub bodies_stay : (fs : List Func) → AllByRecursion (λ f. func_verdict A f ≡ bodies.Valid) fs → map (func_verdict B) fs ≡ map (func_verdict A) fs
+  bodies_stay [] valid = refl
+  bodies_stay (f ∷ fs) valid = rw (func_still f valid.0, bodies_stay fs valid.1) refl
+
+pub valid_bodies : (A : Ref → Found) (fs : List Func) → AreFine (map body_flaw (map (func_verdict A) fs)) → AllByRecursion (λ f. func_verdict A f ≡ bodies.Valid) fs
+valid_bodies A [] fine = tt
+valid_bodies A (f ∷ fs) fine = (is_valid (func_verdict A f) fine.0, valid_bodies A fs fine.1)
+
+pub codes_fine : (A B : Ref → Found) → Grows A B → (fs : List Func) → AreFine (map body_flaw (map (func_verdict A) fs)) → AreFine (map body_flaw (map (func_verdict B) fs))
+codes_fine A B grows fs fine = rw (bodies_stay A B grows fs (valid_bodies A fs fine)) fine
+
+-- ---- spaces, and others in which all that was there is there
+
+pub record IsIn (s t : Spaces) : Type 0 where
+  pub found : Grows (answer_in s) (answer_in t)
+  pub funcs : length s.funcs ≤ length t.funcs
+  pub tables : length s.tables ≤ length t.tables
+  pub memories : length s.memories ≤ length t.memories
+  pub globals : length s.globals ≤ length t.globals
+
+more_all_within : (m n : ℕ) (xs : List ℕ) → m ≤ n → AllByRecursion (λ x. x < m) xs → AllByRecursion (λ x. x < n) xs
+more_all_within m n [] more all = tt
+more_all_within m n (x ∷ xs) more all = (omega (arith, all.0, more), more_all_within m n xs more all.1)
+
+module _ (s t : Spaces) (larger : IsIn s t) where
+  index_still : (kind : Kind) (x : ℕ) → index_flaw s kind x ≡ None → index_flaw t kind x ≡ None
+  index_still kinds.Func x e = more_within UnknownFunc s.funcs t.funcs x larger.funcs e
+  index_still kinds.Table x e = more_within UnknownTable s.tables t.tables x larger.tables e
+  index_still kinds.Memory x e = more_within UnknownMemory s.memories t.memories x larger.memories e
+  index_still kinds.Global x e = more_within UnknownGlobal s.globals t.globals x larger.globals e
+
+  export_still : (before : List Export) (e : Export) → export_flaw s before e ≡ None → export_flaw t before e ≡ None
+  export_still before e none =
+      let p = both_none (index_flaw s e.kind e.index) _ none in
+      none_both _ _ (index_still e.kind e.index p.0) p.1
+
+  pub exports_fine : (es : List Export) → AreFine (numbered (λ item e. export_flaw s (take item es) e) 0 es) → AreFine (numbered (λ item e. export_flaw t (take item es) e) 0 es)
+  exports_fine es = still_fine _ _ (λ item e. export_still (take item es) e) 0 es
+
+  start_still : (x : ℕ) → start_flaw s x ≡ None → start_flaw t x ≡ None
+  start_still x none =
+      let p = both_none (within UnknownFunc s.funcs x) (unless StartType (is_start (answer_in s (refs.Func x)))) none in
+      let starts = unless_true StartType (is_start (answer_in s (refs.Func x))) p.1 in
+      none_both _ _ (more_within UnknownFunc s.funcs t.funcs x larger.funcs p.0)
+      (ap (unless StartType) (ap is_start (larger.found (refs.Func x) (starts_there (answer_in s (refs.Func x)) starts)) ∙ starts))
+
+  pub start_fine : (o : Option ℕ) → AreFine (start_flaws s o) → AreFine (start_flaws t o)
+  start_fine None fine = tt
+  start_fine (Some x) fine = (start_still x fine.0, tt)
+
+  elem_still : (e : Elem) → elem_flaw s e ≡ None → elem_flaw t e ≡ None
+  elem_still e none =
+      let p = both_none (within UnknownTable s.tables e.table) _ none in
+      let q = both_none (constant_flaw (answer_in s) I32 e.offset) (unless UnknownFunc (all_within (length s.funcs) e.funcs)) p.1 in
+      let inside = all_less (length s.funcs) e.funcs (unless_true UnknownFunc (all_within (length s.funcs) e.funcs) q.1) in
+      none_both _ _ (more_within UnknownTable s.tables t.tables e.table larger.tables p.0)
+      (none_both _ _ (constant_fine (answer_in s) (answer_in t) larger.found I32 e.offset q.0)
+      (ap (unless UnknownFunc) (less_all (length t.funcs) e.funcs (more_all_within (length s.funcs) (length t.funcs) e.funcs larger.funcs inside))))
+
+  pub elems_fine : (es : List Elem) → AreFine (numbered (λ item e. elem_flaw s e) 0 es) → AreFine (numbered (λ item e. elem_flaw t e) 0 es)
+  elems_fine es = still_fine _ _ (λ item e. elem_still e) 0 es
+
+  data_still : (d : DataSeg) → data_flaw s d ≡ None → data_flaw t d ≡ None
+  data_still d none =
+      let p = both_none (within UnknownMemory s.memories d.memory) (constant_flaw (answer_in s) I32 d.offset) none in
+      none_both _ _ (more_within UnknownMemory s.memories t.memories d.memory larger.memories p.0)
+      (constant_fine (answer_in s) (answer_in t) larger.found I32 d.offset p.1)
+
+  pub datas_fine : (ds : List DataSeg) → AreFine (numbered (λ item d. data_flaw s d) 0 ds) → AreFine (numbered (λ item d. data_flaw t d) 0 ds)
+  datas_fine ds = still_fine _ _ (λ item d. data_still d) 0 ds
