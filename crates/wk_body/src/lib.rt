@@ -1,4 +1,32 @@
 //! Instructions, expressions and bodies of WebAssembly, in the binary format and as flat tokens that stand for trees.
+//!
+//! # What it promises
+//!
+//! - An [`Expr`] is seen as its *tree* (`Instrs` of `specs/Tree`), a [`Body`] as its local groups and its tree. Both are kept as flat
+//!   tokens, which `tokens` lends in written order with the distance from each opener to its end, at most 2,147,483,647 of them. Each
+//!   is *shaped* (`IsShaped` of `specs/Shape`, `AreGroups` of `specs/Bodies`): numbers are in their ranges, at most 20,000 blocks are
+//!   open at once, and the groups declare fewer than 2^32 locals.
+//! - [`read_body`], [`read_expr`], [`next_expr`] and their `_in` forms are the grammar of a profile (`SpellsBody`, `SpellsExpr` of
+//!   `specs/Spelling`), both ways, with the exact first fault of a reader on lists (`specs/Reading`), which stands. What is read
+//!   belongs to the profile (`IsOf`). [`Scratch`] does the same for one body after another in one room, and
+//!   [`Scratch::append_spelled`] appends the written form of the body that a code spells, without keeping it.
+//! - [`TokenReader`] hands out the tokens of an expression one by one, and is seen as which blocks are open and the labels of the last
+//!   `br_table` (`specs/TokenReading`): `next` gives the token that stands at the front, or none at the end that closes no block, or
+//!   the token's fault. [`next_groups`] reads the local groups in front of a body's instructions. `specs/TokenReadingLaws` ties these
+//!   to bodies and expressions that are read whole.
+//! - [`encode_body`] and [`encode_expr`] give the written form (`specs/Written`), which spells what it was made of in each profile that
+//!   it belongs to. [`append_body`] and [`append_expr`] append it; [`body_len`], [`expr_len`] and [`Token::head_len`] measure it;
+//!   [`code_bytes`] copies a spelling that is as long as the written form, which it then is.
+//! - [`refs`] is the set of what a body refers to, [`uses`] the same with a function's own type. [`shift`], [`shift_expr`] and
+//!   [`shift_index`] move references (`specs/References`), and overflow exactly where one that moves has no next. [`expr_movement`]
+//!   tells that beforehand (`specs/Moves`).
+//! - [`reading_of_code`], [`written_form_of_code`], [`one_spelling_of_code`] and [`moving_of_code`] do nothing: they carry the laws of
+//!   reading, writing, the grammar and moving, so that the layer above can prove the same of modules.
+//! - A numeric instruction's opcode, type and name come from `specs/Numeric`, a load's or store's from `specs/MemoryOps`, all others
+//!   that hold no instructions from the table of `specs/Instructions`; blocks, `else` and `end` have theirs in `specs/Spelling`,
+//!   `specs/Written` and `specs/Names`.
+//!
+//! Nothing recurses over nested blocks at run time: they are kept as flat tokens.
 #![tactic(auto)]
 
 mod body;

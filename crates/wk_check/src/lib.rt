@@ -1,4 +1,37 @@
 //! The typing of bodies and the verdict of a module: valid, or the first fault and its place.
+//!
+//! # What it promises
+//!
+//! - What code sees of its module is an [`Env`]: a call that answers one reference at a time, whose meaning is a function from
+//!   references to what they find (`Found` of `specs/Answers`), each of the kind of its reference by a law of the implementation.
+//!   [`Whole`] is the one over the lists of a module (`answer_in`, `spaces_of` of `specs/Spaces`).
+//! - [`judge_body`] is `body_verdict` for that function (`specs/Typing`, by the table of `specs/Effects`). It counts one more on its
+//!   [`Meter`], want of memory included, and asks that the count is not the greatest `u64`. Its clauses `sound` and `complete` say that
+//!   it answers valid exactly where the body is derived by the standard's declarative rules (`IsDerived` of `specs/Derives`), for the
+//!   blocks and instructions of both profiles. These rules are said from the first instruction on; [`declarative_rules`] carries the
+//!   law that a list has a type exactly where each of two parts has one, so that they are the standard's, which go from the last one
+//!   back.
+//! - [`judge`] is `module_verdict` (`specs/Verdict`), the first flaw of the items of all sections, and that is so in words
+//!   (`IsVerdict`). Its clause `valid` says that it is `Valid` exactly where each body is derived and no other section has a flaw
+//!   (`IsValidModule` of `specs/Valid`). In the other profile it is the same unless it was V1 (`extended`). [`judge_around`] is the
+//!   same of lists that are lent, for a given first fault of the code section; it asks that each list has fewer than 2^32 items
+//!   (`AreNumbered`).
+//! - [`judge_bytes`] is `module_verdict` of the module that bytes spell in a profile, or the fault of reading it (`judged` of
+//!   `specs/Spelled`), or `Memory` at 0. Its clauses `meaning` and `valid` tell the verdict in words, and `is` says what that module
+//!   and that fault are. So it answers what [`judge`] does of what `read_in` gives; that it keeps no body is no clause.
+//! - [`carry`] and [`carry_moved`] take no memory and give the verdict that they were given: that of the same body, or of the body
+//!   moved, where its own type and what its references find is the same (`Agree`, `AgreeMoved` of `specs/Carried`).
+//!   [`verdicts_that_keep`] has these laws for all bodies at once, and that all that a valid body refers to is there.
+//!
+//! # What it costs
+//!
+//! Judging a module of 1.0 takes time and memory in line with its bytes (`docs/VERDICTS.md`, "Cost"). The sections in front of the
+//! bodies are judged first, and where one has a fault no body is typed. A body is typed in one pass over its tokens; nothing recurses
+//! over nested blocks. An operand stack and a list of control frames are made once and serve all bodies; [`judge_bytes`] has a second
+//! pair, for the first body that is not valid, and constant expressions have their own. The types of a body's first locals are written
+//! out, 256 at the most, and the others are found by where their groups end, so billions of locals in one group take no room.
+//! [`judge_bytes`] holds all lists but the bodies: none up to the first that is invalid, then one at a time; and nothing of custom
+//! sections.
 #![tactic(auto)]
 
 mod constant;

@@ -171,6 +171,22 @@ fn judge_without_code(
 ///
 /// Where the bytes spell no module of the profile, the first fault from left to right, at its offset; where a growth is refused,
 /// `Memory` at 0.
+///
+/// # Example
+///
+/// ```rust
+/// let alloc = rt.alloc();
+/// // A function without results, of `i32.const 0` and `end`: it leaves an operand.
+/// let bytes = b"\0asm\x01\0\0\0\x01\x04\x01\x60\0\0\x03\x02\x01\0\x0a\x06\x01\x04\0\x41\0\x0b";
+/// let place = Place {
+///     section: 10,
+///     item: 0,
+///     token: Some(1),
+/// };
+/// let kind = FaultKind::StackHeight;
+/// let verdict = judge_bytes(alloc, bytes, Profile::Core)?;
+/// assert_eq!(rt; verdict, Verdict::Invalid(Fault { kind, place }));
+/// ```
 #[tactic(auto, using(crate::proofs::JudgedCodes::told_meaning))]
 pub fn judge_bytes(alloc: Global, bytes: &[u8], profile: Profile) -> Result<Verdict, ReadFault>
     ensures exact { Reads (λ v. v) result (judged (module_at profile bytes.now)) }

@@ -69,6 +69,22 @@ pub fn edit_in<W: Out, X: Out>(
 }
 
 /// Edits a module of WebAssembly 1.0, as [`edit_in`] does.
+///
+/// # Example
+///
+/// ```rust
+/// let alloc = rt.alloc();
+/// let module = b"\0asm\x01\0\0\0";
+/// let script = b"type - -\nunexport main\n";
+/// let mut out = Sink::new(Vec::new(alloc));
+/// let mut report = Sink::new(Vec::new(alloc));
+/// let status = edit(alloc, module, script, false, &mut out, &mut report)?;
+/// assert_eq!(rt; status, Status::Refused);
+/// let lines = "1 ok\n2 refused E2 NoSuchExport\nvalid\n";
+/// assert_eq!(rt; report.into_inner().as_slice(), lines.as_bytes());
+/// // The header, and a section of the one type.
+/// assert_eq!(rt; out.into_inner().len(), 14);
+/// ```
 pub fn edit<W: Out, X: Out>(
     alloc: Global,
     input: &[u8],

@@ -1,4 +1,20 @@
 //! The listings of a module: its headers, its details, its code, and what its functions refer to.
+//!
+//! # What it promises
+//!
+//! - A [`Shape`] is what a listing asks of a module: its parts, as a shaped module that fits, and the lengths of its sections, custom
+//!   sections and codes, each tied to the written form. [`list`] is proved for every `Shape`. [`Plain`] is the one that counts lengths
+//!   from a module when they are asked for; [`Plain::of`] is nothing exactly where the module does not fit.
+//! - The text of a part (`listing` of `specs/Listing`) is a function of the module alone: `headers_text` (`specs/Headers`),
+//!   `details_text` (`specs/Details`), `code_text` (`specs/CodeText`) and `uses_text` (`specs/Uses`). Where a section begins in it is
+//!   said by the lengths of the written bytes in front. The code is said on the instruction tree, by recursion, with the depth and the
+//!   offset handed down; what stands in front of an instruction is counted by its written bytes.
+//! - [`list`] makes the `Out` take that text, or after a fault a beginning of it; it counts one failure more exactly where it answers
+//!   `Write`.
+//! - [`put_header`] appends the line of a section as far as its size (`header_text`), which `sections` of the program prints too.
+//!
+//! Nothing recurses over nested blocks: tokens are listed as they are kept. Text goes out in pieces, so that no part is held whole:
+//! what is held is a piece, one line (as long as its item needs), and the bytes of one initialiser or what one function refers to.
 #![tactic(auto)]
 
 mod code;

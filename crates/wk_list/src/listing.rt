@@ -56,6 +56,20 @@ fn list_part<S: Shape, W: Out>(
 ///
 /// `Write` only where the [`Out`] failed in this call, and else `Memory` where a growth was refused. After either a beginning of the
 /// text was taken.
+///
+/// # Example
+///
+/// ```rust
+/// let alloc = rt.alloc();
+/// // A function of `nop` and `end`.
+/// let bytes = b"\0asm\x01\0\0\0\x01\x04\x01\x60\0\0\x03\x02\x01\0\x0a\x05\x01\x03\0\x01\x0b";
+/// let module = read(alloc, bytes)?;
+/// let plain = Plain::of(&module).ok_or("a module that fits")?;
+/// let mut out = Sink::new(Vec::new(alloc));
+/// list(alloc, &plain, Part::Code, &mut out)?;
+/// let text = "func[0] type=0:\n 00000017: nop\n 00000018: end\n";
+/// assert_eq!(rt; out.into_inner().as_slice(), text.as_bytes());
+/// ```
 pub fn list<S: Shape, W: Out>(
     alloc: Global,
     shape: &S,

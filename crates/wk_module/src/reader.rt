@@ -308,6 +308,22 @@ pub(crate) fn read_parts(alloc: Global, bytes: &[u8], profile: Profile) -> Resul
 ///
 /// The module is the only one of the profile that the bytes spell. Where they spell none the answer is the first fault from left
 /// to right, at its offset in `bytes`; where a growth is refused it is `Memory`, at 0.
+///
+/// # Example
+///
+/// ```rust
+/// let alloc = rt.alloc();
+/// // A module of one type, which takes nothing and gives nothing.
+/// let spelled: &[u8] = b"\0asm\x01\0\0\0\x01\x04\x01\x60\0\0";
+/// let module = read_in(alloc, spelled, Profile::Core)?;
+/// assert_eq!(rt; module.parts().types.len(), 1);
+/// assert_eq!(rt; encode(alloc, &module)?.as_slice(), spelled);
+///
+/// // Without its last byte the contents of the section break off: they begin at offset 10.
+/// let kind = ReadKind::UnexpectedEnd;
+/// let cut = read_in(alloc, &spelled[..13], Profile::Core);
+/// assert_eq!(rt; cut.err(), Some(ReadFault { kind, at: 10 }));
+/// ```
 pub fn read_in(alloc: Global, bytes: &[u8], profile: Profile) -> Result<Module, ReadFault>
     ensures exact { Reads (λ m. m) result (module_at profile bytes.now) }
     ensures found { IfOk result (λ m. Spells bytes.now m) }

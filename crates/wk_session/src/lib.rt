@@ -1,4 +1,27 @@
 //! A module under edits.
+//!
+//! # What it promises
+//!
+//! - A [`Session`] is seen as its plain module; no clause names what it keeps. [`Session::open_in`] is the grammar of a profile,
+//!   [`Session::open`] that of 1.0.
+//! - [`Session::apply`] and [`Session::apply_kept`] make of the module what the definition of the edit says, and answer its reply
+//!   (`made` of `specs/Edits`; `reply_of`, `after_one` of `specs/Runs`), for any module and for a valid one. [`Session::run`] and
+//!   [`Session::run_kept`] are `after` and `replies_of` over the list, and after `run_kept` what was valid is valid.
+//! - [`Session::verdict`] is `module_verdict`, [`Session::write`] appends `encoded`, [`Session::list`] appends `listing`, and
+//!   [`Session::uses`] is `uses_of` of the entry, or nothing past the last: all are those of the module judged, encoded and listed from
+//!   scratch.
+//! - A reply tells the [`Work`] of an edit (`specs/Dependents`): `typed` counts the bodies that the edit gives and those that refer to
+//!   something which is found to be another thing (`retyped_meets` of `specs/DependentsLaws` ties that to the set of what changes),
+//!   `encoded` those that it gives and those that move, `sections` the sections that hold something new or moved. `typed` is the
+//!   reading of a meter; bytes are encoded when they are written.
+//! - What `is_decided` marks is never answered by want of memory (`decided`). `is_memory` marks the edits that were refused for want of
+//!   memory; what the others do and answer is said for those marks.
+//! - [`stripped`] is the module with the custom sections of one name, or with none, settled; where the module fits, so does that.
+//!
+//! # What it costs
+//!
+//! The verdict of each body and what it refers to are kept: an edit types the bodies that find another thing than before, and no other.
+//! All growths come before the change, which takes no memory.
 #![tactic(auto)]
 
 mod appraisal;

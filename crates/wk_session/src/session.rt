@@ -264,6 +264,26 @@ impl Session {
     /// # Errors
     ///
     /// Want of memory for the replies alone, whose room comes first: then nothing has changed.
+    ///
+    /// # Example
+    ///
+    /// ```rust
+    /// let alloc = rt.alloc();
+    /// let mut session = Session::open(alloc, b"\0asm\x01\0\0\0")?;
+    /// let params = Items::new(alloc);
+    /// let results = Items::new(alloc);
+    /// let name = Text::from_string(String::from_str(alloc, "main")?);
+    /// let mut edits = Vec::new(alloc);
+    /// edits.push(Edit::Ty(FuncType { params, results }))?;
+    /// edits.push(Edit::Unexport(name))?;
+    ///
+    /// let replies = session.run(&edits)?;
+    /// assert!(rt; replies[0].is_ok());
+    /// assert_eq!(rt; replies[1], Err(EditFault::NoSuchExport));
+    /// assert_eq!(rt; *session.verdict(), Verdict::Valid);
+    /// // The header, and a section of the one type.
+    /// assert_eq!(rt; session.encoded_len(), 14);
+    /// ```
     pub fn run(&mut self, edits: &[Edit]) -> Result<Vec<Reply>, OutOfMemory>
         ensures replies { IfOk result (λ rs. rs.items ≡ replies_of false edits.now (refused_for_memory rs.items) self.old) }
         ensures count { IfOk result (λ rs. length rs.items ≡ length edits.now) }
