@@ -9,7 +9,7 @@ use wk_list::Part;
 use wk_module::Profile;
 
 /// What the words ask for.
-#[derive(Drop)]
+#[derive(Debug, Drop)]
 pub enum Asked<'a> {
     /// `edit`
     Edit(EditCommand<'a>),
@@ -71,6 +71,53 @@ pub struct ValidateCommand<'a> {
     pub file: &'a str,
 }
 
+/// The version of the program.
+const VERSION: &str = "0.9.0";
+
+const EXAMPLE: &str = "Example:
+  wasmkit validate app.wasm
+
+Exit status:
+  0  it was done; of edit and validate: the module is valid, and each edit was made
+  1  the module is invalid, or an edit was refused
+  2  the file is not a module
+  3  the command line or the script is wrong, or it asked for help or the version
+  4  a file could not be read or written, or standard output could not be written
+  5  there was not enough memory";
+
+const EDIT_EXAMPLE: &str =
+    "Example, where the file edits has the lines `custom set build 0142` and `export func main 3`:
+  wasmkit edit --keep-valid app.wasm edits out.wasm
+
+It makes both edits, writes out.wasm and prints
+  1 ok
+  2 ok
+  valid
+
+All lines that a script may have are in docs/SCRIPTS.md.";
+
+const OBJDUMP_EXAMPLE: &str = "Example:
+  wasmkit objdump --details --code app.wasm
+
+It lists the items of each section, and then the instructions of each function, with their offsets.";
+
+const SECTIONS_EXAMPLE: &str = "Example:
+  wasmkit sections app.wasm
+
+It prints a line for each section, such as
+    Type start=0x0000000a end=0x0000000e size=0x00000004";
+
+const STRIP_EXAMPLE: &str = "Example:
+  wasmkit strip --keep name app.wasm out.wasm
+
+It writes the module to out.wasm without its custom sections, but for those named `name`.";
+
+const VALIDATE_EXAMPLE: &str = "Example:
+  wasmkit validate app.wasm
+
+It prints `valid`, or the first fault and its place, such as
+  invalid V15 StackHeight at section 10 item 0 token 1";
+
 /// The parts of a listing, in their order, each with the option that asks for it.
 const PARTS: [(&str, Part); 4] = [
     ("headers", Part::Headers),
@@ -115,6 +162,7 @@ fn profile_of(found: &ArgMatches<'_>) -> Profile {
 fn edit_command<'a>(alloc: Global) -> Result<Command<'a>, AllocError> {
     Command::new(alloc, "edit")
         .about("Makes the edits of a script on a module")
+        .after_help(EDIT_EXAMPLE)
         .arg(flag(
             alloc,
             "keep-valid",
@@ -129,6 +177,7 @@ fn edit_command<'a>(alloc: Global) -> Result<Command<'a>, AllocError> {
 fn objdump_command<'a>(alloc: Global) -> Result<Command<'a>, AllocError> {
     Command::new(alloc, "objdump")
         .about("Lists parts of a module, by its written form")
+        .after_help(OBJDUMP_EXAMPLE)
         .arg(flag(
             alloc,
             "headers",
@@ -144,6 +193,7 @@ fn objdump_command<'a>(alloc: Global) -> Result<Command<'a>, AllocError> {
 fn sections_command<'a>(alloc: Global) -> Result<Command<'a>, AllocError> {
     Command::new(alloc, "sections")
         .about("Lists the sections of a module, unread")
+        .after_help(SECTIONS_EXAMPLE)
         .arg(word(alloc, "FILE", "the module"))
 }
 
@@ -155,6 +205,7 @@ fn strip_command<'a>(alloc: Global) -> Result<Command<'a>, AllocError> {
         .help("keeps the custom sections of this name");
     Command::new(alloc, "strip")
         .about("Removes the custom sections of a module")
+        .after_help(STRIP_EXAMPLE)
         .arg(keep)?
         .arg(extended(alloc))?
         .arg(word(alloc, "FILE", "the module"))?
@@ -164,13 +215,17 @@ fn strip_command<'a>(alloc: Global) -> Result<Command<'a>, AllocError> {
 fn validate_command<'a>(alloc: Global) -> Result<Command<'a>, AllocError> {
     Command::new(alloc, "validate")
         .about("Says whether a module is valid, or its first fault")
+        .after_help(VALIDATE_EXAMPLE)
         .arg(extended(alloc))?
         .arg(word(alloc, "FILE", "the module"))
 }
 
 fn command<'a>(alloc: Global) -> Result<Command<'a>, AllocError> {
     Command::new(alloc, "wasmkit")
+        .bin_name("wasmkit")?
         .about("Reads, judges, lists and edits WebAssembly 1.0 binary modules")
+        .version(VERSION)
+        .after_help(EXAMPLE)
         .no_binary_name(true)
         .subcommand_required(true)
         .subcommand(edit_command(alloc)?)?

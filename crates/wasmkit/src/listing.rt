@@ -11,7 +11,7 @@ use wk_edit::malformed_line;
 use wk_list::put_header;
 
 /// A line for each section, and one for the fault behind them, if there is one.
-#[derive(Drop)]
+#[derive(Debug, Drop)]
 pub struct Listing {
     /// The lines.
     pub text: Vec<u8>,

@@ -217,7 +217,7 @@ fn edits_keep_modules_valid(rt: HostRuntime) -> Result<(), Fail> {
 }
 
 // Words, the status, and what is said.
-const REFUSED: [(&[&str], u8, &str); 43] = [
+const REFUSED: [(&[&str], u8, &str); 46] = [
     (
         &["edit", "in.wasm", "script", "large"],
         5,
@@ -324,6 +324,9 @@ const REFUSED: [(&[&str], u8, &str); 43] = [
     (&["strip", "--quiet", "in.wasm", "out.wasm"], 3, ""),
     (&["paint", "in.wasm"], 3, ""),
     (&["--help"], 3, ""),
+    (&["edit", "--help"], 3, ""),
+    (&["--version"], 3, ""),
+    (&["edit", "--version"], 3, ""),
 ];
 
 #[test]

@@ -10,7 +10,7 @@ use wk_edit::{malformed_line, verdict_line};
 use wk_module::Profile;
 
 /// What `validate` prints, and its status.
-#[derive(Drop)]
+#[derive(Debug, Drop)]
 pub struct Validation {
     /// The line of the verdict, or of bytes that are no module.
     pub line: String,
