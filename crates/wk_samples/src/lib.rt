@@ -4,5 +4,7 @@
 pub mod bodies;
 pub mod edits;
 pub mod integers;
+pub mod lacking;
 pub mod listings;
 pub mod modules;
+pub mod moving;

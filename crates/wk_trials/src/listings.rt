@@ -12,8 +12,8 @@ use wk_module::{Module, read};
 use wk_samples::listings::{CALLING, CODE, DETAILS, HEADERS, USES};
 use wk_samples::modules::WHOLE;
 
-// The module that has such a part, and its lines.
-fn sample(part: Part) -> (&'static [u8], &'static [u8]) {
+/// The module that has such a part, and its lines.
+pub(crate) fn sample(part: Part) -> (&'static [u8], &'static [u8]) {
     match part {
         Part::Headers => (WHOLE, HEADERS),
         Part::Details => (WHOLE, DETAILS),

@@ -8,26 +8,39 @@
 
 mod bodies;
 mod bytes;
+mod changes;
+mod edits;
 mod jobs;
 mod judging;
 mod listings;
 mod mark;
 mod modules;
 mod outcome;
+mod runs;
+mod same;
 mod scenario;
 mod sessions;
 mod sinks;
+mod table;
 
 use crate::outcome::Outcome;
-use crate::scenario::{Scenario, TABLE};
+use crate::scenario::{Named, Scenario};
+use crate::table::tables;
 use anyhow::{Result, bail};
 use std::env;
 use std::process::ExitCode;
 
-fn run_all(rt: &(impl AllocGlobal + Print)) -> Result<()> {
-    for (name, scenario) in TABLE {
+fn run_each(rt: &(impl AllocGlobal + Print), table: &[Named]) -> Result<()> {
+    for (name, scenario) in table {
         let outcome = scenario.run(rt.alloc());
         println!(rt; "{name}: {outcome}")?;
+    }
+    Ok(())
+}
+
+fn run_all(rt: &(impl AllocGlobal + Print)) -> Result<()> {
+    for table in tables() {
+        run_each(rt, table)?;
     }
     Ok(())
 }

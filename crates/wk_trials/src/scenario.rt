@@ -2,17 +2,18 @@
 
 use crate::bodies::{OfBody, OfExpr};
 use crate::bytes::{Holder, Integer, Put};
-use crate::jobs::{BAD_SCRIPT, EDIT_OF_CODE, EDITS, Job, Line, MALFORMED};
+use crate::edits::{TooLarge, Trial};
+use crate::jobs::{Job, Line};
 use crate::judging::OfValid;
 use crate::modules::OfWhole;
 use crate::outcome::Outcome;
-use crate::sessions::Change;
-use crate::sinks::Room::{self, Ample, Full};
+use crate::runs::Edits;
+use crate::sinks::Room;
+use crate::table::tables;
 use crate::{bodies, bytes, jobs, judging, listings, modules, sessions};
 use std::alloc::Global;
 use wk_list::Part;
-use wk_samples::edits::{MODULE, VALID};
-use wk_samples::modules::WHOLE;
+use wk_module::Profile;
 
 /// A call under test.
 #[derive(Clone, Copy)]
@@ -71,16 +72,22 @@ pub(crate) enum Scenario {
     PutHeader,
     /// `list` of a part to a `Sink`.
     List(Part, Room),
-    /// `Session::open` of a module.
-    Open(&'static [u8]),
-    /// `Session::verdict` and `Session::encoded_len`.
+    /// `Session::open_in` of a valid module.
+    Open(&'static [u8], Profile),
+    /// `Session::verdict`, `Session::encoded_len` and `Session::uses`.
     Tell,
-    /// `Session::apply` of an edit.
-    Apply(Change),
-    /// `Session::run` of four edits, one of them refused in any case.
-    Run,
+    /// `Session::list` of a part to a `Sink`.
+    ListSession(Part, Room),
     /// `Session::write` to a `Sink`.
     Write(Room),
+    /// `Session::apply` of an edit.
+    Apply(Trial),
+    /// `Session::apply_kept` of an edit.
+    ApplyKept(Trial),
+    /// `Session::apply` of an edit that makes the module too long.
+    ApplyLarge(TooLarge),
+    /// `Session::run` or `Session::run_kept`.
+    Run(Edits),
     /// `read_script`.
     ReadScript,
     /// A line or a name.
@@ -92,104 +99,21 @@ pub(crate) enum Scenario {
 /// A scenario with its name, which ends in `-in-room` where it takes no memory.
 pub(crate) type Named = (&'static str, Scenario);
 
-/// All scenarios, in the order in which they are run.
-pub(crate) const TABLE: [Named; 83] = [
-    ("put-u32", Scenario::Put(Integer::U32)),
-    ("put-s32", Scenario::Put(Integer::S32)),
-    ("put-s33", Scenario::Put(Integer::S33)),
-    ("put-s64", Scenario::Put(Integer::S64)),
-    ("sink-put", Scenario::PutOut(Put::All, Full)),
-    ("sink-put-in-room", Scenario::PutOut(Put::All, Ample)),
-    ("out-u32", Scenario::PutOut(Put::U32, Full)),
-    ("out-u32-in-room", Scenario::PutOut(Put::U32, Ample)),
-    ("items-push", Scenario::Hold(Holder::Push)),
-    ("items-copy", Scenario::Hold(Holder::Copy)),
-    ("text-copy", Scenario::Hold(Holder::Text)),
-    ("cursor-in-room", Scenario::LookAtBytes),
-    ("read-body", Scenario::ReadBody),
-    ("read-body-again", Scenario::ReadBodyAgain),
-    ("read-expr", Scenario::ReadExpr),
-    ("next-expr", Scenario::NextExpr),
-    ("next-expr-in-scratch", Scenario::NextExprInScratch),
-    ("encode-body", Scenario::OfBody(OfBody::Encode)),
-    ("code-bytes", Scenario::OfBody(OfBody::Shorten)),
-    ("append-body", Scenario::OfBody(OfBody::Append)),
-    ("shift", Scenario::OfBody(OfBody::Shift)),
-    ("clone-body", Scenario::OfBody(OfBody::Clone)),
-    ("refs", Scenario::OfBody(OfBody::Refs)),
-    ("refs-of-many", Scenario::ManyRefs),
-    ("uses", Scenario::OfBody(OfBody::Uses)),
-    ("body-len-in-room", Scenario::OfBody(OfBody::Look)),
-    ("encode-expr", Scenario::OfExpr(OfExpr::Encode)),
-    ("append-expr", Scenario::OfExpr(OfExpr::Append)),
-    ("shift-expr", Scenario::OfExpr(OfExpr::Shift)),
-    ("clone-expr", Scenario::OfExpr(OfExpr::Clone)),
-    ("expr-len-in-room", Scenario::OfExpr(OfExpr::Len)),
-    ("read", Scenario::Read(MODULE)),
-    ("read-whole", Scenario::Read(WHOLE)),
-    ("read-valid", Scenario::Read(VALID)),
-    ("encode", Scenario::Encode(MODULE)),
-    ("encode-whole", Scenario::Encode(WHOLE)),
-    ("encode-valid", Scenario::Encode(VALID)),
-    ("encode-section", Scenario::OfWhole(OfWhole::Section)),
-    ("encode-custom", Scenario::OfWhole(OfWhole::Custom)),
-    ("lengths-in-room", Scenario::OfWhole(OfWhole::Lengths)),
-    ("settle-in-room", Scenario::Settle),
-    ("stripped-in-room", Scenario::Strip),
-    ("shift-lists", Scenario::ShiftLists),
-    ("up-to-code", Scenario::UpToCode),
-    ("to-end", Scenario::ToEnd),
-    ("next-code", Scenario::NextCode),
-    ("judge", Scenario::Judge(VALID)),
-    ("judge-types-in-room", Scenario::Judge(MODULE)),
-    ("judge-around", Scenario::OfValid(OfValid::Around)),
-    ("judge-bytes", Scenario::JudgeBytes),
-    ("judge-body", Scenario::OfValid(OfValid::Body)),
-    ("see-whole", Scenario::OfValid(OfValid::Whole)),
-    ("plain-in-room", Scenario::Plain),
-    ("put-header", Scenario::PutHeader),
-    ("list-headers", Scenario::List(Part::Headers, Ample)),
-    ("list-details", Scenario::List(Part::Details, Ample)),
-    ("list-code", Scenario::List(Part::Code, Ample)),
-    ("list-uses", Scenario::List(Part::Uses, Ample)),
-    ("list-headers-to-full", Scenario::List(Part::Headers, Full)),
-    ("list-code-to-full", Scenario::List(Part::Code, Full)),
-    ("open", Scenario::Open(MODULE)),
-    ("open-valid", Scenario::Open(VALID)),
-    ("verdict-in-room", Scenario::Tell),
-    ("apply-type", Scenario::Apply(Change::AddType)),
-    (
-        "apply-type-to-code",
-        Scenario::Apply(Change::AddTypeToValid),
-    ),
-    ("apply-strip-in-room", Scenario::Apply(Change::Strip)),
-    ("apply-set", Scenario::Apply(Change::Set)),
-    ("apply-set-new", Scenario::Apply(Change::SetNew)),
-    ("apply-strip-all-in-room", Scenario::Apply(Change::StripAll)),
-    (
-        "apply-refused-in-room",
-        Scenario::Apply(Change::StripAbsent),
-    ),
-    ("run", Scenario::Run),
-    ("write", Scenario::Write(Ample)),
-    ("write-to-full", Scenario::Write(Full)),
-    ("read-script", Scenario::ReadScript),
-    ("malformed-line", Scenario::Line(Line::Malformed)),
-    ("verdict-line", Scenario::Line(Line::Verdict)),
-    ("read-name", Scenario::Line(Line::Name)),
-    ("edit", Scenario::Edit(EDITS, Ample, Ample)),
-    ("edit-of-code", Scenario::Edit(EDIT_OF_CODE, Ample, Ample)),
-    ("edit-report-full", Scenario::Edit(EDITS, Ample, Full)),
-    ("edit-to-full", Scenario::Edit(EDITS, Full, Full)),
-    ("edit-malformed", Scenario::Edit(MALFORMED, Full, Full)),
-    ("edit-bad-script", Scenario::Edit(BAD_SCRIPT, Full, Full)),
-];
+// The scenario of that name in a table.
+fn find(table: &[Named], name: &str) -> Option<Scenario> {
+    for (known, scenario) in table {
+        if *known == name {
+            return Some(*scenario);
+        }
+    }
+    None
+}
 
 impl Scenario {
     /// The scenario of that name.
     pub(crate) fn named(name: &str) -> Option<Scenario> {
-        for (known, scenario) in TABLE {
-            if known == name {
+        for table in tables() {
+            if let Some(scenario) = find(table, name) {
                 return Some(scenario);
             }
         }
@@ -226,11 +150,14 @@ impl Scenario {
             Scenario::Plain => listings::sees_plain(alloc),
             Scenario::PutHeader => listings::puts_header(alloc),
             Scenario::List(part, room) => listings::lists(alloc, part, room),
-            Scenario::Open(bytes) => sessions::opens(alloc, bytes),
+            Scenario::Open(bytes, profile) => sessions::opens(alloc, bytes, profile),
             Scenario::Tell => sessions::tells(alloc),
-            Scenario::Apply(change) => change.run(alloc),
-            Scenario::Run => sessions::runs(alloc),
+            Scenario::ListSession(part, room) => sessions::lists(alloc, part, room),
             Scenario::Write(room) => sessions::writes(alloc, room),
+            Scenario::Apply(trial) => trial.run(alloc, false),
+            Scenario::ApplyKept(trial) => trial.run(alloc, true),
+            Scenario::ApplyLarge(edit) => edit.run(alloc, false),
+            Scenario::Run(edits) => edits.run(alloc),
             Scenario::ReadScript => jobs::reads_script(alloc),
             Scenario::Line(line) => line.run(alloc),
             Scenario::Edit(job, out, report) => job.run(alloc, out, report),
