@@ -75,7 +75,8 @@ impl Trial {
             Ok(work) => self.was_made(alloc, session, work),
             Err(EditFault::Memory) => Outcome::refused(self.is_as_before(alloc, session)),
             Err(fault) => {
-                let is_right = matches!(self.wanted, Wanted::Refused(text) if is_told(alloc, fault, text));
+                let is_right =
+                    matches!(self.wanted, Wanted::Refused(text) if is_told(alloc, fault, text));
                 Outcome::answered(is_right && self.is_as_before(alloc, session))
             }
         }
@@ -117,6 +118,7 @@ const TOO_LARGE: Trial = Trial {
 
 // Parts of this length, and how many of them are one byte more than the longest written form.
 const PART: usize = 1 << 20;
+
 const PARTS: usize = 1 << 11;
 
 // So many letters.
@@ -147,7 +149,11 @@ impl TooLarge {
             TooLarge::Export => {
                 let name = Text::from_string(long_text(alloc)?);
                 let kind = Kind::Func;
-                Ok(Edit::Export(Export { name, kind, index: 0 }))
+                Ok(Edit::Export(Export {
+                    name,
+                    kind,
+                    index: 0,
+                }))
             }
             TooLarge::Custom => {
                 let bytes = Items::from_vec(long_text(alloc)?.into_bytes());

@@ -18,9 +18,7 @@ use wk_samples::edits::{
     EDITED, MODULE, REPORT, SCRIPT, VALID, VALID_REPORT, VALID_SCRIPT, VALID_WITH_TYPE,
 };
 use wk_samples::lacking::{NO_BLOCK_TYPE, NO_BLOCK_TYPE_MENDED};
-use wk_samples::moving::{
-    ALL_EDITED, ALL_KEPT, ALL_REPORT, KEPT_REPORT, MOVING, OF_EACH_KIND,
-};
+use wk_samples::moving::{ALL_EDITED, ALL_KEPT, ALL_REPORT, KEPT_REPORT, MOVING, OF_EACH_KIND};
 use wk_session::Edit;
 
 /// `read_script`.
@@ -150,18 +148,21 @@ impl Job {
         }
     }
 
-    fn edit_to(
-        self,
-        alloc: Global,
-        out: &mut Sink,
-        report: &mut Sink,
-    ) -> Result<Status, RunFault>
+    fn edit_to(self, alloc: Global, out: &mut Sink, report: &mut Sink) -> Result<Status, RunFault>
         requires out { ⟦<Sink as Out>⟧.failed out.old < 2 ^ 64 - 1 }
         requires report { ⟦<Sink as Out>⟧.failed report.old < 2 ^ 64 - 1 }
     {
         match self.profile {
             Profile::Core => edit(alloc, self.input, self.script, self.keep, out, report),
-            profile => edit_in(alloc, self.input, self.script, self.keep, profile, out, report),
+            profile => edit_in(
+                alloc,
+                self.input,
+                self.script,
+                self.keep,
+                profile,
+                out,
+                report,
+            ),
         }
     }
 

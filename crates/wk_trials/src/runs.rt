@@ -123,12 +123,7 @@ impl Edits {
 
     // How many edits were refused for want of memory, and whether the replies to the others are those of a session that makes
     // these edits alone.
-    fn replies_apart(
-        &self,
-        apart: &mut Session,
-        edits: &[Edit],
-        replies: &[Reply],
-    ) -> (u32, bool) {
+    fn replies_apart(&self, apart: &mut Session, edits: &[Edit], replies: &[Reply]) -> (u32, bool) {
         let mut wants = 0u32;
         let mut are_answers = replies.len() == edits.len();
         for (edit, reply) in edits.iter().zip(replies) {

@@ -35,10 +35,7 @@ fn listed(alloc: Global, session: &Session, part: Part) -> Option<Vec<u8>> {
 }
 
 fn are_listed_alike(alloc: Global, session: &Session, other: &Session, part: Part) -> bool {
-    match (
-        listed(alloc, session, part),
-        listed(alloc, other, part),
-    ) {
+    match (listed(alloc, session, part), listed(alloc, other, part)) {
         (Some(text), Some(other)) => text.as_slice() == other.as_slice(),
         _ => false,
     }
@@ -60,8 +57,7 @@ pub(crate) fn are_same(alloc: Global, session: &Session, other: &Session) -> boo
     let are_listed = PARTS
         .iter()
         .all(|part| are_listed_alike(alloc, session, other, *part));
-    let are_used = (0..ENTRIES)
-        .all(|entry| are_same_refs(session.uses(entry), other.uses(entry)));
+    let are_used = (0..ENTRIES).all(|entry| are_same_refs(session.uses(entry), other.uses(entry)));
     match written(alloc, other) {
         Some(bytes) => {
             let is_whole = is_written(alloc, session, &bytes);

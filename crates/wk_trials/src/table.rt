@@ -119,7 +119,10 @@ static KINDS: [Named; 26] = [
     ("apply-import-table", Apply(changes::IMPORT_TABLE)),
     ("apply-import-memory", Apply(changes::IMPORT_MEMORY)),
     ("apply-import-global", Apply(changes::IMPORT_GLOBAL)),
-    ("apply-kept-import-global", ApplyKept(changes::IMPORT_GLOBAL)),
+    (
+        "apply-kept-import-global",
+        ApplyKept(changes::IMPORT_GLOBAL),
+    ),
     ("apply-add-func", Apply(changes::ADD_FUNC)),
     ("apply-kept-add-func", ApplyKept(changes::ADD_FUNC)),
     ("apply-put-body", Apply(changes::PUT_BODY)),
@@ -129,15 +132,24 @@ static KINDS: [Named; 26] = [
     ("apply-add-export", Apply(changes::ADD_EXPORT)),
     ("apply-kept-add-export", ApplyKept(changes::ADD_EXPORT)),
     ("apply-remove-export", Apply(changes::REMOVE_EXPORT)),
-    ("apply-kept-remove-export", ApplyKept(changes::REMOVE_EXPORT)),
+    (
+        "apply-kept-remove-export",
+        ApplyKept(changes::REMOVE_EXPORT),
+    ),
     ("apply-set-custom", Apply(changes::SET_CUSTOM)),
     ("apply-kept-set-custom", ApplyKept(changes::SET_CUSTOM)),
     ("apply-add-custom", Apply(changes::ADD_CUSTOM)),
     ("apply-kept-add-custom", ApplyKept(changes::ADD_CUSTOM)),
     ("apply-strip-custom-in-room", Apply(changes::STRIP_CUSTOM)),
-    ("apply-kept-strip-custom-in-room", ApplyKept(changes::STRIP_CUSTOM)),
+    (
+        "apply-kept-strip-custom-in-room",
+        ApplyKept(changes::STRIP_CUSTOM),
+    ),
     ("apply-strip-customs-in-room", Apply(changes::STRIP_CUSTOMS)),
-    ("apply-kept-strip-customs-in-room", ApplyKept(changes::STRIP_CUSTOMS)),
+    (
+        "apply-kept-strip-customs-in-room",
+        ApplyKept(changes::STRIP_CUSTOMS),
+    ),
 ];
 
 // Edits that make an invalid module valid.
@@ -163,31 +175,64 @@ static MENDS: [Named; 16] = [
 // Edits that are refused where memory is ample, too.
 static REFUSALS: [Named; 29] = [
     ("apply-absent-func-in-room", Apply(changes::ABSENT_FUNC)),
-    ("apply-kept-absent-func-in-room", ApplyKept(changes::ABSENT_FUNC)),
+    (
+        "apply-kept-absent-func-in-room",
+        ApplyKept(changes::ABSENT_FUNC),
+    ),
     ("apply-absent-export-in-room", Apply(changes::ABSENT_EXPORT)),
-    ("apply-kept-absent-export-in-room", ApplyKept(changes::ABSENT_EXPORT)),
+    (
+        "apply-kept-absent-export-in-room",
+        ApplyKept(changes::ABSENT_EXPORT),
+    ),
     ("apply-absent-custom-in-room", Apply(changes::ABSENT_CUSTOM)),
-    ("apply-kept-absent-custom-in-room", ApplyKept(changes::ABSENT_CUSTOM)),
+    (
+        "apply-kept-absent-custom-in-room",
+        ApplyKept(changes::ABSENT_CUSTOM),
+    ),
     ("apply-bad-func", Apply(changes::BAD_FUNC)),
     ("apply-kept-bad-func", ApplyKept(changes::BAD_FUNC)),
     ("apply-bad-body", Apply(changes::BAD_BODY)),
     ("apply-kept-bad-body", ApplyKept(changes::BAD_BODY)),
     ("apply-bad-global", Apply(changes::BAD_GLOBAL)),
     ("apply-kept-bad-global", ApplyKept(changes::BAD_GLOBAL)),
-    ("apply-greatest-call", Apply(changes::GREATEST_CALL)),
-    ("apply-kept-greatest-call", ApplyKept(changes::GREATEST_CALL)),
-    ("apply-greatest-export", Apply(changes::GREATEST_EXPORT)),
-    ("apply-kept-greatest-export", ApplyKept(changes::GREATEST_EXPORT)),
+    ("apply-greatest-call-in-room", Apply(changes::GREATEST_CALL)),
+    (
+        "apply-kept-greatest-call-in-room",
+        ApplyKept(changes::GREATEST_CALL),
+    ),
+    (
+        "apply-greatest-export-in-room",
+        Apply(changes::GREATEST_EXPORT),
+    ),
+    (
+        "apply-kept-greatest-export-in-room",
+        ApplyKept(changes::GREATEST_EXPORT),
+    ),
     ("apply-kept-break-type", ApplyKept(changes::BREAK_TYPE)),
-    ("apply-kept-break-import-func", ApplyKept(changes::BREAK_IMPORT_FUNC)),
-    ("apply-kept-break-import-table", ApplyKept(changes::BREAK_IMPORT_TABLE)),
-    ("apply-kept-break-import-memory", ApplyKept(changes::BREAK_IMPORT_MEMORY)),
+    (
+        "apply-kept-break-import-func",
+        ApplyKept(changes::BREAK_IMPORT_FUNC),
+    ),
+    (
+        "apply-kept-break-import-table",
+        ApplyKept(changes::BREAK_IMPORT_TABLE),
+    ),
+    (
+        "apply-kept-break-import-memory",
+        ApplyKept(changes::BREAK_IMPORT_MEMORY),
+    ),
     ("apply-kept-break-func", ApplyKept(changes::BREAK_FUNC)),
     ("apply-kept-break-body", ApplyKept(changes::BREAK_BODY)),
     ("apply-kept-break-global", ApplyKept(changes::BREAK_GLOBAL)),
     ("apply-kept-break-export", ApplyKept(changes::BREAK_EXPORT)),
-    ("apply-kept-break-set", ApplyKept(changes::BREAK_SET)),
-    ("apply-kept-break-strip-in-room", ApplyKept(changes::BREAK_STRIP)),
+    (
+        "apply-kept-break-set-in-room",
+        ApplyKept(changes::BREAK_SET),
+    ),
+    (
+        "apply-kept-break-strip-in-room",
+        ApplyKept(changes::BREAK_STRIP),
+    ),
     ("apply-large-type-in-room", ApplyLarge(TooLarge::Ty)),
     ("apply-large-export-in-room", ApplyLarge(TooLarge::Export)),
     ("apply-large-custom-in-room", ApplyLarge(TooLarge::Custom)),
