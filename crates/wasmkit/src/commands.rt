@@ -4,12 +4,10 @@ ghost use Rattle.std.specs.Prelude.{◌-◌, ◌<◌, ◌^◌};
 use crate::command::{
     Asked, EditCommand, ObjdumpCommand, StripCommand, ValidateCommand, read_words,
 };
-use crate::dumping::list_parts;
 use crate::fault::ProgramFault;
-use crate::listing::{Listing, list_sections};
 use crate::store::Store;
-use crate::validation::{Validation, validate};
 use std::alloc::Global;
+use wk_answers::{Listing, Validation, list_parts, list_sections, validate};
 use wk_bytes::{Out, ReadFault, ReadKind, Sink, put_all};
 use wk_edit::{Status, edit_in, malformed_line};
 use wk_list::Plain;

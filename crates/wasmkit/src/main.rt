@@ -12,12 +12,9 @@
 
 mod command;
 mod commands;
-mod dumping;
 mod fault;
 mod files;
-mod listing;
 mod store;
-mod validation;
 
 use crate::commands::{program, tell};
 use crate::fault::ProgramFault;

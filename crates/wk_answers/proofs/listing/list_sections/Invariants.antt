@@ -1,8 +1,8 @@
 use Rattle.std.proofs.Common.{◌≡◌, ◌++◌, ◌||◌}
 use Rattle.std.specs.List.{list_any}
 use Rattle.wk_bytes.specs.Frames.{sections_of}
-use Rattle.wasmkit.specs.Listing.{is_fault, listing}
-use Rattle.wasmkit.proofs.listing.list_sections.Given as goal
+use Rattle.wk_answers.specs.Listing.{is_fault, listing}
+use Rattle.wk_answers.proofs.listing.list_sections.Given as goal
 
 abbrev pub invariant-loop-item : goal.invariant-loop-item
 invariant-loop-item l = record {

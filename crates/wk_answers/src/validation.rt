@@ -1,7 +1,7 @@
 //! Judging the module that bytes spell.
 ghost use Rattle.std.specs.Prelude.{◌≡◌, IfOk, string_bytes};
 ghost use Rattle.wk_module.specs.Reading.{module_at};
-ghost use Rattle.wasmkit.specs.Validation.{printed, status_of, Means};
+ghost use Rattle.wk_answers.specs.Validation.{printed, status_of, Means};
 
 use std::alloc::Global;
 use wk_bytes::{OutOfMemory, ReadKind};

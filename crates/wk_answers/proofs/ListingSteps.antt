@@ -6,7 +6,7 @@ use Rattle.wk_bytes.specs.declared.fault.ReadFault.{ReadFault}
 use Rattle.wk_bytes.specs.declared.raw.RawSection.{RawSection}
 use Rattle.wk_bytes.specs.Frames.{Section}
 use Rattle.wk_bytes.specs.Raw.{item_view}
-use Rattle.wasmkit.specs.Listing.{is_fault, item_line, listing}
+use Rattle.wk_answers.specs.Listing.{is_fault, item_line, listing}
 
 pub text_more : (old new whole : List ℕ) (item : Result Section ReadFault) (it items : List (Result Section ReadFault)) → it ≡ item ∷ items → new ≡ old ++ item_line item → old ++ listing it ≡ whole → new ++ listing items ≡ whole
 unfolding listing

@@ -2,7 +2,7 @@ use Rattle.std.proofs.Common.{◌≡◌, drop}
 use Rattle.std.specs.List.{flat_map}
 use Rattle.wk_list.specs.Listing.{listing}
 use Rattle.wk_list.specs.Taken.{Leaves}
-use Rattle.wasmkit.proofs.dumping.list_parts.Given as goal
+use Rattle.wk_answers.proofs.dumping.list_parts.Given as goal
 
 abbrev pub invariant-loop-part : goal.invariant-loop-part
 invariant-loop-part g l = record {

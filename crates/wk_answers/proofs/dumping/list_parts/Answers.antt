@@ -1,7 +1,7 @@
 use Rattle.std.proofs.Common.{◌∙◌}
 use Rattle.wk_list.specs.Listing.{listing}
-use Rattle.wasmkit.proofs.DumpingSteps.{on_err_known, more_taken, some_taken}
-use Rattle.wasmkit.proofs.dumping.list_parts.Goals as goal
+use Rattle.wk_answers.proofs.DumpingSteps.{on_err_known, more_taken, some_taken}
+use Rattle.wk_answers.proofs.dumping.list_parts.Goals as goal
 
 pub returns-in_err-list-clause-err : goal.returns-in_err-list-clause-err
 returns-in_err-list-clause-err g c =

@@ -1,5 +1,5 @@
-use Rattle.wasmkit.proofs.ListingSteps.{text_more, text_done, fault_more}
-use Rattle.wasmkit.proofs.listing.list_sections.Goals as goal
+use Rattle.wk_answers.proofs.ListingSteps.{text_more, text_done, fault_more}
+use Rattle.wk_answers.proofs.listing.list_sections.Goals as goal
 
 pub loop-item-preserved : goal.loop-item-preserved
 loop-item-preserved c = record {

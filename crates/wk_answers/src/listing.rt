@@ -3,7 +3,7 @@ ghost use Rattle.std.specs.Prelude.{◌≡◌, ◌++◌, IfOk, OnOk};
 ghost use Rattle.std.specs.List.{list_any};
 ghost use Rattle.wk_bytes.specs.Frames.{sections_of};
 ghost use Rattle.wk_bytes.specs.Raw.{item_view, raw_view};
-ghost use Rattle.wasmkit.specs.Listing.{is_fault, item_line, listing, section_line};
+ghost use Rattle.wk_answers.specs.Listing.{is_fault, item_line, listing, section_line};
 
 use std::alloc::Global;
 use wk_bytes::{OutOfMemory, RawSection, ReadFault, Sections};

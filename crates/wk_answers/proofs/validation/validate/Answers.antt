@@ -4,9 +4,9 @@ use Rattle.wk_module.specs.declared.types.Parts.{Parts}
 use Rattle.wk_module.specs.ListReading.{IsReading}
 use Rattle.wk_module.specs.Reading.{module_at}
 use Rattle.wk_check.specs.Spelled.{judged}
-use Rattle.wasmkit.specs.Validation.{printed, status_of}
-use Rattle.wasmkit.proofs.Refusals.{other_fault}
-use Rattle.wasmkit.proofs.validation.validate.Goals as goal
+use Rattle.wk_answers.specs.Validation.{printed, status_of}
+use Rattle.wk_answers.proofs.Refusals.{other_fault}
+use Rattle.wk_answers.proofs.validation.validate.Goals as goal
 
 -- where there is no verdict, there is no module
 no_module : (read : Result Parts ReadFault) (e : ReadFault) → judged read ≡ Err e → read ≡ Err e
