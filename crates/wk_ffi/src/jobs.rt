@@ -1,7 +1,16 @@
 //! What calls work out, before any of it is handed out.
-ghost use Rattle.std.specs.Prelude.{◌≡◌, []};
-ghost use Rattle.wk_ffi.specs.Outputs.{IsAnswer};
-ghost use Rattle.wk_ffi.specs.Told.{edit_told, list_told, sections_told, strip_told, validation_told};
+ghost use Rattle.std.specs.Prelude.{◌≡◌, ◌≢◌, [], IfErr, IfOk, OnOk, option_map};
+ghost use Rattle.wk_module.specs.Reading.{module_at};
+ghost use Rattle.wk_module.specs.Shape.{settle};
+ghost use Rattle.wk_module.specs.Writing.{encoded, Fits};
+ghost use Rattle.wk_list.specs.Listing.{listing};
+ghost use Rattle.wk_session.specs.Stripped.{with_kept};
+ghost use Rattle.wk_edit.specs.Outcome.{outcome_of};
+ghost use Rattle.wk_ffi.specs.declared.code.CallFault.TheVariants as CallFault;
+ghost use Rattle.wk_ffi.specs.Outputs.{told_of, IsAnswer};
+ghost use Rattle.wk_ffi.specs.Told.{
+    edit_told, list_told, malformed_told, outcome_told, sections_told, strip_told, stripped, validation_told,
+};
 
 use crate::asked::{flag_of, is_short, keep_of, part_of, profile_of};
 use crate::code::{Answer, CallFault, Code};
@@ -28,6 +37,9 @@ fn of_text(alloc: Global, code: Code, text: Vec<u8>) -> Answer
 
 // Of bytes that spell no module.
 fn of_malformed(alloc: Global, fault: &ReadFault) -> Result<Answer, CallFault>
+    ensures ok { IfOk result (λ a. told_of a ≡ malformed_told fault.now) }
+    ensures other { OnOk result (fault.now.kind ≢ ReadKind.Memory) }
+    ensures memory { IfErr result (λ e. e ≡ CallFault.Memory) }
 {
     if let ReadKind::Memory = fault.kind {
         return Err(CallFault::Memory);
@@ -67,8 +79,12 @@ pub fn sections(alloc: Global, bytes: &[u8]) -> Result<Answer, CallFault>
 }
 
 // A part of the listing of a module.
-fn list_module(alloc: Global, module: &Module, part: Part) -> Result<Vec<u8>, CallFault> {
-    let Some(plain) = Plain::of(module) else {
+fn list_module(alloc: Global, whole: &Module, part: Part) -> Result<Vec<u8>, CallFault>
+    requires { Fits whole.now }
+    ensures ok { IfOk result (λ text. text.items ≡ listing whole.now part) }
+    ensures memory { IfErr result (λ e. e ≡ CallFault.Memory) }
+{
+    let Some(plain) = Plain::of(whole) else {
         unreachable!()
     };
     let mut text = Sink::new(Vec::new(alloc));
@@ -98,4 +114,114 @@ pub fn listing(
         }
         Err(fault) => of_malformed(alloc, &fault),
     }
+}
+
+// The written form of a module without its custom sections, but those of a name.
+fn strip_module(
+    alloc: Global,
+    whole: Module,
+    keep: Option<&Text>,
+) -> Result<Vec<u8>, CallFault>
+    requires { Fits whole }
+    ensures ok { IfOk result (λ bytes. bytes.items ≡ encoded (settle (with_kept (option_map (λ name. name.now) keep.entry) whole))) }
+    ensures memory { IfErr result (λ e. e ≡ CallFault.Memory) }
+{
+    let bare = stripped(whole, keep);
+    match encode(alloc, &bare) {
+        Ok(bytes) => Ok(bytes),
+        Err(EncodeFault::Memory) => Err(CallFault::Memory),
+        Err(EncodeFault::TooLarge) => unreachable!(),
+    }
+}
+
+// The module that bytes spell without its custom sections, but those of a name.
+fn strip_bytes(
+    alloc: Global,
+    bytes: &[u8],
+    profile: Profile,
+    keep: Option<&Text>,
+) -> Result<Answer, CallFault>
+    ensures ok { IfOk result (λ a. told_of a ≡ stripped (option_map (λ name. name.now) keep.entry) (module_at profile bytes.now)) }
+    ensures memory { IfErr result (λ e. e ≡ CallFault.Memory) }
+{
+    match read_in(alloc, bytes, profile) {
+        Ok(whole) => {
+            let bytes = strip_module(alloc, whole, keep)?;
+            Ok(Answer {
+                code: Code::Fine,
+                bytes,
+                text: Vec::new(alloc),
+            })
+        }
+        Err(fault) => of_malformed(alloc, &fault),
+    }
+}
+
+/// The module without its custom sections, but those of the name that a word spells.
+pub fn strip(
+    alloc: Global,
+    bytes: &[u8],
+    profile: u32,
+    keep: &[u8],
+) -> Result<Answer, CallFault>
+    ensures { IsAnswer (strip_told profile keep.now bytes.now) result }
+{
+    let Some(profile) = profile_of(profile) else {
+        return Err(CallFault::Argument);
+    };
+    if !is_short(bytes) {
+        return Err(CallFault::Argument);
+    }
+    let Some(keep) = keep_of(alloc, keep)? else {
+        return Err(CallFault::Argument);
+    };
+    strip_bytes(alloc, bytes, profile, keep.as_ref())
+}
+
+// The module that the edits of a script make, and the report.
+fn edit_bytes(
+    alloc: Global,
+    bytes: &[u8],
+    script: &[u8],
+    keep_valid: bool,
+    profile: Profile,
+) -> Result<Answer, CallFault>
+    ensures ok { IfOk result (λ a. told_of a ≡ outcome_told (outcome_of keep_valid profile bytes.now script.now)) }
+    ensures memory { IfErr result (λ e. e ≡ CallFault.Memory) }
+{
+    let mut edited = Sink::new(Vec::new(alloc));
+    let mut report = Sink::new(Vec::new(alloc));
+    let status = edit_in(
+        alloc,
+        bytes,
+        script,
+        keep_valid,
+        profile,
+        &mut edited,
+        &mut report,
+    )?;
+    Ok(Answer {
+        code: Code::of_run(status),
+        bytes: edited.into_inner(),
+        text: report.into_inner(),
+    })
+}
+
+/// The module that the edits of a script make, and the report.
+pub fn edit(
+    alloc: Global,
+    bytes: &[u8],
+    script: &[u8],
+    keep_valid: u32,
+    profile: u32,
+) -> Result<Answer, CallFault>
+    ensures { IsAnswer (edit_told profile keep_valid bytes.now script.now) result }
+{
+    let (Some(profile), Some(keep_valid)) = (profile_of(profile), flag_of(keep_valid)) else {
+        return Err(CallFault::Argument);
+    };
+    if !is_short(bytes) || !is_short(script) {
+        return Err(CallFault::Argument);
+    }
+    edit_bytes(alloc, bytes, script, keep_valid, profile)
 }

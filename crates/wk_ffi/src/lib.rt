@@ -1,4 +1,4 @@
-//! The library for C.
+//! The library for C: `include/wasmkit.h` says what each call takes and answers.
 #![tactic(auto)]
 
 mod asked;
@@ -6,12 +6,13 @@ mod code;
 mod hand;
 mod jobs;
 
-ghost use Rattle.wk_ffi.specs.Outputs.{AnswersText, output};
-ghost use Rattle.wk_ffi.specs.Told.{validation_told};
+ghost use Rattle.wk_ffi.specs.Outputs.{output, AnswersBoth, AnswersText};
+ghost use Rattle.wk_ffi.specs.Told.{edit_told, list_told, sections_told, strip_told, validation_told};
 
+use crate::hand::{hand_both, hand_text};
 use std::alloc::Global;
 
-/// Judges the module that bytes spell.
+/// Judges the module that bytes spell: the text is its verdict, or the first fault of bytes that spell none.
 #[unsafe(no_mangle)]
 pub extern "C" fn wasmkit_validate(
     alloc: Global,
@@ -22,6 +23,71 @@ pub extern "C" fn wasmkit_validate(
 ) -> u32
     ensures { AnswersText (validation_told profile bytes.now) (output text.old text.new text_len.new) result }
 {
-    let answer = jobs::validation(alloc, bytes, profile);
-    hand::hand_text(answer, text, text_len)
+    hand_text(jobs::validation(alloc, bytes, profile), text, text_len)
+}
+
+/// Lists the sections that stand in bytes, with their contents unread, and the fault behind them, if there is one.
+#[unsafe(no_mangle)]
+pub extern "C" fn wasmkit_sections(
+    alloc: Global,
+    bytes: &[u8],
+    text: &mut [u8],
+    text_len: &mut usize,
+) -> u32
+    ensures { AnswersText (sections_told bytes.now) (output text.old text.new text_len.new) result }
+{
+    hand_text(jobs::sections(alloc, bytes), text, text_len)
+}
+
+/// Lists a part of the module that bytes spell.
+#[unsafe(no_mangle)]
+pub extern "C" fn wasmkit_list(
+    alloc: Global,
+    bytes: &[u8],
+    profile: u32,
+    part: u32,
+    text: &mut [u8],
+    text_len: &mut usize,
+) -> u32
+    ensures { AnswersText (list_told profile part bytes.now) (output text.old text.new text_len.new) result }
+{
+    hand_text(jobs::listing(alloc, bytes, profile, part), text, text_len)
+}
+
+/// Removes the custom sections of the module that bytes spell, but those of the name that `keep` spells as in a script.
+#[unsafe(no_mangle)]
+pub extern "C" fn wasmkit_strip(
+    alloc: Global,
+    bytes: &[u8],
+    profile: u32,
+    keep: &[u8],
+    out: &mut [u8],
+    out_len: &mut usize,
+    text: &mut [u8],
+    text_len: &mut usize,
+) -> u32
+    ensures { AnswersBoth (strip_told profile keep.now bytes.now) (output out.old out.new out_len.new) (output text.old text.new text_len.new) result }
+{
+    let answer = jobs::strip(alloc, bytes, profile, keep);
+    hand_both(answer, out, out_len, text, text_len)
+}
+
+/// Makes the edits of a script on the module that bytes spell. Where `keep_valid` is 1, an edit that would leave an invalid
+/// module is refused.
+#[unsafe(no_mangle)]
+pub extern "C" fn wasmkit_edit(
+    alloc: Global,
+    bytes: &[u8],
+    script: &[u8],
+    profile: u32,
+    keep_valid: u32,
+    out: &mut [u8],
+    out_len: &mut usize,
+    text: &mut [u8],
+    text_len: &mut usize,
+) -> u32
+    ensures { AnswersBoth (edit_told profile keep_valid bytes.now script.now) (output out.old out.new out_len.new) (output text.old text.new text_len.new) result }
+{
+    let answer = jobs::edit(alloc, bytes, script, keep_valid, profile);
+    hand_both(answer, out, out_len, text, text_len)
 }
