@@ -1,11 +1,11 @@
 -- What calls ask for by numbers and words.
-use Rattle.std.specs.Prelude.{ℕ, nat_le, ◌==◌, if◌then◌else◌, Bool, true, false, Option, Some, None, option_map, List, [], ◌∷◌, length}
+use Rattle.std.specs.Prelude.{ℕ, nat_le, ◌==◌, if◌then◌else◌, Bool, true, false, Option, Some, None, List, [], ◌∷◌, length}
+use Rattle.std.specs.Str.{is_utf8}
 use Rattle.wk_bytes.specs.Frames.{limit}
 use Rattle.wk_body.specs.declared.types.Profile.{Profile}
 use Rattle.wk_body.specs.declared.types.Profile.TheVariants.{Core, Extended}
 use Rattle.wk_list.specs.declared.listing.Part.{Part}
 use Rattle.wk_list.specs.declared.listing.Part.TheVariants.{Headers, Details, Code, Uses}
-use Rattle.wk_edit.specs.Words.{name_of}
 
 -- WASMKIT_CORE and WASMKIT_EXTENDED
 abbrev pub profile_of : ℕ → Option Profile
@@ -19,10 +19,10 @@ part_of n = if n == 0 then Some Headers else if n == 1 then Some Details else if
 abbrev pub flag_of : ℕ → Option Bool
 flag_of n = if n == 0 then Some false else if n == 1 then Some true else None
 
--- the name of the custom sections to keep: none for no word, and no answer for a word that names nothing
+-- the name of the custom sections to keep: none for no bytes, and no answer for bytes that are not UTF-8
 abbrev pub keep_of : List ℕ → Option (Option (List ℕ))
 keep_of [] = Some None
-keep_of (x ∷ xs) = option_map Some (name_of (x ∷ xs))
+keep_of (x ∷ xs) = if is_utf8 (x ∷ xs) then Some (Some (x ∷ xs)) else None
 
 -- bytes that are not too many to be read
 abbrev pub short_enough : List ℕ → Bool

@@ -1,10 +1,10 @@
 //! What calls are asked for, by numbers and words.
-ghost use Rattle.std.specs.Prelude.{◌≡◌, IfOk};
+ghost use Rattle.std.specs.Prelude.{◌≡◌, IfOk, option_map};
 ghost use Rattle.wk_ffi.specs.Asked.{flag_of, keep_of, part_of, profile_of, short_enough};
 
 use std::alloc::{AllocError, Global};
+use std::str;
 use wk_bytes::Text;
-use wk_edit::read_name;
 use wk_list::Part;
 use wk_module::Profile;
 
@@ -53,15 +53,25 @@ pub fn flag_of(number: u32) -> Option<bool>
     }
 }
 
-/// The name to keep that a word spells as in a script; no name for no word, and nothing for a word that spells none.
-pub fn keep_of(alloc: Global, word: &[u8]) -> Result<Option<Option<Text>>, AllocError>
-    ensures { IfOk result (λ keep. keep ≡ keep_of word.now) }
+/// The name to keep: none where there are no bytes, and nothing where they are not UTF-8.
+pub fn keep_of(name: &[u8]) -> Option<Option<&str>>
+    ensures { option_map (option_map (λ name. name.now)) result ≡ keep_of name.now }
 {
-    if word.is_empty() {
-        return Ok(Some(None));
+    if name.is_empty() {
+        return Some(None);
     }
-    match read_name(alloc, word)? {
-        Some(name) => Ok(Some(Some(name))),
+    match str::from_utf8(name) {
+        Ok(name) => Some(Some(name)),
+        Err(_) => None,
+    }
+}
+
+/// The name in memory of its own.
+pub fn owned(alloc: Global, name: Option<&str>) -> Result<Option<Text>, AllocError>
+    ensures { IfOk result (λ text. text ≡ option_map (λ name. name.now) name.entry) }
+{
+    match name {
+        Some(name) => Ok(Some(Text::from_string(String::from_str(alloc, name)?))),
         None => Ok(None),
     }
 }

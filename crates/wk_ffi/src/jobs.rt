@@ -12,7 +12,7 @@ ghost use Rattle.wk_ffi.specs.Told.{
     edit_told, list_told, malformed_told, outcome_told, sections_told, strip_told, stripped, validation_told,
 };
 
-use crate::asked::{flag_of, is_short, keep_of, part_of, profile_of};
+use crate::asked::{flag_of, is_short, keep_of, owned, part_of, profile_of};
 use crate::code::{Answer, CallFault, Code};
 use std::alloc::Global;
 use wk_answers::{Listing, Validation, list_sections, validate};
@@ -157,7 +157,7 @@ fn strip_bytes(
     }
 }
 
-/// The module without its custom sections, but those of the name that a word spells.
+/// The module without its custom sections, but those of the name `keep`, if that has bytes.
 pub fn strip(
     alloc: Global,
     bytes: &[u8],
@@ -172,10 +172,11 @@ pub fn strip(
     if !is_short(bytes) {
         return Err(CallFault::Argument);
     }
-    let Some(keep) = keep_of(alloc, keep)? else {
+    let Some(name) = keep_of(keep) else {
         return Err(CallFault::Argument);
     };
-    strip_bytes(alloc, bytes, profile, keep.as_ref())
+    let name = owned(alloc, name)?;
+    strip_bytes(alloc, bytes, profile, name.as_ref())
 }
 
 // The module that the edits of a script make, and the report.

@@ -54,7 +54,7 @@ pub extern "C" fn wasmkit_list(
     hand_text(jobs::listing(alloc, bytes, profile, part), text, text_len)
 }
 
-/// Removes the custom sections of the module that bytes spell, but those of the name that `keep` spells as in a script.
+/// Removes the custom sections of the module that bytes spell, but those of the name `keep`, if that has bytes.
 #[unsafe(no_mangle)]
 pub extern "C" fn wasmkit_strip(
     alloc: Global,
