@@ -1,4 +1,11 @@
-//! The library for C: `include/wasmkit.h` says what each call takes and answers.
+//! The library for C.
+//!
+//! Each call takes bytes as a pointer and a length, and numbers. It writes its outputs to memory that the caller gives, each as a pointer and a
+//! capacity, tells their lengths, and gives the number of a `Code`. A `Global` is passed as nothing: memory comes from the
+//! program's `malloc`.
+//!
+//! No pointer is null, no length is above 9,223,372,036,854,775,807, and no output lies in what another argument points to: the
+//! language has no other slices. `include/wasmkit.h` checks all that of what a C program passes, and then calls these.
 #![tactic(auto)]
 
 mod asked;
@@ -14,7 +21,7 @@ use std::alloc::Global;
 
 /// Judges the module that bytes spell: the text is its verdict, or the first fault of bytes that spell none.
 #[unsafe(no_mangle)]
-pub extern "C" fn wasmkit_validate(
+pub extern "C" fn wk_ffi_validate(
     alloc: Global,
     bytes: &[u8],
     profile: u32,
@@ -28,7 +35,7 @@ pub extern "C" fn wasmkit_validate(
 
 /// Lists the sections that stand in bytes, with their contents unread, and the fault behind them, if there is one.
 #[unsafe(no_mangle)]
-pub extern "C" fn wasmkit_sections(
+pub extern "C" fn wk_ffi_sections(
     alloc: Global,
     bytes: &[u8],
     text: &mut [u8],
@@ -41,7 +48,7 @@ pub extern "C" fn wasmkit_sections(
 
 /// Lists a part of the module that bytes spell.
 #[unsafe(no_mangle)]
-pub extern "C" fn wasmkit_list(
+pub extern "C" fn wk_ffi_list(
     alloc: Global,
     bytes: &[u8],
     profile: u32,
@@ -56,7 +63,7 @@ pub extern "C" fn wasmkit_list(
 
 /// Removes the custom sections of the module that bytes spell, but those of the name `keep`, if that has bytes.
 #[unsafe(no_mangle)]
-pub extern "C" fn wasmkit_strip(
+pub extern "C" fn wk_ffi_strip(
     alloc: Global,
     bytes: &[u8],
     profile: u32,
@@ -75,7 +82,7 @@ pub extern "C" fn wasmkit_strip(
 /// Makes the edits of a script on the module that bytes spell. Where `keep_valid` is 1, an edit that would leave an invalid
 /// module is refused.
 #[unsafe(no_mangle)]
-pub extern "C" fn wasmkit_edit(
+pub extern "C" fn wk_ffi_edit(
     alloc: Global,
     bytes: &[u8],
     script: &[u8],

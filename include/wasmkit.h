@@ -1,0 +1,173 @@
+/* wasmkit as a library: judges, lists, strips and edits WebAssembly 1.0 binary modules.
+ *
+ * Each call reads bytes that it is given, works all out, and only then writes to memory that it is given. It keeps nothing, prints
+ * nothing, and touches no file. Calls with memory of their own may run at the same time in several threads.
+ *
+ * An output is memory with a capacity, and a pointer to a length. The length that a call tells says how many bytes its answer has there:
+ *
+ *     WASMKIT_TOO_SMALL                       the lengths that are needed are told, and nothing else is written
+ *     WASMKIT_NO_MEMORY, _BAD_ARGUMENT        the lengths told are 0, and nothing else is written
+ *     any other result                        the answers stand in front of their memory, and what lies behind them stays as it was
+ *
+ * Text is what the program `wasmkit` prints, each line with its LF, and not ended by a zero byte.
+ *
+ * A pointer may be null where the length or capacity beside it is 0: so one asks what is needed. These arguments are bad, and any
+ * call answers WASMKIT_BAD_ARGUMENT to them: null with another length or capacity, null for a length that is told, a length or
+ * capacity above PTRDIFF_MAX, a module or script of more than 2,147,483,647 bytes, a number that no enum below has, and an output
+ * that lies in what another argument points to.
+ *
+ * Link with libwk_ffi.a, and with the archive of the kit that passes its allocations on to malloc, realloc and free.
+ */
+#ifndef WASMKIT_H
+#define WASMKIT_H
+
+#include <stddef.h>
+#include <stdint.h>
+
+#ifdef __cplusplus
+extern "C" {
+#endif
+
+enum wasmkit_result {
+    WASMKIT_OK = 0,
+    WASMKIT_INVALID = 1,      /* the bytes spell a module, which is invalid; the text names its first fault */
+    WASMKIT_MALFORMED = 2,    /* the bytes spell no module; the text names their first fault */
+    WASMKIT_BAD_SCRIPT = 3,   /* the script is none; the text names its first faulty line */
+    WASMKIT_REFUSED = 4,      /* some edit was refused, or the edited module is invalid; the module and the report are there */
+    WASMKIT_NO_MEMORY = 5,    /* memory was wanting */
+    WASMKIT_BAD_ARGUMENT = 6, /* an argument is bad */
+    WASMKIT_TOO_SMALL = 7     /* an output has no room for its answer */
+};
+
+enum wasmkit_profile {
+    WASMKIT_CORE = 0,    /* WebAssembly 1.0 */
+    WASMKIT_EXTENDED = 1 /* with sign extension, and with blocks of any function type */
+};
+
+enum wasmkit_part { WASMKIT_HEADERS = 0, WASMKIT_DETAILS = 1, WASMKIT_CODE = 2, WASMKIT_USES = 3 };
+
+/* ---- The calls of libwk_ffi.a. They take no null and no bad length, and no output in what another argument points to: in C call
+ * those below, which see to that. `uint32_t` results are of enum wasmkit_result. */
+
+uint32_t wk_ffi_validate(const uint8_t *bytes, size_t length, uint32_t profile,
+                         uint8_t *text, size_t text_capacity, size_t *text_length);
+uint32_t wk_ffi_sections(const uint8_t *bytes, size_t length,
+                         uint8_t *text, size_t text_capacity, size_t *text_length);
+uint32_t wk_ffi_list(const uint8_t *bytes, size_t length, uint32_t profile, uint32_t part,
+                     uint8_t *text, size_t text_capacity, size_t *text_length);
+uint32_t wk_ffi_strip(const uint8_t *bytes, size_t length, uint32_t profile, const uint8_t *keep, size_t keep_length,
+                      uint8_t *out, size_t out_capacity, size_t *out_length,
+                      uint8_t *text, size_t text_capacity, size_t *text_length);
+uint32_t wk_ffi_edit(const uint8_t *bytes, size_t length, const uint8_t *script, size_t script_length,
+                     uint32_t profile, uint32_t keep_valid,
+                     uint8_t *out, size_t out_capacity, size_t *out_length,
+                     uint8_t *text, size_t text_capacity, size_t *text_length);
+
+/* ---- What the calls check. */
+
+struct wasmkit_span {
+    const void *at;
+    size_t length;
+};
+
+/* Whether a span is null though it has a length, or longer than any object. */
+static inline int wasmkit_is_bad(struct wasmkit_span span) {
+    return (span.at == NULL && span.length != 0) || span.length > (size_t)PTRDIFF_MAX;
+}
+
+static inline int wasmkit_meets(struct wasmkit_span a, struct wasmkit_span b) {
+    uintptr_t x = (uintptr_t)a.at, y = (uintptr_t)b.at;
+    return a.length != 0 && b.length != 0 && (x <= y ? y - x < a.length : x - y < b.length);
+}
+
+/* Whether a call can be made on these spans: first `inputs`, which are read, and then those that are written. */
+static inline int wasmkit_can_call(const struct wasmkit_span *spans, size_t inputs, size_t count) {
+    size_t i, j;
+    for (i = 0; i < count; i++) {
+        if (wasmkit_is_bad(spans[i])) return 0;
+        for (j = i < inputs ? inputs : i + 1; j < count; j++) {
+            if (wasmkit_meets(spans[i], spans[j])) return 0;
+        }
+    }
+    return 1;
+}
+
+/* The bytes of no length have to lie somewhere too. */
+static inline const uint8_t *wasmkit_in(const uint8_t *at) { return at ? at : (const uint8_t *)""; }
+
+/* ---- The calls. */
+
+/* Judges a module: WASMKIT_OK, _INVALID or _MALFORMED. The text is `valid`, or the first fault. */
+static inline enum wasmkit_result wasmkit_validate(
+    const uint8_t *bytes, size_t length, uint32_t profile, uint8_t *text, size_t text_capacity, size_t *text_length) {
+    struct wasmkit_span spans[] = {{bytes, length}, {text, text_capacity}, {text_length, sizeof(size_t)}};
+    uint8_t none;
+    if (text_length) *text_length = 0;
+    if (!wasmkit_can_call(spans, 1, 3)) return WASMKIT_BAD_ARGUMENT;
+    return (enum wasmkit_result)wk_ffi_validate(
+        wasmkit_in(bytes), length, profile, text ? text : &none, text_capacity, text_length);
+}
+
+/* Lists the sections that stand in the bytes, with their contents unread, and the fault behind them, if there is one: WASMKIT_OK or
+ * _MALFORMED. */
+static inline enum wasmkit_result wasmkit_sections(
+    const uint8_t *bytes, size_t length, uint8_t *text, size_t text_capacity, size_t *text_length) {
+    struct wasmkit_span spans[] = {{bytes, length}, {text, text_capacity}, {text_length, sizeof(size_t)}};
+    uint8_t none;
+    if (text_length) *text_length = 0;
+    if (!wasmkit_can_call(spans, 1, 3)) return WASMKIT_BAD_ARGUMENT;
+    return (enum wasmkit_result)wk_ffi_sections(
+        wasmkit_in(bytes), length, text ? text : &none, text_capacity, text_length);
+}
+
+/* Lists a part of a module, valid or not, as `wasmkit objdump` does: WASMKIT_OK or _MALFORMED. */
+static inline enum wasmkit_result wasmkit_list(
+    const uint8_t *bytes, size_t length, uint32_t profile, uint32_t part,
+    uint8_t *text, size_t text_capacity, size_t *text_length) {
+    struct wasmkit_span spans[] = {{bytes, length}, {text, text_capacity}, {text_length, sizeof(size_t)}};
+    uint8_t none;
+    if (text_length) *text_length = 0;
+    if (!wasmkit_can_call(spans, 1, 3)) return WASMKIT_BAD_ARGUMENT;
+    return (enum wasmkit_result)wk_ffi_list(
+        wasmkit_in(bytes), length, profile, part, text ? text : &none, text_capacity, text_length);
+}
+
+/* Writes a module, valid or not, without its custom sections, but those of the name `keep`, which is UTF-8; of no name where
+ * `keep_length` is 0. WASMKIT_OK or _MALFORMED; there is text only where the bytes are malformed, and a module only where they are not.
+ * The module is not longer than the bytes. */
+static inline enum wasmkit_result wasmkit_strip(
+    const uint8_t *bytes, size_t length, uint32_t profile, const uint8_t *keep, size_t keep_length,
+    uint8_t *out, size_t out_capacity, size_t *out_length, uint8_t *text, size_t text_capacity, size_t *text_length) {
+    struct wasmkit_span spans[] = {{bytes, length}, {keep, keep_length}, {out, out_capacity}, {out_length, sizeof(size_t)},
+                                   {text, text_capacity}, {text_length, sizeof(size_t)}};
+    uint8_t none[2];
+    if (out_length) *out_length = 0;
+    if (text_length) *text_length = 0;
+    if (!wasmkit_can_call(spans, 2, 6)) return WASMKIT_BAD_ARGUMENT;
+    return (enum wasmkit_result)wk_ffi_strip(
+        wasmkit_in(bytes), length, profile, wasmkit_in(keep), keep_length,
+        out ? out : &none[0], out_capacity, out_length, text ? text : &none[1], text_capacity, text_length);
+}
+
+/* Makes the edits of a script on a module, in order. Where `keep_valid` is 1, and not 0, an edit that would leave an invalid module
+ * is refused. The text is the report: a line for each edit, and last the verdict. WASMKIT_OK where all edits were accepted and the
+ * module is valid, _REFUSED where not, _MALFORMED or _BAD_SCRIPT with no module. */
+static inline enum wasmkit_result wasmkit_edit(
+    const uint8_t *bytes, size_t length, const uint8_t *script, size_t script_length, uint32_t profile, uint32_t keep_valid,
+    uint8_t *out, size_t out_capacity, size_t *out_length, uint8_t *text, size_t text_capacity, size_t *text_length) {
+    struct wasmkit_span spans[] = {{bytes, length}, {script, script_length}, {out, out_capacity}, {out_length, sizeof(size_t)},
+                                   {text, text_capacity}, {text_length, sizeof(size_t)}};
+    uint8_t none[2];
+    if (out_length) *out_length = 0;
+    if (text_length) *text_length = 0;
+    if (!wasmkit_can_call(spans, 2, 6)) return WASMKIT_BAD_ARGUMENT;
+    return (enum wasmkit_result)wk_ffi_edit(
+        wasmkit_in(bytes), length, wasmkit_in(script), script_length, profile, keep_valid,
+        out ? out : &none[0], out_capacity, out_length, text ? text : &none[1], text_capacity, text_length);
+}
+
+#ifdef __cplusplus
+}
+#endif
+
+#endif
