@@ -4,6 +4,8 @@
 #[cfg(test)]
 mod chopped;
 #[cfg(test)]
+mod examples;
+#[cfg(test)]
 mod job;
 #[cfg(test)]
 mod listing;
