@@ -20,7 +20,7 @@ returns-in-Ok-read_script-clause-means c =
       body_never = c.reading_of_code.ensures.never_memory_body;
       expr_never = c.reading_of_code.ensures.never_memory_expr;
     } in
-    ran_means reads c.args.keep_valid c.args.profile c.args.input.now c.args.script.now _ c.in-Ok.session c.in-Ok-read_script.edits.items
+    ran_means c.args.keep_valid c.args.profile c.args.input.now c.args.script.now reads _ c.in-Ok.session c.in-Ok-read_script.edits.items
     (record { profile_is = c.in-Ok.ensures.profile; spelled = c.in-Ok.ensures.found; only = c.in-Ok.ensures.only })
     c.in-Ok.ensures.exact c.in-Ok-read_script.ensures.found c.in-Ok-read_script.ensures.only c.in-Ok-read_script.ensures.exact
 
