@@ -1,7 +1,7 @@
 -- Where index spaces hold all that they held and more, nothing goes wrong with what was there.
-use Rattle.std.proofs.Common.{◌≡◌, ℕ, ◌+◌, ◌<◌, ◌≤◌, nat_lt, Bool, true, false, List, [], ◌∷◌, ◌++◌, length, map, take, Option, Some, None, refl, sym, ap, ◌∙◌, arith}
-use Rattle.std.specs.List.{AllByRecursion, list_any}
-use Rattle.std.specs.Str.{bytes_eq}
+use Rattle.std.proofs.Common.{◌≡◌, ℕ, ◌+◌, ◌<◌, ◌≤◌, nat_lt, Bool, true, false, List, [], ◌∷◌, ◌++◌, length, map, take, Option, Some, None, refl, sym, ap, subst, ◌∙◌, arith}
+use Rattle.std.proofs.lemmas.List.{map-id}
+use Rattle.std.specs.List.{AllByRecursion}
 use Rattle.wk_body.specs.declared.references.Ref.{Ref}
 use Rattle.wk_body.specs.declared.references.Ref.TheVariants as refs
 use Rattle.wk_body.specs.declared.types.ValType.TheVariants.{I32}
@@ -29,6 +29,7 @@ use Rattle.wk_check.specs.Items.{unless, within, all_within, import_flaw, global
 use Rattle.wk_check.specs.Spaces.{Spaces, answer_in}
 use Rattle.wk_check.specs.Typing.{body_verdict}
 use Rattle.wk_check.specs.Verdict.{func_verdict}
+use Rattle.wk_check.proofs.CarriedItems.{Carries, carried_elem, exports_carried, start_carried, elems_carried, datas_carried}
 use Rattle.wk_check.proofs.ConstantFrames.{agree, constant_fine}
 use Rattle.wk_check.proofs.FlawLists.{still_fine}
 use Rattle.wk_check.proofs.Frames.{frame}
@@ -54,7 +55,7 @@ funcs_fine ts us xs more = still_fine _ _ (λ item x. more_within UnknownType ts
 
 -- ---- what is found
 
-starts_there : (w : Found) → is_start w ≡ true → is_there w ≡ true
+pub starts_there : (w : Found) → is_start w ≡ true → is_there w ≡ true
 starts_there (FuncIs t) e = refl
 starts_there w e = absurd cc
 
@@ -66,7 +67,7 @@ module _ (A B : Ref → Found) (grows : Grows A B) where
   func_agrees : (f : Func) → func_verdict A f ≡ bodies.Valid → Agree A B (refs.Ty f.ty ∷ refs_of f.body.instrs)
   func_agrees f valid = agree A B grows (refs.Ty f.ty ∷ refs_of f.body.instrs) (valid_finds A f.ty f.body valid)
 
-  func_still : (f : Func) → func_verdict A f ≡ bodies.Valid → func_verdict B f ≡ func_verdict A f
+  pub func_still : (f : Func) → func_verdict A f ≡ bodies.Valid → func_verdict B f ≡ func_verdict A f
   func_still f valid =
       let h = func_agrees f valid in
       frame A B f.ty f.ty f.body h.0 h.1
@@ -95,10 +96,6 @@ pub record IsIn (s t : Spaces) : Type 0 where
   pub memories : length s.memories ≤ length t.memories
   pub globals : length s.globals ≤ length t.globals
 
-more_all_within : (m n : ℕ) (xs : List ℕ) → m ≤ n → AllByRecursion (λ x. x < m) xs → AllByRecursion (λ x. x < n) xs
-more_all_within m n [] more all = tt
-more_all_within m n (x ∷ xs) more all = (omega (arith, all.0, more), more_all_within m n xs more all.1)
-
 module _ (s t : Spaces) (larger : IsIn s t) where
   index_still : (kind : Kind) (x : ℕ) → index_flaw s kind x ≡ None → index_flaw t kind x ≡ None
   index_still kinds.Func x e = more_within UnknownFunc s.funcs t.funcs x larger.funcs e
@@ -106,42 +103,28 @@ module _ (s t : Spaces) (larger : IsIn s t) where
   index_still kinds.Memory x e = more_within UnknownMemory s.memories t.memories x larger.memories e
   index_still kinds.Global x e = more_within UnknownGlobal s.globals t.globals x larger.globals e
 
-  export_still : (before : List Export) (e : Export) → export_flaw s before e ≡ None → export_flaw t before e ≡ None
-  export_still before e none =
-      let p = both_none (index_flaw s e.kind e.index) _ none in
-      none_both _ _ (index_still e.kind e.index p.0) p.1
+  start_still : (x : ℕ) → is_start (answer_in s (refs.Func x)) ≡ true → is_start (answer_in t (refs.Func x)) ≡ true
+  start_still x e = ap is_start (larger.found (refs.Func x) (starts_there (answer_in s (refs.Func x)) e)) ∙ e
+
+  still : Carries (λ kind x. x) (λ is. is) s t
+  still = record { indexes = index_still; constants = constant_fine (answer_in s) (answer_in t) larger.found; starts = start_still }
 
   pub exports_fine : (es : List Export) → AreFine (numbered (λ item e. export_flaw s (take item es) e) 0 es) → AreFine (numbered (λ item e. export_flaw t (take item es) e) 0 es)
-  exports_fine es = still_fine _ _ (λ item e. export_still (take item es) e) 0 es
-
-  start_still : (x : ℕ) → start_flaw s x ≡ None → start_flaw t x ≡ None
-  start_still x none =
-      let p = both_none (within UnknownFunc s.funcs x) (unless StartType (is_start (answer_in s (refs.Func x)))) none in
-      let starts = unless_true StartType (is_start (answer_in s (refs.Func x))) p.1 in
-      none_both _ _ (more_within UnknownFunc s.funcs t.funcs x larger.funcs p.0)
-      (ap (unless StartType) (ap is_start (larger.found (refs.Func x) (starts_there (answer_in s (refs.Func x)) starts)) ∙ starts))
+  exports_fine es fine =
+      subst (λ xs. AreFine (numbered (λ item e. export_flaw t (take item xs) e) 0 xs)) (map-id es) (exports_carried (λ kind x. x) (λ is. is) s t still es fine)
 
   pub start_fine : (o : Option ℕ) → AreFine (start_flaws s o) → AreFine (start_flaws t o)
   start_fine None fine = tt
-  start_fine (Some x) fine = (start_still x fine.0, tt)
-
-  elem_still : (e : Elem) → elem_flaw s e ≡ None → elem_flaw t e ≡ None
-  elem_still e none =
-      let p = both_none (within UnknownTable s.tables e.table) _ none in
-      let q = both_none (constant_flaw (answer_in s) I32 e.offset) (unless UnknownFunc (all_within (length s.funcs) e.funcs)) p.1 in
-      let inside = all_less (length s.funcs) e.funcs (unless_true UnknownFunc (all_within (length s.funcs) e.funcs) q.1) in
-      none_both _ _ (more_within UnknownTable s.tables t.tables e.table larger.tables p.0)
-      (none_both _ _ (constant_fine (answer_in s) (answer_in t) larger.found I32 e.offset q.0)
-      (ap (unless UnknownFunc) (less_all (length t.funcs) e.funcs (more_all_within (length s.funcs) (length t.funcs) e.funcs larger.funcs inside))))
+  start_fine (Some x) fine = start_carried (λ kind x. x) (λ is. is) s t still (Some x) fine
 
   pub elems_fine : (es : List Elem) → AreFine (numbered (λ item e. elem_flaw s e) 0 es) → AreFine (numbered (λ item e. elem_flaw t e) 0 es)
-  elems_fine es = still_fine _ _ (λ item e. elem_still e) 0 es
-
-  data_still : (d : DataSeg) → data_flaw s d ≡ None → data_flaw t d ≡ None
-  data_still d none =
-      let p = both_none (within UnknownMemory s.memories d.memory) (constant_flaw (answer_in s) I32 d.offset) none in
-      none_both _ _ (more_within UnknownMemory s.memories t.memories d.memory larger.memories p.0)
-      (constant_fine (answer_in s) (answer_in t) larger.found I32 d.offset p.1)
+  elems_fine es fine =
+      subst (λ xs. AreFine (numbered (λ item e. elem_flaw t e) 0 xs)) (elems_same es) (elems_carried (λ kind x. x) (λ is. is) s t still es fine)
+    where
+      elems_same : (es : List Elem) → map (carried_elem (λ kind x. x) (λ is. is)) es ≡ es
+      elems_same [] = refl
+      elems_same (e ∷ es) = rw (map-id e.funcs, elems_same es) refl
 
   pub datas_fine : (ds : List DataSeg) → AreFine (numbered (λ item d. data_flaw s d) 0 ds) → AreFine (numbered (λ item d. data_flaw t d) 0 ds)
-  datas_fine ds = still_fine _ _ (λ item d. data_still d) 0 ds
+  datas_fine ds fine =
+      subst (λ xs. AreFine (numbered (λ item d. data_flaw t d) 0 xs)) (map-id ds) (datas_carried (λ kind x. x) (λ is. is) s t still ds fine)

@@ -2,6 +2,7 @@ pub mod Alignment
 pub mod All
 pub mod Binds
 pub mod Bodies
+pub mod CarriedItems
 pub mod Completing
 pub mod ConstantFrames
 pub mod ConstantRules
@@ -15,6 +16,7 @@ pub mod FlawLists
 pub mod Flaws
 pub mod Frames
 pub mod Imported
+pub mod ImportSight
 pub mod JudgedCodes
 pub mod Labels
 pub mod LargerSpaces

@@ -95,11 +95,11 @@ imported_push pick [] i = refl
 imported_push pick (x ∷ xs) i =
     ap (and_more (pick x.desc)) (imported_push pick xs i) ∙ and_more-append (pick x.desc) (imported pick xs) (and_more (pick i.desc) [])
 
-imported_aside : {X : Type 0} (pick : ImportDesc → Option X) (is : List Import) (i : Import) → pick i.desc ≡ None → imported pick (is ++ i ∷ []) ≡ imported pick is
+pub imported_aside : {X : Type 0} (pick : ImportDesc → Option X) (is : List Import) (i : Import) → pick i.desc ≡ None → imported pick (is ++ i ∷ []) ≡ imported pick is
 imported_aside {X = X} pick is i none =
     imported_push pick is i ∙ ap (λ (o : Option X). imported pick is ++ and_more o []) none ∙ append-nil (imported pick is)
 
-imported_last : {X : Type 0} (pick : ImportDesc → Option X) (is : List Import) (i : Import) (x : X) → pick i.desc ≡ Some x → imported pick (is ++ i ∷ []) ≡ imported pick is ++ x ∷ []
+pub imported_last : {X : Type 0} (pick : ImportDesc → Option X) (is : List Import) (i : Import) (x : X) → pick i.desc ≡ Some x → imported pick (is ++ i ∷ []) ≡ imported pick is ++ x ∷ []
 imported_last {X = X} pick is i x some = imported_push pick is i ∙ ap (λ (o : Option X). imported pick is ++ and_more o []) some
 
 module _ (kind : Kind) (from : ℕ) (i : Import) (m : Parts) where
@@ -206,7 +206,7 @@ moved_suc k x = elim (cases_lt x k) [
 ]
 
 -- what stood at an index stands at the moved one
-at_moved : {A : Type 0} (xs ys : List A) (a : A) (x : ℕ) → slice_get ((xs ++ a ∷ []) ++ ys) (moved (length xs) x) ≡ slice_get (xs ++ ys) x
+pub at_moved : {A : Type 0} (xs ys : List A) (a : A) (x : ℕ) → slice_get ((xs ++ a ∷ []) ++ ys) (moved (length xs) x) ≡ slice_get (xs ++ ys) x
 at_moved [] ys a x = ap (slice_get (a ∷ ys)) (moved_high 0 x (omega arith) ∙ add-one x)
 at_moved (y ∷ xs) ys a zero = ap (slice_get (y ∷ ((xs ++ a ∷ []) ++ ys))) (moved_low (suc (length xs)) 0 (omega arith))
 at_moved (y ∷ xs) ys a (suc x) = ap (slice_get (y ∷ ((xs ++ a ∷ []) ++ ys))) (moved_suc (length xs) x) ∙ at_moved xs ys a x
