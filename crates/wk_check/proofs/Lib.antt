@@ -29,3 +29,4 @@ pub mod Streamed
 pub mod Valid
 pub mod ValidFinds
 pub mod ValidGrowth
+pub mod ValidImports

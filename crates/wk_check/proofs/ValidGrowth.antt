@@ -42,23 +42,23 @@ use Rattle.wk_check.proofs.LargerSpaces.{IsIn, imports_fine, funcs_fine, globals
 -- ---- modules by their sections
 
 -- nothing is wrong with a module, section by section
-record IsFine (m : Parts) : Type 0 where
-  types : AreFine (type_flaws m.profile (lists_of m))
-  imports : AreFine (import_flaws (lists_of m))
-  funcs : AreFine (func_flaws (lists_of m))
-  tables : AreFine (table_flaws (lists_of m))
-  memories : AreFine (memory_flaws (lists_of m))
-  globals : AreFine (global_flaws (lists_of m))
-  exports : AreFine (export_flaws (lists_of m))
-  start : AreFine (start_flaws (spaces_of (lists_of m)) m.start)
-  elems : AreFine (elem_flaws (lists_of m))
-  codes : AreFine (code_flaws (lists_of m) m.funcs)
-  datas : AreFine (data_flaws (lists_of m))
+pub record IsFine (m : Parts) : Type 0 where
+  pub types : AreFine (type_flaws m.profile (lists_of m))
+  pub imports : AreFine (import_flaws (lists_of m))
+  pub funcs : AreFine (func_flaws (lists_of m))
+  pub tables : AreFine (table_flaws (lists_of m))
+  pub memories : AreFine (memory_flaws (lists_of m))
+  pub globals : AreFine (global_flaws (lists_of m))
+  pub exports : AreFine (export_flaws (lists_of m))
+  pub start : AreFine (start_flaws (spaces_of (lists_of m)) m.start)
+  pub elems : AreFine (elem_flaws (lists_of m))
+  pub codes : AreFine (code_flaws (lists_of m) m.funcs)
+  pub datas : AreFine (data_flaws (lists_of m))
 
 fine_sections : (m : Parts) → module_verdict m ≡ Valid → AllByRecursion AreFine (module_flaws m)
 fine_sections m valid = subst (IsVerdictOn (module_flaws m)) valid (module_verdict_told m)
 
-valid_fine : (m : Parts) → module_verdict m ≡ Valid → IsFine m
+pub valid_fine : (m : Parts) → module_verdict m ≡ Valid → IsFine m
 valid_fine m valid =
     let a = fine_sections m valid in
     let b = a.1.1.1.1.1.1 in
@@ -84,7 +84,7 @@ verdict_of_section m front ws back are fine_front fine_back =
     ∙ ap verdict_by (ap (first_fault 1) are ∙ first_behind 1 front (ws ∷ back) fine_front ∙ first_alone (1 + length front) ws back fine_back)
 
 -- one item more in a section
-pushed_in : (section : ℕ) (ws vs : List (Option Flaw)) (w : Option Flaw) (n : ℕ) → vs ≡ ws ++ w ∷ [] → length ws ≡ n → AreFine ws → first_in section 0 vs ≡ first_in section n (w ∷ [])
+pub pushed_in : (section : ℕ) (ws vs : List (Option Flaw)) (w : Option Flaw) (n : ℕ) → vs ≡ ws ++ w ∷ [] → length ws ≡ n → AreFine ws → first_in section 0 vs ≡ first_in section n (w ∷ [])
 pushed_in section ws vs w n are many fine =
     ap (first_in section 0) are ∙ first_last section 0 ws w fine ∙ ap (λ k. first_in section k (w ∷ [])) (zero-add (length ws) ∙ many)
 

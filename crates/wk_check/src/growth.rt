@@ -3,11 +3,14 @@
 ghost use Rattle.std.specs.Prelude.{◌≡◌, ℕ, [], ◌∷◌, Some, length, option_map, slice_get, IfOk};
 ghost use Rattle.wk_body.specs.Bodies.{BodyOf};
 ghost use Rattle.wk_module.specs.declared.types.Parts.{Parts as PartsOf};
-ghost use Rattle.wk_module.specs.Changes.{with_type, with_func, with_body, with_global, with_export};
+ghost use Rattle.wk_module.specs.Changes.{with_type, with_import, with_func, with_body, with_global, with_export};
+ghost use Rattle.wk_module.specs.Imports.{import_count};
+ghost use Rattle.wk_module.specs.Items.{desc_kind};
 ghost use Rattle.wk_module.specs.Listed.{listed, AreNumbered};
+ghost use Rattle.wk_module.specs.Moving.{moved_parts};
 ghost use Rattle.wk_module.specs.Shape.{lists_of};
 ghost use Rattle.wk_check.specs.Flaws.{first_in, verdict_by};
-ghost use Rattle.wk_check.specs.Growth.{StaysWithout, HasValidBodies, VerdictsStay, ReferencesStay};
+ghost use Rattle.wk_check.specs.Growth.{crowded_by, StaysWithout, HasValidBodies, VerdictsStay, ReferencesStay};
 ghost use Rattle.wk_check.specs.SpacesLaws.{answers_of};
 ghost use Rattle.wk_check.specs.Typing.{body_verdict};
 ghost use Rattle.wk_check.specs.Verdict.{module_verdict};
@@ -15,12 +18,12 @@ ghost use Rattle.wk_check.specs.Verdict.{module_verdict};
 use crate::constant::constant_flaw;
 use crate::exports::flaw_of_export;
 use crate::fault::{BodyVerdict, FaultKind, Flaw, Verdict};
-use crate::rules::flaw_of_type;
+use crate::rules::{flaw_of_next_import, flaw_of_type};
 use crate::typing::Room;
 use crate::whole::{Initial, Whole};
 use std::alloc::Global;
 use wk_bytes::OutOfMemory;
-use wk_module::{Export, Expr, FuncType, GlobalType, Lists, Profile};
+use wk_module::{Export, Expr, FuncType, GlobalType, Import, ImportDesc, Lists, Profile};
 
 // The verdict of a module where nothing but this may be wrong.
 fn verdict_by_flaw(flaw: Option<Flaw>, section: u8, item: u32) -> Verdict
@@ -95,6 +98,38 @@ pub fn verdict_with_export(lists: &Lists<'_>, export: &Export) -> Verdict
         → module_verdict m ≡ Verdict.Valid → result ≡ module_verdict (with_export export.now m) }
 {
     verdict_by_flaw(flaw_of_export(lists, export), 7, lists.exports.len() as u32)
+}
+
+// The verdict of a module to which an import comes that is well in itself: a table, or a memory, that the module defines is one too
+// many then.
+fn verdict_beside(lists: &Lists<'_>, desc: &ImportDesc) -> Verdict
+    ensures { (m : PartsOf) → listed lists.now ≡ record (lists_of m) { codes = [] }
+        → result ≡ verdict_by (crowded_by desc.now m) }
+{
+    match desc {
+        ImportDesc::Table(_) if !lists.tables.is_empty() => {
+            Verdict::Invalid(Flaw::of(FaultKind::TooManyTables).at(4, 0))
+        }
+        ImportDesc::Memory(_) if !lists.memories.is_empty() => {
+            Verdict::Invalid(Flaw::of(FaultKind::TooManyMemories).at(5, 0))
+        }
+        _ => Verdict::Valid,
+    }
+}
+
+/// The verdict of a valid module with these lists to which an import comes, so that each reference of its kind to what the module
+/// defines becomes one more: what is wrong with the import, or that the table or the memory that the module defines is one too many,
+/// or valid. It takes no memory.
+pub fn verdict_with_import(lists: &Lists<'_>, import: &Import) -> Verdict
+    requires { AreNumbered (listed lists.now) }
+    ensures { (m : PartsOf) → listed lists.now ≡ record (lists_of m) { codes = [] }
+        → module_verdict m ≡ Verdict.Valid → (let kind = desc_kind import.now.desc in
+        result ≡ module_verdict (with_import import.now (moved_parts kind (import_count kind m.imports) m))) }
+{
+    match flaw_of_next_import(lists, &import.desc) {
+        Some(flaw) => Verdict::Invalid(flaw.at(2, lists.imports.len() as u32)),
+        None => verdict_beside(lists, &import.desc),
+    }
 }
 
 /// What is known of a valid module, for all modules at once: it stays valid without one of its exports; its bodies are valid; and where

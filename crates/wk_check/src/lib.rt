@@ -61,7 +61,7 @@ pub use env::{Answer, Env};
 pub use fault::{BodyVerdict, Fault, FaultKind, Place, Verdict};
 pub use growth::{
     laws_of_valid_modules, verdict_with_body, verdict_with_export, verdict_with_func,
-    verdict_with_global, verdict_with_type,
+    verdict_with_global, verdict_with_import, verdict_with_type,
 };
 pub use judging::{judge, judge_around};
 pub use kept::{carry, carry_moved, first_code_fault, verdicts_that_keep};

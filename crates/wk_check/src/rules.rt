@@ -15,7 +15,8 @@ use crate::typing::{Room, type_body};
 use crate::whole::{Initial, Whole};
 use wk_bytes::OutOfMemory;
 use wk_module::{
-    DataSeg, Elem, Func, FuncType, GlobalDef, Import, ImportDesc, Limits, Profile, Ref, ValType,
+    DataSeg, Elem, Func, FuncType, GlobalDef, Import, ImportDesc, Kind, Limits, Lists, Profile,
+    Ref, ValType, import_count,
 };
 
 /// The most pages that a memory may have, 4 GiB in all.
@@ -290,6 +291,15 @@ fn flaw_of_import(types: usize, tables: usize, memories: usize, desc: &ImportDes
         ImportDesc::Memory(limits) => flaw_of_memory(limits, memories == 0),
         ImportDesc::Global(_) => None,
     }
+}
+
+/// What is wrong with an import that comes behind those of these lists. It takes no memory.
+pub(crate) fn flaw_of_next_import(lists: &Lists<'_>, desc: &ImportDesc) -> Option<Flaw>
+    ensures { result ≡ import_flaw lists.now.types.now lists.now.imports.now desc.now }
+{
+    let tables = import_count(lists.imports, Kind::Table);
+    let memories = import_count(lists.imports, Kind::Memory);
+    flaw_of_import(lists.types.len(), tables, memories, desc)
 }
 
 /// The first fault of the import section.

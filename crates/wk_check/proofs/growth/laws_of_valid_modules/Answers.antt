@@ -1,4 +1,3 @@
-use Rattle.wk_check.proofs.ImportSight.{memory_sees}
 use Rattle.wk_check.proofs.ValidGrowth.{valid_without, has_valid_bodies, verdicts_stay, references_stay}
 use Rattle.wk_check.proofs.growth.laws_of_valid_modules.Goals as goal
 
