@@ -18,12 +18,8 @@ use Rattle.wk_check.specs.Constants.{constant_flaw}
 use Rattle.wk_check.specs.Flaws.{numbered, AreFine}
 use Rattle.wk_check.specs.Items.{earlier, flaw, unless, within, all_within, elem_flaw, data_flaw, index_flaw, export_flaw, is_start, start_flaw, start_flaws}
 use Rattle.wk_check.specs.Spaces.{Spaces, answer_in}
+use Rattle.wk_check.proofs.FlawLists.{fine_map}
 use Rattle.wk_check.proofs.Valid.{both_none, none_both, unless_true, within_less, less_within, all_less, less_all}
-
--- each item by another rule that finds nothing where the first found nothing
-pub fine_map : {X : Type 0} (rule rule' : ℕ → X → Option Flaw) (h : X → X) → ((item : ℕ) (x : X) → rule item x ≡ None → rule' item (h x) ≡ None) → (item : ℕ) (xs : List X) → AreFine (numbered rule item xs) → AreFine (numbered rule' item (map h xs))
-fine_map rule rule' h each item [] fine = tt
-fine_map rule rule' h each item (x ∷ xs) fine = (each item x fine.0, fine_map rule rule' h each (item + 1) xs fine.1)
 
 any_map : {X : Type 0} (test : X → Bool) (h : X → X) → ((x : X) → test (h x) ≡ test x) → (xs : List X) → list_any test (map h xs) ≡ list_any test xs
 any_map test h same [] = refl

@@ -1,7 +1,7 @@
 -- Sections in which nothing is wrong, or nothing but with one item.
-use Rattle.std.proofs.Common.{◌≡◌, ℕ, zero, suc, ◌+◌, List, [], ◌∷◌, ◌++◌, length, map, take, drop, Option, Some, None, refl, sym, ap, ◌∙◌, add-zero, arith, length-append}
+use Rattle.std.proofs.Common.{◌≡◌, ℕ, zero, suc, ◌+◌, List, [], ◌∷◌, ◌++◌, length, map, take, drop, Option, Some, None, refl, sym, ap, subst, ◌∙◌, add-zero, arith, length-append}
 use Rattle.std.proofs.Math.Seq.{take-append_seam}
-use Rattle.std.proofs.lemmas.List.{append-nil, append_assoc}
+use Rattle.std.proofs.lemmas.List.{append-nil, append_assoc, map-id}
 use Rattle.std.specs.Prelude.{remove}
 use Rattle.std.specs.List.{AllByRecursion}
 use Rattle.wk_check.specs.declared.fault.Flaw.{Flaw}
@@ -55,10 +55,15 @@ numbered_push rule item (y ∷ xs) x =
     let next : item + 1 + length xs ≡ item + suc (length xs) = omega arith in
     ap (λ ws. rule item y ∷ ws) (numbered_push rule (item + 1) xs x ∙ ap (λ n. numbered rule (item + 1) xs ++ rule n x ∷ []) next)
 
--- by another rule that finds nothing where the first found nothing
+-- other items by another rule that finds nothing where the first found nothing
+pub fine_map : {X : Type 0} (rule rule' : ℕ → X → Option Flaw) (h : X → X) → ((item : ℕ) (x : X) → rule item x ≡ None → rule' item (h x) ≡ None) → (item : ℕ) (xs : List X) → AreFine (numbered rule item xs) → AreFine (numbered rule' item (map h xs))
+fine_map rule rule' h each item [] fine = tt
+fine_map rule rule' h each item (x ∷ xs) fine = (each item x fine.0, fine_map rule rule' h each (item + 1) xs fine.1)
+
+-- the same items
 pub still_fine : {X : Type 0} (rule rule' : ℕ → X → Option Flaw) → ((item : ℕ) (x : X) → rule item x ≡ None → rule' item x ≡ None) → (item : ℕ) (xs : List X) → AreFine (numbered rule item xs) → AreFine (numbered rule' item xs)
-still_fine rule rule' each item [] fine = tt
-still_fine rule rule' each item (x ∷ xs) fine = (each item x fine.0, still_fine rule rule' each (item + 1) xs fine.1)
+still_fine rule rule' each item xs fine =
+    subst (λ ys. AreFine (numbered rule' item ys)) (map-id xs) (fine_map rule rule' (λ x. x) each item xs fine)
 
 -- ---- by a rule that looks at the items before
 

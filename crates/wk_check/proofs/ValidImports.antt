@@ -1,6 +1,7 @@
 -- A valid module to which an import comes: its verdict is what is wrong with the import, or that its own table or memory is one too many.
 use Rattle.std.proofs.Common.{◌≡◌, ℕ, ◌+◌, ◌<◌, ◌≤◌, ◌==◌, nat_lt, Bool, true, false, if◌then◌else◌, List, [], ◌∷◌, ◌++◌, length, map, Option, Some, None, refl, sym, ap, subst, ◌∙◌, inl, inr, arith, length-append}
 use Rattle.std.proofs.lemmas.Bool.{cases_Bool, cases_lt, lt-leb, le-leb, cond-false, cond-true, ltb-true, le-ltb}
+use Rattle.std.proofs.lemmas.Bool.Decides.{same_from_decides, Decides-eqb}
 use Rattle.std.proofs.lemmas.List.{length-map}
 use Rattle.std.specs.List.{AllByRecursion}
 use Rattle.wk_body.specs.References.{moved}
@@ -19,6 +20,7 @@ use Rattle.wk_module.specs.Items.{desc_kind}
 use Rattle.wk_module.specs.MovedLaws.{types_stay, global_types_stay}
 use Rattle.wk_module.specs.Moving.{moved_index, moved_expr, moved_func, moved_global, moved_start}
 use Rattle.wk_module.specs.Imports.{import_count}
+use Rattle.wk_module.specs.ImportLaws.{import_count_push}
 use Rattle.wk_module.specs.Shape.{lists_of}
 use Rattle.wk_module.specs.Types.{kind_byte}
 use Rattle.wk_check.specs.declared.fault.Fault.{Fault}
@@ -31,11 +33,12 @@ use Rattle.wk_check.specs.Flaws.{numbered, first_in, first_fault, verdict_by, Ar
 use Rattle.wk_check.specs.Growth.{crowded, crowded_by}
 use Rattle.wk_check.specs.Items.{earlier, unless, within, alone, in_order, in_range, table_flaw, memory_flaw, import_flaw, global_flaw, index_flaw, start_flaws, body_flaw}
 use Rattle.wk_check.specs.Spaces.{Spaces, spaces_of, and_more, imported, func_in, table_in, memory_in, global_in}
-use Rattle.wk_check.specs.SpacesLaws.{answers_of, imported_push, imported_aside, imported_last}
+use Rattle.wk_check.specs.SpacesLaws.{answers_of, imported_aside, imported_last, imported_funcs, imported_globals}
 use Rattle.wk_check.specs.Verdict.{type_flaws, import_flaws, func_flaws, table_flaws, memory_flaws, global_flaws, export_flaws, elem_flaws, code_flaws, data_flaws, func_verdict, module_verdict, module_flaws}
-use Rattle.wk_check.proofs.CarriedItems.{Carries, fine_map, exports_carried, start_carried, elems_carried, datas_carried}
-use Rattle.wk_check.proofs.FlawLists.{none_in, none_from, first_behind, behind, numbered_behind, behind_push, length-behind}
+use Rattle.wk_check.proofs.CarriedItems.{Carries, exports_carried, start_carried, elems_carried, datas_carried}
+use Rattle.wk_check.proofs.FlawLists.{none_in, fine_map, none_from, first_behind, behind, numbered_behind, behind_push, length-behind}
 use Rattle.wk_check.proofs.Flaws.{earlier_none, module_flaws_are}
+use Rattle.wk_check.proofs.Imported.{imported_tables, imported_memories}
 use Rattle.wk_check.proofs.ImportSight.{SeesStill, after, initial_of, func_sees, table_sees, memory_sees, global_sees}
 use Rattle.wk_check.proofs.LargerSpaces.{valid_bodies}
 use Rattle.wk_check.proofs.Valid.{both_none, within_less, less_within, unless_true}
@@ -59,35 +62,16 @@ moved_index_le kind from named x = elim (cases_Bool (kind_byte kind == kind_byte
   | inr f ↦ rw f (omega arith)
 ]
 
-one_func : (d : ImportDesc) → length (and_more (func_in d) []) ≡ one (desc_kind d) kinds.Func
-one_func (desc.Func x) = refl
-one_func (desc.Table l) = refl
-one_func (desc.Memory l) = refl
-one_func (desc.Global g) = refl
+eq_flip : (a b : ℕ) → (a == b) ≡ (b == a)
+eq_flip a b =
+    let back = Decides-eqb b a in
+    same_from_decides _ _ (Decides-eqb a b) (λ e. sym (back.0 e), λ e. back.1 (sym e))
 
-one_table : (d : ImportDesc) → length (and_more (table_in d) []) ≡ one (desc_kind d) kinds.Table
-one_table (desc.Func x) = refl
-one_table (desc.Table l) = refl
-one_table (desc.Memory l) = refl
-one_table (desc.Global g) = refl
-
-one_memory : (d : ImportDesc) → length (and_more (memory_in d) []) ≡ one (desc_kind d) kinds.Memory
-one_memory (desc.Func x) = refl
-one_memory (desc.Table l) = refl
-one_memory (desc.Memory l) = refl
-one_memory (desc.Global g) = refl
-
-one_global : (d : ImportDesc) → length (and_more (global_in d) []) ≡ one (desc_kind d) kinds.Global
-one_global (desc.Func x) = refl
-one_global (desc.Table l) = refl
-one_global (desc.Memory l) = refl
-one_global (desc.Global g) = refl
-
-space_more : {X : Type 0} (pick : ImportDesc → Option X) (is : List Import) (i : Import) (own now : List X) (k : ℕ) → now ≡ own → length (and_more (pick i.desc) []) ≡ k → length (imported pick (is ++ i ∷ []) ++ now) ≡ length (imported pick is ++ own) + k
-space_more {X = X} pick is i own now k same more =
-    ap (λ (xs : List X). length (imported pick (is ++ i ∷ []) ++ xs)) same
-    ∙ ap (λ (xs : List X). length (xs ++ own)) (imported_push pick is i)
-    ∙ omega (arith, more, length-append (imported pick is ++ and_more (pick i.desc) []) own, length-append (imported pick is) (and_more (pick i.desc) []), length-append (imported pick is) own)
+-- where the imported ones are counted
+space_more : {X : Type 0} (pick : ImportDesc → Option X) (named : Kind) → ((is : List Import) → length (imported pick is) ≡ import_count named is) → (is : List Import) (i : Import) (own now : List X) → now ≡ own → length (imported pick (is ++ i ∷ []) ++ now) ≡ length (imported pick is ++ own) + one (desc_kind i.desc) named
+space_more {X = X} pick named counted is i own now same =
+    let flipped = ap {B = ℕ} (λ b. if b then 1 else 0) (eq_flip (kind_byte named) (kind_byte (desc_kind i.desc))) in
+    omega (arith, counted is, counted (is ++ i ∷ []), import_count_push named is i, flipped, ap (λ (xs : List X). length xs) same, length-append (imported pick (is ++ i ∷ [])) now, length-append (imported pick is) own)
 
 moved_within : {X : Type 0} (fault : FaultKind) (kind named : Kind) (from : ℕ) (xs ys : List X) (x : ℕ) → length ys ≡ length xs + one kind named → within fault xs x ≡ None → within fault ys (moved_index kind from named x) ≡ None
 moved_within fault kind named from xs ys x more none =
@@ -114,14 +98,14 @@ module _ (m : Parts) (i : Import) where
   indexes_move : (named : Kind) (x : ℕ) → index_flaw s named x ≡ None → index_flaw t named (moved_index kind from named x) ≡ None
   indexes_move kinds.Func x =
       moved_within UnknownFunc kind kinds.Func from s.funcs t.funcs x
-      (space_more func_in m.imports i (lists_of m).funcs (lists_of n).funcs (one kind kinds.Func) (types_stay kind from m.funcs) (one_func i.desc))
+      (space_more func_in kinds.Func imported_funcs m.imports i (lists_of m).funcs (lists_of n).funcs (types_stay kind from m.funcs))
   indexes_move kinds.Table x =
-      moved_within UnknownTable kind kinds.Table from s.tables t.tables x (space_more table_in m.imports i m.tables m.tables (one kind kinds.Table) refl (one_table i.desc))
+      moved_within UnknownTable kind kinds.Table from s.tables t.tables x (space_more table_in kinds.Table imported_tables m.imports i m.tables m.tables refl)
   indexes_move kinds.Memory x =
-      moved_within UnknownMemory kind kinds.Memory from s.memories t.memories x (space_more memory_in m.imports i m.memories m.memories (one kind kinds.Memory) refl (one_memory i.desc))
+      moved_within UnknownMemory kind kinds.Memory from s.memories t.memories x (space_more memory_in kinds.Memory imported_memories m.imports i m.memories m.memories refl)
   indexes_move kinds.Global x =
       moved_within UnknownGlobal kind kinds.Global from s.globals t.globals x
-      (space_more global_in m.imports i (map (λ (g : GlobalDef). g.ty) m.globals) (map (λ (g : GlobalDef). g.ty) n.globals) (one kind kinds.Global) (global_types_stay kind from m.globals) (one_global i.desc))
+      (space_more global_in kinds.Global imported_globals m.imports i (map (λ (g : GlobalDef). g.ty) m.globals) (map (λ (g : GlobalDef). g.ty) n.globals) (global_types_stay kind from m.globals))
 
   module _ (fine : IsFine m) (sees : SeesStill kind from m n) where
     carries : Carries (moved_index kind from) (moved_expr kind from) s t
