@@ -1,5 +1,5 @@
 -- Where each index and each constant expression of a module is carried to one that is as good, nothing goes wrong with what names them.
-use Rattle.std.proofs.Common.{◌≡◌, ℕ, ◌+◌, ◌<◌, nat_lt, Bool, true, false, if◌then◌else◌, List, [], ◌∷◌, length, map, take, Option, Some, None, refl, sym, ap, ◌∙◌}
+use Rattle.std.proofs.Common.{◌≡◌, ℕ, ◌<◌, Bool, true, if◌then◌else◌, List, [], ◌∷◌, length, map, take, Option, Some, None, refl, ap, ◌∙◌}
 use Rattle.std.proofs.lemmas.List.{take-map}
 use Rattle.std.specs.List.{AllByRecursion, list_any}
 use Rattle.std.specs.Str.{bytes_eq}
@@ -13,10 +13,9 @@ use Rattle.wk_module.specs.declared.types.DataSeg.{DataSeg}
 use Rattle.wk_module.specs.declared.types.Kind.{Kind}
 use Rattle.wk_module.specs.declared.types.Kind.TheVariants as kinds
 use Rattle.wk_check.specs.declared.fault.FaultKind.TheVariants.{UnknownFunc, UnknownTable, UnknownMemory, DuplicateExport, StartType}
-use Rattle.wk_check.specs.declared.fault.Flaw.{Flaw}
 use Rattle.wk_check.specs.Constants.{constant_flaw}
 use Rattle.wk_check.specs.Flaws.{numbered, AreFine}
-use Rattle.wk_check.specs.Items.{earlier, flaw, unless, within, all_within, elem_flaw, data_flaw, index_flaw, export_flaw, is_start, start_flaw, start_flaws}
+use Rattle.wk_check.specs.Items.{flaw, unless, within, all_within, elem_flaw, data_flaw, index_flaw, export_flaw, is_start, start_flaws}
 use Rattle.wk_check.specs.Spaces.{Spaces, answer_in}
 use Rattle.wk_check.proofs.FlawLists.{fine_map}
 use Rattle.wk_check.proofs.Valid.{both_none, none_both, unless_true, within_less, less_within, all_less, less_all}

@@ -1,5 +1,5 @@
 -- Only what a constant expression's references find matters.
-use Rattle.std.proofs.Common.{◌≡◌, ℕ, ◌+◌, Bool, true, false, if◌then◌else◌, List, [], ◌∷◌, ◌++◌, Option, Some, None, Ok, Err, Result, refl, sym, ap, inl, inr, ◌∙◌}
+use Rattle.std.proofs.Common.{◌≡◌, ℕ, ◌+◌, true, List, [], ◌∷◌, Option, Some, None, Ok, Err, Result, refl, sym, ap, inl, inr, ◌∙◌}
 use Rattle.std.proofs.lemmas.Bool.{cases_Bool}
 use Rattle.std.specs.List.{AllByRecursion}
 use Rattle.wk_bytes.specs.Leb.{◌>>=◌}
@@ -21,7 +21,7 @@ use Rattle.wk_check.specs.Finds.{AreThere, Grows}
 use Rattle.wk_check.specs.Own.{TokenFault, at_token, fresh, ended}
 use Rattle.wk_check.specs.Typing.{typed, count, code_result}
 use Rattle.wk_check.proofs.All.{front, back, both}
-use Rattle.wk_check.proofs.Frames.{GoesTogether, AllFind, count_mapped, same_typed, same_effect, stays, moved_effect, type_stays}
+use Rattle.wk_check.proofs.Frames.{GoesTogether, count_mapped, same_typed, same_effect, stays, moved_effect, type_stays}
 use Rattle.wk_check.proofs.ValidFinds.{all_there}
 
 module _ (f : Plain → Plain) (g : Ref → Ref) (A1 A2 : Ref → Found) (goes : GoesTogether f g A1 A2) (constants : (p : Plain) → AllByRecursion (λ r. A2 (g r) ≡ A1 r) (plain_refs p) → is_constant A2 (f p) ≡ is_constant A1 p) where

@@ -1,10 +1,9 @@
 -- Where index spaces hold all that they held and more, nothing goes wrong with what was there.
-use Rattle.std.proofs.Common.{◌≡◌, ℕ, ◌+◌, ◌<◌, ◌≤◌, nat_lt, Bool, true, false, List, [], ◌∷◌, ◌++◌, length, map, take, Option, Some, None, refl, sym, ap, subst, ◌∙◌, arith}
+use Rattle.std.proofs.Common.{◌≡◌, ℕ, ◌≤◌, true, List, [], ◌∷◌, length, map, take, Option, Some, None, refl, ap, subst, ◌∙◌, arith}
 use Rattle.std.proofs.lemmas.List.{map-id}
 use Rattle.std.specs.List.{AllByRecursion}
 use Rattle.wk_body.specs.declared.references.Ref.{Ref}
 use Rattle.wk_body.specs.declared.references.Ref.TheVariants as refs
-use Rattle.wk_body.specs.declared.types.ValType.TheVariants.{I32}
 use Rattle.wk_body.specs.References.{refs_of}
 use Rattle.wk_module.specs.declared.types.FuncType.{FuncType}
 use Rattle.wk_module.specs.declared.types.Func.{Func}
@@ -18,22 +17,20 @@ use Rattle.wk_module.specs.declared.types.ImportDesc.TheVariants as desc
 use Rattle.wk_module.specs.declared.types.Kind.{Kind}
 use Rattle.wk_module.specs.declared.types.Kind.TheVariants as kinds
 use Rattle.wk_check.specs.declared.fault.FaultKind.{FaultKind}
-use Rattle.wk_check.specs.declared.fault.FaultKind.TheVariants.{UnknownType, UnknownFunc, UnknownTable, UnknownMemory, UnknownGlobal, StartType}
+use Rattle.wk_check.specs.declared.fault.FaultKind.TheVariants.{UnknownType, UnknownFunc, UnknownTable, UnknownMemory, UnknownGlobal}
 use Rattle.wk_check.specs.declared.fault.BodyVerdict.TheVariants as bodies
 use Rattle.wk_check.specs.Answers.{Found, FuncIs}
 use Rattle.wk_check.specs.Carried.{Agree}
-use Rattle.wk_check.specs.Constants.{constant_flaw}
 use Rattle.wk_check.specs.Finds.{is_there, Grows}
 use Rattle.wk_check.specs.Flaws.{numbered, AreFine}
-use Rattle.wk_check.specs.Items.{unless, within, all_within, import_flaw, global_flaw, elem_flaw, data_flaw, index_flaw, export_flaw, is_start, start_flaw, start_flaws, body_flaw}
+use Rattle.wk_check.specs.Items.{within, import_flaw, global_flaw, elem_flaw, data_flaw, index_flaw, export_flaw, is_start, start_flaws, body_flaw}
 use Rattle.wk_check.specs.Spaces.{Spaces, answer_in}
-use Rattle.wk_check.specs.Typing.{body_verdict}
 use Rattle.wk_check.specs.Verdict.{func_verdict}
 use Rattle.wk_check.proofs.CarriedItems.{Carries, carried_elem, exports_carried, start_carried, elems_carried, datas_carried}
 use Rattle.wk_check.proofs.ConstantFrames.{agree, constant_fine}
 use Rattle.wk_check.proofs.FlawLists.{still_fine}
 use Rattle.wk_check.proofs.Frames.{frame}
-use Rattle.wk_check.proofs.Valid.{is_valid, both_none, none_both, unless_true, within_less, less_within, all_less, less_all}
+use Rattle.wk_check.proofs.Valid.{is_valid, within_less, less_within}
 use Rattle.wk_check.proofs.ValidFinds.{valid_finds}
 
 -- ---- indexes

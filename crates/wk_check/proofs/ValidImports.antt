@@ -1,12 +1,9 @@
 -- A valid module to which an import comes: its verdict is what is wrong with the import, or that its own table or memory is one too many.
-use Rattle.std.proofs.Common.{◌≡◌, ℕ, ◌+◌, ◌<◌, ◌≤◌, ◌==◌, nat_lt, Bool, true, false, if◌then◌else◌, List, [], ◌∷◌, ◌++◌, length, map, Option, Some, None, refl, sym, ap, subst, ◌∙◌, inl, inr, arith, length-append}
-use Rattle.std.proofs.lemmas.Bool.{cases_Bool, cases_lt, lt-leb, le-leb, cond-false, cond-true, ltb-true, le-ltb}
+use Rattle.std.proofs.Common.{◌≡◌, ℕ, ◌+◌, ◌≤◌, ◌==◌, if◌then◌else◌, List, [], ◌∷◌, ◌++◌, length, map, Option, Some, None, refl, sym, ap, subst, ◌∙◌, inl, inr, arith, length-append}
+use Rattle.std.proofs.lemmas.Bool.{cases_Bool, cases_lt, lt-leb, le-leb, cond-false, cond-true, le-ltb}
 use Rattle.std.proofs.lemmas.Bool.Decides.{same_from_decides, Decides-eqb}
-use Rattle.std.proofs.lemmas.List.{length-map}
 use Rattle.std.specs.List.{AllByRecursion}
 use Rattle.wk_body.specs.References.{moved}
-use Rattle.wk_body.specs.Tree.{Instrs}
-use Rattle.wk_body.specs.declared.types.ValType.{ValType}
 use Rattle.wk_module.specs.declared.types.Func.{Func}
 use Rattle.wk_module.specs.declared.types.GlobalDef.{GlobalDef}
 use Rattle.wk_module.specs.declared.types.Import.{Import}
@@ -32,16 +29,16 @@ use Rattle.wk_check.specs.declared.fault.Verdict.TheVariants.{Valid}
 use Rattle.wk_check.specs.Flaws.{numbered, first_in, first_fault, verdict_by, AreFine}
 use Rattle.wk_check.specs.Growth.{crowded, crowded_by}
 use Rattle.wk_check.specs.Items.{earlier, unless, within, alone, in_order, in_range, table_flaw, memory_flaw, import_flaw, global_flaw, index_flaw, start_flaws, body_flaw}
-use Rattle.wk_check.specs.Spaces.{Spaces, spaces_of, and_more, imported, func_in, table_in, memory_in, global_in}
+use Rattle.wk_check.specs.Spaces.{Spaces, spaces_of, imported, func_in, table_in, memory_in, global_in}
 use Rattle.wk_check.specs.SpacesLaws.{answers_of, imported_aside, imported_last, imported_funcs, imported_globals}
-use Rattle.wk_check.specs.Verdict.{type_flaws, import_flaws, func_flaws, table_flaws, memory_flaws, global_flaws, export_flaws, elem_flaws, code_flaws, data_flaws, func_verdict, module_verdict, module_flaws}
+use Rattle.wk_check.specs.Verdict.{type_flaws, import_flaws, func_flaws, table_flaws, memory_flaws, global_flaws, export_flaws, elem_flaws, code_flaws, data_flaws, func_verdict, module_verdict}
 use Rattle.wk_check.proofs.CarriedItems.{Carries, exports_carried, start_carried, elems_carried, datas_carried}
 use Rattle.wk_check.proofs.FlawLists.{none_in, fine_map, none_from, first_behind, behind, numbered_behind, behind_push, length-behind}
 use Rattle.wk_check.proofs.Flaws.{earlier_none, module_flaws_are}
 use Rattle.wk_check.proofs.Imported.{imported_tables, imported_memories}
 use Rattle.wk_check.proofs.ImportSight.{SeesStill, after, initial_of, func_sees, table_sees, memory_sees, global_sees}
 use Rattle.wk_check.proofs.LargerSpaces.{valid_bodies}
-use Rattle.wk_check.proofs.Valid.{both_none, within_less, less_within, unless_true}
+use Rattle.wk_check.proofs.Valid.{both_none, within_less, less_within}
 use Rattle.wk_check.proofs.ValidGrowth.{IsFine, valid_fine, pushed_in}
 
 -- ---- indexes

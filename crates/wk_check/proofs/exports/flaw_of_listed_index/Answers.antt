@@ -1,4 +1,4 @@
-use Rattle.std.proofs.Common.{◌∙◌, length, map, nat_lt, refl, sym, ap}
+use Rattle.std.proofs.Common.{◌∙◌, map, nat_lt, refl, sym, ap}
 use Rattle.std.proofs.lemmas.List.{length-map}
 use Rattle.wk_module.specs.declared.types.GlobalDef.{GlobalDef}
 use Rattle.wk_module.specs.Imports.{import_count}

@@ -1,4 +1,4 @@
-use Rattle.std.proofs.Common.{◌≡◌, ◌<◌, ◌^◌, [], length, sym, ap, ◌∙◌, subst}
+use Rattle.std.proofs.Common.{◌≡◌, [], sym, ap, ◌∙◌, subst}
 use Rattle.std.proofs.lemmas.Result.{IfOk-weaker}
 use Rattle.wk_module.specs.Listed.{listed}
 use Rattle.wk_module.specs.declared.types.Parts.{Parts}
@@ -6,7 +6,6 @@ use Rattle.wk_check.specs.declared.fault.Verdict.{Verdict}
 use Rattle.wk_check.specs.Verdict.{module_verdict, IsVerdict, IsNotArity, extended}
 use Rattle.wk_check.proofs.Flaws.{verdict_of_lists, module_verdict_told, verdict_extended}
 use Rattle.wk_check.proofs.Valid.{valid_exactly}
-use Rattle.std.proofs.lemmas.List.{length-map}
 use Rattle.wk_module.specs.Listed.{AreNumbered}
 use Rattle.wk_module.specs.NumberedLaws.{funcs_numbered, module_numbered_with}
 use Rattle.wk_module.specs.Sections.{FunctionSection}
