@@ -9,12 +9,12 @@ use Rattle.wk_body.specs.Reading.{after, token_at, With, in_front, parts_at, exp
 use Rattle.wk_body.specs.TokenReadingLaws.{token_shorter}
 use Rattle.wk_body.specs.ToWrite.{to_write, IsNoElse, Parted}
 use Rattle.wk_body.specs.Copying.{Copying}
-use Rattle.wk_body.proofs.Loop.{one_more, one_fails, one_last, moved_end}
+use Rattle.wk_body.proofs.Loop.{one_more, one_last, moved_end}
 use Rattle.wk_body.proofs.WrittenSteps.{token_step, else_step, else_gone}
 use Rattle.wk_body.proofs.WrittenParts.{parts_len}
 
 pub begins : (profile : Profile) (from : Span) → Copying profile from [] from []
-begins profile from = record { same_end = refl; steps = suc (length from.rest); enough = omega arith; gives = λ x e. (x, e, refl, refl); fails = λ e h. h }
+begins profile from = record { same_end = refl; steps = suc (length from.rest); enough = omega arith; gives = λ x e. (x, e, refl, refl) }
 
 -- a step that adds these bytes, where they are what the token adds before the parts that are read behind it
 step : (profile : Profile) (from at to : Span) (ks next : List Bool) (t : Tok) (w add : List ℕ) → to.end ≡ at.end → token_at profile ks at.end at.rest ≡ Ok (t, to.rest) → after t ks ≡ Some next
@@ -31,7 +31,6 @@ step profile from at to ks next t w add same is a adds u (suc n) s =
       gives = λ x e.
           let y = u.gives (before t x.0, x.1) (whole ∙ ap (in_front t) e) in
           (y.0, y.1, y.2, y.3 ∙ ap (λ (b : List ℕ). w ++ b) (adds n x e) ∙ sym (append_assoc w add (to_write next x.0)));
-      fails = λ f e. u.fails f (whole ∙ ap (in_front t) e);
     }
 
 -- a token that is no else
@@ -76,14 +75,3 @@ ending profile from at to w is u (suc n) s =
 
 pub ends : (profile : Profile) (from at to : Span) (w : List ℕ) → token_at profile [] at.end at.rest ≡ Ok (Close, to.rest) → Copying profile from [] at w → (t : Instrs) × (expr_at profile from.end from.rest ≡ Ok (t, to.rest)) × (written_expr t ≡ w ++ 0x0B ∷ [])
 ends profile from at to w is u = ending profile from at to w is u u.steps refl
-
-failing : (profile : Profile) (from at : Span) (ks : List Bool) (w : List ℕ) (f : ReadFault) → token_at profile ks at.end at.rest ≡ Err f → (u : Copying profile from ks at w) → (n : ℕ) → n ≡ u.steps → expr_at profile from.end from.rest ≡ Err f
-unfolding expr_at
-failing profile from at ks w f is u zero s = absurd (omega (arith, u.enough, s))
-failing profile from at ks w f is u (suc n) s =
-    let here : token_at profile ks from.end at.rest ≡ Err f = moved_end profile ks at.rest at.end from.end (Err f) u.same_end is in
-    let whole : parts_at profile (suc (length from.rest)) [] from.end from.rest ≡ Err f = u.fails f (ap (λ (k : ℕ). parts_at profile k ks from.end at.rest) (sym s) ∙ one_fails profile n from.end ks at.rest f here) in
-    rw whole refl
-
-pub fails : (profile : Profile) (from at : Span) (ks : List Bool) (w : List ℕ) (f : ReadFault) → token_at profile ks at.end at.rest ≡ Err f → Copying profile from ks at w → expr_at profile from.end from.rest ≡ Err f
-fails profile from at ks w f is u = failing profile from at ks w f is u u.steps refl

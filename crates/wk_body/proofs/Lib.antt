@@ -31,3 +31,5 @@ pub mod ElseBranch
 pub mod CopyingLoop
 pub mod Walking
 pub mod Immediates
+pub mod Rewriting
+pub mod RewrittenBody

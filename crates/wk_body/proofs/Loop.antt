@@ -48,7 +48,7 @@ pub one_more : (profile : Profile) (n end : ℕ) (ks next : List Bool) (rest beh
 unfolding parts_at
 one_more profile n end ks next rest behind t e h = rw (e, h) refl
 
-pub one_fails : (profile : Profile) (n end : ℕ) (ks : List Bool) (rest : List ℕ) (f : ReadFault) → token_at profile ks end rest ≡ Err f → parts_at profile (suc n) ks end rest ≡ Err f
+one_fails : (profile : Profile) (n end : ℕ) (ks : List Bool) (rest : List ℕ) (f : ReadFault) → token_at profile ks end rest ≡ Err f → parts_at profile (suc n) ks end rest ≡ Err f
 unfolding parts_at
 one_fails profile n end ks rest f e = rw e refl
 

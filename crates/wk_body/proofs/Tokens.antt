@@ -27,7 +27,7 @@ use Rattle.wk_body.proofs.Labels.{told-grow}
 no_longer : (front bytes rest : List ℕ) → bytes ≡ front ++ rest → length rest ≤ length bytes
 no_longer front bytes rest e = omega (arith, ap (length {A = ℕ}) e, length-append front rest)
 
-here_shorter : (profile : Profile) (ks : List Bool) (d : ReadFault) (end : ℕ) (bytes rest : List ℕ) (ty : BlockType) → type_here profile ks d end bytes ≡ Ok (ty, rest) → length rest ≤ length bytes
+pub here_shorter : (profile : Profile) (ks : List Bool) (d : ReadFault) (end : ℕ) (bytes rest : List ℕ) (ty : BlockType) → type_here profile ks d end bytes ≡ Ok (ty, rest) → length rest ≤ length bytes
 unfolding type_here
 here_shorter profile ks d end bytes rest ty e =
     elim (chosen (ltb (length ks) depth_limit) (type_at profile end bytes) (Err d) (Ok (ty, rest)) e) [

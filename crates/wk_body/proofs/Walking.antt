@@ -44,8 +44,7 @@ labels_begin count out from = ([], labels_start [] count from.cursor refl, adds_
 
 pub labels_one : (count i n : ℕ) (out after last : List ℕ) (from to end : Walk) → i < count → LabelsPassed count (count - i) out from after to → Passed u32_at n (short n) after to last end → LabelsPassed count (count - (i + 1)) out from last end
 labels_one count i n out after last from to end lt h p =
-    let all = flat_map-append short h.0 (n ∷ []) ∙ ap (λ (b : List ℕ). flat_map short h.0 ++ b) (append-nil (short n)) in
-    (
+    let all = flat_map-append short h.0 (n ∷ []) ∙ ap (λ (b : List ℕ). flat_map short h.0 ++ b) (append-nil (short n)) in (
       h.0 ++ n ∷ [],
       labels_more h.0 count i n from.cursor to.cursor end.cursor _ lt (p.is, p.same_end) h.1,
       subst (λ (b : List ℕ). Adds b out from last end) (sym all) (adds_then (flat_map short h.0) (short n) out after last from to end h.2 p.adds),
@@ -61,8 +60,7 @@ pub table_passed : (count other : ℕ) (labels : List ℕ) (out counted labelled
     → Passed u32_at other (short other) labelled b last to → (t : List ℕ × ℕ) × Passed labels_at t (written_vector short t.0 ++ short t.1) out from last to
 table_passed count other labels out counted labelled last from a b to p q r =
     let long : length labels ≡ count = items_length count a.cursor.end a.cursor.rest (labels, b.cursor.rest) q.is in
-    let three = adds_then (short count ++ flat_map short labels) (short other) out labelled last from b to (adds_then (short count) (flat_map short labels) out counted labelled from a b p.adds q.adds) r.adds in
-    (
+    let three = adds_then (short count ++ flat_map short labels) (short other) out labelled last from b to (adds_then (short count) (flat_map short labels) out counted labelled from a b p.adds q.adds) r.adds in (
       (labels, other),
       record {
         is = labels_read from.cursor a.cursor b.cursor to.cursor labels count other (p.is, p.same_end) (q.is, q.same_end) (r.is, r.same_end);

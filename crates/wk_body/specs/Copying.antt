@@ -1,6 +1,5 @@
 -- An expression of which a front is read and written again, token by token.
-use Rattle.std.specs.Prelude.{◌≡◌, ℕ, suc, ◌<◌, List, [], ◌++◌, length, Bool, Result, Ok, Err}
-use Rattle.wk_bytes.specs.declared.fault.ReadFault.{ReadFault}
+use Rattle.std.specs.Prelude.{◌≡◌, ℕ, suc, ◌<◌, List, [], ◌++◌, length, Bool, Ok}
 use Rattle.wk_bytes.specs.Span.{Span}
 use Rattle.wk_body.specs.declared.types.Profile.{Profile}
 use Rattle.wk_body.specs.Reading.{With, parts_at}
@@ -13,4 +12,3 @@ pub record Copying (profile : Profile) (from : Span) (ks : List Bool) (at : Span
   pub steps : ℕ
   pub enough : length at.rest < steps
   pub gives : (x : With) → parts_at profile steps ks from.end at.rest ≡ Ok x → (y : With) × (parts_at profile (suc (length from.rest)) [] from.end from.rest ≡ Ok y) × (y.1 ≡ x.1) × (to_write [] y.0 ≡ written ++ to_write ks x.0)
-  pub fails : (e : ReadFault) → parts_at profile steps ks from.end at.rest ≡ Err e → parts_at profile (suc (length from.rest)) [] from.end from.rest ≡ Err e

@@ -1,11 +1,13 @@
 -- A code that is read and written again: what is written of it, and the run of its bytes that is still to be copied.
-use Rattle.std.specs.Prelude.{◌≡◌, ℕ, List, ◌∷◌, ◌++◌, Result, Ok}
+use Rattle.std.specs.Prelude.{◌≡◌, ℕ, Bool, true, false, List, ◌∷◌, ◌++◌, Result, Ok}
 use Rattle.wk_bytes.specs.declared.fault.ReadFault.{ReadFault}
 use Rattle.wk_body.specs.declared.walk.Walk.{Walk}
 use Rattle.wk_body.specs.declared.types.Profile.{Profile}
 use Rattle.wk_body.specs.Instructions.{Plain}
-use Rattle.wk_body.specs.Reading.{plain_at}
-use Rattle.wk_body.specs.Written.{plain_bytes}
+use Rattle.wk_body.specs.Tree.{Instrs}
+use Rattle.wk_body.specs.Reading.{plain_at, expr_at}
+use Rattle.wk_body.specs.Written.{plain_bytes, written_expr}
+use Rattle.wk_body.specs.Copying.{Copying}
 
 -- the bytes that are written, with those of the run that lie in front of the cursor
 abbrev pub Holds : List ℕ → Walk → List ℕ → Type 0
@@ -33,3 +35,20 @@ pub record PassedPlain (profile : Profile) (opcode : ℕ) (out : List ℕ) (from
   pub bytes : List ℕ
   pub spelled : plain_bytes instr ≡ opcode ∷ bytes
   pub adds : Adds bytes out from after to
+
+-- ---- expressions
+
+-- behind that opcode
+pub record Behind (opcode : ℕ) (from to : Walk) : Type 0 where
+  pub parts : from.cursor.rest ≡ opcode ∷ to.cursor.rest
+  pub same_end : to.cursor.end ≡ from.cursor.end
+  pub same_run : to.run.now ≡ from.run.now
+
+-- of an expression that stands at the cursor of `from`, all in front of the cursor of `to` is read and written, and these blocks are open
+abbrev pub Going : Profile → List ℕ → Walk → List Bool → List ℕ → Walk → Type 0
+Going profile out from ks after to = (written : List ℕ) × Copying profile from.cursor ks to.cursor written × Adds written out from after to
+
+-- or all of it is
+abbrev pub Goes : Bool → Profile → List ℕ → Walk → List Bool → List ℕ → Walk → Type 0
+Goes false profile out from ks after to = Going profile out from ks after to
+Goes true profile out from ks after to = (t : Instrs) × Passed (expr_at profile) t (written_expr t) out from after to

@@ -1,19 +1,236 @@
 //! Writes a code again while it is read once.
 
-ghost use Rattle.std.specs.Prelude.{◌≡◌, ◌++◌, Ok, OnErr, IfErr, MatchResult};
+ghost use Rattle.std.specs.Prelude.{◌≡◌, ◌++◌, ◌-◌, ◌∷◌, [], ℕ, List, length, take, Ok, OnErr, IfErr, IfSome, MatchResult};
+ghost use Rattle.std.specs.List.{flat_map};
+ghost use Rattle.wk_bytes.specs.declared.fault.ReadKind.TheVariants.{TooDeep};
 ghost use Rattle.wk_bytes.specs.Stands.{StandsOrMemory};
+ghost use Rattle.wk_body.specs.declared.types.LocalGroup.{LocalGroup};
+ghost use Rattle.wk_body.specs.declared.walk.Walk.{Walk};
+ghost use Rattle.wk_body.specs.ValTypes.{valtype_byte, valtype_at};
+ghost use Rattle.wk_body.specs.Vectors.{written_vector};
+ghost use Rattle.wk_body.specs.Tree.{Instrs};
 ghost use Rattle.wk_body.specs.Reads.{FailsAs};
-ghost use Rattle.wk_body.specs.Reading.{all_body_at};
-ghost use Rattle.wk_body.specs.Written.{written_body};
+ghost use Rattle.wk_body.specs.Reading.{type_here, groups_at, expr_at, all_body_at};
+ghost use Rattle.wk_body.specs.TokenReading.{local_groups_at};
+ghost use Rattle.wk_body.specs.TokenSteps.{Opens};
+ghost use Rattle.wk_body.specs.Written.{type_bytes, written_group, written_expr, written_body};
+ghost use Rattle.wk_body.specs.Walks.{Passed, Kept, Behind, Going, Goes};
 ghost use Rattle.wk_body.specs.Bodies.{BodyOf};
 
+use crate::length::type_len;
+use crate::reader::{at_end, local_type};
+use crate::reading::are_bytes;
 use crate::scratch::Scratch;
-use crate::types::Profile;
-use crate::writing::append_body;
+use crate::token_reader::TokenReader;
+use crate::types::{BlockType, Profile, ValType};
+use crate::walk::{Walk, write_run};
+use crate::writing::{append_body, put_type};
 use std::alloc::Global;
 use wk_bytes::{Cursor, ReadFault};
 
-// The written form of a body that is read first, whole.
+// Writes the run in front of a block type, and the type.
+#[inline(never)]
+fn respell_type(out: &mut Vec<u8>, run: &[u8], left: usize, ty: BlockType) -> Option<()>
+    ensures { IfSome result (λ _. out.new.items ≡ (out.old.items ++ take (length run.now - left) run.now) ++ type_bytes ty) }
+{
+    write_run(out, run, left)?;
+    put_type(out, ty).ok()
+}
+
+// The type of a block that opens here, behind its opcode, which stands at `at`.
+#[inline(always)]
+fn pass_type(
+    profile: Profile,
+    at: u32,
+    reader: &TokenReader,
+    walk: &mut Walk<'_>,
+    out: &mut Vec<u8>,
+) -> Option<BlockType>
+    ensures { IfSome result (λ ty. Passed (type_here profile reader.now.kinds (record { kind = TooDeep; at = at })) ty (type_bytes ty) out.old.items walk.old out.new.items walk.new) }
+{
+    // The proof asks what this says: each byte is below 256.
+    are_bytes(walk.cursor.rest());
+    let left = walk.cursor.rest().len();
+    let Ok(ty) = reader.opening(profile, at, &mut walk.cursor) else {
+        return None;
+    };
+    let rest = walk.cursor.rest();
+    if (left - rest.len()) as u64 != type_len(ty) {
+        respell_type(out, walk.run, left, ty)?;
+        walk.run = rest;
+    }
+    Some(ty)
+}
+
+// A block opens here, behind its opcode, which stands at `at`.
+#[inline(always)]
+fn pass_opening(
+    profile: Profile,
+    at: u32,
+    is_if: bool,
+    reader: &mut TokenReader,
+    walk: &mut Walk<'_>,
+    out: &mut Vec<u8>,
+) -> Option<BlockType>
+    ensures passed { IfSome result (λ ty. Passed (type_here profile reader.old.kinds (record { kind = TooDeep; at = at })) ty (type_bytes ty) out.old.items walk.old out.new.items walk.new) }
+    ensures opened { IfSome result (λ _. Opens is_if reader.old reader.new) }
+{
+    let ty = pass_type(profile, at, reader, walk, out)?;
+    let Ok(()) = reader.open(is_if) else {
+        return None;
+    };
+    Some(ty)
+}
+
+// An else, behind its opcode, before which `left` bytes were left. It goes where its branch is empty.
+#[inline(always)]
+fn pass_else(
+    left: usize,
+    reader: &mut TokenReader,
+    walk: &mut Walk<'_>,
+    out: &mut Vec<u8>,
+) -> Option<()>
+    ensures { (profile : Profile) (before : List ℕ) (from at : Walk) → Behind 0x05 at walk.old → left ≡ length at.cursor.rest → Going profile before from reader.old.kinds out.old.items at
+        → IfSome result (λ _. Going profile before from reader.new.kinds out.new.items walk.new) }
+{
+    let at = walk.cursor.at();
+    let Ok(_) = reader.other(at) else {
+        return None;
+    };
+    let rest = walk.cursor.rest();
+    let (next, _) = rest.split_first()?;
+    if *next == 0x0B {
+        write_run(out, walk.run, left)?;
+        walk.run = rest;
+    }
+    Some(())
+}
+
+// A token. Whether it is the end that closes no block.
+#[inline(always)]
+fn pass_token(
+    profile: Profile,
+    reader: &mut TokenReader,
+    walk: &mut Walk<'_>,
+    out: &mut Vec<u8>,
+) -> Option<bool>
+    ensures { (before : List ℕ) (from : Walk) → Going profile before from reader.old.kinds out.old.items walk.old
+        → IfSome result (λ last. Goes last profile before from reader.new.kinds out.new.items walk.new) }
+{
+    let at = walk.cursor.at();
+    let left = walk.cursor.rest().len();
+    let Ok(opcode) = walk.cursor.byte() else {
+        return None;
+    };
+    match opcode {
+        0x0B => match reader.close() {
+            Some(_) => Some(false),
+            None => Some(true),
+        },
+        0x05 => {
+            pass_else(left, reader, walk, out)?;
+            Some(false)
+        }
+        0x02 => {
+            pass_opening(profile, at, false, reader, walk, out)?;
+            Some(false)
+        }
+        0x03 => {
+            pass_opening(profile, at, false, reader, walk, out)?;
+            Some(false)
+        }
+        0x04 => {
+            pass_opening(profile, at, true, reader, walk, out)?;
+            Some(false)
+        }
+        _ => {
+            walk.pass_plain(profile, opcode, out)?;
+            Some(false)
+        }
+    }
+}
+
+// The instructions up to their end.
+fn pass_expr(
+    profile: Profile,
+    reader: &mut TokenReader,
+    walk: &mut Walk<'_>,
+    out: &mut Vec<u8>,
+) -> Option<()>
+    ensures { IfSome result (λ _. (t : Instrs) × Passed (expr_at profile) t (written_expr t) out.old.items walk.old out.new.items walk.new) }
+{
+    reader.begin();
+    for _ in 0..walk.cursor.rest().len() {
+        if pass_token(profile, reader, walk, out)? {
+            return Some(());
+        }
+    }
+    None
+}
+
+// A local group's type.
+#[inline(always)]
+fn pass_valtype(walk: &mut Walk<'_>) -> Option<ValType>
+    ensures { IfSome result (λ ty. Kept valtype_at ty (valtype_byte ty ∷ []) walk.old walk.new) }
+{
+    // The proof asks what this says: each byte is below 256.
+    are_bytes(walk.cursor.rest());
+    let Ok(ty) = local_type(&mut walk.cursor) else {
+        return None;
+    };
+    Some(ty)
+}
+
+// So many local groups.
+fn pass_groups(count: u32, walk: &mut Walk<'_>, out: &mut Vec<u8>) -> Option<()>
+    ensures { IfSome result (λ _. (groups : List LocalGroup) × (length groups ≡ count) × Passed (groups_at count 0) groups (flat_map written_group groups) out.old.items walk.old out.new.items walk.new) }
+{
+    let mut declared: u32 = 0;
+    for _ in 0..count {
+        let count = walk.pass_u32(out)?;
+        let Some(sum) = declared.checked_add(count) else {
+            return None;
+        };
+        pass_valtype(walk)?;
+        declared = sum;
+    }
+    Some(())
+}
+
+// The local groups of a body.
+fn pass_locals(walk: &mut Walk<'_>, out: &mut Vec<u8>) -> Option<()>
+    ensures { IfSome result (λ _. (groups : List LocalGroup) × Passed local_groups_at groups (written_vector written_group groups) out.old.items walk.old out.new.items walk.new) }
+{
+    let count = walk.pass_u32(out)?;
+    pass_groups(count, walk, out)?;
+    Some(())
+}
+
+// Writes the body that all that the cursor has left spells to an empty room, or answers nothing where anything is unclear.
+fn rewrite(
+    profile: Profile,
+    reader: &mut TokenReader,
+    cursor: &Cursor<'_>,
+    out: &mut Vec<u8>,
+) -> Option<()>
+    ensures { IfSome result (λ _. (b : BodyOf) × (all_body_at profile cursor.now.end cursor.now.rest ≡ Ok b) × (out.new.items ≡ written_body b)) }
+{
+    out.clear();
+    out.reserve(cursor.rest().len()).ok()?;
+    let mut walk = Walk {
+        cursor: cursor.ahead(),
+        run: cursor.rest(),
+    };
+    pass_locals(&mut walk, out)?;
+    pass_expr(profile, reader, &mut walk, out)?;
+    let Ok(()) = at_end(&walk.cursor) else {
+        return None;
+    };
+    write_run(out, walk.run, 0)?;
+    Some(())
+}
+
+// The written form of a body that is read first, whole: so the first fault of reading is answered where there is one.
 fn append_read(
     alloc: Global,
     scratch: &mut Scratch,
@@ -55,6 +272,10 @@ impl Scratch {
         ensures left { OnErr result (out.new.items ≡ out.old.items) }
         ensures fault { IfErr result (λ e. StandsOrMemory cursor.now e) }
     {
+        if rewrite(profile, &mut self.reader, cursor, &mut self.written).is_some() {
+            out.extend_from_slice(&self.written)?;
+            return Ok(());
+        }
         append_read(alloc, self, out, cursor, profile)
     }
 }

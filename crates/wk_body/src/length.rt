@@ -30,7 +30,7 @@ fn signed_len(z: i64) -> u64
 }
 
 // The bytes of a block type.
-fn type_len(ty: BlockType) -> u64
+pub(crate) fn type_len(ty: BlockType) -> u64
     ensures len { result ≡ length (type_bytes ty) }
     ensures few { result ≤ 10 }
 {

@@ -49,7 +49,7 @@ impl Scratch {
 
 // A local group's type.
 #[tactic(auto, unfolding(crate::specs::ValTypes::valtype_at))]
-fn local_type(cursor: &mut Cursor<'_>) -> Result<ValType, ReadFault>
+pub(crate) fn local_type(cursor: &mut Cursor<'_>) -> Result<ValType, ReadFault>
     ensures { Parses (λ x. x) valtype_at cursor.old result cursor.new }
 {
     let at = cursor.at();
@@ -108,7 +108,7 @@ fn body_front(
 }
 
 // What was read took all of the bytes.
-fn at_end(cursor: &Cursor<'_>) -> Result<(), ReadFault>
+pub(crate) fn at_end(cursor: &Cursor<'_>) -> Result<(), ReadFault>
     ensures { MatchResult result
         (λ _. cursor.now.rest ≡ [])
         (λ e. (e ≡ fault BodySize cursor.now.end cursor.now.rest) × (cursor.now.rest ≢ [])) }

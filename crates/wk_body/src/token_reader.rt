@@ -103,7 +103,7 @@ impl TokenReader {
     // The type of a block that opens here, behind its opcode, which stands at `at`.
     #[tactic(auto, unfolding(crate::specs::Reading::type_here))]
     #[inline(always)]
-    fn opening(
+    pub(crate) fn opening(
         &self,
         profile: Profile,
         at: u32,
@@ -123,7 +123,7 @@ impl TokenReader {
 
     // A block opens.
     #[inline(always)]
-    fn open(&mut self, is_if: bool) -> Result<(), ReadFault>
+    pub(crate) fn open(&mut self, is_if: bool) -> Result<(), ReadFault>
         ensures opened { OnOk result (Opens is_if self.old self.new) }
         ensures fault { IfErr result (λ e. e ≡ no_memory) }
     {
@@ -147,7 +147,7 @@ impl TokenReader {
 
     // An end: of the innermost block, or of the expression.
     #[inline(always)]
-    fn close(&mut self) -> Option<Token>
+    pub(crate) fn close(&mut self) -> Option<Token>
         ensures { Closes result self.old self.new }
     {
         match self.blocks.pop() {
@@ -158,7 +158,7 @@ impl TokenReader {
 
     // An else, whose opcode stands at `at`.
     #[inline(always)]
-    fn other(&mut self, at: u32) -> Result<Token, ReadFault>
+    pub(crate) fn other(&mut self, at: u32) -> Result<Token, ReadFault>
         ensures { MatchResult result
             (λ t. StartsElse self.old self.new t)
             (λ e. FailsAs e e.kind (if may_else self.old.kinds then Ok self.old.kinds else Err (record { kind = UnknownOpcode; at = at }))) }

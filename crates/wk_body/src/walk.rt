@@ -18,6 +18,7 @@ use crate::types::Profile;
 use wk_bytes::{Cursor, leb_len_s64, leb_len_u32, put_s64, put_u32};
 
 /// A code that is read, and the run of its bytes from the first that is not written yet.
+#[derive(Drop)]
 pub(crate) struct Walk<'a> {
     pub(crate) cursor: Cursor<'a>,
     pub(crate) run: &'a [u8],
@@ -162,7 +163,12 @@ impl Walk<'_> {
 
     // What stands behind the opcode of an instruction that holds no others.
     #[inline(always)]
-    pub(crate) fn pass_plain(&mut self, profile: Profile, opcode: u8, out: &mut Vec<u8>) -> Option<()>
+    pub(crate) fn pass_plain(
+        &mut self,
+        profile: Profile,
+        opcode: u8,
+        out: &mut Vec<u8>,
+    ) -> Option<()>
         ensures { IfSome result (λ _. PassedPlain profile opcode out.old.items self.old out.new.items self.new) }
     {
         match layout_of(profile, opcode)? {

@@ -54,7 +54,7 @@ fn put_numbers(out: &mut Vec<u8>, numbers: &[u32]) -> Result<(), OutOfMemory>
 }
 
 // A block type (5.3.2).
-fn put_type(out: &mut Vec<u8>, ty: BlockType) -> Result<(), OutOfMemory>
+pub(crate) fn put_type(out: &mut Vec<u8>, ty: BlockType) -> Result<(), OutOfMemory>
     ensures ok { OnOk result (out.new.items ≡ out.old.items ++ type_bytes ty) }
     ensures err { OnErr result (out.new.items ≡ out.old.items) }
 {
