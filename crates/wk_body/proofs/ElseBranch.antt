@@ -1,5 +1,5 @@
 -- Whether an else branch that begins at a place is empty: the next byte tells.
-use Rattle.std.proofs.Common.{◌≡◌, ◌≢◌, ℕ, zero, suc, Bool, true, false, cond, eqb, List, [], ◌∷◌, length, ◌-◌, Option, Some, None, Result, Ok, Err, refl, sym, ap, subst, ◌∙◌, arith, inl, inr}
+use Rattle.std.proofs.Common.{◌≡◌, ◌≢◌, ℕ, zero, suc, Bool, true, false, cond, eqb, List, [], ◌∷◌, length, ◌-◌, Option, Some, None, Result, Ok, Err, refl, sym, ap, subst, ◌∙◌, arith}
 use Rattle.wk_bytes.specs.declared.fault.ReadKind.TheVariants.{UnknownOpcode, TooDeep}
 use Rattle.wk_body.specs.declared.types.BlockKind.TheVariants as kinds
 use Rattle.wk_bytes.specs.declared.fault.ReadFault.{ReadFault}
@@ -7,8 +7,7 @@ use Rattle.wk_bytes.specs.Leb.{◌>>=◌}
 use Rattle.wk_bytes.specs.SpanLaws.{ok_is}
 use Rattle.wk_body.specs.declared.types.Profile.{Profile}
 use Rattle.wk_body.specs.declared.types.BlockType.{BlockType}
-use Rattle.wk_body.specs.Instructions.{Plain}
-use Rattle.wk_body.specs.Tree.{Instrs, Finish, Tok, Simple, Open, OpenIf, Otherwise, Close, Part, before, first_part}
+use Rattle.wk_body.specs.Tree.{Finish, Tok, Simple, Open, OpenIf, Otherwise, Close, Part, before, first_part}
 use Rattle.wk_body.specs.Reading.{after, behind_at, opening_at, plain_at, type_here, token_at, then_on, With, in_front, parts_at}
 use Rattle.wk_body.specs.ToWrite.{Parted}
 use Rattle.wk_body.proofs.Loop.{one_more}

@@ -1,5 +1,5 @@
 -- Instructions that hold no others, of which what stands behind the opcode was passed over.
-use Rattle.std.proofs.Common.{◌≡◌, ℕ, ℤ, cond, eqb, inl, inr, List, [], ◌∷◌, ◌++◌, Option, Some, None, Result, Ok, refl, sym, ap, subst, ◌∙◌}
+use Rattle.std.proofs.Common.{◌≡◌, ℕ, ℤ, cond, eqb, inl, inr, List, [], ◌∷◌, ◌++◌, Option, Some, None, Ok, refl, sym, ap, subst, ◌∙◌}
 use Rattle.std.proofs.lemmas.Bool.{eqb-true}
 use Rattle.byteorder.specs.Endian.{little_bytes}
 use Rattle.wk_bytes.specs.declared.fault.ReadFault.{ReadFault}

@@ -1,33 +1,24 @@
 -- A code that is written again while it is read, token by token.
-use Rattle.std.proofs.Common.{◌≡◌, ◌≢◌, ℕ, ◌+◌, ◌-◌, ◌<◌, ◌≤◌, ◌^◌, Bool, true, false, cond, eqb, ltb, inl, inr, List, [], ◌∷◌, ◌++◌, length, take, Some, Ok, Err, refl, sym, ap, subst, ◌∙◌, arith, length-append}
-use Rattle.std.specs.List.{flat_map}
+use Rattle.std.proofs.Common.{◌≡◌, ◌≢◌, ℕ, ◌-◌, Bool, true, false, eqb, ltb, inl, inr, List, [], ◌∷◌, ◌++◌, length, take, Some, Ok, Err, refl, sym, ap, subst, ◌∙◌, arith, length-append}
 use Rattle.std.proofs.lemmas.Bool.{ne_eqb}
-use Rattle.std.proofs.lemmas.List.{append-nil, take_at}
+use Rattle.std.proofs.lemmas.List.{take_at}
 use Rattle.wk_bytes.specs.declared.fault.ReadKind.TheVariants.{UnknownOpcode, TooDeep}
 use Rattle.wk_bytes.specs.declared.fault.ReadFault.{ReadFault}
 use Rattle.wk_bytes.specs.LebLaws.{IsBytes, chosen}
-use Rattle.wk_bytes.specs.Short.{short}
-use Rattle.wk_bytes.specs.Span.{Span, byte_at, u32_at}
+use Rattle.wk_bytes.specs.Span.{byte_at}
 use Rattle.wk_bytes.specs.SpanLaws.{byte_at-takes}
 use Rattle.wk_body.specs.declared.types.Profile.{Profile}
 use Rattle.wk_body.specs.declared.types.BlockType.{BlockType}
 use Rattle.wk_body.specs.declared.types.BlockKind.TheVariants as kinds
-use Rattle.wk_body.specs.declared.types.LocalGroup.{LocalGroup}
-use Rattle.wk_body.specs.declared.types.ValType.{ValType}
 use Rattle.wk_body.specs.declared.walk.Walk.{Walk}
-use Rattle.wk_body.specs.ValTypes.{valtype_byte, valtype_at}
-use Rattle.wk_body.specs.Bodies.{BodyOf}
 use Rattle.wk_body.specs.Instructions.{Plain}
 use Rattle.wk_body.specs.Tree.{Instrs, Finish, Tok, Simple, Open, OpenIf, Otherwise, Close, first_part}
-use Rattle.wk_body.specs.Written.{type_bytes, tok_bytes, plain_bytes, written_expr, written_group, written_body}
-use Rattle.wk_body.specs.Vectors.{written_vector}
-use Rattle.wk_body.specs.Reading.{type_at, type_here, behind_at, token_at, tok_at, plain_at, after, may_else, With, parts_at, groups_at, expr_at, all_body_at}
-use Rattle.wk_body.specs.TokenReading.{local_groups_at}
-use Rattle.wk_body.specs.TokenReadingLaws.{body_read}
+use Rattle.wk_body.specs.Written.{type_bytes, tok_bytes, written_expr}
+use Rattle.wk_body.specs.Reading.{type_at, type_here, behind_at, token_at, plain_at, after, may_else, With, parts_at, expr_at}
 use Rattle.wk_body.specs.Shape.{depth_limit}
 use Rattle.wk_body.specs.ToWrite.{IsNoElse}
 use Rattle.wk_body.specs.Copying.{Copying}
-use Rattle.wk_body.specs.Walks.{Holds, Adds, Passed, Kept, PassedPlain, Behind, Going, Goes}
+use Rattle.wk_body.specs.Walks.{Adds, Passed, PassedPlain, Behind, Going}
 use Rattle.wk_body.proofs.Pieces.{type_takes}
 use Rattle.wk_body.proofs.OnlyShort.{type_only}
 use Rattle.wk_body.proofs.ElseBranch.{is_empty, is_full}

@@ -1,12 +1,12 @@
 -- The parts that are read behind a place, and whether an else branch that begins there is empty.
-use Rattle.std.proofs.Common.{◌≡◌, ◌≢◌, ℕ, zero, suc, Bool, true, false, List, [], ◌∷◌, ◌++◌, length, Option, Some, None, Result, Ok, Err, refl, sym, ap, subst, ◌∙◌, arith}
+use Rattle.std.proofs.Common.{◌≡◌, ℕ, zero, suc, Bool, true, false, List, [], ◌∷◌, length, Option, Some, None, Result, Ok, Err, refl, ap, subst, arith}
 use Rattle.wk_bytes.specs.declared.fault.ReadFault.{ReadFault}
 use Rattle.wk_bytes.specs.Leb.{◌>>=◌}
 use Rattle.wk_bytes.specs.SpanLaws.{ok_is}
 use Rattle.wk_body.specs.declared.types.Profile.{Profile}
-use Rattle.wk_body.specs.Tree.{Instrs, Finish, One, Block, If, Tok, Simple, Open, OpenIf, Otherwise, Close, Part, before, first_part}
+use Rattle.wk_body.specs.Tree.{Tok, Simple, Open, OpenIf, Otherwise, Close, Part, before}
 use Rattle.wk_body.specs.Reading.{after, token_at, With, in_front, then_on, parts_at}
-use Rattle.wk_body.specs.ToWrite.{Parted, IsNoElse}
+use Rattle.wk_body.specs.ToWrite.{Parted}
 
 before_len : (t : Tok) (ks next : List Bool) (xs : List Part) → after t ks ≡ Some next → Parted next xs → Parted ks (before t xs)
 before_len t ks next [] h parted = absurd (omega (arith, parted))

@@ -1,4 +1,3 @@
-use Rattle.std.proofs.Common.{refl}
 use Rattle.wk_body.proofs.RewrittenBody.{groups_one, groups_done}
 use Rattle.wk_body.proofs.copying.pass_groups.Goals as goal
 

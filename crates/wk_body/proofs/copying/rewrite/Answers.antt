@@ -1,4 +1,4 @@
-use Rattle.std.proofs.Common.{◌≡◌, [], ◌∙◌, sym, ap, rules, List, ℕ}
+use Rattle.std.proofs.Common.{◌≡◌, [], ◌∙◌, sym, ap}
 use Rattle.wk_bytes.specs.Span.{Span}
 use Rattle.wk_body.specs.declared.walk.Walk.{Walk}
 use Rattle.wk_body.proofs.RewrittenBody.{body_written}
