@@ -18,7 +18,7 @@ use Rattle.wk_body.specs.Written.{written_expr, written_group, written_body}
 use Rattle.wk_body.specs.Reading.{groups_at, expr_at, all_body_at}
 use Rattle.wk_body.specs.TokenReading.{local_groups_at}
 use Rattle.wk_body.specs.TokenReadingLaws.{body_read}
-use Rattle.wk_body.specs.Walks.{Adds, Passed, Kept}
+use Rattle.wk_body.specs.Walks.{Adds, Passed, Kept, PassedGroups}
 use Rattle.wk_body.proofs.Pieces.{valtype_takes}
 use Rattle.wk_body.proofs.GroupLoop.{Groups, with_groups, InGroups, groups_go_on, groups_end}
 use Rattle.wk_body.proofs.Walking.{passed, adds_none, adds_then}
@@ -59,10 +59,10 @@ groups_one count i sum n ty out after last from at mid to lt few h p kept =
     )
 
 pub groups_done : (count i sum : ℕ) (out after : List ℕ) (from to : Walk) → count ≤ i → GroupsPassed count (count - i) sum out from after to
-    → (groups : List LocalGroup) × (length groups ≡ count) × Passed (groups_at count 0) groups (flat_map written_group groups) out from after to
+    → (groups : List LocalGroup) × PassedGroups count groups out from after to
 groups_done count i sum out after from to le h =
     let none : count - i ≡ 0 = omega arith in
-    (h.0, omega (arith, h.1, none), record { is = groups_end h.0 (count - i) sum from.cursor to.cursor _ none h.2; same_end = h.2.same_end; adds = h.3 })
+    (h.0, (omega (arith, h.1, none), record { is = groups_end h.0 (count - i) sum from.cursor to.cursor _ none h.2; same_end = h.2.same_end; adds = h.3 }))
 
 -- ---- a body
 

@@ -11,4 +11,6 @@ pub record Copying (profile : Profile) (from : Span) (ks : List Bool) (at : Span
   pub same_end : at.end ≡ from.end
   pub steps : ℕ
   pub enough : length at.rest < steps
-  pub gives : (x : With) → parts_at profile steps ks from.end at.rest ≡ Ok x → (y : With) × (parts_at profile (suc (length from.rest)) [] from.end from.rest ≡ Ok y) × (y.1 ≡ x.1) × (to_write [] y.0 ≡ written ++ to_write ks x.0)
+  pub gives : (x : With) → parts_at profile steps ks from.end at.rest ≡ Ok x
+      → (y : With) × (parts_at profile (suc (length from.rest)) [] from.end from.rest ≡ Ok y)
+      × (y.1 ≡ x.1) × (to_write [] y.0 ≡ written ++ to_write ks x.0)

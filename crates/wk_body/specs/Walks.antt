@@ -1,12 +1,16 @@
 -- A code that is read and written again: what is written of it, and the run of its bytes that is still to be copied.
-use Rattle.std.specs.Prelude.{◌≡◌, ℕ, Bool, true, false, List, ◌∷◌, ◌++◌, Result, Ok}
+use Rattle.std.specs.Prelude.{◌≡◌, ℕ, Bool, true, false, List, ◌∷◌, ◌++◌, length, Result, Ok}
+use Rattle.std.specs.List.{flat_map}
+use Rattle.wk_bytes.specs.declared.fault.ReadKind.TheVariants.{TooDeep}
+use Rattle.wk_body.specs.declared.types.BlockType.{BlockType}
+use Rattle.wk_body.specs.declared.types.LocalGroup.{LocalGroup}
 use Rattle.wk_bytes.specs.declared.fault.ReadFault.{ReadFault}
 use Rattle.wk_body.specs.declared.walk.Walk.{Walk}
 use Rattle.wk_body.specs.declared.types.Profile.{Profile}
 use Rattle.wk_body.specs.Instructions.{Plain}
 use Rattle.wk_body.specs.Tree.{Instrs}
-use Rattle.wk_body.specs.Reading.{plain_at, expr_at}
-use Rattle.wk_body.specs.Written.{plain_bytes, written_expr}
+use Rattle.wk_body.specs.Reading.{plain_at, type_here, groups_at, expr_at}
+use Rattle.wk_body.specs.Written.{plain_bytes, type_bytes, written_group, written_expr}
 use Rattle.wk_body.specs.Copying.{Copying}
 
 -- the bytes that are written, with those of the run that lie in front of the cursor
@@ -18,7 +22,8 @@ abbrev pub Adds : List ℕ → List ℕ → Walk → List ℕ → Walk → Type 
 Adds bytes out from after to = (written : List ℕ) → Holds out from written → Holds after to (written ++ bytes)
 
 -- a call read that value and wrote its bytes
-pub record Passed {A : Type 0} (read : ℕ → List ℕ → Result (A × List ℕ) ReadFault) (x : A) (bytes : List ℕ) (out : List ℕ) (from : Walk) (after : List ℕ) (to : Walk) : Type 0 where
+pub record Passed {A : Type 0} (read : ℕ → List ℕ → Result (A × List ℕ) ReadFault) (x : A) (bytes : List ℕ)
+    (out : List ℕ) (from : Walk) (after : List ℕ) (to : Walk) : Type 0 where
   pub is : read from.cursor.end from.cursor.rest ≡ Ok (x, to.cursor.rest)
   pub same_end : to.cursor.end ≡ from.cursor.end
   pub adds : Adds bytes out from after to
@@ -35,6 +40,16 @@ pub record PassedPlain (profile : Profile) (opcode : ℕ) (out : List ℕ) (from
   pub bytes : List ℕ
   pub spelled : plain_bytes instr ≡ opcode ∷ bytes
   pub adds : Adds bytes out from after to
+
+-- a call read the type of a block that opens at that offset, where these blocks are open
+abbrev pub PassedType : Profile → List Bool → ℕ → BlockType → List ℕ → Walk → List ℕ → Walk → Type 0
+PassedType profile ks at ty out from after to =
+    Passed (type_here profile ks (record { kind = TooDeep; at = at })) ty (type_bytes ty) out from after to
+
+-- a call read that many local groups
+abbrev pub PassedGroups : ℕ → List LocalGroup → List ℕ → Walk → List ℕ → Walk → Type 0
+PassedGroups count groups out from after to =
+    (length groups ≡ count) × Passed (groups_at count 0) groups (flat_map written_group groups) out from after to
 
 -- ---- expressions
 

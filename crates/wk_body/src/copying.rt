@@ -1,8 +1,6 @@
 //! Writes a code again while it is read once.
 
 ghost use Rattle.std.specs.Prelude.{◌≡◌, ◌++◌, ◌-◌, ◌∷◌, [], ℕ, List, length, take, Ok, OnErr, IfErr, IfSome, MatchResult};
-ghost use Rattle.std.specs.List.{flat_map};
-ghost use Rattle.wk_bytes.specs.declared.fault.ReadKind.TheVariants.{TooDeep};
 ghost use Rattle.wk_bytes.specs.Stands.{StandsOrMemory};
 ghost use Rattle.wk_body.specs.declared.types.LocalGroup.{LocalGroup};
 ghost use Rattle.wk_body.specs.declared.walk.Walk.{Walk};
@@ -10,11 +8,11 @@ ghost use Rattle.wk_body.specs.ValTypes.{valtype_byte, valtype_at};
 ghost use Rattle.wk_body.specs.Vectors.{written_vector};
 ghost use Rattle.wk_body.specs.Tree.{Instrs};
 ghost use Rattle.wk_body.specs.Reads.{FailsAs};
-ghost use Rattle.wk_body.specs.Reading.{type_here, groups_at, expr_at, all_body_at};
+ghost use Rattle.wk_body.specs.Reading.{expr_at, all_body_at};
 ghost use Rattle.wk_body.specs.TokenReading.{local_groups_at};
 ghost use Rattle.wk_body.specs.TokenSteps.{Opens};
 ghost use Rattle.wk_body.specs.Written.{type_bytes, written_group, written_expr, written_body};
-ghost use Rattle.wk_body.specs.Walks.{Passed, Kept, Behind, Going, Goes};
+ghost use Rattle.wk_body.specs.Walks.{Passed, PassedType, PassedGroups, Kept, Behind, Going, Goes};
 ghost use Rattle.wk_body.specs.Bodies.{BodyOf};
 
 use crate::length::type_len;
@@ -46,7 +44,7 @@ fn pass_type(
     walk: &mut Walk<'_>,
     out: &mut Vec<u8>,
 ) -> Option<BlockType>
-    ensures { IfSome result (λ ty. Passed (type_here profile reader.now.kinds (record { kind = TooDeep; at = at })) ty (type_bytes ty) out.old.items walk.old out.new.items walk.new) }
+    ensures { IfSome result (λ ty. PassedType profile reader.now.kinds at ty out.old.items walk.old out.new.items walk.new) }
 {
     // The proof asks what this says: each byte is below 256.
     are_bytes(walk.cursor.rest());
@@ -72,7 +70,7 @@ fn pass_opening(
     walk: &mut Walk<'_>,
     out: &mut Vec<u8>,
 ) -> Option<BlockType>
-    ensures passed { IfSome result (λ ty. Passed (type_here profile reader.old.kinds (record { kind = TooDeep; at = at })) ty (type_bytes ty) out.old.items walk.old out.new.items walk.new) }
+    ensures passed { IfSome result (λ ty. PassedType profile reader.old.kinds at ty out.old.items walk.old out.new.items walk.new) }
     ensures opened { IfSome result (λ _. Opens is_if reader.old reader.new) }
 {
     let ty = pass_type(profile, at, reader, walk, out)?;
@@ -90,7 +88,8 @@ fn pass_else(
     walk: &mut Walk<'_>,
     out: &mut Vec<u8>,
 ) -> Option<()>
-    ensures { (profile : Profile) (before : List ℕ) (from at : Walk) → Behind 0x05 at walk.old → left ≡ length at.cursor.rest → Going profile before from reader.old.kinds out.old.items at
+    ensures { (profile : Profile) (before : List ℕ) (from at : Walk) → Behind 0x05 at walk.old → left ≡ length at.cursor.rest
+        → Going profile before from reader.old.kinds out.old.items at
         → IfSome result (λ _. Going profile before from reader.new.kinds out.new.items walk.new) }
 {
     let at = walk.cursor.at();
@@ -157,7 +156,8 @@ fn pass_expr(
     walk: &mut Walk<'_>,
     out: &mut Vec<u8>,
 ) -> Option<()>
-    ensures { IfSome result (λ _. (t : Instrs) × Passed (expr_at profile) t (written_expr t) out.old.items walk.old out.new.items walk.new) }
+    ensures { IfSome result (λ _. (t : Instrs)
+        × Passed (expr_at profile) t (written_expr t) out.old.items walk.old out.new.items walk.new) }
 {
     reader.begin();
     for _ in 0..walk.cursor.rest().len() {
@@ -183,7 +183,7 @@ fn pass_valtype(walk: &mut Walk<'_>) -> Option<ValType>
 
 // So many local groups.
 fn pass_groups(count: u32, walk: &mut Walk<'_>, out: &mut Vec<u8>) -> Option<()>
-    ensures { IfSome result (λ _. (groups : List LocalGroup) × (length groups ≡ count) × Passed (groups_at count 0) groups (flat_map written_group groups) out.old.items walk.old out.new.items walk.new) }
+    ensures { IfSome result (λ _. (groups : List LocalGroup) × PassedGroups count groups out.old.items walk.old out.new.items walk.new) }
 {
     let mut declared: u32 = 0;
     for _ in 0..count {
@@ -199,7 +199,8 @@ fn pass_groups(count: u32, walk: &mut Walk<'_>, out: &mut Vec<u8>) -> Option<()>
 
 // The local groups of a body.
 fn pass_locals(walk: &mut Walk<'_>, out: &mut Vec<u8>) -> Option<()>
-    ensures { IfSome result (λ _. (groups : List LocalGroup) × Passed local_groups_at groups (written_vector written_group groups) out.old.items walk.old out.new.items walk.new) }
+    ensures { IfSome result (λ _. (groups : List LocalGroup)
+        × Passed local_groups_at groups (written_vector written_group groups) out.old.items walk.old out.new.items walk.new) }
 {
     let count = walk.pass_u32(out)?;
     pass_groups(count, walk, out)?;
@@ -213,7 +214,8 @@ fn rewrite(
     cursor: &Cursor<'_>,
     out: &mut Vec<u8>,
 ) -> Option<()>
-    ensures { IfSome result (λ _. (b : BodyOf) × (all_body_at profile cursor.now.end cursor.now.rest ≡ Ok b) × (out.new.items ≡ written_body b)) }
+    ensures { IfSome result (λ _. (b : BodyOf)
+        × (all_body_at profile cursor.now.end cursor.now.rest ≡ Ok b) × (out.new.items ≡ written_body b)) }
 {
     out.clear();
     out.reserve(cursor.rest().len()).ok()?;
@@ -230,7 +232,7 @@ fn rewrite(
     Some(())
 }
 
-// The written form of a body that is read first, whole: so the first fault of reading is answered where there is one.
+// The written form of a body that is read whole first: the first fault of reading is answered where there is one.
 fn append_read(
     alloc: Global,
     scratch: &mut Scratch,
@@ -239,7 +241,8 @@ fn append_read(
     profile: Profile,
 ) -> Result<(), ReadFault>
     ensures exact { MatchResult result
-        (λ _. (b : BodyOf) × (all_body_at profile cursor.now.end cursor.now.rest ≡ Ok b) × (out.new.items ≡ out.old.items ++ written_body b))
+        (λ _. (b : BodyOf) × (all_body_at profile cursor.now.end cursor.now.rest ≡ Ok b)
+        × (out.new.items ≡ out.old.items ++ written_body b))
         (λ e. FailsAs e e.kind (all_body_at profile cursor.now.end cursor.now.rest)) }
     ensures left { OnErr result (out.new.items ≡ out.old.items) }
     ensures fault { IfErr result (λ e. StandsOrMemory cursor.now e) }
@@ -267,7 +270,8 @@ impl Scratch {
         profile: Profile,
     ) -> Result<(), ReadFault>
         ensures exact { MatchResult result
-            (λ _. (b : BodyOf) × (all_body_at profile cursor.now.end cursor.now.rest ≡ Ok b) × (out.new.items ≡ out.old.items ++ written_body b))
+            (λ _. (b : BodyOf) × (all_body_at profile cursor.now.end cursor.now.rest ≡ Ok b)
+            × (out.new.items ≡ out.old.items ++ written_body b))
             (λ e. FailsAs e e.kind (all_body_at profile cursor.now.end cursor.now.rest)) }
         ensures left { OnErr result (out.new.items ≡ out.old.items) }
         ensures fault { IfErr result (λ e. StandsOrMemory cursor.now e) }

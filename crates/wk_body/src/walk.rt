@@ -142,7 +142,8 @@ impl Walk<'_> {
     // So many labels.
     #[inline(always)]
     fn pass_labels(&mut self, count: u32, out: &mut Vec<u8>) -> Option<()>
-        ensures { IfSome result (λ _. (labels : List ℕ) × Passed (items_at u32_at count) labels (flat_map short labels) out.old.items self.old out.new.items self.new) }
+        ensures { IfSome result (λ _. (labels : List ℕ)
+            × Passed (items_at u32_at count) labels (flat_map short labels) out.old.items self.old out.new.items self.new) }
     {
         for _ in 0..count {
             self.pass_u32(out)?;
@@ -153,7 +154,8 @@ impl Walk<'_> {
     // What stands behind the opcode of a `br_table`.
     #[inline(always)]
     fn pass_table(&mut self, out: &mut Vec<u8>) -> Option<()>
-        ensures { IfSome result (λ _. (t : List ℕ × ℕ) × Passed labels_at t (written_vector short t.0 ++ short t.1) out.old.items self.old out.new.items self.new) }
+        ensures { IfSome result (λ _. (t : List ℕ × ℕ)
+            × Passed labels_at t (written_vector short t.0 ++ short t.1) out.old.items self.old out.new.items self.new) }
     {
         let count = self.pass_u32(out)?;
         self.pass_labels(count, out)?;

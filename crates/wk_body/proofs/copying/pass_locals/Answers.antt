@@ -4,4 +4,4 @@ use Rattle.wk_body.proofs.copying.pass_locals.Goals as goal
 pub returns : goal.returns
 returns c =
     let g = c.in_ok-pass_groups.ensures in
-    (g.0, locals_passed c.in_ok-count.count g.0 c.args.out.now.items c.pass_u32.new.out.items c.pass_groups.new.out.items c.args.walk.now c.pass_u32.new.self c.pass_groups.new.walk g.1 c.in_ok-count.ensures g.2)
+    (g.0, locals_passed c.in_ok-count.count g.0 c.args.out.now.items c.pass_u32.new.out.items c.pass_groups.new.out.items c.args.walk.now c.pass_u32.new.self c.pass_groups.new.walk g.1.0 c.in_ok-count.ensures g.1.1)
