@@ -56,6 +56,33 @@ def built(name, words, rt=shutil.which("rt")):
     return program
 
 
+def library(name, rt=shutil.which("rt")):
+    """The static library of a crate. Where it is not there or older than a source, `rt lib` builds it."""
+    archive = f"{TOP}/crates/{name}/out/lib{name}.a"
+    if is_current(archive, name):
+        return archive
+    if not rt:
+        die(f"{name} is not built from the sources as they are, and the command rt is not on PATH")
+    print(f"building {name}", flush=True)
+    quiet = {"stdin": subprocess.DEVNULL, "stdout": subprocess.DEVNULL}
+    ran = subprocess.run([rt, "lib"], cwd=f"{TOP}/crates/{name}", **quiet)
+    if ran.returncode or not os.path.isfile(archive):
+        die(f"{name} was not built")
+    return archive
+
+
+def allocations(rt=shutil.which("rt")):
+    """The archive of the kit that passes a library's allocations on to malloc, realloc and free."""
+    if not rt:
+        die("the command rt, which knows where the kit is, is not on PATH")
+    folder = subprocess.run([rt, "doc"], stdout=subprocess.PIPE, text=True, check=True).stdout.strip()
+    while folder != os.path.dirname(folder):
+        folder = os.path.dirname(folder)
+        if os.path.isfile(f"{folder}/c/liblibc_c.a"):
+            return f"{folder}/c/liblibc_c.a"
+    die("the kit has no c/liblibc_c.a")
+
+
 def wasmkit():
     """The built program `wasmkit`."""
     examples = f"{TOP}/examples"

@@ -1,0 +1,226 @@
+/* Makes the calls of wasmkit.h that standard input asks for, one a line, and prints what each answers:
+ *
+ *     validate PROFILE MODULE            sections MODULE            list PROFILE PART MODULE
+ *     strip PROFILE KEEP MODULE          edit PROFILE KEEP_VALID MODULE SCRIPT
+ *     bad                                each call with bad arguments
+ *
+ * PROFILE, PART and KEEP_VALID are numbers, MODULE and SCRIPT files, and KEEP is a name, or - for none. Each call is made with no room at
+ * all, with a byte less than it needs, with all that it needs and with more. What is wrong is printed after `wrong:`.
+ */
+#include <stdio.h>
+#include <stdlib.h>
+#include <string.h>
+
+#include "wasmkit.h"
+
+enum { FILL = 0xA5, MORE = 7 };
+
+struct bytes {
+    uint8_t *at;
+    size_t length;
+};
+
+/* What a line asks for. */
+struct question {
+    char call[16];
+    unsigned profile, number;
+    struct bytes module, other;
+};
+
+static const char *asked = "";
+
+static void check(int is_right, const char *what) {
+    if (!is_right) printf("wrong: %s: %s\n", asked, what);
+}
+
+static uint8_t *filled(size_t length) {
+    uint8_t *at = malloc(length);
+    if (!at && length) exit(5);
+    if (at) memset(at, FILL, length);
+    return at;
+}
+
+static int is_fill(const uint8_t *at, size_t length) {
+    size_t i;
+    for (i = 0; i < length; i++) {
+        if (at[i] != FILL) return 0;
+    }
+    return 1;
+}
+
+static struct bytes load(const char *name) {
+    FILE *file = fopen(name, "rb");
+    struct bytes bytes;
+    long length;
+    if (!file || fseek(file, 0, SEEK_END) || (length = ftell(file)) < 0) exit(4);
+    rewind(file);
+    bytes.length = (size_t)length;
+    bytes.at = filled(bytes.length);
+    if (fread(bytes.at, 1, bytes.length, file) != bytes.length || fclose(file)) exit(4);
+    return bytes;
+}
+
+/* Makes the call with these capacities. */
+static enum wasmkit_result answer(const struct question *q, uint8_t *out, size_t out_capacity, size_t *out_length, uint8_t *text,
+                                  size_t text_capacity, size_t *text_length) {
+    const uint8_t *at = q->module.at, *other = q->other.at;
+    size_t length = q->module.length, other_length = q->other.length;
+    *out_length = 0;
+    if (!strcmp(q->call, "validate")) return wasmkit_validate(at, length, q->profile, text, text_capacity, text_length);
+    if (!strcmp(q->call, "sections")) return wasmkit_sections(at, length, text, text_capacity, text_length);
+    if (!strcmp(q->call, "list")) return wasmkit_list(at, length, q->profile, q->number, text, text_capacity, text_length);
+    if (!strcmp(q->call, "strip"))
+        return wasmkit_strip(at, length, q->profile, other, other_length, out, out_capacity, out_length, text, text_capacity,
+                             text_length);
+    return wasmkit_edit(at, length, other, other_length, q->profile, q->number, out, out_capacity, out_length, text, text_capacity,
+                        text_length);
+}
+
+/* Makes the call with that room, which is too little, and looks that it tells what it needs and writes nothing. */
+static void try_small(const struct question *q, size_t out_room, size_t text_room, size_t out_needed, size_t text_needed) {
+    uint8_t *out = filled(out_room), *text = filled(text_room);
+    size_t out_length = 99, text_length = 99;
+    enum wasmkit_result result = answer(q, out, out_room, &out_length, text, text_room, &text_length);
+    check(result == WASMKIT_TOO_SMALL, "not too small");
+    check(out_length == out_needed && text_length == text_needed, "another length is told");
+    check(is_fill(out, out_room) && is_fill(text, text_room), "something is written where there is too little room");
+    free(out), free(text);
+}
+
+/* Makes the call with room for that much more than it needs, and prints what it answers, or looks that it is that. */
+static void try_room(const struct question *q, size_t more, size_t out_needed, size_t text_needed, int prints) {
+    uint8_t *out = filled(out_needed + more), *text = filled(text_needed + more);
+    size_t i, out_length = 99, text_length = 99;
+    enum wasmkit_result result = answer(q, out, out_needed + more, &out_length, text, text_needed + more, &text_length);
+    check(out_length == out_needed && text_length == text_needed, "with room another length is told");
+    check(!more || (is_fill(out + out_needed, more) && is_fill(text + text_needed, more)), "something is written behind an answer");
+    if (prints) {
+        printf("result %d\n", result);
+        for (i = 0; i < out_needed; i++) printf("%s%02x%s", i ? "" : "out ", out[i], i + 1 < out_needed ? "" : "\n");
+        fwrite(text, 1, text_needed, stdout);
+    }
+    free(out), free(text);
+}
+
+static void run(const struct question *q) {
+    size_t out_needed = 99, text_needed = 99;
+    enum wasmkit_result result = answer(q, NULL, 0, &out_needed, NULL, 0, &text_needed);
+    check((result == WASMKIT_TOO_SMALL) == (out_needed != 0 || text_needed != 0), "with no room it is not too small, or is for nothing");
+    if (out_needed) try_small(q, out_needed - 1, text_needed, out_needed, text_needed);
+    if (text_needed) try_small(q, out_needed, text_needed - 1, out_needed, text_needed);
+    try_room(q, MORE, out_needed, text_needed, 0);
+    try_room(q, 0, out_needed, text_needed, 1);
+}
+
+/* ---- bad arguments */
+
+static uint8_t module[8] = {0, 'a', 's', 'm', 1, 0, 0, 0};
+static uint8_t out[64], text[64];
+static size_t out_length, text_length;
+
+/* Looks that a call with bad arguments said so, told no length, and left all as it was. */
+static void is_refused(enum wasmkit_result result, const char *what) {
+    asked = what;
+    check(result == WASMKIT_BAD_ARGUMENT, "not a bad argument");
+    check(out_length == 0 && text_length == 0, "a length is told");
+    check(is_fill(out, sizeof out) && is_fill(text, sizeof text), "something is written");
+    check(!memcmp(module, "\0asm\1\0\0\0", 8), "the module is changed");
+    out_length = text_length = 0;
+}
+
+#define REFUSED(call) is_refused(call, #call)
+#define TEXT text, sizeof text, &text_length
+#define OUT out, sizeof out, &out_length
+
+static void try_bad(void) {
+    const size_t much = (size_t)PTRDIFF_MAX + 1, most = (size_t)-1, long_one = 2147483648u;
+    memset(out, FILL, sizeof out);
+    memset(text, FILL, sizeof text);
+    REFUSED(wasmkit_validate(NULL, 8, 0, TEXT));
+    REFUSED(wasmkit_validate(module, long_one, 0, TEXT));
+    REFUSED(wasmkit_validate(module, much, 0, TEXT));
+    REFUSED(wasmkit_validate(module, most, 0, TEXT));
+    REFUSED(wasmkit_validate(module, 8, 2, TEXT));
+    REFUSED(wasmkit_validate(module, 8, (uint32_t)-1, TEXT));
+    REFUSED(wasmkit_validate(module, 8, 0, NULL, 64, &text_length));
+    REFUSED(wasmkit_validate(module, 8, 0, text, most, &text_length));
+    REFUSED(wasmkit_validate(module, 8, 0, text, 64, NULL));
+    REFUSED(wasmkit_validate(module, 8, 0, module + 7, 1, &text_length));
+    REFUSED(wasmkit_validate(module, 8, 0, (uint8_t *)&text_length, sizeof text_length, &text_length));
+    REFUSED(wasmkit_sections(NULL, 1, TEXT));
+    REFUSED(wasmkit_sections(module, long_one, TEXT));
+    REFUSED(wasmkit_sections(module, most, TEXT));
+    REFUSED(wasmkit_sections(module, 8, NULL, 1, &text_length));
+    REFUSED(wasmkit_sections(module, 8, text, much, &text_length));
+    REFUSED(wasmkit_sections(module, 8, text, 64, NULL));
+    REFUSED(wasmkit_sections(module, 8, module, 8, &text_length));
+    REFUSED(wasmkit_list(NULL, 8, 0, 0, TEXT));
+    REFUSED(wasmkit_list(module, long_one, 0, 0, TEXT));
+    REFUSED(wasmkit_list(module, 8, 2, 0, TEXT));
+    REFUSED(wasmkit_list(module, 8, 0, 4, TEXT));
+    REFUSED(wasmkit_list(module, 8, 0, 0, NULL, 64, &text_length));
+    REFUSED(wasmkit_list(module, 8, 0, 0, text, 64, NULL));
+    REFUSED(wasmkit_strip(NULL, 8, 0, NULL, 0, OUT, TEXT));
+    REFUSED(wasmkit_strip(module, long_one, 0, NULL, 0, OUT, TEXT));
+    REFUSED(wasmkit_strip(module, 8, 3, NULL, 0, OUT, TEXT));
+    REFUSED(wasmkit_strip(module, 8, 0, NULL, 1, OUT, TEXT));
+    REFUSED(wasmkit_strip(module, 8, 0, (const uint8_t *)"\xff", 1, OUT, TEXT));
+    REFUSED(wasmkit_strip(module, 8, 0, NULL, 0, NULL, 64, &out_length, TEXT));
+    REFUSED(wasmkit_strip(module, 8, 0, NULL, 0, out, 64, NULL, TEXT));
+    REFUSED(wasmkit_strip(module, 8, 0, NULL, 0, OUT, NULL, 64, &text_length));
+    REFUSED(wasmkit_strip(module, 8, 0, NULL, 0, OUT, text, 64, NULL));
+    REFUSED(wasmkit_strip(module, 8, 0, NULL, 0, module, 8, &out_length, TEXT));
+    REFUSED(wasmkit_strip(module, 8, 0, NULL, 0, out, 64, &text_length, TEXT));
+    REFUSED(wasmkit_strip(module, 8, 0, NULL, 0, text, 64, &out_length, TEXT));
+    REFUSED(wasmkit_edit(NULL, 8, NULL, 0, 0, 0, OUT, TEXT));
+    REFUSED(wasmkit_edit(module, long_one, NULL, 0, 0, 0, OUT, TEXT));
+    REFUSED(wasmkit_edit(module, 8, NULL, 1, 0, 0, OUT, TEXT));
+    REFUSED(wasmkit_edit(module, 8, module, long_one, 0, 0, OUT, TEXT));
+    REFUSED(wasmkit_edit(module, 8, NULL, 0, 2, 0, OUT, TEXT));
+    REFUSED(wasmkit_edit(module, 8, NULL, 0, 0, 2, OUT, TEXT));
+    REFUSED(wasmkit_edit(module, 8, NULL, 0, 0, 0, NULL, 64, &out_length, TEXT));
+    REFUSED(wasmkit_edit(module, 8, NULL, 0, 0, 0, out, most, &out_length, TEXT));
+    REFUSED(wasmkit_edit(module, 8, NULL, 0, 0, 0, out, 64, NULL, TEXT));
+    REFUSED(wasmkit_edit(module, 8, NULL, 0, 0, 0, OUT, NULL, 64, &text_length));
+    REFUSED(wasmkit_edit(module, 8, NULL, 0, 0, 0, OUT, text, 64, NULL));
+    REFUSED(wasmkit_edit(module, 8, text, 64, 0, 0, OUT, TEXT));
+    puts("result 6");
+}
+
+/* Reads what is asked, and whether it is a call. */
+static int read_question(const char *line, struct question *q) {
+    char first[256], second[256];
+    memset(q, 0, sizeof *q);
+    if (sscanf(line, "%15s", q->call) != 1) return 0;
+    if (sscanf(line, "validate %u %255s", &q->profile, first) == 2) return q->module = load(first), 1;
+    if (sscanf(line, "sections %255s", first) == 1) return q->module = load(first), 1;
+    if (sscanf(line, "list %u %u %255s", &q->profile, &q->number, first) == 3) return q->module = load(first), 1;
+    if (sscanf(line, "strip %u %255s %255s", &q->profile, second, first) == 3) {
+        q->module = load(first);
+        q->other.length = strcmp(second, "-") ? strlen(second) : 0;
+        q->other.at = filled(q->other.length);
+        if (q->other.length) memcpy(q->other.at, second, q->other.length);
+        return 1;
+    }
+    if (sscanf(line, "edit %u %u %255s %255s", &q->profile, &q->number, first, second) != 4) return 0;
+    return q->module = load(first), q->other = load(second), 1;
+}
+
+int main(void) {
+    char line[1024];
+    struct question q;
+    while (fgets(line, sizeof line, stdin)) {
+        line[strcspn(line, "\n")] = 0;
+        printf("== %s\n", line);
+        asked = line;
+        if (!strcmp(line, "bad")) {
+            try_bad();
+        } else if (read_question(line, &q)) {
+            run(&q);
+            free(q.module.at), free(q.other.at);
+        } else {
+            puts("wrong: no call");
+        }
+    }
+    return 0;
+}
