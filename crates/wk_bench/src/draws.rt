@@ -1,7 +1,7 @@
 //! Numbers that look random, the same in every run.
 
 /// The state of a linear congruential generator.
-#[derive(Drop)]
+#[derive(Debug, Drop)]
 pub struct Draws {
     state: u32,
 }
