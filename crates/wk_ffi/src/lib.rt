@@ -6,6 +6,23 @@
 //!
 //! No pointer is null, no length is above 9,223,372,036,854,775,807, and no output lies in what another argument points to: the
 //! language has no other slices. `include/wasmkit.h` checks all that of what a C program passes, and then calls these.
+//!
+//! # What it promises
+//!
+//! Each call answers what a definition says that there is to tell (`specs/Told`: a code, the bytes of a module, a text), and hands it
+//! out as `specs/Outputs` says.
+//!
+//! - [`wk_ffi_validate`], [`wk_ffi_sections`] and [`wk_ffi_list`] are `AnswersText` of `validation_told`, `sections_told` and
+//!   `list_told`: the code comes with the whole text in front of its memory and all behind it as it was. `TooSmall` comes exactly where
+//!   the text does not fit, with the length that it needs, and `BadArgument` exactly where the definition has nothing to tell, as of a
+//!   profile that has no such number or of more than 2,147,483,647 bytes. Want of memory is `NoMemory`. After these three nothing is
+//!   written but lengths.
+//! - [`wk_ffi_strip`] and [`wk_ffi_edit`] are `AnswersBoth` of `strip_told` and `edit_told`: the same of a module and a text, both or
+//!   neither.
+//! - The text and the code are those of `wk_answers::validate`, `list_sections`, `wk_list::listing` and `outcome_of`. The bytes of
+//!   [`wk_ffi_strip`] are `encoded` of the module with the customs that stay, and those of [`wk_ffi_edit`] those of the main theorem.
+//! - No clause speaks of null, of lengths that no slice has and of outputs that lie in one another, since a slice has none of these:
+//!   the header checks them, and `tests/embed` tries them.
 #![tactic(auto)]
 
 mod asked;
