@@ -70,7 +70,11 @@ fn make_beside<R: Files + AllocGlobal>(
 ) -> io::Result<Option<(String, R::File)>> {
     for number in 0..NAMES_BESIDE {
         let beside = format!(in rt.alloc(); "{name}.part{number}")?;
-        match OpenOptions::new().write(true).create_new(true).open(rt, &beside) {
+        match OpenOptions::new()
+            .write(true)
+            .create_new(true)
+            .open(rt, &beside)
+        {
             Ok(file) => return Ok(Some((beside, file))),
             Err(error) if error.kind() == io::ErrorKind::AlreadyExists => {}
             Err(_) => return Ok(None),

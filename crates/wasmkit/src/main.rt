@@ -1,13 +1,7 @@
 //! `wasmkit`: reads, judges, lists and edits WebAssembly 1.0 binary modules.
 //!
-//! # What its calls promise
-//!
-//! - `validate` is the verdict line of the module that the bytes spell in a profile, or the line of their first fault, with the status
-//!   (`specs/Validation`). That it judges by `judge_bytes`, and never holds that module whole, makes no difference to its clauses.
-//! - `list_sections` is a line for each item of `sections_of` the bytes, and whether one of them is a fault (`specs/Listing`).
-//! - `list_parts` is the listings of these parts of a module, one behind the other, or after a fault a beginning of them.
-//!
-//! The command line, the files and the order in which they are read and written are in `docs/CLI.md`; they are tested.
+//! The command line, the files and the order in which they are read and written are in `docs/CLI.md`; they are tested. What is
+//! printed of bytes is what `wk_answers` and `wk_edit` answer, whose clauses say it.
 #![tactic(auto)]
 
 mod command;
