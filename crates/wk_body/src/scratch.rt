@@ -21,7 +21,8 @@ pub(crate) enum Opened {
     Else { opened: u32, other: u32 },
 }
 
-/// Room in which bodies and expressions are read, one after the other, before each is copied to a room of its own size.
+/// Room in which bodies and expressions are read, one after the other, before each is copied to a room of its own size, or in which
+/// codes are written again.
 ///
 /// What it holds of one read is forgotten by the next; only its memory stays. A call that reads many bodies is given one of these and grows it once.
 #[derive(Debug, Drop)]
