@@ -7,18 +7,18 @@ use Rattle.wk_body.specs.Written.{tok_bytes, written_expr}
 use Rattle.wk_body.specs.Reading.{after, token_at, With, in_front, parts_at, expr_at}
 use Rattle.wk_body.specs.TokenReadingLaws.{token_shorter}
 use Rattle.wk_body.specs.ToWrite.{to_write, IsNoElse, Parted}
-use Rattle.wk_body.specs.Copying.{Copying}
+use Rattle.wk_body.specs.Copying.{Copies}
 use Rattle.wk_body.proofs.Loop.{one_more, one_last, moved_end}
 use Rattle.wk_body.proofs.WrittenSteps.{token_step, else_step, else_gone}
 use Rattle.wk_body.proofs.WrittenParts.{parts_len}
 
-pub begins : (profile : Profile) (from : Span) → Copying profile from [] from []
+pub begins : (profile : Profile) (from : Span) → Copies profile from [] from []
 begins profile from = record { same_end = refl; steps = suc (length from.rest); enough = omega arith; gives = λ x e. (x, e, refl, refl) }
 
 -- a step that adds these bytes, where they are what the token adds before the parts that are read behind it
 step : (profile : Profile) (from at to : Span) (ks next : List Bool) (t : Tok) (w add : List ℕ) → to.end ≡ at.end → token_at profile ks at.end at.rest ≡ Ok (t, to.rest) → after t ks ≡ Some next
     → ((n : ℕ) (x : With) → parts_at profile n next from.end to.rest ≡ Ok x → to_write ks (before t x.0) ≡ add ++ to_write next x.0)
-    → (u : Copying profile from ks at w) → (n : ℕ) → n ≡ u.steps → Copying profile from next to (w ++ add)
+    → (u : Copies profile from ks at w) → (n : ℕ) → n ≡ u.steps → Copies profile from next to (w ++ add)
 step profile from at to ks next t w add same is a adds u zero s = absurd (omega (arith, u.enough, s))
 step profile from at to ks next t w add same is a adds u (suc n) s =
     let here : token_at profile ks from.end at.rest ≡ Ok (t, to.rest) = moved_end profile ks at.rest at.end from.end (Ok (t, to.rest)) u.same_end is in
@@ -33,7 +33,7 @@ step profile from at to ks next t w add same is a adds u (suc n) s =
     }
 
 -- a token that is no else
-pub goes_on : (profile : Profile) (from at to : Span) (ks next : List Bool) (t : Tok) (w : List ℕ) → IsNoElse t → to.end ≡ at.end → token_at profile ks at.end at.rest ≡ Ok (t, to.rest) → after t ks ≡ Some next → Copying profile from ks at w → Copying profile from next to (w ++ tok_bytes t)
+pub goes_on : (profile : Profile) (from at to : Span) (ks next : List Bool) (t : Tok) (w : List ℕ) → IsNoElse t → to.end ≡ at.end → token_at profile ks at.end at.rest ≡ Ok (t, to.rest) → after t ks ≡ Some next → Copies profile from ks at w → Copies profile from next to (w ++ tok_bytes t)
 goes_on profile from at to ks next t w that same is a u =
     step profile from at to ks next t w (tok_bytes t) same is a (λ n x e. token_step t ks next x.0 that a (parts_len profile n next from.end to.rest x e)) u u.steps refl
 
@@ -47,12 +47,12 @@ no_part skip ks (x ∷ xs) parted is = else_gone skip ks x xs is
 
 -- an else whose branch holds something, and one whose branch holds nothing
 pub goes_else : (profile : Profile) (from at to : Span) (ks : List Bool) (skip : ℕ) (w : List ℕ) → to.end ≡ at.end → token_at profile (true ∷ ks) at.end at.rest ≡ Ok (Otherwise skip, to.rest)
-    → ((n : ℕ) (x : With) → parts_at profile n (false ∷ ks) from.end to.rest ≡ Ok x → first_part x.0 ≢ Finish) → Copying profile from (true ∷ ks) at w → Copying profile from (false ∷ ks) to (w ++ 0x05 ∷ [])
+    → ((n : ℕ) (x : With) → parts_at profile n (false ∷ ks) from.end to.rest ≡ Ok x → first_part x.0 ≢ Finish) → Copies profile from (true ∷ ks) at w → Copies profile from (false ∷ ks) to (w ++ 0x05 ∷ [])
 goes_else profile from at to ks skip w same is holds u =
     step profile from at to (true ∷ ks) (false ∷ ks) (Otherwise skip) w (0x05 ∷ []) same is refl (λ n x e. one_part skip ks x.0 (parts_len profile n (false ∷ ks) from.end to.rest x e) (holds n x e)) u u.steps refl
 
 pub drops_else : (profile : Profile) (from at to : Span) (ks : List Bool) (skip : ℕ) (w : List ℕ) → to.end ≡ at.end → token_at profile (true ∷ ks) at.end at.rest ≡ Ok (Otherwise skip, to.rest)
-    → ((n : ℕ) (x : With) → parts_at profile n (false ∷ ks) from.end to.rest ≡ Ok x → first_part x.0 ≡ Finish) → Copying profile from (true ∷ ks) at w → Copying profile from (false ∷ ks) to (w ++ [])
+    → ((n : ℕ) (x : With) → parts_at profile n (false ∷ ks) from.end to.rest ≡ Ok x → first_part x.0 ≡ Finish) → Copies profile from (true ∷ ks) at w → Copies profile from (false ∷ ks) to (w ++ [])
 drops_else profile from at to ks skip w same is holds u =
     step profile from at to (true ∷ ks) (false ∷ ks) (Otherwise skip) w [] same is refl (λ n x e. no_part skip ks x.0 (parts_len profile n (false ∷ ks) from.end to.rest x e) (holds n x e)) u u.steps refl
 
@@ -61,7 +61,7 @@ last_written : (xs : List Part) (w : List ℕ) → Parted [] xs → to_write [] 
 last_written [] w parted e = absurd (omega (arith, parted))
 last_written (x ∷ xs) w parted e = e
 
-ending : (profile : Profile) (from at to : Span) (w : List ℕ) → token_at profile [] at.end at.rest ≡ Ok (Close, to.rest) → (u : Copying profile from [] at w) → (n : ℕ) → n ≡ u.steps
+ending : (profile : Profile) (from at to : Span) (w : List ℕ) → token_at profile [] at.end at.rest ≡ Ok (Close, to.rest) → (u : Copies profile from [] at w) → (n : ℕ) → n ≡ u.steps
     → (t : Instrs) × (expr_at profile from.end from.rest ≡ Ok (t, to.rest)) × (written_expr t ≡ w ++ 0x0B ∷ [])
 unfolding expr_at
 ending profile from at to w is u zero s = absurd (omega (arith, u.enough, s))
@@ -72,5 +72,5 @@ ending profile from at to w is u (suc n) s =
     let read : expr_at profile from.end from.rest ≡ Ok (first_part y.0.0, y.0.1) = rw y.1 refl in
     (first_part y.0.0, read ∙ ap (λ (r : List ℕ). Ok (first_part y.0.0, r)) y.2, last_written y.0.0 w (parts_len profile (suc (length from.rest)) [] from.end from.rest y.0 y.1) y.3)
 
-pub ends : (profile : Profile) (from at to : Span) (w : List ℕ) → token_at profile [] at.end at.rest ≡ Ok (Close, to.rest) → Copying profile from [] at w → (t : Instrs) × (expr_at profile from.end from.rest ≡ Ok (t, to.rest)) × (written_expr t ≡ w ++ 0x0B ∷ [])
+pub ends : (profile : Profile) (from at to : Span) (w : List ℕ) → token_at profile [] at.end at.rest ≡ Ok (Close, to.rest) → Copies profile from [] at w → (t : Instrs) × (expr_at profile from.end from.rest ≡ Ok (t, to.rest)) × (written_expr t ≡ w ++ 0x0B ∷ [])
 ends profile from at to w is u = ending profile from at to w is u u.steps refl

@@ -14,7 +14,7 @@ use Rattle.wk_body.specs.Vectors.{written_vector}
 use Rattle.wk_body.specs.Instructions.{Plain, plain_opcode, Immediates, Nothing, Reserved, Index, IndexReserved, Labels, Memarg, Signed, Word, immediates, Form, Alone, WithReserved, WithIndex, WithIndexReserved, WithLabels, WithMemarg, WithSigned, WithWord, form_of}
 use Rattle.wk_body.specs.Reading.{reserved_at, labels_at, behind_form, plain_at}
 use Rattle.wk_body.specs.Written.{immediate_bytes, plain_bytes}
-use Rattle.wk_body.specs.Walks.{Adds, Passed, Kept, PassedPlain}
+use Rattle.wk_body.specs.Walks.{Adds, Passes, Keeps, PassesPlain}
 use Rattle.wk_body.specs.Layouts.{layout_of, layout_in}
 use Rattle.wk_body.proofs.Table.{form_of-makes}
 use Rattle.wk_body.proofs.Walking.{adds_none, adds_then}
@@ -82,18 +82,18 @@ module _ (profile : Profile) (opcode : ℕ) (k : Layout) (is : Some k ≡ layout
   formed l same = some_form (form_of profile opcode) l (ap (λ (l : Layout). Some l) (sym same) ∙ is)
 
   made : (f : Form) (p : Plain) (i : Immediates) (out after : List ℕ) (from to : Walk) → form_of profile opcode ≡ Some f → behind_form f from.cursor.end from.cursor.rest ≡ Ok (p, to.cursor.rest) → to.cursor.end ≡ from.cursor.end
-      → (plain_opcode p ≡ opcode) × (immediates p ≡ i) → Adds (immediate_bytes i) out from after to → PassedPlain profile opcode out from after to
+      → (plain_opcode p ≡ opcode) × (immediates p ≡ i) → Adds (immediate_bytes i) out from after to → PassesPlain profile opcode out from after to
   made f p i out after from to h read same m adds =
       record { instr = p; is = plain_read profile opcode from.cursor.end f p from.cursor.rest to.cursor.rest h read; same_end = same; bytes = immediate_bytes i; spelled = bytes_are opcode p i m; adds = adds }
 
-  pub nothing_passed : (out : List ℕ) (w : Walk) → k ≡ layouts.Nothing → PassedPlain profile opcode out w out w
+  pub nothing_passed : (out : List ℕ) (w : Walk) → k ≡ layouts.Nothing → PassesPlain profile opcode out w out w
   unfolding behind_form
   nothing_passed out w same =
       let f = formed layouts.Nothing same in
       let h = f.1 ∙ ap (λ (f : Form). Some f) f.2.1 in
       made (Alone f.2.0) f.2.0 Nothing out out w w h refl refl (form_of-makes profile opcode (Alone f.2.0) h).0 (adds_none out w)
 
-  pub reserved_passed : (byte : ℕ) (out : List ℕ) (from to : Walk) → k ≡ layouts.Reserved → Kept reserved_at byte (0x00 ∷ []) from to → PassedPlain profile opcode out from out to
+  pub reserved_passed : (byte : ℕ) (out : List ℕ) (from to : Walk) → k ≡ layouts.Reserved → Keeps reserved_at byte (0x00 ∷ []) from to → PassesPlain profile opcode out from out to
   unfolding behind_form
   reserved_passed byte out from to same kept =
       let f = formed layouts.Reserved same in
@@ -101,14 +101,14 @@ module _ (profile : Profile) (opcode : ℕ) (k : Layout) (is : Some k ≡ layout
       let p = kept out in
       made (WithReserved f.2.0) f.2.0 Reserved out out from to h (rw p.is refl) p.same_end (form_of-makes profile opcode (WithReserved f.2.0) h).0 p.adds
 
-  pub index_passed : (x : ℕ) (out after : List ℕ) (from to : Walk) → k ≡ layouts.Index → Passed u32_at x (short x) out from after to → PassedPlain profile opcode out from after to
+  pub index_passed : (x : ℕ) (out after : List ℕ) (from to : Walk) → k ≡ layouts.Index → Passes u32_at x (short x) out from after to → PassesPlain profile opcode out from after to
   unfolding behind_form
   index_passed x out after from to same p =
       let f = formed layouts.Index same in
       let h = f.1 ∙ ap (λ (f : Form). Some f) f.2.1 in
       made (WithIndex f.2.0) (f.2.0 x) (Index x) out after from to h (rw p.is refl) p.same_end ((form_of-makes profile opcode (WithIndex f.2.0) h).0 x) p.adds
 
-  pub index_reserved_passed : (x byte : ℕ) (out after : List ℕ) (from mid to : Walk) → k ≡ layouts.IndexReserved → Passed u32_at x (short x) out from after mid → Kept reserved_at byte (0x00 ∷ []) mid to → PassedPlain profile opcode out from after to
+  pub index_reserved_passed : (x byte : ℕ) (out after : List ℕ) (from mid to : Walk) → k ≡ layouts.IndexReserved → Passes u32_at x (short x) out from after mid → Keeps reserved_at byte (0x00 ∷ []) mid to → PassesPlain profile opcode out from after to
   unfolding behind_form
   index_reserved_passed x byte out after from mid to same p kept =
       let f = formed layouts.IndexReserved same in
@@ -118,14 +118,14 @@ module _ (profile : Profile) (opcode : ℕ) (k : Layout) (is : Some k ≡ layout
       made (WithIndexReserved f.2.0) (f.2.0 x) (IndexReserved x) out after from to h (rw (p.is, there) refl) (q.same_end ∙ p.same_end) ((form_of-makes profile opcode (WithIndexReserved f.2.0) h).0 x)
       (adds_then (short x) (0x00 ∷ []) out after after from mid to p.adds q.adds)
 
-  pub labels_passed : (t : List ℕ × ℕ) (out after : List ℕ) (from to : Walk) → k ≡ layouts.Labels → Passed labels_at t (written_vector short t.0 ++ short t.1) out from after to → PassedPlain profile opcode out from after to
+  pub labels_passed : (t : List ℕ × ℕ) (out after : List ℕ) (from to : Walk) → k ≡ layouts.Labels → Passes labels_at t (written_vector short t.0 ++ short t.1) out from after to → PassesPlain profile opcode out from after to
   unfolding behind_form
   labels_passed t out after from to same p =
       let f = formed layouts.Labels same in
       let h = f.1 ∙ ap (λ (f : Form). Some f) f.2.1 in
       made (WithLabels f.2.0) (f.2.0 t.0 t.1) (Labels t.0 t.1) out after from to h (rw p.is refl) p.same_end ((form_of-makes profile opcode (WithLabels f.2.0) h).0 t.0 t.1) p.adds
 
-  pub memarg_passed : (align offset : ℕ) (out between after : List ℕ) (from mid to : Walk) → k ≡ layouts.Memarg → Passed u32_at align (short align) out from between mid → Passed u32_at offset (short offset) between mid after to → PassedPlain profile opcode out from after to
+  pub memarg_passed : (align offset : ℕ) (out between after : List ℕ) (from mid to : Walk) → k ≡ layouts.Memarg → Passes u32_at align (short align) out from between mid → Passes u32_at offset (short offset) between mid after to → PassesPlain profile opcode out from after to
   unfolding behind_form
   memarg_passed align offset out between after from mid to same p q =
       let f = formed layouts.Memarg same in
@@ -134,21 +134,21 @@ module _ (profile : Profile) (opcode : ℕ) (k : Layout) (is : Some k ≡ layout
       made (WithMemarg f.2.0) (f.2.0 align offset) (Memarg align offset) out after from to h (rw (p.is, there) refl) (q.same_end ∙ p.same_end) ((form_of-makes profile opcode (WithMemarg f.2.0) h).0 align offset)
       (adds_then (short align) (short offset) out between after from mid to p.adds q.adds)
 
-  pub signed32_passed : (z : ℤ) (out after : List ℕ) (from to : Walk) → k ≡ layouts.Signed32 → Passed (signed_at 32) z (short_signed z) out from after to → PassedPlain profile opcode out from after to
+  pub signed32_passed : (z : ℤ) (out after : List ℕ) (from to : Walk) → k ≡ layouts.Signed32 → Passes (signed_at 32) z (short_signed z) out from after to → PassesPlain profile opcode out from after to
   unfolding behind_form
   signed32_passed z out after from to same p =
       let f = formed layouts.Signed32 same in
       let h = f.1 ∙ ap (λ (f : Form). Some f) f.2.1 in
       made (WithSigned 32 f.2.0) (f.2.0 z) (Signed 32 z) out after from to h (rw p.is refl) p.same_end ((form_of-makes profile opcode (WithSigned 32 f.2.0) h).0 z) p.adds
 
-  pub signed64_passed : (z : ℤ) (out after : List ℕ) (from to : Walk) → k ≡ layouts.Signed64 → Passed (signed_at 64) z (short_signed z) out from after to → PassedPlain profile opcode out from after to
+  pub signed64_passed : (z : ℤ) (out after : List ℕ) (from to : Walk) → k ≡ layouts.Signed64 → Passes (signed_at 64) z (short_signed z) out from after to → PassesPlain profile opcode out from after to
   unfolding behind_form
   signed64_passed z out after from to same p =
       let f = formed layouts.Signed64 same in
       let h = f.1 ∙ ap (λ (f : Form). Some f) f.2.1 in
       made (WithSigned 64 f.2.0) (f.2.0 z) (Signed 64 z) out after from to h (rw p.is refl) p.same_end ((form_of-makes profile opcode (WithSigned 64 f.2.0) h).0 z) p.adds
 
-  pub word32_passed : (word : ℕ) (out : List ℕ) (from to : Walk) → k ≡ layouts.Word32 → Kept (word_at 4) word (little_bytes 4 word) from to → PassedPlain profile opcode out from out to
+  pub word32_passed : (word : ℕ) (out : List ℕ) (from to : Walk) → k ≡ layouts.Word32 → Keeps (word_at 4) word (little_bytes 4 word) from to → PassesPlain profile opcode out from out to
   unfolding behind_form
   word32_passed word out from to same kept =
       let f = formed layouts.Word32 same in
@@ -156,7 +156,7 @@ module _ (profile : Profile) (opcode : ℕ) (k : Layout) (is : Some k ≡ layout
       let p = kept out in
       made (WithWord 4 f.2.0) (f.2.0 word) (Word 4 word) out out from to h (rw p.is refl) p.same_end ((form_of-makes profile opcode (WithWord 4 f.2.0) h).0 word) p.adds
 
-  pub word64_passed : (word : ℕ) (out : List ℕ) (from to : Walk) → k ≡ layouts.Word64 → Kept (word_at 8) word (little_bytes 8 word) from to → PassedPlain profile opcode out from out to
+  pub word64_passed : (word : ℕ) (out : List ℕ) (from to : Walk) → k ≡ layouts.Word64 → Keeps (word_at 8) word (little_bytes 8 word) from to → PassesPlain profile opcode out from out to
   unfolding behind_form
   word64_passed word out from to same kept =
       let f = formed layouts.Word64 same in

@@ -17,8 +17,8 @@ use Rattle.wk_body.specs.Written.{type_bytes, tok_bytes, written_expr}
 use Rattle.wk_body.specs.Reading.{type_at, type_here, behind_at, token_at, plain_at, after, may_else, With, parts_at, expr_at}
 use Rattle.wk_body.specs.Shape.{depth_limit}
 use Rattle.wk_body.specs.ToWrite.{IsNoElse}
-use Rattle.wk_body.specs.Copying.{Copying}
-use Rattle.wk_body.specs.Walks.{Adds, Passed, PassedPlain, Behind, Going}
+use Rattle.wk_body.specs.Copying.{Copies}
+use Rattle.wk_body.specs.Walks.{Adds, Passes, PassesPlain, Behind, GoesOn}
 use Rattle.wk_body.proofs.Pieces.{type_takes}
 use Rattle.wk_body.proofs.OnlyShort.{type_only}
 use Rattle.wk_body.proofs.ElseBranch.{is_empty, is_full}
@@ -29,7 +29,7 @@ use Rattle.wk_body.proofs.Walking.{stays, adds_none, adds_then}
 
 pub type_kept : (profile : Profile) (ks : List Bool) (e : ReadFault) (ty : BlockType) (out : List ℕ) (from to : Walk) → IsBytes from.cursor.rest
     → (type_here profile ks e from.cursor.end from.cursor.rest ≡ Ok (ty, to.cursor.rest)) × (to.cursor.end ≡ from.cursor.end) → to.run.now ≡ from.run.now
-    → length from.cursor.rest - length to.cursor.rest ≡ length (type_bytes ty) → Passed (type_here profile ks e) ty (type_bytes ty) out from out to
+    → length from.cursor.rest - length to.cursor.rest ≡ length (type_bytes ty) → Passes (type_here profile ks e) ty (type_bytes ty) out from out to
 unfolding type_here
 type_kept profile ks e ty out from to fits read same long =
     elim (chosen (ltb (length ks) depth_limit) (type_at profile from.cursor.end from.cursor.rest) (Err e) (Ok (ty, to.cursor.rest)) read.0) [
@@ -51,7 +51,7 @@ adds_opcode opcode out from to b = stays (opcode ∷ []) (opcode ∷ []) out fro
 
 -- a token that is no else was read and written
 token_goes : (profile : Profile) (before out ended : List ℕ) (first from to : Walk) (ks next : List Bool) (t : Tok) → IsNoElse t → after t ks ≡ Some next → token_at profile ks from.cursor.end from.cursor.rest ≡ Ok (t, to.cursor.rest) → to.cursor.end ≡ from.cursor.end → Adds (tok_bytes t) out from ended to
-    → Going profile before first ks out from → Going profile before first next ended to
+    → GoesOn profile before first ks out from → GoesOn profile before first next ended to
 token_goes profile before out ended first from to ks next t no_else a read same adds g =
     (g.0 ++ tok_bytes t, loop.goes_on profile first.cursor from.cursor to.cursor ks next t g.0 no_else same read a g.1, adds_then g.0 (tok_bytes t) before out ended first from to g.2 adds)
 
@@ -67,7 +67,7 @@ token_plain profile ks opcode end p rest later n0 n1 n2 n3 n4 read =
     rw (e0, e1, e2, e3, e4, read (record { kind = UnknownOpcode; at = end - length (opcode ∷ rest) })) refl
 
 pub plain_goes : (profile : Profile) (before out ended : List ℕ) (first from mid to : Walk) (ks next : List Bool) (opcode : ℕ) → (opcode ≡ 0x0B → ⊥) → (opcode ≡ 0x05 → ⊥) → (opcode ≡ 0x02 → ⊥) → (opcode ≡ 0x03 → ⊥) → (opcode ≡ 0x04 → ⊥) → ks ≡ next
-    → Behind opcode from mid → PassedPlain profile opcode out mid ended to → Going profile before first ks out from → Going profile before first next ended to
+    → Behind opcode from mid → PassesPlain profile opcode out mid ended to → GoesOn profile before first ks out from → GoesOn profile before first next ended to
 plain_goes profile before out ended first from mid to ks next opcode n0 n1 n2 n3 n4 same b p g =
     let here = λ (e : ReadFault). ap (λ (end : ℕ). plain_at profile e opcode end mid.cursor.rest) (sym b.same_end) ∙ p.is e in
     let read = ap (λ (r : List ℕ). token_at profile ks from.cursor.end r) b.parts ∙ token_plain profile ks opcode from.cursor.end p.instr mid.cursor.rest to.cursor.rest n0 n1 n2 n3 n4 here in
@@ -92,8 +92,8 @@ unfolding behind_at
 token_if profile ks end ty rest later e = rw e refl
 
 opening_goes : (profile : Profile) (before out ended : List ℕ) (first from mid to : Walk) (ks next : List Bool) (opcode at : ℕ) (ty : BlockType) (t : Tok) → (TypeHere profile ks opcode from.cursor.end mid.cursor.rest ty to.cursor.rest → token_at profile ks from.cursor.end (opcode ∷ mid.cursor.rest) ≡ Ok (t, to.cursor.rest))
-    → IsNoElse t → after t ks ≡ Some next → tok_bytes t ≡ opcode ∷ type_bytes ty → at ≡ from.cursor.end - length from.cursor.rest → Behind opcode from mid → Passed (type_here profile ks (record { kind = TooDeep; at = at })) ty (type_bytes ty) out mid ended to
-    → Going profile before first ks out from → Going profile before first next ended to
+    → IsNoElse t → after t ks ≡ Some next → tok_bytes t ≡ opcode ∷ type_bytes ty → at ≡ from.cursor.end - length from.cursor.rest → Behind opcode from mid → Passes (type_here profile ks (record { kind = TooDeep; at = at })) ty (type_bytes ty) out mid ended to
+    → GoesOn profile before first ks out from → GoesOn profile before first next ended to
 opening_goes profile before out ended first from mid to ks next opcode at ty t token no_else a bytes there b p g =
     let place : at ≡ from.cursor.end - length (opcode ∷ mid.cursor.rest) = there ∙ ap (λ (r : List ℕ). from.cursor.end - length r) b.parts in
     let here : TypeHere profile ks opcode from.cursor.end mid.cursor.rest ty to.cursor.rest =
@@ -104,19 +104,19 @@ opening_goes profile before out ended first from mid to ks next opcode at ty t t
     token_goes profile before out ended first from to ks next t no_else a read (p.same_end ∙ b.same_end) adds g
 
 -- at an opcode that was read, and a type behind it
-module _ (profile : Profile) (before out ended : List ℕ) (first from mid to : Walk) (ks next : List Bool) (opcode at : ℕ) (ty : BlockType) (there : at ≡ from.cursor.end - length from.cursor.rest) (p : Passed (type_here profile ks (record { kind = TooDeep; at = at })) ty (type_bytes ty) out mid ended to)
-    (g : Going profile before first ks out from) where
-  pub block_goes : opcode ≡ 0x02 → next ≡ false ∷ ks → Behind opcode from mid → Going profile before first next ended to
+module _ (profile : Profile) (before out ended : List ℕ) (first from mid to : Walk) (ks next : List Bool) (opcode at : ℕ) (ty : BlockType) (there : at ≡ from.cursor.end - length from.cursor.rest) (p : Passes (type_here profile ks (record { kind = TooDeep; at = at })) ty (type_bytes ty) out mid ended to)
+    (g : GoesOn profile before first ks out from) where
+  pub block_goes : opcode ≡ 0x02 → next ≡ false ∷ ks → Behind opcode from mid → GoesOn profile before first next ended to
   block_goes is opened b =
       opening_goes profile before out ended first from mid to ks next 0x02 at ty (Open kinds.Block ty 0) (token_block profile ks from.cursor.end ty mid.cursor.rest to.cursor.rest) tt (ap (λ (ks : List Bool). Some ks) (sym opened)) refl there
       (subst (λ (o : ℕ). Behind o from mid) is b) p g
 
-  pub loop_goes : opcode ≡ 0x03 → next ≡ false ∷ ks → Behind opcode from mid → Going profile before first next ended to
+  pub loop_goes : opcode ≡ 0x03 → next ≡ false ∷ ks → Behind opcode from mid → GoesOn profile before first next ended to
   loop_goes is opened b =
       opening_goes profile before out ended first from mid to ks next 0x03 at ty (Open kinds.Loop ty 0) (token_loop profile ks from.cursor.end ty mid.cursor.rest to.cursor.rest) tt (ap (λ (ks : List Bool). Some ks) (sym opened)) refl there
       (subst (λ (o : ℕ). Behind o from mid) is b) p g
 
-  pub if_goes : opcode ≡ 0x04 → next ≡ true ∷ ks → Behind opcode from mid → Going profile before first next ended to
+  pub if_goes : opcode ≡ 0x04 → next ≡ true ∷ ks → Behind opcode from mid → GoesOn profile before first next ended to
   if_goes is opened b =
       opening_goes profile before out ended first from mid to ks next 0x04 at ty (OpenIf ty 0) (token_if profile ks from.cursor.end ty mid.cursor.rest to.cursor.rest) tt (ap (λ (ks : List Bool). Some ks) (sym opened)) refl there
       (subst (λ (o : ℕ). Behind o from mid) is b) p g
@@ -130,15 +130,15 @@ token_close profile ks end rest = refl
 close_read : (profile : Profile) (ks : List Bool) (from to : Walk) → Behind 0x0B from to → token_at profile ks from.cursor.end from.cursor.rest ≡ Ok (Close, to.cursor.rest)
 close_read profile ks from to b = ap (λ (r : List ℕ). token_at profile ks from.cursor.end r) b.parts ∙ token_close profile ks from.cursor.end to.cursor.rest
 
-pub close_goes : (profile : Profile) (before out : List ℕ) (first from to : Walk) (ks next : List Bool) (opcode : ℕ) → opcode ≡ 0x0B → after Close ks ≡ Some next → Behind opcode from to → Going profile before first ks out from → Going profile before first next out to
+pub close_goes : (profile : Profile) (before out : List ℕ) (first from to : Walk) (ks next : List Bool) (opcode : ℕ) → opcode ≡ 0x0B → after Close ks ≡ Some next → Behind opcode from to → GoesOn profile before first ks out from → GoesOn profile before first next out to
 close_goes profile before out first from to ks next opcode is a b g =
     let c = subst (λ (o : ℕ). Behind o from to) is b in
     token_goes profile before out out first from to ks next Close tt a (close_read profile ks from to c) c.same_end (adds_opcode 0x0B out from to c) g
 
-pub close_ends : (profile : Profile) (before out : List ℕ) (first from to : Walk) (ks : List Bool) (opcode : ℕ) → opcode ≡ 0x0B → ks ≡ [] → Behind opcode from to → Going profile before first ks out from → (t : Instrs) × Passed (expr_at profile) t (written_expr t) before first out to
+pub close_ends : (profile : Profile) (before out : List ℕ) (first from to : Walk) (ks : List Bool) (opcode : ℕ) → opcode ≡ 0x0B → ks ≡ [] → Behind opcode from to → GoesOn profile before first ks out from → (t : Instrs) × Passes (expr_at profile) t (written_expr t) before first out to
 close_ends profile before out first from to ks opcode is none b g =
     let c = subst (λ (o : ℕ). Behind o from to) is b in
-    let u : Copying profile first.cursor [] from.cursor g.0 = subst (λ (ks : List Bool). Copying profile first.cursor ks from.cursor g.0) none g.1 in
+    let u : Copies profile first.cursor [] from.cursor g.0 = subst (λ (ks : List Bool). Copies profile first.cursor ks from.cursor g.0) none g.1 in
     let t = loop.ends profile first.cursor from.cursor to.cursor g.0 (close_read profile [] from to c) u in (
       t.0,
       record {
@@ -159,13 +159,13 @@ else_read profile ks from to b = ap (λ (r : List ℕ). token_at profile (true �
 
 -- the branch holds something
 pub else_stays : (profile : Profile) (before out : List ℕ) (first from to : Walk) (ks next : List Bool) (opcode : ℕ) (later : List ℕ) → may_else ks ≡ true → after (Otherwise 0) ks ≡ Some next → to.cursor.rest ≡ opcode ∷ later → (opcode ≡ 0x0B → ⊥)
-    → Behind 0x05 from to → Going profile before first ks out from → Going profile before first next out to
+    → Behind 0x05 from to → GoesOn profile before first ks out from → GoesOn profile before first next out to
 else_stays profile before out first from to [] next opcode later may a parts other b g = absurd cc
 else_stays profile before out first from to (false ∷ ks) next opcode later may a parts other b g = absurd cc
 else_stays profile before out first from to (true ∷ ks) next opcode later may a parts other b g =
     let same : false ∷ ks ≡ next = cc in
     let holds : (n : ℕ) (x : With) → parts_at profile n (false ∷ ks) first.cursor.end to.cursor.rest ≡ Ok x → first_part x.0 ≢ Finish = λ n x e. is_full profile ks first.cursor.end opcode later n x (ne_eqb opcode 0x0B other) (ap (λ (r : List ℕ). parts_at profile n (false ∷ ks) first.cursor.end r) (sym parts) ∙ e) in
-    subst (λ (ks : List Bool). Going profile before first ks out to) same
+    subst (λ (ks : List Bool). GoesOn profile before first ks out to) same
     (g.0 ++ 0x05 ∷ [], loop.goes_else profile first.cursor from.cursor to.cursor ks 0 g.0 b.same_end (else_read profile ks from to b) holds g.1, adds_then g.0 (0x05 ∷ []) before out out first from to g.2 (adds_opcode 0x05 out from to b))
 
 -- all that was read is written, but for what stands in front of the cursor
@@ -177,7 +177,7 @@ written_out out ended left from to rest is same = λ written h.
 
 -- the branch is empty
 pub else_goes : (profile : Profile) (before out ended : List ℕ) (first from to : Walk) (ks next : List Bool) (later : List ℕ) (opcode left : ℕ) → may_else ks ≡ true → after (Otherwise 0) ks ≡ Some next → to.cursor.rest ≡ opcode ∷ later → opcode ≡ 0x0B → (0x05 ∷ to.cursor.rest ≡ from.cursor.rest) → to.cursor.end ≡ from.cursor.end
-    → left ≡ length from.cursor.rest → (run : List ℕ) → run ≡ from.run.now → ended ≡ out ++ take (length run - left) run → to.run.now ≡ to.cursor.rest → Going profile before first ks out from → Going profile before first next ended to
+    → left ≡ length from.cursor.rest → (run : List ℕ) → run ≡ from.run.now → ended ≡ out ++ take (length run - left) run → to.run.now ≡ to.cursor.rest → GoesOn profile before first ks out from → GoesOn profile before first next ended to
 else_goes profile before out ended first from to [] next later opcode left may a parts is five same_end rest run same_run written same g = absurd cc
 else_goes profile before out ended first from to (false ∷ ks) next later opcode left may a parts is five same_end rest run same_run written same g = absurd cc
 else_goes profile before out ended first from to (true ∷ ks) next later opcode left may a parts is five same_end rest run same_run written same g =
@@ -185,10 +185,10 @@ else_goes profile before out ended first from to (true ∷ ks) next later opcode
     let read = ap (λ (r : List ℕ). token_at profile (true ∷ ks) from.cursor.end r) (sym five) ∙ token_else profile ks from.cursor.end to.cursor.rest in
     let end_there : 0x0B ∷ later ≡ to.cursor.rest = ap (λ (o : ℕ). o ∷ later) (sym is) ∙ sym parts in
     let empty : (n : ℕ) (x : With) → parts_at profile n (false ∷ ks) first.cursor.end to.cursor.rest ≡ Ok x → first_part x.0 ≡ Finish = λ n x e. is_empty profile ks first.cursor.end later n x (ap (λ (r : List ℕ). parts_at profile n (false ∷ ks) first.cursor.end r) end_there ∙ e) in
-    subst (λ (ks : List Bool). Going profile before first ks ended to) opened
+    subst (λ (ks : List Bool). GoesOn profile before first ks ended to) opened
     (g.0 ++ [], loop.drops_else profile first.cursor from.cursor to.cursor ks 0 g.0 same_end read empty g.1, adds_then g.0 [] before out ended first from to g.2 (written_out out ended left from to rest (written ∙ ap (λ (r : List ℕ). out ++ take (length r - left) r) same_run) same))
 
 -- ---- the whole expression
 
-pub expr_begins : (profile : Profile) (out : List ℕ) (from : Walk) (ks : List Bool) → ks ≡ [] → Going profile out from ks out from
-expr_begins profile out from ks none = subst (λ (ks : List Bool). Going profile out from ks out from) (sym none) ([], loop.begins profile from.cursor, adds_none out from)
+pub expr_begins : (profile : Profile) (out : List ℕ) (from : Walk) (ks : List Bool) → ks ≡ [] → GoesOn profile out from ks out from
+expr_begins profile out from ks none = subst (λ (ks : List Bool). GoesOn profile out from ks out from) (sym none) ([], loop.begins profile from.cursor, adds_none out from)

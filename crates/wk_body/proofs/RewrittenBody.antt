@@ -18,12 +18,12 @@ use Rattle.wk_body.specs.Written.{written_expr, written_group, written_body}
 use Rattle.wk_body.specs.Reading.{groups_at, expr_at, all_body_at}
 use Rattle.wk_body.specs.TokenReading.{local_groups_at}
 use Rattle.wk_body.specs.TokenReadingLaws.{body_read}
-use Rattle.wk_body.specs.Walks.{Adds, Passed, Kept, PassedGroups}
+use Rattle.wk_body.specs.Walks.{Adds, Passes, Keeps, PassesGroups}
 use Rattle.wk_body.proofs.Pieces.{valtype_takes}
 use Rattle.wk_body.proofs.GroupLoop.{Groups, with_groups, InGroups, groups_go_on, groups_end}
 use Rattle.wk_body.proofs.Walking.{passed, adds_none, adds_then}
 
-pub valtype_kept : (ty : ValType) (from to : Walk) → IsBytes from.cursor.rest → (valtype_at from.cursor.end from.cursor.rest ≡ Ok (ty, to.cursor.rest)) × (to.cursor.end ≡ from.cursor.end) → to.run.now ≡ from.run.now → Kept valtype_at ty (valtype_byte ty ∷ []) from to
+pub valtype_kept : (ty : ValType) (from to : Walk) → IsBytes from.cursor.rest → (valtype_at from.cursor.end from.cursor.rest ≡ Ok (ty, to.cursor.rest)) × (to.cursor.end ≡ from.cursor.end) → to.run.now ≡ from.run.now → Keeps valtype_at ty (valtype_byte ty ∷ []) from to
 valtype_kept ty from to fits read same = λ out.
     let t = valtype_takes from.cursor.end from.cursor.rest (ty, to.cursor.rest) fits read.0 in
     passed valtype_at ty (valtype_byte ty ∷ []) t.front out from to read t.parts same t.spelled
@@ -44,7 +44,7 @@ groups_begin count out from =
     let all : count ≡ count - 0 = omega arith in
     ([], omega arith, record { reads = none_in_front _ ∙ ap (λ (n : ℕ). with_groups [] (groups_at n 0 from.cursor.end from.cursor.rest)) all; same_end = refl }, adds_none out from)
 
-pub groups_one : (count i sum n : ℕ) (ty : ValType) (out after last : List ℕ) (from at mid to : Walk) → i < count → sum + n < 2 ^ 32 → GroupsPassed count (count - i) sum out from after at → Passed u32_at n (short n) after at last mid → Kept valtype_at ty (valtype_byte ty ∷ []) mid to
+pub groups_one : (count i sum n : ℕ) (ty : ValType) (out after last : List ℕ) (from at mid to : Walk) → i < count → sum + n < 2 ^ 32 → GroupsPassed count (count - i) sum out from after at → Passes u32_at n (short n) after at last mid → Keeps valtype_at ty (valtype_byte ty ∷ []) mid to
     → GroupsPassed count (count - (i + 1)) (sum + n) out from last to
 groups_one count i sum n ty out after last from at mid to lt few h p kept =
     let g : LocalGroup = record { count = n; ty = ty } in
@@ -59,7 +59,7 @@ groups_one count i sum n ty out after last from at mid to lt few h p kept =
     )
 
 pub groups_done : (count i sum : ℕ) (out after : List ℕ) (from to : Walk) → count ≤ i → GroupsPassed count (count - i) sum out from after to
-    → (groups : List LocalGroup) × PassedGroups count groups out from after to
+    → (groups : List LocalGroup) × PassesGroups count groups out from after to
 groups_done count i sum out after from to le h =
     let none : count - i ≡ 0 = omega arith in
     (h.0, (omega (arith, h.1, none), record { is = groups_end h.0 (count - i) sum from.cursor to.cursor _ none h.2; same_end = h.2.same_end; adds = h.3 }))
@@ -70,8 +70,8 @@ locals_at : (count end : ℕ) (groups : List LocalGroup) (bytes counted rest : L
 unfolding local_groups_at
 locals_at count end groups bytes counted rest c g = rw (c, g) refl
 
-pub locals_passed : (count : ℕ) (groups : List LocalGroup) (out between after : List ℕ) (from mid to : Walk) → length groups ≡ count → Passed u32_at count (short count) out from between mid → Passed (groups_at count 0) groups (flat_map written_group groups) between mid after to
-    → Passed local_groups_at groups (written_vector written_group groups) out from after to
+pub locals_passed : (count : ℕ) (groups : List LocalGroup) (out between after : List ℕ) (from mid to : Walk) → length groups ≡ count → Passes u32_at count (short count) out from between mid → Passes (groups_at count 0) groups (flat_map written_group groups) between mid after to
+    → Passes local_groups_at groups (written_vector written_group groups) out from after to
 locals_passed count groups out between after from mid to long p q =
     let there : groups_at count 0 from.cursor.end mid.cursor.rest ≡ Ok (groups, to.cursor.rest) = ap (λ (end : ℕ). groups_at count 0 end mid.cursor.rest) (sym p.same_end) ∙ q.is in
     record {
@@ -80,8 +80,8 @@ locals_passed count groups out between after from mid to long p q =
       adds = subst (λ (n : ℕ). Adds (short n ++ flat_map written_group groups) out from after to) (sym long) (adds_then (short count) (flat_map written_group groups) out between after from mid to p.adds q.adds);
     }
 
-pub body_written : (profile : Profile) (groups : List LocalGroup) (t : Instrs) (empty between after out : List ℕ) (from mid to : Walk) → empty ≡ [] → from.run.now ≡ from.cursor.rest → Passed local_groups_at groups (written_vector written_group groups) empty from between mid
-    → Passed (expr_at profile) t (written_expr t) between mid after to → to.cursor.rest ≡ [] → out ≡ after ++ take (length to.run.now - 0) to.run.now → (b : BodyOf) × (all_body_at profile from.cursor.end from.cursor.rest ≡ Ok b) × (out ≡ written_body b)
+pub body_written : (profile : Profile) (groups : List LocalGroup) (t : Instrs) (empty between after out : List ℕ) (from mid to : Walk) → empty ≡ [] → from.run.now ≡ from.cursor.rest → Passes local_groups_at groups (written_vector written_group groups) empty from between mid
+    → Passes (expr_at profile) t (written_expr t) between mid after to → to.cursor.rest ≡ [] → out ≡ after ++ take (length to.run.now - 0) to.run.now → (b : BodyOf) × (all_body_at profile from.cursor.end from.cursor.rest ≡ Ok b) × (out ≡ written_body b)
 body_written profile groups t empty between after out from mid to none whole p q all is =
     let there : expr_at profile from.cursor.end mid.cursor.rest ≡ Ok (t, []) = ap (λ (end : ℕ). expr_at profile end mid.cursor.rest) (sym p.same_end) ∙ q.is ∙ ap (λ (r : List ℕ). Ok (t, r)) all in
     let bytes = written_vector written_group groups ++ written_expr t in

@@ -9,7 +9,7 @@ use Rattle.wk_bytes.specs.Span.{u32_at}
 use Rattle.wk_body.specs.declared.walk.Walk.{Walk}
 use Rattle.wk_body.specs.Vectors.{items_at, written_vector}
 use Rattle.wk_body.specs.Reading.{labels_at}
-use Rattle.wk_body.specs.Walks.{Holds, Adds, Passed}
+use Rattle.wk_body.specs.Walks.{Holds, Adds, Passes}
 use Rattle.wk_body.proofs.Labels.{items_length}
 use Rattle.wk_body.proofs.TokenSteps.{LabelsLeft, labels_start, labels_more, labels_done, labels_read}
 
@@ -22,7 +22,7 @@ stays bytes front out from to parts same is = λ written h. (
 )
 
 pub passed : {A : Type 0} (read : ℕ → List ℕ → Result (A × List ℕ) ReadFault) (x : A) (bytes front out : List ℕ) (from to : Walk) → (read from.cursor.end from.cursor.rest ≡ Ok (x, to.cursor.rest)) × (to.cursor.end ≡ from.cursor.end)
-    → from.cursor.rest ≡ front ++ to.cursor.rest → to.run.now ≡ from.run.now → front ≡ bytes → Passed read x bytes out from out to
+    → from.cursor.rest ≡ front ++ to.cursor.rest → to.run.now ≡ from.run.now → front ≡ bytes → Passes read x bytes out from out to
 passed read x bytes front out from to e parts same is = record { is = e.0; same_end = e.1; adds = stays bytes front out from to parts same is }
 
 -- ---- one after the other
@@ -42,7 +42,7 @@ LabelsPassed count left out from after to = (labels : List ℕ) × LabelsLeft la
 pub labels_begin : (count : ℕ) (out : List ℕ) (from : Walk) → LabelsPassed count (count - 0) out from out from
 labels_begin count out from = ([], labels_start [] count from.cursor refl, adds_none out from)
 
-pub labels_one : (count i n : ℕ) (out after last : List ℕ) (from to end : Walk) → i < count → LabelsPassed count (count - i) out from after to → Passed u32_at n (short n) after to last end → LabelsPassed count (count - (i + 1)) out from last end
+pub labels_one : (count i n : ℕ) (out after last : List ℕ) (from to end : Walk) → i < count → LabelsPassed count (count - i) out from after to → Passes u32_at n (short n) after to last end → LabelsPassed count (count - (i + 1)) out from last end
 labels_one count i n out after last from to end lt h p =
     let all = flat_map-append short h.0 (n ∷ []) ∙ ap (λ (b : List ℕ). flat_map short h.0 ++ b) (append-nil (short n)) in (
       h.0 ++ n ∷ [],
@@ -50,14 +50,14 @@ labels_one count i n out after last from to end lt h p =
       subst (λ (b : List ℕ). Adds b out from last end) (sym all) (adds_then (flat_map short h.0) (short n) out after last from to end h.2 p.adds),
     )
 
-pub labels_end : (count i : ℕ) (out after : List ℕ) (from to : Walk) → count ≤ i → LabelsPassed count (count - i) out from after to → (labels : List ℕ) × Passed (items_at u32_at count) labels (flat_map short labels) out from after to
+pub labels_end : (count i : ℕ) (out after : List ℕ) (from to : Walk) → count ≤ i → LabelsPassed count (count - i) out from after to → (labels : List ℕ) × Passes (items_at u32_at count) labels (flat_map short labels) out from after to
 labels_end count i out after from to le h =
     let d = labels_done h.0 count i from.cursor to.cursor _ le h.1 in
     (h.0, record { is = d.0; same_end = d.1; adds = h.2 })
 
 -- a vector of labels and one more
-pub table_passed : (count other : ℕ) (labels : List ℕ) (out counted labelled last : List ℕ) (from a b to : Walk) → Passed u32_at count (short count) out from counted a → Passed (items_at u32_at count) labels (flat_map short labels) counted a labelled b
-    → Passed u32_at other (short other) labelled b last to → (t : List ℕ × ℕ) × Passed labels_at t (written_vector short t.0 ++ short t.1) out from last to
+pub table_passed : (count other : ℕ) (labels : List ℕ) (out counted labelled last : List ℕ) (from a b to : Walk) → Passes u32_at count (short count) out from counted a → Passes (items_at u32_at count) labels (flat_map short labels) counted a labelled b
+    → Passes u32_at other (short other) labelled b last to → (t : List ℕ × ℕ) × Passes labels_at t (written_vector short t.0 ++ short t.1) out from last to
 table_passed count other labels out counted labelled last from a b to p q r =
     let long : length labels ≡ count = items_length count a.cursor.end a.cursor.rest (labels, b.cursor.rest) q.is in
     let three = adds_then (short count ++ flat_map short labels) (short other) out labelled last from b to (adds_then (short count) (flat_map short labels) out counted labelled from a b p.adds q.adds) r.adds in (

@@ -7,7 +7,7 @@ use Rattle.wk_body.specs.ToWrite.{to_write}
 
 -- Of what stands at the cursor `from`, all in front of the cursor `at` is read, these blocks are open there, and this is written: with
 -- what is to be written behind, it is the written form.
-pub record Copying (profile : Profile) (from : Span) (ks : List Bool) (at : Span) (written : List ℕ) : Type 0 where
+pub record Copies (profile : Profile) (from : Span) (ks : List Bool) (at : Span) (written : List ℕ) : Type 0 where
   pub same_end : at.end ≡ from.end
   pub steps : ℕ
   pub enough : length at.rest < steps

@@ -11,7 +11,7 @@ use Rattle.wk_body.specs.Instructions.{Plain}
 use Rattle.wk_body.specs.Tree.{Instrs}
 use Rattle.wk_body.specs.Reading.{plain_at, type_here, groups_at, expr_at}
 use Rattle.wk_body.specs.Written.{plain_bytes, type_bytes, written_group, written_expr}
-use Rattle.wk_body.specs.Copying.{Copying}
+use Rattle.wk_body.specs.Copying.{Copies}
 
 -- the bytes that are written, with those of the run that lie in front of the cursor
 abbrev pub Holds : List ℕ → Walk → List ℕ → Type 0
@@ -22,18 +22,18 @@ abbrev pub Adds : List ℕ → List ℕ → Walk → List ℕ → Walk → Type 
 Adds bytes out from after to = (written : List ℕ) → Holds out from written → Holds after to (written ++ bytes)
 
 -- a call read that value and wrote its bytes
-pub record Passed {A : Type 0} (read : ℕ → List ℕ → Result (A × List ℕ) ReadFault) (x : A) (bytes : List ℕ)
+pub record Passes {A : Type 0} (read : ℕ → List ℕ → Result (A × List ℕ) ReadFault) (x : A) (bytes : List ℕ)
     (out : List ℕ) (from : Walk) (after : List ℕ) (to : Walk) : Type 0 where
   pub is : read from.cursor.end from.cursor.rest ≡ Ok (x, to.cursor.rest)
   pub same_end : to.cursor.end ≡ from.cursor.end
   pub adds : Adds bytes out from after to
 
 -- a call read that value and left its bytes in the run, whatever is written
-abbrev pub Kept : {A : Type 0} → (ℕ → List ℕ → Result (A × List ℕ) ReadFault) → A → List ℕ → Walk → Walk → Type 0
-Kept read x bytes from to = (out : List ℕ) → Passed read x bytes out from out to
+abbrev pub Keeps : {A : Type 0} → (ℕ → List ℕ → Result (A × List ℕ) ReadFault) → A → List ℕ → Walk → Walk → Type 0
+Keeps read x bytes from to = (out : List ℕ) → Passes read x bytes out from out to
 
 -- a call read an instruction that holds no others, behind its opcode, and wrote what stands behind that
-pub record PassedPlain (profile : Profile) (opcode : ℕ) (out : List ℕ) (from : Walk) (after : List ℕ) (to : Walk) : Type 0 where
+pub record PassesPlain (profile : Profile) (opcode : ℕ) (out : List ℕ) (from : Walk) (after : List ℕ) (to : Walk) : Type 0 where
   pub instr : Plain
   pub is : (e : ReadFault) → plain_at profile e opcode from.cursor.end from.cursor.rest ≡ Ok (instr, to.cursor.rest)
   pub same_end : to.cursor.end ≡ from.cursor.end
@@ -42,14 +42,14 @@ pub record PassedPlain (profile : Profile) (opcode : ℕ) (out : List ℕ) (from
   pub adds : Adds bytes out from after to
 
 -- a call read the type of a block that opens at that offset, where these blocks are open
-abbrev pub PassedType : Profile → List Bool → ℕ → BlockType → List ℕ → Walk → List ℕ → Walk → Type 0
-PassedType profile ks at ty out from after to =
-    Passed (type_here profile ks (record { kind = TooDeep; at = at })) ty (type_bytes ty) out from after to
+abbrev pub PassesType : Profile → List Bool → ℕ → BlockType → List ℕ → Walk → List ℕ → Walk → Type 0
+PassesType profile ks at ty out from after to =
+    Passes (type_here profile ks (record { kind = TooDeep; at = at })) ty (type_bytes ty) out from after to
 
 -- a call read that many local groups
-abbrev pub PassedGroups : ℕ → List LocalGroup → List ℕ → Walk → List ℕ → Walk → Type 0
-PassedGroups count groups out from after to =
-    (length groups ≡ count) × Passed (groups_at count 0) groups (flat_map written_group groups) out from after to
+abbrev pub PassesGroups : ℕ → List LocalGroup → List ℕ → Walk → List ℕ → Walk → Type 0
+PassesGroups count groups out from after to =
+    (length groups ≡ count) × Passes (groups_at count 0) groups (flat_map written_group groups) out from after to
 
 -- ---- expressions
 
@@ -60,10 +60,10 @@ pub record Behind (opcode : ℕ) (from to : Walk) : Type 0 where
   pub same_run : to.run.now ≡ from.run.now
 
 -- of an expression that stands at the cursor of `from`, all in front of the cursor of `to` is read and written, and these blocks are open
-abbrev pub Going : Profile → List ℕ → Walk → List Bool → List ℕ → Walk → Type 0
-Going profile out from ks after to = (written : List ℕ) × Copying profile from.cursor ks to.cursor written × Adds written out from after to
+abbrev pub GoesOn : Profile → List ℕ → Walk → List Bool → List ℕ → Walk → Type 0
+GoesOn profile out from ks after to = (written : List ℕ) × Copies profile from.cursor ks to.cursor written × Adds written out from after to
 
 -- or all of it is
 abbrev pub Goes : Bool → Profile → List ℕ → Walk → List Bool → List ℕ → Walk → Type 0
-Goes false profile out from ks after to = Going profile out from ks after to
-Goes true profile out from ks after to = (t : Instrs) × Passed (expr_at profile) t (written_expr t) out from after to
+Goes false profile out from ks after to = GoesOn profile out from ks after to
+Goes true profile out from ks after to = (t : Instrs) × Passes (expr_at profile) t (written_expr t) out from after to

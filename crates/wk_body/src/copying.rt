@@ -12,7 +12,7 @@ ghost use Rattle.wk_body.specs.Reading.{expr_at, all_body_at};
 ghost use Rattle.wk_body.specs.TokenReading.{local_groups_at};
 ghost use Rattle.wk_body.specs.TokenSteps.{Opens};
 ghost use Rattle.wk_body.specs.Written.{type_bytes, written_group, written_expr, written_body};
-ghost use Rattle.wk_body.specs.Walks.{Passed, PassedType, PassedGroups, Kept, Behind, Going, Goes};
+ghost use Rattle.wk_body.specs.Walks.{Passes, PassesType, PassesGroups, Keeps, Behind, GoesOn, Goes};
 ghost use Rattle.wk_body.specs.Bodies.{BodyOf};
 
 use crate::length::type_len;
@@ -44,7 +44,7 @@ fn pass_type(
     walk: &mut Walk<'_>,
     out: &mut Vec<u8>,
 ) -> Option<BlockType>
-    ensures { IfSome result (λ ty. PassedType profile reader.now.kinds at ty out.old.items walk.old out.new.items walk.new) }
+    ensures { IfSome result (λ ty. PassesType profile reader.now.kinds at ty out.old.items walk.old out.new.items walk.new) }
 {
     // The proof asks what this says: each byte is below 256.
     are_bytes(walk.cursor.rest());
@@ -70,7 +70,7 @@ fn pass_opening(
     walk: &mut Walk<'_>,
     out: &mut Vec<u8>,
 ) -> Option<BlockType>
-    ensures passed { IfSome result (λ ty. PassedType profile reader.old.kinds at ty out.old.items walk.old out.new.items walk.new) }
+    ensures passed { IfSome result (λ ty. PassesType profile reader.old.kinds at ty out.old.items walk.old out.new.items walk.new) }
     ensures opened { IfSome result (λ _. Opens is_if reader.old reader.new) }
 {
     let ty = pass_type(profile, at, reader, walk, out)?;
@@ -89,8 +89,8 @@ fn pass_else(
     out: &mut Vec<u8>,
 ) -> Option<()>
     ensures { (profile : Profile) (before : List ℕ) (from at : Walk) → Behind 0x05 at walk.old → left ≡ length at.cursor.rest
-        → Going profile before from reader.old.kinds out.old.items at
-        → IfSome result (λ _. Going profile before from reader.new.kinds out.new.items walk.new) }
+        → GoesOn profile before from reader.old.kinds out.old.items at
+        → IfSome result (λ _. GoesOn profile before from reader.new.kinds out.new.items walk.new) }
 {
     let at = walk.cursor.at();
     let Ok(_) = reader.other(at) else {
@@ -113,7 +113,7 @@ fn pass_token(
     walk: &mut Walk<'_>,
     out: &mut Vec<u8>,
 ) -> Option<bool>
-    ensures { (before : List ℕ) (from : Walk) → Going profile before from reader.old.kinds out.old.items walk.old
+    ensures { (before : List ℕ) (from : Walk) → GoesOn profile before from reader.old.kinds out.old.items walk.old
         → IfSome result (λ last. Goes last profile before from reader.new.kinds out.new.items walk.new) }
 {
     let at = walk.cursor.at();
@@ -157,7 +157,7 @@ fn pass_expr(
     out: &mut Vec<u8>,
 ) -> Option<()>
     ensures { IfSome result (λ _. (t : Instrs)
-        × Passed (expr_at profile) t (written_expr t) out.old.items walk.old out.new.items walk.new) }
+        × Passes (expr_at profile) t (written_expr t) out.old.items walk.old out.new.items walk.new) }
 {
     reader.begin();
     for _ in 0..walk.cursor.rest().len() {
@@ -171,7 +171,7 @@ fn pass_expr(
 // A local group's type.
 #[inline(always)]
 fn pass_valtype(walk: &mut Walk<'_>) -> Option<ValType>
-    ensures { IfSome result (λ ty. Kept valtype_at ty (valtype_byte ty ∷ []) walk.old walk.new) }
+    ensures { IfSome result (λ ty. Keeps valtype_at ty (valtype_byte ty ∷ []) walk.old walk.new) }
 {
     // The proof asks what this says: each byte is below 256.
     are_bytes(walk.cursor.rest());
@@ -183,7 +183,7 @@ fn pass_valtype(walk: &mut Walk<'_>) -> Option<ValType>
 
 // So many local groups.
 fn pass_groups(count: u32, walk: &mut Walk<'_>, out: &mut Vec<u8>) -> Option<()>
-    ensures { IfSome result (λ _. (groups : List LocalGroup) × PassedGroups count groups out.old.items walk.old out.new.items walk.new) }
+    ensures { IfSome result (λ _. (groups : List LocalGroup) × PassesGroups count groups out.old.items walk.old out.new.items walk.new) }
 {
     let mut declared: u32 = 0;
     for _ in 0..count {
@@ -200,7 +200,7 @@ fn pass_groups(count: u32, walk: &mut Walk<'_>, out: &mut Vec<u8>) -> Option<()>
 // The local groups of a body.
 fn pass_locals(walk: &mut Walk<'_>, out: &mut Vec<u8>) -> Option<()>
     ensures { IfSome result (λ _. (groups : List LocalGroup)
-        × Passed local_groups_at groups (written_vector written_group groups) out.old.items walk.old out.new.items walk.new) }
+        × Passes local_groups_at groups (written_vector written_group groups) out.old.items walk.old out.new.items walk.new) }
 {
     let count = walk.pass_u32(out)?;
     pass_groups(count, walk, out)?;
@@ -257,7 +257,8 @@ fn append_read(
 }
 
 impl Scratch {
-    /// Appends the written form of the one body that all that the cursor has left spells (5.5.13). It is read once and not kept.
+    /// Appends the written form of the one body that all that the cursor has left spells (5.5.13). It is read once and not kept;
+    /// one that is refused is read again for its fault.
     ///
     /// # Errors
     /// The first fault from left to right, which says that the bytes spell no body of the profile, or `Memory` at 0 where a growth

@@ -10,7 +10,7 @@ ghost use Rattle.wk_bytes.specs.Short.{short, short_signed};
 ghost use Rattle.wk_bytes.specs.Span.{u32_at, signed_at, word_at};
 ghost use Rattle.wk_body.specs.Vectors.{items_at, written_vector};
 ghost use Rattle.wk_body.specs.Reading.{reserved_at, labels_at};
-ghost use Rattle.wk_body.specs.Walks.{Passed, Kept, PassedPlain};
+ghost use Rattle.wk_body.specs.Walks.{Passes, Keeps, PassesPlain};
 
 use crate::layout::{Layout, layout_of};
 use crate::reading::{are_bytes, reserved};
@@ -54,7 +54,7 @@ impl Walk<'_> {
     // An unsigned integer.
     #[inline(always)]
     pub(crate) fn pass_u32(&mut self, out: &mut Vec<u8>) -> Option<u32>
-        ensures { IfSome result (λ n. Passed u32_at n (short n) out.old.items self.old out.new.items self.new) }
+        ensures { IfSome result (λ n. Passes u32_at n (short n) out.old.items self.old out.new.items self.new) }
     {
         let left = self.cursor.rest().len();
         let Ok(n) = self.cursor.u32() else {
@@ -71,7 +71,7 @@ impl Walk<'_> {
     // A signed integer of 32 bits.
     #[inline(always)]
     fn pass_s32(&mut self, out: &mut Vec<u8>) -> Option<i32>
-        ensures { IfSome result (λ n. Passed (signed_at 32) n (short_signed n) out.old.items self.old out.new.items self.new) }
+        ensures { IfSome result (λ n. Passes (signed_at 32) n (short_signed n) out.old.items self.old out.new.items self.new) }
     {
         let left = self.cursor.rest().len();
         let Ok(n) = self.cursor.s32() else {
@@ -88,7 +88,7 @@ impl Walk<'_> {
     // A signed integer of 64 bits.
     #[inline(always)]
     fn pass_s64(&mut self, out: &mut Vec<u8>) -> Option<i64>
-        ensures { IfSome result (λ n. Passed (signed_at 64) n (short_signed n) out.old.items self.old out.new.items self.new) }
+        ensures { IfSome result (λ n. Passes (signed_at 64) n (short_signed n) out.old.items self.old out.new.items self.new) }
     {
         let left = self.cursor.rest().len();
         let Ok(n) = self.cursor.s64() else {
@@ -105,7 +105,7 @@ impl Walk<'_> {
     // A word of four bytes.
     #[inline(always)]
     fn pass_word32(&mut self) -> Option<u32>
-        ensures { IfSome result (λ word. Kept (word_at 4) word (little_bytes 4 word) self.old self.new) }
+        ensures { IfSome result (λ word. Keeps (word_at 4) word (little_bytes 4 word) self.old self.new) }
     {
         // The proof asks what this says: each byte is below 256.
         are_bytes(self.cursor.rest());
@@ -118,7 +118,7 @@ impl Walk<'_> {
     // A word of eight bytes.
     #[inline(always)]
     fn pass_word64(&mut self) -> Option<u64>
-        ensures { IfSome result (λ word. Kept (word_at 8) word (little_bytes 8 word) self.old self.new) }
+        ensures { IfSome result (λ word. Keeps (word_at 8) word (little_bytes 8 word) self.old self.new) }
     {
         // The proof asks what this says: each byte is below 256.
         are_bytes(self.cursor.rest());
@@ -131,7 +131,7 @@ impl Walk<'_> {
     // A reserved byte.
     #[inline(always)]
     fn pass_reserved(&mut self) -> Option<u8>
-        ensures { IfSome result (λ zero. Kept reserved_at zero (0x00 ∷ []) self.old self.new) }
+        ensures { IfSome result (λ zero. Keeps reserved_at zero (0x00 ∷ []) self.old self.new) }
     {
         let Ok(zero) = reserved(&mut self.cursor) else {
             return None;
@@ -143,7 +143,7 @@ impl Walk<'_> {
     #[inline(always)]
     fn pass_labels(&mut self, count: u32, out: &mut Vec<u8>) -> Option<()>
         ensures { IfSome result (λ _. (labels : List ℕ)
-            × Passed (items_at u32_at count) labels (flat_map short labels) out.old.items self.old out.new.items self.new) }
+            × Passes (items_at u32_at count) labels (flat_map short labels) out.old.items self.old out.new.items self.new) }
     {
         for _ in 0..count {
             self.pass_u32(out)?;
@@ -155,7 +155,7 @@ impl Walk<'_> {
     #[inline(always)]
     fn pass_table(&mut self, out: &mut Vec<u8>) -> Option<()>
         ensures { IfSome result (λ _. (t : List ℕ × ℕ)
-            × Passed labels_at t (written_vector short t.0 ++ short t.1) out.old.items self.old out.new.items self.new) }
+            × Passes labels_at t (written_vector short t.0 ++ short t.1) out.old.items self.old out.new.items self.new) }
     {
         let count = self.pass_u32(out)?;
         self.pass_labels(count, out)?;
@@ -171,7 +171,7 @@ impl Walk<'_> {
         opcode: u8,
         out: &mut Vec<u8>,
     ) -> Option<()>
-        ensures { IfSome result (λ _. PassedPlain profile opcode out.old.items self.old out.new.items self.new) }
+        ensures { IfSome result (λ _. PassesPlain profile opcode out.old.items self.old out.new.items self.new) }
     {
         match layout_of(profile, opcode)? {
             Layout::Nothing => Some(()),
