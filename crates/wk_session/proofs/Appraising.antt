@@ -1,10 +1,9 @@
 -- What the length and the verdict of a module say of whether it may stay.
-use Rattle.std.proofs.Common.{◌≡◌, ℕ, Bool, true, false, Some, None, Result, Ok, Err, List, length, map, refl, ap, ◌∙◌}
+use Rattle.std.proofs.Common.{◌≡◌, ℕ, Bool, true, false, Option, Some, None, Result, Ok, Err, List, length, map, refl, ap, ◌∙◌}
 use Rattle.wk_bytes.specs.Leb.{◌>>=◌}
 use Rattle.wk_body.specs.declared.types.Profile.{Profile}
 use Rattle.wk_body.specs.Lengths.{limited}
 use Rattle.wk_module.specs.declared.lists.Lists.{Lists}
-use Rattle.wk_module.specs.declared.types.Custom.{Custom}
 use Rattle.wk_module.specs.declared.types.Parts.{Parts}
 use Rattle.wk_module.specs.Listed.{listed}
 use Rattle.wk_module.specs.Sections.{SectionLists}
@@ -24,9 +23,9 @@ use Rattle.wk_session.specs.Kept.{IsPending, standing}
 use Rattle.wk_session.proofs.Outcomes.{fitting-kept, fitting-none}
 
 -- their verdict is that of the module
-pub verdict_lent : (l : Lists) (vs : List BodyVerdict) (sizes : List ℕ) (cs : List Custom) (n : Parts) → IsPending l vs sizes cs n
+pub verdict_lent : (l : Lists) (vs : List BodyVerdict) (len : Option ℕ) (n : Parts) → IsPending l vs len n
     → verdict_around l.profile (listed l) (first_in 10 0 (map body_flaw vs)) ≡ module_verdict n
-verdict_lent l vs sizes cs n p =
+verdict_lent l vs len n p =
     ap (λ (f : Profile). verdict_around f (listed l) (first_in 10 0 (map body_flaw vs))) p.profile
     ∙ ap (λ (s : SectionLists). verdict_around n.profile s (first_in 10 0 (map body_flaw vs))) p.lists
     ∙ ap (λ (ws : List BodyVerdict). verdict_around n.profile (lists_of n) (first_in 10 0 (map body_flaw ws))) p.verdicts

@@ -1,11 +1,14 @@
 -- Custom sections changed, and what is kept then.
-use Rattle.std.proofs.Common.{◌≡◌, ◌≢◌, ℕ, Bool, true, false, if◌then◌else◌, List, [], ◌∷◌, filter, length, Some, Result, Ok, Err, refl, sym, ap, subst, ◌∙◌, arith}
+use Rattle.std.proofs.Common.{◌≡◌, ◌≢◌, ◌+◌, ◌-◌, ◌≤◌, ℕ, Bool, true, false, if◌then◌else◌, List, [], ◌∷◌, filter, length, nat_le, Some, None, Result, Ok, Err, refl, sym, ap, subst, ◌∙◌, arith}
+use Rattle.std.proofs.lemmas.Bool.{cond-true, le-leb}
 use Rattle.std.specs.List.{list_any}
+use Rattle.wk_bytes.specs.Frames.{limit}
 use Rattle.wk_bytes.specs.Leb.{◌>>=◌}
 use Rattle.wk_body.specs.Lengths.{limited}
+use Rattle.wk_body.specs.LengthsLaws.{limited_some}
 use Rattle.wk_module.specs.declared.types.Custom.{Custom}
 use Rattle.wk_module.specs.declared.types.Parts.{Parts}
-use Rattle.wk_module.specs.Shape.{IsFormed, settle}
+use Rattle.wk_module.specs.Shape.{IsFormed, IsInOrderFrom, settle}
 use Rattle.wk_module.specs.Writing.{encoded, Fits}
 use Rattle.wk_module.specs.WritingLaws.{length-encoded_filter, length-encoded_settle}
 use Rattle.wk_session.specs.declared.edit.Edit.TheVariants as edits
@@ -13,10 +16,13 @@ use Rattle.wk_session.specs.declared.edit.EditFault.{EditFault}
 use Rattle.wk_session.specs.declared.edit.EditFault.TheVariants.{NoSuchCustom, Memory}
 use Rattle.wk_session.specs.declared.edit.Work.{Work}
 use Rattle.wk_session.specs.declared.kept.Kept.{Kept}
-use Rattle.wk_session.specs.Customs.{IsChecked, IsPut}
+use Rattle.wk_session.specs.Customs.{IsChecked, IsPut, with_customs_len}
 use Rattle.wk_session.specs.Edits.{fitting, is_large, is_named, with_custom, without_customs, lasting, made}
 use Rattle.wk_session.specs.Kept.{IsKept, Leads, standing}
+use Rattle.wk_session.specs.Pieces.{customs_size}
+use Rattle.wk_session.proofs.CustomPuts.{length_customs}
 use Rattle.wk_session.proofs.Outcomes.{fitting-kept}
+use Rattle.wk_session.proofs.Piecing.{customs_within}
 use Rattle.wk_session.proofs.Works.{set_work}
 
 pub filtered_fits : (keep : Custom → Bool) (m n : Parts) → n ≡ record m { customs = filter keep m.customs } → Fits m → Fits n
@@ -33,16 +39,38 @@ bare_fits m fits = filtered_fits (λ c. false) m (record m { customs = [] }) (ap
 pub fits_settled : (n : Parts) (len : ℕ) → IsFormed n → limited (length (encoded n)) ≡ Some len → fitting (settle n) ≡ Ok (settle n)
 fits_settled n len formed is = fitting-kept (settle n) len (ap limited (length-encoded_settle n formed.order) ∙ is)
 
--- with other customs all that is kept stays, but for the length
-pub customs_kept : (m : Parts) (cs : List Custom) (k : Kept) (len : ℕ) → IsKept m k → limited (length (encoded (record m { customs = cs }))) ≡ Some len → IsKept (record m { customs = cs }) (record k { len = len })
-customs_kept m cs k len kept is = record {
-  verdict = kept.verdict;
-  len = is;
-  types = kept.types;
-  verdicts = kept.verdicts;
-  refs = kept.refs;
-  code_sizes = kept.code_sizes;
-}
+-- the length of a module that is not too large
+pub limited_fits : (n len : ℕ) → n ≤ limit → len ≡ n → limited n ≡ Some len
+limited_fits n len fits is = cond-true (nat_le n limit) (Some n) None (le-leb n limit fits) ∙ ap Some (sym is)
+
+-- ---- what is kept, with other customs
+
+module _ (m : Parts) (cs : List Custom) (k : Kept) (order : IsInOrderFrom 0 m.customs) (kept : IsKept m k) where
+  pub customs_before : k.pieces.customs_len ≤ k.len
+  customs_before = omega (arith, customs_within m order, kept.pieces.customs_len, limited_some k.len (length (encoded m)) (sym kept.len))
+
+  pub customs_length : IsInOrderFrom 0 cs → k.len - k.pieces.customs_len + customs_size cs ≡ length (encoded (record m { customs = cs }))
+  customs_length new =
+      omega (arith, customs_within m order, kept.pieces.customs_len, limited_some k.len (length (encoded m)) (sym kept.len), length_customs m cs order new)
+
+  pub customs_after : IsInOrderFrom 0 cs → (len : ℕ) → limited (length (encoded (record m { customs = cs }))) ≡ Some len → k.len - k.pieces.customs_len ≤ len
+  customs_after new len is = omega (arith, customs_length new, limited_some len (length (encoded (record m { customs = cs }))) (sym is))
+
+  -- all stays but for the length, and how much of it the customs are
+  pub customs_kept : IsInOrderFrom 0 cs → (len : ℕ) → limited (length (encoded (record m { customs = cs }))) ≡ Some len → IsKept (record m { customs = cs }) (with_customs_len len k)
+  customs_kept new len is = record {
+    verdict = kept.verdict;
+    len = is;
+    types = kept.types;
+    verdicts = kept.verdicts;
+    refs = kept.refs;
+    pieces = record {
+      sections = kept.pieces.sections;
+      codes = kept.pieces.codes;
+      codes_len = kept.pieces.codes_len;
+      customs_len = omega (arith, customs_length new, limited_some len (length (encoded (record m { customs = cs }))) (sym is), customs_before);
+    };
+  }
 
 module _ {A : Type 0} (keep : Bool) (m n p : Parts) (k : Kept) (same : p ≡ m) where
   put_refused : (r : Result A EditFault) (f : EditFault) → (y : EditFault) × (r ≡ Err y) × (y ≡ f) → (f ≢ Memory → standing keep n ≡ Err f) → (f ≡ Memory → fitting (settle n) ≡ Ok (settle n)) → IsPut keep m n k r p k

@@ -102,7 +102,7 @@ frames_last [] d = frames_more d [] ∙ omega arith
 frames_last (c ∷ cs) d = omega (arith, frames_more c cs, frames_more c (cs ++ d ∷ []), frames_last cs d)
 
 -- other customs change a module's length by their own
-length_customs : (m : Parts) (cs : List Custom) → IsInOrderFrom 0 m.customs → IsInOrderFrom 0 cs → length (encoded (record m { customs = cs })) + frames m.customs ≡ length (encoded m) + frames cs
+pub length_customs : (m : Parts) (cs : List Custom) → IsInOrderFrom 0 m.customs → IsInOrderFrom 0 cs → length (encoded (record m { customs = cs })) + frames m.customs ≡ length (encoded m) + frames cs
 length_customs m cs order new = omega (arith, length-encoded m order, length-encoded (record m { customs = cs }) new)
 
 pub length_bytes : (i : ℕ) (bytes : List ℕ) (m : Parts) (d : Custom) → IsInOrderFrom 0 m.customs → i < length m.customs → d ≡ slice_index_or m.customs i d

@@ -28,7 +28,8 @@ use Rattle.wk_session.specs.declared.edits.import.ImportPlan.{ImportPlan}
 use Rattle.wk_session.specs.Edits.{import_place, made, lasting}
 use Rattle.wk_session.specs.Imported.{after_import, IsImportPlan, IsUnplanned}
 use Rattle.wk_session.specs.Kept.{uses_of, code_size, standing}
-use Rattle.wk_session.specs.MovedEntries.{with_items, is_too_long}
+use Rattle.wk_session.specs.MovedEntries.{is_too_long}
+use Rattle.wk_session.specs.Overlays.{with_items}
 use Rattle.wk_session.proofs.ImportEdits.{AreLaid, made_free, made_stuck}
 use Rattle.wk_session.proofs.Replacing.{map-with_items}
 

@@ -22,7 +22,7 @@ use Rattle.wk_module.specs.WritingLaws.{length-encoded_sizes, size_some}
 
 -- ---- of a list
 
-past_limit : (n : ℕ) → limit < n → None ≡ limited n
+pub past_limit : (n : ℕ) → limit < n → None ≡ limited n
 past_limit n past = sym (cond-false (nat_le n limit) (Some n) None (lt-leb n limit past))
 
 size_rises : (n : ℕ) → n ≤ section_size n

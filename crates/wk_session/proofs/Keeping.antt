@@ -1,11 +1,18 @@
 -- What is kept of a module is kept of it with its customs settled, which have no say in it but by their length.
-use Rattle.std.proofs.Common.{ap, ◌∙◌}
+use Rattle.std.proofs.Common.{◌≡◌, ap, ◌∙◌, arith}
 use Rattle.wk_body.specs.Lengths.{limited}
 use Rattle.wk_module.specs.declared.types.Parts.{Parts}
-use Rattle.wk_module.specs.Shape.{settle, IsFormed}
-use Rattle.wk_module.specs.WritingLaws.{length-encoded_settle}
+use Rattle.wk_module.specs.Shape.{is_filled, settle, IsFormed}
+use Rattle.wk_module.specs.ShapeLaws.{settled_in_order}
+use Rattle.wk_module.specs.WritingLaws.{length-encoded, length-encoded_settle}
 use Rattle.wk_session.specs.declared.kept.Kept.{Kept}
 use Rattle.wk_session.specs.Kept.{IsKept}
+use Rattle.wk_session.specs.Pieces.{customs_size}
+
+-- settled custom sections have as many bytes
+customs_settled : (m : Parts) → IsFormed m → customs_size m.customs ≡ customs_size (settle m).customs
+customs_settled m formed =
+    omega (arith, length-encoded_settle m formed.order, length-encoded m formed.order, length-encoded (settle m) (settled_in_order (is_filled m) 0 m.customs formed.order))
 
 pub kept_settled : (m : Parts) (k : Kept) → IsFormed m → IsKept m k → IsKept (settle m) k
 kept_settled m k formed kept = record {
@@ -14,5 +21,10 @@ kept_settled m k formed kept = record {
   types = kept.types;
   verdicts = kept.verdicts;
   refs = kept.refs;
-  code_sizes = kept.code_sizes;
+  pieces = record {
+    sections = kept.pieces.sections;
+    codes = kept.pieces.codes;
+    codes_len = kept.pieces.codes_len;
+    customs_len = kept.pieces.customs_len ∙ customs_settled m formed;
+  };
 }

@@ -1,10 +1,9 @@
 -- What an edit leaves, by how judging the module that it makes was answered.
-use Rattle.std.proofs.Common.{◌≡◌, ◌≢◌, ℕ, Bool, true, false, Option, Some, None, List, Result, Ok, Err, length, refl, sym, ap, subst, ◌∙◌}
+use Rattle.std.proofs.Common.{◌≡◌, ◌≢◌, ℕ, Bool, true, false, Option, Some, None, Result, Ok, Err, length, map, refl, sym, ap, subst, ◌∙◌}
 use Rattle.std.specs.Option.{is_some}
 use Rattle.wk_bytes.specs.Leb.{◌>>=◌}
 use Rattle.wk_body.specs.declared.references.Ref.{Ref}
 use Rattle.wk_body.specs.Lengths.{limited}
-use Rattle.wk_module.specs.declared.types.Export.{Export}
 use Rattle.wk_module.specs.declared.types.Parts.{Parts}
 use Rattle.wk_module.specs.Shape.{settle, IsFormed, IsInOrderFrom}
 use Rattle.wk_module.specs.Writing.{encoded}
@@ -21,6 +20,7 @@ use Rattle.wk_session.specs.Dependents.{work_of}
 use Rattle.wk_session.specs.Edits.{fitting, lasting, made, is_decided}
 use Rattle.wk_session.specs.Judged.{AreKept, MayStay}
 use Rattle.wk_session.specs.Kept.{IsKept, IsAppraised, Leads, standing}
+use Rattle.wk_session.specs.Overlays.{with_items}
 use Rattle.wk_session.proofs.Outcomes.{fitting-kept, fitting-none}
 
 -- ---- a refusal that an edit passes on
@@ -64,32 +64,25 @@ is_none_at (Some len) h = absurd cc
 
 -- ---- an acceptance
 
--- what is kept, where a judgement of the new module comes to it
-abbrev pub with_judgement : Kept → Judgement → Kept
-with_judgement k j = record k { verdict = j.appraisal.verdict; len = j.appraisal.len; verdicts = j.verdicts }
-
-pub judged_kept : (keep : Bool) (before : Ref → Found) (n : Parts) (typed : ℕ) (k : Kept) (j : Judgement) → AreKept before n k → MayStay keep before n typed j → IsKept n (with_judgement k j)
-judged_kept keep before n typed k j kept may = record {
-  verdict = may.verdict;
-  len = may.len;
-  types = kept.types;
-  verdicts = may.verdicts;
-  refs = kept.refs;
-  code_sizes = kept.code_sizes;
+-- a judgement of the new module comes to what is kept
+pub judged_kept : (keep : Bool) (before : Ref → Found) (n : Parts) (typed : ℕ) (k new : Kept) (j : Judgement) → AreKept before n k → MayStay keep before n k typed j
+    → new ≡ record k { verdict = j.appraisal.verdict; len = j.appraisal.len; verdicts = j.verdicts; pieces = record k.pieces { sections = new.pieces.sections } }
+    → new.pieces.sections.items ≡ with_items k.pieces.sections.items j.remade.sections.items → IsKept n new
+judged_kept keep before n typed k new j kept may is sections = record {
+  verdict = ap (λ (x : Kept). x.verdict) is ∙ may.verdict;
+  len = may.len ∙ ap (λ (x : Kept). Some x.len) (sym is);
+  types = ap (λ (x : Kept). x.types.items) is ∙ kept.types;
+  verdicts = ap (λ (x : Kept). x.verdicts.items) is ∙ may.verdicts;
+  refs = ap (λ (x : Kept). map (λ s. s.keys) x.refs.items) is ∙ kept.refs;
+  pieces = record {
+    sections = sections ∙ may.sections;
+    codes = ap (λ (x : Kept). x.pieces.codes.items) is ∙ kept.codes;
+    codes_len = ap (λ (x : Kept). x.pieces.codes_len) is ∙ kept.codes_len;
+    customs_len = ap (λ (x : Kept). x.pieces.customs_len) is ∙ kept.customs_len;
+  };
 }
 
 pub accepted : (keep : Bool) (e : Edit) (m n p : Parts) (k new : Kept) (w : Work) → p ≡ n → made keep e m ≡ standing keep n → standing keep n ≡ Ok (settle n) → w ≡ work_of e m (settle n) → IsFormed n → IsKept n new → Leads keep e m (Ok w) p new
 accepted keep e m n p k new w same makes stands works formed kept =
     let at : Leads keep e m (Ok w) n new = (makes ∙ stands, works, formed, kept) in
     subst (λ (q : Parts). Leads keep e m (Ok w) q new) (sym same) at
-
--- the same where the exports alone are others, which verdicts of bodies do not see
-pub appraised_kept : (keep : Bool) (es : List Export) (m : Parts) (k : Kept) (a : Appraisal) → IsKept m k → IsAppraised keep (record m { exports = es }) (Ok a) → IsKept (record m { exports = es }) (record k { verdict = a.verdict; len = a.len })
-appraised_kept keep es m k a kept may = record {
-  verdict = may.1;
-  len = may.2;
-  types = kept.types;
-  verdicts = kept.verdicts;
-  refs = kept.refs;
-  code_sizes = kept.code_sizes;
-}

@@ -17,7 +17,6 @@ pub mod Keeping
 pub mod Settling
 pub mod Leading
 pub mod Used
-pub mod Opening
 pub mod Lasting
 pub mod EntryEdits
 pub mod BodyEdits
@@ -25,3 +24,5 @@ pub mod ItemLengths
 pub mod LastItems
 pub mod Removals
 pub mod Shrinking
+pub mod Piecing
+pub mod Putting

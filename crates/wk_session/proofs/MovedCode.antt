@@ -19,7 +19,8 @@ use Rattle.wk_session.specs.declared.edits.moved.MovedEntry.{MovedEntry}
 use Rattle.wk_session.specs.declared.edits.moved.MovedEntries.{MovedEntries}
 use Rattle.wk_session.specs.Dependents.{held}
 use Rattle.wk_session.specs.Kept.{uses_of, code_size}
-use Rattle.wk_session.specs.MovedEntries.{uses_movement, with_items, IsMovedEntry, AreMovedEntries}
+use Rattle.wk_session.specs.MovedEntries.{uses_movement, IsMovedEntry, AreMovedEntries}
+use Rattle.wk_session.specs.Overlays.{with_items}
 use Rattle.wk_session.proofs.Replacing.{with_items_push}
 
 -- ---- sets

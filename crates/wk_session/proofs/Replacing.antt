@@ -1,7 +1,7 @@
--- Lists with some items with_items.
-use Rattle.std.proofs.Common.{◌≡◌, ℕ, suc, ◌<◌, List, [], ◌∷◌, ◌++◌, length, map, set, Option, Some, None, unwrap_or, refl, ap, sym, ◌∙◌, arith}
+-- Lists with some items replaced.
+use Rattle.std.proofs.Common.{◌≡◌, ℕ, suc, ◌<◌, List, [], ◌∷◌, ◌++◌, length, map, set, slice_get, slice_index_or, Option, Some, None, unwrap_or, zero, refl, ap, sym, ◌∙◌, arith}
 use Rattle.std.specs.Prelude.{option_map}
-use Rattle.wk_session.specs.MovedEntries.{with_items}
+use Rattle.wk_session.specs.Overlays.{with_items}
 
 pub with_items_all : {A : Type 0} (xs : List A) → with_items xs [] ≡ xs
 with_items_all [] = refl
@@ -46,3 +46,16 @@ with_items_push [] [] x n h = refl
 with_items_push [] (m ∷ ns) x n h = absurd (omega arith)
 with_items_push (y ∷ xs) [] x n h = absurd (omega arith)
 with_items_push (y ∷ xs) (m ∷ ns) x n h = ap (λ ys. unwrap_or m y ∷ ys) (with_items_push xs ns x n (omega arith))
+
+-- an item that stands there
+pub with_items_new : {A : Type 0} (xs : List A) (ns : List (Option A)) (i : ℕ) (n : Option A) (y : A) → i < length xs → i < length ns → n ≡ slice_index_or ns i n → n ≡ Some y → slice_get (with_items xs ns) i ≡ Some y
+with_items_new [] ns i n y within there is new = absurd (omega arith)
+with_items_new (x ∷ xs) [] i n y within there is new = absurd (omega arith)
+with_items_new (x ∷ xs) (m ∷ ns) zero n y within there is new = ap (λ k. Some (unwrap_or k x)) (sym is ∙ new)
+with_items_new (x ∷ xs) (m ∷ ns) (suc i) n y within there is new = with_items_new xs ns i n y (omega arith) (omega arith) is new
+
+pub with_items_old : {A : Type 0} (xs : List A) (ns : List (Option A)) (i : ℕ) (n : Option A) (y : A) → i < length xs → i < length ns → n ≡ slice_index_or ns i n → n ≡ None → y ≡ slice_index_or xs i y → slice_get (with_items xs ns) i ≡ Some y
+with_items_old [] ns i n y within there is none old = absurd (omega arith)
+with_items_old (x ∷ xs) [] i n y within there is none old = absurd (omega arith)
+with_items_old (x ∷ xs) (m ∷ ns) zero n y within there is none old = ap (λ k. Some (unwrap_or k x)) (sym is ∙ none) ∙ ap Some (sym old)
+with_items_old (x ∷ xs) (m ∷ ns) (suc i) n y within there is none old = with_items_old xs ns i n y (omega arith) (omega arith) is none old

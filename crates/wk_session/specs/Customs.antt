@@ -1,5 +1,5 @@
 -- Changes of custom sections.
-use Rattle.std.specs.Prelude.{◌≡◌, ◌≢◌, ℕ, zero, suc, Bool, Some, List, [], ◌∷◌, length, Result, Ok, Err}
+use Rattle.std.specs.Prelude.{◌≡◌, ◌≢◌, ℕ, zero, suc, ◌-◌, Bool, Some, List, [], ◌∷◌, length, Result, Ok, Err}
 use Rattle.wk_body.specs.Lengths.{limited}
 use Rattle.wk_module.specs.declared.types.Custom.{Custom}
 use Rattle.wk_module.specs.declared.types.Parts.{Parts}
@@ -22,6 +22,10 @@ bytes_at (suc i) bytes (c ∷ cs) = c ∷ bytes_at i bytes cs
 -- a new custom behind all others
 abbrev pub last_custom : List ℕ → List ℕ → Custom
 last_custom name bytes = record { place = 11; name = name; bytes = bytes }
+
+-- what is kept, where the length is another by other customs
+abbrev pub with_customs_len : ℕ → Kept → Kept
+with_customs_len len k = record k { len = len; pieces = record k.pieces { customs_len = len - (k.len - k.pieces.customs_len) } }
 
 -- whether modules of this verdict may stay, or why they may not
 abbrev pub MayLast : {A : Type 0} → Bool → Verdict → Result A EditFault → Type 0

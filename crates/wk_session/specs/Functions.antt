@@ -4,6 +4,7 @@ use Rattle.wk_body.specs.declared.types.Profile.{Profile}
 use Rattle.wk_body.specs.Bodies.{BodyOf}
 use Rattle.wk_body.specs.Lengths.{limited}
 use Rattle.wk_body.specs.Reading.{all_body_at, whole_at}
+use Rattle.wk_body.specs.Written.{written_body}
 use Rattle.wk_module.specs.declared.types.Parts.{Parts}
 use Rattle.wk_module.specs.Shape.{IsFormed, settle}
 use Rattle.wk_module.specs.Writing.{encoded}
@@ -11,19 +12,28 @@ use Rattle.wk_check.specs.SpacesLaws.{answers_of}
 use Rattle.wk_check.specs.Verdict.{func_verdict, module_verdict}
 use Rattle.wk_session.specs.declared.edit.EditFault.{EditFault}
 use Rattle.wk_session.specs.declared.edits.entry.Entry.{Entry}
+use Rattle.wk_session.specs.declared.kept.Kept.{Kept}
 use Rattle.wk_session.specs.Edits.{from_bytes}
-use Rattle.wk_session.specs.Kept.{uses_of, code_size, standing}
+use Rattle.wk_session.specs.Kept.{uses_of, standing}
+use Rattle.wk_session.specs.Overlays.{with_items}
+use Rattle.wk_session.specs.Pieces.{codes_size, section_pieces}
 
 -- the body that the bytes of an edit spell, or the first fault in them
 abbrev pub body_spelled : Profile → List ℕ → Result BodyOf EditFault
 body_spelled profile code = from_bytes (whole_at (all_body_at profile) code)
 
--- n may stay, and this is to be kept of it, where a code entry with that type and body comes or changes
-pub record IsPlanned (keep : Bool) (t : ℕ) (b : BodyOf) (n : Parts) (p : Entry) : Type 0 where
+-- n may stay, and this is to be kept of it in the place of what is kept, where a code entry with that type and body comes or changes, and so
+-- many sections are made anew
+pub record IsPlanned (keep : Bool) (t : ℕ) (b : BodyOf) (n : Parts) (k : Kept) (made : ℕ) (p : Entry) : Type 0 where
   pub stands : standing keep n ≡ Ok (settle n)
   pub formed : IsFormed n
   pub verdict : p.appraisal.verdict ≡ module_verdict n
   pub len : limited (length (encoded n)) ≡ Some p.appraisal.len
   pub uses : p.uses.keys ≡ uses_of (record { ty = t; body = b })
   pub verdicts : p.verdicts.items ≡ map (func_verdict (answers_of n)) n.funcs
-  pub code_sizes : p.code_sizes.items ≡ map code_size n.funcs
+  pub code : p.code ≡ written_body b
+  pub codes_len : p.codes_len ≡ codes_size n.funcs
+  pub encoded : p.encoded ≡ 1
+  pub sections : with_items k.pieces.sections.items p.remade.sections.items ≡ section_pieces n
+  pub count : length p.remade.sections.items ≡ length k.pieces.sections.items
+  pub made : p.remade.made ≡ made

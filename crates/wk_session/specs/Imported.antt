@@ -1,5 +1,5 @@
 -- A module with an import more, and what is planned before it stands.
-use Rattle.std.specs.Prelude.{◌≡◌, ◌≢◌, ◌⊎◌, ◌-◌, ℕ, Bool, true, false, Some, length, take, map, unwrap_or, Ok}
+use Rattle.std.specs.Prelude.{◌≡◌, ◌≢◌, ◌⊎◌, ◌+◌, ◌-◌, ℕ, Bool, true, false, if◌then◌else◌, Option, Some, None, List, [], ◌∷◌, is_some, length, take, map, unwrap_or, Ok}
 use Rattle.std.specs.List.{list_any}
 use Rattle.wk_body.specs.Lengths.{limited}
 use Rattle.wk_module.specs.declared.types.Import.{Import}
@@ -8,8 +8,10 @@ use Rattle.wk_module.specs.declared.types.Parts.{Parts}
 use Rattle.wk_module.specs.Changes.{with_import}
 use Rattle.wk_module.specs.Items.{desc_kind}
 use Rattle.wk_module.specs.Moving.{moved_parts, moved_lists, are_parts_stuck}
+use Rattle.wk_module.specs.declared.moving.MovedLists.{MovedLists}
+use Rattle.wk_module.specs.Sections.{SectionLists, of_number}
 use Rattle.wk_module.specs.Shape.{IsFormed, settle}
-use Rattle.wk_module.specs.Writing.{encoded}
+use Rattle.wk_module.specs.Writing.{contents_by, encoded}
 use Rattle.wk_check.specs.SpacesLaws.{answers_of}
 use Rattle.wk_check.specs.Verdict.{func_verdict, module_verdict}
 use Rattle.wk_session.specs.declared.edit.EditFault.{EditFault}
@@ -18,7 +20,11 @@ use Rattle.wk_session.specs.declared.edits.import.ImportPlan.{ImportPlan}
 use Rattle.wk_session.specs.declared.edits.import.Judgement.{Judgement}
 use Rattle.wk_session.specs.declared.kept.Kept.{Kept}
 use Rattle.wk_session.specs.Edits.{import_place}
+use Rattle.wk_session.specs.declared.pieces.NewSections.{NewSections}
+use Rattle.wk_session.specs.Dependents.{one_if}
 use Rattle.wk_session.specs.Kept.{IsKept, standing}
+use Rattle.wk_session.specs.Overlays.{with_items}
+use Rattle.wk_session.specs.Pieces.{codes_size, section_pieces}
 use Rattle.wk_session.specs.MovedEntries.{AreMovedEntries, is_too_long}
 
 -- the module with the import, and with each reference moved that it moves; its customs are not settled
@@ -49,9 +55,31 @@ pub record IsReady (i : Import) (m p : Parts) (k : Kept) (all : ImportPlan) : Ty
   pub plan : IsImportPlan (desc_kind i.desc) (import_place i m) m all
   pub formed : IsFormed (after_import i m)
 
--- the module may stay, and what is to be kept of it; where no verdicts stand, those that are kept stay
-pub record IsJudgement (keep : Bool) (n : Parts) (k : Kept) (j : Judgement) : Type 0 where
+-- new contents where a list has moved
+abbrev pub new_where : Bool → List ℕ → Option (List ℕ)
+new_where moved contents = if moved then Some contents else None
+
+-- the import section is made anew, and each that has moved
+pub record IsRemadeAfter (l : SectionLists) (moved : MovedLists) (r : NewSections) : Type 0 where
+  pub sections : r.sections.items
+      ≡ None ∷ None ∷ Some (contents_by l (of_number 2)) ∷ None ∷ None ∷ None
+      ∷ new_where (is_some moved.globals) (contents_by l (of_number 6))
+      ∷ new_where (is_some moved.exports) (contents_by l (of_number 7))
+      ∷ new_where (is_some moved.start) (contents_by l (of_number 8))
+      ∷ new_where (is_some moved.elems) (contents_by l (of_number 9))
+      ∷ None
+      ∷ new_where (is_some moved.datas) (contents_by l (of_number 11)) ∷ []
+  pub made : r.made
+      ≡ 1 + (one_if (is_some moved.globals) + one_if (is_some moved.exports) + one_if (is_some moved.start) + one_if (is_some moved.elems) + one_if (is_some moved.datas))
+
+-- the module may stay, and what is to be kept of it, for which so many sections were made anew; where no verdicts stand, those that are
+-- kept stay
+pub record IsJudgement (keep : Bool) (n : Parts) (k : Kept) (made : ℕ) (j : Judgement) : Type 0 where
   pub stands : standing keep n ≡ Ok (settle n)
   pub verdict : j.appraisal.verdict ≡ module_verdict n
   pub len : limited (length (encoded n)) ≡ Some j.appraisal.len
   pub verdicts : (unwrap_or j.verdicts k.verdicts).items ≡ map (func_verdict (answers_of n)) n.funcs
+  pub sections : with_items k.pieces.sections.items j.remade.sections.items ≡ section_pieces n
+  pub count : length j.remade.sections.items ≡ length k.pieces.sections.items
+  pub made : j.remade.made ≡ made
+  pub codes_len : j.codes_len ≡ codes_size n.funcs

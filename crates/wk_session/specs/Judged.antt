@@ -12,24 +12,32 @@ use Rattle.wk_session.specs.declared.edit.EditFault.{EditFault}
 use Rattle.wk_session.specs.declared.edits.one_more.Judgement.{Judgement}
 use Rattle.wk_session.specs.declared.kept.Kept.{Kept}
 use Rattle.wk_session.specs.Dependents.{is_retyped_in}
-use Rattle.wk_session.specs.Kept.{uses_of, code_size, standing, IsAppraised}
+use Rattle.wk_session.specs.Kept.{uses_of, standing, IsAppraised}
+use Rattle.wk_session.specs.Overlays.{with_items}
+use Rattle.wk_session.specs.Pieces.{code_of, codes_size, customs_size, section_pieces}
 
 -- Each part that is kept of functions is that of the functions of n, and the verdicts are those by what references found before.
 pub record AreKept (before : Ref → Found) (n : Parts) (k : Kept) : Type 0 where
   pub types : k.types.items ≡ map (λ f. f.ty) n.funcs
   pub verdicts : k.verdicts.items ≡ map (func_verdict before) n.funcs
   pub refs : map (λ s. s.keys) k.refs.items ≡ map uses_of n.funcs
-  pub code_sizes : k.code_sizes.items ≡ map code_size n.funcs
+  pub codes : k.pieces.codes.items ≡ map code_of n.funcs
+  pub codes_len : k.pieces.codes_len ≡ codes_size n.funcs
+  pub customs_len : k.pieces.customs_len ≡ customs_size n.customs
 
--- n may stay, and that is to be kept of it; so many bodies were typed: those that find another thing than before
-pub record MayStay (keep : Bool) (before : Ref → Found) (n : Parts) (typed : ℕ) (j : Judgement) : Type 0 where
+-- n may stay, and that is to be kept of it in the place of what is kept; one section was made anew, and so many bodies were typed: those
+-- that find another thing than before
+pub record MayStay (keep : Bool) (before : Ref → Found) (n : Parts) (k : Kept) (typed : ℕ) (j : Judgement) : Type 0 where
   pub stands : standing keep n ≡ Ok (settle n)
   pub verdict : j.appraisal.verdict ≡ module_verdict n
   pub len : limited (length (encoded n)) ≡ Some j.appraisal.len
   pub verdicts : j.verdicts.items ≡ map (func_verdict (answers_of n)) n.funcs
+  pub sections : with_items k.pieces.sections.items j.remade.sections.items ≡ section_pieces n
+  pub count : length j.remade.sections.items ≡ length k.pieces.sections.items
+  pub made : j.remade.made ≡ 1
   pub typed_are : typed ≡ count_by (is_retyped_in before (answers_of n)) n.funcs
 
 -- that, or why the edit that makes n is refused, unless memory was wanted
-abbrev pub IsJudged : Bool → (Ref → Found) → Parts → ℕ → Result Judgement EditFault → Type 0
-IsJudged keep before n typed (Ok j) = MayStay keep before n typed j
-IsJudged keep before n typed (Err e) = IsAppraised keep n (Err e)
+abbrev pub IsJudged : Bool → (Ref → Found) → Parts → Kept → ℕ → Result Judgement EditFault → Type 0
+IsJudged keep before n k typed (Ok j) = MayStay keep before n k typed j
+IsJudged keep before n k typed (Err e) = IsAppraised keep n (Err e)

@@ -1,15 +1,13 @@
 -- What a session keeps beside its module.
-use Rattle.std.specs.Prelude.{◌≡◌, ◌≢◌, ℕ, Bool, false, Some, List, length, map, Result, Ok, Err}
+use Rattle.std.specs.Prelude.{◌≡◌, ◌≢◌, ℕ, Bool, false, Option, Some, List, length, map, Result, Ok, Err}
 use Rattle.wk_bytes.specs.Leb.{◌>>=◌}
 use Rattle.wk_body.specs.declared.references.Ref.{Ref}
 use Rattle.wk_body.specs.Lengths.{limited}
 use Rattle.wk_module.specs.declared.lists.Lists.{Lists}
-use Rattle.wk_module.specs.declared.types.Custom.{Custom}
 use Rattle.wk_module.specs.declared.types.Func.{Func}
 use Rattle.wk_module.specs.declared.types.Parts.{Parts}
 use Rattle.wk_module.specs.Listed.{listed, listed_with}
 use Rattle.wk_module.specs.Shape.{IsFormed, settle}
-use Rattle.wk_module.specs.Sizes.{body_size}
 use Rattle.wk_module.specs.Writing.{encoded}
 use Rattle.wk_check.specs.declared.fault.BodyVerdict.{BodyVerdict}
 use Rattle.wk_check.specs.SpacesLaws.{answers_of}
@@ -23,14 +21,12 @@ use Rattle.wk_session.specs.declared.edit.Work.{Work}
 use Rattle.wk_session.specs.declared.kept.Kept.{Kept}
 use Rattle.wk_session.specs.Dependents.{held, work_of}
 use Rattle.wk_session.specs.Edits.{fitting, lasting, made, is_decided}
+use Rattle.wk_session.specs.Pieces.{ArePieces}
 
--- ---- of a function: what it refers to, in order, and how long its code is, without its size
+-- ---- what a function refers to, in order
 
 abbrev pub uses_of : Func → List Ref
 uses_of f = in_order (held f)
-
-abbrev pub code_size : Func → ℕ
-code_size f = body_size f.body
 
 -- ---- each part that is kept is what computing it from the module gives
 
@@ -40,17 +36,16 @@ pub record IsKept (m : Parts) (k : Kept) : Type 0 where
   pub types : k.types.items ≡ map (λ f. f.ty) m.funcs
   pub verdicts : k.verdicts.items ≡ map (func_verdict (answers_of m)) m.funcs
   pub refs : map (λ s. s.keys) k.refs.items ≡ map uses_of m.funcs
-  pub code_sizes : k.code_sizes.items ≡ map code_size m.funcs
+  pub pieces : ArePieces m k.pieces
 
--- ---- a module that an edit would make, by lists that are lent and parts that would be kept of it
+-- ---- a module that an edit would make, by lists that are lent, the verdicts of its bodies, and its length
 
-pub record IsPending (l : Lists) (vs : List BodyVerdict) (sizes : List ℕ) (cs : List Custom) (n : Parts) : Type 0 where
+pub record IsPending (l : Lists) (vs : List BodyVerdict) (size : Option ℕ) (n : Parts) : Type 0 where
   pub formed : IsFormed n
   pub profile : l.profile ≡ n.profile
   pub lists : listed l ≡ listed_with (map (λ f. f.ty) n.funcs) n
   pub verdicts : vs ≡ map (func_verdict (answers_of n)) n.funcs
-  pub code_sizes : sizes ≡ map code_size n.funcs
-  pub customs : cs ≡ n.customs
+  pub len : size ≡ limited (length (encoded n))
 
 -- the module, or why the edit that makes it is refused where `keep` says whether it has to be valid
 abbrev pub standing : Bool → Parts → Result Parts EditFault

@@ -8,9 +8,13 @@ pub mod Kept
 pub mod Stripped
 pub mod Written
 pub mod EditText
+pub mod Overlays
+pub mod Pieces
 pub mod MovedEntries
 pub mod Imported
 pub mod Functions
 pub mod ItemSizes
 pub mod Judged
 pub mod Customs
+pub mod Refusals
+pub mod Exported

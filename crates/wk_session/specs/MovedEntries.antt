@@ -1,5 +1,5 @@
 -- Code entries of which an import moves references, and what is kept of them.
-use Rattle.std.specs.Prelude.{◌≡◌, ◌≢◌, ℕ, Bool, true, false, nat_lt, Option, List, [], ◌∷◌, length, map, count_by, unwrap_or, is_some, option_map}
+use Rattle.std.specs.Prelude.{◌≡◌, ◌≢◌, ℕ, Bool, true, false, nat_lt, Option, List, length, map, count_by, unwrap_or, option_map}
 use Rattle.wk_bytes.specs.Frames.{limit}
 use Rattle.wk_body.specs.declared.moves.Moving.TheVariants as moving
 use Rattle.wk_body.specs.declared.moves.Movement.{Movement}
@@ -13,7 +13,9 @@ use Rattle.wk_session.specs.declared.edit.EditFault.{EditFault}
 use Rattle.wk_session.specs.declared.edit.EditFault.TheVariants.{TooLarge, Memory}
 use Rattle.wk_session.specs.declared.edits.moved.MovedEntry.{MovedEntry}
 use Rattle.wk_session.specs.declared.edits.moved.MovedEntries.{MovedEntries}
-use Rattle.wk_session.specs.Kept.{uses_of, code_size}
+use Rattle.wk_session.specs.Kept.{uses_of}
+use Rattle.wk_session.specs.Overlays.{with_items}
+use Rattle.wk_session.specs.Pieces.{code_of}
 
 -- what moves of what a function refers to, where an import of the kind comes in front of the index `from`
 abbrev pub uses_movement : Kind → ℕ → List Ref → Movement
@@ -21,31 +23,25 @@ uses_movement Func from keys = movement_of moving.Func from keys
 uses_movement Global from keys = movement_of moving.Global from keys
 uses_movement _ from keys = record { moves = false; stuck = false }
 
--- a list with each new item that there is in the place of the old one
-abbrev pub with_items : {A : Type 0} → List A → List (Option A) → List A
-with_items [] news = []
-with_items (x ∷ xs) [] = x ∷ xs
-with_items (x ∷ xs) (new ∷ news) = unwrap_or new x ∷ with_items xs news
-
 -- whether the code of a function, moved, is longer than a module may be
 abbrev pub is_too_long : Kind → ℕ → FuncOf → Bool
-is_too_long kind from f = nat_lt limit (code_size (moved_func kind from f))
+is_too_long kind from f = nat_lt limit (length (code_of (moved_func kind from f)))
 
 -- what the import makes of one entry: nothing stands in a place where nothing moves
 pub record IsMovedEntry (kind : Kind) (from : ℕ) (f : FuncOf) (e : MovedEntry) : Type 0 where
   pub func : unwrap_or e.func f ≡ moved_func kind from f
   pub refs : unwrap_or (option_map (λ s. s.keys) e.refs) (uses_of f) ≡ uses_of (moved_func kind from f)
-  pub code_size : e.code_size ≡ code_size (moved_func kind from f)
-  pub moves : is_some e.func ≡ is_code_moving kind from f.body.instrs
+  pub code : unwrap_or e.code (code_of f) ≡ code_of (moved_func kind from f)
 
 -- what it makes of all
 pub record AreMovedEntries (kind : Kind) (from : ℕ) (fs : List FuncOf) (e : MovedEntries) : Type 0 where
   pub funcs : with_items fs e.funcs.items ≡ map (moved_func kind from) fs
   pub refs : with_items (map uses_of fs) (map (option_map (λ s. s.keys)) e.refs.items) ≡ map uses_of (map (moved_func kind from) fs)
-  pub code_sizes : e.code_sizes.items ≡ map code_size (map (moved_func kind from) fs)
-  pub moves : count_by is_some e.funcs.items ≡ count_by (λ f. is_code_moving kind from f.body.instrs) fs
+  pub codes : with_items (map code_of fs) e.codes.items ≡ map code_of (map (moved_func kind from) fs)
+  pub encoded : e.encoded ≡ count_by (λ f. is_code_moving kind from f.body.instrs) fs
   pub func_count : length e.funcs.items ≡ length fs
   pub ref_count : length e.refs.items ≡ length fs
+  pub code_count : length e.codes.items ≡ length fs
 
 -- a refusal on the way: one is too long, or memory was wanted
 abbrev pub IsTooLong : Bool → EditFault → Type 0

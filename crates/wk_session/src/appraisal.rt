@@ -7,9 +7,8 @@ ghost use Rattle.wk_session.specs.Kept.{IsPending, IsAppraised};
 
 use crate::edit::EditFault;
 use std::alloc::Global;
-use wk_bytes::Items;
 use wk_check::{BodyVerdict, Verdict, first_code_fault, judge_around};
-use wk_module::{Custom, Lists, len_of_lists};
+use wk_module::Lists;
 
 /// What is kept of a module as a whole.
 #[derive(Clone, Copy)]
@@ -20,21 +19,20 @@ pub(crate) struct Appraisal {
     pub(crate) len: u32,
 }
 
-/// Judges and measures a module that an edit would make, by its lists, the verdicts and the lengths of its bodies, and its customs; or
-/// says why the edit is refused, where `keep` says whether the module has to be valid.
+/// Judges a module that an edit would make, by its lists and the verdicts of its bodies, where its length is not past the limit; or says
+/// why the edit is refused, where `keep` says whether the module has to be valid.
 pub(crate) fn appraise(
     alloc: Global,
     keep: bool,
     lists: &Lists<'_>,
     verdicts: &Vec<BodyVerdict>,
-    code_sizes: &Vec<u32>,
-    customs: &Items<Custom>,
+    len: Option<u32>,
 ) -> Result<Appraisal, EditFault>
     requires numbered { AreNumbered (listed lists.now) }
     requires few { length verdicts.now.items < 2 ^ 32 }
-    ensures { (n : PartsOf) → IsPending lists.now verdicts.now.items code_sizes.now.items customs.now n → IsAppraised keep n result }
+    ensures { (n : PartsOf) → IsPending lists.now verdicts.now.items len n → IsAppraised keep n result }
 {
-    let Some(len) = len_of_lists(lists, code_sizes, customs) else {
+    let Some(len) = len else {
         return Err(EditFault::TooLarge);
     };
     let verdict = judge_around(alloc, lists, first_code_fault(verdicts))?;

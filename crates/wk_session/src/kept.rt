@@ -1,21 +1,20 @@
 //! What a session keeps beside its module, so that an edit computes only what depends on it.
 
-ghost use Rattle.std.specs.Prelude.{◌≡◌, ◌<◌, ◌≤◌, ◌^◌, length, map, IfOk};
-ghost use Rattle.std.specs.List.{AllByRecursion};
-ghost use Rattle.wk_bytes.specs.Frames.{limit};
+ghost use Rattle.std.specs.Prelude.{◌≡◌, ◌<◌, ◌^◌, length, map, IfOk};
 ghost use Rattle.wk_module.specs.declared.types.Func.{Func as FuncOf};
 ghost use Rattle.wk_module.specs.Listed.{listed};
 ghost use Rattle.wk_module.specs.Writing.{Fits};
 ghost use Rattle.wk_check.specs.Spaces.{answer_in, spaces_of};
 ghost use Rattle.wk_check.specs.Verdict.{func_verdict};
-ghost use Rattle.wk_session.specs.Kept.{IsKept, uses_of, code_size};
+ghost use Rattle.wk_session.specs.Kept.{IsKept, uses_of};
 
 use crate::judged::judged;
+use crate::pieces::Pieces;
 use std::alloc::Global;
 use std::collections::BTreeSet;
 use wk_bytes::{Items, OutOfMemory};
 use wk_check::{BodyVerdict, Env, Meter, Verdict, Whole, first_code_fault, judge_around};
-use wk_module::{Body, Func, Lists, Module, Ref, body_len, encoded_len, uses};
+use wk_module::{Body, Func, Lists, Module, Ref, encoded_len, uses};
 
 /// What is kept beside a module: each part is what computing it from the module would give (`IsKept` of `specs/Kept`).
 #[derive(Debug, Drop)]
@@ -30,8 +29,8 @@ pub(crate) struct Kept {
     pub(crate) verdicts: Vec<BodyVerdict>,
     /// What each function refers to, its own type too.
     pub(crate) refs: Vec<BTreeSet<Ref>>,
-    /// How long the written form of each body is, in bytes, without its size.
-    pub(crate) code_sizes: Vec<u32>,
+    /// Its written form, in pieces.
+    pub(crate) pieces: Pieces,
 }
 
 // The types of functions.
@@ -99,21 +98,6 @@ fn refs_of(alloc: Global, funcs: &Items<Func>) -> Result<Vec<BTreeSet<Ref>>, Out
     Ok(refs)
 }
 
-// How long the codes of functions are, of which none is too long.
-fn code_sizes_of(alloc: Global, funcs: &Items<Func>) -> Result<Vec<u32>, OutOfMemory>
-    requires { AllByRecursion (λ f. code_size f ≤ limit) funcs.now }
-    ensures { IfOk result (λ v. v.items ≡ map code_size funcs.now) }
-{
-    let mut sizes = Vec::with_capacity(alloc, funcs.len())?;
-    for func in funcs.as_slice() {
-        let Some(size) = body_len(&func.body) else {
-            unreachable!()
-        };
-        sizes.push(size)?;
-    }
-    Ok(sizes)
-}
-
 impl Kept {
     /// What is to be kept of a module that is not too large.
     pub(crate) fn of(alloc: Global, module: &Module) -> Result<Kept, OutOfMemory>
@@ -126,7 +110,7 @@ impl Kept {
         let verdicts = verdicts_of(alloc, lists, &parts.funcs)?;
         let verdict = judge_around(alloc, &lists, first_code_fault(&verdicts))?;
         let refs = refs_of(alloc, &parts.funcs)?;
-        let code_sizes = code_sizes_of(alloc, &parts.funcs)?;
+        let pieces = Pieces::of(alloc, parts, &types)?;
         let Some(len) = encoded_len(module) else {
             unreachable!()
         };
@@ -136,7 +120,7 @@ impl Kept {
             types,
             verdicts,
             refs,
-            code_sizes,
+            pieces,
         })
     }
 }

@@ -30,9 +30,13 @@ mod edit;
 mod edits;
 mod judged;
 mod kept;
+mod lengths;
+mod overlay;
+mod pieces;
 mod session;
 mod strip;
 mod write;
+mod written;
 
 pub use edit::{Edit, EditFault, Reply, Work};
 pub use session::Session;

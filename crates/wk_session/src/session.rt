@@ -25,14 +25,17 @@ use crate::edits::{
 };
 use crate::kept::Kept;
 use crate::write::WriteFault;
+use crate::written::put_module;
 use std::alloc::Global;
 use std::collections::BTreeSet;
 use std::marker::Model;
 use std::mem;
-use wk_bytes::{Out, OutFault, OutOfMemory, ReadFault, ReadKind, put_all};
+use wk_bytes::{Out, OutFault, OutOfMemory, ReadFault, ReadKind};
 use wk_check::{Meter, Verdict};
 use wk_list::{ListFault, Part, Plain, list};
-use wk_module::{EncodeFault, Module, Parts, Profile, Ref, encode, read_in, reading_of_code};
+use wk_module::{
+    Module, Parts, Profile, Ref, one_module, read_in, reading_of_code, written_form_of_module,
+};
 
 /// A module under edits, seen by contracts as its plain lists.
 #[derive(Debug, Drop)]
@@ -140,26 +143,25 @@ impl Session {
         self.kept.len
     }
 
-    /// Writes the written form, which reading gives back as this module and no other.
+    /// Writes the written form, which reading gives back as this module and no other. It takes no memory.
     ///
     /// # Errors
     ///
-    /// `Write` only where the [`Out`] failed in this call, and `Memory` where a growth was refused. After a fault of the output a beginning of the written form was taken; after want of memory nothing was. The
-    /// session stays as it is.
+    /// `Write`, and only where the [`Out`] failed in this call: want of memory is never answered. After it a beginning of the written
+    /// form was taken. The session stays as it is.
     pub fn write<W: Out>(&self, out: &mut W) -> Result<(), WriteFault>
         requires { W.failed out.old < 2 ^ 64 - 1 }
         ensures ok { OnOk result (Appends (W.taken out.old) (W.taken out.new) (encoded self.now)) }
         ensures err { IfErr result (Leaves (W.taken out.old) (W.taken out.new) (encoded self.now)) }
         ensures failures { W.failed out.new ≡ failures_after_write (W.failed out.old) result }
+        ensures never { IfErr result (λ e. e ≡ WriteFault.Write) }
         ensures spells { Spells (encoded self.now) self.now }
         ensures alone { (n : PartsOf) → n.profile ≡ (self.now).profile → Spells (encoded self.now) n → n ≡ self.now }
     {
-        let bytes = match encode(self.alloc, &self.module) {
-            Ok(bytes) => bytes,
-            Err(EncodeFault::Memory) => return Err(WriteFault::Memory),
-            Err(EncodeFault::TooLarge) => unreachable!(),
-        };
-        match put_all(out, bytes.as_slice()) {
+        // The proof asks what these two say: the written form spells the module, and no other.
+        written_form_of_module();
+        one_module();
+        match put_module(out, self.module.parts(), &self.kept.pieces) {
             Ok(()) => Ok(()),
             Err(OutFault) => Err(WriteFault::Write),
         }

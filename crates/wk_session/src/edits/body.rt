@@ -1,6 +1,8 @@
 //! Another body for a function.
 
-ghost use Rattle.std.specs.Prelude.{◌≡◌, ◌≢◌, ◌<◌, Err, IfOk, IfErr, OnOk, length, map, slice_get, option_map, Some, ℕ};
+ghost use Rattle.std.specs.Prelude.{◌≡◌, ◌≢◌, ◌<◌, Err, IfOk, IfErr, OnOk, length, map, slice_get, option_map, set, Some, ℕ, ◌≤◌};
+ghost use Rattle.wk_bytes.specs.Frames.{limit};
+ghost use Rattle.wk_body.specs.Lengths.{limited};
 ghost use Rattle.wk_module.specs.Changes.{with_body};
 ghost use Rattle.wk_module.specs.Items.{IsCode};
 ghost use Rattle.wk_module.specs.Shape.{IsShaped};
@@ -10,17 +12,20 @@ ghost use Rattle.wk_session.specs.declared.edit.Edit.{Edit};
 ghost use Rattle.wk_session.specs.Edits.{entry_of as entry_of_index};
 ghost use Rattle.wk_session.specs.Functions.{IsPlanned};
 ghost use Rattle.wk_session.specs.Kept.{IsKept, Leads, standing};
+ghost use Rattle.wk_session.specs.Pieces.{entries_size};
 
 use crate::appraisal::appraise;
 use crate::edit::{EditFault, Reply, Work};
 use crate::edits::entry::{Entry, keep_entry, spelled_body, with_other};
 use crate::judged::judged;
 use crate::kept::{Kept, func_uses};
+use crate::lengths::{len_after, plus_code};
+use crate::pieces::{Pieces, NewSections, encoded_body, no_news};
 use std::alloc::Global;
 use std::mem;
 use wk_bytes::{Items, OutOfMemory};
 use wk_check::{BodyVerdict, Meter, Whole};
-use wk_module::{Body, Func, Kind, Lists, Parts, body_len, import_count};
+use wk_module::{Body, Func, Kind, Lists, Parts, import_count};
 
 // Which of the functions that the module defines has an index.
 fn entry_of(parts: &Parts, func: u32) -> Option<usize>
@@ -64,6 +69,19 @@ fn verdicts_with(
     with_other(alloc, &kept.verdicts, entry, own)
 }
 
+// How many bytes all codes have with this one in the place of that of an entry, sizes with them; or nothing past 2,147,483,647.
+fn codes_len_with(pieces: &Pieces, entry: usize, code: &Items<u8>) -> Option<u32>
+    requires within { entry < length pieces.now.codes.items }
+    requires len { pieces.now.codes_len ≡ entries_size pieces.now.codes.items }
+    requires fits { pieces.now.codes_len ≤ limit }
+    ensures { result ≡ limited (entries_size (set pieces.now.codes.items entry code.now)) }
+{
+    let Some(before) = plus_code(Some(0), &pieces.codes[entry]) else {
+        unreachable!()
+    };
+    plus_code(Some(pieces.codes_len - before), code)
+}
+
 // What is to be kept of the module with another body; or why it may not be.
 fn planned_body(
     alloc: Global,
@@ -81,22 +99,38 @@ fn planned_body(
     requires ty { Some ty ≡ option_map (λ f. f.ty) (slice_get parts.now.funcs entry) }
     requires valid { IsCode parts.now.profile body.now }
     requires fresh { meter.old ≡ 0 }
-    ensures ok { IfOk result (IsPlanned keep ty body.now (with_body entry body.now parts.now)) }
+    ensures ok { IfOk result (IsPlanned keep ty body.now (with_body entry body.now parts.now) kept.now 0) }
     ensures err { IfErr result (λ f. f ≢ EditFault.Memory → standing keep (with_body entry body.now parts.now) ≡ Err f) }
     ensures typed { OnOk result (meter.new ≡ 1) }
 {
-    let Some(size) = body_len(body) else {
+    let mut encoded = 0;
+    let code = encoded_body(alloc, body, None, &mut encoded)?;
+    let pieces = &kept.pieces;
+    let Some(codes_len) = codes_len_with(pieces, entry, &code) else {
         return Err(EditFault::TooLarge);
     };
-    let code_sizes = with_other(alloc, &kept.code_sizes, entry, size)?;
+    let remade = NewSections {
+        sections: no_news(alloc)?,
+        made: 0,
+    };
+    let len = len_after(
+        &pieces.sections,
+        &remade.sections,
+        parts.funcs.len(),
+        codes_len,
+        pieces.customs_len,
+    );
     let uses = func_uses(alloc, ty, body)?;
     let verdicts = verdicts_with(alloc, parts, kept, entry, ty, body, meter)?;
     let lists = Lists::of(parts, &kept.types);
-    let appraisal = appraise(alloc, keep, &lists, &verdicts, &code_sizes, &parts.customs)?;
+    let appraisal = appraise(alloc, keep, &lists, &verdicts, len)?;
     Ok(Entry {
         uses,
         verdicts,
-        code_sizes,
+        code,
+        codes_len,
+        encoded,
+        remade,
         appraisal,
     })
 }
@@ -121,12 +155,13 @@ fn put_at(
     let ty = type_at(&parts.funcs, entry);
     let planned = planned_body(alloc, keep, parts, kept, entry, ty, &body, meter)?;
     let _before = parts.funcs.set(entry, Func { ty, body });
-    let uses = keep_entry(kept, planned);
+    let (uses, code, encoded, sections) = keep_entry(kept, planned);
     let _unused = mem::replace(&mut kept.refs[entry], uses);
+    kept.pieces.codes[entry] = code;
     Ok(Work {
         typed: meter.typed() as u32,
-        encoded: 1,
-        sections: 0,
+        encoded,
+        sections,
     })
 }
 

@@ -11,17 +11,19 @@ ghost use Rattle.wk_module.specs.Writing.{encoded, Fits};
 ghost use Rattle.wk_check.specs.Verdict.{module_verdict};
 ghost use Rattle.wk_module.specs.WritingLaws.{written_frame};
 ghost use Rattle.wk_session.specs.declared.edit.Edit.{Edit};
-ghost use Rattle.wk_session.specs.Customs.{MayLast, IsChecked, IsPut, bytes_at, last_custom};
+ghost use Rattle.wk_session.specs.Customs.{MayLast, IsChecked, IsPut, bytes_at, last_custom, with_customs_len};
 ghost use Rattle.wk_session.specs.Edits.{is_named, with_custom, without_customs};
-ghost use Rattle.wk_session.specs.Kept.{IsKept, Leads, code_size};
+ghost use Rattle.wk_session.specs.Kept.{IsKept, Leads};
+ghost use Rattle.wk_session.specs.Pieces.{customs_size};
 
 use crate::edit::{EditFault, Reply, Work};
 use crate::kept::Kept;
+use crate::lengths::customs_len;
 use std::alloc::{AllocError, Global};
 use std::mem;
 use wk_bytes::{Items, LIMIT, Text};
 use wk_check::Verdict;
-use wk_module::{Custom, Lists, Parts, framed_len, len_of_lists, named_len};
+use wk_module::{Custom, Parts, framed_len, named_len};
 
 /// The greatest place of a custom section, which settling lowers.
 const LAST: u8 = 11;
@@ -60,19 +62,28 @@ fn check_verdict(keep: bool, verdict: &Verdict) -> Result<(), EditFault>
     }
 }
 
-// The length of a module that fits, and of which this is kept but for its customs.
-fn measure(parts: &Parts, kept: &Kept) -> u32
-    requires types { kept.now.types.items ≡ map (λ f. f.ty) parts.now.funcs }
-    requires codes { kept.now.code_sizes.items ≡ map code_size parts.now.funcs }
-    requires order { IsInOrderFrom 0 parts.now.customs }
-    requires fits { Fits parts.now }
-    ensures { limited (length (encoded parts.now)) ≡ Some result }
+// Keeps the length of a module that has other customs than before, and how much of it these are.
+fn keep_len(kept: &mut Kept, len: u32)
+    requires before { kept.old.pieces.customs_len ≤ kept.old.len }
+    requires after { kept.old.len - kept.old.pieces.customs_len ≤ len }
+    ensures { kept.new ≡ with_customs_len len kept.old }
 {
-    let lists = Lists::of(parts, &kept.types);
-    let Some(len) = len_of_lists(&lists, &kept.code_sizes, &parts.customs) else {
+    let others = kept.len - kept.pieces.customs_len;
+    kept.pieces.customs_len = len - others;
+    kept.len = len;
+}
+
+// Keeps the length of a module that fits and has these customs, where this is kept of it but for them.
+fn keep_customs(kept: &mut Kept, customs: &Items<Custom>)
+    requires before { kept.old.pieces.customs_len ≤ kept.old.len }
+    requires fits { kept.old.len - kept.old.pieces.customs_len + customs_size customs.now ≤ limit }
+    ensures { kept.new ≡ with_customs_len (kept.old.len - kept.old.pieces.customs_len + customs_size customs.now) kept.old }
+{
+    let Some(customs) = customs_len(customs) else {
         unreachable!()
     };
-    len
+    let len = kept.len - kept.pieces.customs_len + customs;
+    keep_len(kept, len);
 }
 
 // Whether a custom section has the name.
@@ -205,7 +216,7 @@ fn replace_bytes(
     let len = check_module(keep, &kept.verdict, len)?;
     let bytes = bytes.copy(alloc)?;
     put_bytes(alloc, parts, index, bytes);
-    kept.len = len;
+    keep_len(kept, len);
     Ok(())
 }
 
@@ -227,7 +238,7 @@ fn append_custom(
     let len = len_with_custom(parts, kept, name, bytes);
     let len = check_module(keep, &kept.verdict, len)?;
     push_custom(alloc, parts, name, bytes)?;
-    kept.len = len;
+    keep_len(kept, len);
     Ok(())
 }
 
@@ -284,7 +295,7 @@ pub(crate) fn strip_custom(
     }
     check_verdict(keep, &kept.verdict)?;
     remove_customs(alloc, parts, name);
-    kept.len = measure(parts, kept);
+    keep_customs(kept, &parts.customs);
     Ok(work_on(0))
 }
 
@@ -296,6 +307,6 @@ pub(crate) fn strip_all(alloc: Global, keep: bool, parts: &mut Parts, kept: &mut
 {
     check_verdict(keep, &kept.verdict)?;
     parts.customs = Items::new(alloc);
-    kept.len = measure(parts, kept);
+    keep_customs(kept, &parts.customs);
     Ok(work_on(0))
 }

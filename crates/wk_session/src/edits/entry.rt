@@ -1,12 +1,15 @@
 //! What is kept of a code entry that an edit gives or replaces.
 
-ghost use Rattle.std.specs.Prelude.{◌≡◌, ◌≢◌, ◌<◌, [], ◌∷◌, ◌++◌, length, slice_set, IfOk, IfErr, Ok, Err};
+ghost use Rattle.std.specs.Prelude.{◌≡◌, ◌≢◌, ◌<◌, ◌≤◌, [], ◌∷◌, ◌++◌, length, slice_set, IfOk, IfErr, Ok, Err};
 ghost use Rattle.wk_module.specs.Items.{IsCode};
 ghost use Rattle.wk_session.specs.Functions.{body_spelled};
+ghost use Rattle.wk_session.specs.Overlays.{with_items};
 
 use crate::appraisal::Appraisal;
 use crate::edit::EditFault;
 use crate::kept::Kept;
+use crate::overlay::replace_each;
+use crate::pieces::NewSections;
 use std::alloc::Global;
 use std::collections::BTreeSet;
 use wk_bytes::{Items, OutOfMemory, ReadKind};
@@ -20,8 +23,14 @@ pub(super) struct Entry {
     pub(super) uses: BTreeSet<Ref>,
     /// The verdict of each body of the module.
     pub(super) verdicts: Vec<BodyVerdict>,
-    /// How long the written form of each body is, in bytes, without its size.
-    pub(super) code_sizes: Vec<u32>,
+    /// The code of the entry, without its size.
+    pub(super) code: Items<u8>,
+    /// How many bytes all codes have, with their sizes.
+    pub(super) codes_len: u32,
+    /// How many bodies were encoded.
+    pub(super) encoded: u32,
+    /// The sections that are made anew.
+    pub(super) remade: NewSections,
     /// What is kept of the module as a whole.
     pub(super) appraisal: Appraisal,
 }
@@ -75,20 +84,32 @@ pub(super) fn with_other<T: Copy>(
     Ok(copy)
 }
 
-/// Keeps what is to be kept of a module, but for the types of its functions and what they refer to.
-pub(super) fn keep_entry(kept: &mut Kept, entry: Entry) -> BTreeSet<Ref>
-    ensures uses { result ≡ entry.uses }
-    ensures kept { kept.new ≡ record kept.old { verdict = entry.appraisal.verdict; len = entry.appraisal.len; verdicts = entry.verdicts; code_sizes = entry.code_sizes } }
+/// Keeps what is to be kept of a module, but for the types of its functions, what they refer to, and their codes. Answers the uses and the
+/// code of the entry, and the counts of what was encoded: of bodies and of sections.
+pub(super) fn keep_entry(kept: &mut Kept, entry: Entry) -> (BTreeSet<Ref>, Items<u8>, u32, u32)
+    requires { length entry.remade.sections.items ≤ length kept.old.pieces.sections.items }
+    ensures result { result ≡ (entry.uses, entry.code, entry.encoded, entry.remade.made) }
+    ensures rest { kept.new ≡ record kept.old {
+        verdict = entry.appraisal.verdict;
+        len = entry.appraisal.len;
+        verdicts = entry.verdicts;
+        pieces = record kept.old.pieces { sections = kept.new.pieces.sections; codes_len = entry.codes_len };
+    } }
+    ensures sections { kept.new.pieces.sections.items ≡ with_items kept.old.pieces.sections.items entry.remade.sections.items }
 {
     let Entry {
         uses,
         verdicts,
-        code_sizes,
+        code,
+        codes_len,
+        encoded,
+        remade,
         appraisal,
     } = entry;
     kept.verdict = appraisal.verdict;
     kept.len = appraisal.len;
     kept.verdicts = verdicts;
-    kept.code_sizes = code_sizes;
-    uses
+    kept.pieces.codes_len = codes_len;
+    replace_each(&mut kept.pieces.sections, remade.sections);
+    (uses, code, encoded, remade.made)
 }

@@ -9,23 +9,34 @@ ghost use Rattle.wk_module.specs.Shape.{IsFormed, IsShaped};
 ghost use Rattle.wk_check.specs.SpacesLaws.{answers_of};
 ghost use Rattle.wk_session.specs.declared.edit.Edit.{Edit};
 ghost use Rattle.wk_session.specs.Judged.{AreKept};
-ghost use Rattle.wk_session.specs.Kept.{IsAppraised, IsKept, Leads};
+ghost use Rattle.wk_session.specs.Exported.{IsExported};
+ghost use Rattle.wk_session.specs.Kept.{IsKept, Leads};
+ghost use Rattle.wk_session.specs.Overlays.{with_items};
+ghost use Rattle.wk_session.specs.Pieces.{one_new, section_piece, section_pieces};
 
 use crate::appraisal::{Appraisal, appraise};
 use crate::edit::{EditFault, Reply, Work};
 use crate::edits::item_len::len_with_export;
 use crate::kept::Kept;
+use crate::lengths::len_after;
+use crate::overlay::replace_each;
+use crate::pieces::{NewSections, one_remade};
 use std::alloc::Global;
 use std::mem;
 use wk_bytes::{Items, Text};
 use wk_module::{Export, Lists, Parts};
 
-// The work of an edit of the exports alone: their section is encoded.
-const EXPORTS_ONLY: Work = Work {
-    typed: 0,
-    encoded: 0,
-    sections: 1,
-};
+/// The id of the export section (5.5.2).
+const SECTION: u8 = 7;
+
+/// What is to be kept of a module with other exports.
+#[derive(Drop)]
+struct Exported {
+    /// Its verdict and its length.
+    appraisal: Appraisal,
+    /// The export section.
+    remade: NewSections,
+}
 
 // Judges and measures a module with these exports in the place of its own.
 fn appraise_exports(
@@ -34,31 +45,49 @@ fn appraise_exports(
     parts: &Parts,
     kept: &Kept,
     exports: &[Export],
-) -> Result<Appraisal, EditFault>
+) -> Result<Exported, EditFault>
     requires formed { IsFormed (record parts.now { exports = exports.now }) }
     requires kept { AreKept (answers_of parts.now) parts.now kept.now }
-    ensures { IsAppraised keep (record parts.now { exports = exports.now }) result }
+    requires others { with_items kept.now.pieces.sections.items (one_new 7 (section_piece 7 (record parts.now { exports = exports.now }))) ≡ section_pieces (record parts.now { exports = exports.now }) }
+    ensures { IsExported keep (record parts.now { exports = exports.now }) kept.now result }
 {
     let lists = Lists {
         exports,
         ..Lists::of(parts, &kept.types)
     };
-    appraise(
-        alloc,
-        keep,
-        &lists,
-        &kept.verdicts,
-        &kept.code_sizes,
-        &parts.customs,
-    )
+    let remade = one_remade(alloc, &lists, SECTION)?;
+    let pieces = &kept.pieces;
+    let len = len_after(
+        &pieces.sections,
+        &remade.sections,
+        parts.funcs.len(),
+        pieces.codes_len,
+        pieces.customs_len,
+    );
+    let appraisal = appraise(alloc, keep, &lists, &kept.verdicts, len)?;
+    Ok(Exported { appraisal, remade })
 }
 
-// Keeps the verdict and the length of a module that an edit makes.
-fn keep_appraisal(kept: &mut Kept, appraisal: Appraisal)
-    ensures { kept.new ≡ record kept.old { verdict = appraisal.verdict; len = appraisal.len } }
+// Keeps what is to be kept of a module with other exports, and answers the work of the edit.
+fn keep_exported(kept: &mut Kept, exported: Exported) -> Work
+    requires { length exported.remade.sections.items ≤ length kept.old.pieces.sections.items }
+    ensures work { result ≡ record { typed = 0; encoded = 0; sections = exported.remade.made } }
+    ensures rest { kept.new ≡ record kept.old {
+        verdict = exported.appraisal.verdict;
+        len = exported.appraisal.len;
+        pieces = record kept.old.pieces { sections = kept.new.pieces.sections };
+    } }
+    ensures sections { kept.new.pieces.sections.items ≡ with_items kept.old.pieces.sections.items exported.remade.sections.items }
 {
+    let Exported { appraisal, remade } = exported;
+    replace_each(&mut kept.pieces.sections, remade.sections);
     kept.verdict = appraisal.verdict;
     kept.len = appraisal.len;
+    Work {
+        typed: 0,
+        encoded: 0,
+        sections: remade.made,
+    }
 }
 
 // Appends an export where the module with it may stay; or leaves the parts as they were.
@@ -68,20 +97,20 @@ fn push_export(
     parts: &mut Parts,
     kept: &Kept,
     export: Export,
-) -> Result<Appraisal, EditFault>
+) -> Result<Exported, EditFault>
     requires shaped { IsShaped parts.old }
     requires kept { IsKept parts.old kept.now }
     requires valid { IsExport export }
     ensures ok { OnOk result (parts.new ≡ with_export export parts.old) }
     ensures err { OnErr result (parts.new ≡ parts.old) }
-    ensures appraised { IsAppraised keep (with_export export parts.old) result }
+    ensures exported { IsExported keep (with_export export parts.old) kept.now result }
 {
     parts.exports.push(export)?;
-    let appraised = appraise_exports(alloc, keep, parts, kept, parts.exports.as_slice());
-    if appraised.is_err() {
+    let exported = appraise_exports(alloc, keep, parts, kept, parts.exports.as_slice());
+    if exported.is_err() {
         let _ = parts.exports.pop();
     }
-    appraised
+    exported
 }
 
 /// Appends an export.
@@ -102,9 +131,8 @@ pub(crate) fn add_export(
     let export = export.copy(alloc)?;
     // The proof asks what this says: the name is text.
     let _name = export.name.as_str();
-    let appraisal = push_export(alloc, keep, parts, kept, export)?;
-    keep_appraisal(kept, appraisal);
-    Ok(EXPORTS_ONLY)
+    let exported = push_export(alloc, keep, parts, kept, export)?;
+    Ok(keep_exported(kept, exported))
 }
 
 // Where the first export of a name stands.
@@ -135,20 +163,20 @@ fn take_export(
     parts: &mut Parts,
     kept: &Kept,
     place: usize,
-) -> Result<Appraisal, EditFault>
+) -> Result<Exported, EditFault>
     requires place { place < length parts.old.exports }
     requires formed { IsFormed (record parts.old { exports = remove parts.old.exports place }) }
     requires kept { IsKept parts.old kept.now }
     ensures ok { OnOk result (parts.new ≡ record parts.old { exports = remove parts.old.exports place }) }
     ensures err { OnErr result (parts.new ≡ parts.old) }
-    ensures appraised { IsAppraised keep (record parts.old { exports = remove parts.old.exports place }) result }
+    ensures exported { IsExported keep (record parts.old { exports = remove parts.old.exports place }) kept.now result }
 {
     let mut exports = mem::replace(&mut parts.exports, Items::new(alloc)).into_vec();
     let export = exports.remove(place);
     match appraise_exports(alloc, keep, parts, kept, &exports) {
-        Ok(appraisal) => {
+        Ok(exported) => {
             parts.exports = Items::from_vec(exports);
-            Ok(appraisal)
+            Ok(exported)
         }
         Err(fault) => {
             put_back(&mut exports, place, export);
@@ -173,7 +201,6 @@ pub(crate) fn remove_export(
     let Some(place) = place_of(&parts.exports, name) else {
         return Err(EditFault::NoSuchExport);
     };
-    let appraisal = take_export(alloc, keep, parts, kept, place)?;
-    keep_appraisal(kept, appraisal);
-    Ok(EXPORTS_ONLY)
+    let exported = take_export(alloc, keep, parts, kept, place)?;
+    Ok(keep_exported(kept, exported))
 }

@@ -16,10 +16,15 @@ use crate::edit::{EditFault, Reply, Work};
 use crate::edits::entry::{Entry, keep_entry, spelled_body, with_item};
 use crate::judged::{judged, rejudged};
 use crate::kept::{Kept, func_uses};
+use crate::lengths::{len_after, plus_code};
+use crate::pieces::{encoded_body, one_remade};
 use std::alloc::Global;
 use wk_bytes::{Items, OutOfMemory};
 use wk_check::{BodyVerdict, Meter, Whole};
-use wk_module::{Body, Func, Lists, Parts, body_len};
+use wk_module::{Body, Func, Lists, Parts};
+
+/// The id of the function section (5.5.2).
+const SECTION: u8 = 3;
 
 // The verdicts of all bodies where a function comes, whose type is the last of these types.
 fn verdicts_with(
@@ -70,22 +75,35 @@ fn planned_func(
     requires types { types.now.items ≡ kept.now.types.items ++ ty ∷ [] }
     requires valid { IsCode parts.now.profile body.now }
     requires fresh { meter.old ≡ 0 }
-    ensures ok { IfOk result (IsPlanned keep ty body.now (with_func ty body.now parts.now)) }
+    ensures ok { IfOk result (IsPlanned keep ty body.now (with_func ty body.now parts.now) kept.now 1) }
     ensures err { IfErr result (λ f. f ≢ EditFault.Memory → standing keep (with_func ty body.now parts.now) ≡ Err f) }
     ensures typed { OnOk result (meter.new ≡ 1 + count_by (is_retyped_in (answers_of parts.now) (answers_of (with_func ty body.now parts.now))) parts.now.funcs) }
 {
-    let Some(size) = body_len(body) else {
+    let lists = Lists::of(parts, types);
+    let remade = one_remade(alloc, &lists, SECTION)?;
+    let mut encoded = 0;
+    let code = encoded_body(alloc, body, None, &mut encoded)?;
+    let pieces = &kept.pieces;
+    let Some(codes_len) = plus_code(Some(pieces.codes_len), &code) else {
         return Err(EditFault::TooLarge);
     };
-    let code_sizes = with_item(alloc, &kept.code_sizes, size)?;
+    let len = len_after(
+        &pieces.sections,
+        &remade.sections,
+        types.len(),
+        codes_len,
+        pieces.customs_len,
+    );
     let uses = func_uses(alloc, ty, body)?;
     let verdicts = verdicts_with(alloc, parts, kept, types, ty, body, meter)?;
-    let lists = Lists::of(parts, types);
-    let appraisal = appraise(alloc, keep, &lists, &verdicts, &code_sizes, &parts.customs)?;
+    let appraisal = appraise(alloc, keep, &lists, &verdicts, len)?;
     Ok(Entry {
         uses,
         verdicts,
-        code_sizes,
+        code,
+        codes_len,
+        encoded,
+        remade,
         appraisal,
     })
 }
@@ -109,13 +127,15 @@ pub(crate) fn add_func(
     let types = with_item(alloc, &kept.types, ty)?;
     let entry = planned_func(alloc, keep, parts, kept, &types, ty, &body, meter)?;
     kept.refs.reserve(1)?;
+    kept.pieces.codes.reserve(1)?;
     parts.funcs.push(Func { ty, body })?;
-    let uses = keep_entry(kept, entry);
+    let (uses, code, encoded, sections) = keep_entry(kept, entry);
     kept.types = types;
     kept.refs.push_reserved(uses);
+    kept.pieces.codes.push_reserved(code);
     Ok(Work {
         typed: meter.typed() as u32,
-        encoded: 1,
-        sections: 1,
+        encoded,
+        sections,
     })
 }

@@ -19,6 +19,9 @@ use wk_bytes::{Items, ReadFault, ReadKind};
 use wk_check::Meter;
 use wk_module::{Expr, GlobalDef, GlobalType, Lists, Parts, Profile, read_expr_in};
 
+/// The id of the global section (5.5.2).
+const SECTION: u8 = 6;
+
 // What an edit is answered whose bytes cannot be read.
 fn refusal_of(fault: ReadFault) -> EditFault
     ensures memory { fault.kind ≡ ReadKind.Memory → result ≡ EditFault.Memory }
@@ -70,11 +73,11 @@ fn push_global(
     requires fresh { meter.old ≡ 0 }
     ensures ok { OnOk result (parts.new ≡ record parts.old { globals = parts.old.globals ++ global ∷ [] }) }
     ensures err { OnErr result (parts.new ≡ parts.old) }
-    ensures judged { IsJudged keep (answers_of parts.old) (record parts.old { globals = parts.old.globals ++ global ∷ [] }) meter.new result }
+    ensures judged { IsJudged keep (answers_of parts.old) (record parts.old { globals = parts.old.globals ++ global ∷ [] }) kept.now meter.new result }
 {
     parts.globals.push(global)?;
     let before = without_last_global(Lists::of(parts, &kept.types));
-    let judged = judge_grown(alloc, keep, before, parts, kept, meter);
+    let judged = judge_grown(alloc, keep, before, parts, kept, SECTION, meter);
     if judged.is_err() {
         let _ = parts.globals.pop();
     }
@@ -99,10 +102,10 @@ pub(crate) fn add_global(
     let init = read_init(alloc, parts.profile, init)?;
     let global = GlobalDef { ty, init };
     let judgement = push_global(alloc, keep, parts, kept, meter, global)?;
-    keep_judgement(kept, judgement);
+    let sections = keep_judgement(kept, judgement);
     Ok(Work {
         typed: meter.typed() as u32,
         encoded: 0,
-        sections: 1,
+        sections,
     })
 }

@@ -1,15 +1,15 @@
 //! An import more.
 
-ghost use Rattle.std.specs.Prelude.{◌≡◌, ◌≢◌, ◌+◌, ◌<◌, ◌≤◌, ◌^◌, ℕ, Err, true, false, length, map, unwrap_or, is_some, count_by, IfOk, OnOk, OnErr, MatchResult};
+ghost use Rattle.std.specs.Prelude.{◌≡◌, ◌≢◌, ◌+◌, ◌<◌, ◌≤◌, ◌^◌, ℕ, Err, true, false, length, map, unwrap_or, count_by, set, Some, if◌then◌else◌, IfErr, IfOk, OnOk, OnErr, MatchResult};
 ghost use Rattle.wk_body.specs.Shape.{IsU32};
-ghost use Rattle.wk_module.specs.declared.types.Kind.{Kind as KindOf};
-ghost use Rattle.wk_module.specs.declared.types.Parts.{Parts as PartsOf};
 ghost use Rattle.wk_module.specs.Items.{desc_kind, IsImport, IsDesc};
 ghost use Rattle.wk_module.specs.Types.{AreLimits};
 ghost use Rattle.wk_module.specs.Changes.{with_import};
-ghost use Rattle.wk_module.specs.Listed.{listed, listed_with};
+ghost use Rattle.wk_module.specs.Listed.{IsListId, listed, listed_with};
 ghost use Rattle.wk_module.specs.Moving.{moved_lists, are_parts_stuck, with_lists};
+ghost use Rattle.wk_module.specs.Sections.{of_number};
 ghost use Rattle.wk_module.specs.Shape.{IsShaped, IsFormed};
+ghost use Rattle.wk_module.specs.Writing.{contents_by};
 ghost use Rattle.wk_check.specs.Finds.{Grows};
 ghost use Rattle.wk_check.specs.Spaces.{answer_in, spaces_of};
 ghost use Rattle.wk_check.specs.SpacesLaws.{answers_of};
@@ -17,24 +17,31 @@ ghost use Rattle.wk_check.specs.Verdict.{func_verdict};
 ghost use Rattle.wk_session.specs.declared.edit.Edit.{Edit};
 ghost use Rattle.wk_session.specs.Dependents.{is_retyped, is_retyped_in, one_if, sections_moving, work_of};
 ghost use Rattle.wk_session.specs.Edits.{import_place};
-ghost use Rattle.wk_session.specs.Imported.{after_import, before_import, IsImportPlan, IsUnplanned, IsReady, IsJudgement};
+ghost use Rattle.wk_session.specs.Imported.{IsRemadeAfter, after_import, before_import, IsImportPlan, IsUnplanned, IsReady, IsJudgement};
 ghost use Rattle.wk_session.specs.Kept.{IsKept, Leads, standing};
-ghost use Rattle.wk_session.specs.MovedEntries.{with_items};
+ghost use Rattle.wk_session.specs.Overlays.{with_items};
+ghost use Rattle.wk_session.specs.Pieces.{IsOverlong, IsUnwritten};
 
 use crate::appraisal::{Appraisal, appraise};
 use crate::edit::{EditFault, Reply, Work};
 use crate::edits::moved::{
-    MovedEntries, is_any_code_stuck, moved_count, moved_entries, put_moved, replace_each,
+    MovedEntries, is_any_code_stuck, moved_entries, put_moved,
 };
 use crate::judged::rejudged;
 use crate::kept::Kept;
+use crate::lengths::{codes_len_after, len_after};
+use crate::overlay::replace_each;
+use crate::pieces::{NewSections, one_remade, remade};
 use std::alloc::Global;
 use wk_bytes::OutOfMemory;
 use wk_check::{BodyVerdict, Meter, Whole, verdicts_that_keep};
 use wk_module::{
-    Import, ImportDesc, Kind, Limits, Lists, MovedLists, Parts, ShiftFault, import_count,
+    EncodeFault, Import, ImportDesc, Kind, Limits, Lists, MovedLists, Parts, ShiftFault, import_count,
     moving_of_code, moving_of_module, shift_lists,
 };
+
+/// The id of the import section (5.5.2).
+const SECTION: u8 = 2;
 
 /// What an import makes of a module beside its list of imports.
 #[derive(Drop)]
@@ -52,6 +59,10 @@ struct Judgement {
     appraisal: Appraisal,
     /// The verdicts of its bodies, or nothing where they stay.
     verdicts: Option<Vec<BodyVerdict>>,
+    /// The sections that are made anew.
+    remade: NewSections,
+    /// How many bytes all codes have, with their sizes.
+    codes_len: u32,
 }
 
 // A number of 32 bits is one. It does nothing.
@@ -123,18 +134,12 @@ fn plan_import(
     kind: Kind,
     from: u32,
 ) -> Result<ImportPlan, EditFault>
-    requires { IsKept parts.now kept.now }
+    requires kept { IsKept parts.now kept.now }
+    requires few { length parts.now.funcs < 2 ^ 32 }
     ensures { MatchResult result (IsImportPlan kind from parts.now) (IsUnplanned kind from parts.now) }
 {
     let lists = lists_after(alloc, parts, kept, kind, from)?;
-    let entries = moved_entries(
-        alloc,
-        &parts.funcs,
-        &kept.refs,
-        &kept.code_sizes,
-        kind,
-        from,
-    )?;
+    let entries = moved_entries(alloc, &parts.funcs, &kept.refs, kind, from)?;
     Ok(ImportPlan { lists, entries })
 }
 
@@ -212,6 +217,45 @@ fn verdicts_or<'a>(
     }
 }
 
+// Makes the section of an id anew where it has moved.
+fn remake_where(
+    alloc: Global,
+    lists: &Lists<'_>,
+    id: u8,
+    is_moved: bool,
+    news: &mut NewSections,
+) -> Result<(), EncodeFault>
+    requires id { IsListId id }
+    requires few { news.old.made < 12 }
+    requires all { length news.old.sections.items ≡ 12 }
+    ensures sections { OnOk result (news.new.sections.items ≡ if is_moved then set news.old.sections.items id (Some (contents_by (listed lists.now) (of_number id))) else news.old.sections.items) }
+    ensures made { OnOk result (news.new.made ≡ news.old.made + one_if is_moved) }
+    ensures err { IfErr result (IsOverlong (contents_by (listed lists.now) (of_number id))) }
+{
+    if is_moved {
+        let contents = remade(alloc, lists, id, &mut news.made)?;
+        news.sections[id as usize] = Some(contents);
+    }
+    Ok(())
+}
+
+// Makes the import section anew, and all that have moved.
+fn remade_after(
+    alloc: Global,
+    lists: &Lists<'_>,
+    moved: &MovedLists,
+) -> Result<NewSections, EncodeFault>
+    ensures { MatchResult result (IsRemadeAfter (listed lists.now) moved.now) (IsUnwritten (listed lists.now)) }
+{
+    let mut news = one_remade(alloc, lists, SECTION)?;
+    remake_where(alloc, lists, 6, moved.globals.is_some(), &mut news)?;
+    remake_where(alloc, lists, 7, moved.exports.is_some(), &mut news)?;
+    remake_where(alloc, lists, 8, moved.start.is_some(), &mut news)?;
+    remake_where(alloc, lists, 9, moved.elems.is_some(), &mut news)?;
+    remake_where(alloc, lists, 11, moved.datas.is_some(), &mut news)?;
+    Ok(news)
+}
+
 // Judges the module with the import, which is pushed on its list, and with all that it moves.
 fn judged_import(
     alloc: Global,
@@ -224,24 +268,32 @@ fn judged_import(
 ) -> Result<Judgement, EditFault>
     requires ready { IsReady import.now (before_import parts.now) parts.now kept.now plan.now }
     requires fresh { meter.old ≡ 0 }
-    ensures judgement { let n = after_import import.now (before_import parts.now) in MatchResult result (IsJudgement keep n kept.now) (λ e. e ≢ EditFault.Memory → standing keep n ≡ Err e) }
+    ensures judgement { let n = after_import import.now (before_import parts.now) in MatchResult result (IsJudgement keep n kept.now (1 + sections_moving (desc_kind import.now.desc) (import_place import.now (before_import parts.now)) (before_import parts.now))) (λ e. e ≢ EditFault.Memory → standing keep n ≡ Err e) }
     ensures typed { let m = before_import parts.now in OnOk result (meter.new ≡ count_by (is_retyped (Edit.Import import.now) m (after_import import.now m)) m.funcs) }
 {
     // The proof asks what this says: the lists that moved, laid over the others, are those of the module.
     moving_of_module();
     let now = Lists::of(parts, &kept.types).with_moved(&plan.lists);
+    let remade = remade_after(alloc, &now, &plan.lists)?;
+    let pieces = &kept.pieces;
+    let Some(codes_len) = codes_len_after(&pieces.codes, &plan.entries.codes) else {
+        return Err(EditFault::TooLarge);
+    };
+    let len = len_after(
+        &pieces.sections,
+        &remade.sections,
+        parts.funcs.len(),
+        codes_len,
+        pieces.customs_len,
+    );
     let verdicts = verdicts_after(alloc, parts, kept, &now, meter, import, plan)?;
-    let appraisal = appraise(
-        alloc,
-        keep,
-        &now,
-        verdicts_or(&verdicts, &kept.verdicts),
-        &plan.entries.code_sizes,
-        &parts.customs,
-    )?;
+    let verdicts_now = verdicts_or(&verdicts, &kept.verdicts);
+    let appraisal = appraise(alloc, keep, &now, verdicts_now, len)?;
     Ok(Judgement {
         appraisal,
         verdicts,
+        remade,
+        codes_len,
     })
 }
 
@@ -261,7 +313,7 @@ fn push_judged(
     requires fresh { meter.old ≡ 0 }
     ensures ok { OnOk result (parts.new ≡ with_import import.now parts.old) }
     ensures err { OnErr result (parts.new ≡ parts.old) }
-    ensures judgement { let n = after_import import.now parts.old in MatchResult result (IsJudgement keep n kept.now) (λ e. e ≢ EditFault.Memory → standing keep n ≡ Err e) }
+    ensures judgement { let n = after_import import.now parts.old in MatchResult result (IsJudgement keep n kept.now (1 + sections_moving (desc_kind import.now.desc) (import_place import.now parts.old) parts.old)) (λ e. e ≢ EditFault.Memory → standing keep n ≡ Err e) }
     ensures formed { OnOk result (IsFormed (after_import import.now parts.old)) }
     ensures typed { OnOk result (meter.new ≡ count_by (is_retyped (Edit.Import import.now) parts.old (after_import import.now parts.old)) parts.old.funcs) }
 {
@@ -276,26 +328,6 @@ fn push_judged(
     judged
 }
 
-// 1 for a list that moved.
-fn one_where(is_moved: bool) -> u32
-    ensures value { result ≡ one_if is_moved }
-    ensures few { result ≤ 1 }
-{
-    if is_moved { 1 } else { 0 }
-}
-
-// How many of the lists moved.
-fn moved_sections(lists: &MovedLists) -> u32
-    ensures value { (kind : KindOf) → (from : ℕ) → (m : PartsOf) → lists.now ≡ moved_lists kind from m → result ≡ sections_moving kind from m }
-    ensures few { result ≤ 5 }
-{
-    one_where(lists.globals.is_some())
-        + one_where(lists.exports.is_some())
-        + one_where(lists.start.is_some())
-        + one_where(lists.elems.is_some())
-        + one_where(lists.datas.is_some())
-}
-
 // Puts all that moved, and what is kept of it, in their places. It takes no memory.
 fn put_import(
     alloc: Global,
@@ -306,27 +338,37 @@ fn put_import(
 )
     requires funcs { length plan.entries.funcs.items ≤ length parts.old.funcs }
     requires refs { length plan.entries.refs.items ≤ length kept.old.refs.items }
+    requires codes { length plan.entries.codes.items ≤ length kept.old.pieces.codes.items }
+    requires sections { length judgement.remade.sections.items ≤ length kept.old.pieces.sections.items }
     ensures parts { parts.new ≡ record (with_lists plan.lists parts.old) { funcs = with_items parts.old.funcs plan.entries.funcs.items } }
     ensures verdict { kept.new.verdict ≡ judgement.appraisal.verdict }
     ensures len { kept.new.len ≡ judgement.appraisal.len }
     ensures types { kept.new.types ≡ kept.old.types }
     ensures verdicts { kept.new.verdicts ≡ unwrap_or judgement.verdicts kept.old.verdicts }
     ensures refs { kept.new.refs.items ≡ with_items kept.old.refs.items plan.entries.refs.items }
-    ensures code_sizes { kept.new.code_sizes ≡ plan.entries.code_sizes }
+    ensures codes { kept.new.pieces.codes.items ≡ with_items kept.old.pieces.codes.items plan.entries.codes.items }
+    ensures codes_len { kept.new.pieces.codes_len ≡ judgement.codes_len }
+    ensures customs_len { kept.new.pieces.customs_len ≡ kept.old.pieces.customs_len }
+    ensures sections { kept.new.pieces.sections.items ≡ with_items kept.old.pieces.sections.items judgement.remade.sections.items }
 {
     let ImportPlan { lists, entries } = plan;
     let MovedEntries {
         funcs,
         refs,
-        code_sizes,
+        codes,
+        encoded: _,
     } = entries;
     let Judgement {
         appraisal,
         verdicts,
+        remade,
+        codes_len,
     } = judgement;
     put_moved(alloc, parts, lists, funcs);
     replace_each(&mut kept.refs, refs);
-    kept.code_sizes = code_sizes;
+    replace_each(&mut kept.pieces.codes, codes);
+    replace_each(&mut kept.pieces.sections, remade.sections);
+    kept.pieces.codes_len = codes_len;
     if let Some(verdicts) = verdicts {
         kept.verdicts = verdicts;
     }
@@ -355,8 +397,8 @@ pub(crate) fn add_import(
     let judgement = push_judged(alloc, keep, parts, kept, meter, import, &plan)?;
     let work = Work {
         typed: meter.typed() as u32,
-        encoded: moved_count(&plan.entries.funcs) as u32,
-        sections: 1 + moved_sections(&plan.lists),
+        encoded: plan.entries.encoded,
+        sections: judgement.remade.made,
     };
     put_import(alloc, parts, kept, plan, judgement);
     Ok(work)

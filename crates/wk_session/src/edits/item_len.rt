@@ -4,15 +4,29 @@ ghost use Rattle.std.specs.Prelude.{◌≡◌, ◌+◌, ◌-◌, ◌<◌, ◌≤
 ghost use Rattle.wk_bytes.specs.Frames.{limit};
 ghost use Rattle.wk_body.specs.Lengths.{limited};
 ghost use Rattle.wk_module.specs.Changes.{with_type, with_export};
+ghost use Rattle.wk_module.specs.declared.types.Parts.{Parts as PartsOf};
 ghost use Rattle.wk_module.specs.Shape.{IsFormed};
 ghost use Rattle.wk_module.specs.Sizes.{framed_size, section_size};
 ghost use Rattle.wk_module.specs.Writing.{encoded};
 ghost use Rattle.wk_session.specs.ItemSizes.{size_with_item};
 ghost use Rattle.wk_session.specs.Kept.{IsKept};
+ghost use Rattle.wk_session.specs.Pieces.{section_piece};
 
 use crate::kept::Kept;
 use wk_bytes::{LIMIT, leb_len_u32};
-use wk_module::{Export, FuncType, Lists, Parts, export_len, framed_len, type_len};
+use wk_module::{Export, FuncType, Parts, export_len, framed_len, type_len};
+
+// How many bytes the contents of a section have, or nothing past 2,147,483,647.
+fn contents_len(kept: &Kept, id: usize) -> Option<u32>
+    requires { id < length kept.now.pieces.sections.items }
+    ensures { (m : PartsOf) → IsKept m kept.now → id < 12 → result ≡ limited (length (section_piece id m)) }
+{
+    let len = kept.pieces.sections[id].len();
+    if len > LIMIT {
+        return None;
+    }
+    Some(len as u32)
+}
 
 // The length of a section with that many contents, which is left out where it has none.
 fn section_len(contents: u32) -> u32
@@ -67,7 +81,7 @@ pub(crate) fn len_with_type(parts: &Parts, kept: &Kept, ty: &FuncType) -> Option
     requires kept { IsKept parts.now kept.now }
     ensures { result ≡ limited (length (encoded (with_type ty.now parts.now))) }
 {
-    let Some(contents) = Lists::of(parts, &kept.types).contents_len(1) else {
+    let Some(contents) = contents_len(kept, 1) else {
         unreachable!()
     };
     len_with_item(kept.len, contents, parts.types.len() as u32, type_len(ty)?)
@@ -79,7 +93,7 @@ pub(crate) fn len_with_export(parts: &Parts, kept: &Kept, export: &Export) -> Op
     requires kept { IsKept parts.now kept.now }
     ensures { result ≡ limited (length (encoded (with_export export.now parts.now))) }
 {
-    let Some(contents) = Lists::of(parts, &kept.types).contents_len(7) else {
+    let Some(contents) = contents_len(kept, 7) else {
         unreachable!()
     };
     len_with_item(

@@ -1,21 +1,25 @@
 //! What an import moves: the code entries that hold a reference of its kind to what comes behind the imported ones.
 
-ghost use Rattle.std.specs.Prelude.{◌≡◌, ◌≤◌, ◌||◌, ◌++◌, [], ◌∷◌, OnOk, false, true, length, map, IfOk, MatchResult, is_some, count_by};
+ghost use Rattle.std.specs.Prelude.{◌≡◌, ◌≤◌, ◌||◌, ◌++◌, [], ◌∷◌, OnOk, false, true, length, map, IfOk, MatchResult, ◌+◌, ◌<◌, ◌^◌};
 ghost use Rattle.std.specs.List.{list_any};
 ghost use Rattle.wk_body.specs.Moves.{is_moving, movement_of};
 ghost use Rattle.wk_body.specs.References.{is_stuck, any_stuck, refs_of, shift_body};
 ghost use Rattle.wk_module.specs.Moving.{moved_func, is_code_moving, is_code_stuck, with_lists};
-ghost use Rattle.wk_session.specs.Kept.{uses_of, code_size};
-ghost use Rattle.wk_session.specs.MovedEntries.{uses_movement, with_items, is_too_long, IsMovedEntry, AreMovedEntries, IsTooLong};
+ghost use Rattle.wk_session.specs.Kept.{uses_of};
+ghost use Rattle.wk_session.specs.Dependents.{one_if};
+ghost use Rattle.wk_session.specs.Overlays.{with_items};
+ghost use Rattle.wk_session.specs.MovedEntries.{uses_movement, is_too_long, IsMovedEntry, AreMovedEntries, IsTooLong};
 
 use crate::edit::EditFault;
 use crate::kept::func_uses;
+use crate::overlay::replace_each;
+use crate::pieces::encoded_body;
 use std::alloc::Global;
 use std::collections::BTreeSet;
 use std::mem;
 use wk_bytes::{Items, OutOfMemory};
 use wk_module::{
-    Body, Func, Kind, MovedLists, Movement, Moving, Parts, Profile, Ref, ShiftFault, body_len,
+    Body, Func, Kind, MovedLists, Movement, Moving, Parts, Profile, Ref, ShiftFault,
     moving_of_code, moving_of_module, shift,
 };
 
@@ -26,8 +30,8 @@ pub(crate) struct MovedEntry {
     pub(crate) func: Option<Func>,
     /// What it refers to, where its body moves.
     pub(crate) refs: Option<BTreeSet<Ref>>,
-    /// How long its code is, without the size.
-    pub(crate) code_size: u32,
+    /// Its code without the size, where its body moves.
+    pub(crate) code: Option<Items<u8>>,
 }
 
 /// All code entries after an import, in their order.
@@ -37,8 +41,10 @@ pub(crate) struct MovedEntries {
     pub(crate) funcs: Vec<Option<Func>>,
     /// What each of these refers to.
     pub(crate) refs: Vec<Option<BTreeSet<Ref>>>,
-    /// How long the code of each function is, without the size.
-    pub(crate) code_sizes: Vec<u32>,
+    /// The code of each of these, without the size.
+    pub(crate) codes: Vec<Option<Items<u8>>>,
+    /// How many bodies were encoded.
+    pub(crate) encoded: u32,
 }
 
 // What moves of a reference.
@@ -114,20 +120,26 @@ fn shifted_func(alloc: Global, func: &Func, kind: Kind, from: u32) -> Result<Fun
 }
 
 // An entry whose body moves.
-fn shifted_entry(alloc: Global, func: &Func, kind: Kind, from: u32) -> Result<MovedEntry, EditFault>
+fn shifted_entry(
+    alloc: Global,
+    func: &Func,
+    kind: Kind,
+    from: u32,
+    encoded: &mut u32,
+) -> Result<MovedEntry, EditFault>
+    requires few { encoded.old + 1 < 2 ^ 32 }
     requires moves { is_code_moving kind from func.now.body.instrs ≡ true }
     requires free { is_code_stuck kind from func.now.body.instrs ≡ false }
-    ensures { MatchResult result (IsMovedEntry kind from func.now) (IsTooLong (is_too_long kind from func.now)) }
+    ensures entry { MatchResult result (IsMovedEntry kind from func.now) (IsTooLong (is_too_long kind from func.now)) }
+    ensures encoded { OnOk result (encoded.new ≡ encoded.old + 1) }
 {
     let func = shifted_func(alloc, func, kind, from)?;
     let refs = func_uses(alloc, func.ty, &func.body)?;
-    let Some(code_size) = body_len(&func.body) else {
-        return Err(EditFault::TooLarge);
-    };
+    let code = encoded_body(alloc, &func.body, None, encoded)?;
     Ok(MovedEntry {
         func: Some(func),
         refs: Some(refs),
-        code_size,
+        code: Some(code),
     })
 }
 
@@ -136,25 +148,26 @@ fn moved_entry(
     alloc: Global,
     func: &Func,
     refs: &BTreeSet<Ref>,
-    size: u32,
     kind: Kind,
     from: u32,
+    encoded: &mut u32,
 ) -> Result<MovedEntry, EditFault>
+    requires few { encoded.old + 1 < 2 ^ 32 }
     requires refs { refs.now.keys ≡ uses_of func.now }
-    requires size { size ≡ code_size func.now }
     requires free { is_code_stuck kind from func.now.body.instrs ≡ false }
-    ensures { MatchResult result (IsMovedEntry kind from func.now) (IsTooLong (is_too_long kind from func.now)) }
+    ensures entry { MatchResult result (IsMovedEntry kind from func.now) (IsTooLong (is_too_long kind from func.now)) }
+    ensures encoded { OnOk result (encoded.new ≡ encoded.old + one_if (is_code_moving kind from func.now.body.instrs)) }
 {
     // The proof asks what these say: of what a function refers to there moves what moves of its body; where nothing does, it stays.
     moving_of_code();
     moving_of_module();
     if uses_movement(kind, from, refs).moves {
-        return shifted_entry(alloc, func, kind, from);
+        return shifted_entry(alloc, func, kind, from, encoded);
     }
     Ok(MovedEntry {
         func: None,
         refs: None,
-        code_size: size,
+        code: None,
     })
 }
 
@@ -163,22 +176,22 @@ pub(crate) fn moved_entries(
     alloc: Global,
     funcs: &Items<Func>,
     refs: &Vec<BTreeSet<Ref>>,
-    code_sizes: &Vec<u32>,
     kind: Kind,
     from: u32,
 ) -> Result<MovedEntries, EditFault>
     requires refs { map (λ s. s.keys) refs.now.items ≡ map uses_of funcs.now }
-    requires code_sizes { code_sizes.now.items ≡ map code_size funcs.now }
+    requires few { length funcs.now < 2 ^ 32 }
     requires free { list_any (λ f. is_code_stuck kind from f.body.instrs) funcs.now ≡ false }
     ensures { MatchResult result (AreMovedEntries kind from funcs.now) (IsTooLong (list_any (is_too_long kind from) funcs.now)) }
 {
     let mut entries = MovedEntries {
         funcs: Vec::with_capacity(alloc, funcs.len())?,
         refs: Vec::with_capacity(alloc, funcs.len())?,
-        code_sizes: Vec::with_capacity(alloc, funcs.len())?,
+        codes: Vec::with_capacity(alloc, funcs.len())?,
+        encoded: 0,
     };
     for (i, func) in funcs.as_slice().iter().enumerate() {
-        let entry = moved_entry(alloc, func, &refs[i], code_sizes[i], kind, from)?;
+        let entry = moved_entry(alloc, func, &refs[i], kind, from, &mut entries.encoded)?;
         push_entry(&mut entries, entry)?;
     }
     Ok(entries)
@@ -188,44 +201,14 @@ pub(crate) fn moved_entries(
 fn push_entry(entries: &mut MovedEntries, entry: MovedEntry) -> Result<(), OutOfMemory>
     ensures funcs { OnOk result (entries.new.funcs.items ≡ entries.old.funcs.items ++ entry.func ∷ []) }
     ensures refs { OnOk result (entries.new.refs.items ≡ entries.old.refs.items ++ entry.refs ∷ []) }
-    ensures code_sizes { OnOk result (entries.new.code_sizes.items ≡ entries.old.code_sizes.items ++ entry.code_size ∷ []) }
+    ensures codes { OnOk result (entries.new.codes.items ≡ entries.old.codes.items ++ entry.code ∷ []) }
+    ensures encoded { entries.new.encoded ≡ entries.old.encoded }
 {
-    let MovedEntry {
-        func,
-        refs,
-        code_size,
-    } = entry;
+    let MovedEntry { func, refs, code } = entry;
     entries.funcs.push(func)?;
     entries.refs.push(refs)?;
-    entries.code_sizes.push(code_size)?;
+    entries.codes.push(code)?;
     Ok(())
-}
-
-/// How many bodies move.
-pub(crate) fn moved_count(funcs: &Vec<Option<Func>>) -> usize
-    ensures { result ≡ count_by is_some funcs.now.items }
-{
-    let mut count = 0;
-    for func in funcs {
-        if func.is_some() {
-            count += 1;
-        }
-    }
-    count
-}
-
-/// Puts each new item that there is in the place of the old one. It takes no memory.
-pub(crate) fn replace_each<T: Drop>(items: &mut Vec<T>, news: Vec<Option<T>>)
-    requires { length news.items ≤ length items.old.items }
-    ensures { items.new.items ≡ with_items items.old.items news.items }
-{
-    let mut news = news;
-    while let Some(new) = news.pop() {
-        if let Some(item) = new {
-            let index = news.len();
-            items[index] = item;
-        }
-    }
 }
 
 /// Puts lists and functions that have moved in their places. It takes no memory.

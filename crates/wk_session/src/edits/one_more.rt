@@ -1,7 +1,7 @@
 //! What edits share that add to a module something that references may find.
 
-ghost use Rattle.std.specs.Prelude.{◌≡◌, ◌<◌, ◌^◌, count_by, length, map, IfOk, OnOk};
-ghost use Rattle.wk_module.specs.Listed.{listed};
+ghost use Rattle.std.specs.Prelude.{◌≡◌, ◌<◌, ◌≤◌, ◌^◌, count_by, length, map, IfOk, OnOk};
+ghost use Rattle.wk_module.specs.Listed.{IsListId, listed};
 ghost use Rattle.wk_module.specs.Shape.{IsFormed};
 ghost use Rattle.wk_check.specs.Finds.{Grows};
 ghost use Rattle.wk_check.specs.Spaces.{answer_in, spaces_of};
@@ -9,11 +9,16 @@ ghost use Rattle.wk_check.specs.SpacesLaws.{answers_of};
 ghost use Rattle.wk_check.specs.Verdict.{func_verdict};
 ghost use Rattle.wk_session.specs.Dependents.{is_retyped_in};
 ghost use Rattle.wk_session.specs.Judged.{AreKept, IsJudged};
+ghost use Rattle.wk_session.specs.Overlays.{with_items};
+ghost use Rattle.wk_session.specs.Pieces.{one_new, section_piece, section_pieces};
 
 use crate::appraisal::{Appraisal, appraise};
 use crate::edit::EditFault;
 use crate::judged::rejudged;
 use crate::kept::Kept;
+use crate::lengths::len_after;
+use crate::overlay::replace_each;
+use crate::pieces::{NewSections, one_remade};
 use std::alloc::Global;
 use wk_bytes::OutOfMemory;
 use wk_check::{BodyVerdict, Meter, Whole};
@@ -26,6 +31,8 @@ pub(crate) struct Judgement {
     pub(crate) verdicts: Vec<BodyVerdict>,
     /// Its verdict and its length.
     pub(crate) appraisal: Appraisal,
+    /// The section that is made anew.
+    pub(crate) remade: NewSections,
 }
 
 // The verdicts of the bodies of a module in which each reference finds what it found before, if that was there.
@@ -56,43 +63,64 @@ fn verdicts_grown(
     )
 }
 
-/// Judges a module in which each reference finds what it found before, if that was there. What is kept is of the module before but
-/// for what came to it.
+/// Judges a module in which each reference finds what it found before, if that was there, and of whose sections that of an id alone
+/// is another. What is kept is of the module before but for what came to it.
 pub(crate) fn judge_grown(
     alloc: Global,
     keep: bool,
     before: Lists<'_>,
     parts: &Parts,
     kept: &Kept,
+    id: u8,
     meter: &mut Meter,
 ) -> Result<Judgement, EditFault>
     requires formed { IsFormed parts.now }
     requires grows { Grows (answer_in (spaces_of (listed before))) (answers_of parts.now) }
     requires kept { AreKept (answer_in (spaces_of (listed before))) parts.now kept.now }
+    requires id { IsListId id }
+    requires others { with_items kept.now.pieces.sections.items (one_new id (section_piece id parts.now)) ≡ section_pieces parts.now }
     requires fresh { meter.old ≡ 0 }
-    ensures { IsJudged keep (answer_in (spaces_of (listed before.entry))) parts.now meter.new result }
+    ensures { IsJudged keep (answer_in (spaces_of (listed before.entry))) parts.now kept.now meter.new result }
 {
-    let verdicts = verdicts_grown(alloc, before, parts, kept, meter)?;
     let lists = Lists::of(parts, &kept.types);
-    let appraisal = appraise(
-        alloc,
-        keep,
-        &lists,
-        &verdicts,
-        &kept.code_sizes,
-        &parts.customs,
-    )?;
+    let remade = one_remade(alloc, &lists, id)?;
+    let pieces = &kept.pieces;
+    let len = len_after(
+        &pieces.sections,
+        &remade.sections,
+        parts.funcs.len(),
+        pieces.codes_len,
+        pieces.customs_len,
+    );
+    let verdicts = verdicts_grown(alloc, before, parts, kept, meter)?;
+    let appraisal = appraise(alloc, keep, &lists, &verdicts, len)?;
     Ok(Judgement {
         verdicts,
         appraisal,
+        remade,
     })
 }
 
-/// Keeps what is to be kept of a module that an edit makes.
-pub(crate) fn keep_judgement(kept: &mut Kept, judgement: Judgement)
-    ensures { kept.new ≡ record kept.old { verdict = judgement.appraisal.verdict; len = judgement.appraisal.len; verdicts = judgement.verdicts } }
+/// Keeps what is to be kept of a module that an edit makes, and answers how many sections were made anew for it.
+pub(crate) fn keep_judgement(kept: &mut Kept, judgement: Judgement) -> u32
+    requires { length judgement.remade.sections.items ≤ length kept.old.pieces.sections.items }
+    ensures made { result ≡ judgement.remade.made }
+    ensures rest { kept.new ≡ record kept.old {
+        verdict = judgement.appraisal.verdict;
+        len = judgement.appraisal.len;
+        verdicts = judgement.verdicts;
+        pieces = record kept.old.pieces { sections = kept.new.pieces.sections };
+    } }
+    ensures sections { kept.new.pieces.sections.items ≡ with_items kept.old.pieces.sections.items judgement.remade.sections.items }
 {
-    kept.verdict = judgement.appraisal.verdict;
-    kept.len = judgement.appraisal.len;
-    kept.verdicts = judgement.verdicts;
+    let Judgement {
+        verdicts,
+        appraisal,
+        remade,
+    } = judgement;
+    replace_each(&mut kept.pieces.sections, remade.sections);
+    kept.verdict = appraisal.verdict;
+    kept.len = appraisal.len;
+    kept.verdicts = verdicts;
+    remade.made
 }

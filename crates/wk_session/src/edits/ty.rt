@@ -17,6 +17,9 @@ use std::alloc::Global;
 use wk_check::Meter;
 use wk_module::{FuncType, Lists, Parts};
 
+/// The id of the type section (5.5.2).
+const SECTION: u8 = 1;
+
 // The lists without the last type.
 fn without_last_type<'a>(lists: Lists<'a>) -> Lists<'a>
     requires { 0 < length lists.types.now }
@@ -40,11 +43,11 @@ fn push_type(
     requires fresh { meter.old ≡ 0 }
     ensures ok { OnOk result (parts.new ≡ with_type ty parts.old) }
     ensures err { OnErr result (parts.new ≡ parts.old) }
-    ensures judged { IsJudged keep (answers_of parts.old) (with_type ty parts.old) meter.new result }
+    ensures judged { IsJudged keep (answers_of parts.old) (with_type ty parts.old) kept.now meter.new result }
 {
     parts.types.push(ty)?;
     let before = without_last_type(Lists::of(parts, &kept.types));
-    let judged = judge_grown(alloc, keep, before, parts, kept, meter);
+    let judged = judge_grown(alloc, keep, before, parts, kept, SECTION, meter);
     if judged.is_err() {
         let _ = parts.types.pop();
     }
@@ -70,10 +73,10 @@ pub(crate) fn add_type(
     }
     let ty = ty.copy(alloc)?;
     let judgement = push_type(alloc, keep, parts, kept, meter, ty)?;
-    keep_judgement(kept, judgement);
+    let sections = keep_judgement(kept, judgement);
     Ok(Work {
         typed: meter.typed() as u32,
         encoded: 0,
-        sections: 1,
+        sections,
     })
 }

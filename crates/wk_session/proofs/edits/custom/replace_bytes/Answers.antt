@@ -1,8 +1,9 @@
-use Rattle.std.proofs.Common.{List, ℕ, refl, sym, ap, ◌∙◌}
+use Rattle.std.proofs.Common.{List, [], ℕ, refl, sym, ap, subst, ◌∙◌}
 use Rattle.std.proofs.lemmas.Result.{err_from_is_err_and}
 use Rattle.wk_module.specs.declared.types.Parts.{Parts}
 use Rattle.wk_session.specs.Customs.{bytes_at}
-use Rattle.wk_session.proofs.CustomEdits.{fits_settled, customs_kept, put_checked, put_wanting}
+use Rattle.wk_session.specs.Kept.{IsKept}
+use Rattle.wk_session.proofs.CustomEdits.{fits_settled, customs_before, customs_after, customs_kept, put_checked, put_wanting}
 use Rattle.wk_session.proofs.CustomPuts.{bytes_formed}
 use Rattle.wk_session.proofs.edits.custom.replace_bytes.Goals as goal
 
@@ -22,6 +23,18 @@ returns-in_err-bytes c =
     let result = c.from_residual-in_err-bytes.result in
     put_wanting c.args.keep m n c.args.parts.now c.args.kept.now refl result (err_from_is_err_and result c.from_residual-in_err-bytes.ensures.1) (fits_settled n c.in_ok-len.len formed checked.1)
 
+pub keep_len-requires-clause-before : goal.keep_len-requires-clause-before
+keep_len-requires-clause-before c = customs_before c.args.parts.now [] c.args.kept.now c.requires.shaped.formed.order c.requires.kept
+
+pub keep_len-requires-clause-after : goal.keep_len-requires-clause-after
+keep_len-requires-clause-after c =
+    let m = c.args.parts.now in
+    let cs = bytes_at c.args.index c.args.bytes.now m.customs in
+    let n : Parts = record m { customs = cs } in
+    let formed = bytes_formed c.args.index c.args.bytes.now m c.requires.shaped.formed in
+    let checked = c.in_ok-len.ensures n formed (sym c.requires.kept.verdict) c.len_with_bytes-len.ensures in
+    customs_after m cs c.args.kept.now c.requires.shaped.formed.order c.requires.kept formed.order c.in_ok-len.len checked.1
+
 pub returns : goal.returns
 returns c =
     let m = c.args.parts.now in
@@ -31,4 +44,5 @@ returns c =
     let formed = bytes_formed i bytes m c.requires.shaped.formed in
     let checked = c.in_ok-len.ensures n formed (sym c.requires.kept.verdict) c.len_with_bytes-len.ensures in
     let same = c.put_bytes.ensures ∙ ap (λ (b : List ℕ). let p : Parts = record m { customs = bytes_at i b m.customs } in p) c.in_ok-bytes.ensures in
-    (checked.0, same, formed, customs_kept m (bytes_at i bytes m.customs) c.args.kept.now c.in_ok-len.len c.requires.kept checked.1)
+    let kept = customs_kept m (bytes_at i bytes m.customs) c.args.kept.now c.requires.shaped.formed.order c.requires.kept formed.order c.in_ok-len.len checked.1 in
+    (checked.0, same, formed, subst (IsKept n) (sym c.keep_len.ensures) kept)

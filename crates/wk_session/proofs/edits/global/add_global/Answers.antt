@@ -49,6 +49,9 @@ overflow_cast-result c =
     let typed = c.in_ok-judgement.ensures.judged.typed_are in
     omega (arith, c.typed.ensures, typed, count_by-le-length (is_retyped_in (answers_of m) (answers_of n)) m.funcs, funcs_numbered m c.requires.shaped.formed)
 
+pub keep_judgement-sections-requires : goal.keep_judgement-sections-requires
+keep_judgement-sections-requires c = omega (arith, c.in_ok-judgement.ensures.judged.count)
+
 pub returns : goal.returns
 returns c =
     let i = c.in_ok-init.init in
@@ -61,7 +64,7 @@ returns c =
     let may = c.in_ok-judgement.ensures.judged in
     let few = room m GlobalSection (limited-some (length (encoded m)) k.len c.requires.kept.len) in
     let formed : IsFormed n = global_formed c.args.ty i m few c.in_ok-init.ensures.valid c.requires.shaped.formed in
-    let works = work_is e m (settle n) c.typed.result 0 1 (c.typed.ensures ∙ may.typed_are ∙ sym (zero-add (count_by (is_retyped_in (answers_of m) (answers_of n)) m.funcs))) (sym (zero-add (count_by (is_reencoded e m) m.funcs) ∙ count_zero (is_reencoded e m) (λ f. refl) m.funcs)) refl in
-    let kept : AreKept (answers_of m) n k = record { types = c.requires.kept.types; verdicts = c.requires.kept.verdicts; refs = c.requires.kept.refs; code_sizes = c.requires.kept.code_sizes } in
-    let keeps = subst (IsKept n) (sym c.keep_judgement.ensures) (judged_kept c.args.keep (answers_of m) n typed k j kept may) in
-    accepted c.args.keep e m n c.push_global.new.parts k c.keep_judgement.new.kept (record { typed = c.typed.result; encoded = 0; sections = 1 }) c.in_ok-judgement.ensures.ok (makes (goal.at.returns c).In_ok-init) may.stands works formed keeps
+    let works = work_is e m (settle n) c.typed.result 0 c.keep_judgement-sections.result (c.typed.ensures ∙ may.typed_are ∙ sym (zero-add (count_by (is_retyped_in (answers_of m) (answers_of n)) m.funcs))) (sym (zero-add (count_by (is_reencoded e m) m.funcs) ∙ count_zero (is_reencoded e m) (λ f. refl) m.funcs)) (c.keep_judgement-sections.ensures.made ∙ may.made) in
+    let kept : AreKept (answers_of m) n k = record { types = c.requires.kept.types; verdicts = c.requires.kept.verdicts; refs = c.requires.kept.refs; codes = c.requires.kept.pieces.codes; codes_len = c.requires.kept.pieces.codes_len; customs_len = c.requires.kept.pieces.customs_len } in
+    let keeps = judged_kept c.args.keep (answers_of m) n typed k c.keep_judgement-sections.new.kept j kept may c.keep_judgement-sections.ensures.rest c.keep_judgement-sections.ensures.sections in
+    accepted c.args.keep e m n c.push_global.new.parts k c.keep_judgement-sections.new.kept (record { typed = c.typed.result; encoded = 0; sections = c.keep_judgement-sections.result }) c.in_ok-judgement.ensures.ok (makes (goal.at.returns c).In_ok-init) may.stands works formed keeps

@@ -1,4 +1,4 @@
-use Rattle.std.proofs.Common.{◌≡◌, List, length, map, sym, ap, subst, ◌∙◌}
+use Rattle.std.proofs.Common.{◌≡◌, ℕ, List, length, map, sym, ap, subst, ◌∙◌}
 use Rattle.wk_body.specs.declared.references.Ref.{Ref}
 use Rattle.wk_module.specs.declared.types.GlobalDef.{GlobalDef}
 use Rattle.wk_module.specs.Listed.{listed}
@@ -13,6 +13,9 @@ use Rattle.wk_check.specs.Spaces.{answer_in, spaces_of}
 use Rattle.wk_check.specs.SpacesLaws.{answers_of, global_grows}
 use Rattle.wk_check.specs.Verdict.{func_verdict}
 use Rattle.wk_session.specs.Judged.{IsJudged}
+use Rattle.wk_session.specs.Overlays.{with_items}
+use Rattle.wk_session.specs.Pieces.{one_new, section_piece}
+use Rattle.wk_module.specs.declared.types.Parts.{Parts}
 use Rattle.wk_session.proofs.Outcomes.{limited-some}
 use Rattle.wk_session.proofs.LastItems.{but_last, globals_before}
 use Rattle.wk_session.proofs.edits.global.push_global.Goals as goal
@@ -45,8 +48,15 @@ judge_grown-judged-requires-clause-kept c =
       types = c.requires.kept.types;
       verdicts = c.requires.kept.verdicts ∙ ap (λ (A : Ref → Found). map (func_verdict A) c.args.parts.now.funcs) (sym before);
       refs = c.requires.kept.refs;
-      code_sizes = c.requires.kept.code_sizes;
+      codes = c.requires.kept.pieces.codes;
+      codes_len = c.requires.kept.pieces.codes_len;
+      customs_len = c.requires.kept.pieces.customs_len;
     }
+
+pub judge_grown-judged-requires-clause-others : goal.judge_grown-judged-requires-clause-others
+judge_grown-judged-requires-clause-others c =
+    let p : Parts = record c.args.parts.now { globals = c.push.new.self } in
+    ap (λ (ps : List (List ℕ)). with_items ps (one_new 6 (section_piece 6 p))) c.requires.kept.pieces.sections
 
 pub returns-else-is_err-clause-judged : goal.returns-else-is_err-clause-judged
 returns-else-is_err-clause-judged c =
@@ -54,5 +64,5 @@ returns-else-is_err-clause-judged c =
     let before = before_is (goal.at.returns-else-is_err-clause-judged c).After-without_last_global-before in
     let typed = c.judge_grown-judged.new.meter in
     let result = c.judge_grown-judged.result in
-    let judged = subst (λ (A : Ref → Found). IsJudged c.args.keep A (record m { globals = c.push.new.self }) typed result) before c.judge_grown-judged.ensures in
-    subst (λ (ts : List GlobalDef). IsJudged c.args.keep (answers_of m) (record m { globals = ts }) typed result) c.in_ok-push.ensures.ok judged
+    let judged = subst (λ (A : Ref → Found). IsJudged c.args.keep A (record m { globals = c.push.new.self }) c.args.kept.now typed result) before c.judge_grown-judged.ensures in
+    subst (λ (ts : List GlobalDef). IsJudged c.args.keep (answers_of m) (record m { globals = ts }) c.args.kept.now typed result) c.in_ok-push.ensures.ok judged

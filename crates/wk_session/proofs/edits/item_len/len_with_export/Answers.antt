@@ -2,7 +2,7 @@ use Rattle.std.proofs.Common.{◌≡◌, ◌∙◌, sym, ap, arith, ◌<◌, ◌
 use Rattle.wk_body.specs.Lengths.{limited}
 use Rattle.wk_body.specs.LengthsLaws.{limited_some}
 use Rattle.wk_module.specs.Changes.{with_export}
-use Rattle.wk_module.specs.Sections.{SectionLists, ExportSection}
+use Rattle.wk_module.specs.Sections.{ExportSection}
 use Rattle.wk_module.specs.Items.{written_export}
 use Rattle.wk_module.specs.Writing.{encoded, section_contents}
 use Rattle.wk_module.specs.WritingLaws.{room}
@@ -12,14 +12,16 @@ use Rattle.wk_session.proofs.edits.item_len.len_with_export.Goals.{After-content
 
 -- the contents that are told are those of the exports
 contents_told : (c : After-contents_len) → c.contents_len.result ≡ limited (length (section_contents ExportSection c.args.parts.now.exports))
-contents_told c =
-    c.contents_len.ensures ∙ ap (λ (l : SectionLists). limited (length (section_contents ExportSection l.exports))) c.of.ensures.lists
+contents_told c = c.contents_len.ensures c.args.parts.now c.requires.kept (omega arith)
 
 law : (c : After-contents_len) → AreTold written_export c.args.parts.now.exports c.args.export.now c.args.kept.now.len (length (encoded (with_export c.args.export.now c.args.parts.now)))
 law c = export_told c.args.export.now c.args.parts.now c.args.kept.now.len c.requires.formed.order c.requires.kept.len
 
 few : (c : After-contents_len) → length c.args.parts.now.exports + 1 < 2 ^ 32
 few c = room c.args.parts.now ExportSection (limited_some c.args.kept.now.len (length (encoded c.args.parts.now)) (sym c.requires.kept.len)).1
+
+pub contents_len-requires : goal.contents_len-requires
+contents_len-requires c = omega (arith, ap length c.requires.kept.pieces.sections)
 
 pub unreachable-requires : goal.unreachable-requires
 unreachable-requires c =

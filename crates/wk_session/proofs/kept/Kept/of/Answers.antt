@@ -1,21 +1,22 @@
 use Rattle.std.proofs.Common.{◌≡◌, ◌<◌, ◌^◌, ◌≤◌, List, ℕ, length, map, refl, sym, ap, subst, ◌∙◌, arith}
 use Rattle.std.proofs.lemmas.List.{length-map}
-use Rattle.std.specs.List.{AllByRecursion}
-use Rattle.wk_bytes.specs.Frames.{limit}
+use Rattle.wk_body.specs.Lengths.{limited}
 use Rattle.wk_module.specs.declared.types.Func.{Func}
 use Rattle.wk_module.specs.declared.types.Parts.{Parts}
 use Rattle.wk_module.specs.Listed.{listed, listed_with, AreNumbered}
 use Rattle.wk_module.specs.NumberedLaws.{funcs_numbered, module_numbered_with}
 use Rattle.wk_module.specs.Sections.{SectionLists}
+use Rattle.wk_module.specs.Shape.{IsInOrderFrom}
+use Rattle.wk_module.specs.Writing.{encoded, Fits}
 use Rattle.wk_check.specs.declared.fault.BodyVerdict.{BodyVerdict}
 use Rattle.wk_check.specs.Flaws.{first_in}
 use Rattle.wk_check.specs.Items.{body_flaw}
 use Rattle.wk_check.specs.Spaces.{answer_in, spaces_of}
 use Rattle.wk_check.specs.SpacesLaws.{answers_of}
 use Rattle.wk_check.specs.Verdict.{func_verdict, verdict_around}
-use Rattle.wk_session.specs.Kept.{IsPending, code_size, uses_of}
+use Rattle.wk_session.specs.Kept.{IsPending, uses_of}
+use Rattle.wk_session.specs.Pieces.{ArePieces}
 use Rattle.wk_session.proofs.Appraising.{verdict_lent}
-use Rattle.wk_session.proofs.Opening.{codes_small}
 use Rattle.wk_session.proofs.kept.Kept.of.Goals as goal
 use Rattle.wk_session.proofs.kept.Kept.of.Goals.{After-of-lists}
 
@@ -42,8 +43,14 @@ judge_around-requires c =
     let types = map (λ (f : Func). f.ty) m.funcs in
     subst AreNumbered (sym (lent (goal.at.judge_around-requires c).After-of-lists)) (module_numbered_with types m (omega (arith, funcs_numbered m formed, length-map m.funcs (λ (f : Func). f.ty))) formed)
 
-pub code_sizes_of-requires : goal.code_sizes_of-requires
-code_sizes_of-requires c = subst (λ (p : Parts). AllByRecursion (λ (f : Func). code_size f ≤ limit) p.funcs) (sym c.parts-parts.ensures.value) (codes_small c.args.module.now c.requires)
+pub of-requires-clause-types : goal.of-requires-clause-types
+of-requires-clause-types c = c.deref-3.ensures.value ∙ c.in_ok-types.ensures
+
+pub of-requires-clause-order : goal.of-requires-clause-order
+of-requires-clause-order c = subst (λ (p : Parts). IsInOrderFrom 0 p.customs) (sym c.parts-parts.ensures.value) c.parts-parts.ensures.shaped.formed.order
+
+pub of-requires-clause-fits : goal.of-requires-clause-fits
+of-requires-clause-fits c = subst Fits (sym c.parts-parts.ensures.value) c.requires
 
 pub returns : goal.returns
 returns c =
@@ -54,21 +61,19 @@ returns c =
     c.in_ok-verdicts.ensures
     ∙ ap (λ (l : SectionLists). map (func_verdict (answer_in (spaces_of l))) c.parts-parts.result.now.funcs) lists
     ∙ ap (λ (p : Parts). map (func_verdict (answers_of m)) p.funcs) value in
-    let sizes = c.in_ok-code_sizes.ensures ∙ ap (λ (p : Parts). map code_size p.funcs) value in
-    let pending : IsPending c.of-lists.result c.in_ok-verdicts.verdicts.items c.in_ok-code_sizes.code_sizes.items m.customs m = record {
+    let pending : IsPending c.of-lists.result c.in_ok-verdicts.verdicts.items (limited (length (encoded m))) m = record {
       formed = c.parts-parts.ensures.shaped.formed;
       profile = c.of-lists.ensures.profile ∙ ap (λ (p : Parts). p.profile) value;
       lists = lists;
       verdicts = verdicts;
-      code_sizes = sizes;
-      customs = refl;
+      len = refl;
     } in
     let code = c.first_code_fault.ensures ∙ ap (λ (vs : List BodyVerdict). first_in 10 0 (map body_flaw vs)) c.deref-2.ensures.value in
     record {
-      verdict = c.in_ok-verdict.ensures ∙ ap (verdict_around c.of-lists.result.profile (listed c.of-lists.result)) code ∙ verdict_lent c.of-lists.result _ _ _ m pending;
+      verdict = c.in_ok-verdict.ensures ∙ ap (verdict_around c.of-lists.result.profile (listed c.of-lists.result)) code ∙ verdict_lent c.of-lists.result _ _ m pending;
       len = sym c.encoded_len.ensures ∙ c.in-Some.is;
       types = c.in_ok-types.ensures ∙ ap (λ (p : Parts). map (λ (f : Func). f.ty) p.funcs) value;
       verdicts = verdicts;
       refs = c.in_ok-refs.ensures ∙ ap (λ (p : Parts). map uses_of p.funcs) value;
-      code_sizes = sizes;
+      pieces = subst (λ (p : Parts). ArePieces p c.in_ok-pieces.pieces) value c.in_ok-pieces.ensures;
     }

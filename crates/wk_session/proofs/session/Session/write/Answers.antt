@@ -1,14 +1,8 @@
-use Rattle.wk_session.proofs.WrittenBack.{kept_alone}
+use Rattle.std.proofs.Common.{sym, ◌∙◌}
 use Rattle.wk_session.proofs.session.Session.write.Goals as goal
 
-pub returns-in-Err-Memory-clause-alone : goal.returns-in-Err-Memory-clause-alone
-returns-in-Err-Memory-clause-alone g c =
-    kept_alone c.self.inside.module c.args.self.now _ c.self.invariant c.self.view_is c.encode.ensures.alone
+pub returns-in-Ok-clause-alone : goal.returns-in-Ok-clause-alone
+returns-in-Ok-clause-alone g c = λ n profile spelled. c.one_module.ensures.one _ _ _ profile spelled c.ensures.spells
 
-pub returns-in-Ok-put_all-clause-alone : goal.returns-in-Ok-put_all-clause-alone
-returns-in-Ok-put_all-clause-alone g c =
-    kept_alone c.self.inside.module c.args.self.now _ c.self.invariant c.self.view_is c.encode.ensures.alone
-
-pub returns-clause-alone : goal.returns-clause-alone
-returns-clause-alone g c =
-    kept_alone c.self.inside.module c.args.self.now _ c.self.invariant c.self.view_is c.encode.ensures.alone
+pub returns-in-Err-clause-alone : goal.returns-in-Err-clause-alone
+returns-in-Err-clause-alone g c = λ n profile spelled. c.one_module.ensures.one _ _ _ profile spelled c.ensures.spells

@@ -1,7 +1,7 @@
 use Rattle.std.proofs.Common.{◌≡◌, ◌<◌, length, arith, ap, sym, ◌∙◌, [], ◌∷◌, Some, None, length-append, length-set}
-use Rattle.wk_session.specs.MovedEntries.{with_items}
+use Rattle.wk_session.specs.Overlays.{with_items}
 use Rattle.wk_session.proofs.Replacing.{with_items_all, with_items_none, with_items_some, empty_list}
-use Rattle.wk_session.proofs.edits.moved.replace_each.Goals as goal
+use Rattle.wk_session.proofs.overlay.replace_each.Goals as goal
 
 pub loop-new-preserved-in-Some-new : goal.loop-new-preserved-in-Some-new
 loop-new-preserved-in-Some-new g c =

@@ -1,6 +1,6 @@
 use Rattle.std.proofs.Common.{◌≡◌, ◌≤◌, length}
-use Rattle.wk_session.specs.MovedEntries.{with_items}
-use Rattle.wk_session.proofs.edits.moved.replace_each.Given as goal
+use Rattle.wk_session.specs.Overlays.{with_items}
+use Rattle.wk_session.proofs.overlay.replace_each.Given as goal
 
 abbrev pub invariant-loop-new : goal.invariant-loop-new
 invariant-loop-new g l = record {

@@ -1,0 +1,149 @@
+//! How long a module gets, by how long its pieces are. Nothing here takes memory.
+
+ghost use Rattle.std.specs.Prelude.{◌≡◌, ◌+◌, ◌<◌, ◌^◌, ◌==◌, if◌then◌else◌, ℕ, Some, length, map, slice_get, option_map};
+ghost use Rattle.wk_bytes.specs.Short.{short};
+ghost use Rattle.wk_body.specs.Lengths.{limited, GrowsBy};
+ghost use Rattle.wk_module.specs.declared.types.Parts.{Parts as PartsOf};
+ghost use Rattle.wk_module.specs.Shape.{IsInOrderFrom};
+ghost use Rattle.wk_module.specs.Sizes.{entry_size};
+ghost use Rattle.wk_module.specs.Writing.{encoded};
+ghost use Rattle.wk_module.specs.WritingLaws.{written_frame};
+ghost use Rattle.wk_session.specs.Overlays.{with_items};
+ghost use Rattle.wk_session.specs.Pieces.{codes_size, customs_size, entries_size, section_pieces};
+
+use wk_bytes::{Items, LIMIT, leb_len_u32};
+use wk_module::{Custom, custom_len, framed_len, whole_len};
+
+/// How many ids of sections there are, 0 of custom ones with them.
+pub(crate) const SECTIONS: usize = 12;
+
+/// The greatest id of a section (5.5.2).
+pub(crate) const LAST: u8 = 11;
+
+/// The id of the code section (5.5.2).
+pub(crate) const CODES: u8 = 10;
+
+// A length with more added, or nothing past 2,147,483,647.
+fn plus(total: Option<u32>, more: usize) -> Option<u32>
+    ensures { GrowsBy more total result }
+{
+    match total {
+        Some(total) if total as usize <= LIMIT && more <= LIMIT - total as usize => {
+            Some(total + more as u32)
+        }
+        _ => None,
+    }
+}
+
+/// A length with a code and its size added, or nothing past 2,147,483,647.
+pub(crate) fn plus_code(total: Option<u32>, code: &Items<u8>) -> Option<u32>
+    ensures { GrowsBy (entry_size (length code.now)) total result }
+{
+    let len = code.len();
+    if len > LIMIT {
+        return None;
+    }
+    plus(plus(total, leb_len_u32(len as u32)), len)
+}
+
+/// How many bytes codes have, with their sizes; or nothing past 2,147,483,647.
+pub(crate) fn codes_len(codes: &Vec<Items<u8>>) -> Option<u32>
+    ensures { result ≡ limited (entries_size codes.now.items) }
+{
+    let mut total = Some(0);
+    for code in codes {
+        total = plus_code(total, code);
+    }
+    total
+}
+
+/// The same of codes with those made anew in their places.
+pub(crate) fn codes_len_after(codes: &Vec<Items<u8>>, news: &Vec<Option<Items<u8>>>) -> Option<u32>
+    requires { length news.now.items ≡ length codes.now.items }
+    ensures { result ≡ limited (entries_size (with_items codes.now.items news.now.items)) }
+{
+    let mut total = Some(0);
+    for (i, code) in codes.iter().enumerate() {
+        total = match &news[i] {
+            Some(new) => plus_code(total, new),
+            None => plus_code(total, code),
+        };
+    }
+    total
+}
+
+// A length with a custom section added, its id and its size with it; or nothing past 2,147,483,647.
+fn plus_custom(total: Option<u32>, custom: &Custom) -> Option<u32>
+    ensures { GrowsBy (length (written_frame custom.now)) total result }
+{
+    let size = custom_len(custom)?;
+    let framed = framed_len(size)?;
+    plus(total, framed as usize)
+}
+
+/// How many bytes custom sections have, with their ids and sizes; or nothing past 2,147,483,647.
+pub(crate) fn customs_len(customs: &Items<Custom>) -> Option<u32>
+    ensures { result ≡ limited (customs_size customs.now) }
+{
+    let mut total = Some(0);
+    for custom in customs.as_slice() {
+        total = plus_custom(total, custom);
+    }
+    total
+}
+
+// How many bytes the contents of a section have, or what is made in their place.
+fn size_after(sections: &Vec<Items<u8>>, news: &Vec<Option<Items<u8>>>, id: usize) -> usize
+    requires sections { id < length sections.now.items }
+    requires news { id < length news.now.items }
+    ensures { Some result ≡ option_map length (slice_get (with_items sections.now.items news.now.items) id) }
+{
+    match &news[id] {
+        Some(new) => new.len(),
+        None => sections[id].len(),
+    }
+}
+
+// The same of all sections, by their ids.
+fn sizes_after(sections: &Vec<Items<u8>>, news: &Vec<Option<Items<u8>>>) -> [usize; 12]
+    requires sections { length sections.now.items ≡ 12 }
+    requires news { length news.now.items ≡ 12 }
+    ensures { result ≡ map length (with_items sections.now.items news.now.items) }
+{
+    let mut sizes = [0; SECTIONS];
+    for id in 0..SECTIONS {
+        sizes[id] = size_after(sections, news, id);
+    }
+    sizes
+}
+
+// How many bytes the contents of the code section have, by how many codes there are and how many bytes they have with their sizes.
+fn code_contents(count: usize, codes: u32) -> usize
+    requires { count < 2 ^ 32 }
+    ensures { result ≡ if count == 0 then 0 else length (short count) + codes }
+{
+    if count == 0 {
+        return 0;
+    }
+    leb_len_u32(count as u32) + codes as usize
+}
+
+/// The length of a module, by its sections with those made anew in their places, by how many functions it defines, and by how many
+/// bytes its codes and its custom sections have, with sizes and ids; or nothing past 2,147,483,647.
+pub(crate) fn len_after(
+    sections: &Vec<Items<u8>>,
+    news: &Vec<Option<Items<u8>>>,
+    count: usize,
+    codes: u32,
+    customs: u32,
+) -> Option<u32>
+    requires sections { length sections.now.items ≡ 12 }
+    requires news { length news.now.items ≡ 12 }
+    requires count { count < 2 ^ 32 }
+    ensures { (n : PartsOf) → IsInOrderFrom 0 n.customs → with_items sections.now.items news.now.items ≡ section_pieces n → count ≡ length n.funcs → codes ≡ codes_size n.funcs → customs ≡ customs_size n.customs
+        → result ≡ limited (length (encoded n)) }
+{
+    let mut sizes = sizes_after(sections, news);
+    sizes[CODES as usize] = code_contents(count, codes);
+    whole_len(&sizes, customs as usize)
+}

@@ -1,0 +1,195 @@
+//! Puts the written form of a module out, piece after piece, without memory.
+
+ghost use Rattle.std.specs.Prelude.{◌≡◌, ◌+◌, ◌-◌, ◌<◌, ◌≤◌, ◌^◌, ◌∷◌, length, OnOk, OnErr};
+ghost use Rattle.std.specs.Io.KnownBytes.{Appends};
+ghost use Rattle.std.specs.List.{flat_map};
+ghost use Rattle.wk_bytes.specs.Frames.{limit};
+ghost use Rattle.wk_bytes.specs.Short.{short};
+ghost use Rattle.wk_bytes.specs.Taken.{TakesFront, failures_after};
+ghost use Rattle.wk_module.specs.Formats.{written_bytes};
+ghost use Rattle.wk_module.specs.Shape.{IsInOrderFrom};
+ghost use Rattle.wk_module.specs.Writing.{Fits, customs_at, encoded, section_and_customs, section_of};
+ghost use Rattle.wk_module.specs.WritingLaws.{written_frame};
+ghost use Rattle.wk_session.specs.Pieces.{ArePieces, code_section, entries_size, framed_some};
+
+use crate::lengths::{CODES, LAST};
+use crate::pieces::Pieces;
+use wk_bytes::{Items, Out, OutFault, leb_len_u32, out_u32, put_all};
+use wk_module::{Custom, Parts, custom_len};
+
+/// The magic and the version (5.5.15).
+const HEADER: [u8; 8] = [0, 97, 115, 109, 1, 0, 0, 0];
+
+/// The id of custom sections (5.5.2).
+const CUSTOM: u8 = 0;
+
+// The id and the size of a section.
+fn put_head<W: Out>(out: &mut W, id: u8, size: u32) -> Result<(), OutFault>
+    requires { W.failed out.old < 2 ^ 64 - 1 }
+    ensures ok { OnOk result (Appends (W.taken out.old) (W.taken out.new) (id ∷ short size)) }
+    ensures err { OnErr result (TakesFront (W.taken out.old) (W.taken out.new) (id ∷ short size)) }
+    ensures failures { W.failed out.new ≡ failures_after (W.failed out.old) result }
+{
+    put_all(out, &[id])?;
+    out_u32(out, size)
+}
+
+// Bytes behind their number.
+fn put_bytes<W: Out>(out: &mut W, bytes: &[u8]) -> Result<(), OutFault>
+    requires failed { W.failed out.old < 2 ^ 64 - 1 }
+    requires few { length bytes.now ≤ limit }
+    ensures ok { OnOk result (Appends (W.taken out.old) (W.taken out.new) (written_bytes bytes.now)) }
+    ensures err { OnErr result (TakesFront (W.taken out.old) (W.taken out.new) (written_bytes bytes.now)) }
+    ensures failures { W.failed out.new ≡ failures_after (W.failed out.old) result }
+{
+    out_u32(out, bytes.len() as u32)?;
+    put_all(out, bytes)
+}
+
+// A section, unless it has no contents.
+fn put_section<W: Out>(out: &mut W, id: u8, contents: &Items<u8>) -> Result<(), OutFault>
+    requires failed { W.failed out.old < 2 ^ 64 - 1 }
+    requires few { length contents.now ≤ limit }
+    ensures ok { OnOk result (Appends (W.taken out.old) (W.taken out.new) (framed_some id contents.now)) }
+    ensures err { OnErr result (TakesFront (W.taken out.old) (W.taken out.new) (framed_some id contents.now)) }
+    ensures failures { W.failed out.new ≡ failures_after (W.failed out.old) result }
+{
+    if contents.is_empty() {
+        return Ok(());
+    }
+    put_head(out, id, contents.len() as u32)?;
+    put_all(out, contents.as_slice())
+}
+
+// Codes with their sizes.
+fn put_codes<W: Out>(out: &mut W, codes: &Vec<Items<u8>>) -> Result<(), OutFault>
+    requires failed { W.failed out.old < 2 ^ 64 - 1 }
+    requires few { entries_size codes.now.items ≤ limit }
+    ensures ok { OnOk result (Appends (W.taken out.old) (W.taken out.new) (flat_map written_bytes codes.now.items)) }
+    ensures err { OnErr result (TakesFront (W.taken out.old) (W.taken out.new) (flat_map written_bytes codes.now.items)) }
+    ensures failures { W.failed out.new ≡ failures_after (W.failed out.old) result }
+{
+    for code in codes {
+        put_bytes(out, code.as_slice())?;
+    }
+    Ok(())
+}
+
+// The code section, unless it has no codes.
+fn put_code_section<W: Out>(
+    out: &mut W,
+    codes: &Vec<Items<u8>>,
+    codes_len: u32,
+) -> Result<(), OutFault>
+    requires failed { W.failed out.old < 2 ^ 64 - 1 }
+    requires len { codes_len ≡ entries_size codes.now.items }
+    requires count { length codes.now.items < 2 ^ 32 }
+    requires few { length (short (length codes.now.items)) + codes_len ≤ limit }
+    ensures ok { OnOk result (Appends (W.taken out.old) (W.taken out.new) (code_section codes.now.items)) }
+    ensures err { OnErr result (TakesFront (W.taken out.old) (W.taken out.new) (code_section codes.now.items)) }
+    ensures failures { W.failed out.new ≡ failures_after (W.failed out.old) result }
+{
+    if codes.is_empty() {
+        return Ok(());
+    }
+    let count = codes.len() as u32;
+    put_head(out, CODES, leb_len_u32(count) as u32 + codes_len)?;
+    out_u32(out, count)?;
+    put_codes(out, codes)
+}
+
+// A custom section.
+fn put_custom<W: Out>(out: &mut W, custom: &Custom) -> Result<(), OutFault>
+    requires failed { W.failed out.old < 2 ^ 64 - 1 }
+    requires few { length (written_frame custom.now) ≤ limit }
+    ensures ok { OnOk result (Appends (W.taken out.old) (W.taken out.new) (written_frame custom.now)) }
+    ensures err { OnErr result (TakesFront (W.taken out.old) (W.taken out.new) (written_frame custom.now)) }
+    ensures failures { W.failed out.new ≡ failures_after (W.failed out.old) result }
+{
+    let Some(size) = custom_len(custom) else {
+        unreachable!()
+    };
+    put_head(out, CUSTOM, size)?;
+    put_bytes(out, custom.name.as_str().as_bytes())?;
+    put_all(out, custom.bytes.as_slice())
+}
+
+// The custom sections of a place.
+fn put_customs_at<W: Out>(
+    out: &mut W,
+    customs: &Items<Custom>,
+    place: u8,
+) -> Result<(), OutFault>
+    requires failed { W.failed out.old < 2 ^ 64 - 1 }
+    requires few { length (customs_at place customs.now) ≤ limit }
+    ensures ok { OnOk result (Appends (W.taken out.old) (W.taken out.new) (customs_at place customs.now)) }
+    ensures err { OnErr result (TakesFront (W.taken out.old) (W.taken out.new) (customs_at place customs.now)) }
+    ensures failures { W.failed out.new ≡ failures_after (W.failed out.old) result }
+{
+    for custom in customs.as_slice() {
+        if custom.place == place {
+            put_custom(out, custom)?;
+        }
+    }
+    Ok(())
+}
+
+// The section of an id.
+fn put_section_of<W: Out>(
+    out: &mut W,
+    parts: &Parts,
+    pieces: &Pieces,
+    id: u8,
+) -> Result<(), OutFault>
+    requires failed { W.failed out.old < 2 ^ 64 - 1 }
+    requires id { id < 12 }
+    requires pieces { ArePieces parts.now pieces.now }
+    requires fits { Fits parts.now }
+    ensures ok { OnOk result (Appends (W.taken out.old) (W.taken out.new) (section_of parts.now id)) }
+    ensures err { OnErr result (TakesFront (W.taken out.old) (W.taken out.new) (section_of parts.now id)) }
+    ensures failures { W.failed out.new ≡ failures_after (W.failed out.old) result }
+{
+    if id == CODES {
+        return put_code_section(out, &pieces.codes, pieces.codes_len);
+    }
+    put_section(out, id, &pieces.sections[id as usize])
+}
+
+// The section of an id, and the custom sections behind it.
+fn put_place<W: Out>(
+    out: &mut W,
+    parts: &Parts,
+    pieces: &Pieces,
+    id: u8,
+) -> Result<(), OutFault>
+    requires failed { W.failed out.old < 2 ^ 64 - 1 }
+    requires id { id < 12 }
+    requires pieces { ArePieces parts.now pieces.now }
+    requires fits { Fits parts.now }
+    ensures ok { OnOk result (Appends (W.taken out.old) (W.taken out.new) (section_and_customs parts.now id)) }
+    ensures err { OnErr result (TakesFront (W.taken out.old) (W.taken out.new) (section_and_customs parts.now id)) }
+    ensures failures { W.failed out.new ≡ failures_after (W.failed out.old) result }
+{
+    put_section_of(out, parts, pieces, id)?;
+    put_customs_at(out, &parts.customs, id)
+}
+
+/// Puts a module that is not too large out by its pieces. After a fault a beginning of its written form stands taken.
+pub(crate) fn put_module<W: Out>(
+    out: &mut W,
+    parts: &Parts,
+    pieces: &Pieces,
+) -> Result<(), OutFault>
+    requires failed { W.failed out.old < 2 ^ 64 - 1 }
+    requires pieces { ArePieces parts.now pieces.now }
+    requires fits { Fits parts.now }
+    ensures ok { OnOk result (Appends (W.taken out.old) (W.taken out.new) (encoded parts.now)) }
+    ensures err { OnErr result (TakesFront (W.taken out.old) (W.taken out.new) (encoded parts.now)) }
+    ensures failures { W.failed out.new ≡ failures_after (W.failed out.old) result }
+{
+    put_all(out, &HEADER)?;
+    for id in 0..=LAST {
+        put_place(out, parts, pieces, id)?;
+    }
+    Ok(())
+}
