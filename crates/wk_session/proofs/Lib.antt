@@ -26,3 +26,4 @@ pub mod Removals
 pub mod Shrinking
 pub mod Piecing
 pub mod Putting
+pub mod Exporting

@@ -1,4 +1,4 @@
-use Rattle.std.proofs.Common.{◌≡◌, ◌∙◌, sym, ap, subst, refl, Option, Some, List}
+use Rattle.std.proofs.Common.{◌≡◌, ◌∙◌, sym, ap, subst, refl, arith, Option, Some, List}
 use Rattle.std.specs.Prelude.{remove}
 use Rattle.std.proofs.lemmas.Result.{err_from_is_err_and}
 use Rattle.wk_bytes.specs.Leb.{◌>>=◌}
@@ -9,7 +9,8 @@ use Rattle.wk_module.specs.Shape.{settle, IsFormed}
 use Rattle.wk_session.specs.declared.edit.Edit.TheVariants as edits
 use Rattle.wk_session.specs.Edits.{is_none, lasting, made, with_exports}
 use Rattle.wk_session.specs.Kept.{IsKept, standing}
-use Rattle.wk_session.proofs.Leading.{refused, appraised_kept, accepted}
+use Rattle.wk_session.proofs.Exporting.{exported_kept, one_section}
+use Rattle.wk_session.proofs.Leading.{refused, accepted}
 use Rattle.wk_session.proofs.Removals.{found_within, without_found, without_missing}
 use Rattle.wk_session.proofs.Shrinking.{shrunk_stands}
 use Rattle.wk_session.proofs.Works.{unexport_work}
@@ -44,12 +45,15 @@ take_export-requires-clause-place c =
 pub take_export-requires-clause-formed : goal.take_export-requires-clause-formed
 take_export-requires-clause-formed c = formed (goal.at.take_export-requires-clause-formed c).In-Some
 
-pub returns-in_err-appraisal : goal.returns-in_err-appraisal
-returns-in_err-appraisal c =
+pub returns-in_err-exported : goal.returns-in_err-exported
+returns-in_err-exported c =
     let m = c.args.parts.now in
-    let at = (goal.at.returns-in_err-appraisal c).In-Some in
+    let at = (goal.at.returns-in_err-exported c).In-Some in
     let result = c.from_residual.result in
-    refused c.args.keep (edits.Unexport c.args.name.now) m c.args.kept.now c.requires.kept (record m { exports = remove m.exports c.in-Some.place }) c.take_export.new.parts c.in_err-appraisal.field-0.0 result (err_from_is_err_and result c.from_residual.ensures.1) (makes at) c.in_err-appraisal.ensures.appraised (λ same. ap is_none (without at)) c.in_err-appraisal.ensures.err
+    refused c.args.keep (edits.Unexport c.args.name.now) m c.args.kept.now c.requires.kept (record m { exports = remove m.exports c.in-Some.place }) c.take_export.new.parts c.in_err-exported.field-0.0 result (err_from_is_err_and result c.from_residual.ensures.1) (makes at) c.in_err-exported.ensures.exported (λ same. ap is_none (without at)) c.in_err-exported.ensures.err
+
+pub keep_exported-requires : goal.keep_exported-requires
+keep_exported-requires c = omega (arith, c.in_ok-exported.ensures.exported.count)
 
 pub returns : goal.returns
 returns c =
@@ -58,7 +62,7 @@ returns c =
     let rest = remove m.exports c.in-Some.place in
     let n = record m { exports = rest } in
     let k = c.args.kept.now in
-    let a = c.in_ok-appraisal.appraisal in
-    let may = c.in_ok-appraisal.ensures.appraised in
-    let keeps = subst (IsKept n) (sym c.keep_appraisal.ensures) (appraised_kept c.args.keep rest m k a c.requires.kept may) in
-    accepted c.args.keep (edits.Unexport c.args.name.now) m n c.take_export.new.parts k c.keep_appraisal.new.kept (record { typed = 0; encoded = 0; sections = 1 }) c.in_ok-appraisal.ensures.ok (makes at) may.0 (unexport_work c.args.name.now m (settle n) (λ r. refl)) (formed at) keeps
+    let new = c.in_ok-exported.exported in
+    let may = c.in_ok-exported.ensures.exported in
+    let keeps = exported_kept c.args.keep rest m k c.keep_exported.new.kept new c.requires.kept may c.keep_exported.ensures.rest c.keep_exported.ensures.sections in
+    accepted c.args.keep (edits.Unexport c.args.name.now) m n c.take_export.new.parts k c.keep_exported.new.kept c.keep_exported.result c.in_ok-exported.ensures.ok (makes at) may.appraised.0 (c.keep_exported.ensures.work ∙ ap one_section may.made ∙ unexport_work c.args.name.now m (settle n) (λ r. refl)) (formed at) keeps
