@@ -19,7 +19,7 @@ use wk_module::{Body, EncodeFault, Func, Lists, Parts, code_bytes, encode_body, 
 
 /// The written form of a module in pieces (`ArePieces` of `specs/Pieces`). Custom sections are not kept a second time: the module holds
 /// their bytes.
-#[derive(Drop)]
+#[derive(Debug, Drop)]
 pub(crate) struct Pieces {
     /// The contents of each section by its id, 0 to 11; none of custom sections and of the code section.
     pub(crate) sections: Vec<Items<u8>>,
@@ -32,7 +32,7 @@ pub(crate) struct Pieces {
 }
 
 /// The sections that an edit makes anew.
-#[derive(Drop)]
+#[derive(Debug, Drop)]
 pub(crate) struct NewSections {
     /// The new contents by the ids of sections, 0 to 11; nothing in the place of those that stay.
     pub(crate) sections: Vec<Option<Items<u8>>>,
