@@ -363,10 +363,11 @@ pub fn one_module()
     one_spelling_of_code();
 }
 
-/// The laws of reading a module: what is read is the one module that the bytes spell, or none and the fault stands; its lists are
-/// those that are read one after the other; and sections come by rising ids. It does nothing.
+/// The laws of reading a module: what is read is the one module that the bytes spell, and fits, or none and the fault stands; its
+/// lists are those that are read one after the other; and sections come by rising ids. It does nothing.
 pub fn reading_of_module(bytes: &[u8], profile: Profile)
     ensures is { IsReading profile bytes.now (module_at profile bytes.now) }
+    ensures fits { IfOk (module_at profile bytes.now) (λ m. Fits m) }
     ensures lists { AreListsOfModule profile bytes.now }
     ensures rise { Rise 0 (sections_of bytes.now) }
 {

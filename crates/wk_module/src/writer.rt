@@ -1,7 +1,8 @@
 //! The written form of a module.
 
-ghost use Rattle.std.specs.Prelude.{◌≡◌, ◌≤◌, ◌++◌, length, OnOk, IfOk, IfErr, MatchResult};
+ghost use Rattle.std.specs.Prelude.{◌≡◌, ◌≤◌, ◌∷◌, ◌++◌, length, OnOk, IfOk, IfErr, MatchResult};
 ghost use Rattle.wk_bytes.specs.Frames.{limit};
+ghost use Rattle.wk_bytes.specs.Short.{short};
 ghost use Rattle.wk_body.specs.declared.fault.EncodeFault.TheVariants.{TooLarge, Memory};
 ghost use Rattle.wk_body.specs.Written.{Fits as FewBytes, Unwritten};
 ghost use Rattle.wk_module.specs.declared.types.Parts.{Parts as Seen};
@@ -10,7 +11,7 @@ ghost use Rattle.wk_module.specs.Listed.{listed, IsListId};
 ghost use Rattle.wk_module.specs.Modules.{Spells};
 ghost use Rattle.wk_module.specs.Sections.{of_number};
 ghost use Rattle.wk_module.specs.Shape.{lists_of, IsShaped};
-ghost use Rattle.wk_module.specs.Writing.{encoded, framed, contents_by, section_of, customs_at, Fits};
+ghost use Rattle.wk_module.specs.Writing.{encoded, framed, contents_by, section_by, section_of, customs_at, Fits};
 
 use crate::format::{Codes, FuncIndices};
 use crate::length::{CODES, FUNCTIONS, LAST, contents_len, custom_len, encoded_len};
@@ -24,7 +25,7 @@ use wk_body::{EncodeFault, reading_of_code, written_form_of_code};
 use wk_bytes::{Items, OutOfMemory, put_u32};
 
 /// The magic and the version (5.5.15).
-const HEADER: [u8; 8] = [0, 97, 115, 109, 1, 0, 0, 0];
+pub const HEADER: [u8; 8] = [0, 97, 115, 109, 1, 0, 0, 0];
 
 /// The id of custom sections (5.5.2).
 const CUSTOM: u8 = 0;
@@ -86,6 +87,33 @@ pub fn encode_section(alloc: Global, lists: &Lists<'_>, id: u8) -> Result<Vec<u8
     Ok(bytes)
 }
 
+/// Appends the section of an id, 1 to 9 or 11, as it stands in the written form: its id, its size and its contents, or nothing
+/// where it is left out.
+///
+/// # Errors
+///
+/// `TooLarge` where the contents are more than 2,147,483,647 bytes, and else `Memory` where a growth is refused. Then some of
+/// the section may stand there.
+pub fn append_section(
+    lists: &Lists<'_>,
+    id: u8,
+    bytes: &mut Vec<u8>,
+) -> Result<(), EncodeFault>
+    ensures { MatchResult result
+        (λ _. bytes.new.items ≡ bytes.old.items ++ section_by (listed lists.now) (of_number id))
+        (Unwritten (contents_by (listed lists.now) (of_number id))) }
+{
+    let Some(contents) = lists.contents_len(id) else {
+        return Err(EncodeFault::TooLarge);
+    };
+    if contents == 0 {
+        return Ok(());
+    }
+    put_front(id, contents, bytes)?;
+    lists.put_contents(id, bytes)?;
+    Ok(())
+}
+
 /// The contents of a custom section: its name and its bytes.
 ///
 /// # Errors
@@ -130,6 +158,14 @@ fn put_contents(parts: &Parts, id: u8, bytes: &mut Vec<u8>) -> Result<(), OutOfM
     }
 }
 
+// Appends what stands in front of the contents of a section: its id, and how many bytes they are.
+fn put_front(id: u8, size: u32, bytes: &mut Vec<u8>) -> Result<(), OutOfMemory>
+    ensures { OnOk result (bytes.new.items ≡ bytes.old.items ++ id ∷ short size) }
+{
+    bytes.push(id)?;
+    put_u32(bytes, size)
+}
+
 // Appends the section of an id that is not a custom one, unless it has no contents.
 fn put_section(parts: &Parts, id: u8, bytes: &mut Vec<u8>) -> Result<(), OutOfMemory>
     requires { length (section_of parts.now id) ≤ limit }
@@ -141,8 +177,7 @@ fn put_section(parts: &Parts, id: u8, bytes: &mut Vec<u8>) -> Result<(), OutOfMe
     if size == 0 {
         return Ok(());
     }
-    bytes.push(id)?;
-    put_u32(bytes, size)?;
+    put_front(id, size, bytes)?;
     put_contents(parts, id, bytes)
 }
 
@@ -164,8 +199,7 @@ fn put_custom_section(custom: &Custom, bytes: &mut Vec<u8>) -> Result<(), OutOfM
     let Some(size) = custom_len(custom) else {
         unreachable!()
     };
-    bytes.push(CUSTOM)?;
-    put_u32(bytes, size)?;
+    put_front(CUSTOM, size, bytes)?;
     put_custom(custom, bytes)
 }
 
