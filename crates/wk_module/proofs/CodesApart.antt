@@ -1,34 +1,31 @@
 -- Codes that are read apart from the other lists of their module.
-use Rattle.std.proofs.Common.{◌≡◌, ◌≢◌, ℕ, zero, suc, ◌≤◌, max, List, [], ◌∷◌, length, eqb, cond, true, Option, Some, None, Result, Ok, Err, refl, sym, ap, ◌∙◌, ◌⊎◌, inl, inr, arith}
+use Rattle.std.proofs.Common.{◌≡◌, ◌≢◌, ℕ, zero, suc, ◌-◌, ◌≤◌, max, List, [], ◌∷◌, length, eqb, cond, true, Option, Some, None, Result, Ok, Err, refl, sym, ap, ◌∙◌, ◌⊎◌, inl, inr, arith}
 use Rattle.std.proofs.lemmas.Bool.{cases_lt, lt-ltb, eq-eqb, ne_eqb, eqb-true}
 use Rattle.wk_bytes.specs.declared.fault.ReadKind.TheVariants.{LongInput, FuncCodeCount}
 use Rattle.wk_bytes.specs.declared.fault.ReadFault.{ReadFault}
 use Rattle.wk_bytes.specs.Leb.{◌>>=◌}
 use Rattle.wk_bytes.specs.LebLaws.{bind_ok, chosen, done}
 use Rattle.wk_bytes.specs.SpanLaws.{ok_is}
-use Rattle.wk_bytes.specs.Span.{u32_at, name_at, fault}
+use Rattle.wk_bytes.specs.Span.{Span, u32_at, name_at, fault}
 use Rattle.wk_bytes.specs.Frames.{Section, MayCome, limit, header_at, sections_of}
 use Rattle.wk_body.specs.declared.types.Profile.{Profile}
 use Rattle.wk_body.specs.Bodies.{BodyOf}
+use Rattle.wk_body.specs.Reading.{all_body_at}
 use Rattle.wk_body.specs.Vectors.{items_at}
 use Rattle.wk_module.specs.declared.types.DataSeg.{DataSeg}
 use Rattle.wk_module.specs.declared.types.Parts.{Parts}
-use Rattle.wk_module.specs.Formats.{taking_all, all_at}
+use Rattle.wk_module.specs.Formats.{bytes_at, taking_all, all_at}
 use Rattle.wk_module.specs.Items.{code_at}
 use Rattle.wk_module.specs.Reading.{section_end, module_at}
 use Rattle.wk_module.specs.Sections.{SectionLists, SectionId, DataSection, of_number, with_contents, no_lists, codes_at, contents_at}
 use Rattle.wk_module.specs.Shape.{lists_of}
-use Rattle.wk_module.specs.ListReading.{listed_by, with_listed, lists_read, Rise, joined_lists, AreListsOfModule}
+use Rattle.wk_module.specs.ListReading.{listed_by, with_listed, lists_read, codes_of, Rise, joined_lists, AreListsOfModule}
 
 err_ok : (q : SectionLists) (e : ReadFault) → (Err e ≡ done q) → ⊥
 err_ok q e is = absurd cc
 
 abbrev pub with_codes : List BodyOf → SectionLists → SectionLists
 with_codes bodies l = record l { codes = bodies }
-
--- all the codes of a section, where that many functions were declared
-abbrev pub codes_of : Profile → ℕ → Section → Result (List BodyOf) ReadFault
-codes_of profile funcs s = all_at (codes_at profile funcs) (section_end s) s.contents
 
 -- ---- the sections behind the code section
 
@@ -88,6 +85,23 @@ module _ (profile : Profile) where
       let first = front_by l a.0 s (of_number s.id) (behind_is last s.id le rise.0) a.1 in
       let rest = lists_front a.0 q (max last s.id) items (omega (arith, le)) rise.1 a.2 in
       (rest.0, rest.1 ∙ ap (λ (p : SectionLists). record p { datas = rest.0 }) first.1)
+
+-- ---- one code
+
+-- a code that is taken by its size and read
+pub code_by : (profile : Profile) (end : ℕ) (bytes after : List ℕ) (code : Span) (body : BodyOf) → bytes_at end bytes ≡ Ok (code.rest, after) → code.end ≡ end - length after → all_body_at profile code.end code.rest ≡ Ok body → code_at profile end bytes ≡ Ok (body, after)
+unfolding code_at
+code_by profile end bytes after code body taken place read = rw (taken, ← place, read) refl
+
+-- one that cannot be taken
+pub code_not_taken : (profile : Profile) (end : ℕ) (bytes : List ℕ) (e : ReadFault) → bytes_at end bytes ≡ Err e → code_at profile end bytes ≡ Err e
+unfolding code_at
+code_not_taken profile end bytes e bad = rw bad refl
+
+-- and one that is no body
+pub code_not_read : (profile : Profile) (end : ℕ) (bytes after : List ℕ) (code : Span) (e : ReadFault) → bytes_at end bytes ≡ Ok (code.rest, after) → code.end ≡ end - length after → all_body_at profile code.end code.rest ≡ Err e → code_at profile end bytes ≡ Err e
+unfolding code_at
+code_not_read profile end bytes after code e taken place bad = rw (taken, ← place, bad) refl
 
 -- ---- as many codes as functions
 

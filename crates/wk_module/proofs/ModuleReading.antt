@@ -44,7 +44,7 @@ custom_found place end bytes c fits e =
     let spelled : SpellsCustom bytes made = record { size = name.1.size; parts = parts; counts = name.1.counts; text = name.1.utf8 } in
     (subst (SpellsCustom bytes) same spelled, sym (ap (λ (d : Custom). d.place) same))
 
-custom_again : (place end : ℕ) (bytes : List ℕ) (c : Custom) → SpellsCustom bytes c → c.place ≡ place → custom_at place end bytes ≡ Ok c
+pub custom_again : (place end : ℕ) (bytes : List ℕ) (c : Custom) → SpellsCustom bytes c → c.place ≡ place → custom_at place end bytes ≡ Ok c
 unfolding custom_at
 custom_again place end bytes c s is =
     let name : SpellsName (s.size ++ c.name) c.name = record { size = s.size; parts = refl; counts = s.counts; utf8 = s.text } in

@@ -10,12 +10,13 @@ use Rattle.wk_bytes.specs.Span.{fault, u32_at, name_at}
 use Rattle.wk_bytes.specs.Frames.{Section, MayCome, sections_of}
 use Rattle.wk_bytes.specs.Stands.{StandsIn}
 use Rattle.wk_body.specs.declared.types.Profile.{Profile}
+use Rattle.wk_body.specs.Bodies.{BodyOf}
 use Rattle.wk_module.specs.declared.types.Parts.{Parts}
 use Rattle.wk_module.specs.Formats.{all_at}
 use Rattle.wk_module.specs.Listed.{AreNumbered}
 use Rattle.wk_module.specs.Modules.{Spells, SpellsNone}
 use Rattle.wk_module.specs.Reading.{section_end, module_at}
-use Rattle.wk_module.specs.Sections.{SectionId, of_number, SectionLists, with_contents, no_lists, contents_at}
+use Rattle.wk_module.specs.Sections.{SectionId, of_number, SectionLists, with_contents, no_lists, codes_at, contents_at}
 use Rattle.wk_module.specs.Shape.{lists_of, IsShaped}
 
 -- what is read in front of the code section
@@ -66,6 +67,10 @@ unfoldable pub opened_at : ℕ → ℕ → List ℕ → Result (List ℕ) ReadFa
 opened_at funcs end bytes = do
   n ← u32_at end bytes
   if n.0 == funcs then Ok n.1 else Err (fault FuncCodeCount end bytes)
+
+-- all the codes of a section, where that many functions were declared
+abbrev pub codes_of : Profile → ℕ → Section → Result (List BodyOf) ReadFault
+codes_of profile funcs s = all_at (codes_at profile funcs) (section_end s) s.contents
 
 -- ---- a module of which some sections are read
 

@@ -1,0 +1,4 @@
+pub mod Staying
+pub mod Assembled
+pub mod Joined
+pub mod Told

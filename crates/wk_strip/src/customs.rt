@@ -1,0 +1,134 @@
+//! The custom sections that stay.
+
+ghost use Rattle.std.specs.Prelude.{◌≡◌, ◌≤◌, ◌++◌, List, Some, None, filter, if◌then◌else◌, option_map, OnOk, IfOk, length, IsTrue, ◌↔◌};
+ghost use Rattle.std.specs.Str.{bytes_eq};
+ghost use Rattle.wk_bytes.specs.Frames.{Frame, SpellsFraming, frame_of};
+ghost use Rattle.wk_bytes.specs.Raw.{raw_view};
+ghost use Rattle.wk_module.specs.declared.types.Custom.{Custom};
+ghost use Rattle.wk_module.specs.Customs.{IsEmptyFrame, SpellsCustom, SpellsCustoms, written_custom};
+ghost use Rattle.wk_module.specs.Writing.{customs_at, framed};
+ghost use Rattle.wk_strip.specs.Stripped.{is_kept};
+
+use std::alloc::Global;
+use std::marker::Model;
+use wk_bytes::{OutOfMemory, RawSection, Sections, Text, leb_len_u32, put_u32};
+
+/// The id of custom sections (5.5.2).
+const CUSTOM: u8 = 0;
+
+/// The id of the start section, which has no count (5.5.2).
+const START: u8 = 8;
+
+// A custom section that stays, lent by the input, with the size of its contents as they are written.
+#[derive(Drop)]
+pub(crate) struct KeptCustom<'a> {
+    place: u8,
+    size: u32,
+    name: &'a str,
+    bytes: &'a [u8],
+}
+
+impl<'a> Model for KeptCustom<'a> {
+    ghost use Rattle.std.specs.Prelude.{◌≡◌, length};
+    ghost use Rattle.wk_module.specs.declared.types.Custom.{Custom};
+    ghost use Rattle.wk_module.specs.Customs.{written_custom};
+
+    ghost Value = { Custom };
+
+    ghost view = { λ k. record { place = k.place; name = k.name.now; bytes = k.bytes.now } };
+
+    ghost invariant = { λ k. k.size ≡ length (written_custom (record { place = k.place; name = k.name.now; bytes = k.bytes.now })) };
+}
+
+impl<'a> KeptCustom<'a> {
+    // Appends the section.
+    fn append(&self, out: &mut Vec<u8>) -> Result<(), OutOfMemory>
+        ensures { OnOk result (out.new.items ≡ out.old.items ++ framed 0 (written_custom self.now)) }
+    {
+        out.push(CUSTOM)?;
+        put_u32(out, self.size)?;
+        put_u32(out, self.name.len() as u32)?;
+        out.extend_from_slice(self.name.as_bytes())?;
+        out.extend_from_slice(self.bytes)?;
+        Ok(())
+    }
+}
+
+// The custom section, if it has that name.
+fn named<'a>(name: &Text, place: u8, section: &RawSection<'a>) -> Option<KeptCustom<'a>>
+    ensures { (c : Custom) → c.place ≡ place → SpellsCustom section.now.contents.now c → result ≡ (if bytes_eq c.name name.now then Some c else None) }
+{
+    let mut cursor = section.cursor();
+    let Ok(found) = cursor.name() else {
+        return None;
+    };
+    if found != name.as_str() {
+        return None;
+    }
+    let bytes = cursor.rest();
+    let size = leb_len_u32(found.len() as u32) + found.len() + bytes.len();
+    Some(KeptCustom {
+        place,
+        size: size as u32,
+        name: found,
+        bytes,
+    })
+}
+
+// Whether a section is empty: its contents are a count of zero. Only the start section has no count.
+fn is_empty(section: &RawSection<'_>) -> bool
+    ensures { IsTrue result ↔ IsEmptyFrame (frame_of (raw_view section.now)) }
+{
+    if section.id == START {
+        return false;
+    }
+    let mut cursor = section.cursor();
+    let Ok(count) = cursor.u32() else {
+        return false;
+    };
+    count == 0 && cursor.rest().is_empty()
+}
+
+// The custom sections of the name to keep, each with its place: the id of the last section in front of it that is not empty.
+pub(crate) fn kept_customs<'a>(
+    alloc: Global,
+    bytes: &'a [u8],
+    keep: Option<&Text>,
+) -> Result<Vec<KeptCustom<'a>>, OutOfMemory>
+    ensures { IfOk result (λ kept. (fs : List Frame) (cs : List Custom) → SpellsFraming bytes.now fs → SpellsCustoms 0 fs cs → kept.items ≡ filter (is_kept (option_map (λ name. name.now) keep.entry)) cs) }
+{
+    let mut kept = Vec::new(alloc);
+    let Some(name) = keep else {
+        return Ok(kept);
+    };
+    let mut place = 0;
+    for section in Sections::new(bytes) {
+        let Ok(section) = section else {
+            return Ok(kept);
+        };
+        if section.id == CUSTOM {
+            if let Some(custom) = named(name, place, &section) {
+                kept.push(custom)?;
+            }
+        } else if !is_empty(&section) {
+            place = section.id;
+        }
+    }
+    Ok(kept)
+}
+
+// Appends those of a place.
+pub(crate) fn append_customs(
+    customs: &[KeptCustom<'_>],
+    place: u8,
+    out: &mut Vec<u8>,
+) -> Result<(), OutOfMemory>
+    ensures { OnOk result (out.new.items ≡ out.old.items ++ customs_at place customs.now) }
+{
+    for custom in customs {
+        if custom.place == place {
+            custom.append(out)?;
+        }
+    }
+    Ok(())
+}
