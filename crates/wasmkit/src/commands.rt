@@ -11,8 +11,8 @@ use wk_answers::{Listing, Validation, list_parts, list_sections, validate};
 use wk_bytes::{Out, ReadFault, ReadKind, Sink, put_all};
 use wk_edit::{Status, edit_in, malformed_line};
 use wk_list::Plain;
-use wk_module::{EncodeFault, encode, read_in};
-use wk_session::stripped;
+use wk_module::read_in;
+use wk_strip::strip_bytes;
 
 // Makes the edits of a script on a module: OUT is made once all is computed, and the report is printed behind it.
 fn run_edit<'a, S: Store, X: Out>(
@@ -137,17 +137,12 @@ fn run_strip<'a, S: Store, X: Out>(
     let input = store
         .load(file)
         .map_err(|fault| ProgramFault::of_load(fault, file))?;
-    let module = match read_in(alloc, &input, profile) {
-        Ok(module) => stripped(module, keep.as_ref()),
+    let stripped = match strip_bytes(alloc, &input, profile, keep.as_ref()) {
+        Ok(stripped) => stripped,
         Err(fault) => return refuse_module(alloc, &fault, out),
     };
-    let bytes = match encode(alloc, &module) {
-        Ok(bytes) => bytes,
-        Err(EncodeFault::Memory) => return Err(ProgramFault::Memory),
-        Err(EncodeFault::TooLarge) => unreachable!(),
-    };
     store
-        .save(out_file, &bytes)
+        .save(out_file, stripped.as_slice())
         .map_err(|fault| ProgramFault::of_save(fault, out_file))?;
     Ok(0)
 }

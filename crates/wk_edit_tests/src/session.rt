@@ -8,7 +8,7 @@ use std::test::Fail;
 use wk_bytes::{Items, Out, ReadFault, ReadKind, Sink, Text};
 use wk_check::{Fault, FaultKind, Place, Verdict};
 use wk_module::{FuncType, Profile, ValType, encode, read};
-use wk_session::{Edit, EditFault, Reply, Session, Work, WriteFault, stripped};
+use wk_session::{Edit, EditFault, Reply, Session, Work, WriteFault};
 
 // Custom sections `a` and `b`, a type, and custom sections `a`, ``, `c` and `a`.
 const MIXED: &[u8] =
@@ -357,30 +357,6 @@ fn runs(rt: HostRuntime) -> Result<(), Fail> {
         FOUR_TYPES,
         arity(2),
     )
-}
-
-// The written form of `MIXED` without its custom sections, except those of a name.
-fn mixed_stripped(alloc: Global, keep: Option<&Text>) -> Result<Vec<u8>, Fail> {
-    let module = stripped(read(alloc, MIXED)?, keep);
-    Ok(encode(alloc, &module).ok().ok_or("bytes")?)
-}
-
-#[test]
-fn strips_modules(rt: HostRuntime) -> Result<(), Fail> {
-    let rows: [(&str, &[u8]); 3] = [
-        ("d", ONE_TYPE),
-        (
-            "a",
-            b"\0asm\x01\0\0\0\0\x02\x01a\x01\x04\x01\x60\0\0\0\x03\x01a\x02\0\x02\x01a",
-        ),
-        ("", b"\0asm\x01\0\0\0\x01\x04\x01\x60\0\0\0\x02\0\x03"),
-    ];
-    for (name, whole) in rows {
-        let name = text(rt.alloc(), name)?;
-        assert_eq!(rt; mixed_stripped(rt.alloc(), Some(&name))?.as_slice(), whole);
-    }
-    assert_eq!(rt; mixed_stripped(rt.alloc(), None)?.as_slice(), ONE_TYPE);
-    Ok(())
 }
 
 // Writes to an output that takes `most` bytes a call and fails after `left` calls, and says whether it took all.

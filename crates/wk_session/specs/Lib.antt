@@ -5,7 +5,6 @@ pub mod Runs
 pub mod Told
 pub mod ToldLaws
 pub mod Kept
-pub mod Stripped
 pub mod Written
 pub mod EditText
 pub mod Overlays

@@ -34,11 +34,9 @@ mod lengths;
 mod overlay;
 mod pieces;
 mod session;
-mod strip;
 mod write;
 mod written;
 
 pub use edit::{Edit, EditFault, Reply, Work};
 pub use session::Session;
-pub use strip::stripped;
 pub use write::WriteFault;

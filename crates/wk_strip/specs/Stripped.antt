@@ -1,9 +1,11 @@
 -- Modules without their customs.
 use Rattle.std.specs.Prelude.{◌≡◌, ℕ, Bool, false, Option, Some, None, List, filter}
 use Rattle.std.specs.Str.{bytes_eq}
+use Rattle.wk_bytes.specs.Frames.{Frame, SpellsFraming}
 use Rattle.wk_body.specs.declared.types.Profile.{Profile}
 use Rattle.wk_module.specs.declared.types.Custom.{Custom}
 use Rattle.wk_module.specs.declared.types.Parts.{Parts}
+use Rattle.wk_module.specs.Customs.{SpellsCustoms}
 use Rattle.wk_module.specs.Modules.{Spells}
 use Rattle.wk_module.specs.Shape.{settle}
 use Rattle.wk_module.specs.Writing.{encoded, Fits}
@@ -16,6 +18,10 @@ is_kept (Some name) c = bytes_eq c.name name
 -- the module with those customs alone
 abbrev pub with_kept : Option (List ℕ) → Parts → Parts
 with_kept keep m = record m { customs = filter (is_kept keep) m.customs }
+
+-- these customs are those that stay of the ones that the bytes spell
+abbrev pub AreKept : Option (List ℕ) → List ℕ → List Custom → Type 0
+AreKept keep b kept = (fs : List Frame) (cs : List Custom) → SpellsFraming b fs → SpellsCustoms 0 fs cs → kept ≡ filter (is_kept keep) cs
 
 -- The bytes b spell one module of the profile. What it is with those customs alone is a module that fits, and s, its written form,
 -- spells it and no other of the profile.

@@ -1,13 +1,13 @@
 //! The custom sections that stay.
 
-ghost use Rattle.std.specs.Prelude.{◌≡◌, ◌≤◌, ◌++◌, List, Some, None, filter, if◌then◌else◌, option_map, OnOk, IfOk, length, IsTrue, ◌↔◌};
+ghost use Rattle.std.specs.Prelude.{◌≡◌, ◌++◌, Some, None, if◌then◌else◌, option_map, OnOk, IfOk, IsTrue, ◌↔◌};
 ghost use Rattle.std.specs.Str.{bytes_eq};
-ghost use Rattle.wk_bytes.specs.Frames.{Frame, SpellsFraming, frame_of};
+ghost use Rattle.wk_bytes.specs.Frames.{frame_of};
 ghost use Rattle.wk_bytes.specs.Raw.{raw_view};
 ghost use Rattle.wk_module.specs.declared.types.Custom.{Custom};
-ghost use Rattle.wk_module.specs.Customs.{IsEmptyFrame, SpellsCustom, SpellsCustoms, written_custom};
+ghost use Rattle.wk_module.specs.Customs.{IsEmptyFrame, SpellsCustom, written_custom};
 ghost use Rattle.wk_module.specs.Writing.{customs_at, framed};
-ghost use Rattle.wk_strip.specs.Stripped.{is_kept};
+ghost use Rattle.wk_strip.specs.Stripped.{AreKept};
 
 use std::alloc::Global;
 use std::marker::Model;
@@ -95,7 +95,7 @@ pub(crate) fn kept_customs<'a>(
     bytes: &'a [u8],
     keep: Option<&Text>,
 ) -> Result<Vec<KeptCustom<'a>>, OutOfMemory>
-    ensures { IfOk result (λ kept. (fs : List Frame) (cs : List Custom) → SpellsFraming bytes.now fs → SpellsCustoms 0 fs cs → kept.items ≡ filter (is_kept (option_map (λ name. name.now) keep.entry)) cs) }
+    ensures { IfOk result (λ kept. AreKept (option_map (λ name. name.now) keep.entry) bytes.now kept.items) }
 {
     let mut kept = Vec::new(alloc);
     let Some(name) = keep else {

@@ -64,7 +64,10 @@ fn assemble(
     requires few { length lists.now.funcs.now < 2 ^ 32 }
     requires fits { length (short (length lists.now.funcs.now)) + (length codes.items - gap) ≤ limit }
     requires short { IsTooLong (listed lists.now) 10 12 → ⊥ }
-    ensures { IfOk result (λ s. MatchResult front (λ f. s ≡ (f.items ++ code_front (length lists.now.funcs.now) (length codes.items - gap)) ++ (drop gap codes.items ++ sections_from (listed lists.now) kept.now 10 2)) (λ _. ⊥)) }
+    ensures { IfOk result (λ s. MatchResult front
+        (λ f. s ≡ (f.items ++ code_front (length lists.now.funcs.now) (length codes.items - gap))
+            ++ (drop gap codes.items ++ sections_from (listed lists.now) kept.now 10 2))
+        (λ _. ⊥)) }
 {
     let mut front = written(front)?;
     let mut bytes = codes;
@@ -96,7 +99,7 @@ fn strip_from_code(
     let lists = reader.lists();
     let front = begin(alloc, &lists, kept, CODES);
     let gap = gap_of(&front);
-    let mut codes = with_gap(alloc, gap, bytes.len())?;
+    let mut codes = with_gap(alloc, gap, bytes.len() + FRONT)?;
     append_codes(alloc, scratch, lists.profile, lists.funcs.len(), section, &mut codes)?;
     let reader = reader.to_end(alloc, scratch)?;
     Ok(assemble(front, gap, codes, &reader.lists(), kept)?)

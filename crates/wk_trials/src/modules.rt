@@ -12,7 +12,7 @@ use wk_module::{
 };
 use wk_samples::edits::{MODULE, WITHOUT_CUSTOMS};
 use wk_samples::modules::{ALL_OF_ONE, OF_WHOLE, TWO_CODES, WHOLE};
-use wk_session::stripped;
+use wk_strip::strip_bytes;
 
 // Whether the module is written as these bytes.
 fn is_written_as(alloc: Global, module: &Module, bytes: &[u8]) -> bool {
@@ -140,16 +140,14 @@ fn settled(alloc: Global, module: Module) -> Module {
     module
 }
 
-/// `stripped`.
+/// `strip_bytes`.
 pub(crate) fn strips(alloc: Global) -> Outcome {
-    match read(alloc, MODULE) {
-        Ok(module) => {
-            call_begins(alloc);
-            let module = stripped(module, None);
-            call_ends(alloc);
-            Outcome::answered(is_written_as(alloc, &module, WITHOUT_CUSTOMS))
-        }
-        Err(_) => Outcome::NO_SAMPLE,
+    call_begins(alloc);
+    let answer = strip_bytes(alloc, MODULE, Profile::Core, None);
+    call_ends(alloc);
+    match &answer {
+        Ok(stripped) => Outcome::answered(stripped.as_slice() == WITHOUT_CUSTOMS),
+        Err(fault) => Outcome::refused(*fault == NO_MEMORY),
     }
 }
 

@@ -50,7 +50,7 @@ pub(crate) enum Scenario {
     OfWhole(OfWhole),
     /// `Module::of`.
     Settle,
-    /// `stripped`.
+    /// `strip_bytes`.
     Strip,
     /// `shift_lists`.
     ShiftLists,

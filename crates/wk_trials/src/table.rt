@@ -60,7 +60,7 @@ static CALLS: [Named; 60] = [
     ("encode-custom", Scenario::OfWhole(OfWhole::Custom)),
     ("lengths-in-room", Scenario::OfWhole(OfWhole::Lengths)),
     ("settle-in-room", Scenario::Settle),
-    ("stripped-in-room", Scenario::Strip),
+    ("strip", Scenario::Strip),
     ("shift-lists", Scenario::ShiftLists),
     ("up-to-code", Scenario::UpToCode),
     ("to-end", Scenario::ToEnd),

@@ -5,8 +5,9 @@ use Rattle.wk_bytes.specs.Raw.{raw_view}
 use Rattle.wk_body.specs.ReadsLaws.{fails_on}
 use Rattle.wk_module.specs.Formats.{bytes_at}
 use Rattle.wk_module.specs.Listed.{listed}
+use Rattle.wk_module.proofs.CodesApart.{code_not_taken}
 use Rattle.wk_check.specs.Spelled.{fault_read, codes_judged}
-use Rattle.wk_check.proofs.JudgedCodes.{section_begins, body_step, body_stops, section_stops, section_judged, section_goes_on, code_is_read, code_not_taken, code_not_read}
+use Rattle.wk_check.proofs.JudgedCodes.{section_begins, body_step, body_stops, section_stops, section_judged, section_goes_on, code_is_read, code_not_read}
 use Rattle.wk_check.proofs.spelled.fault_of_section.Goals as goal
 
 pub returns-in_err-next_code : goal.returns-in_err-next_code

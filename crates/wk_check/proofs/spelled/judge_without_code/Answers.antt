@@ -1,6 +1,6 @@
 use Rattle.std.proofs.Common.{arith}
 use Rattle.wk_module.specs.Sections.{no_lists}
-use Rattle.wk_check.proofs.JudgedCodes.{lists_few}
+use Rattle.wk_module.proofs.CodesApart.{lists_few}
 use Rattle.wk_check.proofs.spelled.judge_without_code.Goals as goal
 
 pub overflow_cast-result : goal.overflow_cast-result

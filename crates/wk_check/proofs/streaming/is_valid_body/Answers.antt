@@ -1,5 +1,5 @@
 use Rattle.std.proofs.Common.{sym, ◌∙◌}
-use Rattle.wk_check.proofs.JudgedCodes.{no_items}
+use Rattle.wk_module.proofs.CodesApart.{no_items}
 use Rattle.wk_check.proofs.Streamed.{valid_body}
 use Rattle.wk_check.proofs.streaming.is_valid_body.Goals as goal
 
