@@ -1,9 +1,16 @@
 //! Modules, scripts, and what comes of them.
 
+ghost use Rattle.std.specs.Prelude.{◌≡◌, ◌<◌, ◌-◌, ◌^◌};
+
 use crate::chopped::Chopped;
+use std::alloc::Global;
+use std::process::Abort;
 use std::test::Fail;
 use wk_bytes::{Out, Sink};
-use wk_edit::{RunFault, Status, edit};
+use wk_edit::{RunFault, Status, edit, edit_in};
+use wk_module::Profile;
+use wk_samples::lacking::{NO_BLOCK_TYPE, NO_BLOCK_TYPE_MENDED};
+use wk_samples::moving::{ALL_EDITED, ALL_KEPT, ALL_REPORT, KEPT_REPORT, MOVING, OF_EACH_KIND};
 
 /// A module of nothing.
 pub(crate) const EMPTY: &[u8] = b"\0asm\x01\0\0\0";
@@ -31,67 +38,67 @@ type Row = (
     &'static [u8],
     Status,
     &'static [u8],
-    &'static str,
+    &'static [u8],
 );
 
-const ROWS: [Row; 20] = [
+static ROWS: [Row; 21] = [
     (
         EMPTY,
         b"type - -",
         Status::Accepted,
         ONE_TYPE,
-        "1 ok\nvalid\n",
+        b"1 ok\nvalid\n",
     ),
-    (EMPTY, b"", Status::Accepted, EMPTY, "valid\n"),
+    (EMPTY, b"", Status::Accepted, EMPTY, b"valid\n"),
     (
         EMPTY,
         b"type i32 i32,i32\n",
         Status::Refused,
         TWO_RESULTS,
-        "1 ok\ninvalid V1 TypeArity at section 1 item 0\n",
+        b"1 ok\ninvalid V1 TypeArity at section 1 item 0\n",
     ),
     (
         EMPTY,
         b"custom strip d\ntype - -\n",
         Status::Refused,
         ONE_TYPE,
-        "1 refused E3 NoSuchCustom\n2 ok\nvalid\n",
+        b"1 refused E3 NoSuchCustom\n2 ok\nvalid\n",
     ),
     (
         CUSTOMS,
         b"custom strip d\n",
         Status::Accepted,
         WITHOUT_D,
-        "1 ok\nvalid\n",
+        b"1 ok\nvalid\n",
     ),
     (
         b"\0asm\x01\0\0\0\0\x02\x01c\x01\x04\x01\x60\0\0",
         b"custom set c ff",
         Status::Accepted,
         b"\0asm\x01\0\0\0\0\x03\x01c\xff\x01\x04\x01\x60\0\0",
-        "1 ok\nvalid\n",
+        b"1 ok\nvalid\n",
     ),
     (
         CUSTOMS,
         b"custom set d -\ncustom strip e\ncustom set e 00fF\n",
         Status::Accepted,
         b"\0asm\x01\0\0\0\0\x02\x01d\x01\x04\x01\x60\0\0\0\x02\x01d\0\x04\x01e\0\xff",
-        "1 ok\n2 ok\n3 ok\nvalid\n",
+        b"1 ok\n2 ok\n3 ok\nvalid\n",
     ),
     (
         CUSTOMS,
         b"strip\nstrip\ncustom strip d\n",
         Status::Refused,
         ONE_TYPE,
-        "1 ok\n2 ok\n3 refused E3 NoSuchCustom\nvalid\n",
+        b"1 ok\n2 ok\n3 refused E3 NoSuchCustom\nvalid\n",
     ),
-    (PADDED_TYPE, b"", Status::Accepted, ONE_TYPE, "valid\n"),
+    (PADDED_TYPE, b"", Status::Accepted, ONE_TYPE, b"valid\n"),
     (
         TWO_RESULTS,
         b"\n",
         Status::Refused,
         TWO_RESULTS,
-        "invalid V1 TypeArity at section 1 item 0\n",
+        b"invalid V1 TypeArity at section 1 item 0\n",
     ),
     // an edit that is refused, and a body that leaves an operand
     (
@@ -99,7 +106,7 @@ const ROWS: [Row; 20] = [
         b"custom strip d\ntype - -\n",
         Status::Refused,
         b"\0asm\x01\0\0\0\x01\x07\x02\x60\0\0\x60\0\0\x03\x02\x01\0\x0a\x06\x01\x04\0\x41\0\x0b",
-        "1 refused E3 NoSuchCustom\n2 ok\ninvalid V15 StackHeight at section 10 item 0 token 1\n",
+        b"1 refused E3 NoSuchCustom\n2 ok\ninvalid V15 StackHeight at section 10 item 0 token 1\n",
     ),
     // modules that cannot be read, whatever the script
     (
@@ -107,28 +114,28 @@ const ROWS: [Row; 20] = [
         b"",
         Status::Malformed,
         b"",
-        "malformed R5 IntTooLarge at 0x00000009\n",
+        b"malformed R5 IntTooLarge at 0x00000009\n",
     ),
     (
         BAD_NAME,
         b"type - -\n",
         Status::Malformed,
         b"",
-        "malformed R9 BadUtf8 at 0x0000000b\n",
+        b"malformed R9 BadUtf8 at 0x0000000b\n",
     ),
     (
         b"\0asm\x01\0\0\0\x01\x04\x01\x60",
         b"custom strip d\n",
         Status::Malformed,
         b"",
-        "malformed R3 UnexpectedEnd at 0x0000000a\n",
+        b"malformed R3 UnexpectedEnd at 0x0000000a\n",
     ),
     (
         b"",
         b"no edit\n",
         Status::Malformed,
         b"",
-        "malformed R3 UnexpectedEnd at 0x00000000\n",
+        b"malformed R3 UnexpectedEnd at 0x00000000\n",
     ),
     // scripts that cannot be read
     (
@@ -136,115 +143,292 @@ const ROWS: [Row; 20] = [
         b"type i32\n",
         Status::BadScript,
         b"",
-        "script S1 BadWord line 1\n",
+        b"script S1 BadWord line 1\n",
     ),
     (
         TWO_RESULTS,
         b"type - -\n\nstrip d\n",
         Status::BadScript,
         b"",
-        "script S1 BadWord line 3\n",
+        b"script S1 BadWord line 3\n",
     ),
     (
         EMPTY,
         b"type - -\n\xc3\xa9\n",
         Status::BadScript,
         b"",
-        "script S2 NotAscii line 2\n",
+        b"script S2 NotAscii line 2\n",
     ),
     (
         CUSTOMS,
         b"custom strip \xe9 d\ntype\n",
         Status::BadScript,
         b"",
-        "script S2 NotAscii line 1\n",
+        b"script S2 NotAscii line 1\n",
     ),
     (
         EMPTY,
         b"\n\n\n\n\n\n\n\n\n\n\n\xe9",
         Status::BadScript,
         b"",
-        "script S2 NotAscii line 12\n",
+        b"script S2 NotAscii line 12\n",
+    ),
+    // an edit of each kind
+    (
+        MOVING,
+        OF_EACH_KIND,
+        Status::Refused,
+        ALL_EDITED,
+        ALL_REPORT,
     ),
 ];
 
-// More calls of an output than any row takes.
-const CALLS: usize = 128;
+// Where the module has to stay valid.
+static KEPT: [Row; 4] = [
+    (
+        EMPTY,
+        b"type - -\n\ntype i32 i32,i32\n",
+        Status::Refused,
+        ONE_TYPE,
+        b"1 ok\n3 refused E7 WouldBreak V1 TypeArity at section 1 item 1\nvalid\n",
+    ),
+    (
+        TWO_RESULTS,
+        b"strip\n",
+        Status::Refused,
+        TWO_RESULTS,
+        b"1 refused E7 WouldBreak V1 TypeArity at section 1 item 0\ninvalid V1 TypeArity at section 1 item 0\n",
+    ),
+    (
+        CUSTOMS,
+        b"custom strip d\n",
+        Status::Accepted,
+        WITHOUT_D,
+        b"1 ok\nvalid\n",
+    ),
+    (MOVING, OF_EACH_KIND, Status::Refused, ALL_KEPT, KEPT_REPORT),
+];
 
-#[test]
-fn edits(rt: HostRuntime) -> Result<(), Fail> {
-    for (input, script, status, whole, text) in ROWS {
-        let mut out = Sink::new(Vec::from_slice(rt.alloc(), b"a")?);
-        let mut report = Sink::new(Vec::from_slice(rt.alloc(), b"b")?);
-        let answer = edit(rt.alloc(), input, script, false, &mut out, &mut report);
-        assert_eq!(rt; answer, Ok(status), "{script:?}");
-        assert_eq!(rt;
-            out.into_inner().strip_prefix(b"a"),
-            Some(whole),
-            "{script:?}"
-        );
-        assert_eq!(rt;
-            report.into_inner().strip_prefix(b"b"),
-            Some(text.as_bytes()),
-            "{script:?}"
-        );
+// In the other profile.
+static EXTENDED: [Row; 1] = [(
+    NO_BLOCK_TYPE,
+    b"strip\ntype i32 i32",
+    Status::Accepted,
+    NO_BLOCK_TYPE_MENDED,
+    b"1 ok\n2 ok\nvalid\n",
+)];
+
+// In the other profile, where the module has to be valid.
+static EXTENDED_KEPT: [Row; 1] = [(
+    NO_BLOCK_TYPE,
+    b"strip\ntype i32 i32",
+    Status::Refused,
+    NO_BLOCK_TYPE_MENDED,
+    b"1 refused E7 WouldBreak V2 UnknownType at section 10 item 0 token 1\n2 ok\nvalid\n",
+)];
+
+// How scripts are run.
+#[derive(Clone, Copy)]
+struct Mode {
+    profile: Profile,
+    keep: bool,
+}
+
+impl Mode {
+    fn edit<W: Out, X: Out>(
+        self,
+        alloc: Global,
+        row: Row,
+        out: &mut W,
+        report: &mut X,
+    ) -> Result<Status, RunFault>
+        requires out { W.failed out.old < 2 ^ 64 - 1 }
+        requires report { X.failed report.old < 2 ^ 64 - 1 }
+    {
+        let (input, script, ..) = row;
+        match self.profile {
+            Profile::Core => edit(alloc, input, script, self.keep, out, report),
+            Profile::Extended => {
+                edit_in(alloc, input, script, self.keep, self.profile, out, report)
+            }
+        }
     }
+}
+
+// All rows, and how their scripts are run.
+fn tables() -> [(Mode, &'static [Row]); 4] {
+    let (core, extended) = (Profile::Core, Profile::Extended);
+    [
+        (
+            Mode {
+                profile: core,
+                keep: false,
+            },
+            &ROWS,
+        ),
+        (
+            Mode {
+                profile: core,
+                keep: true,
+            },
+            &KEPT,
+        ),
+        (
+            Mode {
+                profile: extended,
+                keep: false,
+            },
+            &EXTENDED,
+        ),
+        (
+            Mode {
+                profile: extended,
+                keep: true,
+            },
+            &EXTENDED_KEPT,
+        ),
+    ]
+}
+
+// The module and the report of a row are put behind what the outputs hold.
+fn appends(rt: &impl Abort, alloc: Global, mode: Mode, row: Row) -> Result<(), Fail> {
+    let (_, script, status, whole, text) = row;
+    let mut out = Sink::new(Vec::from_slice(alloc, b"a")?);
+    let mut report = Sink::new(Vec::from_slice(alloc, b"b")?);
+    let answer = mode.edit(alloc, row, &mut out, &mut report);
+    assert_eq!(rt; answer, Ok(status), "{script:?}");
+    assert_eq!(rt;
+        out.into_inner().strip_prefix(b"a"),
+        Some(whole),
+        "{script:?}"
+    );
+    assert_eq!(rt;
+        report.into_inner().strip_prefix(b"b"),
+        Some(text),
+        "{script:?}"
+    );
     Ok(())
 }
 
 #[test]
-fn stops_where_the_module_fails(rt: HostRuntime) -> Result<(), Fail> {
-    for (input, script, status, whole, text) in ROWS {
-        for most in [1, 2, 7] {
-            let mut is_written = false;
-            for left in 0..CALLS {
-                let mut out = Chopped::new(rt.alloc(), most, left);
-                let mut report = Sink::new(Vec::new(rt.alloc()));
-                let answer = edit(rt.alloc(), input, script, false, &mut out, &mut report);
-                is_written = out.failures() == 0;
-                let (wanted, line) = if is_written {
-                    (Ok(status), text)
-                } else {
-                    (Err(RunFault::Out), "")
-                };
-                assert_eq!(rt; answer, wanted, "{script:?}, {left} times {most} bytes");
-                assert!(rt; whole.starts_with(out.taken()));
-                assert!(rt; out.taken().len() == whole.len() || !is_written);
-                assert_eq!(rt; report.into_inner().as_slice(), line.as_bytes());
-                if is_written {
-                    break;
-                }
-            }
-            assert!(rt; is_written, "{script:?}, {most} bytes a call");
+fn edits(rt: HostRuntime) -> Result<(), Fail> {
+    for (mode, rows) in tables() {
+        for row in rows {
+            appends(&rt, rt.alloc(), mode, *row)?;
         }
     }
     Ok(())
 }
 
+// Puts the module to an output that fails after so many calls. Answers whether it took all; else it took a beginning, and the
+// report nothing.
+fn is_module_taken(
+    rt: &impl Abort,
+    alloc: Global,
+    mode: Mode,
+    row: Row,
+    mut out: Chopped,
+) -> Result<bool, Fail>
+    requires { ⟦<Chopped as Out>⟧.failed out ≡ 0 }
+{
+    let (_, script, status, whole, text) = row;
+    let mut report = Sink::new(Vec::new(alloc));
+    let answer = mode.edit(alloc, row, &mut out, &mut report);
+    let is_whole = out.failures() == 0;
+    let (wanted, lines) = if is_whole {
+        (Ok(status), text)
+    } else {
+        (Err(RunFault::Out), b"".as_slice())
+    };
+    assert_eq!(rt; answer, wanted, "{script:?}");
+    assert!(rt; whole.starts_with(out.taken()), "{script:?}");
+    assert!(rt; out.taken().len() == whole.len() || !is_whole, "{script:?}");
+    assert_eq!(rt; report.into_inner().as_slice(), lines, "{script:?}");
+    Ok(is_whole)
+}
+
+// The same of the report, before which the module is written whole.
+fn is_report_taken(
+    rt: &impl Abort,
+    alloc: Global,
+    mode: Mode,
+    row: Row,
+    mut report: Chopped,
+) -> Result<bool, Fail>
+    requires { ⟦<Chopped as Out>⟧.failed report ≡ 0 }
+{
+    let (_, script, status, whole, text) = row;
+    let mut out = Sink::new(Vec::new(alloc));
+    let answer = mode.edit(alloc, row, &mut out, &mut report);
+    let is_whole = report.failures() == 0;
+    let wanted = if is_whole {
+        Ok(status)
+    } else {
+        Err(RunFault::Report)
+    };
+    assert_eq!(rt; answer, wanted, "{script:?}");
+    assert!(rt; text.starts_with(report.taken()), "{script:?}");
+    assert!(rt;
+        report.taken().len() == text.len() || !is_whole,
+        "{script:?}"
+    );
+    assert_eq!(rt; out.into_inner().as_slice(), whole, "{script:?}");
+    Ok(is_whole)
+}
+
+// At so many bytes a call an output of the module fails after no call, after one, and so on. Answers after how many it never fails.
+fn module_calls(
+    rt: &impl Abort,
+    alloc: Global,
+    mode: Mode,
+    row: Row,
+    most: usize,
+) -> Result<usize, Fail> {
+    let (_, _, _, whole, _) = row;
+    for calls in 0..=whole.len() {
+        let out = Chopped::new(alloc, most, calls);
+        if is_module_taken(rt, alloc, mode, row, out)? {
+            return Ok(calls);
+        }
+    }
+    Err("the output takes a byte a call")?
+}
+
+// The same of the report.
+fn report_calls(
+    rt: &impl Abort,
+    alloc: Global,
+    mode: Mode,
+    row: Row,
+    most: usize,
+) -> Result<usize, Fail> {
+    let (_, _, _, _, text) = row;
+    for calls in 0..=text.len() {
+        let report = Chopped::new(alloc, most, calls);
+        if is_report_taken(rt, alloc, mode, row, report)? {
+            return Ok(calls);
+        }
+    }
+    Err("the output takes a byte a call")?
+}
+
+// The outputs of a row take as many calls as their bytes fill at one, two or seven bytes a call.
+fn leaves_beginnings(rt: &impl Abort, alloc: Global, mode: Mode, row: Row) -> Result<(), Fail> {
+    let (_, script, _, whole, text) = row;
+    for most in [1, 2, 7] {
+        let calls = module_calls(rt, alloc, mode, row, most)?;
+        assert_eq!(rt; calls, whole.len().div_ceil(most), "{script:?} {most}");
+        let calls = report_calls(rt, alloc, mode, row, most)?;
+        assert_eq!(rt; calls, text.len().div_ceil(most), "{script:?} {most}");
+    }
+    Ok(())
+}
+
 #[test]
-fn stops_where_the_report_fails(rt: HostRuntime) -> Result<(), Fail> {
-    for (input, script, status, whole, text) in ROWS {
-        for most in [1, 2, 7] {
-            let mut is_written = false;
-            for left in 0..CALLS {
-                let mut out = Sink::new(Vec::new(rt.alloc()));
-                let mut report = Chopped::new(rt.alloc(), most, left);
-                let answer = edit(rt.alloc(), input, script, false, &mut out, &mut report);
-                is_written = report.failures() == 0;
-                let wanted = if is_written {
-                    Ok(status)
-                } else {
-                    Err(RunFault::Report)
-                };
-                assert_eq!(rt; answer, wanted, "{script:?}, {left} times {most} bytes");
-                assert!(rt; text.as_bytes().starts_with(report.taken()));
-                assert!(rt; report.taken().len() == text.len() || !is_written);
-                assert_eq!(rt; out.into_inner().as_slice(), whole);
-                if is_written {
-                    break;
-                }
-            }
-            assert!(rt; is_written, "{script:?}, {most} bytes a call");
+fn stops_where_an_output_fails(rt: HostRuntime) -> Result<(), Fail> {
+    for (mode, rows) in tables() {
+        for row in rows {
+            leaves_beginnings(&rt, rt.alloc(), mode, *row)?;
         }
     }
     Ok(())

@@ -16,6 +16,8 @@ mod listing_details;
 #[cfg(test)]
 mod listing_output;
 #[cfg(test)]
+mod outputs;
+#[cfg(test)]
 mod replies;
 #[cfg(test)]
 mod script;

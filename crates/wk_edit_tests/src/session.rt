@@ -1,17 +1,16 @@
 //! Sessions opened, edited and written.
 
-use crate::chopped::Chopped;
 use crate::job::{EMPTY, ONE_TYPE, TWO_RESULTS};
 use std::alloc::{AllocError, Global};
 use std::process::Abort;
 use std::test::Fail;
-use wk_bytes::{Items, Out, ReadFault, ReadKind, Sink, Text};
+use wk_bytes::{Items, ReadFault, ReadKind, Sink, Text};
 use wk_check::{Fault, FaultKind, Place, Verdict};
 use wk_module::{FuncType, Profile, ValType, encode, read};
-use wk_session::{Edit, EditFault, Reply, Session, Work, WriteFault};
+use wk_session::{Edit, EditFault, Reply, Session, Work};
 
-// Custom sections `a` and `b`, a type, and custom sections `a`, ``, `c` and `a`.
-const MIXED: &[u8] =
+/// Custom sections `a` and `b`, a type, and custom sections `a`, ``, `c` and `a`.
+pub(crate) const MIXED: &[u8] =
     b"\0asm\x01\0\0\0\0\x02\x01a\0\x03\x01b\x01\x01\x04\x01\x60\0\0\0\x03\x01a\x02\0\x02\0\x03\0\x02\x01c\0\x02\x01a";
 
 // No type, in a section of its own, and the custom section `c`.
@@ -357,54 +356,4 @@ fn runs(rt: HostRuntime) -> Result<(), Fail> {
         FOUR_TYPES,
         arity(2),
     )
-}
-
-// Writes to an output that takes `most` bytes a call and fails after `left` calls, and says whether it took all.
-fn writes_some(
-    rt: &impl Abort,
-    alloc: Global,
-    session: &Session,
-    most: usize,
-    left: usize,
-) -> Result<bool, Fail> {
-    let mut out = Chopped::new(alloc, most, left);
-    let answer = session.write(&mut out);
-    let is_written = out.failures() == 0;
-    let wanted = if is_written {
-        Ok(())
-    } else {
-        Err(WriteFault::Write)
-    };
-    assert_eq!(rt; answer, wanted, "{left} times {most} bytes");
-    assert!(rt; MIXED.starts_with(out.taken()), "{left} times {most} bytes");
-    assert!(rt; out.taken().len() == MIXED.len() || !is_written);
-    assert_eq!(rt; written(alloc, session)?.as_slice(), MIXED);
-    Ok(is_written)
-}
-
-// Writes to outputs that fail later and later, until one took all.
-fn writes_in_the_end(
-    rt: &impl Abort,
-    alloc: Global,
-    session: &Session,
-    most: usize,
-) -> Result<(), Fail> {
-    let mut is_written = false;
-    for left in 0..=MIXED.len() {
-        is_written = writes_some(rt, alloc, session, most, left)?;
-        if is_written {
-            break;
-        }
-    }
-    assert!(rt; is_written, "{most} bytes a call");
-    Ok(())
-}
-
-#[test]
-fn writes_until_it_fails(rt: HostRuntime) -> Result<(), Fail> {
-    let session = Session::open(rt.alloc(), MIXED)?;
-    for most in [1, 2, 7] {
-        writes_in_the_end(&rt, rt.alloc(), &session, most)?;
-    }
-    Ok(())
 }
