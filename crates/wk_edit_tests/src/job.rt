@@ -310,12 +310,17 @@ fn appends(rt: &impl Abort, alloc: Global, mode: Mode, row: Row) -> Result<(), F
     Ok(())
 }
 
+fn append(rt: &impl Abort, alloc: Global, mode: Mode, rows: &[Row]) -> Result<(), Fail> {
+    for row in rows {
+        appends(rt, alloc, mode, *row)?;
+    }
+    Ok(())
+}
+
 #[test]
 fn edits(rt: HostRuntime) -> Result<(), Fail> {
     for (mode, rows) in tables() {
-        for row in rows {
-            appends(&rt, rt.alloc(), mode, *row)?;
-        }
+        append(&rt, rt.alloc(), mode, rows)?;
     }
     Ok(())
 }
@@ -424,12 +429,17 @@ fn leaves_beginnings(rt: &impl Abort, alloc: Global, mode: Mode, row: Row) -> Re
     Ok(())
 }
 
+fn leave_beginnings(rt: &impl Abort, alloc: Global, mode: Mode, rows: &[Row]) -> Result<(), Fail> {
+    for row in rows {
+        leaves_beginnings(rt, alloc, mode, *row)?;
+    }
+    Ok(())
+}
+
 #[test]
 fn stops_where_an_output_fails(rt: HostRuntime) -> Result<(), Fail> {
     for (mode, rows) in tables() {
-        for row in rows {
-            leaves_beginnings(&rt, rt.alloc(), mode, *row)?;
-        }
+        leave_beginnings(&rt, rt.alloc(), mode, rows)?;
     }
     Ok(())
 }
