@@ -6,7 +6,7 @@ use std::process::Abort;
 use std::test::Fail;
 use wk_bytes::{Items, ReadFault, ReadKind, Sink, Text};
 use wk_check::{Fault, FaultKind, Place, Verdict};
-use wk_module::{FuncType, Profile, ValType, encode, read};
+use wk_module::{FuncType, Profile, ValType};
 use wk_session::{Edit, EditFault, Reply, Session, Work};
 
 /// Custom sections `a` and `b`, a type, and custom sections `a`, ``, `c` and `a`.

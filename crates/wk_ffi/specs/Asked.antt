@@ -13,7 +13,9 @@ profile_of n = if n == 0 then Some Core else if n == 1 then Some Extended else N
 
 -- WASMKIT_HEADERS, WASMKIT_DETAILS, WASMKIT_CODE and WASMKIT_USES
 abbrev pub part_of : ℕ → Option Part
-part_of n = if n == 0 then Some Headers else if n == 1 then Some Details else if n == 2 then Some Code else if n == 3 then Some Uses else None
+part_of n =
+    if n == 0 then Some Headers else if n == 1 then Some Details
+    else if n == 2 then Some Code else if n == 3 then Some Uses else None
 
 -- 0 and 1
 abbrev pub flag_of : ℕ → Option Bool

@@ -1,3 +1,4 @@
 pub mod Asked
+pub mod Meanings
 pub mod Outputs
 pub mod Told

@@ -1,5 +1,5 @@
 -- What calls leave in the memory that they are given.
-use Rattle.std.specs.Prelude.{◌≡◌, ℕ, ◌<◌, ◌≤◌, ◌⊎◌, Option, Some, None, List, ◌++◌, length, drop, Result, Ok, Err}
+use Rattle.std.specs.Prelude.{◌≡◌, ◌≢◌, ℕ, ◌<◌, ◌≤◌, ◌⊎◌, Option, Some, None, List, ◌++◌, length, drop, Result, Ok, Err}
 use Rattle.wk_ffi.specs.declared.code.Answer.{Answer}
 use Rattle.wk_ffi.specs.declared.code.CallFault.{CallFault}
 use Rattle.wk_ffi.specs.declared.code.CallFault.TheVariants.{Memory, Argument}
@@ -47,11 +47,20 @@ AnswersText (Some t) text result = HandsText t text result ⊎ ((result ≡ code
 abbrev pub HandsBoth : Told → Output → Output → ℕ → Type 0
 HandsBoth t bytes text result =
     ((result ≡ code_number t.code) × Holds t.bytes bytes × Holds t.text text)
-    ⊎ ((result ≡ code_number TooSmall) × ((length bytes.old < length t.bytes) ⊎ (length text.old < length t.text)) × Asks t.bytes bytes × Asks t.text text)
+    ⊎ ((result ≡ code_number TooSmall) × ((length bytes.old < length t.bytes) ⊎ (length text.old < length t.text))
+    × Asks t.bytes bytes × Asks t.text text)
 
 abbrev pub AnswersBoth : Option Told → Output → Output → ℕ → Type 0
 AnswersBoth None bytes text result = (result ≡ code_number BadArgument) × Untouched bytes × Untouched text
-AnswersBoth (Some t) bytes text result = HandsBoth t bytes text result ⊎ ((result ≡ code_number NoMemory) × Untouched bytes × Untouched text)
+AnswersBoth (Some t) bytes text result =
+    HandsBoth t bytes text result
+    ⊎ ((result ≡ code_number NoMemory) × Untouched bytes × Untouched text)
+
+-- ---- what the answers mean
+
+-- there is something to tell, also where it does not fit
+abbrev pub IsTold : ℕ → Type 0
+IsTold result = (result ≢ code_number NoMemory) × (result ≢ code_number BadArgument)
 
 -- ---- what is worked out before any of it is handed out
 

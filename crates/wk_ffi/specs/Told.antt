@@ -2,15 +2,14 @@
 use Rattle.std.specs.Prelude.{ℕ, ◌==◌, ◌&&◌, if◌then◌else◌, Bool, Option, Some, None, List, [], Result, Ok, Err}
 use Rattle.std.specs.List.{list_any}
 use Rattle.wk_bytes.specs.declared.fault.ReadFault.{ReadFault}
-use Rattle.wk_bytes.specs.Frames.{sections_of}
-use Rattle.wk_body.specs.declared.types.Profile.{Profile}
+use Rattle.wk_bytes.specs.Frames.{sections_of, Section}
 use Rattle.wk_module.specs.declared.types.Parts.{Parts}
 use Rattle.wk_module.specs.Reading.{module_at}
 use Rattle.wk_module.specs.Shape.{settle}
 use Rattle.wk_module.specs.Writing.{encoded}
 use Rattle.wk_list.specs.declared.listing.Part.{Part}
 use Rattle.wk_list.specs.Listing as lists
-use Rattle.wk_session.specs.Stripped.{with_kept}
+use Rattle.wk_strip.specs.Stripped.{with_kept}
 use Rattle.wk_edit.specs.declared.fault.Status.{Status}
 use Rattle.wk_edit.specs.declared.fault.Status.TheVariants as statuses
 use Rattle.wk_edit.specs.Outcome.{Outcome, outcome_of, out_of}
@@ -55,22 +54,28 @@ pub record Told : Type 0 where
   pub text : List ℕ
 
 -- of arguments that the call takes
-abbrev pub asked : {A : Type 0} → Bool → Option A → (A → Told) → Option Told
-asked short None told = None
-asked short (Some a) told = if short then Some (told a) else None
+abbrev pub told_if : {A : Type 0} → Bool → Option A → (A → Told) → Option Told
+told_if short None told = None
+told_if short (Some a) told = if short then Some (told a) else None
 
 -- of two of them
-abbrev pub asked_with : {A B : Type 0} → Bool → Option A → Option B → (A → B → Told) → Option Told
-asked_with short None b told = None
-asked_with short (Some a) b told = asked short b (told a)
+abbrev pub told_if_both : {A B : Type 0} → Bool → Option A → Option B → (A → B → Told) → Option Told
+told_if_both short None b told = None
+told_if_both short (Some a) b told = told_if short b (told a)
 
 -- the verdict on the module that the bytes spell, or their first fault
+abbrev pub judged : Result Parts ReadFault → Told
+judged read = record { code = status_told (status_of read); bytes = []; text = printed read }
+
 abbrev pub validation_told : ℕ → List ℕ → Option Told
-validation_told profile bytes = asked (short_enough bytes) (profile_of profile) (λ p. record { code = status_told (status_of (module_at p bytes)); bytes = []; text = printed (module_at p bytes) })
+validation_told profile bytes = told_if (short_enough bytes) (profile_of profile) (λ p. judged (module_at p bytes))
 
 -- the sections that stand in the bytes, and the fault of their frames
+abbrev pub framed : List (Result Section ReadFault) → Told
+framed items = record { code = if list_any is_fault items then Malformed else Fine; bytes = []; text = listing items }
+
 abbrev pub sections_told : List ℕ → Option Told
-sections_told bytes = if short_enough bytes then Some (record { code = if list_any is_fault (sections_of bytes) then Malformed else Fine; bytes = []; text = listing (sections_of bytes) }) else None
+sections_told bytes = if short_enough bytes then Some (framed (sections_of bytes)) else None
 
 -- where the bytes spell no module
 abbrev pub malformed_told : ReadFault → Told
@@ -82,7 +87,7 @@ listed part (Ok m) = record { code = Fine; bytes = []; text = lists.listing m pa
 listed part (Err fault) = malformed_told fault
 
 abbrev pub list_told : ℕ → ℕ → List ℕ → Option Told
-list_told profile part bytes = asked_with (short_enough bytes) (profile_of profile) (part_of part) (λ p k. listed k (module_at p bytes))
+list_told profile part bytes = told_if_both (short_enough bytes) (profile_of profile) (part_of part) (λ p k. listed k (module_at p bytes))
 
 -- the module without its custom sections, but those of a name
 abbrev pub stripped : Option (List ℕ) → Result Parts ReadFault → Told
@@ -90,7 +95,7 @@ stripped keep (Ok m) = record { code = Fine; bytes = encoded (settle (with_kept 
 stripped keep (Err fault) = malformed_told fault
 
 abbrev pub strip_told : ℕ → List ℕ → List ℕ → Option Told
-strip_told profile keep bytes = asked_with (short_enough bytes) (profile_of profile) (keep_of keep) (λ p k. stripped k (module_at p bytes))
+strip_told profile keep bytes = told_if_both (short_enough bytes) (profile_of profile) (keep_of keep) (λ p k. stripped k (module_at p bytes))
 
 -- the module that the edits make, and the report
 abbrev pub outcome_told : Outcome → Told
@@ -98,4 +103,5 @@ outcome_told o = record { code = run_told o.status; bytes = out_of o; text = o.r
 
 abbrev pub edit_told : ℕ → ℕ → List ℕ → List ℕ → Option Told
 edit_told profile keep_valid bytes script =
-    asked_with (short_enough bytes && short_enough script) (profile_of profile) (flag_of keep_valid) (λ p keep. outcome_told (outcome_of keep p bytes script))
+    let short = short_enough bytes && short_enough script in
+    told_if_both short (profile_of profile) (flag_of keep_valid) (λ p keep. outcome_told (outcome_of keep p bytes script))

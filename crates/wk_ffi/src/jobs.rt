@@ -1,12 +1,12 @@
 //! What calls work out, before any of it is handed out.
 ghost use Rattle.std.specs.Prelude.{◌≡◌, ◌≢◌, [], IfErr, IfOk, OnOk, option_map};
 ghost use Rattle.wk_module.specs.Reading.{module_at};
-ghost use Rattle.wk_module.specs.Shape.{settle};
-ghost use Rattle.wk_module.specs.Writing.{encoded, Fits};
+ghost use Rattle.wk_module.specs.Writing.{Fits};
 ghost use Rattle.wk_list.specs.Listing.{listing};
-ghost use Rattle.wk_session.specs.Stripped.{with_kept};
 ghost use Rattle.wk_edit.specs.Outcome.{outcome_of};
 ghost use Rattle.wk_ffi.specs.declared.code.CallFault.TheVariants as CallFault;
+ghost use Rattle.wk_edit.specs.Theorem.{IsReport};
+ghost use Rattle.wk_ffi.specs.Meanings.{EditMeans, ValidationMeans};
 ghost use Rattle.wk_ffi.specs.Outputs.{told_of, IsAnswer};
 ghost use Rattle.wk_ffi.specs.Told.{
     edit_told, list_told, malformed_told, outcome_told, sections_told, strip_told, stripped, validation_told,
@@ -19,8 +19,8 @@ use wk_answers::{Listing, Validation, list_sections, validate};
 use wk_bytes::{ReadFault, ReadKind, Sink, Text};
 use wk_edit::{edit_in, malformed_line};
 use wk_list::{Part, Plain, list};
-use wk_module::{EncodeFault, Module, Profile, encode, read_in};
-use wk_session::stripped;
+use wk_module::{Module, Profile, read_in};
+use wk_strip::strip_bytes;
 
 // Of the lines alone.
 fn of_text(alloc: Global, code: Code, text: Vec<u8>) -> Answer
@@ -50,7 +50,8 @@ fn of_malformed(alloc: Global, fault: &ReadFault) -> Result<Answer, CallFault>
 
 /// The verdict on a module.
 pub fn validation(alloc: Global, bytes: &[u8], profile: u32) -> Result<Answer, CallFault>
-    ensures { IsAnswer (validation_told profile bytes.now) result }
+    ensures told { IsAnswer (validation_told profile bytes.now) result }
+    ensures means { OnOk result (ValidationMeans profile bytes.now) }
 {
     let Some(profile) = profile_of(profile) else {
         return Err(CallFault::Argument);
@@ -116,26 +117,8 @@ pub fn listing(
     }
 }
 
-// The written form of a module without its custom sections, but those of a name.
-fn strip_module(
-    alloc: Global,
-    whole: Module,
-    keep: Option<&Text>,
-) -> Result<Vec<u8>, CallFault>
-    requires { Fits whole }
-    ensures ok { IfOk result (λ bytes. bytes.items ≡ encoded (settle (with_kept (option_map (λ name. name.now) keep.entry) whole))) }
-    ensures memory { IfErr result (λ e. e ≡ CallFault.Memory) }
-{
-    let bare = stripped(whole, keep);
-    match encode(alloc, &bare) {
-        Ok(bytes) => Ok(bytes),
-        Err(EncodeFault::Memory) => Err(CallFault::Memory),
-        Err(EncodeFault::TooLarge) => unreachable!(),
-    }
-}
-
 // The module that bytes spell without its custom sections, but those of a name.
-fn strip_bytes(
+fn strip_module(
     alloc: Global,
     bytes: &[u8],
     profile: Profile,
@@ -144,15 +127,12 @@ fn strip_bytes(
     ensures ok { IfOk result (λ a. told_of a ≡ stripped (option_map (λ name. name.now) keep.entry) (module_at profile bytes.now)) }
     ensures memory { IfErr result (λ e. e ≡ CallFault.Memory) }
 {
-    match read_in(alloc, bytes, profile) {
-        Ok(whole) => {
-            let bytes = strip_module(alloc, whole, keep)?;
-            Ok(Answer {
-                code: Code::Fine,
-                bytes,
-                text: Vec::new(alloc),
-            })
-        }
+    match strip_bytes(alloc, bytes, profile, keep) {
+        Ok(stripped) => Ok(Answer {
+            code: Code::Fine,
+            bytes: Vec::from_slice(alloc, stripped.as_slice())?,
+            text: Vec::new(alloc),
+        }),
         Err(fault) => of_malformed(alloc, &fault),
     }
 }
@@ -176,7 +156,7 @@ pub fn strip(
         return Err(CallFault::Argument);
     };
     let name = owned(alloc, name)?;
-    strip_bytes(alloc, bytes, profile, name.as_ref())
+    strip_module(alloc, bytes, profile, name.as_ref())
 }
 
 // The module that the edits of a script make, and the report.
@@ -188,6 +168,7 @@ fn edit_bytes(
     profile: Profile,
 ) -> Result<Answer, CallFault>
     ensures ok { IfOk result (λ a. told_of a ≡ outcome_told (outcome_of keep_valid profile bytes.now script.now)) }
+    ensures means { OnOk result (IsReport keep_valid profile bytes.now script.now (outcome_of keep_valid profile bytes.now script.now)) }
     ensures memory { IfErr result (λ e. e ≡ CallFault.Memory) }
 {
     let mut edited = Sink::new(Vec::new(alloc));
@@ -216,7 +197,8 @@ pub fn edit(
     keep_valid: u32,
     profile: u32,
 ) -> Result<Answer, CallFault>
-    ensures { IsAnswer (edit_told profile keep_valid bytes.now script.now) result }
+    ensures told { IsAnswer (edit_told profile keep_valid bytes.now script.now) result }
+    ensures means { OnOk result (EditMeans profile keep_valid bytes.now script.now) }
 {
     let (Some(profile), Some(keep_valid)) = (profile_of(profile), flag_of(keep_valid)) else {
         return Err(CallFault::Argument);

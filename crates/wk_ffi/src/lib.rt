@@ -1,8 +1,8 @@
 //! The library for C.
 //!
-//! Each call takes bytes as a pointer and a length, and numbers. It writes its outputs to memory that the caller gives, each as a pointer and a
-//! capacity, tells their lengths, and gives the number of a `Code`. A `Global` is passed as nothing: memory comes from the
-//! program's `malloc`.
+//! Each call takes bytes as a pointer and a length, and numbers. It writes its outputs to memory that the caller gives, each as a
+//! pointer and a capacity, tells their lengths, and gives the number of a `Code`. A `Global` is passed as nothing: memory comes
+//! from the program's `malloc`.
 //!
 //! No pointer is null, no length is above 9,223,372,036,854,775,807, and no output lies in what another argument points to: the
 //! language has no other slices. `include/wasmkit.h` checks all that of what a C program passes, and then calls these.
@@ -21,6 +21,8 @@
 //!   neither.
 //! - The text and the code are those of `wk_answers::validate`, `list_sections`, `wk_list::listing` and `outcome_of`. The bytes of
 //!   [`wk_ffi_strip`] are `encoded` of the module with the customs that stay, and those of [`wk_ffi_edit`] those of the main theorem.
+//! - Where there is something to tell, it means what `Means` of `wk_answers` says ([`wk_ffi_validate`]), or what the main theorem does
+//!   ([`wk_ffi_edit`], `IsReport`): their clauses `means`.
 //! - No clause speaks of null, of lengths that no slice has and of outputs that lie in one another, since a slice has none of these:
 //!   the header checks them, and `tests/embed` tries them.
 #![tactic(auto)]
@@ -30,7 +32,8 @@ mod code;
 mod hand;
 mod jobs;
 
-ghost use Rattle.wk_ffi.specs.Outputs.{output, AnswersBoth, AnswersText};
+ghost use Rattle.wk_ffi.specs.Meanings.{EditMeans, ValidationMeans};
+ghost use Rattle.wk_ffi.specs.Outputs.{output, AnswersBoth, AnswersText, IsTold};
 ghost use Rattle.wk_ffi.specs.Told.{edit_told, list_told, sections_told, strip_told, validation_told};
 
 use crate::hand::{hand_both, hand_text};
@@ -45,7 +48,8 @@ pub extern "C" fn wk_ffi_validate(
     text: &mut [u8],
     text_len: &mut usize,
 ) -> u32
-    ensures { AnswersText (validation_told profile bytes.now) (output text.old text.new text_len.new) result }
+    ensures told { AnswersText (validation_told profile bytes.now) (output text.old text.new text_len.new) result }
+    ensures means { IsTold result → ValidationMeans profile bytes.now }
 {
     hand_text(jobs::validation(alloc, bytes, profile), text, text_len)
 }
@@ -90,7 +94,8 @@ pub extern "C" fn wk_ffi_strip(
     text: &mut [u8],
     text_len: &mut usize,
 ) -> u32
-    ensures { AnswersBoth (strip_told profile keep.now bytes.now) (output out.old out.new out_len.new) (output text.old text.new text_len.new) result }
+    ensures { AnswersBoth (strip_told profile keep.now bytes.now) (output out.old out.new out_len.new)
+        (output text.old text.new text_len.new) result }
 {
     let answer = jobs::strip(alloc, bytes, profile, keep);
     hand_both(answer, out, out_len, text, text_len)
@@ -110,7 +115,9 @@ pub extern "C" fn wk_ffi_edit(
     text: &mut [u8],
     text_len: &mut usize,
 ) -> u32
-    ensures { AnswersBoth (edit_told profile keep_valid bytes.now script.now) (output out.old out.new out_len.new) (output text.old text.new text_len.new) result }
+    ensures told { AnswersBoth (edit_told profile keep_valid bytes.now script.now) (output out.old out.new out_len.new)
+        (output text.old text.new text_len.new) result }
+    ensures means { IsTold result → EditMeans profile keep_valid bytes.now script.now }
 {
     let answer = jobs::edit(alloc, bytes, script, keep_valid, profile);
     hand_both(answer, out, out_len, text, text_len)
