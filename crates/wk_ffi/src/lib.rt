@@ -4,6 +4,10 @@
 //! pointer and a capacity, tells their lengths, and gives the number of a `Code`. A `Global` is passed as nothing: memory comes
 //! from the program's `malloc`.
 //!
+//! The code is `NoMemory` where a growth was refused, `BadArgument` where a module or script has more than 2,147,483,647 bytes or a
+//! number has no meaning, and `TooSmall` where an output has no room. After these nothing is written but lengths: 0, and of
+//! `TooSmall` those that are needed. A profile is 0, of WebAssembly 1.0, or 1, the extended one.
+//!
 //! No pointer is null, no length is above 9,223,372,036,854,775,807, and no output lies in what another argument points to: the
 //! language has no other slices. `include/wasmkit.h` checks all that of what a C program passes, and then calls these.
 //!
@@ -39,7 +43,8 @@ ghost use Rattle.wk_ffi.specs.Told.{edit_told, list_told, sections_told, strip_t
 use crate::hand::{hand_both, hand_text};
 use std::alloc::Global;
 
-/// Judges the module that bytes spell: the text is its verdict, or the first fault of bytes that spell none.
+/// Judges the module that bytes spell: the text is its verdict, or the first fault of bytes that spell none. The code is `Fine`,
+/// `Invalid` or `Malformed`, or one of those of every call.
 #[unsafe(no_mangle)]
 pub extern "C" fn wk_ffi_validate(
     alloc: Global,
@@ -54,7 +59,8 @@ pub extern "C" fn wk_ffi_validate(
     hand_text(jobs::validation(alloc, bytes, profile), text, text_len)
 }
 
-/// Lists the sections that stand in bytes, with their contents unread, and the fault behind them, if there is one.
+/// Lists the sections that stand in bytes, with their contents unread, and the fault behind them, if there is one: `Malformed`, and
+/// else `Fine`.
 #[unsafe(no_mangle)]
 pub extern "C" fn wk_ffi_sections(
     alloc: Global,
@@ -67,7 +73,8 @@ pub extern "C" fn wk_ffi_sections(
     hand_text(jobs::sections(alloc, bytes), text, text_len)
 }
 
-/// Lists a part of the module that bytes spell.
+/// Lists a part of the module that bytes spell: 0 its headers, 1 its details, 2 its code, 3 what its functions use. The code is `Fine`,
+/// or `Malformed` with the first fault as the text.
 #[unsafe(no_mangle)]
 pub extern "C" fn wk_ffi_list(
     alloc: Global,
@@ -82,7 +89,8 @@ pub extern "C" fn wk_ffi_list(
     hand_text(jobs::listing(alloc, bytes, profile, part), text, text_len)
 }
 
-/// Removes the custom sections of the module that bytes spell, but those of the name `keep`, if that has bytes.
+/// Removes the custom sections of the module that bytes spell, but those of the name `keep`, if that has bytes. The code is `Fine`, or
+/// `Malformed` with the first fault as the text; `BadArgument` also where `keep` is not UTF-8.
 #[unsafe(no_mangle)]
 pub extern "C" fn wk_ffi_strip(
     alloc: Global,
@@ -102,7 +110,7 @@ pub extern "C" fn wk_ffi_strip(
 }
 
 /// Makes the edits of a script on the module that bytes spell. Where `keep_valid` is 1, an edit that would leave an invalid
-/// module is refused.
+/// module is refused; else it is 0. The code is `Fine`, `Refused` with a module and a report all the same, `Malformed` or `BadScript`.
 #[unsafe(no_mangle)]
 pub extern "C" fn wk_ffi_edit(
     alloc: Global,
