@@ -190,7 +190,7 @@ static KEPT: [Row; 4] = [
         b"type - -\n\ntype i32 i32,i32\n",
         Status::Refused,
         ONE_TYPE,
-        b"1 ok\n3 refused E7 WouldBreak V1 TypeArity at section 1 item 1\nvalid\n",
+        b"1 ok\n2 refused E7 WouldBreak V1 TypeArity at section 1 item 1\nvalid\n",
     ),
     (
         TWO_RESULTS,
