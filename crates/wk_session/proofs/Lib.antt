@@ -27,3 +27,4 @@ pub mod Shrinking
 pub mod Piecing
 pub mod Putting
 pub mod Exporting
+pub mod Shaping

@@ -117,8 +117,8 @@ fn sizes_after(sections: &Vec<Items<u8>>, news: &Vec<Option<Items<u8>>>) -> [usi
     sizes
 }
 
-// How many bytes the contents of the code section have, by how many codes there are and how many bytes they have with their sizes.
-fn code_contents(count: usize, codes: u32) -> usize
+/// How many bytes the contents of the code section have, by how many codes there are and how many bytes they have with their sizes.
+pub(crate) fn code_contents(count: usize, codes: u32) -> usize
     requires { count < 2 ^ 32 }
     ensures { result ≡ if count == 0 then 0 else length (short count) + codes }
 {

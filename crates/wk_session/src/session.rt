@@ -24,6 +24,7 @@ use crate::edits::{
     strip_all, strip_custom,
 };
 use crate::kept::Kept;
+use crate::lengths::{CODES, code_contents};
 use crate::write::WriteFault;
 use crate::written::put_module;
 use std::alloc::Global;
@@ -32,9 +33,10 @@ use std::marker::Model;
 use std::mem;
 use wk_bytes::{Out, OutFault, OutOfMemory, ReadFault, ReadKind};
 use wk_check::{Meter, Verdict};
-use wk_list::{ListFault, Part, Plain, list};
+use wk_list::{ListFault, Part, Shape, list};
 use wk_module::{
-    Module, Parts, Profile, Ref, one_module, read_in, reading_of_code, written_form_of_module,
+    Module, Parts, Profile, Ref, custom_len, one_module, read_in, reading_of_code,
+    written_form_of_module,
 };
 
 /// A module under edits, seen by contracts as its plain lists.
@@ -179,10 +181,7 @@ impl Session {
         ensures err { OnErr result (TakesFront (W.taken out.old) (W.taken out.new) (listing self.now part)) }
         ensures failures { W.failed out.new ≡ failed_after (W.failed out.old) result }
     {
-        let Some(plain) = Plain::of(&self.module) else {
-            unreachable!()
-        };
-        list(self.alloc, &plain, part, out)
+        list(self.alloc, self, part, out)
     }
 
     /// What the function of a code entry refers to, with its own type, each once and in the order of [`Ref`]; or nothing past the last
@@ -313,5 +312,34 @@ impl Session {
         ensures err { OnErr result (self.new ≡ self.old) }
     {
         self.run_with(true, edits)
+    }
+}
+
+/// The lengths of the pieces that a listing asks for are those of the kept ones: none is counted.
+impl Shape for Session {
+    ghost seen = { λ s. s };
+
+    fn parts(&self) -> &Parts {
+        self.module.parts()
+    }
+
+    fn section_len(&self, id: u8) -> u32 {
+        let pieces = &self.kept.pieces;
+        if id == CODES {
+            return code_contents(pieces.codes.len(), pieces.codes_len) as u32;
+        }
+        match pieces.sections.get(id as usize) {
+            Some(contents) => contents.len() as u32,
+            None => 0,
+        }
+    }
+
+    fn custom_len(&self, index: usize) -> u32 {
+        let custom = &self.module.parts().customs.as_slice()[index];
+        custom_len(custom).unwrap_or(0)
+    }
+
+    fn body_len(&self, index: usize) -> u32 {
+        self.kept.pieces.codes[index].len() as u32
     }
 }
