@@ -94,11 +94,7 @@ pub fn encode_section(alloc: Global, lists: &Lists<'_>, id: u8) -> Result<Vec<u8
 ///
 /// `TooLarge` where the contents are more than 2,147,483,647 bytes, and else `Memory` where a growth is refused. Then some of
 /// the section may stand there.
-pub fn append_section(
-    lists: &Lists<'_>,
-    id: u8,
-    bytes: &mut Vec<u8>,
-) -> Result<(), EncodeFault>
+pub fn append_section(lists: &Lists<'_>, id: u8, bytes: &mut Vec<u8>) -> Result<(), EncodeFault>
     ensures { MatchResult result
         (λ _. bytes.new.items ≡ bytes.old.items ++ section_by (listed lists.now) (of_number id))
         (Unwritten (contents_by (listed lists.now) (of_number id))) }

@@ -13,15 +13,21 @@
 //! - A reply tells the [`Work`] of an edit (`specs/Dependents`): `typed` counts the bodies that the edit gives and those that refer to
 //!   something which is found to be another thing (`retyped_meets` of `specs/DependentsLaws` ties that to the set of what changes),
 //!   `encoded` those that it gives and those that move, `sections` the sections that hold something new or moved. `typed` is the
-//!   reading of a meter; bytes are encoded when they are written.
+//!   reading of a meter, and the other two are counted where bytes are made.
+//! - [`Session::write`] fails only where its output does, and takes no memory.
 //! - What `is_decided` marks is never answered by want of memory (`decided`). `is_memory` marks the edits that were refused for want of
 //!   memory; what the others do and answer is said for those marks.
-//! - [`stripped`] is the module with the custom sections of one name, or with none, settled; where the module fits, so does that.
 //!
 //! # What it costs
 //!
-//! The verdict of each body and what it refers to are kept: an edit types the bodies that find another thing than before, and no other.
-//! All growths come before the change, which takes no memory.
+//! Kept are the verdict of each body, what it refers to and its code, and the contents of each section. An edit types the bodies that find
+//! another thing than before, and no other; of a valid module it looks at what it adds alone. It encodes the bodies that move and the
+//! sections that change, and writing puts what is kept in order. All growths come before the change, which takes no memory.
+//!
+//! What grows with a session that is kept open is the module, and with it what is kept: an edit leaves nothing behind. Appending to a list of
+//! a valid module costs the bytes of its section, an export also one look at each name; an import, one look at the references of each
+//! function, and the bodies that move. Replacing a body costs that body, and a copy of the list of verdicts. An edit of an invalid module
+//! judges the sections anew and types the invalid bodies that find another thing.
 #![tactic(auto)]
 
 mod appraisal;

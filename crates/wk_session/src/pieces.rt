@@ -90,7 +90,11 @@ pub(crate) fn no_news(alloc: Global) -> Result<Vec<Option<Items<u8>>>, OutOfMemo
 }
 
 /// Makes the contents of one section anew, and of no other.
-pub(crate) fn one_remade(alloc: Global, lists: &Lists<'_>, id: u8) -> Result<NewSections, EncodeFault>
+pub(crate) fn one_remade(
+    alloc: Global,
+    lists: &Lists<'_>,
+    id: u8,
+) -> Result<NewSections, EncodeFault>
     requires { IsListId id }
     ensures { MatchResult result (IsOneRemade id (contents_by (listed lists.now) (of_number id))) (IsOverlong (contents_by (listed lists.now) (of_number id))) }
 {
@@ -102,7 +106,12 @@ pub(crate) fn one_remade(alloc: Global, lists: &Lists<'_>, id: u8) -> Result<New
 }
 
 // The contents of the section of an id, none for ids of no list.
-fn contents_at(alloc: Global, lists: &Lists<'_>, id: u8, made: &mut u32) -> Result<Items<u8>, EncodeFault>
+fn contents_at(
+    alloc: Global,
+    lists: &Lists<'_>,
+    id: u8,
+    made: &mut u32,
+) -> Result<Items<u8>, EncodeFault>
     requires id { id < 12 }
     requires few { made.old < 12 }
     ensures contents { MatchResult result (λ c. c ≡ contents_by (listed lists.now) (of_number id)) (IsOverlong (contents_by (listed lists.now) (of_number id))) }
@@ -167,7 +176,8 @@ impl Pieces {
     {
         let sections = sections_of(alloc, &Lists::of(parts, types))?;
         let codes = codes_of(alloc, &parts.funcs)?;
-        let (Some(codes_len), Some(customs_len)) = (codes_len(&codes), customs_len(&parts.customs)) else {
+        let (Some(codes_len), Some(customs_len)) = (codes_len(&codes), customs_len(&parts.customs))
+        else {
             unreachable!()
         };
         Ok(Pieces {

@@ -115,11 +115,7 @@ fn put_custom<W: Out>(out: &mut W, custom: &Custom) -> Result<(), OutFault>
 }
 
 // The custom sections of a place.
-fn put_customs_at<W: Out>(
-    out: &mut W,
-    customs: &Items<Custom>,
-    place: u8,
-) -> Result<(), OutFault>
+fn put_customs_at<W: Out>(out: &mut W, customs: &Items<Custom>, place: u8) -> Result<(), OutFault>
     requires failed { W.failed out.old < 2 ^ 64 - 1 }
     requires few { length (customs_at place customs.now) ≤ limit }
     ensures ok { OnOk result (Appends (W.taken out.old) (W.taken out.new) (customs_at place customs.now)) }
@@ -156,12 +152,7 @@ fn put_section_of<W: Out>(
 }
 
 // The section of an id, and the custom sections behind it.
-fn put_place<W: Out>(
-    out: &mut W,
-    parts: &Parts,
-    pieces: &Pieces,
-    id: u8,
-) -> Result<(), OutFault>
+fn put_place<W: Out>(out: &mut W, parts: &Parts, pieces: &Pieces, id: u8) -> Result<(), OutFault>
     requires failed { W.failed out.old < 2 ^ 64 - 1 }
     requires id { id < 12 }
     requires pieces { ArePieces parts.now pieces.now }

@@ -48,7 +48,6 @@ pub affirmed : (b : Bool) → false ≡ not b → b ≡ true
 affirmed true h = refl
 affirmed false h = absurd cc
 
-
 pub kept_by : {A : Type 0} (b : Bool) (x y : A) → x ≡ y → b ≡ true → Some x ≡ (if b then Some y else None)
 kept_by b x y same is = rw is (ap (λ z. Some z) same)
 

@@ -78,7 +78,11 @@ pub(crate) fn append_codes(
 }
 
 // Appends what stands in front of the codes of a code section: its id, its size, and their number. It is left out where there are none.
-pub(crate) fn append_code_front(count: u32, codes: u32, out: &mut Vec<u8>) -> Result<(), OutOfMemory>
+pub(crate) fn append_code_front(
+    count: u32,
+    codes: u32,
+    out: &mut Vec<u8>,
+) -> Result<(), OutOfMemory>
     requires { length (short count) + codes ≤ limit }
     ensures { OnOk result (out.new.items ≡ out.old.items ++ code_front count codes) }
 {

@@ -66,7 +66,7 @@ fn assemble(
     requires short { IsTooLong (listed lists.now) 10 12 → ⊥ }
     ensures { IfOk result (λ s. MatchResult front
         (λ f. s ≡ (f.items ++ code_front (length lists.now.funcs.now) (length codes.items - gap))
-            ++ (drop gap codes.items ++ sections_from (listed lists.now) kept.now 10 2))
+        ++ (drop gap codes.items ++ sections_from (listed lists.now) kept.now 10 2))
         (λ _. ⊥)) }
 {
     let mut front = written(front)?;
@@ -100,7 +100,14 @@ fn strip_from_code(
     let front = begin(alloc, &lists, kept, CODES);
     let gap = gap_of(&front);
     let mut codes = with_gap(alloc, gap, bytes.len() + FRONT)?;
-    append_codes(alloc, scratch, lists.profile, lists.funcs.len(), section, &mut codes)?;
+    append_codes(
+        alloc,
+        scratch,
+        lists.profile,
+        lists.funcs.len(),
+        section,
+        &mut codes,
+    )?;
     let reader = reader.to_end(alloc, scratch)?;
     Ok(assemble(front, gap, codes, &reader.lists(), kept)?)
 }

@@ -20,7 +20,7 @@ use crate::edits::entry::{Entry, keep_entry, spelled_body, with_other};
 use crate::judged::judged;
 use crate::kept::{Kept, func_uses};
 use crate::lengths::{len_after, plus_code};
-use crate::pieces::{Pieces, NewSections, encoded_body, no_news};
+use crate::pieces::{NewSections, Pieces, encoded_body, no_news};
 use std::alloc::Global;
 use std::mem;
 use wk_bytes::{Items, OutOfMemory};

@@ -90,10 +90,10 @@ pub(super) fn keep_entry(kept: &mut Kept, entry: Entry) -> (BTreeSet<Ref>, Items
     requires { length entry.remade.sections.items ≤ length kept.old.pieces.sections.items }
     ensures result { result ≡ (entry.uses, entry.code, entry.encoded, entry.remade.made) }
     ensures rest { kept.new ≡ record kept.old {
-        verdict = entry.appraisal.verdict;
-        len = entry.appraisal.len;
-        verdicts = entry.verdicts;
-        pieces = record kept.old.pieces { sections = kept.new.pieces.sections; codes_len = entry.codes_len };
+      verdict = entry.appraisal.verdict;
+      len = entry.appraisal.len;
+      verdicts = entry.verdicts;
+      pieces = record kept.old.pieces { sections = kept.new.pieces.sections; codes_len = entry.codes_len };
     } }
     ensures sections { kept.new.pieces.sections.items ≡ with_items kept.old.pieces.sections.items entry.remade.sections.items }
 {

@@ -73,9 +73,9 @@ fn keep_exported(kept: &mut Kept, exported: Exported) -> Work
     requires { length exported.remade.sections.items ≤ length kept.old.pieces.sections.items }
     ensures work { result ≡ record { typed = 0; encoded = 0; sections = exported.remade.made } }
     ensures rest { kept.new ≡ record kept.old {
-        verdict = exported.appraisal.verdict;
-        len = exported.appraisal.len;
-        pieces = record kept.old.pieces { sections = kept.new.pieces.sections };
+      verdict = exported.appraisal.verdict;
+      len = exported.appraisal.len;
+      pieces = record kept.old.pieces { sections = kept.new.pieces.sections };
     } }
     ensures sections { kept.new.pieces.sections.items ≡ with_items kept.old.pieces.sections.items exported.remade.sections.items }
 {

@@ -24,9 +24,7 @@ ghost use Rattle.wk_session.specs.Pieces.{IsOverlong, IsUnwritten};
 
 use crate::appraisal::{Appraisal, appraise};
 use crate::edit::{EditFault, Reply, Work};
-use crate::edits::moved::{
-    MovedEntries, is_any_code_stuck, moved_entries, put_moved,
-};
+use crate::edits::moved::{MovedEntries, is_any_code_stuck, moved_entries, put_moved};
 use crate::judged::rejudged;
 use crate::kept::Kept;
 use crate::lengths::{codes_len_after, len_after};
@@ -36,8 +34,8 @@ use std::alloc::Global;
 use wk_bytes::OutOfMemory;
 use wk_check::{BodyVerdict, Meter, Whole, verdicts_that_keep};
 use wk_module::{
-    EncodeFault, Import, ImportDesc, Kind, Limits, Lists, MovedLists, Parts, ShiftFault, import_count,
-    moving_of_code, moving_of_module, shift_lists,
+    EncodeFault, Import, ImportDesc, Kind, Limits, Lists, MovedLists, Parts, ShiftFault,
+    import_count, moving_of_code, moving_of_module, shift_lists,
 };
 
 /// The id of the import section (5.5.2).

@@ -38,7 +38,7 @@ loop-id-preserved g c =
     let d = g.W.Out.taken c.put_place.new.out in
     record {
       taken = subst (λ (xs : List ℕ). Appends a d xs) (sym (encoded_more m id (omega arith)))
-      (Appends-then a b d ((magic ++ version) ++ flat_map (section_and_customs m) (take id ids)) (section_and_customs m id) c.loop-id.invariant.taken c.in_ok-put_place.ensures.ok);
+          (Appends-then a b d ((magic ++ version) ++ flat_map (section_and_customs m) (take id ids)) (section_and_customs m id) c.loop-id.invariant.taken c.in_ok-put_place.ensures.ok);
       failures = c.in_ok-put_place.ensures.failures ∙ c.loop-id.invariant.failures;
     }
 

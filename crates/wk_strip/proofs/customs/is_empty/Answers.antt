@@ -17,8 +17,7 @@ returns-then-count-eq0 c =
 
 pub returns-else-count-eq0 : goal.returns-else-count-eq0
 returns-else-count-eq0 c =
-    let s = c.in-Ok.ensures.spelling in
-    (
+    let s = c.in-Ok.ensures.spelling in (
       λ t. absurd (c.if-count-eq0.false (eqb-true c.in-Ok.count 0 t)),
       λ is. eq-eqb c.in-Ok.count 0 (only_count (frame_of (raw_view c.args.section.now)) s.0 _ _ s.1 (rw c.cursor-cursor.ensures at s.2) is).0,
     )
