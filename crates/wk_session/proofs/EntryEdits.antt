@@ -1,27 +1,29 @@
 -- Edits that give or replace a code entry: what the module that they make is judged by, and what is kept of it.
-use Rattle.std.proofs.Common.{◌≡◌, ℕ, ◌+◌, ◌<◌, ◌^◌, Bool, false, Some, None, List, [], ◌∷◌, ◌++◌, length, map, get_or, count_by, Result, Ok, Err, refl, sym, ap, subst, ◌∙◌, inl, inr, arith, leb, nat_le, length-append}
-use Rattle.std.proofs.lemmas.Bool.{lt-leb, cond-false}
+use Rattle.std.proofs.Common.{◌≡◌, ◌≢◌, ℕ, ◌+◌, ◌<◌, ◌≤◌, ◌^◌, Bool, false, Some, None, List, [], ◌∷◌, ◌++◌, length, map, take, get_or, count_by, Result, Ok, Err, refl, sym, ap, subst, ◌∙◌, arith, nat_le, length-append}
+use Rattle.std.proofs.Math.Seq.{take-append_seam}
+use Rattle.std.proofs.lemmas.Bool.{le-leb, cond-true}
 use Rattle.std.proofs.lemmas.List.{length-map, map_push}
-use Rattle.std.proofs.lemmas.List.Sums.{count_by-le-length}
+use Rattle.std.proofs.lemmas.List.Sums.{count_by-le-length, sum_by_push}
 use Rattle.wk_bytes.specs.Frames.{limit}
 use Rattle.wk_bytes.specs.Leb.{◌>>=◌}
-use Rattle.wk_bytes.specs.LebLaws.{chosen}
 use Rattle.wk_bytes.specs.Short.{short}
+use Rattle.wk_body.specs.declared.fault.EncodeFault.{EncodeFault}
+use Rattle.wk_body.specs.declared.fault.EncodeFault.TheVariants as encoding
 use Rattle.wk_body.specs.Bodies.{BodyOf}
 use Rattle.wk_body.specs.Lengths.{limited}
+use Rattle.wk_body.specs.LengthsLaws.{limited_none}
 use Rattle.wk_body.specs.Written.{written_body}
 use Rattle.wk_body.specs.declared.references.Ref.{Ref}
 use Rattle.wk_module.specs.declared.types.Func.{Func}
 use Rattle.wk_module.specs.declared.types.Parts.{Parts}
-use Rattle.wk_module.specs.declared.lists.Lists.{Lists}
-use Rattle.wk_module.specs.declared.types.Custom.{Custom}
 use Rattle.wk_module.specs.Changes.{with_func}
 use Rattle.wk_module.specs.ChangeLaws.{func_formed}
 use Rattle.wk_module.specs.Items.{IsCode}
-use Rattle.wk_module.specs.Listed.{AreNumbered, listed, listed_with}
+use Rattle.wk_module.specs.Listed.{AreNumbered, listed_with}
 use Rattle.wk_module.specs.NumberedLaws.{module_numbered_with, funcs_numbered}
 use Rattle.wk_module.specs.Sections.{SectionLists}
-use Rattle.wk_module.specs.Shape.{IsFormed, settle}
+use Rattle.wk_module.specs.Shape.{IsFormed, IsInOrderFrom, settle}
+use Rattle.wk_module.specs.Sizes.{entry_size}
 use Rattle.wk_module.specs.Writing.{encoded, Fits}
 use Rattle.wk_module.specs.WritingLaws.{code_within, room_for_func}
 use Rattle.wk_check.specs.declared.fault.BodyVerdict.{BodyVerdict}
@@ -32,14 +34,23 @@ use Rattle.wk_check.specs.SpacesLaws.{answers_of}
 use Rattle.wk_check.specs.Verdict.{func_verdict}
 use Rattle.wk_session.specs.declared.edit.Edit.TheVariants as edits
 use Rattle.wk_session.specs.declared.edit.EditFault.{EditFault}
-use Rattle.wk_session.specs.declared.edit.EditFault.TheVariants.{TooLarge}
+use Rattle.wk_session.specs.declared.edit.EditFault.TheVariants.{TooLarge, Memory}
+use Rattle.wk_session.specs.declared.edit.Work.{Work}
 use Rattle.wk_session.specs.declared.edits.entry.Entry.{Entry}
 use Rattle.wk_session.specs.declared.kept.Kept.{Kept}
+use Rattle.wk_session.specs.declared.pieces.Pieces.{Pieces}
 use Rattle.wk_session.specs.Dependents.{is_retyped_in, work_of}
 use Rattle.wk_session.specs.Edits.{fitting, lasting, made}
-use Rattle.wk_session.specs.Functions.{IsPlanned, body_spelled}
-use Rattle.wk_session.specs.Kept.{IsKept, IsPending, IsAppraised, Leads, code_size, uses_of, standing}
-use Rattle.wk_session.proofs.Outcomes.{limited-some, limited-none}
+use Rattle.wk_session.specs.Functions.{IsKeptWithType, IsPlanned, body_spelled}
+use Rattle.wk_session.specs.Kept.{IsKept, Leads, uses_of, standing}
+use Rattle.wk_session.specs.Overlays.{with_items}
+use Rattle.wk_session.specs.Pieces.{ArePieces, IsOverlong, code_of, codes_size, entries_size, one_new, section_piece, section_pieces}
+use Rattle.wk_session.specs.Refusals.{encode_refusal}
+use Rattle.wk_session.proofs.ItemLengths.{past_limit}
+use Rattle.wk_session.proofs.Leading.{accepted, too_large}
+use Rattle.wk_session.proofs.Outcomes.{limited-some}
+use Rattle.wk_session.proofs.Piecing.{codes_within, entries_codes}
+use Rattle.wk_session.proofs.Works.{work_is}
 
 -- ---- lists that are lent
 
@@ -84,25 +95,39 @@ at_end (y ∷ xs) x d = at_end xs x d
 
 -- ---- lengths
 
-pub limited_is : (n len : ℕ) → limited n ≡ Some len → len ≡ n
-limited_is n len h =
-    elim (chosen (leb n limit) (Some n) None (Some len) h) [
-      | inl p ↦ cc
-      | inr p ↦ absurd cc
-    ]
-
 pub kept_fits : (m : Parts) (k : Kept) → IsKept m k → Fits m
 kept_fits m k kept = limited-some (length (encoded m)) k.len kept.len
 
-large : (m : Parts) → limit < length (encoded m) → fitting m ≡ Err TooLarge
-large m h = cond-false (nat_le (length (encoded m)) limit) (Ok m) (Err TooLarge) (lt-leb (length (encoded m)) limit h)
+-- a module whose codes are too long together
+pub codes_large : (keep : Bool) (n : Parts) → IsInOrderFrom 0 n.customs → None ≡ limited (codes_size n.funcs) → standing keep n ≡ Err TooLarge
+codes_large keep n order none =
+    too_large keep n order (past_limit (length (encoded n)) (omega (arith, limited_none (codes_size n.funcs) none, codes_within n)))
 
--- a module with a body that is too long
-pub entry_too_large : (keep : Bool) (n : Parts) (i : ℕ) (f : Func) → i < length n.funcs → f ≡ get_or n.funcs i f → limited (length (written_body f.body)) ≡ None → standing keep n ≡ Err TooLarge
-entry_too_large keep n i f within is none =
-    let body = written_body f.body in
-    let long : limit < length (encoded (settle n)) = omega (arith, limited-none (length body) none, code_within (settle n) i f within is, length-append (short (length body)) body) in
-    ap (λ (r : Result Parts EditFault). r >>= lasting keep) (large (settle n) long)
+-- one of whose codes is too long
+code_large : (keep : Bool) (n : Parts) (i : ℕ) (f : Func) → IsInOrderFrom 0 n.customs → i < length n.funcs → f ≡ get_or n.funcs i f → limit < length (code_of f) → standing keep n ≡ Err TooLarge
+code_large keep n i f order within is large =
+    too_large keep n order (past_limit (length (encoded n)) (omega (arith, large, code_within n i f within is, length-append (short (length (code_of f))) (code_of f))))
+
+-- so is one of which a code can't be made, unless memory was wanted
+pub unencoded : (keep : Bool) (n : Parts) (i : ℕ) (f : Func) (e : EncodeFault) → IsInOrderFrom 0 n.customs → i < length n.funcs → f ≡ get_or n.funcs i f → IsOverlong (code_of f) e
+    → encode_refusal e ≢ Memory → standing keep n ≡ Err (encode_refusal e)
+unencoded keep n i f encoding.TooLarge order within is over other = code_large keep n i f order within is (over (λ same. absurd cc))
+unencoded keep n i f encoding.Memory order within is over other = absurd (other refl)
+
+-- the length of codes, as it is kept
+pub codes_kept : (m : Parts) (k : Pieces) → Fits m → ArePieces m k → Some k.codes_len ≡ limited (codes_size m.funcs)
+codes_kept m k fits kept =
+    let less : codes_size m.funcs ≤ limit = omega (arith, codes_within m, fits) in
+    ap Some kept.codes_len ∙ sym (cond-true (nat_le (codes_size m.funcs) limit) (Some (codes_size m.funcs)) None (le-leb (codes_size m.funcs) limit less))
+
+-- with one code more
+pub codes_more : (fs : List Func) (f : Func) → codes_size (fs ++ f ∷ []) ≡ codes_size fs + entry_size (length (code_of f))
+codes_more fs f =
+    let size : List ℕ → ℕ = λ code. entry_size (length code) in
+    sym (entries_codes (fs ++ f ∷ []))
+    ∙ ap entries_size (map_push code_of fs f)
+    ∙ sum_by_push size (map code_of fs) (code_of f)
+    ∙ ap (λ (n : ℕ). n + size (code_of f)) (entries_codes fs)
 
 -- ---- verdicts and counts
 
@@ -118,40 +143,57 @@ typed_once at_first before once count counted fresh more own same = omega arith
 
 -- ---- a function more
 
-pub func_formed_from : (t : ℕ) (b : BodyOf) (m : Parts) (k : Kept) → IsKept m k → t < 2 ^ 32 → IsCode m.profile b → IsFormed m → IsFormed (with_func t b m)
-func_formed_from t b m k kept fits valid formed = func_formed t b m (room_for_func m (kept_fits m k kept)) fits valid formed
+pub func_formed_from : (t : ℕ) (b : BodyOf) (m : Parts) → Fits m → t < 2 ^ 32 → IsCode m.profile b → IsFormed m → IsFormed (with_func t b m)
+func_formed_from t b m fits small valid formed = func_formed t b m (room_for_func m fits) small valid formed
 
--- what is pending where a function comes
-module _ (t : ℕ) (b : BodyOf) (m : Parts) (k : Kept) (l : Lists) (vs : List BodyVerdict) (types sizes : List ℕ) (size : ℕ) where
-  pub func_pending : IsKept m k → IsFormed (with_func t b m) → l.profile ≡ m.profile → listed l ≡ listed_with types m → types ≡ k.types.items ++ t ∷ []
-      → vs ≡ map (func_verdict (answers_of (with_func t b m))) (with_func t b m).funcs → sizes ≡ k.code_sizes.items ++ size ∷ [] → limited (length (written_body b)) ≡ Some size
-      → IsPending l vs sizes m.customs (with_func t b m)
-  func_pending kept formed profile lists more verdicts sized measured = record {
-    formed = formed;
-    profile = profile;
-    lists = lent_is (with_func t b m) types (listed l) lists (mapped_more (λ f. f.ty) m.funcs (record { ty = t; body = b }) k.types.items types t more kept.types refl);
-    verdicts = verdicts;
-    code_sizes = mapped_more code_size m.funcs (record { ty = t; body = b }) k.code_sizes.items sizes size sized kept.code_sizes (limited_is (length (written_body b)) size measured);
-    customs = refl;
-  }
+-- the types of the functions before, where that of one more stands behind them
+pub types_before : (m : Parts) (t n : ℕ) (types : List ℕ) → types ≡ map (λ f. f.ty) m.funcs ++ t ∷ [] → n ≡ length m.funcs → take n types ≡ map (λ f. f.ty) m.funcs
+types_before m t n types is count =
+    let before : List ℕ = map (λ (f : Func). f.ty) m.funcs in
+    ap (take n) is ∙ ap (λ (k : ℕ). take k (before ++ t ∷ [])) (count ∙ sym (length-map m.funcs (λ (f : Func). f.ty))) ∙ take-append_seam before (t ∷ [])
 
-pub func_too_large : (keep : Bool) (t : ℕ) (b : BodyOf) (m : Parts) → limited (length (written_body b)) ≡ None → standing keep (with_func t b m) ≡ Err TooLarge
-func_too_large keep t b m none =
-    let f : Func = record { ty = t; body = b } in
-    entry_too_large keep (with_func t b m) (length m.funcs) f (omega (arith, length-append m.funcs (f ∷ []))) (at_end m.funcs f f) none
+-- and those of all
+pub types_with : (t : ℕ) (b : BodyOf) (m : Parts) (types : List ℕ) → types ≡ map (λ f. f.ty) m.funcs ++ t ∷ [] → types ≡ map (λ f. f.ty) (with_func t b m).funcs
+types_with t b m types is = is ∙ sym (map_push (λ (f : Func). f.ty) m.funcs (record { ty = t; body = b }))
 
--- what was pending, where it may stay
-pub planned : (keep : Bool) (t : ℕ) (b : BodyOf) (n : Parts) (l : Lists) (cs : List Custom) (p : Entry) → IsPending l p.verdicts.items p.code_sizes.items cs n
-    → p.uses.keys ≡ uses_of (record { ty = t; body = b }) → IsAppraised keep n (Ok p.appraisal) → IsPlanned keep t b n p
-planned keep t b n l cs p pending uses stays = record {
-  stands = stays.0;
-  formed = pending.formed;
-  verdict = stays.1;
-  len = stays.2;
-  uses = uses;
-  verdicts = pending.verdicts;
-  code_sizes = pending.code_sizes;
+-- what is kept where the type stands there already
+pub kept_with_type : (t : ℕ) (m : Parts) (k new : Kept) → IsKept m k → new ≡ record k { types = new.types } → new.types.items ≡ k.types.items ++ t ∷ [] → IsKeptWithType t m new
+kept_with_type t m k new kept is types = record {
+  verdict = ap (λ (x : Kept). x.verdict) is ∙ kept.verdict;
+  len = kept.len ∙ ap (λ (x : Kept). Some x.len) (sym is);
+  types = types ∙ ap (λ (ts : List ℕ). ts ++ t ∷ []) kept.types;
+  verdicts = ap (λ (x : Kept). x.verdicts.items) is ∙ kept.verdicts;
+  refs = ap (λ (x : Kept). map (λ s. s.keys) x.refs.items) is ∙ kept.refs;
+  pieces = subst (ArePieces m) (ap (λ (x : Kept). x.pieces) (sym is)) kept.pieces;
 }
+
+-- what is kept is, whatever room there is for more
+pub kept_alike : (m : Parts) (k new : Kept) → IsKept m k
+    → new ≡ record k { types = new.types; refs = new.refs; pieces = record k.pieces { codes = new.pieces.codes } }
+    → new.types.items ≡ k.types.items → new.refs.items ≡ k.refs.items → new.pieces.codes.items ≡ k.pieces.codes.items → IsKept m new
+kept_alike m k new kept is types refs codes = record {
+  verdict = ap (λ (x : Kept). x.verdict) is ∙ kept.verdict;
+  len = kept.len ∙ ap (λ (x : Kept). Some x.len) (sym is);
+  types = types ∙ kept.types;
+  verdicts = ap (λ (x : Kept). x.verdicts.items) is ∙ kept.verdicts;
+  refs = ap (map (λ s. s.keys)) refs ∙ kept.refs;
+  pieces = record {
+    sections = ap (λ (x : Kept). x.pieces.sections.items) is ∙ kept.pieces.sections;
+    codes = codes ∙ kept.pieces.codes;
+    codes_len = ap (λ (x : Kept). x.pieces.codes_len) is ∙ kept.pieces.codes_len;
+    customs_len = ap (λ (x : Kept). x.pieces.customs_len) is ∙ kept.pieces.customs_len;
+  };
+}
+
+pub func_unencoded : (keep : Bool) (t : ℕ) (b : BodyOf) (m : Parts) (e : EncodeFault) → IsInOrderFrom 0 m.customs → IsOverlong (written_body b) e → encode_refusal e ≢ Memory
+    → standing keep (with_func t b m) ≡ Err (encode_refusal e)
+func_unencoded keep t b m e order over =
+    let f : Func = record { ty = t; body = b } in
+    unencoded keep (with_func t b m) (length m.funcs) f e order (omega (arith, length-append m.funcs (f ∷ []))) (at_end m.funcs f f) over
+
+-- the sections, where the one of functions is made anew
+pub func_sections : (t : ℕ) (b : BodyOf) (m : Parts) (pieces : List (List ℕ)) → pieces ≡ section_pieces m → with_items pieces (one_new 3 (section_piece 3 (with_func t b m))) ≡ section_pieces (with_func t b m)
+func_sections t b m pieces is = ap (λ (ps : List (List ℕ)). with_items ps (one_new 3 (section_piece 3 (with_func t b m)))) is
 
 -- ---- what the edits come to
 
@@ -168,11 +210,10 @@ pub none_of : {A : Type 0} (xs : List A) → count_by (λ x. false) xs ≡ 0
 none_of [] = refl
 none_of (x ∷ xs) = none_of xs
 
-pub func_work : (t : ℕ) (code : List ℕ) (m n : Parts) (typed : ℕ) → typed ≡ 1 + count_by (is_retyped_in (answers_of m) (answers_of n)) m.funcs
-    → record { typed = typed; encoded = 1; sections = 1 } ≡ work_of (edits.Func t code) m (settle n)
-func_work t code m n typed counted =
-    ap (λ (k : ℕ). record { typed = k; encoded = 1; sections = 1 }) counted
-    ∙ ap (λ (k : ℕ). record { typed = 1 + count_by (is_retyped_in (answers_of m) (answers_of n)) m.funcs; encoded = 1 + k; sections = 1 }) (sym (none_of m.funcs))
+pub func_work : (t : ℕ) (code : List ℕ) (m n : Parts) (typed encoded sections : ℕ) → typed ≡ 1 + count_by (is_retyped_in (answers_of m) (answers_of n)) m.funcs → encoded ≡ 1 → sections ≡ 1
+    → record { typed = typed; encoded = encoded; sections = sections } ≡ work_of (edits.Func t code) m (settle n)
+func_work t code m n typed encoded sections counted once one =
+    work_is (edits.Func t code) m (settle n) typed encoded sections counted (once ∙ ap (λ (k : ℕ). 1 + k) (sym (none_of m.funcs))) one
 
 pub told_more : {A B C : Type 0} (f : A → C) (g : B → C) (xs : List A) (ys : List B) (x : A) (y : B) → map f xs ≡ map g ys → f x ≡ g y → map f (xs ++ x ∷ []) ≡ map g (ys ++ y ∷ [])
 told_more {C = C} f g xs ys x y told same =
@@ -180,23 +221,34 @@ told_more {C = C} f g xs ys x y told same =
 
 -- what is kept of the module with a function more
 module _ (keep : Bool) (t : ℕ) (b : BodyOf) (m : Parts) (p : Entry) (k new : Kept) where
-  pub func_kept : IsPlanned keep t b (with_func t b m) p → IsKept m k → new.verdict ≡ p.appraisal.verdict → new.len ≡ p.appraisal.len → new.types.items ≡ k.types.items ++ t ∷ []
-      → new.verdicts ≡ p.verdicts → new.refs.items ≡ k.refs.items ++ p.uses ∷ [] → new.code_sizes ≡ p.code_sizes → IsKept (with_func t b m) new
-  func_kept plan kept verdict len types verdicts refs sizes = record {
-    verdict = verdict ∙ plan.verdict;
-    len = plan.len ∙ ap Some (sym len);
-    types = mapped_more (λ f. f.ty) m.funcs (record { ty = t; body = b }) k.types.items new.types.items t types kept.types refl;
-    verdicts = ap (λ v. v.items) verdicts ∙ plan.verdicts;
-    refs = ap (map (λ s. s.keys)) refs ∙ told_more (λ s. s.keys) uses_of k.refs.items m.funcs p.uses (record { ty = t; body = b }) kept.refs plan.uses;
-    code_sizes = ap (λ v. v.items) sizes ∙ plan.code_sizes;
-  }
+  pub func_kept : IsPlanned keep t b (with_func t b m) k.pieces.sections.items 1 p → IsKept m k → new.verdict ≡ p.appraisal.verdict → new.len ≡ p.appraisal.len
+      → new.types.items ≡ k.types.items ++ t ∷ [] → new.verdicts ≡ p.verdicts → new.refs.items ≡ k.refs.items ++ p.uses ∷ []
+      → new.pieces.sections.items ≡ with_items k.pieces.sections.items p.remade.sections.items → new.pieces.codes.items ≡ k.pieces.codes.items ++ p.code ∷ []
+      → new.pieces.codes_len ≡ p.codes_len → new.pieces.customs_len ≡ k.pieces.customs_len → IsKept (with_func t b m) new
+  func_kept plan kept verdict len types verdicts refs sections codes codes_len customs_len =
+      let f : Func = record { ty = t; body = b } in
+      record {
+        verdict = verdict ∙ plan.verdict;
+        len = plan.len ∙ ap Some (sym len);
+        types = mapped_more (λ g. g.ty) m.funcs f k.types.items new.types.items t types kept.types refl;
+        verdicts = ap (λ v. v.items) verdicts ∙ plan.verdicts;
+        refs = ap (map (λ s. s.keys)) refs ∙ told_more (λ s. s.keys) uses_of k.refs.items m.funcs p.uses f kept.refs plan.uses;
+        pieces = record {
+          sections = sections ∙ plan.sections;
+          codes = mapped_more code_of m.funcs f k.pieces.codes.items new.pieces.codes.items p.code codes kept.pieces.codes plan.code;
+          codes_len = codes_len ∙ plan.codes_len;
+          customs_len = customs_len ∙ kept.pieces.customs_len;
+        };
+      }
 
-  pub func_leads : (code : List ℕ) (fs : List Func) (typed : ℕ) → body_spelled m.profile code ≡ Ok b → fs ≡ m.funcs ++ record { ty = t; body = b } ∷ [] → IsPlanned keep t b (with_func t b m) p
-      → IsKept (with_func t b m) new → typed ≡ 1 + count_by (is_retyped_in (answers_of m) (answers_of (with_func t b m))) m.funcs
-      → Leads keep (edits.Func t code) m (Ok (record { typed = typed; encoded = 1; sections = 1 })) (record m { funcs = fs }) new
-  func_leads code fs typed read pushed plan kept counted =
-      subst (λ (gs : List Func). Leads keep (edits.Func t code) m (Ok (record { typed = typed; encoded = 1; sections = 1 })) (record m { funcs = gs }) new) (sym pushed)
-      (made_func keep t code m b read ∙ plan.stands, func_work t code m (with_func t b m) typed counted, plan.formed, kept)
+  pub func_leads : (code : List ℕ) (after : Parts) (typed encoded sections : ℕ) → body_spelled m.profile code ≡ Ok b → after ≡ with_func t b m
+      → IsPlanned keep t b (with_func t b m) k.pieces.sections.items 1 p → IsKept (with_func t b m) new
+      → typed ≡ 1 + count_by (is_retyped_in (answers_of m) (answers_of (with_func t b m))) m.funcs → encoded ≡ p.encoded → sections ≡ p.remade.made
+      → Leads keep (edits.Func t code) m (Ok (record { typed = typed; encoded = encoded; sections = sections })) after new
+  func_leads code after typed encoded sections read pushed plan kept counted bodies made =
+      let w : Work = record { typed = typed; encoded = encoded; sections = sections } in
+      accepted keep (edits.Func t code) m (with_func t b m) after k new w pushed (made_func keep t code m b read) plan.stands
+      (func_work t code m (with_func t b m) typed encoded sections counted (bodies ∙ plan.encoded) (made ∙ plan.made)) plan.formed kept
 
 pub few_typed : (m : Parts) (k : Kept) (p : Func → Bool) (typed : ℕ) → IsKept m k → typed ≡ 1 + count_by p m.funcs → typed < 2 ^ 32
 few_typed m k p typed kept counted = omega (arith, counted, count_by-le-length p m.funcs, room_for_func m (kept_fits m k kept))

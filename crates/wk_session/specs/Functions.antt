@@ -1,5 +1,5 @@
 -- What an edit that gives or replaces a code entry plans before anything is changed.
-use Rattle.std.specs.Prelude.{◌≡◌, ℕ, Bool, Some, List, length, map, Result, Ok}
+use Rattle.std.specs.Prelude.{◌≡◌, ℕ, Bool, Some, List, [], ◌∷◌, ◌++◌, length, map, Result, Ok}
 use Rattle.wk_body.specs.declared.types.Profile.{Profile}
 use Rattle.wk_body.specs.Bodies.{BodyOf}
 use Rattle.wk_body.specs.Lengths.{limited}
@@ -16,15 +16,24 @@ use Rattle.wk_session.specs.declared.kept.Kept.{Kept}
 use Rattle.wk_session.specs.Edits.{from_bytes}
 use Rattle.wk_session.specs.Kept.{uses_of, standing}
 use Rattle.wk_session.specs.Overlays.{with_items}
-use Rattle.wk_session.specs.Pieces.{codes_size, section_pieces}
+use Rattle.wk_session.specs.Pieces.{ArePieces, codes_size, section_pieces}
 
 -- the body that the bytes of an edit spell, or the first fault in them
 abbrev pub body_spelled : Profile → List ℕ → Result BodyOf EditFault
 body_spelled profile code = from_bytes (whole_at (all_body_at profile) code)
 
--- n may stay, and this is to be kept of it in the place of what is kept, where a code entry with that type and body comes or changes, and so
--- many sections are made anew
-pub record IsPlanned (keep : Bool) (t : ℕ) (b : BodyOf) (n : Parts) (k : Kept) (made : ℕ) (p : Entry) : Type 0 where
+-- what is kept of m, but that the type of a function which comes to it stands behind those of the others already
+pub record IsKeptWithType (t : ℕ) (m : Parts) (k : Kept) : Type 0 where
+  pub verdict : k.verdict ≡ module_verdict m
+  pub len : limited (length (encoded m)) ≡ Some k.len
+  pub types : k.types.items ≡ map (λ f. f.ty) m.funcs ++ t ∷ []
+  pub verdicts : k.verdicts.items ≡ map (func_verdict (answers_of m)) m.funcs
+  pub refs : map (λ s. s.keys) k.refs.items ≡ map uses_of m.funcs
+  pub pieces : ArePieces m k.pieces
+
+-- n may stay, and this is to be kept of it, where a code entry with that type and body comes or changes: so many sections are made anew
+-- in the place of those that are kept
+pub record IsPlanned (keep : Bool) (t : ℕ) (b : BodyOf) (n : Parts) (sections_kept : List (List ℕ)) (sections_made : ℕ) (p : Entry) : Type 0 where
   pub stands : standing keep n ≡ Ok (settle n)
   pub formed : IsFormed n
   pub verdict : p.appraisal.verdict ≡ module_verdict n
@@ -34,6 +43,6 @@ pub record IsPlanned (keep : Bool) (t : ℕ) (b : BodyOf) (n : Parts) (k : Kept)
   pub code : p.code ≡ written_body b
   pub codes_len : p.codes_len ≡ codes_size n.funcs
   pub encoded : p.encoded ≡ 1
-  pub sections : with_items k.pieces.sections.items p.remade.sections.items ≡ section_pieces n
-  pub count : length p.remade.sections.items ≡ length k.pieces.sections.items
-  pub made : p.remade.made ≡ made
+  pub sections : with_items sections_kept p.remade.sections.items ≡ section_pieces n
+  pub count : length p.remade.sections.items ≡ length sections_kept
+  pub made : p.remade.made ≡ sections_made

@@ -99,7 +99,7 @@ fn planned_body(
     requires ty { Some ty ≡ option_map (λ f. f.ty) (slice_get parts.now.funcs entry) }
     requires valid { IsCode parts.now.profile body.now }
     requires fresh { meter.old ≡ 0 }
-    ensures ok { IfOk result (IsPlanned keep ty body.now (with_body entry body.now parts.now) kept.now 0) }
+    ensures ok { IfOk result (IsPlanned keep ty body.now (with_body entry body.now parts.now) kept.now.pieces.sections.items 0) }
     ensures err { IfErr result (λ f. f ≢ EditFault.Memory → standing keep (with_body entry body.now parts.now) ≡ Err f) }
     ensures typed { OnOk result (meter.new ≡ 1) }
 {

@@ -1,6 +1,6 @@
 //! What is kept of a code entry that an edit gives or replaces.
 
-ghost use Rattle.std.specs.Prelude.{◌≡◌, ◌≢◌, ◌<◌, ◌≤◌, [], ◌∷◌, ◌++◌, length, slice_set, IfOk, IfErr, Ok, Err};
+ghost use Rattle.std.specs.Prelude.{◌≡◌, ◌≢◌, ◌<◌, ◌≤◌, length, slice_set, IfOk, IfErr, Ok, Err};
 ghost use Rattle.wk_module.specs.Items.{IsCode};
 ghost use Rattle.wk_session.specs.Functions.{body_spelled};
 ghost use Rattle.wk_session.specs.Overlays.{with_items};
@@ -54,19 +54,6 @@ pub(super) fn spelled_body(
     let _ = body.groups();
     let _ = body.tokens();
     Ok(body)
-}
-
-/// A copy with one item more.
-pub(super) fn with_item<T: Copy>(
-    alloc: Global,
-    items: &Vec<T>,
-    item: T,
-) -> Result<Vec<T>, OutOfMemory>
-    ensures { IfOk result (λ v. v.items ≡ items.now.items ++ item ∷ []) }
-{
-    let mut copy = Vec::from_slice(alloc, items.as_slice())?;
-    copy.push(item)?;
-    Ok(copy)
 }
 
 /// A copy with another item at an index.

@@ -1,6 +1,6 @@
 //! A function more.
 
-ghost use Rattle.std.specs.Prelude.{◌≡◌, ◌≢◌, ◌+◌, [], ◌∷◌, ◌++◌, Err, IfOk, IfErr, OnOk, count_by, map};
+ghost use Rattle.std.specs.Prelude.{◌≡◌, ◌≢◌, ◌+◌, [], ◌∷◌, ◌++◌, if◌then◌else◌, Err, IfOk, IfErr, OnOk, OnErr, is_ok, count_by, map};
 ghost use Rattle.wk_module.specs.Changes.{with_func};
 ghost use Rattle.wk_module.specs.Items.{IsCode};
 ghost use Rattle.wk_module.specs.Shape.{IsShaped};
@@ -8,12 +8,12 @@ ghost use Rattle.wk_check.specs.SpacesLaws.{answers_of};
 ghost use Rattle.wk_check.specs.Verdict.{func_verdict};
 ghost use Rattle.wk_session.specs.declared.edit.Edit.{Edit};
 ghost use Rattle.wk_session.specs.Dependents.{is_retyped_in};
-ghost use Rattle.wk_session.specs.Functions.{IsPlanned};
+ghost use Rattle.wk_session.specs.Functions.{IsKeptWithType, IsPlanned};
 ghost use Rattle.wk_session.specs.Kept.{IsKept, Leads, standing};
 
 use crate::appraisal::appraise;
 use crate::edit::{EditFault, Reply, Work};
-use crate::edits::entry::{Entry, keep_entry, spelled_body, with_item};
+use crate::edits::entry::{Entry, keep_entry, spelled_body};
 use crate::judged::{judged, rejudged};
 use crate::kept::{Kept, func_uses};
 use crate::lengths::{len_after, plus_code};
@@ -26,25 +26,24 @@ use wk_module::{Body, Func, Lists, Parts};
 /// The id of the function section (5.5.2).
 const SECTION: u8 = 3;
 
-// The verdicts of all bodies where a function comes, whose type is the last of these types.
+// The verdicts of all bodies where a function comes whose type stands behind those of the others already.
 fn verdicts_with(
     alloc: Global,
     parts: &Parts,
     kept: &Kept,
-    types: &Vec<u32>,
     ty: u32,
     body: &Body,
     meter: &mut Meter,
 ) -> Result<Vec<BodyVerdict>, OutOfMemory>
     requires shaped { IsShaped parts.now }
-    requires kept { IsKept parts.now kept.now }
-    requires types { types.now.items ≡ kept.now.types.items ++ ty ∷ [] }
+    requires kept { IsKeptWithType ty parts.now kept.now }
     requires fresh { meter.old ≡ 0 }
     ensures verdicts { IfOk result (λ v. v.items ≡ map (func_verdict (answers_of (with_func ty body.now parts.now))) (with_func ty body.now parts.now).funcs) }
     ensures typed { OnOk result (meter.new ≡ 1 + count_by (is_retyped_in (answers_of parts.now) (answers_of (with_func ty body.now parts.now))) parts.now.funcs) }
 {
-    let old = Whole::of(alloc, Lists::of(parts, &kept.types))?;
-    let new = Whole::of(alloc, Lists::of(parts, types))?;
+    let before = &kept.types[..parts.funcs.len()];
+    let old = Whole::of(alloc, Lists::of(parts, before))?;
+    let new = Whole::of(alloc, Lists::of(parts, &kept.types))?;
     let mut verdicts = rejudged(
         alloc,
         &old,
@@ -59,43 +58,41 @@ fn verdicts_with(
     Ok(verdicts)
 }
 
-// What is to be kept of the module with a function more; or why it may not be.
+// What is to be kept of the module with a function more, whose type stands behind those of the others already; or why it may not be.
 fn planned_func(
     alloc: Global,
     keep: bool,
     parts: &Parts,
     kept: &Kept,
-    types: &Vec<u32>,
     ty: u32,
     body: &Body,
     meter: &mut Meter,
 ) -> Result<Entry, EditFault>
     requires shaped { IsShaped parts.now }
-    requires kept { IsKept parts.now kept.now }
-    requires types { types.now.items ≡ kept.now.types.items ++ ty ∷ [] }
+    requires kept { IsKeptWithType ty parts.now kept.now }
     requires valid { IsCode parts.now.profile body.now }
     requires fresh { meter.old ≡ 0 }
-    ensures ok { IfOk result (IsPlanned keep ty body.now (with_func ty body.now parts.now) kept.now 1) }
+    ensures ok { IfOk result (IsPlanned keep ty body.now (with_func ty body.now parts.now) kept.now.pieces.sections.items 1) }
     ensures err { IfErr result (λ f. f ≢ EditFault.Memory → standing keep (with_func ty body.now parts.now) ≡ Err f) }
     ensures typed { OnOk result (meter.new ≡ 1 + count_by (is_retyped_in (answers_of parts.now) (answers_of (with_func ty body.now parts.now))) parts.now.funcs) }
 {
-    let lists = Lists::of(parts, types);
+    let lists = Lists::of(parts, &kept.types);
+    let pieces = &kept.pieces;
     let remade = one_remade(alloc, &lists, SECTION)?;
     let mut encoded = 0;
     let code = encoded_body(alloc, body, None, &mut encoded)?;
-    let pieces = &kept.pieces;
     let Some(codes_len) = plus_code(Some(pieces.codes_len), &code) else {
         return Err(EditFault::TooLarge);
     };
     let len = len_after(
         &pieces.sections,
         &remade.sections,
-        types.len(),
+        kept.types.len(),
         codes_len,
         pieces.customs_len,
     );
     let uses = func_uses(alloc, ty, body)?;
-    let verdicts = verdicts_with(alloc, parts, kept, types, ty, body, meter)?;
+    let verdicts = verdicts_with(alloc, parts, kept, ty, body, meter)?;
     let appraisal = appraise(alloc, keep, &lists, &verdicts, len)?;
     Ok(Entry {
         uses,
@@ -106,6 +103,62 @@ fn planned_func(
         remade,
         appraisal,
     })
+}
+
+// Appends a function, whose type stands behind those of the others already, and says what is to be kept of the module with it; or leaves
+// the parts as they were.
+fn push_planned(
+    alloc: Global,
+    keep: bool,
+    parts: &mut Parts,
+    kept: &Kept,
+    meter: &mut Meter,
+    ty: u32,
+    body: Body,
+) -> Result<Entry, EditFault>
+    requires shaped { IsShaped parts.old }
+    requires kept { IsKeptWithType ty parts.old kept.now }
+    requires valid { IsCode parts.old.profile body }
+    requires fresh { meter.old ≡ 0 }
+    ensures ok { IfOk result (IsPlanned keep ty body (with_func ty body parts.old) kept.now.pieces.sections.items 1) }
+    ensures pushed { OnOk result (parts.new ≡ with_func ty body parts.old) }
+    ensures err { IfErr result (λ f. f ≢ EditFault.Memory → standing keep (with_func ty body parts.old) ≡ Err f) }
+    ensures same { OnErr result (parts.new ≡ parts.old) }
+    ensures typed { OnOk result (meter.new ≡ 1 + count_by (is_retyped_in (answers_of parts.old) (answers_of (with_func ty body parts.old))) parts.old.funcs) }
+{
+    let entry = planned_func(alloc, keep, parts, kept, ty, &body, meter)?;
+    parts.funcs.push(Func { ty, body })?;
+    Ok(entry)
+}
+
+// Appends a function, and its type to those that are kept, and says what else is to be kept of the module with it; or leaves all as it was.
+fn push_func(
+    alloc: Global,
+    keep: bool,
+    parts: &mut Parts,
+    kept: &mut Kept,
+    meter: &mut Meter,
+    ty: u32,
+    body: Body,
+) -> Result<Entry, EditFault>
+    requires shaped { IsShaped parts.old }
+    requires kept { IsKept parts.old kept.old }
+    requires valid { IsCode parts.old.profile body }
+    requires fresh { meter.old ≡ 0 }
+    ensures ok { IfOk result (IsPlanned keep ty body (with_func ty body parts.old) kept.old.pieces.sections.items 1) }
+    ensures pushed { OnOk result (parts.new ≡ with_func ty body parts.old) }
+    ensures err { IfErr result (λ f. f ≢ EditFault.Memory → standing keep (with_func ty body parts.old) ≡ Err f) }
+    ensures same { OnErr result (parts.new ≡ parts.old) }
+    ensures typed { OnOk result (meter.new ≡ 1 + count_by (is_retyped_in (answers_of parts.old) (answers_of (with_func ty body parts.old))) parts.old.funcs) }
+    ensures rest { kept.new ≡ record kept.old { types = kept.new.types } }
+    ensures types { kept.new.types.items ≡ (if is_ok result then kept.old.types.items ++ ty ∷ [] else kept.old.types.items) }
+{
+    kept.types.push(ty)?;
+    let pushed = push_planned(alloc, keep, parts, kept, meter, ty, body);
+    if pushed.is_err() {
+        let _ = kept.types.pop();
+    }
+    pushed
 }
 
 /// Appends a function.
@@ -124,13 +177,10 @@ pub(crate) fn add_func(
     ensures { Leads keep (Edit.Func ty code.now) parts.old result parts.new kept.new }
 {
     let body = spelled_body(alloc, parts.profile, code)?;
-    let types = with_item(alloc, &kept.types, ty)?;
-    let entry = planned_func(alloc, keep, parts, kept, &types, ty, &body, meter)?;
     kept.refs.reserve(1)?;
     kept.pieces.codes.reserve(1)?;
-    parts.funcs.push(Func { ty, body })?;
+    let entry = push_func(alloc, keep, parts, kept, meter, ty, body)?;
     let (uses, code, encoded, sections) = keep_entry(kept, entry);
-    kept.types = types;
     kept.refs.push_reserved(uses);
     kept.pieces.codes.push_reserved(code);
     Ok(Work {
