@@ -1,5 +1,5 @@
 -- What an import moves of code entries.
-use Rattle.std.proofs.Common.{◌≡◌, ℕ, ◌+◌, ◌<◌, Bool, cond, ◌||◌, List, [], ◌∷◌, ◌++◌, length, map, take, get_or, count_by, Option, unwrap_or, is_some, Global, refl, ap, sym, subst, ◌∙◌, arith, length-append}
+use Rattle.std.proofs.Common.{◌≡◌, ℕ, ◌+◌, ◌<◌, Bool, true, false, cond, ◌||◌, List, [], ◌∷◌, ◌++◌, length, map, take, get_or, count_by, Option, unwrap_or, Global, refl, ap, sym, subst, ◌∙◌, arith, length-append}
 use Rattle.std.specs.Prelude.{option_map}
 use Rattle.std.specs.declared.collections.BTreeSet.{BTreeSet}
 use Rattle.std.specs.List.{list_any}
@@ -17,10 +17,11 @@ use Rattle.wk_module.specs.Moving.{moved_func, is_code_moving, is_code_stuck}
 use Rattle.wk_list.specs.UsesLaws.{in_order_same}
 use Rattle.wk_session.specs.declared.edits.moved.MovedEntry.{MovedEntry}
 use Rattle.wk_session.specs.declared.edits.moved.MovedEntries.{MovedEntries}
-use Rattle.wk_session.specs.Dependents.{held}
-use Rattle.wk_session.specs.Kept.{uses_of, code_size}
+use Rattle.wk_session.specs.Dependents.{held, one_if}
+use Rattle.wk_session.specs.Kept.{uses_of}
 use Rattle.wk_session.specs.MovedEntries.{uses_movement, IsMovedEntry, AreMovedEntries}
 use Rattle.wk_session.specs.Overlays.{with_items}
+use Rattle.wk_session.specs.Pieces.{code_of}
 use Rattle.wk_session.proofs.Replacing.{with_items_push}
 
 -- ---- sets
@@ -52,10 +53,14 @@ module _ {A B C : Type 0} (f : A → C) (g : B → C) (p : C → Bool) (q : B �
 abbrev set_keys : BTreeSet Ref Global → List Ref
 set_keys s = s.keys
 
-count_push : {A : Type 0} (p : A → Bool) (xs : List A) (x : A) → count_by p (xs ++ x ∷ []) ≡ count_by p xs + cond (p x) 1 0
+one_cond : (b : Bool) → one_if b ≡ cond {A = ℕ} b 1 0
+one_cond true = refl
+one_cond false = refl
+
+count_push : {A : Type 0} (p : A → Bool) (xs : List A) (x : A) → count_by p (xs ++ x ∷ []) ≡ count_by p xs + one_if (p x)
 count_push p xs x =
-    let one : count_by p (x ∷ []) ≡ cond (p x) 1 0 = omega arith in
-    sum_by-append (λ y. cond (p y) 1 0) xs (x ∷ []) ∙ ap (λ (n : ℕ). count_by p xs + n) one
+    let one : count_by p (x ∷ []) ≡ cond {A = ℕ} (p x) 1 0 = omega arith in
+    sum_by-append (λ y. cond (p y) 1 0) xs (x ∷ []) ∙ ap (λ (n : ℕ). count_by p xs + n) (one ∙ sym (one_cond (p x)))
 
 module _ {A B : Type 0} (part : A → B) (change : A → A) where
   -- part is what is kept of each, and change what becomes of it
@@ -70,40 +75,37 @@ module _ {A B : Type 0} (part : A → B) (change : A → A) where
       ∙ sym (map_push part (map change xs) (change x))
       ∙ ap (map part) (sym (map_push change xs x))
 
-entries_push : (kind : Kind) (from : ℕ) (xs : List Func) (f : Func) (e n : MovedEntries) (m : MovedEntry)
-    → n.funcs.items ≡ e.funcs.items ++ m.func ∷ [] → n.refs.items ≡ e.refs.items ++ m.refs ∷ [] → n.code_sizes.items ≡ e.code_sizes.items ++ m.code_size ∷ []
-    → IsMovedEntry kind from f m → AreMovedEntries kind from xs e → AreMovedEntries kind from (xs ++ f ∷ []) n
-entries_push kind from xs f e n m funcs refs sizes is all = record {
-  funcs =
-      ap (with_items (xs ++ f ∷ [])) funcs
-      ∙ with_items_push xs e.funcs.items f m.func all.func_count
-      ∙ ap (λ (g : Func). with_items xs e.funcs.items ++ g ∷ []) is.func
-      ∙ ap (λ (gs : List Func). gs ++ moved_func kind from f ∷ []) all.funcs
-      ∙ sym (map_push (moved_func kind from) xs f);
-  refs =
-      ap (λ (sets : List (Option (BTreeSet Ref Global))). with_items (map uses_of (xs ++ f ∷ [])) (map (option_map set_keys) sets)) refs
-      ∙ ap (with_items (map uses_of (xs ++ f ∷ []))) (map_push (option_map set_keys) e.refs.items m.refs)
-      ∙ part_push uses_of (moved_func kind from) xs f (map (option_map set_keys) e.refs.items) (option_map set_keys m.refs) (length-map e.refs.items (option_map set_keys) ∙ all.ref_count) is.refs all.refs;
-  code_sizes =
-      sizes
-      ∙ ap (λ (n : ℕ). e.code_sizes.items ++ n ∷ []) is.code_size
-      ∙ ap (λ (ns : List ℕ). ns ++ code_size (moved_func kind from f) ∷ []) all.code_sizes
-      ∙ sym (map_push code_size (map (moved_func kind from) xs) (moved_func kind from f))
-      ∙ ap (map code_size) (sym (map_push (moved_func kind from) xs f));
-  moves =
-      let test = λ (g : Func). is_code_moving kind from g.body.instrs in
-      ap (count_by is_some) funcs
-      ∙ count_push is_some e.funcs.items m.func
-      ∙ ap (λ (b : Bool). count_by is_some e.funcs.items + cond b 1 0) is.moves
-      ∙ ap (λ (k : ℕ). k + cond (test f) 1 0) all.moves
-      ∙ sym (count_push test xs f);
-  func_count = omega (arith, all.func_count, ap length funcs, length-append e.funcs.items (m.func ∷ []), length-append xs (f ∷ []));
-  ref_count = omega (arith, all.ref_count, ap length refs, length-append e.refs.items (m.refs ∷ []), length-append xs (f ∷ []));
-}
+module _ (kind : Kind) (from : ℕ) where
+  abbrev shifted : Func → Func
+  shifted f = moved_func kind from f
 
-pub entries_more : (kind : Kind) (from : ℕ) (fs : List Func) (i : ℕ) (f : Func) (e n : MovedEntries) (m : MovedEntry) → i < length fs → f ≡ get_or fs i f
-    → n.funcs.items ≡ e.funcs.items ++ m.func ∷ [] → n.refs.items ≡ e.refs.items ++ m.refs ∷ [] → n.code_sizes.items ≡ e.code_sizes.items ++ m.code_size ∷ []
-    → IsMovedEntry kind from f m → AreMovedEntries kind from (take i fs) e → AreMovedEntries kind from (take (i + 1) fs) n
-entries_more kind from fs i f e n m within at funcs refs sizes is all =
-    let more : take (i + 1) fs ≡ take i fs ++ f ∷ [] = take_more fs i f within ∙ ap (λ (y : Func). take i fs ++ y ∷ []) (sym at) in
-    subst (λ (xs : List Func). AreMovedEntries kind from xs n) (sym more) (entries_push kind from (take i fs) f e n m funcs refs sizes is all)
+  abbrev is_moving : Func → Bool
+  is_moving f = is_code_moving kind from f.body.instrs
+
+  entries_push : (xs : List Func) (f : Func) (e n : MovedEntries) (m : MovedEntry)
+      → n.funcs.items ≡ e.funcs.items ++ m.func ∷ [] → n.refs.items ≡ e.refs.items ++ m.refs ∷ [] → n.codes.items ≡ e.codes.items ++ m.code ∷ []
+      → n.encoded ≡ e.encoded + one_if (is_moving f) → IsMovedEntry kind from f m → AreMovedEntries kind from xs e → AreMovedEntries kind from (xs ++ f ∷ []) n
+  entries_push xs f e n m funcs refs codes encoded is all = record {
+    funcs =
+        ap (with_items (xs ++ f ∷ [])) funcs
+        ∙ with_items_push xs e.funcs.items f m.func all.func_count
+        ∙ ap (λ (g : Func). with_items xs e.funcs.items ++ g ∷ []) is.func
+        ∙ ap (λ (gs : List Func). gs ++ shifted f ∷ []) all.funcs
+        ∙ sym (map_push shifted xs f);
+    refs =
+        ap (λ (sets : List (Option (BTreeSet Ref Global))). with_items (map uses_of (xs ++ f ∷ [])) (map (option_map set_keys) sets)) refs
+        ∙ ap (with_items (map uses_of (xs ++ f ∷ []))) (map_push (option_map set_keys) e.refs.items m.refs)
+        ∙ part_push uses_of shifted xs f (map (option_map set_keys) e.refs.items) (option_map set_keys m.refs) (length-map e.refs.items (option_map set_keys) ∙ all.ref_count) is.refs all.refs;
+    codes = ap (with_items (map code_of (xs ++ f ∷ []))) codes ∙ part_push code_of shifted xs f e.codes.items m.code all.code_count is.code all.codes;
+    encoded = encoded ∙ ap (λ (k : ℕ). k + one_if (is_moving f)) all.encoded ∙ sym (count_push is_moving xs f);
+    func_count = omega (arith, all.func_count, ap length funcs, length-append e.funcs.items (m.func ∷ []), length-append xs (f ∷ []));
+    ref_count = omega (arith, all.ref_count, ap length refs, length-append e.refs.items (m.refs ∷ []), length-append xs (f ∷ []));
+    code_count = omega (arith, all.code_count, ap length codes, length-append e.codes.items (m.code ∷ []), length-append xs (f ∷ []));
+  }
+
+  pub entries_more : (fs : List Func) (i : ℕ) (f : Func) (e n : MovedEntries) (m : MovedEntry) → i < length fs → f ≡ get_or fs i f
+      → n.funcs.items ≡ e.funcs.items ++ m.func ∷ [] → n.refs.items ≡ e.refs.items ++ m.refs ∷ [] → n.codes.items ≡ e.codes.items ++ m.code ∷ []
+      → n.encoded ≡ e.encoded + one_if (is_moving f) → IsMovedEntry kind from f m → AreMovedEntries kind from (take i fs) e → AreMovedEntries kind from (take (i + 1) fs) n
+  entries_more fs i f e n m within at funcs refs codes encoded is all =
+      let more : take (i + 1) fs ≡ take i fs ++ f ∷ [] = take_more fs i f within ∙ ap (λ (y : Func). take i fs ++ y ∷ []) (sym at) in
+      subst (λ (xs : List Func). AreMovedEntries kind from xs n) (sym more) (entries_push (take i fs) f e n m funcs refs codes encoded is all)
