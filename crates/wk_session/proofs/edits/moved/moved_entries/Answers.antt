@@ -1,4 +1,4 @@
-use Rattle.std.proofs.Common.{◌<◌, ap, arith, length}
+use Rattle.std.proofs.Common.{◌<◌, ap, arith, length, ◌∙◌}
 use Rattle.wk_session.specs.Kept.{uses_of}
 use Rattle.wk_session.proofs.Judging.{told_at}
 use Rattle.wk_session.proofs.MovedCode.{entries_more}
