@@ -28,3 +28,4 @@ pub mod Piecing
 pub mod Putting
 pub mod Exporting
 pub mod Shaping
+pub mod Remade

@@ -74,12 +74,12 @@ pub record IsRemadeAfter (l : SectionLists) (moved : MovedLists) (r : NewSection
 
 -- the module may stay, and what is to be kept of it, for which so many sections were made anew; where no verdicts stand, those that are
 -- kept stay
-pub record IsJudgement (keep : Bool) (n : Parts) (k : Kept) (made : ℕ) (j : Judgement) : Type 0 where
+pub record IsJudgement (keep : Bool) (n : Parts) (k : Kept) (anew : ℕ) (j : Judgement) : Type 0 where
   pub stands : standing keep n ≡ Ok (settle n)
   pub verdict : j.appraisal.verdict ≡ module_verdict n
   pub len : limited (length (encoded n)) ≡ Some j.appraisal.len
   pub verdicts : (unwrap_or j.verdicts k.verdicts).items ≡ map (func_verdict (answers_of n)) n.funcs
   pub sections : with_items k.pieces.sections.items j.remade.sections.items ≡ section_pieces n
   pub count : length j.remade.sections.items ≡ length k.pieces.sections.items
-  pub made : j.remade.made ≡ made
+  pub made : j.remade.made ≡ anew
   pub codes_len : j.codes_len ≡ codes_size n.funcs

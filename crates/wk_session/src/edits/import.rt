@@ -20,7 +20,7 @@ ghost use Rattle.wk_session.specs.Edits.{import_place};
 ghost use Rattle.wk_session.specs.Imported.{IsRemadeAfter, after_import, before_import, IsImportPlan, IsUnplanned, IsReady, IsJudgement};
 ghost use Rattle.wk_session.specs.Kept.{IsKept, Leads, standing};
 ghost use Rattle.wk_session.specs.Overlays.{with_items};
-ghost use Rattle.wk_session.specs.Pieces.{IsOverlong, IsUnwritten};
+ghost use Rattle.wk_session.specs.Pieces.{IsUnwritten};
 
 use crate::appraisal::{Appraisal, appraise};
 use crate::edit::{EditFault, Reply, Work};
@@ -228,7 +228,7 @@ fn remake_where(
     requires all { length news.old.sections.items ≡ 12 }
     ensures sections { OnOk result (news.new.sections.items ≡ if is_moved then set news.old.sections.items id (Some (contents_by (listed lists.now) (of_number id))) else news.old.sections.items) }
     ensures made { OnOk result (news.new.made ≡ news.old.made + one_if is_moved) }
-    ensures err { IfErr result (IsOverlong (contents_by (listed lists.now) (of_number id))) }
+    ensures err { IfErr result (IsUnwritten (listed lists.now)) }
 {
     if is_moved {
         let contents = remade(alloc, lists, id, &mut news.made)?;
