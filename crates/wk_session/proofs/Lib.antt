@@ -29,3 +29,4 @@ pub mod Putting
 pub mod Exporting
 pub mod Shaping
 pub mod Remade
+pub mod Measured

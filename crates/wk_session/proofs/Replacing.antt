@@ -59,3 +59,9 @@ with_items_old [] ns i n y within there is none old = absurd (omega arith)
 with_items_old (x ∷ xs) [] i n y within there is none old = absurd (omega arith)
 with_items_old (x ∷ xs) (m ∷ ns) zero n y within there is none old = ap (λ k. Some (unwrap_or k x)) (sym is ∙ none) ∙ ap Some (sym old)
 with_items_old (x ∷ xs) (m ∷ ns) (suc i) n y within there is none old = with_items_old xs ns i n y (omega arith) (omega arith) is none old
+
+pub with_items_at : {A : Type 0} (xs : List A) (ns : List (Option A)) (i : ℕ) (x : A) (n : Option A) (d : A) → i < length xs → i < length ns → x ≡ slice_index_or xs i x → n ≡ slice_index_or ns i n → slice_index_or (with_items xs ns) i d ≡ unwrap_or n x
+with_items_at [] ns i x n d within there old new = absurd (omega arith)
+with_items_at (y ∷ xs) [] i x n d within there old new = absurd (omega arith)
+with_items_at (y ∷ xs) (m ∷ ns) zero x n d within there old new = ap (λ k. unwrap_or k y) (sym new) ∙ ap (unwrap_or n) (sym old)
+with_items_at (y ∷ xs) (m ∷ ns) (suc i) x n d within there old new = with_items_at xs ns i x n d (omega arith) (omega arith) old new
