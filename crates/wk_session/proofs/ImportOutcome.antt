@@ -27,9 +27,10 @@ use Rattle.wk_session.specs.declared.edit.Work.{Work}
 use Rattle.wk_session.specs.declared.edits.import.ImportPlan.{ImportPlan}
 use Rattle.wk_session.specs.Edits.{import_place, made, lasting}
 use Rattle.wk_session.specs.Imported.{after_import, IsImportPlan, IsUnplanned}
-use Rattle.wk_session.specs.Kept.{uses_of, code_size, standing}
+use Rattle.wk_session.specs.Kept.{uses_of, standing}
 use Rattle.wk_session.specs.MovedEntries.{is_too_long}
 use Rattle.wk_session.specs.Overlays.{with_items}
+use Rattle.wk_session.specs.Pieces.{code_of}
 use Rattle.wk_session.proofs.ImportEdits.{AreLaid, made_free, made_stuck}
 use Rattle.wk_session.proofs.Replacing.{map-with_items}
 
@@ -58,19 +59,23 @@ passing {A = A} p (x ∷ xs) some =
           record { place = suc found.place; item = found.item; within = omega (arith, found.within); at = found.at; passes = found.passes }
     ]
 
--- a module in which one code is too long is too large
-too_large : (keep : Bool) (n : Parts) → IsInOrderFrom 0 n.customs → list_any (λ (f : Func). nat_lt limit (code_size f)) n.funcs ≡ true → standing keep n ≡ Err TooLarge
+-- the code of a function is longer than a module may be
+abbrev is_long : Func → Bool
+is_long f = nat_lt limit (length (code_of f))
+
+-- a module in which one is is too large
+too_large : (keep : Bool) (n : Parts) → IsInOrderFrom 0 n.customs → list_any is_long n.funcs ≡ true → standing keep n ≡ Err TooLarge
 too_large keep n order some =
-    let long = passing (λ (f : Func). nat_lt limit (code_size f)) n.funcs some in
+    let long = passing is_long n.funcs some in
     let body = written_body long.item.body in
     let past : limit < length (encoded (settle n)) =
-    omega (arith, ltb-true limit (code_size long.item) long.passes, code_within n long.place long.item long.within long.at, length-append (short (length body)) body, length-encoded_settle n order) in
+    omega (arith, ltb-true limit (length body) long.passes, code_within n long.place long.item long.within long.at, length-append (short (length body)) body, length-encoded_settle n order) in
     ap (λ (b : Bool). (if b then Ok (settle n) else Err TooLarge) >>= lasting keep) (lt-leb (length (encoded (settle n))) limit past)
 
 pub too_long : (keep : Bool) (i : Import) (m : Parts) → IsFormed m → list_any (is_too_long (desc_kind i.desc) (import_place i m)) m.funcs ≡ true → standing keep (after_import i m) ≡ Err TooLarge
 too_long keep i m formed some =
     let change = moved_func (desc_kind i.desc) (import_place i m) in
-    too_large keep (after_import i m) formed.order (any_mapped (λ (f : Func). nat_lt limit (code_size f)) change m.funcs ∙ some)
+    too_large keep (after_import i m) formed.order (any_mapped is_long change m.funcs ∙ some)
 
 pub unplanned : (keep : Bool) (i : Import) (m : Parts) (kind : Kind) (from : ℕ) (e : EditFault) → kind ≡ desc_kind i.desc → from ≡ import_place i m → IsFormed m → IsUnplanned kind from m e → e ≢ Memory
     → made keep (edits.Import i) m ≡ Err e

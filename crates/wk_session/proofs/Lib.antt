@@ -30,3 +30,4 @@ pub mod Exporting
 pub mod Shaping
 pub mod Remade
 pub mod Measured
+pub mod ImportPieces

@@ -59,16 +59,20 @@ pub record IsReady (i : Import) (m p : Parts) (k : Kept) (all : ImportPlan) : Ty
 abbrev pub new_where : Bool → List ℕ → Option (List ℕ)
 new_where moved contents = if moved then Some contents else None
 
--- the import section is made anew, and each that has moved
+-- the contents of the import section, and of each that has moved
+abbrev pub news_after : SectionLists → MovedLists → List (Option (List ℕ))
+news_after l moved =
+    None ∷ None ∷ Some (contents_by l (of_number 2)) ∷ None ∷ None ∷ None
+    ∷ new_where (is_some moved.globals) (contents_by l (of_number 6))
+    ∷ new_where (is_some moved.exports) (contents_by l (of_number 7))
+    ∷ new_where (is_some moved.start) (contents_by l (of_number 8))
+    ∷ new_where (is_some moved.elems) (contents_by l (of_number 9))
+    ∷ None
+    ∷ new_where (is_some moved.datas) (contents_by l (of_number 11)) ∷ []
+
+-- these are made anew
 pub record IsRemadeAfter (l : SectionLists) (moved : MovedLists) (r : NewSections) : Type 0 where
-  pub sections : r.sections.items
-      ≡ None ∷ None ∷ Some (contents_by l (of_number 2)) ∷ None ∷ None ∷ None
-      ∷ new_where (is_some moved.globals) (contents_by l (of_number 6))
-      ∷ new_where (is_some moved.exports) (contents_by l (of_number 7))
-      ∷ new_where (is_some moved.start) (contents_by l (of_number 8))
-      ∷ new_where (is_some moved.elems) (contents_by l (of_number 9))
-      ∷ None
-      ∷ new_where (is_some moved.datas) (contents_by l (of_number 11)) ∷ []
+  pub sections : r.sections.items ≡ news_after l moved
   pub made : r.made
       ≡ 1 + (one_if (is_some moved.globals) + one_if (is_some moved.exports) + one_if (is_some moved.start) + one_if (is_some moved.elems) + one_if (is_some moved.datas))
 
