@@ -1,4 +1,5 @@
-use Rattle.std.proofs.Common.{◌≡◌, ℕ, ◌+◌, ap, sym, subst, ◌∙◌, refl, arith, List, length, is_some, Some, Ok}
+use Rattle.std.proofs.Common.{◌≡◌, ℕ, ◌+◌, ap, sym, subst, ◌∙◌, refl, arith, List, length, Some, Ok}
+use Rattle.std.proofs.lemmas.List.{length-map}
 use Rattle.std.proofs.lemmas.List.Sums.{count_by-le-length}
 use Rattle.std.proofs.lemmas.Result.{err_from_is_err_and}
 use Rattle.wk_module.specs.declared.types.Import.{Import}
@@ -15,7 +16,8 @@ use Rattle.wk_session.specs.declared.edit.Work.{Work}
 use Rattle.wk_session.specs.Dependents.{is_retyped, work_of}
 use Rattle.wk_session.specs.Edits.{import_place, made}
 use Rattle.wk_session.specs.Imported.{after_import, IsImportPlan}
-use Rattle.wk_session.specs.Kept.{IsKept}
+use Rattle.wk_session.specs.Kept.{IsKept, uses_of}
+use Rattle.wk_session.specs.Overlays.{with_items}
 use Rattle.wk_session.proofs.ImportEdits.{made_free}
 use Rattle.wk_session.proofs.ImportOutcome.{unplanned, laid_parts, laid_refs, same_work}
 use Rattle.wk_session.proofs.edits.import.add_import.Goals as goal
@@ -43,6 +45,9 @@ returns-in_err-plan c =
       c.requires.kept,
     )
 
+pub plan_import-requires-clause-few : goal.plan_import-requires-clause-few
+plan_import-requires-clause-few c = funcs_numbered c.args.parts.now c.requires.shaped.formed
+
 planned : (c : In_ok-plan) → c.import_count-from.result ≡ import_place c.args.import.now c.args.parts.now → IsImportPlan (desc_kind c.args.import.now.desc) (import_place c.args.import.now c.args.parts.now) c.args.parts.now c.in_ok-plan.plan
 planned c at =
     let m = c.args.parts.now in
@@ -57,10 +62,12 @@ overflow_cast-work c =
     let i = c.args.import.now in
     omega (arith, c.typed.ensures, c.in_ok-judgement.ensures.typed, count_by-le-length (is_retyped (edits.Import i) m (after_import i m)) m.funcs, funcs_numbered m c.requires.shaped.formed)
 
-pub overflow_cast-work-2 : goal.overflow_cast-work-2
-overflow_cast-work-2 c =
+pub put_import-requires-clause-refs : goal.put_import-requires-clause-refs
+put_import-requires-clause-refs c =
     let m = c.args.parts.now in
-    omega (arith, c.moved_count.ensures, count_by-le-length is_some c.in_ok-plan.plan.entries.funcs.items, c.in_ok-plan.ensures.entries.func_count, funcs_numbered m c.requires.shaped.formed)
+    let sets = c.args.kept.now.refs.items in
+    let same = sym (length-map sets (λ s. s.keys)) ∙ ap length c.requires.kept.refs ∙ length-map m.funcs uses_of in
+    omega (arith, same, c.in_ok-plan.ensures.entries.ref_count)
 
 kept_now : (c : After-put_import) → IsImportPlan (desc_kind c.args.import.now.desc) (import_place c.args.import.now c.args.parts.now) c.args.parts.now c.in_ok-plan.plan
     → IsKept (after_import c.args.import.now c.args.parts.now) c.put_import.new.kept
@@ -76,18 +83,24 @@ kept_now c plan =
       types = ap (λ v. v.items) put.types ∙ was.types ∙ sym (types_stay (desc_kind i.desc) (import_place i m) m.funcs);
       verdicts = ap (λ v. v.items) put.verdicts ∙ judged.verdicts;
       refs = laid_refs i m c.in_ok-plan.plan c.args.kept.now.refs.items c.put_import.new.kept.refs.items was.refs plan put.refs;
-      code_sizes = ap (λ v. v.items) put.code_sizes ∙ plan.entries.code_sizes;
+      pieces = record {
+        sections = put.sections ∙ judged.sections;
+        codes = put.codes ∙ ap (λ (codes : List (List ℕ)). with_items codes c.in_ok-plan.plan.entries.codes.items) was.pieces.codes ∙ plan.entries.codes;
+        codes_len = put.codes_len ∙ judged.codes_len;
+        customs_len = put.customs_len ∙ was.pieces.customs_len;
+      };
     }
 
 work_now : (c : After-put_import) → IsImportPlan (desc_kind c.args.import.now.desc) (import_place c.args.import.now c.args.parts.now) c.args.parts.now c.in_ok-plan.plan
-    → ◌≡◌ {A = Work} (record { typed = c.typed.result; encoded = c.moved_count.result; sections = 1 + c.moved_sections.result }) (work_of (edits.Import c.args.import.now) c.args.parts.now (settle (after_import c.args.import.now c.args.parts.now)))
+    → ◌≡◌ {A = Work} (record { typed = c.typed.result; encoded = c.in_ok-plan.plan.entries.encoded; sections = c.in_ok-judgement.judgement.remade.made })
+    (work_of (edits.Import c.args.import.now) c.args.parts.now (settle (after_import c.args.import.now c.args.parts.now)))
 work_now c plan =
     let i = c.args.import.now in
     let m = c.args.parts.now in
-    same_work c.typed.result c.moved_count.result (1 + c.moved_sections.result) (work_of (edits.Import i) m (settle (after_import i m)))
+    same_work c.typed.result c.in_ok-plan.plan.entries.encoded c.in_ok-judgement.judgement.remade.made (work_of (edits.Import i) m (settle (after_import i m)))
     (omega (arith, c.typed.ensures, c.in_ok-judgement.ensures.typed))
-    (omega (arith, c.moved_count.ensures, plan.entries.moves))
-    (ap (λ (n : ℕ). 1 + n) (c.moved_sections.ensures.value (desc_kind i.desc) (import_place i m) m plan.lists))
+    (omega (arith, plan.entries.encoded))
+    c.in_ok-judgement.ensures.judgement.made
 
 pub returns : goal.returns
 returns c =
@@ -96,7 +109,7 @@ returns c =
     let plan = planned (goal.at.returns c).In_ok-plan (place (goal.at.returns c).After-import_count-from) in
     let judged = c.in_ok-judgement.ensures in
     let is = c.put_import.ensures.parts ∙ laid_parts c.moving_of_module.ensures.lists i m c.push_judged.new.parts c.in_ok-plan.plan judged.ok plan in
-    subst (λ (q : Parts). (made c.args.keep (edits.Import i) m ≡ Ok (settle q)) × (◌≡◌ {A = Work} (record { typed = c.typed.result; encoded = c.moved_count.result; sections = 1 + c.moved_sections.result }) (work_of (edits.Import i) m (settle q))) × IsFormed q × IsKept q c.put_import.new.kept)
+    subst (λ (q : Parts). (made c.args.keep (edits.Import i) m ≡ Ok (settle q)) × (◌≡◌ {A = Work} (record { typed = c.typed.result; encoded = c.in_ok-plan.plan.entries.encoded; sections = c.in_ok-judgement.judgement.remade.made }) (work_of (edits.Import i) m (settle q))) × IsFormed q × IsKept q c.put_import.new.kept)
     (sym is) (
       made_free c.args.keep i m plan.free ∙ judged.judgement.stands,
       work_now (goal.at.returns c).After-put_import plan,
