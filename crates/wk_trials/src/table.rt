@@ -96,7 +96,7 @@ static SESSIONS: [Named; 25] = [
     ("session-code-to-full", ListSession(Part::Code, Full)),
     ("session-uses", ListSession(Part::Uses, Ample)),
     ("session-uses-to-full", ListSession(Part::Uses, Full)),
-    ("write", Scenario::Write(Ample)),
+    ("write-in-room", Scenario::Write(Ample)),
     ("write-to-full", Scenario::Write(Full)),
     ("apply-type", Apply(changes::TYPE)),
     ("apply-type-to-code", Apply(changes::TYPE_TO_CODE)),
