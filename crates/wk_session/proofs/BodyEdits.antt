@@ -1,20 +1,21 @@
 -- Another body for a function: what references find stays, and so do the verdicts of the others.
-use Rattle.std.proofs.Common.{◌≡◌, ℕ, zero, suc, ◌+◌, ◌<◌, Bool, Option, Some, None, List, [], ◌∷◌, length, map, get_or, count_by, Result, Ok, Err, refl, sym, ap, subst, ◌∙◌, arith}
+use Rattle.std.proofs.Common.{◌≡◌, ◌≢◌, ℕ, zero, suc, ◌+◌, ◌<◌, ◌≤◌, Bool, Option, Some, List, [], ◌∷◌, length, map, set, get_or, count_by, Result, Ok, Err, refl, sym, ap, ◌∙◌, arith}
 use Rattle.std.specs.Prelude.{slice_get, slice_set, option_map}
 use Rattle.std.proofs.lemmas.List.{map-set, length-set, get_or-set_same}
+use Rattle.std.proofs.lemmas.List.Sums.{get_or-le-sum_by, sum_by-set}
 use Rattle.wk_bytes.specs.Leb.{◌>>=◌}
+use Rattle.wk_body.specs.declared.fault.EncodeFault.{EncodeFault}
 use Rattle.wk_body.specs.Bodies.{BodyOf}
-use Rattle.wk_body.specs.Lengths.{limited}
 use Rattle.wk_body.specs.Written.{written_body}
 use Rattle.wk_body.specs.declared.references.Ref.{Ref}
-use Rattle.wk_module.specs.declared.lists.Lists.{Lists}
 use Rattle.wk_module.specs.declared.types.Func.{Func}
 use Rattle.wk_module.specs.declared.types.Parts.{Parts}
 use Rattle.wk_module.specs.Changes.{with_body}
 use Rattle.wk_module.specs.ChangeLaws.{funcs_given, types_given}
-use Rattle.wk_module.specs.Listed.{listed, listed_with}
+use Rattle.wk_module.specs.Listed.{listed_with}
 use Rattle.wk_module.specs.Sections.{SectionLists}
-use Rattle.wk_module.specs.Shape.{IsFormed, settle}
+use Rattle.wk_module.specs.Shape.{IsInOrderFrom, settle}
+use Rattle.wk_module.specs.Sizes.{entry_size}
 use Rattle.wk_check.specs.declared.fault.BodyVerdict.{BodyVerdict}
 use Rattle.wk_check.specs.Answers.{Found}
 use Rattle.wk_check.specs.Carried.{Agree}
@@ -23,15 +24,22 @@ use Rattle.wk_check.specs.SpacesLaws.{answers_of}
 use Rattle.wk_check.specs.Verdict.{func_verdict}
 use Rattle.wk_session.specs.declared.edit.Edit.TheVariants as edits
 use Rattle.wk_session.specs.declared.edit.EditFault.{EditFault}
-use Rattle.wk_session.specs.declared.edit.EditFault.TheVariants.{TooLarge}
+use Rattle.wk_session.specs.declared.edit.EditFault.TheVariants.{Memory}
+use Rattle.wk_session.specs.declared.edit.Work.{Work}
 use Rattle.wk_session.specs.declared.edits.entry.Entry.{Entry}
 use Rattle.wk_session.specs.declared.kept.Kept.{Kept}
 use Rattle.wk_session.specs.Dependents.{held, all_but, is_retyped_in, work_of}
 use Rattle.wk_session.specs.Edits.{entry_of, fitting, lasting, made, body_put}
 use Rattle.wk_session.specs.Functions.{IsPlanned, body_spelled}
-use Rattle.wk_session.specs.Kept.{IsKept, IsPending, Leads, code_size, uses_of, standing}
+use Rattle.wk_session.specs.Kept.{IsKept, Leads, uses_of, standing}
+use Rattle.wk_session.specs.Overlays.{with_items}
+use Rattle.wk_session.specs.Pieces.{IsOverlong, code_of, codes_size, contents_of, entries_size, no_news, section_pieces}
+use Rattle.wk_session.specs.Refusals.{encode_refusal}
+use Rattle.wk_session.proofs.EntryEdits.{lent, lent_is, answers_in, answers_lent, none_of, unencoded}
 use Rattle.wk_session.proofs.Judging.{agree_none}
-use Rattle.wk_session.proofs.EntryEdits.{lent, lent_is, answers_in, answers_lent, limited_is, entry_too_large, none_of}
+use Rattle.wk_session.proofs.Leading.{accepted}
+use Rattle.wk_session.proofs.Piecing.{entries_codes}
+use Rattle.wk_session.proofs.Works.{work_is}
 
 -- ---- one item of a list
 
@@ -76,25 +84,37 @@ verdicts_given entry b m t w old new v is has told same set_there =
     told_given (func_verdict (answers_of m)) entry b m.funcs t old new v has set_there told (same ∙ ap (λ (A : Ref → Found). func_verdict A (record { ty = t; body = b })) (answers_lent m w is))
     ∙ ap (λ (A : Ref → Found). map (func_verdict A) (with_body entry b m).funcs) (sym (answers_stay entry b m))
 
--- ---- what is pending
+-- ---- sections and codes
 
-module _ (entry : ℕ) (b : BodyOf) (m : Parts) (t : ℕ) (k : Kept) (l : Lists) (vs : List BodyVerdict) (sizes : List ℕ) (size : ℕ) where
-  pub body_pending : HasType m.funcs entry t → IsKept m k → IsFormed (with_body entry b m) → l.profile ≡ m.profile → listed l ≡ listed_with k.types.items m
-      → vs ≡ map (func_verdict (answers_of (with_body entry b m))) (with_body entry b m).funcs → sizes ≡ slice_set k.code_sizes.items entry size → limited (length (written_body b)) ≡ Some size
-      → IsPending l vs sizes m.customs (with_body entry b m)
-  body_pending has kept formed profile lists verdicts sized measured = record {
-    formed = formed;
-    profile = profile;
-    lists = lent_given entry b m k.types.items (listed l) lists kept.types;
-    verdicts = verdicts;
-    code_sizes = told_given code_size entry b m.funcs t k.code_sizes.items sizes size has sized kept.code_sizes (limited_is (length (written_body b)) size measured);
-    customs = refl;
-  }
+-- the sections stay
+pub body_sections : (entry : ℕ) (b : BodyOf) (m : Parts) (pieces : List (List ℕ)) → pieces ≡ section_pieces m → with_items pieces no_news ≡ section_pieces (with_body entry b m)
+body_sections entry b m pieces is =
+    ap (λ (ps : List (List ℕ)). with_items ps no_news) is
+    ∙ ap (λ (ts : List ℕ). contents_of (listed_with ts m)) (sym (types_given entry b m.funcs))
 
-pub body_too_large : (keep : Bool) (entry : ℕ) (b : BodyOf) (m : Parts) (t : ℕ) → HasType m.funcs entry t → entry < length m.funcs → limited (length (written_body b)) ≡ None → standing keep (with_body entry b m) ≡ Err TooLarge
-body_too_large keep entry b m t has within none =
+-- how long codes are where one is another
+pub entries_set : (codes : List (List ℕ)) (i : ℕ) (old new : List ℕ) → i < length codes → old ≡ get_or codes i old
+    → entries_size (set codes i new) + entry_size (length old) ≡ entries_size codes + entry_size (length new)
+entries_set codes i old new within is =
+    let size : List ℕ → ℕ = λ code. entry_size (length code) in
+    ap (λ (code : List ℕ). entries_size (set codes i new) + size code) is ∙ sum_by-set size codes i new old within
+
+pub entry_within : (codes : List (List ℕ)) (i : ℕ) (code : List ℕ) → i < length codes → code ≡ get_or codes i code → entry_size (length code) ≤ entries_size codes
+entry_within codes i code within is =
+    let size : List ℕ → ℕ = λ c. entry_size (length c) in
+    omega (arith, get_or-le-sum_by size codes i code within, ap size is)
+
+-- how long those of the module are
+pub codes_given : (entry : ℕ) (b : BodyOf) (fs : List Func) (t : ℕ) (codes : List (List ℕ)) → HasType fs entry t → codes ≡ map code_of fs
+    → entries_size (set codes entry (written_body b)) ≡ codes_size (funcs_given entry b fs)
+codes_given entry b fs t codes has is =
+    ap entries_size (told_given code_of entry b fs t codes (set codes entry (written_body b)) (written_body b) has refl is refl) ∙ entries_codes (funcs_given entry b fs)
+
+pub body_unencoded : (keep : Bool) (entry : ℕ) (b : BodyOf) (m : Parts) (t : ℕ) (e : EncodeFault) → IsInOrderFrom 0 m.customs → HasType m.funcs entry t → entry < length m.funcs → IsOverlong (written_body b) e
+    → encode_refusal e ≢ Memory → standing keep (with_body entry b m) ≡ Err (encode_refusal e)
+body_unencoded keep entry b m t e order has within over =
     let f : Func = record { ty = t; body = b } in
-    entry_too_large keep (with_body entry b m) entry f (omega (arith, within, length-given entry b m.funcs t has)) (at_given entry b m.funcs t f has within) none
+    unencoded keep (with_body entry b m) entry f e order (omega (arith, within, length-given entry b m.funcs t has)) (at_given entry b m.funcs t f has within) over
 
 -- ---- what the edit comes to
 
@@ -113,15 +133,13 @@ none_retyped : (A : Ref → Found) (fs : List Func) → count_by (is_retyped_in 
 none_retyped A [] = refl
 none_retyped A (f ∷ fs) = rw (agree_none A A (held f) (all_agree A (held f))) (none_retyped A fs)
 
-pub body_work : (x : ℕ) (code : List ℕ) (m : Parts) (entry : ℕ) (b : BodyOf) (typed : ℕ) → typed ≡ 1
-    → record { typed = typed; encoded = 1; sections = 0 } ≡ work_of (edits.Body x code) m (settle (with_body entry b m))
-body_work x code m entry b typed once =
+pub body_work : (x : ℕ) (code : List ℕ) (m : Parts) (entry : ℕ) (b : BodyOf) (typed encoded sections : ℕ) → typed ≡ 1 → encoded ≡ 1 → sections ≡ 0
+    → record { typed = typed; encoded = encoded; sections = sections } ≡ work_of (edits.Body x code) m (settle (with_body entry b m))
+body_work x code m entry b typed encoded sections once one none_made =
     let others = all_but (entry_of x m) m.funcs in
     let none : count_by (is_retyped_in (answers_of m) (answers_of (with_body entry b m))) others ≡ 0 =
     ap (λ (B : Ref → Found). count_by (is_retyped_in (answers_of m) B) others) (answers_stay entry b m) ∙ none_retyped (answers_of m) others in
-    ap (λ (k : ℕ). record { typed = k; encoded = 1; sections = 0 }) once
-    ∙ (ap (λ (k : ℕ). record { typed = 1 + k; encoded = 1; sections = 0 }) (sym none)
-    ∙ ap (λ (k : ℕ). record { typed = 1 + count_by (is_retyped_in (answers_of m) (answers_of (with_body entry b m))) others; encoded = 1 + k; sections = 0 }) (sym (none_of others)))
+    work_is (edits.Body x code) m (settle (with_body entry b m)) typed encoded sections (once ∙ ap (λ (k : ℕ). 1 + k) (sym none)) (one ∙ ap (λ (k : ℕ). 1 + k) (sym (none_of others))) none_made
 
 -- what is told of each item, where that one is another
 told_set : {A B C : Type 0} (f : A → C) (g : B → C) (xs : List A) (ys : List B) (i : ℕ) (x : A) (y : B) → map f xs ≡ map g ys → f x ≡ g y → map f (slice_set xs i x) ≡ map g (slice_set ys i y)
@@ -130,26 +148,38 @@ told_set {C = C} f g xs ys i x y told same =
 
 -- what is kept of the module with another body
 module _ (keep : Bool) (entry : ℕ) (t : ℕ) (b : BodyOf) (m : Parts) (p : Entry) (k new : Kept) where
-  pub body_kept : HasType m.funcs entry t → IsPlanned keep t b (with_body entry b m) p → IsKept m k → new.verdict ≡ p.appraisal.verdict → new.len ≡ p.appraisal.len → new.types ≡ k.types
-      → new.verdicts ≡ p.verdicts → new.refs.items ≡ slice_set k.refs.items entry p.uses → new.code_sizes ≡ p.code_sizes → IsKept (with_body entry b m) new
-  body_kept has plan kept verdict len types verdicts refs sizes = record {
-    verdict = verdict ∙ plan.verdict;
-    len = plan.len ∙ ap Some (sym len);
-    types = ap (λ v. v.items) types ∙ (kept.types ∙ sym (types_given entry b m.funcs));
-    verdicts = ap (λ v. v.items) verdicts ∙ plan.verdicts;
-    refs =
-        ap (map (λ s. s.keys)) refs
-        ∙ (told_set (λ s. s.keys) uses_of k.refs.items m.funcs entry p.uses (record { ty = t; body = b }) kept.refs plan.uses ∙ ap (map uses_of) (sym (given_set entry b m.funcs t has)));
-    code_sizes = ap (λ v. v.items) sizes ∙ plan.code_sizes;
-  }
+  pub body_kept : HasType m.funcs entry t → IsPlanned keep t b (with_body entry b m) k.pieces.sections.items 0 p → IsKept m k → new.verdict ≡ p.appraisal.verdict → new.len ≡ p.appraisal.len
+      → new.types ≡ k.types → new.verdicts ≡ p.verdicts → new.refs.items ≡ slice_set k.refs.items entry p.uses
+      → new.pieces.sections.items ≡ with_items k.pieces.sections.items p.remade.sections.items → new.pieces.codes.items ≡ slice_set k.pieces.codes.items entry p.code
+      → new.pieces.codes_len ≡ p.codes_len → new.pieces.customs_len ≡ k.pieces.customs_len → IsKept (with_body entry b m) new
+  body_kept has plan kept verdict len types verdicts refs sections codes codes_len customs_len =
+      let f : Func = record { ty = t; body = b } in
+      record {
+        verdict = verdict ∙ plan.verdict;
+        len = plan.len ∙ ap Some (sym len);
+        types = ap (λ v. v.items) types ∙ (kept.types ∙ sym (types_given entry b m.funcs));
+        verdicts = ap (λ v. v.items) verdicts ∙ plan.verdicts;
+        refs =
+            ap (map (λ s. s.keys)) refs
+            ∙ (told_set (λ s. s.keys) uses_of k.refs.items m.funcs entry p.uses f kept.refs plan.uses ∙ ap (map uses_of) (sym (given_set entry b m.funcs t has)));
+        pieces = record {
+          sections = sections ∙ plan.sections;
+          codes = told_given code_of entry b m.funcs t k.pieces.codes.items new.pieces.codes.items p.code has codes kept.pieces.codes plan.code;
+          codes_len = codes_len ∙ plan.codes_len;
+          customs_len = customs_len ∙ kept.pieces.customs_len;
+        };
+      }
 
-  pub body_leads : (x : ℕ) (code : List ℕ) (fs : List Func) (typed : ℕ) → entry_of x m ≡ Some entry → body_spelled m.profile code ≡ Ok b → HasType m.funcs entry t
-      → fs ≡ slice_set m.funcs entry (record { ty = t; body = b }) → IsPlanned keep t b (with_body entry b m) p → IsKept (with_body entry b m) new → typed ≡ 1
-      → Leads keep (edits.Body x code) m (Ok (record { typed = typed; encoded = 1; sections = 0 })) (record m { funcs = fs }) new
-  body_leads x code fs typed is read has replaced plan kept once =
-      subst (λ (gs : List Func). Leads keep (edits.Body x code) m (Ok (record { typed = typed; encoded = 1; sections = 0 })) (record m { funcs = gs }) new)
-      (given_set entry b m.funcs t has ∙ sym replaced)
-      (made_body keep x code m entry b is read ∙ plan.stands, body_work x code m entry b typed once, plan.formed, kept)
+  pub body_leads : (x : ℕ) (code : List ℕ) (fs : List Func) (typed encoded sections : ℕ) → entry_of x m ≡ Some entry → body_spelled m.profile code ≡ Ok b → HasType m.funcs entry t
+      → fs ≡ slice_set m.funcs entry (record { ty = t; body = b }) → IsPlanned keep t b (with_body entry b m) k.pieces.sections.items 0 p → IsKept (with_body entry b m) new
+      → typed ≡ 1 → encoded ≡ p.encoded → sections ≡ p.remade.made
+      → Leads keep (edits.Body x code) m (Ok (record { typed = typed; encoded = encoded; sections = sections })) (record m { funcs = fs }) new
+  body_leads x code fs typed encoded sections is read has replaced plan kept once bodies made =
+      let n = with_body entry b m in
+      let w : Work = record { typed = typed; encoded = encoded; sections = sections } in
+      let same : record m { funcs = fs } ≡ n = ap (λ (gs : List Func). record m { funcs = gs }) (replaced ∙ sym (given_set entry b m.funcs t has)) in
+      accepted keep (edits.Body x code) m n (record m { funcs = fs }) k new w same (made_body keep x code m entry b is read) plan.stands
+      (body_work x code m entry b typed encoded sections once (bodies ∙ plan.encoded) (made ∙ plan.made)) plan.formed kept
 
 pub other_at : {A : Type 0} (old same : List A) (i : ℕ) (x y : A) → same ≡ old → y ≡ x → slice_set same i y ≡ slice_set old i x
 other_at {A = A} old same i x y told is = ap (λ (xs : List A). slice_set xs i y) told ∙ ap (slice_set old i) is

@@ -114,11 +114,15 @@ pub unencoded : (keep : Bool) (n : Parts) (i : ℕ) (f : Func) (e : EncodeFault)
 unencoded keep n i f encoding.TooLarge order within is over other = code_large keep n i f order within is (over (λ same. absurd cc))
 unencoded keep n i f encoding.Memory order within is over other = absurd (other refl)
 
+-- a length within the limit
+pub limited_within : (n : ℕ) → n ≤ limit → Some n ≡ limited n
+limited_within n less = sym (cond-true (nat_le n limit) (Some n) None (le-leb n limit less))
+
 -- the length of codes, as it is kept
 pub codes_kept : (m : Parts) (k : Pieces) → Fits m → ArePieces m k → Some k.codes_len ≡ limited (codes_size m.funcs)
 codes_kept m k fits kept =
     let less : codes_size m.funcs ≤ limit = omega (arith, codes_within m, fits) in
-    ap Some kept.codes_len ∙ sym (cond-true (nat_le (codes_size m.funcs) limit) (Some (codes_size m.funcs)) None (le-leb (codes_size m.funcs) limit less))
+    ap Some kept.codes_len ∙ limited_within (codes_size m.funcs) less
 
 -- with one code more
 pub codes_more : (fs : List Func) (f : Func) → codes_size (fs ++ f ∷ []) ≡ codes_size fs + entry_size (length (code_of f))

@@ -1,55 +1,132 @@
-use Rattle.std.proofs.Common.{ℕ, List, length, ap, sym, ◌∙◌, refl, arith}
-use Rattle.std.proofs.lemmas.List.{length-map}
+use Rattle.std.proofs.Common.{◌≡◌, ◌+◌, ◌≤◌, ℕ, List, Some, None, Option, Result, Err, length, map, set, ap, sym, subst, ◌∙◌, refl, arith}
 use Rattle.std.proofs.lemmas.Result.{err_from_is_err_and}
+use Rattle.std.proofs.lemmas.List.{length-map}
+use Rattle.wk_bytes.specs.Frames.{limit}
+use Rattle.wk_body.specs.Lengths.{limited}
+use Rattle.wk_body.specs.LengthsLaws.{limited_some}
 use Rattle.wk_module.specs.Changes.{with_body}
 use Rattle.wk_module.specs.ChangeLaws.{body_formed}
-use Rattle.wk_module.specs.Listed.{listed_with}
+use Rattle.wk_module.specs.Listed.{listed, listed_with}
 use Rattle.wk_module.specs.NumberedLaws.{funcs_numbered}
 use Rattle.wk_module.specs.Shape.{IsFormed}
+use Rattle.wk_module.specs.Writing.{encoded, Fits}
 use Rattle.wk_check.specs.SpacesLaws.{answers_of}
 use Rattle.wk_check.specs.Verdict.{func_verdict}
 use Rattle.wk_session.specs.Kept.{IsPending}
-use Rattle.wk_session.proofs.EntryEdits.{numbered_lent, planned}
-use Rattle.wk_session.proofs.BodyEdits.{lent_given, body_pending, body_too_large}
+use Rattle.wk_session.specs.Overlays.{with_items}
+use Rattle.wk_session.specs.Pieces.{code_of, codes_size, entries_size, no_news, section_pieces}
+use Rattle.wk_session.proofs.EntryEdits.{codes_large, lent, numbered_lent}
+use Rattle.wk_session.proofs.BodyEdits.{body_sections, body_unencoded, codes_given, length-given, lent_given}
+use Rattle.wk_session.proofs.Outcomes.{limited-some}
+use Rattle.wk_session.proofs.Piecing.{codes_within, entries_codes}
 use Rattle.wk_session.proofs.edits.body.planned_body.Goals as goal
+use Rattle.wk_session.proofs.edits.body.planned_body.Goals.{After-codes_len_with, After-of-lists, After-len, In-Some, In_ok-no_news}
+
+pub returns-in_err-code-clause-err : goal.returns-in_err-code-clause-err
+returns-in_err-code-clause-err c =
+    let f = c.in_err-code.field-0.0 in
+    let p = err_from_is_err_and c.from_residual.result c.from_residual.ensures.1 in
+    rw (p.1, p.2) (body_unencoded c.args.keep c.args.entry c.args.body.now c.args.parts.now c.args.ty f c.requires.shaped.formed.order c.requires.ty c.requires.within c.in_err-code.ensures.code)
+
+pub codes_len_with-requires-clause-len : goal.codes_len_with-requires-clause-len
+codes_len_with-requires-clause-len c =
+    c.requires.kept.pieces.codes_len ∙ sym (entries_codes c.args.parts.now.funcs) ∙ ap entries_size (sym c.requires.kept.pieces.codes)
+
+pub codes_len_with-requires-clause-fits : goal.codes_len_with-requires-clause-fits
+codes_len_with-requires-clause-fits c =
+    let m = c.args.parts.now in
+    omega (arith, c.requires.kept.pieces.codes_len, codes_within m, limited-some (length (encoded m)) c.args.kept.now.len c.requires.kept.len)
+
+-- the length of all codes with the one that is another
+codes_are : (c : After-codes_len_with) → c.codes_len_with.result ≡ limited (codes_size (with_body c.args.entry c.args.body.now c.args.parts.now).funcs)
+codes_are c =
+    let m = c.args.parts.now in
+    let codes = c.args.kept.now.pieces.codes.items in
+    c.codes_len_with.ensures
+    ∙ ap (λ (code : List ℕ). limited (entries_size (set codes c.args.entry code))) c.in_ok-code.ensures.code
+    ∙ ap limited (codes_given c.args.entry c.args.body.now m.funcs c.args.ty codes c.requires.ty c.requires.kept.pieces.codes)
 
 pub returns-in_default-clause-err : goal.returns-in_default-clause-err
 returns-in_default-clause-err c =
-    λ _. body_too_large c.args.keep c.args.entry c.args.body.now c.args.parts.now c.args.ty c.requires.ty c.requires.within (sym c.in_default.ensures)
+    let at = (goal.at.returns-in_default-clause-err c).After-codes_len_with in
+    λ other. codes_large c.args.keep (with_body c.args.entry c.args.body.now c.args.parts.now) c.requires.shaped.formed.order (sym c.in_default.is ∙ codes_are at)
+
+pub len_after-len-requires-clause-count : goal.len_after-len-requires-clause-count
+len_after-len-requires-clause-count c = omega (arith, c.len.ensures, funcs_numbered c.args.parts.now c.requires.shaped.formed)
+
+-- the lists that are lent are those of the module with the other body
+lists_are : (c : After-of-lists) → listed c.of-lists.result ≡ lent (with_body c.args.entry c.args.body.now c.args.parts.now)
+lists_are c =
+    lent_given c.args.entry c.args.body.now c.args.parts.now c.deref.result.now _ c.of-lists.ensures.lists (c.deref.ensures.value ∙ c.requires.kept.types)
+
+formed : (c : After-of-lists) → IsFormed (with_body c.args.entry c.args.body.now c.args.parts.now)
+formed c = body_formed c.args.entry c.args.body.now c.args.parts.now c.requires.valid c.requires.shaped.formed
 
 pub appraise-requires-clause-numbered : goal.appraise-requires-clause-numbered
 appraise-requires-clause-numbered c =
-    let m = c.args.parts.now in
-    let n = with_body c.args.entry c.args.body.now m in
-    let formed : IsFormed n = body_formed c.args.entry c.args.body.now m c.requires.valid c.requires.shaped.formed in
-    numbered_lent n _ (lent_given c.args.entry c.args.body.now m c.deref.result.now _ c.of-lists.ensures.lists (c.deref.ensures.value ∙ c.requires.kept.types)) formed
+    let at = (goal.at.appraise-requires-clause-numbered c).After-of-lists in
+    numbered_lent (with_body c.args.entry c.args.body.now c.args.parts.now) _ (lists_are at) (formed at)
 
 pub appraise-requires-clause-few : goal.appraise-requires-clause-few
 appraise-requires-clause-few c =
-    let m = c.args.parts.now in
-    let n = with_body c.args.entry c.args.body.now m in
-    let formed : IsFormed n = body_formed c.args.entry c.args.body.now m c.requires.valid c.requires.shaped.formed in
-    omega (arith, ap length c.in_ok-verdicts.ensures.verdicts, length-map n.funcs (func_verdict (answers_of n)), funcs_numbered n formed)
+    let n = with_body c.args.entry c.args.body.now c.args.parts.now in
+    let at = (goal.at.appraise-requires-clause-few c).After-of-lists in
+    omega (arith, ap length c.in_ok-verdicts.ensures.verdicts, length-map n.funcs (func_verdict (answers_of n)), funcs_numbered n (formed at))
+
+-- the length that is kept of all codes
+codes_len_is : (c : In-Some) → c.codes_len_with.result ≡ limited (codes_size (with_body c.args.entry c.args.body.now c.args.parts.now).funcs)
+    → c.in-Some.codes_len ≡ codes_size (with_body c.args.entry c.args.body.now c.args.parts.now).funcs
+codes_len_is c codes =
+    (limited_some c.in-Some.codes_len (codes_size (with_body c.args.entry c.args.body.now c.args.parts.now).funcs) (sym c.in-Some.is ∙ codes)).0
+
+-- the sections stay
+overlaid : (c : In_ok-no_news) → with_items c.args.kept.now.pieces.sections.items c.in_ok-no_news.field-0.items ≡ section_pieces (with_body c.args.entry c.args.body.now c.args.parts.now)
+overlaid c =
+    let old = c.args.kept.now.pieces.sections.items in
+    ap (λ (news : List (Option (List ℕ))). with_items old news) c.in_ok-no_news.ensures ∙ body_sections c.args.entry c.args.body.now c.args.parts.now old c.requires.kept.pieces.sections
+
+-- what is pending
+pending : (c : After-of-lists) → c.len_after-len.result ≡ limited (length (encoded (with_body c.args.entry c.args.body.now c.args.parts.now)))
+    → IsPending c.of-lists.result c.in_ok-verdicts.verdicts.items c.len_after-len.result (with_body c.args.entry c.args.body.now c.args.parts.now)
+pending c len = record {
+  formed = formed c;
+  profile = c.of-lists.ensures.profile;
+  lists = lists_are c;
+  verdicts = c.in_ok-verdicts.ensures.verdicts;
+  len = len;
+}
 
 pub returns-in_err-appraisal-clause-err : goal.returns-in_err-appraisal-clause-err
 returns-in_err-appraisal-clause-err c =
     let m = c.args.parts.now in
-    let b = c.args.body.now in
-    let n = with_body c.args.entry b m in
-    let formed : IsFormed n = body_formed c.args.entry b m c.requires.valid c.requires.shaped.formed in
-    let pending : IsPending c.of-lists.result c.in_ok-verdicts.verdicts.items c.in_ok-code_sizes.code_sizes.items m.customs n =
-    body_pending c.args.entry b m c.args.ty c.args.kept.now c.of-lists.result c.in_ok-verdicts.verdicts.items c.in_ok-code_sizes.code_sizes.items c.in-Some.size c.requires.ty c.requires.kept formed
-    c.of-lists.ensures.profile (c.of-lists.ensures.lists ∙ ap (λ (ts : List ℕ). listed_with ts m) c.deref.ensures.value) c.in_ok-verdicts.ensures.verdicts c.in_ok-code_sizes.ensures (sym c.in-Some.ensures) in
+    let n = with_body c.args.entry c.args.body.now m in
+    let at = goal.at.returns-in_err-appraisal-clause-err c in
+    let codes = codes_len_is at.In-Some (codes_are at.After-codes_len_with) in
+    let count : c.len.result ≡ length n.funcs = omega (arith, c.len.ensures, length-given c.args.entry c.args.body.now m.funcs c.args.ty c.requires.ty) in
+    let len = c.len_after-len.ensures n c.requires.shaped.formed.order (overlaid at.In_ok-no_news) count codes c.requires.kept.pieces.customs_len in
     let p = err_from_is_err_and c.from_residual-in_err-appraisal.result c.from_residual-in_err-appraisal.ensures.1 in
-    rw (p.1, p.2) (c.in_err-appraisal.ensures n pending)
+    rw (p.1, p.2) (c.in_err-appraisal.ensures n (pending at.After-of-lists len))
 
 pub returns-clause-ok : goal.returns-clause-ok
 returns-clause-ok c =
     let m = c.args.parts.now in
-    let b = c.args.body.now in
-    let n = with_body c.args.entry b m in
-    let formed : IsFormed n = body_formed c.args.entry b m c.requires.valid c.requires.shaped.formed in
-    let pending : IsPending c.of-lists.result c.in_ok-verdicts.verdicts.items c.in_ok-code_sizes.code_sizes.items m.customs n =
-    body_pending c.args.entry b m c.args.ty c.args.kept.now c.of-lists.result c.in_ok-verdicts.verdicts.items c.in_ok-code_sizes.code_sizes.items c.in-Some.size c.requires.ty c.requires.kept formed
-    c.of-lists.ensures.profile (c.of-lists.ensures.lists ∙ ap (λ (ts : List ℕ). listed_with ts m) c.deref.ensures.value) c.in_ok-verdicts.ensures.verdicts c.in_ok-code_sizes.ensures (sym c.in-Some.ensures) in
-    planned c.args.keep c.args.ty b n c.of-lists.result m.customs _ pending (c.in_ok-uses.ensures (record { ty = c.args.ty; body = b }) refl refl) (c.in_ok-appraisal.ensures n pending)
+    let n = with_body c.args.entry c.args.body.now m in
+    let at = goal.at.returns-clause-ok c in
+    let codes = codes_len_is at.In-Some (codes_are at.After-codes_len_with) in
+    let count : c.len.result ≡ length n.funcs = omega (arith, c.len.ensures, length-given c.args.entry c.args.body.now m.funcs c.args.ty c.requires.ty) in
+    let len = c.len_after-len.ensures n c.requires.shaped.formed.order (overlaid at.In_ok-no_news) count codes c.requires.kept.pieces.customs_len in
+    let appraised = c.in_ok-appraisal.ensures n (pending at.After-of-lists len) in
+    record {
+      stands = appraised.0;
+      formed = formed at.After-of-lists;
+      verdict = appraised.1;
+      len = appraised.2;
+      uses = c.in_ok-uses.ensures (record { ty = c.args.ty; body = c.args.body.now }) refl refl;
+      verdicts = c.in_ok-verdicts.ensures.verdicts;
+      code = c.in_ok-code.ensures.code;
+      codes_len = codes;
+      encoded = c.in_ok-code.ensures.made;
+      sections = overlaid at.In_ok-no_news;
+      count = ap length c.in_ok-no_news.ensures ∙ sym (ap length c.requires.kept.pieces.sections);
+      made = refl;
+    }
