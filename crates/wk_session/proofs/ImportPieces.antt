@@ -1,6 +1,5 @@
 -- The pieces of a module with an import more.
 use Rattle.std.proofs.Common.{◌≡◌, ◌≢◌, ℕ, ◌+◌, Bool, true, false, Option, Some, None, unwrap_or, is_some, List, [], ◌∷◌, length, map, Err, refl, sym, subst, ap, ◌∙◌, arith}
-use Rattle.std.specs.List.{list_any}
 use Rattle.wk_body.specs.declared.fault.EncodeFault.{EncodeFault}
 use Rattle.wk_body.specs.declared.fault.EncodeFault.TheVariants as encoding
 use Rattle.wk_body.specs.Lengths.{limited}
@@ -14,10 +13,9 @@ use Rattle.wk_module.specs.Items.{desc_kind}
 use Rattle.wk_module.specs.Listed.{listed_with}
 use Rattle.wk_module.specs.MovedLaws.{types_stay}
 use Rattle.wk_module.specs.Moving.{instead, start_instead, some_if, start_if_moving, is_start_moving, moved_lists, moved_parts, with_lists}
-use Rattle.wk_module.specs.Sections.{SectionLists, of_number, FunctionSection, GlobalSection, ExportSection, StartSection, ElementSection, DataSection}
+use Rattle.wk_module.specs.Sections.{SectionLists, FunctionSection, GlobalSection, ExportSection, StartSection, ElementSection, DataSection}
 use Rattle.wk_module.specs.Shape.{IsInOrderFrom}
-use Rattle.wk_module.specs.Writing.{contents_by, encoded, section_contents}
-use Rattle.wk_session.specs.declared.edit.EditFault.{EditFault}
+use Rattle.wk_module.specs.Writing.{encoded, section_contents}
 use Rattle.wk_session.specs.declared.edit.EditFault.TheVariants.{TooLarge, Memory}
 use Rattle.wk_session.specs.declared.pieces.NewSections.{NewSections}
 use Rattle.wk_session.specs.Dependents.{one_if, sections_moving}
@@ -52,7 +50,7 @@ laid_pieces laid i m v lists =
     let n : Parts = after_import i m in
     let is : with_lists v m ≡ record (moved_parts kind from m) { funcs = m.funcs } = ap (λ (w : MovedLists). with_lists w m) lists ∙ laid kind from m in
     let all : List ℕ → List ℕ → List ℕ → List ℕ → List ℕ → List ℕ → List (List ℕ) = λ funcs globals exports start elems datas.
-        [] ∷ section_piece 1 m ∷ section_piece 2 n ∷ funcs ∷ section_piece 4 m ∷ section_piece 5 m ∷ globals ∷ exports ∷ start ∷ elems ∷ [] ∷ datas ∷ [] in
+    [] ∷ section_piece 1 m ∷ section_piece 2 n ∷ funcs ∷ section_piece 4 m ∷ section_piece 5 m ∷ globals ∷ exports ∷ start ∷ elems ∷ [] ∷ datas ∷ [] in
     let funcs : section_piece 3 m ≡ section_piece 3 n = ap (λ (ts : List ℕ). section_contents FunctionSection ts) (sym (types_stay kind from m.funcs)) in
     let globals = piece_after (λ gs. section_contents GlobalSection gs) v.globals m.globals n.globals (ap (λ (q : Parts). q.globals) is) in
     let exports = piece_after (λ es. section_contents ExportSection es) v.exports m.exports n.exports (ap (λ (q : Parts). q.exports) is) in

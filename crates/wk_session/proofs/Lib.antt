@@ -28,6 +28,6 @@ pub mod Piecing
 pub mod Putting
 pub mod Exporting
 pub mod Shaping
-pub mod Remade
-pub mod Measured
+pub mod NewSections
+pub mod CodeLengths
 pub mod ImportPieces

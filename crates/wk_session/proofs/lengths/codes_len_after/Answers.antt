@@ -3,7 +3,7 @@ use Rattle.std.proofs.lemmas.List.{take_all}
 use Rattle.wk_body.specs.Lengths.{limited}
 use Rattle.wk_session.specs.Overlays.{with_items}
 use Rattle.wk_session.specs.Pieces.{entries_size}
-use Rattle.wk_session.proofs.Measured.{entries_next}
+use Rattle.wk_session.proofs.CodeLengths.{entries_next}
 use Rattle.wk_session.proofs.Replacing.{length-with_items}
 use Rattle.wk_session.proofs.lengths.codes_len_after.Goals as goal
 use Rattle.wk_session.proofs.lengths.codes_len_after.Goals.{in-Some, in-None}

@@ -72,14 +72,14 @@ returns-in_default-clause-judgement c =
     let codes = with_items c.args.kept.now.pieces.codes.items c.args.plan.now.entries.codes.items in
     λ some. codes_large c.args.keep n codes c.requires.ready.formed.order (codes_now (goal.at.returns-in_default-clause-judgement c).After-codes_len_after) (sym c.in_default.is ∙ c.codes_len_after.ensures)
 
-counted : (c : After-len) → c.len.result ≡ length (after_import c.args.import.now (before_import c.args.parts.now)).funcs
-counted c =
+count_now : (c : After-len) → c.len.result ≡ length (after_import c.args.import.now (before_import c.args.parts.now)).funcs
+count_now c =
     let m = before_import c.args.parts.now in
     c.len.ensures ∙ sym (length-map m.funcs (moved_func (desc_kind c.args.import.now.desc) (import_place c.args.import.now m)))
 
 pub len_after-len-requires-clause-count : goal.len_after-len-requires-clause-count
 len_after-len-requires-clause-count c =
-    omega (arith, counted (goal.at.len_after-len-requires-clause-count c).After-len, funcs_numbered (after_import c.args.import.now (before_import c.args.parts.now)) c.requires.ready.formed)
+    omega (arith, count_now (goal.at.len_after-len-requires-clause-count c).After-len, funcs_numbered (after_import c.args.import.now (before_import c.args.parts.now)) c.requires.ready.formed)
 
 codes_len_now : (c : After-len) → with_items c.args.kept.now.pieces.codes.items c.args.plan.now.entries.codes.items ≡ map code_of (after_import c.args.import.now (before_import c.args.parts.now)).funcs
     → c.in-Some.codes_len ≡ codes_size (after_import c.args.import.now (before_import c.args.parts.now)).funcs
@@ -112,7 +112,7 @@ returns-in_err-appraisal-clause-judgement c =
     let p = err_from_is_err_and c.from_residual-in_err-appraisal.result c.from_residual-in_err-appraisal.ensures.1 in
     let n = after_import c.args.import.now (before_import c.args.parts.now) in
     let lists = lent at.After-with_moved-now in
-    let len = len_now at.After-len_after-len (sections_now at.In_ok-remade lists) (counted at.After-len) (codes_len_now at.After-len (codes_now at.After-codes_len_after)) in
+    let len = len_now at.After-len_after-len (sections_now at.In_ok-remade lists) (count_now at.After-len) (codes_len_now at.After-len (codes_now at.After-codes_len_after)) in
     rw (p.1, p.2) (λ some. c.in_err-appraisal.ensures n (pending at.After-verdicts_or-verdicts_now lists len) some)
 
 pub returns-clause-judgement : goal.returns-clause-judgement
@@ -124,7 +124,7 @@ returns-clause-judgement c =
     let lists = lent at.After-with_moved-now in
     let sections = sections_now at.In_ok-remade lists in
     let codes = codes_len_now at.After-len (codes_now at.After-codes_len_after) in
-    let appraised = c.in_ok-appraisal.ensures n (pending at.After-verdicts_or-verdicts_now lists (len_now at.After-len_after-len sections (counted at.After-len) codes)) in
+    let appraised = c.in_ok-appraisal.ensures n (pending at.After-verdicts_or-verdicts_now lists (len_now at.After-len_after-len sections (count_now at.After-len) codes)) in
     record {
       stands = appraised.0;
       verdict = appraised.1;

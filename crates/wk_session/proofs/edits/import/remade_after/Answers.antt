@@ -1,7 +1,7 @@
 use Rattle.std.proofs.Common.{Bool, subst}
 use Rattle.std.proofs.lemmas.Result.{err_from_is_err_and}
 use Rattle.wk_module.specs.Listed.{listed}
-use Rattle.wk_session.proofs.Remade.{IsRemadeWhere, remade_in_order}
+use Rattle.wk_session.proofs.NewSections.{IsRemadeWhere, remade_in_order}
 use Rattle.wk_session.proofs.edits.import.remade_after.Goals as goal
 
 pub returns-in_err-news : goal.returns-in_err-news
