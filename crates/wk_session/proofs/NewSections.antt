@@ -1,17 +1,11 @@
 -- The sections that an import makes anew.
-use Rattle.std.proofs.Common.{◌≡◌, ℕ, ◌+◌, Bool, true, false, if◌then◌else◌, Option, Some, None, List, set, is_some, refl, sym, ap, ◌∙◌, arith}
+use Rattle.std.proofs.Common.{◌≡◌, ℕ, Bool, true, false, if◌then◌else◌, Option, Some, None, List, set, is_some, refl, sym, ap, ◌∙◌, arith}
 use Rattle.wk_module.specs.declared.moving.MovedLists.{MovedLists}
 use Rattle.wk_module.specs.Sections.{SectionLists, of_number}
 use Rattle.wk_module.specs.Writing.{contents_by}
 use Rattle.wk_session.specs.declared.pieces.NewSections.{NewSections}
-use Rattle.wk_session.specs.Dependents.{one_if}
-use Rattle.wk_session.specs.Imported.{new_where, IsRemadeAfter}
+use Rattle.wk_session.specs.Imported.{new_where, IsRemadeWhere, IsRemadeAfter}
 use Rattle.wk_session.specs.Pieces.{one_new, IsOneRemade}
-
--- the section of an id made anew where its list has moved
-pub record IsRemadeWhere (l : SectionLists) (moved : Bool) (id : ℕ) (was now : NewSections) : Type 0 where
-  pub sections : now.sections.items ≡ (if moved then set was.sections.items id (Some (contents_by l (of_number id))) else was.sections.items)
-  pub made : now.made ≡ was.made + one_if moved
 
 put_where : (moved : Bool) (id : ℕ) (contents : List ℕ) (was now xs : List (Option (List ℕ))) → now ≡ (if moved then set was id (Some contents) else was) → was ≡ xs → set xs id None ≡ xs
     → now ≡ set xs id (new_where moved contents)

@@ -1,5 +1,5 @@
 -- A module with an import more, and what is planned before it stands.
-use Rattle.std.specs.Prelude.{◌≡◌, ◌≢◌, ◌⊎◌, ◌+◌, ◌-◌, ℕ, Bool, true, false, if◌then◌else◌, Option, Some, None, List, [], ◌∷◌, is_some, length, take, map, unwrap_or, Ok}
+use Rattle.std.specs.Prelude.{◌≡◌, ◌≢◌, ◌⊎◌, ◌+◌, ◌-◌, ℕ, Bool, true, false, if◌then◌else◌, Option, Some, None, List, [], ◌∷◌, is_some, length, take, map, count_by, set, unwrap_or, Ok, Err}
 use Rattle.std.specs.List.{list_any}
 use Rattle.wk_body.specs.Lengths.{limited}
 use Rattle.wk_module.specs.declared.types.Import.{Import}
@@ -21,7 +21,8 @@ use Rattle.wk_session.specs.declared.edits.import.Judgement.{Judgement}
 use Rattle.wk_session.specs.declared.kept.Kept.{Kept}
 use Rattle.wk_session.specs.Edits.{import_place}
 use Rattle.wk_session.specs.declared.pieces.NewSections.{NewSections}
-use Rattle.wk_session.specs.Dependents.{one_if}
+use Rattle.wk_session.specs.declared.edit.Edit.TheVariants as edits
+use Rattle.wk_session.specs.Dependents.{one_if, is_retyped, sections_moving}
 use Rattle.wk_session.specs.Kept.{IsKept, standing}
 use Rattle.wk_session.specs.Overlays.{with_items}
 use Rattle.wk_session.specs.Pieces.{codes_size, section_pieces}
@@ -59,6 +60,12 @@ pub record IsReady (i : Import) (m p : Parts) (k : Kept) (all : ImportPlan) : Ty
 abbrev pub new_where : Bool → List ℕ → Option (List ℕ)
 new_where moved contents = if moved then Some contents else None
 
+-- the section of an id is made anew where its list has moved, and all others stay as they were
+pub record IsRemadeWhere (l : SectionLists) (moved : Bool) (id : ℕ) (was now : NewSections) : Type 0 where
+  pub sections : now.sections.items
+      ≡ (if moved then set was.sections.items id (Some (contents_by l (of_number id))) else was.sections.items)
+  pub made : now.made ≡ was.made + one_if moved
+
 -- the contents of the import section, and of each that has moved
 abbrev pub news_after : SectionLists → MovedLists → List (Option (List ℕ))
 news_after l moved =
@@ -74,7 +81,8 @@ news_after l moved =
 pub record IsRemadeAfter (l : SectionLists) (moved : MovedLists) (r : NewSections) : Type 0 where
   pub sections : r.sections.items ≡ news_after l moved
   pub made : r.made
-      ≡ 1 + (one_if (is_some moved.globals) + one_if (is_some moved.exports) + one_if (is_some moved.start) + one_if (is_some moved.elems) + one_if (is_some moved.datas))
+      ≡ 1 + (one_if (is_some moved.globals) + one_if (is_some moved.exports) + one_if (is_some moved.start)
+      + one_if (is_some moved.elems) + one_if (is_some moved.datas))
 
 -- the module may stay, and what is to be kept of it, for which so many sections were made anew; where no verdicts stand, those that are
 -- kept stay
@@ -87,3 +95,15 @@ pub record IsJudgement (keep : Bool) (n : Parts) (k : Kept) (anew : ℕ) (j : Ju
   pub count : length j.remade.sections.items ≡ length k.pieces.sections.items
   pub made : j.remade.made ≡ anew
   pub codes_len : j.codes_len ≡ codes_size n.funcs
+
+-- that of the module with the import, for which the import section is made anew and each that holds something that moves
+abbrev pub IsImportJudgement : Bool → Import → Parts → Kept → Judgement → Type 0
+IsImportJudgement keep i m k j = IsJudgement keep (after_import i m) k (1 + sections_moving (desc_kind i.desc) (import_place i m) m) j
+
+-- why it may not stay, unless memory was wanted
+abbrev pub IsImportRefusal : Bool → Import → Parts → EditFault → Type 0
+IsImportRefusal keep i m e = e ≢ Memory → standing keep (after_import i m) ≡ Err e
+
+-- how many bodies of m an import retypes
+abbrev pub retyped_by : Import → Parts → ℕ
+retyped_by i m = count_by (is_retyped (edits.Import i) m (after_import i m)) m.funcs

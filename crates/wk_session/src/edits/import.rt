@@ -15,10 +15,10 @@ ghost use Rattle.wk_check.specs.Spaces.{answer_in, spaces_of};
 ghost use Rattle.wk_check.specs.SpacesLaws.{answers_of};
 ghost use Rattle.wk_check.specs.Verdict.{func_verdict};
 ghost use Rattle.wk_session.specs.declared.edit.Edit.{Edit};
-ghost use Rattle.wk_session.specs.Dependents.{is_retyped, is_retyped_in, one_if, sections_moving, work_of};
+ghost use Rattle.wk_session.specs.Dependents.{is_retyped_in};
 ghost use Rattle.wk_session.specs.Edits.{import_place};
-ghost use Rattle.wk_session.specs.Imported.{IsRemadeAfter, after_import, before_import, IsImportPlan, IsUnplanned, IsReady, IsJudgement};
-ghost use Rattle.wk_session.specs.Kept.{IsKept, Leads, standing};
+ghost use Rattle.wk_session.specs.Imported.{IsRemadeAfter, IsRemadeWhere, after_import, before_import, retyped_by, IsImportPlan, IsUnplanned, IsReady, IsImportJudgement, IsImportRefusal};
+ghost use Rattle.wk_session.specs.Kept.{IsKept, Leads};
 ghost use Rattle.wk_session.specs.Overlays.{with_items};
 ghost use Rattle.wk_session.specs.Pieces.{IsUnwritten};
 
@@ -155,7 +155,8 @@ fn verdicts_beside(
     requires grows { Grows (answers_of (before_import parts.now)) (answer_in (spaces_of (listed now.now))) }
     requires fresh { meter.old ≡ 0 }
     ensures verdicts { IfOk result (λ v. v.items ≡ map (func_verdict (answer_in (spaces_of (listed now.now)))) parts.now.funcs) }
-    ensures typed { OnOk result (meter.new ≡ count_by (is_retyped_in (answers_of (before_import parts.now)) (answer_in (spaces_of (listed now.now)))) parts.now.funcs) }
+    ensures typed { let now = answer_in (spaces_of (listed now.now)) in
+        OnOk result (meter.new ≡ count_by (is_retyped_in (answers_of (before_import parts.now)) now) parts.now.funcs) }
 {
     let imports = parts.imports.as_slice();
     let before = Lists {
@@ -187,10 +188,12 @@ fn verdicts_after(
     plan: &ImportPlan,
 ) -> Result<Option<Vec<BodyVerdict>>, OutOfMemory>
     requires ready { IsReady import.now (before_import parts.now) parts.now kept.now plan.now }
-    requires lists { let n = after_import import.now (before_import parts.now) in listed now.now ≡ listed_with (map (λ f. f.ty) n.funcs) n }
+    requires lists { let n = after_import import.now (before_import parts.now) in
+        listed now.now ≡ listed_with (map (λ f. f.ty) n.funcs) n }
     requires fresh { meter.old ≡ 0 }
-    ensures verdicts { let n = after_import import.now (before_import parts.now) in IfOk result (λ v. (unwrap_or v kept.now.verdicts).items ≡ map (func_verdict (answers_of n)) n.funcs) }
-    ensures typed { let m = before_import parts.now in OnOk result (meter.new ≡ count_by (is_retyped (Edit.Import import.now) m (after_import import.now m)) m.funcs) }
+    ensures verdicts { let n = after_import import.now (before_import parts.now) in
+        IfOk result (λ v. (unwrap_or v kept.now.verdicts).items ≡ map (func_verdict (answers_of n)) n.funcs) }
+    ensures typed { OnOk result (meter.new ≡ retyped_by import.now (before_import parts.now)) }
 {
     // The proof asks what these say: verdicts are kept where bodies move, and nothing else of a module does where nothing in it moves.
     verdicts_that_keep();
@@ -226,9 +229,9 @@ fn remake_where(
     requires id { IsListId id }
     requires few { news.old.made < 12 }
     requires all { length news.old.sections.items ≡ 12 }
-    ensures sections { OnOk result (news.new.sections.items ≡ if is_moved then set news.old.sections.items id (Some (contents_by (listed lists.now) (of_number id))) else news.old.sections.items) }
-    ensures made { OnOk result (news.new.made ≡ news.old.made + one_if is_moved) }
-    ensures err { IfErr result (IsUnwritten (listed lists.now)) }
+    ensures { MatchResult result
+        (λ _. IsRemadeWhere (listed lists.now) is_moved id news.old news.new)
+        (IsUnwritten (listed lists.now)) }
 {
     if is_moved {
         let contents = remade(alloc, lists, id, &mut news.made)?;
@@ -266,8 +269,10 @@ fn judged_import(
 ) -> Result<Judgement, EditFault>
     requires ready { IsReady import.now (before_import parts.now) parts.now kept.now plan.now }
     requires fresh { meter.old ≡ 0 }
-    ensures judgement { let n = after_import import.now (before_import parts.now) in MatchResult result (IsJudgement keep n kept.now (1 + sections_moving (desc_kind import.now.desc) (import_place import.now (before_import parts.now)) (before_import parts.now))) (λ e. e ≢ EditFault.Memory → standing keep n ≡ Err e) }
-    ensures typed { let m = before_import parts.now in OnOk result (meter.new ≡ count_by (is_retyped (Edit.Import import.now) m (after_import import.now m)) m.funcs) }
+    ensures judgement { MatchResult result
+        (IsImportJudgement keep import.now (before_import parts.now) kept.now)
+        (IsImportRefusal keep import.now (before_import parts.now)) }
+    ensures typed { OnOk result (meter.new ≡ retyped_by import.now (before_import parts.now)) }
 {
     // The proof asks what this says: the lists that moved, laid over the others, are those of the module.
     moving_of_module();
@@ -311,9 +316,11 @@ fn push_judged(
     requires fresh { meter.old ≡ 0 }
     ensures ok { OnOk result (parts.new ≡ with_import import.now parts.old) }
     ensures err { OnErr result (parts.new ≡ parts.old) }
-    ensures judgement { let n = after_import import.now parts.old in MatchResult result (IsJudgement keep n kept.now (1 + sections_moving (desc_kind import.now.desc) (import_place import.now parts.old) parts.old)) (λ e. e ≢ EditFault.Memory → standing keep n ≡ Err e) }
+    ensures judgement { MatchResult result
+        (IsImportJudgement keep import.now parts.old kept.now)
+        (IsImportRefusal keep import.now parts.old) }
     ensures formed { OnOk result (IsFormed (after_import import.now parts.old)) }
-    ensures typed { OnOk result (meter.new ≡ count_by (is_retyped (Edit.Import import.now) parts.old (after_import import.now parts.old)) parts.old.funcs) }
+    ensures typed { OnOk result (meter.new ≡ retyped_by import.now parts.old) }
 {
     spelled_import(import);
     moving_of_module();
