@@ -3,6 +3,7 @@
 ghost use Rattle.std.specs.Prelude.{◌≡◌, ◌≢◌, ◌<◌, Err, IfOk, IfErr, OnOk, length, map, slice_get, option_map, set, Some, ℕ, ◌≤◌};
 ghost use Rattle.wk_bytes.specs.Frames.{limit};
 ghost use Rattle.wk_body.specs.Lengths.{limited};
+ghost use Rattle.wk_body.specs.Spelling.{SpellsBody};
 ghost use Rattle.wk_module.specs.Changes.{with_body};
 ghost use Rattle.wk_module.specs.Items.{IsCode};
 ghost use Rattle.wk_module.specs.Shape.{IsShaped};
@@ -91,9 +92,11 @@ fn planned_body(
     entry: usize,
     ty: u32,
     body: &Body,
+    spelled: &Items<u8>,
     meter: &mut Meter,
 ) -> Result<Entry, EditFault>
     requires shaped { IsShaped parts.now }
+    requires spelled { SpellsBody parts.now.profile body.now spelled.now }
     requires kept { IsKept parts.now kept.now }
     requires within { entry < length parts.now.funcs }
     requires ty { Some ty ≡ option_map (λ f. f.ty) (slice_get parts.now.funcs entry) }
@@ -104,7 +107,7 @@ fn planned_body(
     ensures typed { OnOk result (meter.new ≡ 1) }
 {
     let mut encoded = 0;
-    let code = encoded_body(alloc, body, None, &mut encoded)?;
+    let code = encoded_body(alloc, body, Some(spelled.as_slice()), &mut encoded)?;
     let pieces = &kept.pieces;
     let Some(codes_len) = codes_len_with(pieces, entry, &code) else {
         return Err(EditFault::TooLarge);
@@ -153,7 +156,7 @@ fn put_at(
 {
     let body = spelled_body(alloc, parts.profile, code)?;
     let ty = type_at(&parts.funcs, entry);
-    let planned = planned_body(alloc, keep, parts, kept, entry, ty, &body, meter)?;
+    let planned = planned_body(alloc, keep, parts, kept, entry, ty, &body, code, meter)?;
     let _before = parts.funcs.set(entry, Func { ty, body });
     let (uses, code, encoded, sections) = keep_entry(kept, planned);
     let _unused = mem::replace(&mut kept.refs[entry], uses);

@@ -1,6 +1,7 @@
 //! What is kept of a code entry that an edit gives or replaces.
 
 ghost use Rattle.std.specs.Prelude.{◌≡◌, ◌≢◌, ◌<◌, ◌≤◌, length, slice_set, IfOk, IfErr, Ok, Err};
+ghost use Rattle.wk_body.specs.Spelling.{SpellsBody};
 ghost use Rattle.wk_module.specs.Items.{IsCode};
 ghost use Rattle.wk_session.specs.Functions.{body_spelled};
 ghost use Rattle.wk_session.specs.Overlays.{with_items};
@@ -43,6 +44,7 @@ pub(super) fn spelled_body(
 ) -> Result<Body, EditFault>
     ensures ok { IfOk result (λ b. body_spelled profile code.now ≡ Ok b) }
     ensures valid { IfOk result (λ b. IsCode profile b) }
+    ensures spelled { IfOk result (λ b. SpellsBody profile b code.now) }
     ensures err { IfErr result (λ f. f ≢ EditFault.Memory → body_spelled profile code.now ≡ Err f) }
 {
     let body = match read_body_in(alloc, code.as_slice(), profile) {

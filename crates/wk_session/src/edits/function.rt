@@ -1,6 +1,7 @@
 //! A function more.
 
 ghost use Rattle.std.specs.Prelude.{◌≡◌, ◌≢◌, ◌+◌, [], ◌∷◌, ◌++◌, if◌then◌else◌, Err, IfOk, IfErr, OnOk, OnErr, is_ok, count_by, map};
+ghost use Rattle.wk_body.specs.Spelling.{SpellsBody};
 ghost use Rattle.wk_module.specs.Changes.{with_func};
 ghost use Rattle.wk_module.specs.Items.{IsCode};
 ghost use Rattle.wk_module.specs.Shape.{IsShaped};
@@ -66,9 +67,11 @@ fn planned_func(
     kept: &Kept,
     ty: u32,
     body: &Body,
+    spelled: &Items<u8>,
     meter: &mut Meter,
 ) -> Result<Entry, EditFault>
     requires shaped { IsShaped parts.now }
+    requires spelled { SpellsBody parts.now.profile body.now spelled.now }
     requires kept { IsKeptWithType ty parts.now kept.now }
     requires valid { IsCode parts.now.profile body.now }
     requires fresh { meter.old ≡ 0 }
@@ -80,7 +83,7 @@ fn planned_func(
     let pieces = &kept.pieces;
     let remade = one_remade(alloc, &lists, SECTION)?;
     let mut encoded = 0;
-    let code = encoded_body(alloc, body, None, &mut encoded)?;
+    let code = encoded_body(alloc, body, Some(spelled.as_slice()), &mut encoded)?;
     let Some(codes_len) = plus_code(Some(pieces.codes_len), &code) else {
         return Err(EditFault::TooLarge);
     };
@@ -115,7 +118,9 @@ fn push_planned(
     meter: &mut Meter,
     ty: u32,
     body: Body,
+    spelled: &Items<u8>,
 ) -> Result<Entry, EditFault>
+    requires spelled { SpellsBody parts.old.profile body spelled.now }
     requires shaped { IsShaped parts.old }
     requires kept { IsKeptWithType ty parts.old kept.now }
     requires valid { IsCode parts.old.profile body }
@@ -126,7 +131,7 @@ fn push_planned(
     ensures same { OnErr result (parts.new ≡ parts.old) }
     ensures typed { OnOk result (meter.new ≡ 1 + count_by (is_retyped_in (answers_of parts.old) (answers_of (with_func ty body parts.old))) parts.old.funcs) }
 {
-    let entry = planned_func(alloc, keep, parts, kept, ty, &body, meter)?;
+    let entry = planned_func(alloc, keep, parts, kept, ty, &body, spelled, meter)?;
     parts.funcs.push(Func { ty, body })?;
     Ok(entry)
 }
@@ -140,7 +145,9 @@ fn push_func(
     meter: &mut Meter,
     ty: u32,
     body: Body,
+    spelled: &Items<u8>,
 ) -> Result<Entry, EditFault>
+    requires spelled { SpellsBody parts.old.profile body spelled.now }
     requires shaped { IsShaped parts.old }
     requires kept { IsKept parts.old kept.old }
     requires valid { IsCode parts.old.profile body }
@@ -154,7 +161,7 @@ fn push_func(
     ensures types { kept.new.types.items ≡ (if is_ok result then kept.old.types.items ++ ty ∷ [] else kept.old.types.items) }
 {
     kept.types.push(ty)?;
-    let pushed = push_planned(alloc, keep, parts, kept, meter, ty, body);
+    let pushed = push_planned(alloc, keep, parts, kept, meter, ty, body, spelled);
     if pushed.is_err() {
         let _ = kept.types.pop();
     }
@@ -179,7 +186,7 @@ pub(crate) fn add_func(
     let body = spelled_body(alloc, parts.profile, code)?;
     kept.refs.reserve(1)?;
     kept.pieces.codes.reserve(1)?;
-    let entry = push_func(alloc, keep, parts, kept, meter, ty, body)?;
+    let entry = push_func(alloc, keep, parts, kept, meter, ty, body, code)?;
     let (uses, code, encoded, sections) = keep_entry(kept, entry);
     kept.refs.push_reserved(uses);
     kept.pieces.codes.push_reserved(code);
