@@ -31,3 +31,4 @@ pub mod Shaping
 pub mod NewSections
 pub mod CodeLengths
 pub mod ImportPieces
+pub mod Opening

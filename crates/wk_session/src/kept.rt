@@ -1,20 +1,28 @@
 //! What a session keeps beside its module, so that an edit computes only what depends on it.
 
-ghost use Rattle.std.specs.Prelude.{◌≡◌, ◌<◌, ◌^◌, length, map, IfOk};
+ghost use Rattle.std.specs.Prelude.{◌≡◌, ◌+◌, ◌<◌, ◌≤◌, ◌^◌, length, map, IfOk};
+ghost use Rattle.std.specs.List.{AllByRecursion};
+ghost use Rattle.wk_bytes.specs.Frames.{limit};
+ghost use Rattle.wk_body.specs.Lengths.{limited};
+ghost use Rattle.wk_body.specs.Written.{written_body};
+ghost use Rattle.wk_module.specs.declared.types.Parts.{Parts as PartsOf};
 ghost use Rattle.wk_module.specs.declared.types.Func.{Func as FuncOf};
 ghost use Rattle.wk_module.specs.Listed.{listed};
-ghost use Rattle.wk_module.specs.Writing.{Fits};
+ghost use Rattle.wk_module.specs.Shape.{IsInOrderFrom};
+ghost use Rattle.wk_module.specs.Writing.{Fits, encoded};
 ghost use Rattle.wk_check.specs.Spaces.{answer_in, spaces_of};
 ghost use Rattle.wk_check.specs.Verdict.{func_verdict};
 ghost use Rattle.wk_session.specs.Kept.{IsKept, uses_of};
+ghost use Rattle.wk_session.specs.Pieces.{ArePieces, code_of};
 
 use crate::judged::judged;
-use crate::pieces::Pieces;
+use crate::lengths::len_after;
+use crate::pieces::{Pieces, encoded_body, no_news};
 use std::alloc::Global;
 use std::collections::BTreeSet;
 use wk_bytes::{Items, OutOfMemory};
 use wk_check::{BodyVerdict, Env, Meter, Verdict, Whole, first_code_fault, judge_around};
-use wk_module::{Body, Func, Lists, Module, Ref, encoded_len, uses};
+use wk_module::{Body, EncodeFault, Func, Lists, Module, Ref, uses};
 
 /// What is kept beside a module: each part is what computing it from the module would give (`IsKept` of `specs/Kept`).
 #[derive(Debug, Drop)]
@@ -44,35 +52,15 @@ fn types_of(alloc: Global, funcs: &Items<Func>) -> Result<Vec<u32>, OutOfMemory>
     Ok(types)
 }
 
-// The verdicts of functions.
-fn verdicts_in<E: Env>(
-    alloc: Global,
-    env: &E,
-    funcs: &Items<Func>,
-) -> Result<Vec<BodyVerdict>, OutOfMemory>
-    requires { length funcs.now < 2 ^ 32 }
-    ensures { IfOk result (λ v. v.items ≡ map (func_verdict (E.answers env.now)) funcs.now) }
-{
-    let mut meter = Meter::new(alloc);
-    let mut verdicts = Vec::with_capacity(alloc, funcs.len())?;
-    for func in funcs.as_slice() {
-        let verdict = judged(env, func.ty, &func.body, &mut meter)?;
-        verdicts.push(verdict)?;
-    }
-    Ok(verdicts)
-}
-
-// The verdicts of functions in a module with these lists.
-fn verdicts_of(
-    alloc: Global,
-    lists: Lists<'_>,
-    funcs: &Items<Func>,
-) -> Result<Vec<BodyVerdict>, OutOfMemory>
-    requires { length funcs.now < 2 ^ 32 }
-    ensures { IfOk result (λ v. v.items ≡ map (func_verdict (answer_in (spaces_of (listed lists.entry)))) funcs.now) }
-{
-    let whole = Whole::of(alloc, lists)?;
-    verdicts_in(alloc, &whole, funcs)
+/// What is kept of each function.
+#[derive(Drop)]
+struct Entries {
+    /// The verdict of each body.
+    verdicts: Vec<BodyVerdict>,
+    /// What each function refers to.
+    refs: Vec<BTreeSet<Ref>>,
+    /// The code of each, without its size.
+    codes: Vec<Items<u8>>,
 }
 
 /// What a function refers to, its own type too.
@@ -86,16 +74,83 @@ pub(crate) fn func_uses(
     uses(alloc, own_type, body)
 }
 
-// What functions refer to.
-fn refs_of(alloc: Global, funcs: &Items<Func>) -> Result<Vec<BTreeSet<Ref>>, OutOfMemory>
-    ensures { IfOk result (λ v. map (λ s. s.keys) v.items ≡ map uses_of funcs.now) }
+// The code of a body, without its size, which is not too long.
+fn own_code(alloc: Global, body: &Body, encoded: &mut u32) -> Result<Items<u8>, OutOfMemory>
+    requires small { length (written_body body.now) ≤ limit }
+    requires few { encoded.old + 1 < 2 ^ 32 }
+    ensures code { IfOk result (λ c. c ≡ written_body body.now) }
+    ensures encoded { encoded.new ≡ encoded.old + 1 }
 {
-    let mut refs = Vec::with_capacity(alloc, funcs.len())?;
-    for func in funcs.as_slice() {
-        let found = func_uses(alloc, func.ty, &func.body)?;
-        refs.push(found)?;
+    match encoded_body(alloc, body, None, encoded) {
+        Ok(code) => Ok(code),
+        Err(EncodeFault::Memory) => Err(OutOfMemory),
+        Err(EncodeFault::TooLarge) => unreachable!(),
     }
-    Ok(refs)
+}
+
+// What is kept of functions, none of whose codes is too long. Each is looked at once.
+fn entries_in<E: Env>(
+    alloc: Global,
+    env: &E,
+    funcs: &Items<Func>,
+) -> Result<Entries, OutOfMemory>
+    requires few { length funcs.now < 2 ^ 32 }
+    requires small { AllByRecursion (λ f. length (code_of f) ≤ limit) funcs.now }
+    ensures verdicts { IfOk result (λ e. e.verdicts.items ≡ map (func_verdict (E.answers env.now)) funcs.now) }
+    ensures refs { IfOk result (λ e. map (λ s. s.keys) e.refs.items ≡ map uses_of funcs.now) }
+    ensures codes { IfOk result (λ e. e.codes.items ≡ map code_of funcs.now) }
+{
+    let mut meter = Meter::new(alloc);
+    let mut encoded = 0;
+    let mut verdicts = Vec::with_capacity(alloc, funcs.len())?;
+    let mut refs = Vec::with_capacity(alloc, funcs.len())?;
+    let mut codes = Vec::with_capacity(alloc, funcs.len())?;
+    for func in funcs.as_slice() {
+        let verdict = judged(env, func.ty, &func.body, &mut meter)?;
+        let found = func_uses(alloc, func.ty, &func.body)?;
+        let code = own_code(alloc, &func.body, &mut encoded)?;
+        verdicts.push(verdict)?;
+        refs.push(found)?;
+        codes.push(code)?;
+    }
+    Ok(Entries {
+        verdicts,
+        refs,
+        codes,
+    })
+}
+
+// What is kept of functions in a module with these lists.
+fn entries_of(
+    alloc: Global,
+    lists: Lists<'_>,
+    funcs: &Items<Func>,
+) -> Result<Entries, OutOfMemory>
+    requires few { length funcs.now < 2 ^ 32 }
+    requires small { AllByRecursion (λ f. length (code_of f) ≤ limit) funcs.now }
+    ensures verdicts { IfOk result (λ e. e.verdicts.items ≡ map (func_verdict (answer_in (spaces_of (listed lists.entry)))) funcs.now) }
+    ensures refs { IfOk result (λ e. map (λ s. s.keys) e.refs.items ≡ map uses_of funcs.now) }
+    ensures codes { IfOk result (λ e. e.codes.items ≡ map code_of funcs.now) }
+{
+    let whole = Whole::of(alloc, lists)?;
+    entries_in(alloc, &whole, funcs)
+}
+
+// How long the module of these pieces is, or nothing past 2,147,483,647.
+fn pieces_len(alloc: Global, pieces: &Pieces) -> Result<Option<u32>, OutOfMemory>
+    requires sections { length pieces.now.sections.items ≡ 12 }
+    requires few { length pieces.now.codes.items < 2 ^ 32 }
+    ensures { (m : PartsOf) → IsInOrderFrom 0 m.customs → ArePieces m pieces.now → IfOk result (λ len. len ≡ limited (length (encoded m))) }
+{
+    let news = no_news(alloc)?;
+    let count = pieces.codes.len();
+    Ok(len_after(
+        &pieces.sections,
+        &news,
+        count,
+        pieces.codes_len,
+        pieces.customs_len,
+    ))
 }
 
 impl Kept {
@@ -107,11 +162,15 @@ impl Kept {
         let parts = module.parts();
         let types = types_of(alloc, &parts.funcs)?;
         let lists = Lists::of(parts, &types);
-        let verdicts = verdicts_of(alloc, lists, &parts.funcs)?;
+        let entries = entries_of(alloc, lists, &parts.funcs)?;
+        let Entries {
+            verdicts,
+            refs,
+            codes,
+        } = entries;
         let verdict = judge_around(alloc, &lists, first_code_fault(&verdicts))?;
-        let refs = refs_of(alloc, &parts.funcs)?;
-        let pieces = Pieces::of(alloc, parts, &types)?;
-        let Some(len) = encoded_len(module) else {
+        let pieces = Pieces::of(alloc, parts, &types, codes)?;
+        let Some(len) = pieces_len(alloc, &pieces)? else {
             unreachable!()
         };
         Ok(Kept {

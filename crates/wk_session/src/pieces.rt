@@ -1,7 +1,6 @@
 //! The written form of a module in pieces, so that an edit makes anew only those that it changes.
 
 ghost use Rattle.std.specs.Prelude.{◌≡◌, ◌+◌, ◌<◌, ◌≤◌, ◌^◌, ℕ, length, map, IfOk, IfSome, OnOk, MatchResult};
-ghost use Rattle.std.specs.List.{AllByRecursion};
 ghost use Rattle.wk_bytes.specs.Frames.{limit};
 ghost use Rattle.wk_body.specs.declared.types.Profile.{Profile};
 ghost use Rattle.wk_body.specs.Spelling.{SpellsBody};
@@ -15,7 +14,7 @@ ghost use Rattle.wk_session.specs.Pieces.{ArePieces, IsOneRemade, IsOverlong, Is
 use crate::lengths::{CODES, LAST, SECTIONS, codes_len, customs_len};
 use std::alloc::{AllocError, Global};
 use wk_bytes::{Items, OutOfMemory};
-use wk_module::{Body, EncodeFault, Func, Lists, Parts, code_bytes, encode_body, encode_section};
+use wk_module::{Body, EncodeFault, Lists, Parts, code_bytes, encode_body, encode_section};
 
 /// The written form of a module in pieces (`ArePieces` of `specs/Pieces`). Custom sections are not kept a second time: the module holds
 /// their bytes.
@@ -136,24 +135,6 @@ pub(crate) fn all_remade(alloc: Global, lists: &Lists<'_>) -> Result<Vec<Items<u
     Ok(sections)
 }
 
-// The codes of functions, none of which is too long.
-fn codes_of(alloc: Global, funcs: &Items<Func>) -> Result<Vec<Items<u8>>, OutOfMemory>
-    requires small { AllByRecursion (λ f. length (code_of f) ≤ limit) funcs.now }
-    requires few { length funcs.now < 2 ^ 32 }
-    ensures { IfOk result (λ v. v.items ≡ map code_of funcs.now) }
-{
-    let mut made = 0;
-    let mut codes = Vec::with_capacity(alloc, funcs.len())?;
-    for func in funcs.as_slice() {
-        match encoded_body(alloc, &func.body, None, &mut made) {
-            Ok(code) => codes.push(code)?,
-            Err(EncodeFault::Memory) => return Err(OutOfMemory),
-            Err(EncodeFault::TooLarge) => unreachable!(),
-        }
-    }
-    Ok(codes)
-}
-
 // The contents of all sections of a module that is not too large.
 fn sections_of(alloc: Global, lists: &Lists<'_>) -> Result<Vec<Items<u8>>, OutOfMemory>
     requires { (id : ℕ) → length (contents_by (listed lists.now) (of_number id)) ≤ limit }
@@ -167,17 +148,21 @@ fn sections_of(alloc: Global, lists: &Lists<'_>) -> Result<Vec<Items<u8>>, OutOf
 }
 
 impl Pieces {
-    /// The pieces of a module that is not too large and whose functions have these types.
-    pub(crate) fn of(alloc: Global, parts: &Parts, types: &[u32]) -> Result<Pieces, OutOfMemory>
+    /// The pieces of a module that is not too large and whose functions have these types and these codes.
+    pub(crate) fn of(
+        alloc: Global,
+        parts: &Parts,
+        types: &[u32],
+        codes: Vec<Items<u8>>,
+    ) -> Result<Pieces, OutOfMemory>
         requires types { types.now ≡ map (λ f. f.ty) parts.now.funcs }
+        requires codes { codes.items ≡ map code_of parts.now.funcs }
         requires order { IsInOrderFrom 0 parts.now.customs }
         requires fits { Fits parts.now }
         ensures { IfOk result (ArePieces parts.now) }
     {
         let sections = sections_of(alloc, &Lists::of(parts, types))?;
-        let codes = codes_of(alloc, &parts.funcs)?;
-        let (Some(codes_len), Some(customs_len)) = (codes_len(&codes), customs_len(&parts.customs))
-        else {
+        let (Some(codes_len), Some(customs_len)) = (codes_len(&codes), customs_len(&parts.customs)) else {
             unreachable!()
         };
         Ok(Pieces {

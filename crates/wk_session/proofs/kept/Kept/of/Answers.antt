@@ -1,5 +1,7 @@
 use Rattle.std.proofs.Common.{◌≡◌, ◌<◌, ◌^◌, ◌≤◌, List, ℕ, length, map, refl, sym, ap, subst, ◌∙◌, arith}
 use Rattle.std.proofs.lemmas.List.{length-map}
+use Rattle.std.specs.List.{AllByRecursion}
+use Rattle.wk_bytes.specs.Frames.{limit}
 use Rattle.wk_body.specs.Lengths.{limited}
 use Rattle.wk_module.specs.declared.types.Func.{Func}
 use Rattle.wk_module.specs.declared.types.Parts.{Parts}
@@ -15,7 +17,10 @@ use Rattle.wk_check.specs.Spaces.{answer_in, spaces_of}
 use Rattle.wk_check.specs.SpacesLaws.{answers_of}
 use Rattle.wk_check.specs.Verdict.{func_verdict, verdict_around}
 use Rattle.wk_session.specs.Kept.{IsPending, uses_of}
-use Rattle.wk_session.specs.Pieces.{ArePieces}
+use Rattle.wk_session.specs.Pieces.{ArePieces, code_of}
+use Rattle.wk_session.proofs.Piecing.{codes_small}
+use Rattle.wk_session.proofs.Putting.{codes_length}
+use Rattle.wk_module.specs.WritingLaws.{room_for_func}
 use Rattle.wk_session.proofs.Appraising.{verdict_lent}
 use Rattle.wk_session.proofs.kept.Kept.of.Goals as goal
 use Rattle.wk_session.proofs.kept.Kept.of.Goals.{After-of-lists}
@@ -27,13 +32,17 @@ lent c =
     ∙ ap (λ (ts : List ℕ). listed_with ts c.parts-parts.result.now) (c.deref.ensures.value ∙ c.in_ok-types.ensures)
     ∙ ap (λ (p : Parts). listed_with (map (λ (f : Func). f.ty) p.funcs) p) c.parts-parts.ensures.value
 
-pub verdicts_of-requires : goal.verdicts_of-requires
-verdicts_of-requires c = subst (λ (p : Parts). length p.funcs < 2 ^ 32) (sym c.parts-parts.ensures.value) (funcs_numbered c.args.module.now c.parts-parts.ensures.shaped.formed)
+pub entries_of-requires-clause-few : goal.entries_of-requires-clause-few
+entries_of-requires-clause-few c = subst (λ (p : Parts). length p.funcs < 2 ^ 32) (sym c.parts-parts.ensures.value) (funcs_numbered c.args.module.now c.parts-parts.ensures.shaped.formed)
+
+pub entries_of-requires-clause-small : goal.entries_of-requires-clause-small
+entries_of-requires-clause-small c =
+    subst (λ (p : Parts). AllByRecursion (λ (f : Func). length (code_of f) ≤ limit) p.funcs) (sym c.parts-parts.ensures.value) (codes_small c.args.module.now c.requires)
 
 pub first_code_fault-requires : goal.first_code_fault-requires
 first_code_fault-requires c =
     let few : length c.parts-parts.result.now.funcs < 2 ^ 32 = subst (λ (p : Parts). length p.funcs < 2 ^ 32) (sym c.parts-parts.ensures.value) (funcs_numbered c.args.module.now c.parts-parts.ensures.shaped.formed) in
-    let count = ap length (c.deref-2.ensures.value ∙ c.in_ok-verdicts.ensures) ∙ length-map c.parts-parts.result.now.funcs _ in
+    let count = ap length (c.deref-2.ensures.value ∙ c.in_ok-entries.ensures.verdicts) ∙ length-map c.parts-parts.result.now.funcs _ in
     omega (arith, few, count)
 
 pub judge_around-requires : goal.judge_around-requires
@@ -52,28 +61,35 @@ of-requires-clause-order c = subst (λ (p : Parts). IsInOrderFrom 0 p.customs) (
 pub of-requires-clause-fits : goal.of-requires-clause-fits
 of-requires-clause-fits c = subst Fits (sym c.parts-parts.ensures.value) c.requires
 
+pub pieces_len-requires-clause-few : goal.pieces_len-requires-clause-few
+pieces_len-requires-clause-few c =
+    let m = c.args.module.now in
+    let codes = subst (λ (p : Parts). ArePieces p c.in_ok-pieces.pieces) c.parts-parts.ensures.value c.in_ok-pieces.ensures in
+    omega (arith, codes_length m c.in_ok-pieces.pieces.codes.items codes.codes, room_for_func m c.requires)
+
 pub returns : goal.returns
 returns c =
     let m = c.args.module.now in
     let value = c.parts-parts.ensures.value in
     let lists = lent (goal.at.returns c).After-of-lists in
-    let verdicts : c.in_ok-verdicts.verdicts.items ≡ map (func_verdict (answers_of m)) m.funcs =
-    c.in_ok-verdicts.ensures
+    let verdicts : c.in_ok-entries.entries.verdicts.items ≡ map (func_verdict (answers_of m)) m.funcs =
+    c.in_ok-entries.ensures.verdicts
     ∙ ap (λ (l : SectionLists). map (func_verdict (answer_in (spaces_of l))) c.parts-parts.result.now.funcs) lists
     ∙ ap (λ (p : Parts). map (func_verdict (answers_of m)) p.funcs) value in
-    let pending : IsPending c.of-lists.result c.in_ok-verdicts.verdicts.items (limited (length (encoded m))) m = record {
+    let pending : IsPending c.of-lists.result c.in_ok-entries.entries.verdicts.items (limited (length (encoded m))) m = record {
       formed = c.parts-parts.ensures.shaped.formed;
       profile = c.of-lists.ensures.profile ∙ ap (λ (p : Parts). p.profile) value;
       lists = lists;
       verdicts = verdicts;
       len = refl;
     } in
+    let pieces = subst (λ (p : Parts). ArePieces p c.in_ok-pieces.pieces) value c.in_ok-pieces.ensures in
     let code = c.first_code_fault.ensures ∙ ap (λ (vs : List BodyVerdict). first_in 10 0 (map body_flaw vs)) c.deref-2.ensures.value in
     record {
       verdict = c.in_ok-verdict.ensures ∙ ap (verdict_around c.of-lists.result.profile (listed c.of-lists.result)) code ∙ verdict_lent c.of-lists.result _ _ m pending;
-      len = sym c.encoded_len.ensures ∙ c.in-Some.is;
+      len = sym (c.in_ok-len.ensures m c.parts-parts.ensures.shaped.formed.order pieces) ∙ c.in-Some.is;
       types = c.in_ok-types.ensures ∙ ap (λ (p : Parts). map (λ (f : Func). f.ty) p.funcs) value;
       verdicts = verdicts;
-      refs = c.in_ok-refs.ensures ∙ ap (λ (p : Parts). map uses_of p.funcs) value;
-      pieces = subst (λ (p : Parts). ArePieces p c.in_ok-pieces.pieces) value c.in_ok-pieces.ensures;
+      refs = c.in_ok-entries.ensures.refs ∙ ap (λ (p : Parts). map uses_of p.funcs) value;
+      pieces = pieces;
     }

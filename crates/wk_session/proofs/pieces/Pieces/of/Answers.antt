@@ -4,11 +4,10 @@ use Rattle.wk_module.specs.declared.types.Func.{Func}
 use Rattle.wk_module.specs.Listed.{listed, listed_with}
 use Rattle.wk_module.specs.Sections.{SectionLists, of_number}
 use Rattle.wk_module.specs.Writing.{contents_by}
-use Rattle.wk_module.specs.WritingLaws.{room_for_func}
 use Rattle.wk_session.specs.Pieces.{contents_of, entries_size}
-use Rattle.wk_session.proofs.Piecing.{section_within, codes_small, codes_within, customs_within, entries_codes}
+use Rattle.wk_session.proofs.Piecing.{section_within, codes_within, customs_within, entries_codes}
 use Rattle.wk_session.proofs.pieces.Pieces.of.Goals as goal
-use Rattle.wk_session.proofs.pieces.Pieces.of.Goals.{After-of, In_ok-codes, in_default-via-in-Some+in_default, in_default-via-in_default}
+use Rattle.wk_session.proofs.pieces.Pieces.of.Goals.{After-of, in_default-via-in-Some+in_default, in_default-via-in_default}
 
 lent : (c : After-of) → listed c.of.result ≡ listed_with (map (λ f. f.ty) c.args.parts.now.funcs) c.args.parts.now
 lent c = c.of.ensures.lists ∙ ap (λ (ts : List ℕ). listed_with ts c.args.parts.now) c.requires.types
@@ -17,18 +16,12 @@ pub sections_of-requires : goal.sections_of-requires
 sections_of-requires c =
     λ id. omega (arith, c.requires.fits, section_within id c.args.parts.now, ap (λ (l : SectionLists). length (contents_by l (of_number id))) (lent (goal.at.sections_of-requires c).After-of))
 
-pub codes_of-requires-clause-small : goal.codes_of-requires-clause-small
-codes_of-requires-clause-small c = codes_small c.args.parts.now c.requires.fits
-
-pub codes_of-requires-clause-few : goal.codes_of-requires-clause-few
-codes_of-requires-clause-few c = omega (arith, room_for_func c.args.parts.now c.requires.fits)
-
 pub unreachable-requires : goal.unreachable-requires
 unreachable-requires c =
     let m = c.args.parts.now in
     elim c.in_default.branch [
       | in_default-via-in-Some+in_default w ↦ absurd (omega (arith, limited_none _ (sym w.in_default.is-1 ∙ c.customs_len.ensures), customs_within m c.requires.order, c.requires.fits))
-      | in_default-via-in_default w ↦ absurd (omega (arith, limited_none _ (sym w.in_default.is-0 ∙ c.codes_len.ensures), ap entries_size c.in_ok-codes.ensures, entries_codes m.funcs, codes_within m, c.requires.fits))
+      | in_default-via-in_default w ↦ absurd (omega (arith, limited_none _ (sym w.in_default.is-0 ∙ c.codes_len.ensures), ap entries_size c.requires.codes, entries_codes m.funcs, codes_within m, c.requires.fits))
     ]
 
 pub returns : goal.returns
@@ -38,7 +31,7 @@ returns c =
     let customs = limited_some _ _ (sym c.in-Some-Some.is-1 ∙ c.customs_len.ensures) in
     record {
       sections = c.in_ok-sections.ensures ∙ ap contents_of (lent (goal.at.returns c).After-of);
-      codes = c.in_ok-codes.ensures;
-      codes_len = codes.0 ∙ ap entries_size c.in_ok-codes.ensures ∙ entries_codes m.funcs;
+      codes = c.requires.codes;
+      codes_len = codes.0 ∙ ap entries_size c.requires.codes ∙ entries_codes m.funcs;
       customs_len = customs.0;
     }

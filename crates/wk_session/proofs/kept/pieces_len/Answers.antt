@@ -1,0 +1,12 @@
+use Rattle.std.proofs.Common.{List, ℕ, ap, ◌∙◌}
+use Rattle.wk_session.specs.Overlays.{with_items}
+use Rattle.wk_session.specs.Pieces.{no_news}
+use Rattle.wk_session.proofs.Putting.{codes_length}
+use Rattle.wk_session.proofs.kept.pieces_len.Goals as goal
+
+pub returns : goal.returns
+returns c =
+    λ m order are.
+    let p = c.args.pieces.now in
+    let all = ap (with_items p.sections.items) c.in_ok-news.ensures ∙ ap (λ (ps : List (List ℕ)). with_items ps no_news) are.sections in
+    c.len_after.ensures m order all (c.len-count.ensures ∙ p.codes.ok.0 ∙ codes_length m p.codes.items are.codes) are.codes_len are.customs_len
