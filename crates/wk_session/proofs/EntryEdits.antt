@@ -160,35 +160,6 @@ types_before m t n types is count =
 pub types_with : (t : ℕ) (b : BodyOf) (m : Parts) (types : List ℕ) → types ≡ map (λ f. f.ty) m.funcs ++ t ∷ [] → types ≡ map (λ f. f.ty) (with_func t b m).funcs
 types_with t b m types is = is ∙ sym (map_push (λ (f : Func). f.ty) m.funcs (record { ty = t; body = b }))
 
--- what is kept where the type stands there already
-pub kept_with_type : (t : ℕ) (m : Parts) (k new : Kept) → IsKept m k → new ≡ record k { types = new.types } → new.types.items ≡ k.types.items ++ t ∷ [] → IsKeptWithType t m new
-kept_with_type t m k new kept is types = record {
-  verdict = ap (λ (x : Kept). x.verdict) is ∙ kept.verdict;
-  len = kept.len ∙ ap (λ (x : Kept). Some x.len) (sym is);
-  types = types ∙ ap (λ (ts : List ℕ). ts ++ t ∷ []) kept.types;
-  verdicts = ap (λ (x : Kept). x.verdicts.items) is ∙ kept.verdicts;
-  refs = ap (λ (x : Kept). map (λ s. s.keys) x.refs.items) is ∙ kept.refs;
-  pieces = subst (ArePieces m) (ap (λ (x : Kept). x.pieces) (sym is)) kept.pieces;
-}
-
--- what is kept is, whatever room there is for more
-pub kept_alike : (m : Parts) (k new : Kept) → IsKept m k
-    → new ≡ record k { types = new.types; refs = new.refs; pieces = record k.pieces { codes = new.pieces.codes } }
-    → new.types.items ≡ k.types.items → new.refs.items ≡ k.refs.items → new.pieces.codes.items ≡ k.pieces.codes.items → IsKept m new
-kept_alike m k new kept is types refs codes = record {
-  verdict = ap (λ (x : Kept). x.verdict) is ∙ kept.verdict;
-  len = kept.len ∙ ap (λ (x : Kept). Some x.len) (sym is);
-  types = types ∙ kept.types;
-  verdicts = ap (λ (x : Kept). x.verdicts.items) is ∙ kept.verdicts;
-  refs = ap (map (λ s. s.keys)) refs ∙ kept.refs;
-  pieces = record {
-    sections = ap (λ (x : Kept). x.pieces.sections.items) is ∙ kept.pieces.sections;
-    codes = codes ∙ kept.pieces.codes;
-    codes_len = ap (λ (x : Kept). x.pieces.codes_len) is ∙ kept.pieces.codes_len;
-    customs_len = ap (λ (x : Kept). x.pieces.customs_len) is ∙ kept.pieces.customs_len;
-  };
-}
-
 pub func_unencoded : (keep : Bool) (t : ℕ) (b : BodyOf) (m : Parts) (e : EncodeFault) → IsInOrderFrom 0 m.customs → IsOverlong (written_body b) e → encode_refusal e ≢ Memory
     → standing keep (with_func t b m) ≡ Err (encode_refusal e)
 func_unencoded keep t b m e order over =
@@ -203,10 +174,6 @@ func_sections t b m pieces is = ap (λ (ps : List (List ℕ)). with_items ps (on
 
 pub made_func : (keep : Bool) (t : ℕ) (code : List ℕ) (m : Parts) (b : BodyOf) → body_spelled m.profile code ≡ Ok b → made keep (edits.Func t code) m ≡ standing keep (with_func t b m)
 made_func keep t code m b read =
-    ap (λ (r : Result BodyOf EditFault). (r >>= λ (body : BodyOf). fitting (settle (with_func t body m))) >>= lasting keep) read
-
-pub refused_func : (keep : Bool) (t : ℕ) (code : List ℕ) (m : Parts) (f : EditFault) → body_spelled m.profile code ≡ Err f → made keep (edits.Func t code) m ≡ Err f
-refused_func keep t code m f read =
     ap (λ (r : Result BodyOf EditFault). (r >>= λ (body : BodyOf). fitting (settle (with_func t body m))) >>= lasting keep) read
 
 -- nothing is encoded again but for what is given

@@ -1,21 +1,22 @@
 //! Another body for a function.
 
-ghost use Rattle.std.specs.Prelude.{◌≡◌, ◌≢◌, ◌<◌, Err, IfOk, IfErr, OnOk, length, map, slice_get, option_map, set, Some, ℕ, ◌≤◌};
+ghost use Rattle.std.specs.Prelude.{◌≡◌, ◌≢◌, ◌<◌, Ok, Err, IfOk, IfErr, OnOk, length, map, slice_get, option_map, set, Some, ℕ, ◌≤◌};
 ghost use Rattle.wk_bytes.specs.Frames.{limit};
 ghost use Rattle.wk_body.specs.Lengths.{limited};
 ghost use Rattle.wk_body.specs.Spelling.{SpellsBody};
 ghost use Rattle.wk_module.specs.Changes.{with_body};
 ghost use Rattle.wk_module.specs.Items.{IsCode};
 ghost use Rattle.wk_module.specs.Shape.{IsShaped};
+ghost use Rattle.wk_module.specs.Writing.{encoded};
 ghost use Rattle.wk_check.specs.SpacesLaws.{answers_of};
 ghost use Rattle.wk_check.specs.Verdict.{func_verdict};
 ghost use Rattle.wk_session.specs.declared.edit.Edit.{Edit};
 ghost use Rattle.wk_session.specs.Edits.{entry_of as entry_of_index};
 ghost use Rattle.wk_session.specs.Functions.{IsPlanned};
-ghost use Rattle.wk_session.specs.Kept.{IsKept, Leads, standing};
+ghost use Rattle.wk_session.specs.Kept.{IsAppraised, IsKept, Leads, standing};
 ghost use Rattle.wk_session.specs.Pieces.{entries_size};
 
-use crate::appraisal::appraise;
+use crate::appraisal::{Appraisal, appraise};
 use crate::edit::{EditFault, Reply, Work};
 use crate::edits::entry::{Entry, keep_entry, spelled_body, with_other};
 use crate::judged::judged;
@@ -68,6 +69,36 @@ fn verdicts_with(
     let whole = Whole::of(alloc, Lists::of(parts, &kept.types))?;
     let own = judged(&whole, ty, body, meter)?;
     with_other(alloc, &kept.verdicts, entry, own)
+}
+
+// The verdicts of all bodies where one is replaced, and what is kept of the module as a whole, which is so long; or why it may not stay.
+fn judged_body(
+    alloc: Global,
+    keep: bool,
+    parts: &Parts,
+    kept: &Kept,
+    entry: usize,
+    ty: u32,
+    body: &Body,
+    len: Option<u32>,
+    meter: &mut Meter,
+) -> Result<(Vec<BodyVerdict>, Appraisal), EditFault>
+    requires shaped { IsShaped parts.now }
+    requires kept { IsKept parts.now kept.now }
+    requires within { entry < length parts.now.funcs }
+    requires ty { Some ty ≡ option_map (λ f. f.ty) (slice_get parts.now.funcs entry) }
+    requires valid { IsCode parts.now.profile body.now }
+    requires len { len ≡ limited (length (encoded (with_body entry body.now parts.now))) }
+    requires fresh { meter.old ≡ 0 }
+    ensures verdicts { IfOk result (λ r. r.0.items ≡ map (func_verdict (answers_of (with_body entry body.now parts.now))) (with_body entry body.now parts.now).funcs) }
+    ensures ok { IfOk result (λ r. IsAppraised keep (with_body entry body.now parts.now) (Ok r.1)) }
+    ensures err { IfErr result (λ f. IsAppraised keep (with_body entry body.now parts.now) (Err f)) }
+    ensures typed { OnOk result (meter.new ≡ 1) }
+{
+    let verdicts = verdicts_with(alloc, parts, kept, entry, ty, body, meter)?;
+    let lists = Lists::of(parts, &kept.types);
+    let appraisal = appraise(alloc, keep, &lists, &verdicts, len)?;
+    Ok((verdicts, appraisal))
 }
 
 // How many bytes all codes have with this one in the place of that of an entry, sizes with them; or nothing past 2,147,483,647.
@@ -124,9 +155,8 @@ fn planned_body(
         pieces.customs_len,
     );
     let uses = func_uses(alloc, ty, body)?;
-    let verdicts = verdicts_with(alloc, parts, kept, entry, ty, body, meter)?;
-    let lists = Lists::of(parts, &kept.types);
-    let appraisal = appraise(alloc, keep, &lists, &verdicts, len)?;
+    let (verdicts, appraisal) =
+        judged_body(alloc, keep, parts, kept, entry, ty, body, len, meter)?;
     Ok(Entry {
         uses,
         verdicts,

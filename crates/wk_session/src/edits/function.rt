@@ -1,18 +1,20 @@
 //! A function more.
 
-ghost use Rattle.std.specs.Prelude.{◌≡◌, ◌≢◌, ◌+◌, [], ◌∷◌, ◌++◌, if◌then◌else◌, Err, IfOk, IfErr, OnOk, OnErr, is_ok, count_by, map};
+ghost use Rattle.std.specs.Prelude.{◌≡◌, ◌≢◌, ◌+◌, [], ◌∷◌, ◌++◌, if◌then◌else◌, Ok, Err, IfOk, IfErr, OnOk, OnErr, is_ok, count_by, length, map};
+ghost use Rattle.wk_body.specs.Lengths.{limited};
 ghost use Rattle.wk_body.specs.Spelling.{SpellsBody};
 ghost use Rattle.wk_module.specs.Changes.{with_func};
 ghost use Rattle.wk_module.specs.Items.{IsCode};
 ghost use Rattle.wk_module.specs.Shape.{IsShaped};
+ghost use Rattle.wk_module.specs.Writing.{encoded};
 ghost use Rattle.wk_check.specs.SpacesLaws.{answers_of};
 ghost use Rattle.wk_check.specs.Verdict.{func_verdict};
 ghost use Rattle.wk_session.specs.declared.edit.Edit.{Edit};
 ghost use Rattle.wk_session.specs.Dependents.{is_retyped_in};
 ghost use Rattle.wk_session.specs.Functions.{IsKeptWithType, IsPlanned};
-ghost use Rattle.wk_session.specs.Kept.{IsKept, Leads, standing};
+ghost use Rattle.wk_session.specs.Kept.{IsAppraised, IsKept, Leads, standing};
 
-use crate::appraisal::appraise;
+use crate::appraisal::{Appraisal, appraise};
 use crate::edit::{EditFault, Reply, Work};
 use crate::edits::entry::{Entry, keep_entry, spelled_body};
 use crate::judged::{judged, rejudged};
@@ -59,6 +61,34 @@ fn verdicts_with(
     Ok(verdicts)
 }
 
+// The verdicts of all bodies where a function comes whose type stands behind those of the others already, and what is kept of the
+// module with it as a whole, which is so long; or why it may not stay.
+fn judged_func(
+    alloc: Global,
+    keep: bool,
+    parts: &Parts,
+    kept: &Kept,
+    ty: u32,
+    body: &Body,
+    len: Option<u32>,
+    meter: &mut Meter,
+) -> Result<(Vec<BodyVerdict>, Appraisal), EditFault>
+    requires shaped { IsShaped parts.now }
+    requires kept { IsKeptWithType ty parts.now kept.now }
+    requires valid { IsCode parts.now.profile body.now }
+    requires len { len ≡ limited (length (encoded (with_func ty body.now parts.now))) }
+    requires fresh { meter.old ≡ 0 }
+    ensures verdicts { IfOk result (λ r. r.0.items ≡ map (func_verdict (answers_of (with_func ty body.now parts.now))) (with_func ty body.now parts.now).funcs) }
+    ensures ok { IfOk result (λ r. IsAppraised keep (with_func ty body.now parts.now) (Ok r.1)) }
+    ensures err { IfErr result (λ f. IsAppraised keep (with_func ty body.now parts.now) (Err f)) }
+    ensures typed { OnOk result (meter.new ≡ 1 + count_by (is_retyped_in (answers_of parts.now) (answers_of (with_func ty body.now parts.now))) parts.now.funcs) }
+{
+    let verdicts = verdicts_with(alloc, parts, kept, ty, body, meter)?;
+    let lists = Lists::of(parts, &kept.types);
+    let appraisal = appraise(alloc, keep, &lists, &verdicts, len)?;
+    Ok((verdicts, appraisal))
+}
+
 // What is to be kept of the module with a function more, whose type stands behind those of the others already; or why it may not be.
 fn planned_func(
     alloc: Global,
@@ -95,8 +125,7 @@ fn planned_func(
         pieces.customs_len,
     );
     let uses = func_uses(alloc, ty, body)?;
-    let verdicts = verdicts_with(alloc, parts, kept, ty, body, meter)?;
-    let appraisal = appraise(alloc, keep, &lists, &verdicts, len)?;
+    let (verdicts, appraisal) = judged_func(alloc, keep, parts, kept, ty, body, len, meter)?;
     Ok(Entry {
         uses,
         verdicts,

@@ -19,7 +19,7 @@ use Rattle.wk_session.proofs.EntryEdits.{codes_kept, codes_large, codes_more, fu
 use Rattle.wk_session.proofs.Outcomes.{limited-some}
 use Rattle.wk_session.proofs.Piecing.{unwritten}
 use Rattle.wk_session.proofs.edits.function.planned_func.Goals as goal
-use Rattle.wk_session.proofs.edits.function.planned_func.Goals.{After-of-lists, After-plus_code, In-Some, In_ok-remade, In_ok-verdicts}
+use Rattle.wk_session.proofs.edits.function.planned_func.Goals.{After-of-lists, After-plus_code, In-Some, In_ok-remade}
 
 fits : (c : After-of-lists) → Fits c.args.parts.now
 fits c = limited-some (length (encoded c.args.parts.now)) c.args.kept.now.len c.requires.kept.len
@@ -73,17 +73,6 @@ len_after-len-requires-clause-count c =
     let at = (goal.at.len_after-len-requires-clause-count c).After-of-lists in
     omega (arith, c.len.ensures, types_count at, funcs_numbered (with_func c.args.ty c.args.body.now c.args.parts.now) (formed at))
 
-pub appraise-requires-clause-numbered : goal.appraise-requires-clause-numbered
-appraise-requires-clause-numbered c =
-    let at = (goal.at.appraise-requires-clause-numbered c).After-of-lists in
-    numbered_lent (with_func c.args.ty c.args.body.now c.args.parts.now) _ (lists_are at) (formed at)
-
-pub appraise-requires-clause-few : goal.appraise-requires-clause-few
-appraise-requires-clause-few c =
-    let n = with_func c.args.ty c.args.body.now c.args.parts.now in
-    let at = (goal.at.appraise-requires-clause-few c).After-of-lists in
-    omega (arith, ap length c.in_ok-verdicts.ensures.verdicts, length-map n.funcs (func_verdict (answers_of n)), funcs_numbered n (formed at))
-
 -- the sections with the one that is made anew are those of the module with the function
 overlaid : (c : In_ok-remade) → listed c.of-lists.result ≡ lent (with_func c.args.ty c.args.body.now c.args.parts.now)
     → with_items c.args.kept.now.pieces.sections.items c.in_ok-remade.remade.sections.items ≡ section_pieces (with_func c.args.ty c.args.body.now c.args.parts.now)
@@ -97,38 +86,23 @@ codes_len_is : (c : In-Some) → c.plus_code.result ≡ limited (codes_size (wit
 codes_len_is c codes =
     (limited_some c.in-Some.codes_len (codes_size (with_func c.args.ty c.args.body.now c.args.parts.now).funcs) (sym c.in-Some.is ∙ codes)).0
 
--- what is pending
-pending : (c : In_ok-verdicts) → IsFormed (with_func c.args.ty c.args.body.now c.args.parts.now) → listed c.of-lists.result ≡ lent (with_func c.args.ty c.args.body.now c.args.parts.now)
-    → c.len_after-len.result ≡ limited (length (encoded (with_func c.args.ty c.args.body.now c.args.parts.now)))
-    → IsPending c.of-lists.result c.in_ok-verdicts.verdicts.items c.len_after-len.result (with_func c.args.ty c.args.body.now c.args.parts.now)
-pending c well lists len = record {
-  formed = well;
-  profile = c.of-lists.ensures.profile;
-  lists = lists;
-  verdicts = c.in_ok-verdicts.ensures.verdicts;
-  len = len;
-}
-
-pub returns-in_err-appraisal-clause-err : goal.returns-in_err-appraisal-clause-err
-returns-in_err-appraisal-clause-err c =
+pub judged_func-requires-clause-len : goal.judged_func-requires-clause-len
+judged_func-requires-clause-len c =
     let n = with_func c.args.ty c.args.body.now c.args.parts.now in
-    let at = goal.at.returns-in_err-appraisal-clause-err c in
-    let lists = lists_are at.After-of-lists in
+    let at = goal.at.judged_func-requires-clause-len c in
     let codes = codes_len_is at.In-Some (codes_are at.After-plus_code (fits at.After-of-lists)) in
     let count : c.len.result ≡ length n.funcs = omega (arith, c.len.ensures, types_count at.After-of-lists) in
-    let len = c.len_after-len.ensures n c.requires.shaped.formed.order (overlaid at.In_ok-remade lists) count codes c.requires.kept.pieces.customs_len in
-    let p = err_from_is_err_and c.from_residual-in_err-appraisal.result c.from_residual-in_err-appraisal.ensures.1 in
-    rw (p.1, p.2) (c.in_err-appraisal.ensures n (pending at.In_ok-verdicts (formed at.After-of-lists) lists len))
+    c.len_after-len.ensures n c.requires.shaped.formed.order (overlaid at.In_ok-remade (lists_are at.After-of-lists)) count codes c.requires.kept.pieces.customs_len
+
+pub returns-in_err-verdicts-clause-err : goal.returns-in_err-verdicts-clause-err
+returns-in_err-verdicts-clause-err c =
+    let p = err_from_is_err_and c.from_residual-in_err-verdicts.result c.from_residual-in_err-verdicts.ensures.1 in
+    rw (p.1, p.2) c.in_err-verdicts.ensures.err
 
 pub returns-clause-ok : goal.returns-clause-ok
 returns-clause-ok c =
-    let n = with_func c.args.ty c.args.body.now c.args.parts.now in
     let at = goal.at.returns-clause-ok c in
-    let lists = lists_are at.After-of-lists in
-    let codes = codes_len_is at.In-Some (codes_are at.After-plus_code (fits at.After-of-lists)) in
-    let count : c.len.result ≡ length n.funcs = omega (arith, c.len.ensures, types_count at.After-of-lists) in
-    let len = c.len_after-len.ensures n c.requires.shaped.formed.order (overlaid at.In_ok-remade lists) count codes c.requires.kept.pieces.customs_len in
-    let appraised = c.in_ok-appraisal.ensures n (pending at.In_ok-verdicts (formed at.After-of-lists) lists len) in
+    let appraised = c.in_ok-verdicts.ensures.ok in
     record {
       stands = appraised.0;
       formed = formed at.After-of-lists;
@@ -137,9 +111,9 @@ returns-clause-ok c =
       uses = c.in_ok-uses.ensures (record { ty = c.args.ty; body = c.args.body.now }) refl refl;
       verdicts = c.in_ok-verdicts.ensures.verdicts;
       code = c.in_ok-code.ensures.code;
-      codes_len = codes;
+      codes_len = codes_len_is at.In-Some (codes_are at.After-plus_code (fits at.After-of-lists));
       encoded = c.in_ok-code.ensures.made;
-      sections = overlaid at.In_ok-remade lists;
+      sections = overlaid at.In_ok-remade (lists_are at.After-of-lists);
       count = ap length c.in_ok-remade.ensures.sections ∙ sym (ap length c.requires.kept.pieces.sections);
       made = c.in_ok-remade.ensures.made;
     }
