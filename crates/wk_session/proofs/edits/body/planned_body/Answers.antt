@@ -20,7 +20,7 @@ use Rattle.wk_session.proofs.BodyEdits.{body_sections, body_unencoded, codes_giv
 use Rattle.wk_session.proofs.Outcomes.{limited-some}
 use Rattle.wk_session.proofs.Piecing.{codes_within, entries_codes}
 use Rattle.wk_session.proofs.edits.body.planned_body.Goals as goal
-use Rattle.wk_session.proofs.edits.body.planned_body.Goals.{After-codes_len_with, After-of-lists, After-len, In-Some, In_ok-no_news}
+use Rattle.wk_session.proofs.edits.body.planned_body.Goals.{After-codes_len_with, In-Some, In_ok-no_news}
 
 pub returns-in_err-code-clause-err : goal.returns-in_err-code-clause-err
 returns-in_err-code-clause-err c =
@@ -54,25 +54,6 @@ returns-in_default-clause-err c =
 pub len_after-len-requires-clause-count : goal.len_after-len-requires-clause-count
 len_after-len-requires-clause-count c = omega (arith, c.len.ensures, funcs_numbered c.args.parts.now c.requires.shaped.formed)
 
--- the lists that are lent are those of the module with the other body
-lists_are : (c : After-of-lists) → listed c.of-lists.result ≡ lent (with_body c.args.entry c.args.body.now c.args.parts.now)
-lists_are c =
-    lent_given c.args.entry c.args.body.now c.args.parts.now c.deref.result.now _ c.of-lists.ensures.lists (c.deref.ensures.value ∙ c.requires.kept.types)
-
-formed : (c : After-of-lists) → IsFormed (with_body c.args.entry c.args.body.now c.args.parts.now)
-formed c = body_formed c.args.entry c.args.body.now c.args.parts.now c.requires.valid c.requires.shaped.formed
-
-pub appraise-requires-clause-numbered : goal.appraise-requires-clause-numbered
-appraise-requires-clause-numbered c =
-    let at = (goal.at.appraise-requires-clause-numbered c).After-of-lists in
-    numbered_lent (with_body c.args.entry c.args.body.now c.args.parts.now) _ (lists_are at) (formed at)
-
-pub appraise-requires-clause-few : goal.appraise-requires-clause-few
-appraise-requires-clause-few c =
-    let n = with_body c.args.entry c.args.body.now c.args.parts.now in
-    let at = (goal.at.appraise-requires-clause-few c).After-of-lists in
-    omega (arith, ap length c.in_ok-verdicts.ensures.verdicts, length-map n.funcs (func_verdict (answers_of n)), funcs_numbered n (formed at))
-
 -- the length that is kept of all codes
 codes_len_is : (c : In-Some) → c.codes_len_with.result ≡ limited (codes_size (with_body c.args.entry c.args.body.now c.args.parts.now).funcs)
     → c.in-Some.codes_len ≡ codes_size (with_body c.args.entry c.args.body.now c.args.parts.now).funcs
@@ -85,46 +66,33 @@ overlaid c =
     let old = c.args.kept.now.pieces.sections.items in
     ap (λ (news : List (Option (List ℕ))). with_items old news) c.in_ok-no_news.ensures ∙ body_sections c.args.entry c.args.body.now c.args.parts.now old c.requires.kept.pieces.sections
 
--- what is pending
-pending : (c : After-of-lists) → c.len_after-len.result ≡ limited (length (encoded (with_body c.args.entry c.args.body.now c.args.parts.now)))
-    → IsPending c.of-lists.result c.in_ok-verdicts.verdicts.items c.len_after-len.result (with_body c.args.entry c.args.body.now c.args.parts.now)
-pending c len = record {
-  formed = formed c;
-  profile = c.of-lists.ensures.profile;
-  lists = lists_are c;
-  verdicts = c.in_ok-verdicts.ensures.verdicts;
-  len = len;
-}
-
-pub returns-in_err-appraisal-clause-err : goal.returns-in_err-appraisal-clause-err
-returns-in_err-appraisal-clause-err c =
+pub judged_body-requires-clause-len : goal.judged_body-requires-clause-len
+judged_body-requires-clause-len c =
     let m = c.args.parts.now in
     let n = with_body c.args.entry c.args.body.now m in
-    let at = goal.at.returns-in_err-appraisal-clause-err c in
+    let at = goal.at.judged_body-requires-clause-len c in
     let codes = codes_len_is at.In-Some (codes_are at.After-codes_len_with) in
     let count : c.len.result ≡ length n.funcs = omega (arith, c.len.ensures, length-given c.args.entry c.args.body.now m.funcs c.args.ty c.requires.ty) in
-    let len = c.len_after-len.ensures n c.requires.shaped.formed.order (overlaid at.In_ok-no_news) count codes c.requires.kept.pieces.customs_len in
-    let p = err_from_is_err_and c.from_residual-in_err-appraisal.result c.from_residual-in_err-appraisal.ensures.1 in
-    rw (p.1, p.2) (c.in_err-appraisal.ensures n (pending at.After-of-lists len))
+    c.len_after-len.ensures n c.requires.shaped.formed.order (overlaid at.In_ok-no_news) count codes c.requires.kept.pieces.customs_len
+
+pub returns-in_err-verdicts-clause-err : goal.returns-in_err-verdicts-clause-err
+returns-in_err-verdicts-clause-err c =
+    let p = err_from_is_err_and c.from_residual-in_err-verdicts.result c.from_residual-in_err-verdicts.ensures.1 in
+    rw (p.1, p.2) c.in_err-verdicts.ensures.err
 
 pub returns-clause-ok : goal.returns-clause-ok
 returns-clause-ok c =
-    let m = c.args.parts.now in
-    let n = with_body c.args.entry c.args.body.now m in
     let at = goal.at.returns-clause-ok c in
-    let codes = codes_len_is at.In-Some (codes_are at.After-codes_len_with) in
-    let count : c.len.result ≡ length n.funcs = omega (arith, c.len.ensures, length-given c.args.entry c.args.body.now m.funcs c.args.ty c.requires.ty) in
-    let len = c.len_after-len.ensures n c.requires.shaped.formed.order (overlaid at.In_ok-no_news) count codes c.requires.kept.pieces.customs_len in
-    let appraised = c.in_ok-appraisal.ensures n (pending at.After-of-lists len) in
+    let appraised = c.in_ok-verdicts.ensures.ok in
     record {
       stands = appraised.0;
-      formed = formed at.After-of-lists;
+      formed = body_formed c.args.entry c.args.body.now c.args.parts.now c.requires.valid c.requires.shaped.formed;
       verdict = appraised.1;
       len = appraised.2;
       uses = c.in_ok-uses.ensures (record { ty = c.args.ty; body = c.args.body.now }) refl refl;
       verdicts = c.in_ok-verdicts.ensures.verdicts;
       code = c.in_ok-code.ensures.code;
-      codes_len = codes;
+      codes_len = codes_len_is at.In-Some (codes_are at.After-codes_len_with);
       encoded = c.in_ok-code.ensures.made;
       sections = overlaid at.In_ok-no_news;
       count = ap length c.in_ok-no_news.ensures ∙ sym (ap length c.requires.kept.pieces.sections);

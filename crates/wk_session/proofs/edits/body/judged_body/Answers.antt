@@ -1,0 +1,52 @@
+use Rattle.std.proofs.Common.{◌≡◌, ◌∙◌, length, ap, arith}
+use Rattle.std.proofs.lemmas.List.{length-map}
+use Rattle.std.proofs.lemmas.Result.{err_from_is_err_and}
+use Rattle.wk_module.specs.Changes.{with_body}
+use Rattle.wk_module.specs.ChangeLaws.{body_formed}
+use Rattle.wk_module.specs.Listed.{listed}
+use Rattle.wk_module.specs.NumberedLaws.{funcs_numbered}
+use Rattle.wk_module.specs.Shape.{IsFormed}
+use Rattle.wk_check.specs.SpacesLaws.{answers_of}
+use Rattle.wk_check.specs.Verdict.{func_verdict}
+use Rattle.wk_session.specs.Kept.{IsPending}
+use Rattle.wk_session.proofs.BodyEdits.{lent_given}
+use Rattle.wk_session.proofs.EntryEdits.{lent, numbered_lent}
+use Rattle.wk_session.proofs.edits.body.judged_body.Goals as goal
+use Rattle.wk_session.proofs.edits.body.judged_body.Goals.{After-of-lists}
+
+formed : (c : After-of-lists) → IsFormed (with_body c.args.entry c.args.body.now c.args.parts.now)
+formed c = body_formed c.args.entry c.args.body.now c.args.parts.now c.requires.valid c.requires.shaped.formed
+
+-- the lists that are lent are those of the module with the other body
+lists_are : (c : After-of-lists) → listed c.of-lists.result ≡ lent (with_body c.args.entry c.args.body.now c.args.parts.now)
+lists_are c =
+    lent_given c.args.entry c.args.body.now c.args.parts.now c.deref.result.now _ c.of-lists.ensures.lists (c.deref.ensures.value ∙ c.requires.kept.types)
+
+-- what is pending
+pending : (c : After-of-lists) → IsPending c.of-lists.result c.in_ok-verdicts.verdicts.items c.args.len (with_body c.args.entry c.args.body.now c.args.parts.now)
+pending c = record {
+  formed = formed c;
+  profile = c.of-lists.ensures.profile;
+  lists = lists_are c;
+  verdicts = c.in_ok-verdicts.ensures.verdicts;
+  len = c.requires.len;
+}
+
+pub appraise-requires-clause-numbered : goal.appraise-requires-clause-numbered
+appraise-requires-clause-numbered c =
+    let at = (goal.at.appraise-requires-clause-numbered c).After-of-lists in
+    numbered_lent (with_body c.args.entry c.args.body.now c.args.parts.now) _ (lists_are at) (formed at)
+
+pub appraise-requires-clause-few : goal.appraise-requires-clause-few
+appraise-requires-clause-few c =
+    let n = with_body c.args.entry c.args.body.now c.args.parts.now in
+    omega (arith, ap length c.in_ok-verdicts.ensures.verdicts, length-map n.funcs (func_verdict (answers_of n)), funcs_numbered n (formed (goal.at.appraise-requires-clause-few c).After-of-lists))
+
+pub returns-in_err-appraisal-clause-err : goal.returns-in_err-appraisal-clause-err
+returns-in_err-appraisal-clause-err c =
+    let p = err_from_is_err_and c.from_residual-in_err-appraisal.result c.from_residual-in_err-appraisal.ensures.1 in
+    rw (p.1, p.2) (c.in_err-appraisal.ensures (with_body c.args.entry c.args.body.now c.args.parts.now) (pending (goal.at.returns-in_err-appraisal-clause-err c).After-of-lists))
+
+pub returns-clause-ok : goal.returns-clause-ok
+returns-clause-ok c =
+    c.in_ok-appraisal.ensures (with_body c.args.entry c.args.body.now c.args.parts.now) (pending (goal.at.returns-clause-ok c).After-of-lists)
