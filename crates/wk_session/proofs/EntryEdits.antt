@@ -41,7 +41,7 @@ use Rattle.wk_session.specs.declared.kept.Kept.{Kept}
 use Rattle.wk_session.specs.declared.pieces.Pieces.{Pieces}
 use Rattle.wk_session.specs.Dependents.{is_retyped_in, work_of}
 use Rattle.wk_session.specs.Edits.{fitting, lasting, made}
-use Rattle.wk_session.specs.Functions.{IsKeptWithType, IsPlanned, body_spelled}
+use Rattle.wk_session.specs.Functions.{IsPlanned, body_spelled}
 use Rattle.wk_session.specs.Kept.{IsKept, Leads, uses_of, standing}
 use Rattle.wk_session.specs.Overlays.{with_items}
 use Rattle.wk_session.specs.Pieces.{ArePieces, IsOverlong, code_of, codes_size, entries_size, one_new, section_piece, section_pieces}

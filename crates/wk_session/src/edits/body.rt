@@ -155,8 +155,7 @@ fn planned_body(
         pieces.customs_len,
     );
     let uses = func_uses(alloc, ty, body)?;
-    let (verdicts, appraisal) =
-        judged_body(alloc, keep, parts, kept, entry, ty, body, len, meter)?;
+    let (verdicts, appraisal) = judged_body(alloc, keep, parts, kept, entry, ty, body, len, meter)?;
     Ok(Entry {
         uses,
         verdicts,

@@ -1,5 +1,4 @@
-use Rattle.std.proofs.Common.{◌≡◌, ◌+◌, ◌-◌, ◌≤◌, set, length, sym, ap, refl, ◌∙◌, arith, zero-add}
-use Rattle.std.specs.Prelude.{Some}
+use Rattle.std.proofs.Common.{◌≡◌, ◌+◌, ◌-◌, set, length, sym, ap, refl, ◌∙◌, arith, zero-add}
 use Rattle.wk_body.specs.Lengths.{limited}
 use Rattle.wk_body.specs.LengthsLaws.{limited_none, limited_some}
 use Rattle.wk_module.specs.Sizes.{entry_size}

@@ -1,22 +1,15 @@
-use Rattle.std.proofs.Common.{◌≡◌, ◌+◌, ◌≤◌, ℕ, List, Some, None, Option, Result, Err, length, map, set, ap, sym, subst, ◌∙◌, refl, arith}
+use Rattle.std.proofs.Common.{◌≡◌, ℕ, List, Option, length, set, ap, sym, ◌∙◌, refl, arith}
 use Rattle.std.proofs.lemmas.Result.{err_from_is_err_and}
-use Rattle.std.proofs.lemmas.List.{length-map}
-use Rattle.wk_bytes.specs.Frames.{limit}
 use Rattle.wk_body.specs.Lengths.{limited}
 use Rattle.wk_body.specs.LengthsLaws.{limited_some}
 use Rattle.wk_module.specs.Changes.{with_body}
 use Rattle.wk_module.specs.ChangeLaws.{body_formed}
-use Rattle.wk_module.specs.Listed.{listed, listed_with}
 use Rattle.wk_module.specs.NumberedLaws.{funcs_numbered}
-use Rattle.wk_module.specs.Shape.{IsFormed}
-use Rattle.wk_module.specs.Writing.{encoded, Fits}
-use Rattle.wk_check.specs.SpacesLaws.{answers_of}
-use Rattle.wk_check.specs.Verdict.{func_verdict}
-use Rattle.wk_session.specs.Kept.{IsPending}
+use Rattle.wk_module.specs.Writing.{encoded}
 use Rattle.wk_session.specs.Overlays.{with_items}
-use Rattle.wk_session.specs.Pieces.{code_of, codes_size, entries_size, no_news, section_pieces}
-use Rattle.wk_session.proofs.EntryEdits.{codes_large, lent, numbered_lent}
-use Rattle.wk_session.proofs.BodyEdits.{body_sections, body_unencoded, codes_given, length-given, lent_given}
+use Rattle.wk_session.specs.Pieces.{codes_size, entries_size, section_pieces}
+use Rattle.wk_session.proofs.EntryEdits.{codes_large}
+use Rattle.wk_session.proofs.BodyEdits.{body_sections, body_unencoded, codes_given, length-given}
 use Rattle.wk_session.proofs.Outcomes.{limited-some}
 use Rattle.wk_session.proofs.Piecing.{codes_within, entries_codes}
 use Rattle.wk_session.proofs.edits.body.planned_body.Goals as goal

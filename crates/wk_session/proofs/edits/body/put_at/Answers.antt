@@ -1,8 +1,7 @@
-use Rattle.std.proofs.Common.{◌<◌, length, ap, ◌∙◌, arith}
+use Rattle.std.proofs.Common.{length, ap, ◌∙◌, arith}
 use Rattle.std.proofs.lemmas.List.{length-map}
 use Rattle.wk_session.specs.declared.kept.Kept.{Kept}
 use Rattle.wk_session.specs.Kept.{uses_of}
-use Rattle.wk_session.specs.Overlays.{with_items}
 use Rattle.wk_session.proofs.BodyEdits.{body_kept, body_leads, other_at}
 use Rattle.wk_session.proofs.edits.body.put_at.Goals as goal
 

@@ -1,9 +1,8 @@
-use Rattle.std.proofs.Common.{◌≡◌, ◌<◌, ◌^◌, List, ap, ◌∙◌, arith}
+use Rattle.std.proofs.Common.{◌<◌, ◌^◌, ap, ◌∙◌, arith}
 use Rattle.wk_module.specs.Changes.{with_func}
 use Rattle.wk_check.specs.SpacesLaws.{answers_of}
 use Rattle.wk_session.specs.declared.kept.Kept.{Kept}
 use Rattle.wk_session.specs.Dependents.{is_retyped_in}
-use Rattle.wk_session.specs.Kept.{IsKept}
 use Rattle.wk_session.specs.Overlays.{with_items}
 use Rattle.wk_session.proofs.EntryEdits.{few_typed, func_kept, func_leads, one_more}
 use Rattle.wk_session.proofs.edits.function.add_func.Goals as goal

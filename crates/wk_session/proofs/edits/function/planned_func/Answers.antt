@@ -1,21 +1,18 @@
-use Rattle.std.proofs.Common.{◌≡◌, ◌+◌, ℕ, List, Some, None, Option, Result, Err, length, map, ap, sym, subst, ◌∙◌, refl, arith, length-append, length-set}
+use Rattle.std.proofs.Common.{◌≡◌, ◌+◌, ℕ, List, Option, length, ap, sym, subst, ◌∙◌, refl, arith}
 use Rattle.std.proofs.lemmas.Result.{err_from_is_err_and}
 use Rattle.std.proofs.lemmas.List.{length-map}
 use Rattle.wk_body.specs.Lengths.{limited}
 use Rattle.wk_body.specs.LengthsLaws.{limited_some}
 use Rattle.wk_module.specs.Changes.{with_func}
-use Rattle.wk_module.specs.Listed.{listed, listed_with}
+use Rattle.wk_module.specs.Listed.{listed}
 use Rattle.wk_module.specs.NumberedLaws.{funcs_numbered}
 use Rattle.wk_module.specs.Sections.{SectionLists, of_number}
 use Rattle.wk_module.specs.Shape.{IsFormed}
 use Rattle.wk_module.specs.Sizes.{entry_size}
 use Rattle.wk_module.specs.Writing.{contents_by, encoded, Fits}
-use Rattle.wk_check.specs.SpacesLaws.{answers_of}
-use Rattle.wk_check.specs.Verdict.{func_verdict}
-use Rattle.wk_session.specs.Kept.{IsPending, standing}
 use Rattle.wk_session.specs.Overlays.{with_items}
 use Rattle.wk_session.specs.Pieces.{IsOverlong, codes_size, one_new, section_pieces}
-use Rattle.wk_session.proofs.EntryEdits.{codes_kept, codes_large, codes_more, func_formed_from, func_sections, func_unencoded, lent, lent_is, numbered_lent, types_with}
+use Rattle.wk_session.proofs.EntryEdits.{codes_kept, codes_large, codes_more, func_formed_from, func_sections, func_unencoded, lent, lent_is, types_with}
 use Rattle.wk_session.proofs.Outcomes.{limited-some}
 use Rattle.wk_session.proofs.Piecing.{unwritten}
 use Rattle.wk_session.proofs.edits.function.planned_func.Goals as goal
