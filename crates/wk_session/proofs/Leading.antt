@@ -1,5 +1,5 @@
 -- What an edit leaves, by how judging the module that it makes was answered.
-use Rattle.std.proofs.Common.{◌≡◌, ◌≢◌, ℕ, Bool, true, false, Option, Some, None, Result, Ok, Err, length, map, refl, sym, ap, subst, ◌∙◌}
+use Rattle.std.proofs.Common.{◌≡◌, ◌≢◌, ℕ, Bool, true, false, Option, Some, None, Result, Ok, Err, length, map, unwrap_or, refl, sym, ap, subst, ◌∙◌}
 use Rattle.std.specs.Option.{is_some}
 use Rattle.wk_bytes.specs.Leb.{◌>>=◌}
 use Rattle.wk_body.specs.declared.references.Ref.{Ref}
@@ -66,7 +66,7 @@ is_none_at (Some len) h = absurd cc
 
 -- a judgement of the new module comes to what is kept
 pub judged_kept : (keep : Bool) (before : Ref → Found) (n : Parts) (typed : ℕ) (k new : Kept) (j : Judgement) → AreKept before n k → MayStay keep before n k typed j
-    → new ≡ record k { verdict = j.appraisal.verdict; len = j.appraisal.len; verdicts = j.verdicts; pieces = record k.pieces { sections = new.pieces.sections } }
+    → new ≡ record k { verdict = j.appraisal.verdict; len = j.appraisal.len; verdicts = unwrap_or j.verdicts k.verdicts; pieces = record k.pieces { sections = new.pieces.sections } }
     → new.pieces.sections.items ≡ with_items k.pieces.sections.items j.remade.sections.items → IsKept n new
 judged_kept keep before n typed k new j kept may is sections = record {
   verdict = ap (λ (x : Kept). x.verdict) is ∙ may.verdict;

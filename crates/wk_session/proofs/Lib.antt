@@ -31,4 +31,4 @@ pub mod Shaping
 pub mod NewSections
 pub mod CodeLengths
 pub mod ImportPieces
-pub mod Opening
+pub mod Growing

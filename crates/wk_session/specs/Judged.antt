@@ -1,10 +1,11 @@
 -- What is kept of a module to which something comes that is no function, and what judging it gives.
-use Rattle.std.specs.Prelude.{◌≡◌, ℕ, Bool, Some, Result, Ok, Err, length, map, count_by}
+use Rattle.std.specs.Prelude.{◌≡◌, ℕ, Bool, Some, Result, Ok, Err, length, map, count_by, unwrap_or}
 use Rattle.wk_body.specs.declared.references.Ref.{Ref}
 use Rattle.wk_body.specs.Lengths.{limited}
 use Rattle.wk_module.specs.declared.types.Parts.{Parts}
 use Rattle.wk_module.specs.Shape.{settle}
 use Rattle.wk_module.specs.Writing.{encoded}
+use Rattle.wk_check.specs.declared.fault.Verdict.{Verdict}
 use Rattle.wk_check.specs.Answers.{Found}
 use Rattle.wk_check.specs.SpacesLaws.{answers_of}
 use Rattle.wk_check.specs.Verdict.{func_verdict, module_verdict}
@@ -25,13 +26,20 @@ pub record AreKept (before : Ref → Found) (n : Parts) (k : Kept) : Type 0 wher
   pub codes_len : k.pieces.codes_len ≡ codes_size n.funcs
   pub customs_len : k.pieces.customs_len ≡ customs_size n.customs
 
+-- That is the verdict of n, where nothing that a function of n refers to is found to be another thing than before: no body is typed, and
+-- each has the verdict that it had.
+pub record IsKnown (before : Ref → Found) (n : Parts) (v : Verdict) : Type 0 where
+  pub verdict : v ≡ module_verdict n
+  pub verdicts : map (func_verdict before) n.funcs ≡ map (func_verdict (answers_of n)) n.funcs
+  pub typed : 0 ≡ count_by (is_retyped_in before (answers_of n)) n.funcs
+
 -- n may stay, and that is to be kept of it in the place of what is kept; one section was made anew, and so many bodies were typed: those
--- that find another thing than before
+-- that find another thing than before. Where no verdicts of bodies stand, those that are kept stay.
 pub record MayStay (keep : Bool) (before : Ref → Found) (n : Parts) (k : Kept) (typed : ℕ) (j : Judgement) : Type 0 where
   pub stands : standing keep n ≡ Ok (settle n)
   pub verdict : j.appraisal.verdict ≡ module_verdict n
   pub len : limited (length (encoded n)) ≡ Some j.appraisal.len
-  pub verdicts : j.verdicts.items ≡ map (func_verdict (answers_of n)) n.funcs
+  pub verdicts : (unwrap_or j.verdicts k.verdicts).items ≡ map (func_verdict (answers_of n)) n.funcs
   pub sections : with_items k.pieces.sections.items j.remade.sections.items ≡ section_pieces n
   pub count : length j.remade.sections.items ≡ length k.pieces.sections.items
   pub made : j.remade.made ≡ 1

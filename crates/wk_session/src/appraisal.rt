@@ -1,8 +1,12 @@
 //! Whether a module that an edit would make may stay, and what is to be kept of it.
 
-ghost use Rattle.std.specs.Prelude.{◌<◌, ◌^◌, length};
+ghost use Rattle.std.specs.Prelude.{◌≡◌, ◌<◌, ◌^◌, length};
+ghost use Rattle.wk_body.specs.Lengths.{limited};
 ghost use Rattle.wk_module.specs.declared.types.Parts.{Parts as PartsOf};
 ghost use Rattle.wk_module.specs.Listed.{AreNumbered, listed};
+ghost use Rattle.wk_module.specs.Shape.{IsFormed};
+ghost use Rattle.wk_module.specs.Writing.{encoded};
+ghost use Rattle.wk_check.specs.Verdict.{module_verdict};
 ghost use Rattle.wk_session.specs.Kept.{IsPending, IsAppraised};
 
 use crate::edit::EditFault;
@@ -19,6 +23,20 @@ pub(crate) struct Appraisal {
     pub(crate) len: u32,
 }
 
+/// Whether a module that an edit would make may stay, which has that verdict, and that length where it is not past the limit; or says
+/// why the edit is refused, where `keep` says whether the module has to be valid. It takes no memory.
+pub(crate) fn admit(keep: bool, verdict: Verdict, len: Option<u32>) -> Result<Appraisal, EditFault>
+    ensures { (n : PartsOf) → IsFormed n → verdict ≡ module_verdict n → len ≡ limited (length (encoded n)) → IsAppraised keep n result }
+{
+    let Some(len) = len else {
+        return Err(EditFault::TooLarge);
+    };
+    match verdict {
+        Verdict::Invalid(fault) if keep => Err(EditFault::WouldBreak(fault)),
+        _ => Ok(Appraisal { verdict, len }),
+    }
+}
+
 /// Judges a module that an edit would make, by its lists and the verdicts of its bodies, where its length is not past the limit; or says
 /// why the edit is refused, where `keep` says whether the module has to be valid.
 pub(crate) fn appraise(
@@ -32,12 +50,9 @@ pub(crate) fn appraise(
     requires few { length verdicts.now.items < 2 ^ 32 }
     ensures { (n : PartsOf) → IsPending lists.now verdicts.now.items len n → IsAppraised keep n result }
 {
-    let Some(len) = len else {
+    if len.is_none() {
         return Err(EditFault::TooLarge);
-    };
-    let verdict = judge_around(alloc, lists, first_code_fault(verdicts))?;
-    match verdict {
-        Verdict::Invalid(fault) if keep => Err(EditFault::WouldBreak(fault)),
-        _ => Ok(Appraisal { verdict, len }),
     }
+    let verdict = judge_around(alloc, lists, first_code_fault(verdicts))?;
+    admit(keep, verdict, len)
 }

@@ -1,12 +1,13 @@
 //! Exports: one more, or one less.
 
-ghost use Rattle.std.specs.Prelude.{◌≡◌, ◌<◌, ◌≤◌, insert, length, remove, vec_capacity, vec_len, OnOk, OnErr};
+ghost use Rattle.std.specs.Prelude.{◌≡◌, ◌≢◌, ◌<◌, ◌≤◌, insert, length, remove, vec_capacity, vec_len, IfNone, IfSome, OnOk, OnErr};
 ghost use Rattle.std.specs.List.{position_from};
 ghost use Rattle.std.specs.Str.{bytes_eq};
 ghost use Rattle.wk_module.specs.Changes.{with_export};
 ghost use Rattle.wk_module.specs.Items.{IsExport};
 ghost use Rattle.wk_module.specs.Shape.{IsFormed, IsShaped};
 ghost use Rattle.wk_check.specs.SpacesLaws.{answers_of};
+ghost use Rattle.wk_check.specs.Verdict.{module_verdict};
 ghost use Rattle.wk_session.specs.declared.edit.Edit.{Edit};
 ghost use Rattle.wk_session.specs.Judged.{AreKept};
 ghost use Rattle.wk_session.specs.Exported.{IsExported};
@@ -14,7 +15,7 @@ ghost use Rattle.wk_session.specs.Kept.{IsKept, Leads};
 ghost use Rattle.wk_session.specs.Overlays.{with_items};
 ghost use Rattle.wk_session.specs.Pieces.{one_new, section_piece, section_pieces};
 
-use crate::appraisal::{Appraisal, appraise};
+use crate::appraisal::{Appraisal, admit, appraise};
 use crate::edit::{EditFault, Reply, Work};
 use crate::edits::item_len::len_with_export;
 use crate::kept::Kept;
@@ -24,6 +25,7 @@ use crate::pieces::{NewSections, one_remade};
 use std::alloc::Global;
 use std::mem;
 use wk_bytes::{Items, Text};
+use wk_check::{Verdict, laws_of_valid_modules, verdict_with_export};
 use wk_module::{Export, Lists, Parts};
 
 /// The id of the export section (5.5.2).
@@ -38,16 +40,45 @@ struct Exported {
     remade: NewSections,
 }
 
-// Judges and measures a module with these exports in the place of its own.
+// The verdict of a module with an export more, where it is known: where the one without is valid.
+fn known_with_export(parts: &Parts, kept: &Kept, export: &Export) -> Option<Verdict>
+    requires shaped { IsShaped parts.now }
+    requires kept { IsKept parts.now kept.now }
+    ensures some { IfSome result (λ v. v ≡ module_verdict (with_export export.now parts.now)) }
+    ensures none { IfNone result (kept.now.verdict ≢ Verdict.Valid) }
+{
+    match kept.verdict {
+        Verdict::Valid => Some(verdict_with_export(&Lists::of(parts, &kept.types), export)),
+        Verdict::Invalid(_) => None,
+    }
+}
+
+// The verdict of a module without one of its exports, where it is known: where the one with it is valid.
+fn known_without_export(parts: &Parts, kept: &Kept, place: usize) -> Option<Verdict>
+    requires kept { IsKept parts.now kept.now }
+    ensures some { IfSome result (λ v. v ≡ module_verdict (record parts.now { exports = remove parts.now.exports place })) }
+    ensures none { IfNone result (kept.now.verdict ≢ Verdict.Valid) }
+{
+    // The proof asks what this says: no export is what another one needs.
+    laws_of_valid_modules();
+    match kept.verdict {
+        Verdict::Valid => Some(Verdict::Valid),
+        Verdict::Invalid(_) => None,
+    }
+}
+
+// Judges and measures a module with these exports in the place of its own. Where its verdict is known it is not judged.
 fn appraise_exports(
     alloc: Global,
     keep: bool,
     parts: &Parts,
     kept: &Kept,
     exports: &[Export],
+    known: Option<Verdict>,
 ) -> Result<Exported, EditFault>
     requires formed { IsFormed (record parts.now { exports = exports.now }) }
     requires kept { AreKept (answers_of parts.now) parts.now kept.now }
+    requires known { IfSome known (λ v. v ≡ module_verdict (record parts.now { exports = exports.now })) }
     requires others { with_items kept.now.pieces.sections.items (one_new 7 (section_piece 7 (record parts.now { exports = exports.now }))) ≡ section_pieces (record parts.now { exports = exports.now }) }
     ensures { IsExported keep (record parts.now { exports = exports.now }) kept.now result }
 {
@@ -64,7 +95,10 @@ fn appraise_exports(
         pieces.codes_len,
         pieces.customs_len,
     );
-    let appraisal = appraise(alloc, keep, &lists, &kept.verdicts, len)?;
+    let appraisal = match known {
+        Some(verdict) => admit(keep, verdict, len)?,
+        None => appraise(alloc, keep, &lists, &kept.verdicts, len)?,
+    };
     Ok(Exported { appraisal, remade })
 }
 
@@ -105,8 +139,9 @@ fn push_export(
     ensures err { OnErr result (parts.new ≡ parts.old) }
     ensures exported { IsExported keep (with_export export parts.old) kept.now result }
 {
+    let known = known_with_export(parts, kept, &export);
     parts.exports.push(export)?;
-    let exported = appraise_exports(alloc, keep, parts, kept, parts.exports.as_slice());
+    let exported = appraise_exports(alloc, keep, parts, kept, parts.exports.as_slice(), known);
     if exported.is_err() {
         let _ = parts.exports.pop();
     }
@@ -171,9 +206,10 @@ fn take_export(
     ensures err { OnErr result (parts.new ≡ parts.old) }
     ensures exported { IsExported keep (record parts.old { exports = remove parts.old.exports place }) kept.now result }
 {
+    let known = known_without_export(parts, kept, place);
     let mut exports = mem::replace(&mut parts.exports, Items::new(alloc)).into_vec();
     let export = exports.remove(place);
-    match appraise_exports(alloc, keep, parts, kept, &exports) {
+    match appraise_exports(alloc, keep, parts, kept, &exports, known) {
         Ok(exported) => {
             parts.exports = Items::from_vec(exports);
             Ok(exported)

@@ -1,22 +1,23 @@
 //! A global more.
 
-ghost use Rattle.std.specs.Prelude.{◌≡◌, ◌≢◌, ◌<◌, ◌-◌, ◌∷◌, ◌++◌, [], Ok, Err, length, take, IfOk, IfErr, OnOk, OnErr};
+ghost use Rattle.std.specs.Prelude.{◌≡◌, ◌≢◌, ◌<◌, ◌-◌, ◌∷◌, ◌++◌, [], Ok, Err, length, take, IfOk, IfErr, IfNone, IfSome, OnOk, OnErr};
 ghost use Rattle.wk_body.specs.Reading.{all_expr_at, whole_at};
+ghost use Rattle.wk_module.specs.Changes.{with_global};
 ghost use Rattle.wk_module.specs.Items.{IsInit};
 ghost use Rattle.wk_module.specs.Listed.{listed};
 ghost use Rattle.wk_module.specs.Shape.{IsShaped};
 ghost use Rattle.wk_check.specs.SpacesLaws.{answers_of};
 ghost use Rattle.wk_session.specs.declared.edit.Edit.{Edit};
 ghost use Rattle.wk_session.specs.Edits.{from_bytes};
-ghost use Rattle.wk_session.specs.Judged.{IsJudged};
+ghost use Rattle.wk_session.specs.Judged.{IsJudged, IsKnown};
 ghost use Rattle.wk_session.specs.Kept.{IsKept, Leads};
 
 use crate::edit::{EditFault, Reply, Work};
 use crate::edits::one_more::{Judgement, judge_grown, keep_judgement};
 use crate::kept::Kept;
 use std::alloc::Global;
-use wk_bytes::{Items, ReadFault, ReadKind};
-use wk_check::Meter;
+use wk_bytes::{Items, OutOfMemory, ReadFault, ReadKind};
+use wk_check::{Meter, Verdict, laws_of_valid_modules, verdict_with_global};
 use wk_module::{Expr, GlobalDef, GlobalType, Lists, Parts, Profile, read_expr_in};
 
 /// The id of the global section (5.5.2).
@@ -58,6 +59,28 @@ fn without_last_global<'a>(lists: Lists<'a>) -> Lists<'a>
     Lists { globals, ..lists }
 }
 
+// The verdict of a module with a global more, where it is known: where the one without is valid.
+fn known_with_global(
+    alloc: Global,
+    parts: &Parts,
+    kept: &Kept,
+    global: &GlobalDef,
+) -> Result<Option<Verdict>, OutOfMemory>
+    requires shaped { IsShaped parts.now }
+    requires kept { IsKept parts.now kept.now }
+    ensures some { IfOk result (λ known. IfSome known (IsKnown (answers_of parts.now) (with_global global.now.ty global.now.init parts.now))) }
+    ensures none { IfOk result (λ known. IfNone known (kept.now.verdict ≢ Verdict.Valid)) }
+{
+    // The proof asks what this says: bodies of a valid module find what they found.
+    laws_of_valid_modules();
+    if let Verdict::Invalid(_) = kept.verdict {
+        return Ok(None);
+    }
+    let lists = Lists::of(parts, &kept.types);
+    let verdict = verdict_with_global(alloc, &lists, global.ty, &global.init)?;
+    Ok(Some(verdict))
+}
+
 // Appends a global where the module with it may stay, and says what is to be kept of it; or leaves the parts as they were.
 fn push_global(
     alloc: Global,
@@ -75,9 +98,10 @@ fn push_global(
     ensures err { OnErr result (parts.new ≡ parts.old) }
     ensures judged { IsJudged keep (answers_of parts.old) (record parts.old { globals = parts.old.globals ++ global ∷ [] }) kept.now meter.new result }
 {
+    let known = known_with_global(alloc, parts, kept, &global)?;
     parts.globals.push(global)?;
     let before = without_last_global(Lists::of(parts, &kept.types));
-    let judged = judge_grown(alloc, keep, before, parts, kept, SECTION, meter);
+    let judged = judge_grown(alloc, keep, before, parts, kept, SECTION, known, meter);
     if judged.is_err() {
         let _ = parts.globals.pop();
     }

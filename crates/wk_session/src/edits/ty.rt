@@ -1,12 +1,12 @@
 //! A type more.
 
-ghost use Rattle.std.specs.Prelude.{◌≡◌, ◌<◌, ◌-◌, length, take, OnOk, OnErr};
+ghost use Rattle.std.specs.Prelude.{◌≡◌, ◌≢◌, ◌<◌, ◌-◌, length, take, IfNone, IfSome, OnOk, OnErr};
 ghost use Rattle.wk_module.specs.Listed.{listed};
 ghost use Rattle.wk_module.specs.Changes.{with_type};
 ghost use Rattle.wk_module.specs.Shape.{IsShaped};
 ghost use Rattle.wk_check.specs.SpacesLaws.{answers_of};
 ghost use Rattle.wk_session.specs.declared.edit.Edit.{Edit};
-ghost use Rattle.wk_session.specs.Judged.{IsJudged};
+ghost use Rattle.wk_session.specs.Judged.{IsJudged, IsKnown};
 ghost use Rattle.wk_session.specs.Kept.{IsKept, Leads};
 
 use crate::edit::{EditFault, Reply, Work};
@@ -14,7 +14,7 @@ use crate::edits::item_len::len_with_type;
 use crate::edits::one_more::{Judgement, judge_grown, keep_judgement};
 use crate::kept::Kept;
 use std::alloc::Global;
-use wk_check::Meter;
+use wk_check::{Meter, Verdict, laws_of_valid_modules, verdict_with_type};
 use wk_module::{FuncType, Lists, Parts};
 
 /// The id of the type section (5.5.2).
@@ -27,6 +27,21 @@ fn without_last_type<'a>(lists: Lists<'a>) -> Lists<'a>
 {
     let types = &lists.types[..lists.types.len() - 1];
     Lists { types, ..lists }
+}
+
+// The verdict of a module with a type more, where it is known: where the one without is valid.
+fn known_with_type(parts: &Parts, kept: &Kept, ty: &FuncType) -> Option<Verdict>
+    requires shaped { IsShaped parts.now }
+    requires kept { IsKept parts.now kept.now }
+    ensures some { IfSome result (IsKnown (answers_of parts.now) (with_type ty.now parts.now)) }
+    ensures none { IfNone result (kept.now.verdict ≢ Verdict.Valid) }
+{
+    // The proof asks what this says: bodies of a valid module find what they found.
+    laws_of_valid_modules();
+    match kept.verdict {
+        Verdict::Valid => Some(verdict_with_type(parts.profile, parts.types.len() as u32, ty)),
+        Verdict::Invalid(_) => None,
+    }
 }
 
 // Appends a type where the module with it may stay, and says what is to be kept of it; or leaves the parts as they were.
@@ -45,9 +60,10 @@ fn push_type(
     ensures err { OnErr result (parts.new ≡ parts.old) }
     ensures judged { IsJudged keep (answers_of parts.old) (with_type ty parts.old) kept.now meter.new result }
 {
+    let known = known_with_type(parts, kept, &ty);
     parts.types.push(ty)?;
     let before = without_last_type(Lists::of(parts, &kept.types));
-    let judged = judge_grown(alloc, keep, before, parts, kept, SECTION, meter);
+    let judged = judge_grown(alloc, keep, before, parts, kept, SECTION, known, meter);
     if judged.is_err() {
         let _ = parts.types.pop();
     }

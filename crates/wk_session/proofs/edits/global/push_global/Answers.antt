@@ -1,4 +1,5 @@
 use Rattle.std.proofs.Common.{◌≡◌, ℕ, List, length, map, sym, ap, subst, ◌∙◌}
+use Rattle.std.specs.Prelude.{IfSome}
 use Rattle.wk_body.specs.declared.references.Ref.{Ref}
 use Rattle.wk_module.specs.declared.types.GlobalDef.{GlobalDef}
 use Rattle.wk_module.specs.Listed.{listed}
@@ -12,7 +13,7 @@ use Rattle.wk_check.specs.Finds.{Grows}
 use Rattle.wk_check.specs.Spaces.{answer_in, spaces_of}
 use Rattle.wk_check.specs.SpacesLaws.{answers_of, global_grows}
 use Rattle.wk_check.specs.Verdict.{func_verdict}
-use Rattle.wk_session.specs.Judged.{IsJudged}
+use Rattle.wk_session.specs.Judged.{IsJudged, IsKnown}
 use Rattle.wk_session.specs.Overlays.{with_items}
 use Rattle.wk_session.specs.Pieces.{one_new, section_piece}
 use Rattle.wk_module.specs.declared.types.Parts.{Parts}
@@ -52,6 +53,14 @@ judge_grown-judged-requires-clause-kept c =
       codes_len = c.requires.kept.pieces.codes_len;
       customs_len = c.requires.kept.pieces.customs_len;
     }
+
+pub judge_grown-judged-requires-clause-known : goal.judge_grown-judged-requires-clause-known
+judge_grown-judged-requires-clause-known c =
+    let m = c.args.parts.now in
+    let known = c.in_ok-known.known in
+    let before = before_is (goal.at.judge_grown-judged-requires-clause-known c).After-without_last_global-before in
+    let with_globals = subst (λ (gs : List GlobalDef). IfSome known (IsKnown (answers_of m) (record m { globals = gs }))) (sym c.in_ok-push.ensures.ok) c.in_ok-known.ensures.some in
+    subst (λ (A : Ref → Found). IfSome known (IsKnown A (record m { globals = c.push.new.self }))) (sym before) with_globals
 
 pub judge_grown-judged-requires-clause-others : goal.judge_grown-judged-requires-clause-others
 judge_grown-judged-requires-clause-others c =

@@ -1,12 +1,15 @@
 use Rattle.std.proofs.Common.{◌≡◌, ◌<◌, ◌^◌, ℕ, List, Option, Some, Result, Ok, Err, length, map, ap, sym, subst, ◌∙◌, arith, length-set}
+use Rattle.std.specs.Prelude.{IfSome}
 use Rattle.std.proofs.lemmas.List.{length-map}
 use Rattle.std.proofs.lemmas.Result.{err_from_is_err_and}
+use Rattle.wk_body.specs.Lengths.{limited}
 use Rattle.wk_module.specs.declared.types.Func.{Func}
 use Rattle.wk_module.specs.declared.types.Parts.{Parts}
 use Rattle.wk_module.specs.Listed.{listed, listed_with}
 use Rattle.wk_module.specs.NumberedLaws.{funcs_numbered, module_numbered_with}
 use Rattle.wk_module.specs.Sections.{SectionLists, of_number}
-use Rattle.wk_module.specs.Writing.{contents_by}
+use Rattle.wk_module.specs.Writing.{contents_by, encoded}
+use Rattle.wk_check.specs.declared.fault.Verdict.{Verdict}
 use Rattle.wk_check.specs.SpacesLaws.{answers_of}
 use Rattle.wk_check.specs.Verdict.{func_verdict}
 use Rattle.wk_session.specs.Overlays.{with_items}
@@ -14,14 +17,14 @@ use Rattle.wk_session.specs.Pieces.{no_news, one_new, section_piece, section_pie
 use Rattle.wk_session.specs.declared.edit.EditFault.{EditFault}
 use Rattle.wk_session.specs.declared.edits.one_more.Judgement.{Judgement}
 use Rattle.wk_check.specs.Spaces.{answer_in, spaces_of}
-use Rattle.wk_session.specs.Judged.{IsJudged}
+use Rattle.wk_session.specs.Judged.{IsJudged, IsKnown}
 use Rattle.wk_session.specs.Kept.{IsPending}
 use Rattle.wk_session.specs.Pieces.{IsOverlong}
 use Rattle.wk_session.specs.Refusals.{encode_refusal}
 use Rattle.wk_session.proofs.Piecing.{unwritten}
 use Rattle.wk_session.proofs.Replacing.{length-with_items}
 use Rattle.wk_session.proofs.edits.one_more.judge_grown.Goals as goal
-use Rattle.wk_session.proofs.edits.one_more.judge_grown.Goals.{After-of-lists, In_ok-remade}
+use Rattle.wk_session.proofs.edits.one_more.judge_grown.Goals.{After-of-lists, After-len_after-len, In_ok-remade}
 
 -- the lists that are lent are those of the module
 lent : (c : After-of-lists) → listed c.of-lists.result ≡ listed_with (map (λ f. f.ty) c.args.parts.now.funcs) c.args.parts.now
@@ -68,10 +71,37 @@ overlaid c is =
     (c.in_ok-remade.ensures.sections ∙ ap (λ (l : SectionLists). one_new id (contents_by l (of_number id))) is)
     ∙ c.requires.others
 
+-- so that the length is that of the module
+measured : (c : After-len_after-len) → with_items c.args.kept.now.pieces.sections.items c.in_ok-remade.remade.sections.items ≡ section_pieces c.args.parts.now → c.len_after-len.result ≡ limited (length (encoded c.args.parts.now))
+measured c all =
+    c.len_after-len.ensures c.args.parts.now c.requires.formed.order all c.len.ensures c.requires.kept.codes_len c.requires.kept.customs_len
+
+counted : (c : In_ok-remade) → length c.in_ok-remade.remade.sections.items ≡ length c.args.kept.now.pieces.sections.items
+counted c =
+    let one = one_new c.args.id (section_piece c.args.id c.args.parts.now) in
+    ap length c.in_ok-remade.ensures.sections ∙ length-set no_news c.args.id (Some _) ∙ sym (sym (length-with_items c.args.kept.now.pieces.sections.items one) ∙ ap length c.requires.others)
+
+pub returns-in-Some : goal.returns-in-Some
+returns-in-Some c =
+    let n = c.args.parts.now in
+    let at = goal.at.returns-in-Some c in
+    let all = overlaid at.In_ok-remade (lent at.After-of-lists) in
+    let known = subst (λ (o : Option Verdict). IfSome o (IsKnown (answer_in (spaces_of (listed c.args.before))) n)) c.in-Some.is c.requires.known in
+    let appraised = c.in_ok-appraisal.ensures n c.requires.formed known.verdict (measured at.After-len_after-len all) in
+    record {
+      stands = appraised.0;
+      verdict = appraised.1;
+      len = appraised.2;
+      verdicts = c.requires.kept.verdicts ∙ known.verdicts;
+      sections = all;
+      count = counted at.In_ok-remade;
+      made = c.in_ok-remade.ensures.made;
+      typed_are = c.requires.fresh ∙ known.typed;
+    }
+
 pub returns : goal.returns
 returns c =
     let n = c.args.parts.now in
-    let k = c.args.kept.now in
     let at = goal.at.returns c in
     let all = overlaid at.In_ok-remade (lent at.After-of-lists) in
     let pending : IsPending c.of-lists.result c.in_ok-verdicts.verdicts.items c.len_after-len.result n = record {
@@ -79,16 +109,16 @@ returns c =
       profile = c.of-lists.ensures.profile;
       lists = lent at.After-of-lists;
       verdicts = c.in_ok-verdicts.ensures.verdicts;
-      len = c.len_after-len.ensures n c.requires.formed.order all c.len.ensures c.requires.kept.codes_len c.requires.kept.customs_len;
+      len = measured at.After-len_after-len all;
     } in
-    let appraised = c.in_ok-appraisal.ensures n pending in
+    let appraised = c.in_ok-appraisal-2.ensures n pending in
     record {
       stands = appraised.0;
       verdict = appraised.1;
       len = appraised.2;
       verdicts = c.in_ok-verdicts.ensures.verdicts;
       sections = all;
-      count = ap length c.in_ok-remade.ensures.sections ∙ length-set no_news c.args.id (Some _) ∙ sym (sym (length-with_items k.pieces.sections.items (one_new c.args.id (section_piece c.args.id n))) ∙ ap length c.requires.others);
+      count = counted at.In_ok-remade;
       made = c.in_ok-remade.ensures.made;
       typed_are = c.in_ok-verdicts.ensures.typed;
     }

@@ -1,0 +1,48 @@
+-- A valid module to which something comes that moves nothing: what its functions refer to is found as it was.
+use Rattle.std.proofs.Common.{◌≡◌, ℕ, Bool, cond, List, [], ◌∷◌, map, count_by, refl, sym, ap, subst, ◌∙◌, arith}
+use Rattle.std.proofs.lemmas.List.Sums.{sum_by-cons}
+use Rattle.std.specs.List.{AllByRecursion}
+use Rattle.wk_body.specs.declared.references.Ref.{Ref}
+use Rattle.wk_module.specs.declared.types.Func.{Func}
+use Rattle.wk_module.specs.declared.types.Parts.{Parts}
+use Rattle.wk_module.specs.Listed.{AreNumbered, listed_with}
+use Rattle.wk_module.specs.NumberedLaws.{module_numbered, module_numbered_with}
+use Rattle.wk_module.specs.Sections.{SectionLists}
+use Rattle.wk_module.specs.Shape.{IsFormed, lists_of}
+use Rattle.wk_check.specs.declared.fault.Verdict.{Verdict}
+use Rattle.wk_check.specs.declared.fault.Verdict.TheVariants.{Valid}
+use Rattle.wk_check.specs.Answers.{Found}
+use Rattle.wk_check.specs.Carried.{Agree}
+use Rattle.wk_check.specs.Finds.{Grows}
+use Rattle.wk_check.specs.Growth.{ReferencesStay, VerdictsStay}
+use Rattle.wk_check.specs.SpacesLaws.{answers_of}
+use Rattle.wk_check.specs.Verdict.{func_verdict, module_verdict}
+use Rattle.wk_session.specs.Dependents.{held, is_retyped_in}
+use Rattle.wk_session.specs.Judged.{IsKnown}
+use Rattle.wk_session.proofs.Judging.{agree_none}
+
+-- ---- the lists of a module, by the types that are kept of its functions
+
+pub lent_lists : (m : Parts) (types : List ℕ) (l : SectionLists) → types ≡ map (λ f. f.ty) m.funcs → l ≡ listed_with types m → l ≡ record (lists_of m) { codes = [] }
+lent_lists m types l same lists = lists ∙ ap (λ (ts : List ℕ). listed_with ts m) same
+
+pub lent_numbered : (m : Parts) (l : SectionLists) → IsFormed m → l ≡ record (lists_of m) { codes = [] } → AreNumbered l
+lent_numbered m l formed is =
+    subst AreNumbered (sym is) (module_numbered_with (map (λ f. f.ty) m.funcs) m (module_numbered m formed).funcs formed)
+
+-- ---- references that find what they found
+
+module _ (before now : Ref → Found) where
+  none_retyped : (fs : List Func) → AllByRecursion (λ f. Agree before now (held f)) fs → 0 ≡ count_by (is_retyped_in before now) fs
+  none_retyped [] h = refl
+  none_retyped (f ∷ fs) h =
+      let p = is_retyped_in before now in
+      omega (arith, sum_by-cons (λ (g : Func). cond (p g) 1 0) f fs, ap {B = ℕ} (λ (b : Bool). cond b 1 0) (agree_none before now (held f) h.0), none_retyped fs h.1)
+
+-- what is known then, where the functions are those that were there
+pub grown_known : VerdictsStay → ReferencesStay → (m n : Parts) (v : Verdict) → module_verdict m ≡ Valid → Grows (answers_of m) (answers_of n) → n.funcs ≡ m.funcs → v ≡ module_verdict n → IsKnown (answers_of m) n v
+grown_known stay found m n v valid grows same verdict = record {
+  verdict = verdict;
+  verdicts = subst (λ (fs : List Func). map (func_verdict (answers_of m)) fs ≡ map (func_verdict (answers_of n)) fs) (sym same) (sym (stay m (answers_of n) valid grows));
+  typed = subst (λ (fs : List Func). 0 ≡ count_by (is_retyped_in (answers_of m) (answers_of n)) fs) (sym same) (none_retyped (answers_of m) (answers_of n) m.funcs (found m (answers_of n) valid grows));
+}
