@@ -1,5 +1,5 @@
 -- What is kept of a module with other exports.
-use Rattle.std.proofs.Common.{◌≡◌, ℕ, Bool, Some, List, Ok, map, sym, ap, ◌∙◌}
+use Rattle.std.proofs.Common.{◌≡◌, ℕ, Bool, Some, List, map, sym, ap, ◌∙◌}
 use Rattle.wk_module.specs.declared.types.Export.{Export}
 use Rattle.wk_module.specs.declared.types.Parts.{Parts}
 use Rattle.wk_session.specs.declared.edit.Work.{Work}

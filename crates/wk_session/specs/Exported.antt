@@ -1,6 +1,5 @@
 -- What is to be kept of a module with other exports.
-use Rattle.std.specs.Prelude.{◌≡◌, Bool, Some, length, Result, Ok, Err}
-use Rattle.wk_body.specs.Lengths.{limited}
+use Rattle.std.specs.Prelude.{◌≡◌, Bool, length, Result, Ok, Err}
 use Rattle.wk_module.specs.declared.types.Parts.{Parts}
 use Rattle.wk_session.specs.declared.edit.EditFault.{EditFault}
 use Rattle.wk_session.specs.declared.edits.export.Exported.{Exported}

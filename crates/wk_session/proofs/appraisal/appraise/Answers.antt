@@ -1,5 +1,4 @@
-use Rattle.std.proofs.Common.{◌≡◌, List, length, map, ap, sym, ◌∙◌}
-use Rattle.wk_module.specs.declared.types.Parts.{Parts}
+use Rattle.std.proofs.Common.{◌≡◌, List, map, ap, sym, ◌∙◌}
 use Rattle.wk_module.specs.Listed.{listed}
 use Rattle.wk_check.specs.declared.fault.BodyVerdict.{BodyVerdict}
 use Rattle.wk_check.specs.Flaws.{first_in}

@@ -11,7 +11,6 @@ use Rattle.wk_module.specs.WritingLaws.{room}
 use Rattle.wk_session.specs.declared.edit.Edit.TheVariants as edits
 use Rattle.wk_session.specs.Edits.{is_large, is_decided}
 use Rattle.wk_session.specs.Exported.{IsExported}
-use Rattle.wk_session.specs.Kept.{IsKept}
 use Rattle.wk_session.proofs.Exporting.{exported_kept, one_section}
 use Rattle.wk_session.proofs.Leading.{wants_memory, refused, too_large, not_large, is_none_at, accepted}
 use Rattle.wk_session.proofs.Outcomes.{limited-some}

@@ -1,4 +1,4 @@
-use Rattle.std.proofs.Common.{◌≡◌, List, [], sym, ◌∙◌}
+use Rattle.std.proofs.Common.{◌≡◌, [], sym, ◌∙◌}
 use Rattle.wk_module.specs.Listed.{listed}
 use Rattle.wk_module.specs.Shape.{lists_of}
 use Rattle.wk_session.proofs.Growing.{lent_lists, lent_numbered}

@@ -1,4 +1,4 @@
-use Rattle.std.proofs.Common.{◌≡◌, ◌∙◌, sym, ap, subst, refl, arith, Option, Some, List}
+use Rattle.std.proofs.Common.{◌≡◌, ◌∙◌, sym, ap, refl, arith, Option, Some, List}
 use Rattle.std.specs.Prelude.{remove}
 use Rattle.std.proofs.lemmas.Result.{err_from_is_err_and}
 use Rattle.wk_bytes.specs.Leb.{◌>>=◌}
@@ -8,7 +8,7 @@ use Rattle.wk_module.specs.ChangeLaws.{without_export_formed}
 use Rattle.wk_module.specs.Shape.{settle, IsFormed}
 use Rattle.wk_session.specs.declared.edit.Edit.TheVariants as edits
 use Rattle.wk_session.specs.Edits.{is_none, lasting, made, with_exports}
-use Rattle.wk_session.specs.Kept.{IsKept, standing}
+use Rattle.wk_session.specs.Kept.{standing}
 use Rattle.wk_session.proofs.Exporting.{exported_kept, one_section}
 use Rattle.wk_session.proofs.Leading.{refused, accepted}
 use Rattle.wk_session.proofs.Removals.{found_within, without_found, without_missing}

@@ -1,4 +1,4 @@
-use Rattle.std.proofs.Common.{◌≡◌, ◌≢◌, ◌∙◌, sym, ap, subst, refl, arith, zero-add, length, Result, Err, count_by}
+use Rattle.std.proofs.Common.{◌≡◌, ◌≢◌, ◌∙◌, sym, ap, refl, arith, zero-add, length, Result, Err, count_by}
 use Rattle.std.proofs.lemmas.Result.{err_from_is_err_and}
 use Rattle.std.proofs.lemmas.List.Sums.{count_by-le-length}
 use Rattle.wk_bytes.specs.Leb.{◌>>=◌}
@@ -16,7 +16,7 @@ use Rattle.wk_session.specs.declared.edit.EditFault.{EditFault}
 use Rattle.wk_session.specs.Dependents.{is_retyped_in, is_reencoded}
 use Rattle.wk_session.specs.Edits.{fitting, lasting, made}
 use Rattle.wk_session.specs.Judged.{AreKept}
-use Rattle.wk_session.specs.Kept.{IsKept, standing}
+use Rattle.wk_session.specs.Kept.{standing}
 use Rattle.wk_session.proofs.Leading.{refused_for, refused, judged_kept, accepted}
 use Rattle.wk_session.proofs.Outcomes.{limited-some}
 use Rattle.wk_session.proofs.Works.{work_is, count_zero}

@@ -1,4 +1,4 @@
-use Rattle.std.proofs.Common.{◌≡◌, List, [], refl, sym, ◌∙◌}
+use Rattle.std.proofs.Common.{◌≡◌, [], refl, sym, ◌∙◌}
 use Rattle.wk_module.specs.Changes.{with_global}
 use Rattle.wk_module.specs.Listed.{listed}
 use Rattle.wk_module.specs.Shape.{lists_of}

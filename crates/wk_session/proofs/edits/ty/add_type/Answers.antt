@@ -14,7 +14,7 @@ use Rattle.wk_session.specs.declared.edit.Edit.TheVariants as edits
 use Rattle.wk_session.specs.Dependents.{is_retyped_in, is_reencoded}
 use Rattle.wk_session.specs.Edits.{is_large, is_decided}
 use Rattle.wk_session.specs.Judged.{AreKept, MayStay}
-use Rattle.wk_session.specs.Kept.{IsKept, IsAppraised}
+use Rattle.wk_session.specs.Kept.{IsAppraised}
 use Rattle.wk_session.proofs.Leading.{wants_memory, refused, too_large, not_large, is_none_at, judged_kept, accepted}
 use Rattle.wk_session.proofs.Outcomes.{limited-some}
 use Rattle.wk_session.proofs.Works.{work_is, count_zero}
