@@ -89,11 +89,7 @@ fn own_code(alloc: Global, body: &Body, encoded: &mut u32) -> Result<Items<u8>, 
 }
 
 // What is kept of functions, none of whose codes is too long. Each is looked at once.
-fn entries_in<E: Env>(
-    alloc: Global,
-    env: &E,
-    funcs: &Items<Func>,
-) -> Result<Entries, OutOfMemory>
+fn entries_in<E: Env>(alloc: Global, env: &E, funcs: &Items<Func>) -> Result<Entries, OutOfMemory>
     requires few { length funcs.now < 2 ^ 32 }
     requires small { AllByRecursion (λ f. length (code_of f) ≤ limit) funcs.now }
     ensures verdicts { IfOk result (λ e. e.verdicts.items ≡ map (func_verdict (E.answers env.now)) funcs.now) }
@@ -121,11 +117,7 @@ fn entries_in<E: Env>(
 }
 
 // What is kept of functions in a module with these lists.
-fn entries_of(
-    alloc: Global,
-    lists: Lists<'_>,
-    funcs: &Items<Func>,
-) -> Result<Entries, OutOfMemory>
+fn entries_of(alloc: Global, lists: Lists<'_>, funcs: &Items<Func>) -> Result<Entries, OutOfMemory>
     requires few { length funcs.now < 2 ^ 32 }
     requires small { AllByRecursion (λ f. length (code_of f) ≤ limit) funcs.now }
     ensures verdicts { IfOk result (λ e. e.verdicts.items ≡ map (func_verdict (answer_in (spaces_of (listed lists.entry)))) funcs.now) }

@@ -162,7 +162,8 @@ impl Pieces {
         ensures { IfOk result (ArePieces parts.now) }
     {
         let sections = sections_of(alloc, &Lists::of(parts, types))?;
-        let (Some(codes_len), Some(customs_len)) = (codes_len(&codes), customs_len(&parts.customs)) else {
+        let (Some(codes_len), Some(customs_len)) = (codes_len(&codes), customs_len(&parts.customs))
+        else {
             unreachable!()
         };
         Ok(Pieces {

@@ -116,10 +116,10 @@ pub(crate) fn keep_judgement(kept: &mut Kept, judgement: Judgement) -> u32
     requires { length judgement.remade.sections.items ≤ length kept.old.pieces.sections.items }
     ensures made { result ≡ judgement.remade.made }
     ensures rest { kept.new ≡ record kept.old {
-        verdict = judgement.appraisal.verdict;
-        len = judgement.appraisal.len;
-        verdicts = unwrap_or judgement.verdicts kept.old.verdicts;
-        pieces = record kept.old.pieces { sections = kept.new.pieces.sections };
+      verdict = judgement.appraisal.verdict;
+      len = judgement.appraisal.len;
+      verdicts = unwrap_or judgement.verdicts kept.old.verdicts;
+      pieces = record kept.old.pieces { sections = kept.new.pieces.sections };
     } }
     ensures sections { kept.new.pieces.sections.items ≡ with_items kept.old.pieces.sections.items judgement.remade.sections.items }
 {
