@@ -32,3 +32,4 @@ pub mod NewSections
 pub mod CodeLengths
 pub mod ImportPieces
 pub mod Growing
+pub mod Opening
