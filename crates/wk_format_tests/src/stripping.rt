@@ -20,8 +20,7 @@ const PADDED: &[u8] = b"\0asm\x01\0\0\0\x01\x84\x80\0\x01\x60\0\0\x03\x02\x01\0\
     \x0a\x0b\x01\x09\0\x41\x80\0\x04\x40\x05\x0b\x0b";
 
 // No types, functions, codes and data, each in a section, with a custom section `a` among them.
-const EMPTY_SECTIONS: &[u8] =
-    b"\0asm\x01\0\0\0\x01\x01\0\x03\x01\0\x0a\x01\0\0\x02\x01a\x0b\x01\0";
+const EMPTY_SECTIONS: &[u8] = b"\0asm\x01\0\0\0\x01\x01\0\x03\x01\0\x0a\x01\0\0\x02\x01a\x0b\x01\0";
 
 // A function of `i32.const 0`, `i32.extend8_s` and `drop`.
 const SIGN_EXTENSION: &[u8] =
@@ -179,7 +178,15 @@ fn strips_modules(rt: HostRuntime) -> Result<(), Fail> {
 
 #[test]
 fn strips_extended_modules(rt: HostRuntime) -> Result<(), Fail> {
-    assert!(rt; is_stripped(rt.alloc(), SIGN_EXTENSION, Profile::Extended, None, SIGN_EXTENSION));
+    assert!(rt;
+        is_stripped(
+            rt.alloc(),
+            SIGN_EXTENSION,
+            Profile::Extended,
+            None,
+            SIGN_EXTENSION
+        )
+    );
     Ok(())
 }
 
