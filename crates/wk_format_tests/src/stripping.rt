@@ -27,6 +27,7 @@ const SIGN_EXTENSION: &[u8] =
     b"\0asm\x01\0\0\0\x01\x04\x01\x60\0\0\x03\x02\x01\0\x0a\x08\x01\x06\0\x41\0\xc0\x1a\x0b";
 
 // A module, the name to keep, and what it is stripped of the others.
+#[derive(Clone, Copy)]
 struct Row {
     bytes: &'static [u8],
     keep: Option<&'static str>,
