@@ -33,7 +33,7 @@ lent_numbered m l formed is =
 -- ---- references that find what they found
 
 module _ (before now : Ref → Found) where
-  none_retyped : (fs : List Func) → AllByRecursion (λ f. Agree before now (held f)) fs → 0 ≡ count_by (is_retyped_in before now) fs
+  pub none_retyped : (fs : List Func) → AllByRecursion (λ f. Agree before now (held f)) fs → 0 ≡ count_by (is_retyped_in before now) fs
   none_retyped [] h = refl
   none_retyped (f ∷ fs) h =
       let p = is_retyped_in before now in

@@ -14,7 +14,7 @@ ghost use Rattle.wk_session.specs.Dependents.{is_retyped_in};
 ghost use Rattle.wk_session.specs.Functions.{IsKeptWithType, IsPlanned};
 ghost use Rattle.wk_session.specs.Kept.{IsAppraised, IsKept, Leads, standing};
 
-use crate::appraisal::{Appraisal, appraise};
+use crate::appraisal::{Appraisal, admit, appraise};
 use crate::edit::{EditFault, Reply, Work};
 use crate::edits::entry::{Entry, keep_entry, spelled_body};
 use crate::judged::{judged, rejudged};
@@ -23,7 +23,7 @@ use crate::lengths::{len_after, plus_code};
 use crate::pieces::{encoded_body, one_remade};
 use std::alloc::Global;
 use wk_bytes::{Items, OutOfMemory};
-use wk_check::{BodyVerdict, Meter, Whole};
+use wk_check::{BodyVerdict, Meter, Verdict, Whole, laws_of_valid_modules, verdict_with_func};
 use wk_module::{Body, Func, Lists, Parts};
 
 /// The id of the function section (5.5.2).
@@ -61,6 +61,39 @@ fn verdicts_with(
     Ok(verdicts)
 }
 
+// The same as `judged_func` where a function comes to a valid module: no body but its own is looked at.
+fn judged_in_valid(
+    alloc: Global,
+    keep: bool,
+    parts: &Parts,
+    kept: &Kept,
+    ty: u32,
+    body: &Body,
+    len: Option<u32>,
+    meter: &mut Meter,
+) -> Result<(Vec<BodyVerdict>, Appraisal), EditFault>
+    requires shaped { IsShaped parts.now }
+    requires kept { IsKeptWithType ty parts.now kept.now }
+    requires was_valid { kept.now.verdict ≡ Verdict.Valid }
+    requires valid { IsCode parts.now.profile body.now }
+    requires len { len ≡ limited (length (encoded (with_func ty body.now parts.now))) }
+    requires fresh { meter.old ≡ 0 }
+    ensures verdicts { IfOk result (λ r. r.0.items ≡ map (func_verdict (answers_of (with_func ty body.now parts.now))) (with_func ty body.now parts.now).funcs) }
+    ensures ok { IfOk result (λ r. IsAppraised keep (with_func ty body.now parts.now) (Ok r.1)) }
+    ensures err { IfErr result (λ f. IsAppraised keep (with_func ty body.now parts.now) (Err f)) }
+    ensures typed { OnOk result (meter.new ≡ 1 + count_by (is_retyped_in (answers_of parts.now) (answers_of (with_func ty body.now parts.now))) parts.now.funcs) }
+{
+    // The proof asks what this says: bodies of a valid module find what they found.
+    laws_of_valid_modules();
+    let whole = Whole::of(alloc, Lists::of(parts, &kept.types))?;
+    let own = judged(&whole, ty, body, meter)?;
+    let mut verdicts = Vec::from_slice(alloc, kept.verdicts.as_slice())?;
+    verdicts.push(own)?;
+    let verdict = verdict_with_func(parts.types.len() as u32, parts.funcs.len() as u32, ty, own);
+    let appraisal = admit(keep, verdict, len)?;
+    Ok((verdicts, appraisal))
+}
+
 // The verdicts of all bodies where a function comes whose type stands behind those of the others already, and what is kept of the
 // module with it as a whole, which is so long; or why it may not stay.
 fn judged_func(
@@ -83,6 +116,9 @@ fn judged_func(
     ensures err { IfErr result (λ f. IsAppraised keep (with_func ty body.now parts.now) (Err f)) }
     ensures typed { OnOk result (meter.new ≡ 1 + count_by (is_retyped_in (answers_of parts.now) (answers_of (with_func ty body.now parts.now))) parts.now.funcs) }
 {
+    if let Verdict::Valid = kept.verdict {
+        return judged_in_valid(alloc, keep, parts, kept, ty, body, len, meter);
+    }
     let verdicts = verdicts_with(alloc, parts, kept, ty, body, meter)?;
     let lists = Lists::of(parts, &kept.types);
     let appraisal = appraise(alloc, keep, &lists, &verdicts, len)?;
