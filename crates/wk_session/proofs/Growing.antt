@@ -21,15 +21,6 @@ use Rattle.wk_session.specs.Dependents.{held, is_retyped_in}
 use Rattle.wk_session.specs.Judged.{IsKnown}
 use Rattle.wk_session.proofs.Judging.{agree_none}
 
--- ---- the lists of a module, by the types that are kept of its functions
-
-pub lent_lists : (m : Parts) (types : List ℕ) (l : SectionLists) → types ≡ map (λ f. f.ty) m.funcs → l ≡ listed_with types m → l ≡ record (lists_of m) { codes = [] }
-lent_lists m types l same lists = lists ∙ ap (λ (ts : List ℕ). listed_with ts m) same
-
-pub lent_numbered : (m : Parts) (l : SectionLists) → IsFormed m → l ≡ record (lists_of m) { codes = [] } → AreNumbered l
-lent_numbered m l formed is =
-    subst AreNumbered (sym is) (module_numbered_with (map (λ f. f.ty) m.funcs) m (module_numbered m formed).funcs formed)
-
 -- ---- references that find what they found
 
 module _ (before now : Ref → Found) where

@@ -9,6 +9,7 @@ ghost use Rattle.wk_module.specs.Items.{IsCode};
 ghost use Rattle.wk_module.specs.Shape.{IsShaped};
 ghost use Rattle.wk_module.specs.Writing.{encoded};
 ghost use Rattle.wk_check.specs.SpacesLaws.{answers_of};
+ghost use Rattle.wk_check.specs.Typing.{body_verdict};
 ghost use Rattle.wk_check.specs.Verdict.{func_verdict};
 ghost use Rattle.wk_session.specs.declared.edit.Edit.{Edit};
 ghost use Rattle.wk_session.specs.Edits.{entry_of as entry_of_index};
@@ -16,7 +17,7 @@ ghost use Rattle.wk_session.specs.Functions.{IsPlanned};
 ghost use Rattle.wk_session.specs.Kept.{IsAppraised, IsKept, Leads, standing};
 ghost use Rattle.wk_session.specs.Pieces.{entries_size};
 
-use crate::appraisal::{Appraisal, appraise};
+use crate::appraisal::{Appraisal, admit, appraise};
 use crate::edit::{EditFault, Reply, Work};
 use crate::edits::entry::{Entry, keep_entry, spelled_body, with_other};
 use crate::judged::judged;
@@ -26,7 +27,7 @@ use crate::pieces::{NewSections, Pieces, encoded_body, no_news};
 use std::alloc::Global;
 use std::mem;
 use wk_bytes::{Items, OutOfMemory};
-use wk_check::{BodyVerdict, Meter, Whole};
+use wk_check::{BodyVerdict, Meter, Verdict, Whole, verdict_with_body};
 use wk_module::{Body, Func, Kind, Lists, Parts, import_count};
 
 // Which of the functions that the module defines has an index.
@@ -49,7 +50,7 @@ fn type_at(funcs: &Items<Func>, entry: usize) -> u32
     funcs.as_slice()[entry].ty
 }
 
-// The verdicts of all bodies where one is replaced.
+// The verdict of a body that comes in the place of another, and the verdicts of all bodies with it.
 fn verdicts_with(
     alloc: Global,
     parts: &Parts,
@@ -58,17 +59,19 @@ fn verdicts_with(
     ty: u32,
     body: &Body,
     meter: &mut Meter,
-) -> Result<Vec<BodyVerdict>, OutOfMemory>
+) -> Result<(BodyVerdict, Vec<BodyVerdict>), OutOfMemory>
     requires kept { IsKept parts.now kept.now }
     requires within { entry < length parts.now.funcs }
     requires ty { Some ty ≡ option_map (λ f. f.ty) (slice_get parts.now.funcs entry) }
     requires fresh { meter.old ≡ 0 }
-    ensures verdicts { IfOk result (λ v. v.items ≡ map (func_verdict (answers_of (with_body entry body.now parts.now))) (with_body entry body.now parts.now).funcs) }
+    ensures own { IfOk result (λ r. r.0 ≡ body_verdict (answers_of parts.now) ty body.now) }
+    ensures verdicts { IfOk result (λ r. r.1.items ≡ map (func_verdict (answers_of (with_body entry body.now parts.now))) (with_body entry body.now parts.now).funcs) }
     ensures typed { OnOk result (meter.new ≡ 1) }
 {
     let whole = Whole::of(alloc, Lists::of(parts, &kept.types))?;
     let own = judged(&whole, ty, body, meter)?;
-    with_other(alloc, &kept.verdicts, entry, own)
+    let verdicts = with_other(alloc, &kept.verdicts, entry, own)?;
+    Ok((own, verdicts))
 }
 
 // The verdicts of all bodies where one is replaced, and what is kept of the module as a whole, which is so long; or why it may not stay.
@@ -95,7 +98,12 @@ fn judged_body(
     ensures err { IfErr result (λ f. IsAppraised keep (with_body entry body.now parts.now) (Err f)) }
     ensures typed { OnOk result (meter.new ≡ 1) }
 {
-    let verdicts = verdicts_with(alloc, parts, kept, entry, ty, body, meter)?;
+    let (own, verdicts) = verdicts_with(alloc, parts, kept, entry, ty, body, meter)?;
+    if let Verdict::Valid = kept.verdict {
+        let verdict = verdict_with_body(entry as u32, own);
+        let appraisal = admit(keep, verdict, len)?;
+        return Ok((verdicts, appraisal));
+    }
     let lists = Lists::of(parts, &kept.types);
     let appraisal = appraise(alloc, keep, &lists, &verdicts, len)?;
     Ok((verdicts, appraisal))

@@ -1,4 +1,4 @@
-use Rattle.std.proofs.Common.{◌≡◌, ◌∙◌, length, ap, arith}
+use Rattle.std.proofs.Common.{◌≡◌, ◌∙◌, length, ap, sym, arith}
 use Rattle.std.proofs.lemmas.List.{length-map}
 use Rattle.std.proofs.lemmas.Result.{err_from_is_err_and}
 use Rattle.wk_module.specs.Changes.{with_body}
@@ -7,12 +7,12 @@ use Rattle.wk_module.specs.Listed.{listed}
 use Rattle.wk_module.specs.NumberedLaws.{funcs_numbered}
 use Rattle.wk_module.specs.Shape.{IsFormed}
 use Rattle.wk_check.specs.SpacesLaws.{answers_of}
-use Rattle.wk_check.specs.Verdict.{func_verdict}
+use Rattle.wk_check.specs.Verdict.{func_verdict, module_verdict}
 use Rattle.wk_session.specs.Kept.{IsPending}
 use Rattle.wk_session.proofs.BodyEdits.{lent_given}
 use Rattle.wk_session.proofs.EntryEdits.{lent, numbered_lent}
 use Rattle.wk_session.proofs.edits.body.judged_body.Goals as goal
-use Rattle.wk_session.proofs.edits.body.judged_body.Goals.{After-of-lists}
+use Rattle.wk_session.proofs.edits.body.judged_body.Goals.{After-of-lists, After-verdict_with_body-verdict}
 
 formed : (c : After-of-lists) → IsFormed (with_body c.args.entry c.args.body.now c.args.parts.now)
 formed c = body_formed c.args.entry c.args.body.now c.args.parts.now c.requires.valid c.requires.shaped.formed
@@ -23,14 +23,35 @@ lists_are c =
     lent_given c.args.entry c.args.body.now c.args.parts.now c.deref.result.now _ c.of-lists.ensures.lists (c.deref.ensures.value ∙ c.requires.kept.types)
 
 -- what is pending
-pending : (c : After-of-lists) → IsPending c.of-lists.result c.in_ok-verdicts.verdicts.items c.args.len (with_body c.args.entry c.args.body.now c.args.parts.now)
+pending : (c : After-of-lists) → IsPending c.of-lists.result c.in_ok-own.verdicts.items c.args.len (with_body c.args.entry c.args.body.now c.args.parts.now)
 pending c = record {
   formed = formed c;
   profile = c.of-lists.ensures.profile;
   lists = lists_are c;
-  verdicts = c.in_ok-verdicts.ensures.verdicts;
+  verdicts = c.in_ok-own.ensures.verdicts;
   len = c.requires.len;
 }
+
+pub overflow_cast-entry : goal.overflow_cast-entry
+overflow_cast-entry c = omega (arith, c.requires.within, funcs_numbered c.args.parts.now c.requires.shaped.formed)
+
+-- the verdict of a valid module with the other body
+verdict_is : (c : After-verdict_with_body-verdict) → c.verdict_with_body-verdict.result ≡ module_verdict (with_body c.args.entry c.args.body.now c.args.parts.now)
+verdict_is c =
+    c.verdict_with_body-verdict.ensures c.args.parts.now c.args.ty c.args.body.now c.requires.ty (sym c.requires.kept.verdict ∙ c.in-Valid.is) c.in_ok-own.ensures.own
+
+pub returns-in_err-appraisal-clause-err : goal.returns-in_err-appraisal-clause-err
+returns-in_err-appraisal-clause-err c =
+    let m = c.args.parts.now in
+    let p = err_from_is_err_and c.from_residual-in_err-appraisal.result c.from_residual-in_err-appraisal.ensures.1 in
+    let formed_with = body_formed c.args.entry c.args.body.now m c.requires.valid c.requires.shaped.formed in
+    rw (p.1, p.2) (c.in_err-appraisal.ensures (with_body c.args.entry c.args.body.now m) formed_with (verdict_is (goal.at.returns-in_err-appraisal-clause-err c).After-verdict_with_body-verdict) c.requires.len)
+
+pub returns-in-Valid-clause-ok : goal.returns-in-Valid-clause-ok
+returns-in-Valid-clause-ok c =
+    let m = c.args.parts.now in
+    let formed_with = body_formed c.args.entry c.args.body.now m c.requires.valid c.requires.shaped.formed in
+    c.in_ok-appraisal.ensures (with_body c.args.entry c.args.body.now m) formed_with (verdict_is (goal.at.returns-in-Valid-clause-ok c).After-verdict_with_body-verdict) c.requires.len
 
 pub appraise-requires-clause-numbered : goal.appraise-requires-clause-numbered
 appraise-requires-clause-numbered c =
@@ -40,13 +61,13 @@ appraise-requires-clause-numbered c =
 pub appraise-requires-clause-few : goal.appraise-requires-clause-few
 appraise-requires-clause-few c =
     let n = with_body c.args.entry c.args.body.now c.args.parts.now in
-    omega (arith, ap length c.in_ok-verdicts.ensures.verdicts, length-map n.funcs (func_verdict (answers_of n)), funcs_numbered n (formed (goal.at.appraise-requires-clause-few c).After-of-lists))
+    omega (arith, ap length c.in_ok-own.ensures.verdicts, length-map n.funcs (func_verdict (answers_of n)), funcs_numbered n (formed (goal.at.appraise-requires-clause-few c).After-of-lists))
 
-pub returns-in_err-appraisal-clause-err : goal.returns-in_err-appraisal-clause-err
-returns-in_err-appraisal-clause-err c =
-    let p = err_from_is_err_and c.from_residual-in_err-appraisal.result c.from_residual-in_err-appraisal.ensures.1 in
-    rw (p.1, p.2) (c.in_err-appraisal.ensures (with_body c.args.entry c.args.body.now c.args.parts.now) (pending (goal.at.returns-in_err-appraisal-clause-err c).After-of-lists))
+pub returns-in_err-appraisal-2-clause-err : goal.returns-in_err-appraisal-2-clause-err
+returns-in_err-appraisal-2-clause-err c =
+    let p = err_from_is_err_and c.from_residual-in_err-appraisal-2.result c.from_residual-in_err-appraisal-2.ensures.1 in
+    rw (p.1, p.2) (c.in_err-appraisal-2.ensures (with_body c.args.entry c.args.body.now c.args.parts.now) (pending (goal.at.returns-in_err-appraisal-2-clause-err c).After-of-lists))
 
 pub returns-clause-ok : goal.returns-clause-ok
 returns-clause-ok c =
-    c.in_ok-appraisal.ensures (with_body c.args.entry c.args.body.now c.args.parts.now) (pending (goal.at.returns-clause-ok c).After-of-lists)
+    c.in_ok-appraisal-2.ensures (with_body c.args.entry c.args.body.now c.args.parts.now) (pending (goal.at.returns-clause-ok c).After-of-lists)

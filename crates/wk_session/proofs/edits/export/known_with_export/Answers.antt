@@ -1,17 +1,17 @@
 use Rattle.std.proofs.Common.{◌≡◌, [], sym, ◌∙◌}
 use Rattle.wk_module.specs.Listed.{listed}
 use Rattle.wk_module.specs.Shape.{lists_of}
-use Rattle.wk_session.proofs.Growing.{lent_lists, lent_numbered}
+use Rattle.wk_session.proofs.EntryEdits.{lent, lent_is, numbered_lent}
 use Rattle.wk_session.proofs.edits.export.known_with_export.Goals as goal
 use Rattle.wk_session.proofs.edits.export.known_with_export.Goals.{After-of}
 
-lent : (c : After-of) → listed c.of.result ≡ record (lists_of c.args.parts.now) { codes = [] }
-lent c = lent_lists c.args.parts.now c.deref.result.now (listed c.of.result) (c.deref.ensures.value ∙ c.requires.kept.types) c.of.ensures.lists
+lists_are : (c : After-of) → listed c.of.result ≡ lent c.args.parts.now
+lists_are c = lent_is c.args.parts.now c.deref.result.now (listed c.of.result) c.of.ensures.lists (c.deref.ensures.value ∙ c.requires.kept.types)
 
 pub verdict_with_export-requires : goal.verdict_with_export-requires
 verdict_with_export-requires c =
-    lent_numbered c.args.parts.now (listed c.of.result) c.requires.shaped.formed (lent (goal.at.verdict_with_export-requires c).After-of)
+    numbered_lent c.args.parts.now (listed c.of.result) (lists_are (goal.at.verdict_with_export-requires c).After-of) c.requires.shaped.formed
 
 pub returns-in-Valid-clause-some : goal.returns-in-Valid-clause-some
 returns-in-Valid-clause-some c =
-    c.verdict_with_export.ensures c.args.parts.now (lent (goal.at.returns-in-Valid-clause-some c).After-of) (sym c.requires.kept.verdict ∙ c.in-Valid.is)
+    c.verdict_with_export.ensures c.args.parts.now (lists_are (goal.at.returns-in-Valid-clause-some c).After-of) (sym c.requires.kept.verdict ∙ c.in-Valid.is)
