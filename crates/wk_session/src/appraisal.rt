@@ -1,6 +1,6 @@
 //! Whether a module that an edit would make may stay, and what is to be kept of it.
 
-ghost use Rattle.std.specs.Prelude.{◌≡◌, ◌<◌, ◌^◌, length};
+ghost use Rattle.std.specs.Prelude.{◌≡◌, ◌<◌, ◌^◌, length, IfSome};
 ghost use Rattle.wk_body.specs.Lengths.{limited};
 ghost use Rattle.wk_module.specs.declared.types.Parts.{Parts as PartsOf};
 ghost use Rattle.wk_module.specs.Listed.{AreNumbered, listed};
@@ -55,4 +55,23 @@ pub(crate) fn appraise(
     }
     let verdict = judge_around(alloc, lists, first_code_fault(verdicts))?;
     admit(keep, verdict, len)
+}
+
+/// The same, but where the verdict of the module is known: then nothing of it is judged.
+pub(crate) fn appraise_unless_known(
+    alloc: Global,
+    keep: bool,
+    known: Option<Verdict>,
+    lists: &Lists<'_>,
+    verdicts: &Vec<BodyVerdict>,
+    len: Option<u32>,
+) -> Result<Appraisal, EditFault>
+    requires numbered { AreNumbered (listed lists.now) }
+    requires few { length verdicts.now.items < 2 ^ 32 }
+    ensures { (n : PartsOf) → IsPending lists.now verdicts.now.items len n → IfSome known (λ v. v ≡ module_verdict n) → IsAppraised keep n result }
+{
+    match known {
+        Some(verdict) => admit(keep, verdict, len),
+        None => appraise(alloc, keep, lists, verdicts, len),
+    }
 }

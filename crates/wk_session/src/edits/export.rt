@@ -15,7 +15,7 @@ ghost use Rattle.wk_session.specs.Kept.{IsKept, Leads};
 ghost use Rattle.wk_session.specs.Overlays.{with_items};
 ghost use Rattle.wk_session.specs.Pieces.{one_new, section_piece, section_pieces};
 
-use crate::appraisal::{Appraisal, admit, appraise};
+use crate::appraisal::{Appraisal, appraise_unless_known};
 use crate::edit::{EditFault, Reply, Work};
 use crate::edits::item_len::len_with_export;
 use crate::kept::Kept;
@@ -95,10 +95,7 @@ fn appraise_exports(
         pieces.codes_len,
         pieces.customs_len,
     );
-    let appraisal = match known {
-        Some(verdict) => admit(keep, verdict, len)?,
-        None => appraise(alloc, keep, &lists, &kept.verdicts, len)?,
-    };
+    let appraisal = appraise_unless_known(alloc, keep, known, &lists, &kept.verdicts, len)?;
     Ok(Exported { appraisal, remade })
 }
 

@@ -1,6 +1,6 @@
 //! An import more.
 
-ghost use Rattle.std.specs.Prelude.{◌≡◌, ◌≢◌, ◌+◌, ◌<◌, ◌≤◌, ◌^◌, ℕ, Err, true, false, length, map, unwrap_or, count_by, set, Some, if◌then◌else◌, IfErr, IfOk, OnOk, OnErr, MatchResult};
+ghost use Rattle.std.specs.Prelude.{◌≡◌, ◌≢◌, ◌+◌, ◌<◌, ◌≤◌, ◌^◌, ℕ, Err, true, false, length, map, unwrap_or, count_by, set, Some, if◌then◌else◌, IfErr, IfOk, IfNone, IfSome, OnOk, OnErr, MatchResult};
 ghost use Rattle.wk_body.specs.Shape.{IsU32};
 ghost use Rattle.wk_module.specs.Items.{desc_kind, IsImport, IsDesc};
 ghost use Rattle.wk_module.specs.Types.{AreLimits};
@@ -13,7 +13,7 @@ ghost use Rattle.wk_module.specs.Writing.{contents_by};
 ghost use Rattle.wk_check.specs.Finds.{Grows};
 ghost use Rattle.wk_check.specs.Spaces.{answer_in, spaces_of};
 ghost use Rattle.wk_check.specs.SpacesLaws.{answers_of};
-ghost use Rattle.wk_check.specs.Verdict.{func_verdict};
+ghost use Rattle.wk_check.specs.Verdict.{func_verdict, module_verdict};
 ghost use Rattle.wk_session.specs.declared.edit.Edit.{Edit};
 ghost use Rattle.wk_session.specs.Dependents.{is_retyped_in};
 ghost use Rattle.wk_session.specs.Edits.{import_place};
@@ -22,7 +22,7 @@ ghost use Rattle.wk_session.specs.Kept.{IsKept, Leads};
 ghost use Rattle.wk_session.specs.Overlays.{with_items};
 ghost use Rattle.wk_session.specs.Pieces.{IsUnwritten};
 
-use crate::appraisal::{Appraisal, appraise};
+use crate::appraisal::{Appraisal, appraise_unless_known};
 use crate::edit::{EditFault, Reply, Work};
 use crate::edits::moved::{MovedEntries, is_any_code_stuck, moved_entries, put_moved};
 use crate::judged::rejudged;
@@ -32,7 +32,9 @@ use crate::overlay::replace_each;
 use crate::pieces::{NewSections, one_remade, remade};
 use std::alloc::Global;
 use wk_bytes::OutOfMemory;
-use wk_check::{BodyVerdict, Meter, Whole, verdicts_that_keep};
+use wk_check::{
+    BodyVerdict, Meter, Verdict, Whole, laws_of_valid_modules, verdict_with_import, verdicts_that_keep,
+};
 use wk_module::{
     EncodeFault, Import, ImportDesc, Kind, Limits, Lists, MovedLists, Parts, ShiftFault,
     import_count, moving_of_code, moving_of_module, shift_lists,
@@ -141,23 +143,30 @@ fn plan_import(
     Ok(ImportPlan { lists, entries })
 }
 
-// The verdicts of bodies beside one import more, which is the last one, where nothing that is found goes.
+// The verdicts of bodies beside one import more, which is the last one, where nothing that is found goes; or nothing where they stay, as
+// those of a valid module do.
 fn verdicts_beside(
     alloc: Global,
     parts: &Parts,
     kept: &Kept,
     now: &Lists<'_>,
     meter: &mut Meter,
-) -> Result<Vec<BodyVerdict>, OutOfMemory>
+) -> Result<Option<Vec<BodyVerdict>>, OutOfMemory>
     requires some { 0 < length parts.now.imports }
     requires few { length parts.now.funcs < 2 ^ 32 }
     requires kept { IsKept (before_import parts.now) kept.now }
     requires grows { Grows (answers_of (before_import parts.now)) (answer_in (spaces_of (listed now.now))) }
     requires fresh { meter.old ≡ 0 }
-    ensures verdicts { IfOk result (λ v. v.items ≡ map (func_verdict (answer_in (spaces_of (listed now.now)))) parts.now.funcs) }
+    ensures verdicts { let now = answer_in (spaces_of (listed now.now)) in
+        IfOk result (λ v. (unwrap_or v kept.now.verdicts).items ≡ map (func_verdict now) parts.now.funcs) }
     ensures typed { let now = answer_in (spaces_of (listed now.now)) in
         OnOk result (meter.new ≡ count_by (is_retyped_in (answers_of (before_import parts.now)) now) parts.now.funcs) }
 {
+    // The proof asks what this says: bodies of a valid module find what they found.
+    laws_of_valid_modules();
+    if let Verdict::Valid = kept.verdict {
+        return Ok(None);
+    }
     let imports = parts.imports.as_slice();
     let before = Lists {
         imports: &imports[..imports.len() - 1],
@@ -165,7 +174,7 @@ fn verdicts_beside(
     };
     let old = Whole::of(alloc, before)?;
     let new = Whole::of(alloc, *now)?;
-    rejudged(
+    let verdicts = rejudged(
         alloc,
         &old,
         &new,
@@ -173,7 +182,8 @@ fn verdicts_beside(
         &kept.refs,
         &kept.verdicts,
         meter,
-    )
+    )?;
+    Ok(Some(verdicts))
 }
 
 // The verdicts of bodies after an import, or nothing where they stay: after an import of a function or a global each reference finds
@@ -199,8 +209,8 @@ fn verdicts_after(
     verdicts_that_keep();
     match import.desc {
         ImportDesc::Func(_) => Ok(None),
-        ImportDesc::Table(_) => Ok(Some(verdicts_beside(alloc, parts, kept, now, meter)?)),
-        ImportDesc::Memory(_) => Ok(Some(verdicts_beside(alloc, parts, kept, now, meter)?)),
+        ImportDesc::Table(_) => verdicts_beside(alloc, parts, kept, now, meter),
+        ImportDesc::Memory(_) => verdicts_beside(alloc, parts, kept, now, meter),
         ImportDesc::Global(_) => Ok(None),
     }
 }
@@ -257,6 +267,19 @@ fn remade_after(
     Ok(news)
 }
 
+// The verdict of a module with an import more, where it is known: where the one without is valid.
+fn known_with_import(parts: &Parts, kept: &Kept, import: &Import) -> Option<Verdict>
+    requires formed { IsFormed parts.now }
+    requires kept { IsKept parts.now kept.now }
+    ensures some { IfSome result (λ v. v ≡ module_verdict (after_import import.now parts.now)) }
+    ensures none { IfNone result (kept.now.verdict ≢ Verdict.Valid) }
+{
+    match kept.verdict {
+        Verdict::Valid => Some(verdict_with_import(&Lists::of(parts, &kept.types), import)),
+        Verdict::Invalid(_) => None,
+    }
+}
+
 // Judges the module with the import, which is pushed on its list, and with all that it moves.
 fn judged_import(
     alloc: Global,
@@ -266,8 +289,10 @@ fn judged_import(
     meter: &mut Meter,
     import: &Import,
     plan: &ImportPlan,
+    known: Option<Verdict>,
 ) -> Result<Judgement, EditFault>
     requires ready { IsReady import.now (before_import parts.now) parts.now kept.now plan.now }
+    requires known { IfSome known (λ v. v ≡ module_verdict (after_import import.now (before_import parts.now))) }
     requires fresh { meter.old ≡ 0 }
     ensures judgement { MatchResult result
         (IsImportJudgement keep import.now (before_import parts.now) kept.now)
@@ -291,7 +316,7 @@ fn judged_import(
     );
     let verdicts = verdicts_after(alloc, parts, kept, &now, meter, import, plan)?;
     let verdicts_now = verdicts_or(&verdicts, &kept.verdicts);
-    let appraisal = appraise(alloc, keep, &now, verdicts_now, len)?;
+    let appraisal = appraise_unless_known(alloc, keep, known, &now, verdicts_now, len)?;
     Ok(Judgement {
         appraisal,
         verdicts,
@@ -324,9 +349,10 @@ fn push_judged(
 {
     spelled_import(import);
     moving_of_module();
+    let known = known_with_import(parts, kept, import);
     let copy = import.copy(alloc)?;
     parts.imports.push(copy)?;
-    let judged = judged_import(alloc, keep, parts, kept, meter, import, plan);
+    let judged = judged_import(alloc, keep, parts, kept, meter, import, plan, known);
     if judged.is_err() {
         let _ = parts.imports.pop();
     }

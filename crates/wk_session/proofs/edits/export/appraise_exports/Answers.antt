@@ -24,7 +24,7 @@ use Rattle.wk_session.specs.Refusals.{encode_refusal}
 use Rattle.wk_session.proofs.Piecing.{unwritten}
 use Rattle.wk_session.proofs.Replacing.{length-with_items}
 use Rattle.wk_session.proofs.edits.export.appraise_exports.Goals as goal
-use Rattle.wk_session.proofs.edits.export.appraise_exports.Goals.{After-of, After-len_after-len, In_ok-remade, in-Some+in_ok-appraisal-in-Some, in-None+in_ok-appraisal-in-None}
+use Rattle.wk_session.proofs.edits.export.appraise_exports.Goals.{After-of, After-len_after-len, In_ok-remade}
 
 -- the module with the exports, and its lists as they are lent
 abbrev with_new : After-of → Parts
@@ -56,16 +56,16 @@ len_after-len-requires-clause-sections c =
 pub len_after-len-requires-clause-count : goal.len_after-len-requires-clause-count
 len_after-len-requires-clause-count c = omega (arith, c.len.ensures, funcs_numbered (with_new (goal.at.len_after-len-requires-clause-count c).After-of) c.requires.formed)
 
-pub appraise-requires-clause-numbered : goal.appraise-requires-clause-numbered
-appraise-requires-clause-numbered c =
+pub appraise_unless_known-requires-clause-numbered : goal.appraise_unless_known-requires-clause-numbered
+appraise_unless_known-requires-clause-numbered c =
     let n = record c.args.parts.now { exports = c.args.exports.now } in
     let same = ap length c.deref.ensures.value in
     let few : length c.deref.result.now < 2 ^ 32 = omega (arith, same, ap length c.requires.kept.types, length-map n.funcs (λ (f : Func). f.ty), funcs_numbered n c.requires.formed) in
     let lists = ap (λ (l : SectionLists). record l { exports = c.args.exports.now }) c.of.ensures.lists in
     rw lists (module_numbered_with c.deref.result.now n few c.requires.formed)
 
-pub appraise-requires-clause-few : goal.appraise-requires-clause-few
-appraise-requires-clause-few c =
+pub appraise_unless_known-requires-clause-few : goal.appraise_unless_known-requires-clause-few
+appraise_unless_known-requires-clause-few c =
     let m = c.args.parts.now in
     let n = record m { exports = c.args.exports.now } in
     omega (arith, ap length c.requires.kept.verdicts, length-map m.funcs (func_verdict (answers_of m)), funcs_numbered n c.requires.formed)
@@ -84,34 +84,28 @@ measured : (c : After-len_after-len) → with_items c.args.kept.now.pieces.secti
 measured c all =
     c.len_after-len.ensures (record c.args.parts.now { exports = c.args.exports.now }) c.requires.formed.order all c.len.ensures c.requires.kept.codes_len c.requires.kept.customs_len
 
-refused_by : (keep : Bool) (n : Parts) (k : Kept) (f : EditFault) (r : Result Exported EditFault) → ((y : EditFault) × (r ≡ Err y) × (y ≡ f)) → IsAppraised keep n (Err f) → IsExported keep n k r
-refused_by keep n k f r returns refused =
-    let same : r ≡ Err f = returns.1 ∙ ap (λ (y : EditFault). let q : Result Exported EditFault = Err y in q) returns.2 in
-    subst (λ (q : Result Exported EditFault). IsExported keep n k q) (sym same) refused
+pending : (c : After-len_after-len) → record (listed c.of.result) { exports = c.args.exports.now } ≡ listed_with (map (λ f. f.ty) c.args.parts.now.funcs) (record c.args.parts.now { exports = c.args.exports.now })
+    → c.len_after-len.result ≡ limited (length (encoded (record c.args.parts.now { exports = c.args.exports.now })))
+    → IsPending (record c.of.result { exports = c.args.exports }) c.args.kept.now.verdicts.items c.len_after-len.result (record c.args.parts.now { exports = c.args.exports.now })
+pending c is len = record {
+  formed = c.requires.formed;
+  profile = c.of.ensures.profile;
+  lists = is;
+  verdicts = c.requires.kept.verdicts;
+  len = len;
+}
 
--- what the verdict is known to be
-known_as : (known : Option Verdict) (v : Verdict) (n : Parts) → known ≡ Some v → IfSome known (λ w. w ≡ module_verdict n) → v ≡ module_verdict n
-known_as known v n is some = subst (λ (o : Option Verdict). IfSome o (λ w. w ≡ module_verdict n)) is some
-
-pub returns-in_err-appraisal-in-Some : goal.returns-in_err-appraisal-in-Some
-returns-in_err-appraisal-in-Some c =
-    let at = goal.at.returns-in_err-appraisal-in-Some c in
-    let n = with_new at.After-of in
-    let len = measured at.After-len_after-len (overlaid at.In_ok-remade at.After-of (lent at.After-of)) in
-    let refused = c.in_err-appraisal-in-Some.ensures n c.requires.formed (known_as c.args.known c.in-Some.verdict n c.in-Some.is c.requires.known) len in
-    let r = c.from_residual-in_err-appraisal-in-Some.result in
-    refused_by c.args.keep n c.args.kept.now c.in_err-appraisal-in-Some.field-0.0 r (err_from_is_err_and r c.from_residual-in_err-appraisal-in-Some.ensures.1) refused
-
-pub returns-in_err-appraisal-in-None : goal.returns-in_err-appraisal-in-None
-returns-in_err-appraisal-in-None c =
-    let at = goal.at.returns-in_err-appraisal-in-None c in
+pub returns-in_err-appraisal : goal.returns-in_err-appraisal
+returns-in_err-appraisal c =
+    let at = goal.at.returns-in_err-appraisal c in
     let n = with_new at.After-of in
     let is = lent at.After-of in
     let len = measured at.After-len_after-len (overlaid at.In_ok-remade at.After-of is) in
-    let pending : IsPending (record c.of.result { exports = c.args.exports }) c.args.kept.now.verdicts.items c.len_after-len.result n = record { formed = c.requires.formed; profile = c.of.ensures.profile; lists = is; verdicts = c.requires.kept.verdicts; len = len } in
-    let refused = c.in_err-appraisal-in-None.ensures n pending in
-    let r = c.from_residual-in_err-appraisal-in-None.result in
-    refused_by c.args.keep n c.args.kept.now c.in_err-appraisal-in-None.field-0.0 r (err_from_is_err_and r c.from_residual-in_err-appraisal-in-None.ensures.1) refused
+    let r = c.from_residual-in_err-appraisal.result in
+    let returns = err_from_is_err_and r c.from_residual-in_err-appraisal.ensures.1 in
+    let refused : IsExported c.args.keep n c.args.kept.now (Err c.in_err-appraisal.field-0.0) = c.in_err-appraisal.ensures n (pending at.After-len_after-len is len) c.requires.known in
+    let same : r ≡ Err c.in_err-appraisal.field-0.0 = returns.1 ∙ ap (λ (y : EditFault). let q : Result Exported EditFault = Err y in q) returns.2 in
+    subst (λ (q : Result Exported EditFault). IsExported c.args.keep n c.args.kept.now q) (sym same) refused
 
 pub returns : goal.returns
 returns c =
@@ -120,14 +114,8 @@ returns c =
     let k = c.args.kept.now in
     let is = lent at.After-of in
     let all = overlaid at.In_ok-remade at.After-of is in
-    let len = measured at.After-len_after-len all in
-    let pending : IsPending (record c.of.result { exports = c.args.exports }) k.verdicts.items c.len_after-len.result n = record { formed = c.requires.formed; profile = c.of.ensures.profile; lists = is; verdicts = c.requires.kept.verdicts; len = len } in
-    let appraised : IsAppraised c.args.keep n (Ok c.match-known.appraisal) = elim c.match-known.branch [
-      | in-Some+in_ok-appraisal-in-Some w ↦ subst (λ (a : Appraisal). IsAppraised c.args.keep n (Ok a)) (sym w.appraisal-is) (w.in_ok-appraisal-in-Some.ensures n c.requires.formed (known_as c.args.known w.in-Some.verdict n w.in-Some.is c.requires.known) len)
-      | in-None+in_ok-appraisal-in-None w ↦ subst (λ (a : Appraisal). IsAppraised c.args.keep n (Ok a)) (sym w.appraisal-is) (w.in_ok-appraisal-in-None.ensures n pending)
-    ] in
     record {
-      appraised = appraised;
+      appraised = c.in_ok-appraisal.ensures n (pending at.After-len_after-len is (measured at.After-len_after-len all)) c.requires.known;
       sections = all;
       count = ap length c.in_ok-remade.ensures.sections ∙ length-set no_news 7 (Some (section_piece 7 n)) ∙ sym (sym (length-with_items k.pieces.sections.items (one_new 7 (section_piece 7 n))) ∙ ap length c.requires.others);
       made = c.in_ok-remade.ensures.made;

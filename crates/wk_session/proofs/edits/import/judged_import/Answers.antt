@@ -33,18 +33,18 @@ lent c =
 pub verdicts_after-requires-clause-lists : goal.verdicts_after-requires-clause-lists
 verdicts_after-requires-clause-lists c = lent (goal.at.verdicts_after-requires-clause-lists c).After-with_moved-now
 
-pub appraise-requires-clause-numbered : goal.appraise-requires-clause-numbered
-appraise-requires-clause-numbered c =
+pub appraise_unless_known-requires-clause-numbered : goal.appraise_unless_known-requires-clause-numbered
+appraise_unless_known-requires-clause-numbered c =
     let n = after_import c.args.import.now (before_import c.args.parts.now) in
-    numbered_after (listed c.with_moved-now.result) n (lent (goal.at.appraise-requires-clause-numbered c).After-with_moved-now) c.requires.ready.formed
+    numbered_after (listed c.with_moved-now.result) n (lent (goal.at.appraise_unless_known-requires-clause-numbered c).After-with_moved-now) c.requires.ready.formed
 
 verdicts : (c : After-verdicts_or-verdicts_now) → let n = after_import c.args.import.now (before_import c.args.parts.now) in c.verdicts_or-verdicts_now.result.now.items ≡ map (func_verdict (answers_of n)) n.funcs
 verdicts c = ap (λ v. v.items) c.verdicts_or-verdicts_now.ensures ∙ c.in_ok-verdicts.ensures.verdicts
 
-pub appraise-requires-clause-few : goal.appraise-requires-clause-few
-appraise-requires-clause-few c =
+pub appraise_unless_known-requires-clause-few : goal.appraise_unless_known-requires-clause-few
+appraise_unless_known-requires-clause-few c =
     let n = after_import c.args.import.now (before_import c.args.parts.now) in
-    omega (arith, funcs_numbered n c.requires.ready.formed, length-map n.funcs (func_verdict (answers_of n)), ap length (verdicts (goal.at.appraise-requires-clause-few c).After-verdicts_or-verdicts_now))
+    omega (arith, funcs_numbered n c.requires.ready.formed, length-map n.funcs (func_verdict (answers_of n)), ap length (verdicts (goal.at.appraise_unless_known-requires-clause-few c).After-verdicts_or-verdicts_now))
 
 -- the pieces with those that are made anew are those of the module
 codes_now : (c : After-codes_len_after) → with_items c.args.kept.now.pieces.codes.items c.args.plan.now.entries.codes.items ≡ map code_of (after_import c.args.import.now (before_import c.args.parts.now)).funcs
@@ -113,7 +113,7 @@ returns-in_err-appraisal-clause-judgement c =
     let n = after_import c.args.import.now (before_import c.args.parts.now) in
     let lists = lent at.After-with_moved-now in
     let len = len_now at.After-len_after-len (sections_now at.In_ok-remade lists) (count_now at.After-len) (codes_len_now at.After-len (codes_now at.After-codes_len_after)) in
-    rw (p.1, p.2) (λ some. c.in_err-appraisal.ensures n (pending at.After-verdicts_or-verdicts_now lists len) some)
+    rw (p.1, p.2) (λ some. c.in_err-appraisal.ensures n (pending at.After-verdicts_or-verdicts_now lists len) c.requires.known some)
 
 pub returns-clause-judgement : goal.returns-clause-judgement
 returns-clause-judgement c =
@@ -124,7 +124,7 @@ returns-clause-judgement c =
     let lists = lent at.After-with_moved-now in
     let sections = sections_now at.In_ok-remade lists in
     let codes = codes_len_now at.After-len (codes_now at.After-codes_len_after) in
-    let appraised = c.in_ok-appraisal.ensures n (pending at.After-verdicts_or-verdicts_now lists (len_now at.After-len_after-len sections (count_now at.After-len) codes)) in
+    let appraised = c.in_ok-appraisal.ensures n (pending at.After-verdicts_or-verdicts_now lists (len_now at.After-len_after-len sections (count_now at.After-len) codes)) c.requires.known in
     record {
       stands = appraised.0;
       verdict = appraised.1;

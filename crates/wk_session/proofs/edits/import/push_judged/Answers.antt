@@ -1,8 +1,10 @@
-use Rattle.std.proofs.Common.{◌≡◌, ap, ◌∙◌, List, ◌++◌, ◌∷◌, [], count_by}
+use Rattle.std.proofs.Common.{◌≡◌, ap, sym, subst, ◌∙◌, List, ◌++◌, ◌∷◌, [], count_by}
+use Rattle.std.specs.Prelude.{IfSome}
 use Rattle.std.proofs.lemmas.Result.{on_ok_weaker}
 use Rattle.wk_module.specs.declared.types.Import.{Import}
 use Rattle.wk_module.specs.declared.types.Parts.{Parts}
 use Rattle.wk_module.specs.Changes.{with_import}
+use Rattle.wk_check.specs.Verdict.{module_verdict}
 use Rattle.wk_session.specs.declared.edit.Edit.TheVariants as edits
 use Rattle.wk_session.specs.Dependents.{is_retyped}
 use Rattle.wk_session.specs.Imported.{after_import}
@@ -21,6 +23,13 @@ judged_import-judged-requires-clause-ready c =
     let m = c.args.parts.now in
     ready_after c.moving_of_module.ensures.formed c.args.import.now m (record m { imports = c.push.new.self }) c.args.kept.now c.args.plan.now
     (pushed (goal.at.judged_import-judged-requires-clause-ready c).In_ok-push) c.requires.kept c.requires.plan c.spelled_import.ensures c.requires.formed
+
+pub judged_import-judged-requires-clause-known : goal.judged_import-judged-requires-clause-known
+judged_import-judged-requires-clause-known c =
+    let i = c.args.import.now in
+    let m = c.args.parts.now in
+    let before = pushed_before i m (record m { imports = c.push.new.self }) (pushed (goal.at.judged_import-judged-requires-clause-known c).In_ok-push) in
+    subst (λ (q : Parts). IfSome c.known_with_import-known.result (λ v. v ≡ module_verdict (after_import i q))) (sym before) c.known_with_import-known.ensures.some
 
 pub returns-else-is_err-clause-formed : goal.returns-else-is_err-clause-formed
 returns-else-is_err-clause-formed c =

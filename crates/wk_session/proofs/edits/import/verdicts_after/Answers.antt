@@ -1,4 +1,5 @@
 use Rattle.std.proofs.Common.{ap, sym, ◌∙◌, map, subst, count_by}
+use Rattle.std.proofs.lemmas.Result.{IfOk-weaker, on_ok_weaker}
 use Rattle.wk_module.specs.Sections.{SectionLists}
 use Rattle.wk_check.specs.Finds.{Grows}
 use Rattle.wk_check.specs.Spaces.{answer_in, spaces_of}
@@ -39,34 +40,30 @@ returns-in-Global-clause-verdicts c =
 pub returns-in-Global-clause-typed : goal.returns-in-Global-clause-typed
 returns-in-Global-clause-typed c = c.requires.fresh ∙ sym (global_retypes_none c.args.import.now (before_import c.args.parts.now) c.in-Global.field-0 c.in-Global.is)
 
-pub returns-in_ok-verdicts_beside-in-Table-clause-verdicts : goal.returns-in_ok-verdicts_beside-in-Table-clause-verdicts
-returns-in_ok-verdicts_beside-in-Table-clause-verdicts c =
+pub returns-in-Table-clause-verdicts : goal.returns-in-Table-clause-verdicts
+returns-in-Table-clause-verdicts c =
     let m = before_import c.args.parts.now in
     let n = after_import c.args.import.now m in
-    c.in_ok-verdicts_beside-in-Table.ensures.verdicts
-    ∙ ap (λ (l : SectionLists). map (func_verdict (answer_in (spaces_of l))) m.funcs) c.requires.lists
-    ∙ ap (map (func_verdict (answers_of n))) (sym (table_leaves_funcs c.args.import.now m c.in-Table.field-0 c.in-Table.is))
+    let same = ap (λ (l : SectionLists). map (func_verdict (answer_in (spaces_of l))) m.funcs) c.requires.lists ∙ ap (map (func_verdict (answers_of n))) (sym (table_leaves_funcs c.args.import.now m c.in-Table.field-0 c.in-Table.is)) in
+    IfOk-weaker c.verdicts_beside.result _ _ (λ v e. e ∙ same) c.verdicts_beside.ensures.verdicts
 
-pub returns-in_ok-verdicts_beside-in-Table-clause-typed : goal.returns-in_ok-verdicts_beside-in-Table-clause-typed
-returns-in_ok-verdicts_beside-in-Table-clause-typed c =
+pub returns-in-Table-clause-typed : goal.returns-in-Table-clause-typed
+returns-in-Table-clause-typed c =
     let m = before_import c.args.parts.now in
     let n = after_import c.args.import.now m in
-    c.in_ok-verdicts_beside-in-Table.ensures.typed
-    ∙ ap (λ (l : SectionLists). count_by (is_retyped_in (answers_of m) (answer_in (spaces_of l))) m.funcs) c.requires.lists
-    ∙ sym (table_retyped c.args.import.now m n c.in-Table.field-0 c.in-Table.is m.funcs)
+    let same = ap (λ (l : SectionLists). count_by (is_retyped_in (answers_of m) (answer_in (spaces_of l))) m.funcs) c.requires.lists ∙ sym (table_retyped c.args.import.now m n c.in-Table.field-0 c.in-Table.is m.funcs) in
+    on_ok_weaker c.verdicts_beside.result (λ e. e ∙ same) c.verdicts_beside.ensures.typed
 
-pub returns-in_ok-verdicts_beside-in-Memory-clause-verdicts : goal.returns-in_ok-verdicts_beside-in-Memory-clause-verdicts
-returns-in_ok-verdicts_beside-in-Memory-clause-verdicts c =
+pub returns-in-Memory-clause-verdicts : goal.returns-in-Memory-clause-verdicts
+returns-in-Memory-clause-verdicts c =
     let m = before_import c.args.parts.now in
     let n = after_import c.args.import.now m in
-    c.in_ok-verdicts_beside-in-Memory.ensures.verdicts
-    ∙ ap (λ (l : SectionLists). map (func_verdict (answer_in (spaces_of l))) m.funcs) c.requires.lists
-    ∙ ap (map (func_verdict (answers_of n))) (sym (memory_leaves_funcs c.args.import.now m c.in-Memory.field-0 c.in-Memory.is))
+    let same = ap (λ (l : SectionLists). map (func_verdict (answer_in (spaces_of l))) m.funcs) c.requires.lists ∙ ap (map (func_verdict (answers_of n))) (sym (memory_leaves_funcs c.args.import.now m c.in-Memory.field-0 c.in-Memory.is)) in
+    IfOk-weaker c.verdicts_beside-in-Memory.result _ _ (λ v e. e ∙ same) c.verdicts_beside-in-Memory.ensures.verdicts
 
-pub returns-in_ok-verdicts_beside-in-Memory-clause-typed : goal.returns-in_ok-verdicts_beside-in-Memory-clause-typed
-returns-in_ok-verdicts_beside-in-Memory-clause-typed c =
+pub returns-in-Memory-clause-typed : goal.returns-in-Memory-clause-typed
+returns-in-Memory-clause-typed c =
     let m = before_import c.args.parts.now in
     let n = after_import c.args.import.now m in
-    c.in_ok-verdicts_beside-in-Memory.ensures.typed
-    ∙ ap (λ (l : SectionLists). count_by (is_retyped_in (answers_of m) (answer_in (spaces_of l))) m.funcs) c.requires.lists
-    ∙ sym (memory_retyped c.args.import.now m n c.in-Memory.field-0 c.in-Memory.is m.funcs)
+    let same = ap (λ (l : SectionLists). count_by (is_retyped_in (answers_of m) (answer_in (spaces_of l))) m.funcs) c.requires.lists ∙ sym (memory_retyped c.args.import.now m n c.in-Memory.field-0 c.in-Memory.is m.funcs) in
+    on_ok_weaker c.verdicts_beside-in-Memory.result (λ e. e ∙ same) c.verdicts_beside-in-Memory.ensures.typed

@@ -1,13 +1,15 @@
 use Rattle.std.proofs.Common.{◌≡◌, ◌-◌, ap, sym, ◌∙◌, map, take, length, count_by, arith}
-use Rattle.std.proofs.lemmas.Result.{IfOk-weaker, on_ok_weaker}
 use Rattle.wk_body.specs.declared.references.Ref.{Ref}
+use Rattle.wk_module.specs.Listed.{listed}
 use Rattle.wk_module.specs.Sections.{SectionLists}
+use Rattle.wk_check.specs.declared.fault.Verdict.{Verdict}
 use Rattle.wk_check.specs.Answers.{Found}
 use Rattle.wk_check.specs.Spaces.{answer_in, spaces_of}
 use Rattle.wk_check.specs.SpacesLaws.{answers_of}
-use Rattle.wk_check.specs.Verdict.{func_verdict}
+use Rattle.wk_check.specs.Verdict.{func_verdict, module_verdict}
 use Rattle.wk_session.specs.Dependents.{is_retyped_in}
 use Rattle.wk_session.specs.Imported.{before_import}
+use Rattle.wk_session.proofs.Growing.{none_retyped}
 use Rattle.wk_session.proofs.ImportEdits.{before_finds}
 use Rattle.wk_session.proofs.edits.import.verdicts_beside.Goals as goal
 use Rattle.wk_session.proofs.edits.import.verdicts_beside.Goals.{In_ok-old}
@@ -22,10 +24,22 @@ pub rejudged-requires-clause-were : goal.rejudged-requires-clause-were
 rejudged-requires-clause-were c =
     c.requires.kept.verdicts ∙ ap (λ (A : Ref → Found). map (func_verdict A) c.args.parts.now.funcs) (sym (finds (goal.at.rejudged-requires-clause-were c).In_ok-old))
 
+pub returns-in-Valid-clause-verdicts : goal.returns-in-Valid-clause-verdicts
+returns-in-Valid-clause-verdicts c =
+    let m = before_import c.args.parts.now in
+    let valid : module_verdict m ≡ Verdict.Valid = sym c.requires.kept.verdict ∙ c.in-Valid.is in
+    c.requires.kept.verdicts ∙ sym (c.laws_of_valid_modules.ensures.stay m (answer_in (spaces_of (listed c.args.now.now))) valid c.requires.grows)
+
+pub returns-in-Valid-clause-typed : goal.returns-in-Valid-clause-typed
+returns-in-Valid-clause-typed c =
+    let m = before_import c.args.parts.now in
+    let now = answer_in (spaces_of (listed c.args.now.now)) in
+    let valid : module_verdict m ≡ Verdict.Valid = sym c.requires.kept.verdict ∙ c.in-Valid.is in
+    c.requires.fresh ∙ none_retyped (answers_of m) now m.funcs (c.laws_of_valid_modules.ensures.found m now valid c.requires.grows)
+
 pub returns-clause-verdicts : goal.returns-clause-verdicts
 returns-clause-verdicts c =
-    let now = ap (λ (w : SectionLists). map (func_verdict (answer_in (spaces_of w))) c.args.parts.now.funcs) c.in_ok-new.ensures in
-    IfOk-weaker c.rejudged.result _ _ (λ v e. e ∙ now) c.rejudged.ensures.verdicts
+    c.in_ok-verdicts.ensures.verdicts ∙ ap (λ (w : SectionLists). map (func_verdict (answer_in (spaces_of w))) c.args.parts.now.funcs) c.in_ok-new.ensures
 
 pub returns-clause-typed : goal.returns-clause-typed
 returns-clause-typed c =
@@ -34,4 +48,4 @@ returns-clause-typed c =
     let A = answers_of (before_import c.args.parts.now) in
     let old = ap (λ (B : Ref → Found). count_by (is_retyped_in B new) fs) (finds (goal.at.returns-clause-typed c).In_ok-old) in
     let now = ap (λ (w : SectionLists). count_by (is_retyped_in A (answer_in (spaces_of w))) fs) c.in_ok-new.ensures in
-    on_ok_weaker c.rejudged.result (λ e. omega (arith, e, old, now, c.requires.fresh)) c.rejudged.ensures.typed
+    omega (arith, c.in_ok-verdicts.ensures.typed, old, now, c.requires.fresh)
