@@ -1,14 +1,10 @@
 -- A valid module to which something comes that moves nothing: what its functions refer to is found as it was.
-use Rattle.std.proofs.Common.{◌≡◌, ℕ, Bool, cond, List, [], ◌∷◌, map, count_by, refl, sym, ap, subst, ◌∙◌, arith}
+use Rattle.std.proofs.Common.{◌≡◌, ℕ, Bool, cond, List, [], ◌∷◌, map, count_by, refl, sym, ap, subst, arith}
 use Rattle.std.proofs.lemmas.List.Sums.{sum_by-cons}
 use Rattle.std.specs.List.{AllByRecursion}
 use Rattle.wk_body.specs.declared.references.Ref.{Ref}
 use Rattle.wk_module.specs.declared.types.Func.{Func}
 use Rattle.wk_module.specs.declared.types.Parts.{Parts}
-use Rattle.wk_module.specs.Listed.{AreNumbered, listed_with}
-use Rattle.wk_module.specs.NumberedLaws.{module_numbered, module_numbered_with}
-use Rattle.wk_module.specs.Sections.{SectionLists}
-use Rattle.wk_module.specs.Shape.{IsFormed, lists_of}
 use Rattle.wk_check.specs.declared.fault.Verdict.{Verdict}
 use Rattle.wk_check.specs.declared.fault.Verdict.TheVariants.{Valid}
 use Rattle.wk_check.specs.Answers.{Found}

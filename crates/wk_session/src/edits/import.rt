@@ -33,7 +33,8 @@ use crate::pieces::{NewSections, one_remade, remade};
 use std::alloc::Global;
 use wk_bytes::OutOfMemory;
 use wk_check::{
-    BodyVerdict, Meter, Verdict, Whole, laws_of_valid_modules, verdict_with_import, verdicts_that_keep,
+    BodyVerdict, Meter, Verdict, Whole, laws_of_valid_modules, verdict_with_import,
+    verdicts_that_keep,
 };
 use wk_module::{
     EncodeFault, Import, ImportDesc, Kind, Limits, Lists, MovedLists, Parts, ShiftFault,

@@ -1,5 +1,4 @@
-use Rattle.std.proofs.Common.{◌≡◌, ◌<◌, ◌^◌, ℕ, Bool, List, Option, Some, Result, Ok, Err, length, map, ap, sym, subst, ◌∙◌, arith, length-set}
-use Rattle.std.specs.Prelude.{IfSome}
+use Rattle.std.proofs.Common.{◌≡◌, ◌<◌, ◌^◌, ℕ, List, Option, Some, Result, Err, length, map, ap, sym, subst, ◌∙◌, arith, length-set}
 use Rattle.std.proofs.lemmas.List.{length-map}
 use Rattle.std.proofs.lemmas.Result.{err_from_is_err_and}
 use Rattle.wk_body.specs.Lengths.{limited}
@@ -9,15 +8,12 @@ use Rattle.wk_module.specs.Listed.{listed, listed_with}
 use Rattle.wk_module.specs.NumberedLaws.{funcs_numbered, module_numbered_with}
 use Rattle.wk_module.specs.Sections.{SectionLists, of_number}
 use Rattle.wk_module.specs.Writing.{contents_by, encoded}
-use Rattle.wk_check.specs.declared.fault.Verdict.{Verdict}
 use Rattle.wk_check.specs.SpacesLaws.{answers_of}
-use Rattle.wk_check.specs.Verdict.{func_verdict, module_verdict}
-use Rattle.wk_session.specs.declared.appraisal.Appraisal.{Appraisal}
-use Rattle.wk_session.specs.declared.kept.Kept.{Kept}
+use Rattle.wk_check.specs.Verdict.{func_verdict}
 use Rattle.wk_session.specs.declared.edit.EditFault.{EditFault}
 use Rattle.wk_session.specs.declared.edits.export.Exported.{Exported}
 use Rattle.wk_session.specs.Exported.{IsExported}
-use Rattle.wk_session.specs.Kept.{IsAppraised, IsPending}
+use Rattle.wk_session.specs.Kept.{IsPending}
 use Rattle.wk_session.specs.Overlays.{with_items}
 use Rattle.wk_session.specs.Pieces.{IsOverlong, no_news, one_new, section_piece, section_pieces}
 use Rattle.wk_session.specs.Refusals.{encode_refusal}

@@ -1,7 +1,6 @@
-use Rattle.std.proofs.Common.{◌≡◌, ◌∙◌, length, ap, refl, sym, arith}
+use Rattle.std.proofs.Common.{◌≡◌, ◌∙◌, length, ap, sym, arith}
 use Rattle.std.proofs.lemmas.Result.{err_from_is_err_and}
 use Rattle.wk_body.specs.declared.references.Ref.{Ref}
-use Rattle.wk_module.specs.declared.types.Parts.{Parts}
 use Rattle.wk_module.specs.Changes.{with_func}
 use Rattle.wk_module.specs.NumberedLaws.{funcs_numbered}
 use Rattle.wk_module.specs.Sections.{TypeSection}
@@ -13,7 +12,7 @@ use Rattle.wk_check.specs.Answers.{Found}
 use Rattle.wk_check.specs.SpacesLaws.{answers_of, func_grows}
 use Rattle.wk_check.specs.Typing.{body_verdict}
 use Rattle.wk_check.specs.Verdict.{func_verdict, module_verdict}
-use Rattle.wk_session.proofs.EntryEdits.{answers_lent, func_formed_from, lent, lent_is, mapped_more, types_with}
+use Rattle.wk_session.proofs.EntryEdits.{answers_lent, func_formed_from, lent_is, mapped_more, types_with}
 use Rattle.wk_session.proofs.Growing.{none_retyped}
 use Rattle.wk_session.proofs.Outcomes.{limited-some}
 use Rattle.wk_session.proofs.edits.function.judged_in_valid.Goals as goal

@@ -1,7 +1,6 @@
-use Rattle.std.proofs.Common.{◌≡◌, [], refl, sym, ◌∙◌}
+use Rattle.std.proofs.Common.{◌≡◌, refl, sym, ◌∙◌}
 use Rattle.wk_module.specs.Changes.{with_global}
 use Rattle.wk_module.specs.Listed.{listed}
-use Rattle.wk_module.specs.Shape.{lists_of}
 use Rattle.wk_check.specs.SpacesLaws.{global_grows}
 use Rattle.wk_check.specs.declared.fault.Verdict.{Verdict}
 use Rattle.wk_check.specs.Verdict.{module_verdict}
