@@ -13,8 +13,8 @@
  *
  * A pointer may be null where the length or capacity beside it is 0: so one asks what is needed. These arguments are bad, and any
  * call answers WASMKIT_BAD_ARGUMENT to them: null with another length or capacity, null for a length that is told, a length or
- * capacity above PTRDIFF_MAX, a module or script of more than 2,147,483,647 bytes, a number that no enum below has, a name to keep
- * that is not UTF-8, and an output that lies in what another argument points to.
+ * capacity above PTRDIFF_MAX, a module or script of more than 2,147,483,647 bytes, a number that no enum below has, a `keep_valid`
+ * that is neither 0 nor 1, a name to keep that is not UTF-8, and an output that lies in what another argument points to.
  *
  * Link with libwk_ffi.a, and with the archive of the kit that passes its allocations on to malloc, realloc and free.
  */
@@ -133,8 +133,8 @@ static inline enum wasmkit_result wasmkit_list(
 }
 
 /* Writes a module, valid or not, without its custom sections, but those of the name `keep`, which is UTF-8; without any where
- * `keep_length` is 0, so that those of the empty name never stay. WASMKIT_OK or _MALFORMED; there is text only where the bytes are malformed, and a module only where they are not.
- * The module is not longer than the bytes. */
+ * `keep_length` is 0, so that those of the empty name never stay. WASMKIT_OK or _MALFORMED; there is text only where the bytes are
+ * malformed, and a module only where they are not. The module is not longer than the bytes. */
 static inline enum wasmkit_result wasmkit_strip(
     const uint8_t *bytes, size_t length, uint32_t profile, const uint8_t *keep, size_t keep_length,
     uint8_t *out, size_t out_capacity, size_t *out_length, uint8_t *text, size_t text_capacity, size_t *text_length) {

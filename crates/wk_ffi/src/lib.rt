@@ -4,9 +4,9 @@
 //! pointer and a capacity, tells their lengths, and gives the number of a `Code`. A `Global` is passed as nothing: memory comes
 //! from the program's `malloc`.
 //!
-//! The code is `NoMemory` where a growth was refused, `BadArgument` where a module or script has more than 2,147,483,647 bytes or a
-//! number has no meaning, and `TooSmall` where an output has no room. After these nothing is written but lengths: 0, and of
-//! `TooSmall` those that are needed. A profile is 0, of WebAssembly 1.0, or 1, the extended one.
+//! The code is `NoMemory` where a growth was refused, `BadArgument` where a module or script has more than 2,147,483,647 bytes, a
+//! number has no meaning or a name is not UTF-8, and `TooSmall` where an output has no room. After these nothing is written but
+//! lengths: 0, and of `TooSmall` those that are needed. A profile is 0, of WebAssembly 1.0, or 1, the extended one.
 //!
 //! No pointer is null, no length is above 9,223,372,036,854,775,807, and no output lies in what another argument points to: the
 //! language has no other slices. `include/wasmkit.h` checks all that of what a C program passes, and then calls these.
