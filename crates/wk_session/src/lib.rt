@@ -12,8 +12,8 @@
 //!   scratch.
 //! - A reply tells the [`Work`] of an edit (`specs/Dependents`): `typed` counts the bodies that the edit gives and those that refer to
 //!   something which is found to be another thing (`retyped_meets` of `specs/DependentsLaws` ties that to the set of what changes),
-//!   `encoded` those that it gives and those that move, `sections` the sections that hold something new or moved. `typed` is the
-//!   reading of a meter, and the other two are counted where bytes are made.
+//!   `encoded` those that it gives and those that move, `sections` the sections that are made again. `typed` is the reading of a
+//!   meter, and the other two are counted where bytes are made.
 //! - [`Session::write`] fails only where its output does, and takes no memory.
 //! - What `is_decided` marks is never answered by want of memory (`decided`). `is_memory` marks the edits that were refused for want of
 //!   memory; what the others do and answer is said for those marks.

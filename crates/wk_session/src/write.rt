@@ -5,6 +5,6 @@
 pub enum WriteFault {
     /// The output failed. A beginning of the bytes was taken.
     Write,
-    /// A growth was refused. Nothing was taken.
+    /// A growth was refused. Nothing was taken. [`Session::write`](crate::Session::write) takes no memory, and never answers it.
     Memory,
 }
