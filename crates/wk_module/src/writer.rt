@@ -88,7 +88,7 @@ pub fn encode_section(alloc: Global, lists: &Lists<'_>, id: u8) -> Result<Vec<u8
 }
 
 /// Appends the section of an id, 1 to 9 or 11, as it stands in the written form: its id, its size and its contents, or nothing
-/// where it is left out.
+/// where it is left out. Of any other id nothing is appended, since lists that are lent have no codes.
 ///
 /// # Errors
 ///

@@ -166,7 +166,8 @@ fn strip_with(
 /// Strips the module of a profile that bytes spell of its custom sections (5.5.3), or of all but those of a name.
 ///
 /// What comes is the written form of that module, as [`encode`](wk_module::encode) gives it. It is made while the bytes are read, and
-/// no body is kept: the memory taken is that of the written form, and of the module without its bodies and custom sections.
+/// no body is kept: the memory taken is a room as long as the bytes for what is written, rooms for the longest code and for the
+/// sections in front of the codes, and the lists of the module without its bodies and custom sections.
 ///
 /// # Errors
 ///
