@@ -1,7 +1,8 @@
-//! `wasmkit`: reads, judges, lists and edits WebAssembly 1.0 binary modules.
+//! `wasmkit`: reads, judges, lists, strips and edits WebAssembly 1.0 binary modules.
 //!
 //! The command line, the files and the order in which they are read and written are in `docs/CLI.md`; they are tested. What is
-//! printed of bytes is what `wk_answers` and `wk_edit` answer, whose clauses say it.
+//! printed of bytes is what `wk_answers` and `wk_edit` answer, and what OUT gets is that of `wk_strip` and `wk_edit`: their clauses
+//! say it.
 #![tactic(auto)]
 
 mod command;

@@ -10,7 +10,12 @@ use std::alloc::Global;
 use wk_bytes::Out;
 use wk_list::{ListFault, Part, Plain, list};
 
-/// Lists these parts of a module, one behind the other. After a fault a beginning of them was taken.
+/// Lists these parts of a module, one behind the other.
+///
+/// # Errors
+///
+/// `Write` only where the [`Out`] failed in this call, and else `Memory` where a growth was refused. After either a beginning of the
+/// parts was taken.
 pub fn list_parts<X: Out>(
     alloc: Global,
     plain: &Plain<'_>,

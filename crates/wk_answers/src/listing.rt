@@ -47,7 +47,11 @@ fn put_item(
     }
 }
 
-/// Lists the sections that stand in the bytes, and then the fault of their frames.
+/// Lists the sections that stand in the bytes, and then the fault of their frames, if there is one.
+///
+/// # Errors
+///
+/// Want of memory.
 pub fn list_sections(alloc: Global, bytes: &[u8]) -> Result<Listing, OutOfMemory>
     ensures text { IfOk result (λ l. l.text.items ≡ listing (sections_of bytes.now)) }
     ensures fault { IfOk result (λ l. l.has_fault ≡ list_any is_fault (sections_of bytes.now)) }

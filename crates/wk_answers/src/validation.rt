@@ -20,7 +20,9 @@ pub struct Validation {
 
 /// Judges the module of a profile that the bytes spell.
 ///
-/// Want of memory is the only refusal.
+/// # Errors
+///
+/// Want of memory.
 pub fn validate(alloc: Global, bytes: &[u8], profile: Profile) -> Result<Validation, OutOfMemory>
     ensures line { IfOk result (λ v. string_bytes v.line ≡ printed (module_at profile bytes.now)) }
     ensures means { IfOk result (λ v. Means profile bytes.now (string_bytes v.line) v.status) }
