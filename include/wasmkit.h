@@ -1,7 +1,8 @@
 /* wasmkit as a library: judges, lists, strips and edits WebAssembly 1.0 binary modules.
  *
  * Each call reads bytes that it is given, works all out, and only then writes to memory that it is given, but for lengths, which it
- * sets to 0 first. It keeps nothing, prints nothing, and touches no file. Calls with memory of their own may run at the same time in several threads.
+ * sets to 0 first. It keeps nothing, prints nothing, and touches no file. Calls with memory of their own may run at the same time in
+ * several threads.
  *
  * An output is memory with a capacity, and a pointer to a length. The length that a call tells says how many bytes its answer has there:
  *
