@@ -25,8 +25,9 @@
 //! - [`verdict_with_type`], [`verdict_with_func`], [`verdict_with_body`], [`verdict_with_global`], [`verdict_with_export`] and
 //!   [`verdict_with_import`] are `module_verdict` of a valid module with that one item more, or with that other body, for every module
 //!   that the arguments are of; they judge the item alone (that of an export goes through the names of the others, once), and all but
-//!   that of a global take no memory. [`laws_of_valid_modules`] carries what they rest on: a valid module stays so without one of its exports (`without`), its bodies are valid (`bodies`), and
-//!   where what was there is found as it was they stay so (`stay`), as does all that its functions refer to (`found`).
+//!   that of a global take no memory. [`laws_of_valid_modules`] carries what they rest on: a valid module stays so without one of its
+//!   exports (`without`), its bodies are valid (`bodies`), and where what was there is found as it was they stay so (`stay`), as does
+//!   all that its functions refer to (`found`).
 //!
 //! # What it costs
 //!
