@@ -24,11 +24,7 @@ fn code_of(fault: CallFault) -> Code
 }
 
 /// Hands out the text of an answer, where it fits, and its length. Gives the number of the code.
-pub fn hand_text(
-    answer: Result<Answer, CallFault>,
-    text: &mut [u8],
-    text_len: &mut usize,
-) -> u32
+pub fn hand_text(answer: Result<Answer, CallFault>, text: &mut [u8], text_len: &mut usize) -> u32
     ensures { GivesText answer (output text.old text.new text_len.new) result }
 {
     let answer = match answer {

@@ -9,7 +9,14 @@ ghost use Rattle.wk_edit.specs.Theorem.{IsReport};
 ghost use Rattle.wk_ffi.specs.Meanings.{EditMeans, ValidationMeans};
 ghost use Rattle.wk_ffi.specs.Outputs.{told_of, IsAnswer};
 ghost use Rattle.wk_ffi.specs.Told.{
-    edit_told, list_told, malformed_told, outcome_told, sections_told, strip_told, stripped, validation_told,
+  edit_told,
+  list_told,
+  malformed_told,
+  outcome_told,
+  sections_told,
+  strip_told,
+  stripped,
+  validation_told,
 };
 
 use crate::asked::{flag_of, is_short, keep_of, owned, part_of, profile_of};
@@ -94,12 +101,7 @@ fn list_module(alloc: Global, whole: &Module, part: Part) -> Result<Vec<u8>, Cal
 }
 
 /// A part of the listing of a module.
-pub fn listing(
-    alloc: Global,
-    bytes: &[u8],
-    profile: u32,
-    part: u32,
-) -> Result<Answer, CallFault>
+pub fn listing(alloc: Global, bytes: &[u8], profile: u32, part: u32) -> Result<Answer, CallFault>
     ensures { IsAnswer (list_told profile part bytes.now) result }
 {
     let (Some(profile), Some(part)) = (profile_of(profile), part_of(part)) else {
@@ -138,12 +140,7 @@ fn strip_module(
 }
 
 /// The module without its custom sections, but those of the name `keep`, if that has bytes.
-pub fn strip(
-    alloc: Global,
-    bytes: &[u8],
-    profile: u32,
-    keep: &[u8],
-) -> Result<Answer, CallFault>
+pub fn strip(alloc: Global, bytes: &[u8], profile: u32, keep: &[u8]) -> Result<Answer, CallFault>
     ensures { IsAnswer (strip_told profile keep.now bytes.now) result }
 {
     let Some(profile) = profile_of(profile) else {
