@@ -20,14 +20,15 @@
 //!
 //! # What it costs
 //!
-//! Kept are the verdict of each body, what it refers to and its code, and the contents of each section. An edit types the bodies that find
-//! another thing than before, and no other; of a valid module it looks at what it adds alone. It encodes the bodies that move and the
-//! sections that change, and writing puts what is kept in order. All growths come before the change, which takes no memory.
+//! Kept are the verdict of each body, what it refers to and its code, and the contents of each section. An edit types the bodies that
+//! find another thing than before, and no other; of a valid module it judges what it adds alone. It encodes the bodies that move and
+//! the sections that change, and writing puts what is kept in order. All growths come before what is kept changes; what was pushed to
+//! be judged is taken back where the edit is refused.
 //!
-//! What grows with a session that is kept open is the module, and with it what is kept: an edit leaves nothing behind. Appending to a list of
-//! a valid module costs the bytes of its section, an export also one look at each name; an import, one look at the references of each
-//! function, and the bodies that move. Replacing a body costs that body, and a copy of the list of verdicts. An edit of an invalid module
-//! judges the sections anew and types the invalid bodies that find another thing.
+//! What grows with a session that is kept open is the module, and with it what is kept: an edit leaves nothing behind. Appending to a
+//! list of a valid module costs the bytes of its section, an export also one look at each name; a function or another body costs its
+//! code, one look at the imports and a copy of the list of verdicts; an import, one look at what each function refers to, and the
+//! bodies that move. An edit of an invalid module judges the sections anew, and types the invalid bodies that find another thing.
 #![tactic(auto)]
 
 mod appraisal;
