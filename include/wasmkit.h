@@ -135,7 +135,7 @@ static inline enum wasmkit_result wasmkit_list(
 
 /* Writes a module, valid or not, without its custom sections, but those of the name `keep`, which is UTF-8; without any where
  * `keep_length` is 0, so that those of the empty name never stay. WASMKIT_OK or _MALFORMED; there is text only where the bytes are
- * malformed, and a module only where they are not. The module is not longer than the bytes. */
+ * malformed, and a module only where they are not. */
 static inline enum wasmkit_result wasmkit_strip(
     const uint8_t *bytes, size_t length, uint32_t profile, const uint8_t *keep, size_t keep_length,
     uint8_t *out, size_t out_capacity, size_t *out_length, uint8_t *text, size_t text_capacity, size_t *text_length) {
