@@ -417,12 +417,14 @@ fn report_calls(
     Err("the output takes a byte a call")?
 }
 
-// The outputs of a row take as many calls as their bytes fill at one, two or seven bytes a call.
+// At one, two or seven bytes a call the report of a row takes as many calls as its bytes fill, and the module, which goes out in pieces,
+// as many or more, but no more than it has bytes.
 fn leaves_beginnings(rt: &impl Abort, alloc: Global, mode: Mode, row: Row) -> Result<(), Fail> {
     let (_, script, _, whole, text) = row;
     for most in [1, 2, 7] {
         let calls = module_calls(rt, alloc, mode, row, most)?;
-        assert_eq!(rt; calls, whole.len().div_ceil(most), "{script:?} {most}");
+        let least = whole.len().div_ceil(most);
+        assert!(rt; least <= calls && calls <= whole.len(), "{script:?} {most}");
         let calls = report_calls(rt, alloc, mode, row, most)?;
         assert_eq!(rt; calls, text.len().div_ceil(most), "{script:?} {most}");
     }
