@@ -17,7 +17,7 @@ ghost use Rattle.wk_body.specs.Bodies.{BodyOf};
 
 use crate::length::type_len;
 use crate::reader::{at_end, local_type};
-use crate::reading::are_bytes;
+use crate::reading::{MAX_DEPTH, are_bytes};
 use crate::scratch::Scratch;
 use crate::token_reader::TokenReader;
 use crate::types::{BlockType, Profile, ValType};
@@ -277,6 +277,11 @@ impl Scratch {
         ensures left { OnErr result (out.new.items ≡ out.old.items) }
         ensures fault { IfErr result (λ e. StandsOrMemory cursor.now e) }
     {
+        // The walk then wants no memory: what is written is no longer than the code, and opens no more blocks than it has bytes.
+        let len = cursor.rest().len();
+        self.written.clear();
+        self.written.reserve(len)?;
+        self.reader.make_room(len.min(MAX_DEPTH))?;
         if rewrite(profile, &mut self.reader, cursor, &mut self.written).is_some() {
             out.extend_from_slice(&self.written)?;
             return Ok(());

@@ -135,6 +135,14 @@ impl TokenReader {
         Ok(())
     }
 
+    /// Makes room for so many open blocks, behind those that are open.
+    pub(crate) fn make_room(&mut self, blocks: usize) -> Result<(), ReadFault>
+        ensures { IfErr result (λ e. e ≡ no_memory) }
+    {
+        self.blocks.reserve(blocks)?;
+        Ok(())
+    }
+
     #[cold]
     #[inline(never)]
     fn open_growing(&mut self, is_if: bool) -> Result<(), ReadFault>
