@@ -232,49 +232,41 @@ fn rewrite(
     Some(())
 }
 
-// The written form of a body that is read whole first: the first fault of reading is answered where there is one.
-fn append_read(
-    alloc: Global,
-    scratch: &mut Scratch,
-    out: &mut Vec<u8>,
-    cursor: &Cursor<'_>,
-    profile: Profile,
-) -> Result<(), ReadFault>
-    ensures exact { MatchResult result
-        (λ _. (b : BodyOf) × (all_body_at profile cursor.now.end cursor.now.rest ≡ Ok b)
-        × (out.new.items ≡ out.old.items ++ written_body b))
-        (λ e. FailsAs e e.kind (all_body_at profile cursor.now.end cursor.now.rest)) }
-    ensures left { OnErr result (out.new.items ≡ out.old.items) }
-    ensures fault { IfErr result (λ e. StandsOrMemory cursor.now e) }
-{
-    let body = scratch.read_body(alloc, cursor, profile)?;
-    let len = out.len();
-    if let Err(wanted) = append_body(out, &body) {
-        out.truncate(len);
-        return Err(wanted.into());
-    }
-    Ok(())
-}
-
 impl Scratch {
-    /// Appends the written form of the one body that all that the cursor has left spells (5.5.13). It is read once and not kept;
-    /// one that is refused is read again for its fault.
+    // The written form of a body that is read whole first, in a room of its own: the first fault of reading is answered where there
+    // is one.
+    fn spelled_anew(
+        &mut self,
+        alloc: Global,
+        cursor: &Cursor<'_>,
+        profile: Profile,
+    ) -> Result<&[u8], ReadFault>
+        ensures exact { MatchResult result
+            (λ written. (b : BodyOf) × (all_body_at profile cursor.now.end cursor.now.rest ≡ Ok b) × (written.now ≡ written_body b))
+            (λ e. FailsAs e e.kind (all_body_at profile cursor.now.end cursor.now.rest)) }
+        ensures fault { IfErr result (λ e. StandsOrMemory cursor.now e) }
+    {
+        let body = self.read_body(alloc, cursor, profile)?;
+        self.written.clear();
+        append_body(&mut self.written, &body)?;
+        Ok(&self.written)
+    }
+
+    /// Lends the written form of the one body that all that the cursor has left spells (5.5.13), which the next call forgets. It is
+    /// read once and not kept; one that is refused is read again for its fault.
     ///
     /// # Errors
     /// The first fault from left to right, which says that the bytes spell no body of the profile, or `Memory` at 0 where a growth
-    /// was refused. `out` holds what it held.
-    pub fn append_spelled(
+    /// was refused.
+    pub fn spelled(
         &mut self,
         alloc: Global,
-        out: &mut Vec<u8>,
         cursor: &Cursor<'_>,
         profile: Profile,
-    ) -> Result<(), ReadFault>
+    ) -> Result<&[u8], ReadFault>
         ensures exact { MatchResult result
-            (λ _. (b : BodyOf) × (all_body_at profile cursor.now.end cursor.now.rest ≡ Ok b)
-            × (out.new.items ≡ out.old.items ++ written_body b))
+            (λ written. (b : BodyOf) × (all_body_at profile cursor.now.end cursor.now.rest ≡ Ok b) × (written.now ≡ written_body b))
             (λ e. FailsAs e e.kind (all_body_at profile cursor.now.end cursor.now.rest)) }
-        ensures left { OnErr result (out.new.items ≡ out.old.items) }
         ensures fault { IfErr result (λ e. StandsOrMemory cursor.now e) }
     {
         // The walk then wants no memory: what is written is no longer than the code, and opens no more blocks than it has bytes.
@@ -283,9 +275,8 @@ impl Scratch {
         self.written.reserve(len)?;
         self.reader.make_room(len.min(MAX_DEPTH))?;
         if rewrite(profile, &mut self.reader, cursor, &mut self.written).is_some() {
-            out.extend_from_slice(&self.written)?;
-            return Ok(());
+            return Ok(&self.written);
         }
-        append_read(alloc, self, out, cursor, profile)
+        self.spelled_anew(alloc, cursor, profile)
     }
 }

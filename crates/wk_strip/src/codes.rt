@@ -30,14 +30,12 @@ fn is_short(code: &Cursor<'_>)
     let _place = code.at();
 }
 
-// Appends a code: the size of the written form of its body, and that. The body is written to a room of its own before, as its size
-// is not known until then.
+// Appends a code: the size of the written form of its body, and that.
 fn append_code(
     alloc: Global,
     scratch: &mut Scratch,
     profile: Profile,
     code: &Cursor<'_>,
-    room: &mut Vec<u8>,
     out: &mut Vec<u8>,
 ) -> Result<(), ReadFault>
     ensures { MatchResult result
@@ -49,10 +47,9 @@ fn append_code(
     written_form_of_code();
     are_bytes(code.rest());
     is_short(code);
-    room.clear();
-    scratch.append_spelled(alloc, room, code, profile)?;
-    put_u32(out, room.len() as u32)?;
-    out.extend_from_slice(room)?;
+    let body = scratch.spelled(alloc, code, profile)?;
+    put_u32(out, body.len() as u32)?;
+    out.extend_from_slice(body)?;
     Ok(())
 }
 
@@ -70,9 +67,8 @@ pub(crate) fn append_codes(
         (λ e. FailsAs e e.kind (codes_of profile funcs (raw_view section.now))) }
 {
     let mut codes = CodeReader::open(section, funcs)?;
-    let mut room = Vec::new(alloc);
     for _ in 0..funcs {
-        append_code(alloc, scratch, profile, &codes.next_code()?, &mut room, out)?;
+        append_code(alloc, scratch, profile, &codes.next_code()?, out)?;
     }
     codes.end()
 }
