@@ -160,10 +160,12 @@ fn pass_expr(
         × Passes (expr_at profile) t (written_expr t) out.old.items walk.old out.new.items walk.new) }
 {
     reader.begin();
-    for _ in 0..walk.cursor.rest().len() {
+    let mut left = walk.cursor.rest().len();
+    while left > 0 {
         if pass_token(profile, reader, walk, out)? {
             return Some(());
         }
+        left -= 1;
     }
     None
 }
