@@ -4,12 +4,12 @@ use Rattle.wk_module.proofs.writer.put_module.Goals as goal
 
 pub put_section-requires : goal.put_section-requires
 put_section-requires c =
-    let fit = both_fit c.args.parts.now c.loop-id.id (omega arith) c.requires in
+    let fit = both_fit c.args.parts.now c.loop-id.id (omega arith) c.requires.fits in
     omega (arith, fit)
 
 pub put_customs_at-requires : goal.put_customs_at-requires
 put_customs_at-requires c =
-    let fit = both_fit c.args.parts.now c.loop-id.id (omega arith) c.requires in
+    let fit = both_fit c.args.parts.now c.loop-id.id (omega arith) c.requires.fits in
     omega (arith, fit)
 
 pub loop-id-preserved : goal.loop-id-preserved
