@@ -150,8 +150,9 @@ fn measure_codes(alloc: Global, parts: &Parts) -> Result<Vec<u32>, EncodeFault>
         (Unwritten (encoded parts.now)) }
 {
     match sizes_of_bodies(alloc, parts.funcs.as_slice()) {
+        Ok(sizes) => Ok(sizes),
+        Err(EncodeFault::TooLarge) => Err(EncodeFault::TooLarge),
         Err(EncodeFault::Memory) => Err(unwritten(parts)),
-        sizes => sizes,
     }
 }
 
@@ -168,11 +169,7 @@ fn unwritten(parts: &Parts) -> EncodeFault
 
 // Appends the header, and each section with the custom sections behind it.
 #[tactic(auto, unfolding(crate::specs::Writing::encoded))]
-fn put_module(
-    parts: &Parts,
-    code_sizes: &[u32],
-    bytes: &mut Vec<u8>,
-) -> Result<(), OutOfMemory>
+fn put_module(parts: &Parts, code_sizes: &[u32], bytes: &mut Vec<u8>) -> Result<(), OutOfMemory>
     requires fits { Fits parts.now }
     requires sizes { code_sizes.now ≡ body_sizes parts.now.funcs }
     ensures { OnOk result (bytes.new.items ≡ bytes.old.items ++ encoded parts.now) }
