@@ -1,11 +1,13 @@
 -- Lengths up to the limit, and of pieces.
-use Rattle.std.proofs.Common.{◌≡◌, ℕ, ◌+◌, ◌<◌, ◌≤◌, true, false, Option, Some, None, List, [], ◌∷◌, ◌++◌, length, map, take, get_or, eqb, refl, sym, ap, ◌∙◌, ◌==◌, arith, length-append}
+use Rattle.std.proofs.Common.{◌≡◌, ℕ, ◌+◌, ◌<◌, ◌≤◌, true, false, Option, Some, None, List, [], ◌∷◌, ◌++◌, length, map, take, get_or, nat_le, eqb, refl, sym, ap, ◌∙◌, ◌==◌, arith, length-append}
 use Rattle.std.proofs.lemmas.Bool.{eqb-true, eqb-false}
 use Rattle.std.specs.Option.{option_eq}
 use Rattle.std.specs.List.{flat_map, sum_by}
-use Rattle.std.proofs.lemmas.List.{flat_map_more, take_more, length-map}
+use Rattle.std.proofs.lemmas.Bool.{lt-leb, cond-false}
+use Rattle.std.proofs.lemmas.List.{flat_map_more, get_or-map, map-append, take_more, length-map}
 use Rattle.std.proofs.lemmas.List.Folds.{flat_map-map}
 use Rattle.std.proofs.lemmas.List.Sums.{sum_by-cons}
+use Rattle.wk_bytes.specs.Frames.{limit}
 use Rattle.wk_bytes.specs.ListWords.{is_empty}
 use Rattle.wk_bytes.specs.Short.{short}
 use Rattle.wk_body.specs.Bodies.{BodyOf}
@@ -15,9 +17,9 @@ use Rattle.wk_body.specs.Written.{written_body}
 use Rattle.wk_module.specs.declared.types.Func.{Func}
 use Rattle.wk_module.specs.Items.{written_code}
 use Rattle.wk_module.specs.Sections.{CodeSection}
-use Rattle.wk_module.specs.Sizes.{body_size, entry_size}
-use Rattle.wk_module.specs.Writing.{list_contents, section_contents}
-use Rattle.wk_module.specs.WritingLaws.{some_code, length_le_flat_map}
+use Rattle.wk_module.specs.Sizes.{body_size, body_sizes, entry_size}
+use Rattle.wk_module.specs.Writing.{list_contents, section_contents, code_contents}
+use Rattle.wk_module.specs.WritingLaws.{some_code, length_le_flat_map, code_le, count_within}
 
 -- whether a length is zero, as it is told
 pub is_zero : (n : ℕ) (size : Option ℕ) → size ≡ limited n → true ≡ option_eq eqb size (Some 0) → n ≡ 0
@@ -28,11 +30,22 @@ pub not_zero : (n : ℕ) (size : Option ℕ) → size ≡ limited n → false �
 not_zero n None is eq = omega (arith, limited_none n is)
 not_zero n (Some m) is eq = omega (arith, (limited_some m n is).0, eqb-false m 0 (sym eq))
 
+-- nothing is told past the limit
+pub untold : (n : ℕ) → limit < n → None ≡ limited n
+untold n past = sym (cond-false (nat_le n limit) (Some n) None (lt-leb n limit past))
+
 -- one more piece
 pub length_more : {A : Type 0} (f : A → List ℕ) (xs : List A) (i : ℕ) (x : A) → i < length xs → x ≡ get_or xs i x → length (flat_map f (take (i + 1) xs)) ≡ length (flat_map f (take i xs)) + length (f x)
 length_more f xs i x within is =
     ap (λ ys. length (flat_map f ys)) (take_more xs i x within ∙ ap (λ y. take i xs ++ y ∷ []) (sym is))
     ∙ (ap length (sym (flat_map_more f [] (take i xs) x)) ∙ length-append (flat_map f (take i xs)) (f x))
+
+-- the same of the bytes themselves, behind others
+pub pieces_more : {A : Type 0} (f : A → List ℕ) (xs : List A) (i j : ℕ) (x : A) (before bytes now : List ℕ) → i < length xs → x ≡ get_or xs i x → j ≡ i + 1
+    → bytes ≡ before ++ flat_map f (take i xs) → now ≡ bytes ++ f x → now ≡ before ++ flat_map f (take j xs)
+pieces_more f xs i j x before bytes now within is next so_far more =
+    more ∙ ap (λ (b : List ℕ). b ++ f x) so_far ∙ flat_map_more f before (take i xs) x
+    ∙ ap (λ ys. before ++ flat_map f ys) (sym (ap (λ k. take k xs) next ∙ take_more xs i x within ∙ ap (λ y. take i xs ++ y ∷ []) (sym is)))
 
 -- a list whose length is not zero has an item
 pub some_items : {A : Type 0} (xs : List A) → (length xs == 0) ≡ false → is_empty xs ≡ false
@@ -56,7 +69,39 @@ list_contents-map written part (x ∷ xs) =
     ap (λ (n : ℕ). short n ++ flat_map (λ y. written (part y)) (x ∷ xs)) (sym (length-map (x ∷ xs) part))
     ∙ ap (λ (b : List ℕ). short (length (map part (x ∷ xs))) ++ b) (sym (flat_map-map written part (x ∷ xs)))
 
+-- the bytes of the codes of functions, one after the other
+abbrev pub codes_of : List Func → List ℕ
+codes_of funcs = flat_map (λ f. written_code f.body) funcs
+
+-- the contents of the code section, where there are functions
+pub codes_are : (funcs : List Func) → 0 < length funcs → code_contents funcs ≡ short (length funcs) ++ codes_of funcs
+codes_are [] some = absurd (omega (arith, some))
+codes_are (f ∷ fs) some = sym (list_contents-map written_code (λ (g : Func). g.body) (f ∷ fs))
+
+pub codes_long : (funcs : List Func) → 0 < length funcs → length (code_contents funcs) ≡ length (codes_of funcs) + length (short (length funcs))
+codes_long funcs some = omega (arith, ap length (codes_are funcs some), length-append (short (length funcs)) (codes_of funcs))
+
+-- there are no more functions than bytes
+pub few_funcs : (funcs : List Func) → length funcs ≤ length (code_contents funcs)
+few_funcs funcs = omega (arith, count_within CodeSection (map (λ (f : Func). f.body) funcs), length-map funcs (λ (f : Func). f.body))
+
+-- a body that is past the limit takes the code section past it
+pub past_by_body : (funcs : List Func) (i : ℕ) (f : Func) → i < length funcs → f ≡ get_or funcs i f → None ≡ limited (length (written_body f.body)) → limit < length (code_contents funcs)
+past_by_body funcs i f within is none =
+    omega (arith, limited_none (length (written_body f.body)) none, code_le funcs i f within is, length-append (short (length (written_body f.body))) (written_body f.body))
+
 -- ---- the code section, by the sizes of its bodies
+
+-- the size that stands at an index is that of the body there
+pub size_at : (funcs : List Func) (sizes : List ℕ) (i : ℕ) (f : Func) (size : ℕ) → sizes ≡ body_sizes funcs → i < length funcs → f ≡ get_or funcs i f → size ≡ get_or sizes i size → size ≡ body_size f.body
+size_at funcs sizes i f size are within is sized =
+    sized ∙ ap (λ (ns : List ℕ). get_or ns i size) are ∙ get_or-map (λ (g : Func). body_size g.body) funcs i f size within ∙ ap (λ (g : Func). body_size g.body) (sym is)
+
+-- one more size
+pub sizes_more : (funcs : List Func) (i : ℕ) (f : Func) (size : ℕ) → i < length funcs → f ≡ get_or funcs i f → size ≡ body_size f.body → body_sizes (take (i + 1) funcs) ≡ body_sizes (take i funcs) ++ size ∷ []
+sizes_more funcs i f size within is sized =
+    ap body_sizes (take_more funcs i f within ∙ ap (λ (g : Func). take i funcs ++ g ∷ []) (sym is))
+    ∙ (map-append (λ (g : Func). body_size g.body) (take i funcs) (f ∷ []) ∙ ap (λ (n : ℕ). body_sizes (take i funcs) ++ n ∷ []) (sym sized))
 
 entries_sized : (bodies : List BodyOf) → sum_by entry_size (map body_size bodies) ≡ length (flat_map written_code bodies)
 entries_sized [] = refl
@@ -85,6 +130,6 @@ codes_sized sizes bodies some is =
     let count : length sizes ≡ length bodies = ap length is ∙ length-map bodies body_size in
     omega (arith, sized_by bodies (omega (arith, some, count)), ap (sum_by entry_size) is, ap (λ (n : ℕ). length (short n)) count)
 
-pub sizes_of : (fs : List Func) → map (λ (f : Func). body_size f.body) fs ≡ map body_size (map (λ (f : Func). f.body) fs)
+pub sizes_of : (fs : List Func) → body_sizes fs ≡ map body_size (map (λ (f : Func). f.body) fs)
 sizes_of [] = refl
 sizes_of (f ∷ fs) = ap (λ (ns : List ℕ). body_size f.body ∷ ns) (sizes_of fs)

@@ -27,9 +27,6 @@ pub(crate) struct Exports;
 /// Element segments (5.5.12).
 pub(crate) struct Elems;
 
-/// Codes (5.5.13), of functions.
-pub(crate) struct Codes;
-
 /// The type indices of functions (5.5.6).
 pub(crate) struct FuncIndices;
 

@@ -1,7 +1,6 @@
 //! How long written forms get.
 
-ghost use Rattle.std.specs.Prelude.{◌≡◌, ◌+◌, ℕ, List, length, map};
-ghost use Rattle.wk_body.specs.Bodies.{BodyOf};
+ghost use Rattle.std.specs.Prelude.{◌≡◌, ◌+◌, ℕ, List, length};
 ghost use Rattle.wk_body.specs.Lengths.{limited, GrowsBy};
 ghost use Rattle.std.specs.List.{flat_map};
 ghost use Rattle.wk_module.specs.Customs.{written_custom};
@@ -10,16 +9,17 @@ ghost use Rattle.wk_module.specs.Items.{written_export};
 ghost use Rattle.wk_module.specs.Types.{written_functype};
 ghost use Rattle.wk_module.specs.declared.types.Parts.{Parts as PartsOf};
 ghost use Rattle.wk_module.specs.Listed.{listed};
-ghost use Rattle.wk_module.specs.Sections.{SectionLists, CodeSection, of_number};
+ghost use Rattle.wk_module.specs.Sections.{SectionLists, of_number};
 ghost use Rattle.wk_module.specs.Shape.{lists_of, IsInOrderFrom};
-ghost use Rattle.wk_module.specs.Sizes.{body_size, entry_size, framed_size, section_size, whole_size, AreListsOf};
-ghost use Rattle.wk_module.specs.Writing.{encoded, framed, section_by, section_of, section_contents, ids, contents_by, SectionLen};
+ghost use Rattle.wk_module.specs.Sizes.{body_sizes, framed_size, section_size, whole_size, AreListsOf};
+ghost use Rattle.wk_module.specs.Writing.{encoded, framed, code_contents, section_by, section_of, ids, contents_by, SectionLen};
 
-use crate::format::{Codes, Exports, FuncIndices, FuncTypes};
+use crate::codes::{codes_len, codes_len_by};
+use crate::format::{Exports, FuncIndices, FuncTypes};
 use crate::lists::Lists;
 use crate::module::Module;
 use crate::types::{Custom, Export, FuncType, Parts};
-use crate::writing::{Writable, list_len, plus, plus_bytes, plus_count, plus_u32};
+use crate::writing::{Writable, list_len, plus, plus_bytes, plus_u32};
 use wk_bytes::{Items, LIMIT, Text};
 
 /// The length of the magic and the version.
@@ -38,8 +38,24 @@ pub(crate) const CODES: u8 = 10;
 pub fn encoded_len(module: &Module) -> Option<u32>
     ensures { result ≡ limited (length (encoded «module».now)) }
 {
-    let parts = module.parts();
-    let total = plus_sections(Some(HEADER_LEN), parts);
+    len_of_parts(module.parts())
+}
+
+/// The same of the parts of a module.
+pub(crate) fn len_of_parts(parts: &Parts) -> Option<u32>
+    requires { IsInOrderFrom 0 parts.now.customs }
+    ensures { result ≡ limited (length (encoded parts.now)) }
+{
+    len_by_code(parts, codes_len(parts.funcs.as_slice()))
+}
+
+/// The same, where the contents of the code section have that length.
+pub(crate) fn len_by_code(parts: &Parts, code: Option<u32>) -> Option<u32>
+    requires order { IsInOrderFrom 0 parts.now.customs }
+    requires code { code ≡ limited (length (code_contents parts.now.funcs)) }
+    ensures { result ≡ limited (length (encoded parts.now)) }
+{
+    let total = plus_sections(Some(HEADER_LEN), parts, code);
     plus_customs(total, &parts.customs)
 }
 
@@ -91,8 +107,19 @@ pub(crate) fn contents_len(parts: &Parts, id: u8) -> Option<u32>
 {
     match id {
         FUNCTIONS => list_len::<FuncIndices>(parts.funcs.as_slice()),
-        CODES => list_len::<Codes>(parts.funcs.as_slice()),
+        CODES => codes_len(parts.funcs.as_slice()),
         _ => Lists::of(parts, &[]).contents_len(id),
+    }
+}
+
+/// The same by the sizes of the bodies, which are not measured again.
+pub(crate) fn contents_len_by(parts: &Parts, code_sizes: &[u32], id: u8) -> Option<u32>
+    requires { code_sizes.now ≡ body_sizes parts.now.funcs }
+    ensures { result ≡ limited (length (contents_by (lists_of parts.now) (of_number id))) }
+{
+    match id {
+        CODES => codes_len_by(code_sizes),
+        _ => contents_len(parts, id),
     }
 }
 
@@ -150,27 +177,6 @@ fn plus_size(total: Option<u32>, contents: usize) -> Option<u32>
     plus(total, contents)
 }
 
-/// A length with an entry of the code section added whose body has that many bytes.
-fn plus_code(total: Option<u32>, size: u32) -> Option<u32>
-    ensures { GrowsBy (entry_size size) total result }
-{
-    plus(plus_u32(total, size), size as usize)
-}
-
-/// The length of the contents of the code section by the sizes of its bodies, or nothing past the limit.
-fn codes_len(code_sizes: &[u32]) -> Option<u32>
-    ensures { (bodies : List BodyOf) → code_sizes.now ≡ map body_size bodies → result ≡ limited (length (section_contents CodeSection bodies)) }
-{
-    if code_sizes.is_empty() {
-        return Some(0);
-    }
-    let mut total = Some(0);
-    for size in code_sizes {
-        total = plus_code(total, *size);
-    }
-    plus_count(total, code_sizes.len())
-}
-
 /// A length with a section whose contents are so long added, or nothing past the limit.
 fn plus_framed(total: Option<u32>, size: Option<u32>) -> Option<u32>
     ensures { (id : ℕ) (contents : List ℕ) → size ≡ limited (length contents) → GrowsBy (length (framed id contents)) total result }
@@ -189,11 +195,17 @@ fn plus_contents(total: Option<u32>, size: Option<u32>, id: u8) -> Option<u32>
     plus_framed(total, size)
 }
 
-/// A length with the section of an id added.
-fn plus_section(total: Option<u32>, parts: &Parts, id: u8) -> Option<u32>
+/// A length with the section of an id added, where the contents of the code section have a length that is known.
+fn plus_section(total: Option<u32>, parts: &Parts, code: Option<u32>, id: u8) -> Option<u32>
+    requires { code ≡ limited (length (code_contents parts.now.funcs)) }
     ensures { GrowsBy (length (section_of parts.now id)) total result }
 {
-    plus_contents(total, contents_len(parts, id), id)
+    let size = if id == CODES {
+        code
+    } else {
+        contents_len(parts, id)
+    };
+    plus_contents(total, size, id)
 }
 
 /// A length with the section of an id added, by lists that are lent and the sizes of bodies.
@@ -201,20 +213,21 @@ fn plus_lent(total: Option<u32>, lists: &Lists<'_>, code_sizes: &[u32], id: u8) 
     ensures { (m : PartsOf) → AreListsOf (listed lists.now) code_sizes.now m → GrowsBy (length (section_of m id)) total result }
 {
     let size = if id == CODES {
-        codes_len(code_sizes)
+        codes_len_by(code_sizes)
     } else {
         lists.contents_len(id)
     };
     plus_contents(total, size, id)
 }
 
-/// A length with the sections that are no custom ones added.
-fn plus_sections(total: Option<u32>, parts: &Parts) -> Option<u32>
+/// A length with the sections that are no custom ones added, where the contents of the code section have a length that is known.
+fn plus_sections(total: Option<u32>, parts: &Parts, code: Option<u32>) -> Option<u32>
+    requires { code ≡ limited (length (code_contents parts.now.funcs)) }
     ensures { GrowsBy (length (flat_map (section_of parts.now) ids)) total result }
 {
     let mut all = total;
     for id in 0..=LAST {
-        all = plus_section(all, parts, id);
+        all = plus_section(all, parts, code, id);
     }
     all
 }

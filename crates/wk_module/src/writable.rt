@@ -7,14 +7,14 @@ ghost use Rattle.wk_module.specs.Types.{flag_byte, kind_byte, written_limits, wr
 ghost use Rattle.wk_module.specs.Items.{desc_kind, written_desc};
 
 use crate::format::{
-    Codes, Datas, Elems, Exports, FuncIndices, FuncTypes, Globals, Imports, Indices, Memories,
-    Tables, ValTypes,
+    Datas, Elems, Exports, FuncIndices, FuncTypes, Globals, Imports, Indices, Memories, Tables,
+    ValTypes,
 };
 use crate::types::{
     DataSeg, Elem, Export, Func, FuncType, GlobalDef, GlobalType, Import, ImportDesc, Kind, Limits,
 };
 use crate::writing::{Writable, plus, plus_bytes, plus_u32, plus_vector, put_bytes, put_vector};
-use wk_body::{Expr, ValType, append_body, append_expr, body_len, expr_len};
+use wk_body::{Expr, ValType, append_expr, expr_len};
 use wk_bytes::{OutOfMemory, put_u32};
 
 /// The byte that begins a function type (5.3.3).
@@ -316,30 +316,6 @@ impl Writable for Elems {
         put_u32(bytes, item.table)?;
         append_expr(bytes, &item.offset)?;
         put_vector::<Indices>(item.funcs.as_slice(), bytes)
-    }
-}
-
-impl Writable for Codes {
-    type Item = Func;
-
-    ghost use Rattle.wk_module.specs.Items.{written_code};
-    ghost use Rattle.wk_module.specs.WritingLaws.{some_code};
-
-    ghost written = { λ f. written_code f.body };
-
-    ghost some = { λ f. some_code f.body };
-
-    fn measure(item: &Func, so_far: Option<u32>) -> Option<u32> {
-        let len = body_len(&item.body)?;
-        plus(plus_u32(so_far, len), len as usize)
-    }
-
-    fn put(item: &Func, bytes: &mut Vec<u8>) -> Result<(), OutOfMemory> {
-        let Some(len) = body_len(&item.body) else {
-            unreachable!()
-        };
-        put_u32(bytes, len)?;
-        append_body(bytes, &item.body)
     }
 }
 

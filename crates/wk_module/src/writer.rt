@@ -10,11 +10,15 @@ ghost use Rattle.wk_module.specs.Customs.{written_custom};
 ghost use Rattle.wk_module.specs.Listed.{listed, IsListId};
 ghost use Rattle.wk_module.specs.Modules.{Spells};
 ghost use Rattle.wk_module.specs.Sections.{of_number};
-ghost use Rattle.wk_module.specs.Shape.{lists_of, IsShaped};
+ghost use Rattle.wk_module.specs.Shape.{lists_of, IsInOrderFrom, IsShaped};
+ghost use Rattle.wk_module.specs.Sizes.{body_sizes};
 ghost use Rattle.wk_module.specs.Writing.{encoded, framed, contents_by, section_by, section_of, customs_at, Fits};
 
-use crate::format::{Codes, FuncIndices};
-use crate::length::{CODES, FUNCTIONS, LAST, contents_len, custom_len, encoded_len};
+use crate::codes::{codes_len_by, put_codes, sizes_of_bodies};
+use crate::format::FuncIndices;
+use crate::length::{
+    CODES, FUNCTIONS, LAST, contents_len_by, custom_len, len_by_code, len_of_parts,
+};
 use crate::lists::Lists;
 use crate::module::Module;
 use crate::reader::one_module;
@@ -50,13 +54,7 @@ pub fn encode(alloc: Global, module: &Module) -> Result<Vec<u8>, EncodeFault>
     // The proof asks for what these two say of modules.
     written_form_of_module();
     one_module();
-    let parts = module.parts();
-    let Some(len) = encoded_len(module) else {
-        return Err(EncodeFault::TooLarge);
-    };
-    let mut bytes = Vec::with_capacity(alloc, len as usize)?;
-    put_module(parts, &mut bytes)?;
-    Ok(bytes)
+    encode_parts(alloc, module.parts())
 }
 
 /// The law of the written form: where a module fits, it spells the module. It does nothing.
@@ -128,28 +126,76 @@ pub fn encode_custom(alloc: Global, custom: &Custom) -> Result<Vec<u8>, EncodeFa
     Ok(bytes)
 }
 
+// The same of the parts of a module. Each body is measured once, unless its size has no room.
+fn encode_parts(alloc: Global, parts: &Parts) -> Result<Vec<u8>, EncodeFault>
+    requires { IsInOrderFrom 0 parts.now.customs }
+    ensures { MatchResult result
+        (λ bytes. (bytes.items ≡ encoded parts.now) × FewBytes bytes.items)
+        (Unwritten (encoded parts.now)) }
+{
+    let code_sizes = measure_codes(alloc, parts)?;
+    let Some(len) = len_by_code(parts, codes_len_by(&code_sizes)) else {
+        return Err(EncodeFault::TooLarge);
+    };
+    let mut bytes = Vec::with_capacity(alloc, len as usize)?;
+    put_module(parts, &code_sizes, &mut bytes)?;
+    Ok(bytes)
+}
+
+// The size of each body.
+fn measure_codes(alloc: Global, parts: &Parts) -> Result<Vec<u32>, EncodeFault>
+    requires { IsInOrderFrom 0 parts.now.customs }
+    ensures { MatchResult result
+        (λ sizes. sizes.items ≡ body_sizes parts.now.funcs)
+        (Unwritten (encoded parts.now)) }
+{
+    match sizes_of_bodies(alloc, parts.funcs.as_slice()) {
+        Ok(sizes) => Ok(sizes),
+        Err(EncodeFault::TooLarge) => Err(EncodeFault::TooLarge),
+        Err(EncodeFault::Memory) => Err(unwritten(parts)),
+    }
+}
+
+// Why nothing is written where memory is wanted before it is known whether the module fits.
+fn unwritten(parts: &Parts) -> EncodeFault
+    requires { IsInOrderFrom 0 parts.now.customs }
+    ensures { Unwritten (encoded parts.now) result }
+{
+    match len_of_parts(parts) {
+        Some(_) => EncodeFault::Memory,
+        None => EncodeFault::TooLarge,
+    }
+}
+
 // Appends the header, and each section with the custom sections behind it.
 #[tactic(auto, unfolding(crate::specs::Writing::encoded))]
-fn put_module(parts: &Parts, bytes: &mut Vec<u8>) -> Result<(), OutOfMemory>
-    requires { Fits parts.now }
+fn put_module(parts: &Parts, code_sizes: &[u32], bytes: &mut Vec<u8>) -> Result<(), OutOfMemory>
+    requires fits { Fits parts.now }
+    requires sizes { code_sizes.now ≡ body_sizes parts.now.funcs }
     ensures { OnOk result (bytes.new.items ≡ bytes.old.items ++ encoded parts.now) }
 {
     bytes.extend_from_slice(&HEADER)?;
     for id in 0..=LAST {
-        put_section(parts, id, bytes)?;
+        put_section(parts, code_sizes, id, bytes)?;
         put_customs_at(&parts.customs, id, bytes)?;
     }
     Ok(())
 }
 
 // Appends the contents of the section of an id.
-fn put_contents(parts: &Parts, id: u8, bytes: &mut Vec<u8>) -> Result<(), OutOfMemory>
-    requires { length (contents_by (lists_of parts.now) (of_number id)) ≤ limit }
+fn put_contents(
+    parts: &Parts,
+    code_sizes: &[u32],
+    id: u8,
+    bytes: &mut Vec<u8>,
+) -> Result<(), OutOfMemory>
+    requires sizes { code_sizes.now ≡ body_sizes parts.now.funcs }
+    requires fits { length (contents_by (lists_of parts.now) (of_number id)) ≤ limit }
     ensures { OnOk result (bytes.new.items ≡ bytes.old.items ++ contents_by (lists_of parts.now) (of_number id)) }
 {
     match id {
         FUNCTIONS => put_list::<FuncIndices>(parts.funcs.as_slice(), bytes),
-        CODES => put_list::<Codes>(parts.funcs.as_slice(), bytes),
+        CODES => put_codes(parts.funcs.as_slice(), code_sizes, bytes),
         _ => Lists::of(parts, &[]).put_contents(id, bytes),
     }
 }
@@ -163,18 +209,24 @@ fn put_front(id: u8, size: u32, bytes: &mut Vec<u8>) -> Result<(), OutOfMemory>
 }
 
 // Appends the section of an id that is not a custom one, unless it has no contents.
-fn put_section(parts: &Parts, id: u8, bytes: &mut Vec<u8>) -> Result<(), OutOfMemory>
-    requires { length (section_of parts.now id) ≤ limit }
+fn put_section(
+    parts: &Parts,
+    code_sizes: &[u32],
+    id: u8,
+    bytes: &mut Vec<u8>,
+) -> Result<(), OutOfMemory>
+    requires sizes { code_sizes.now ≡ body_sizes parts.now.funcs }
+    requires fits { length (section_of parts.now id) ≤ limit }
     ensures { OnOk result (bytes.new.items ≡ bytes.old.items ++ section_of parts.now id) }
 {
-    let Some(size) = contents_len(parts, id) else {
+    let Some(size) = contents_len_by(parts, code_sizes, id) else {
         unreachable!()
     };
     if size == 0 {
         return Ok(());
     }
     put_front(id, size, bytes)?;
-    put_contents(parts, id, bytes)
+    put_contents(parts, code_sizes, id, bytes)
 }
 
 // Appends the contents of a custom section.

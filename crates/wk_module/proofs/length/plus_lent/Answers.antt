@@ -16,7 +16,7 @@ returns c =
     let size : c.if-id-eq-CODES.size ≡ limited (length (contents_by l (of_number c.args.id))) =
     elim c.if-id-eq-CODES.branch [
       | then-id-eq-CODES w ↦
-          w.size-is ∙ w.codes_len-size.ensures (map (λ (f : Func). f.body) m.funcs) (of.codes ∙ sizes_of m.funcs)
+          w.size-is ∙ w.codes_len_by-size.ensures (map (λ (f : Func). f.body) m.funcs) (of.codes ∙ sizes_of m.funcs)
           ∙ sym (ap (λ (id : ℕ). limited (length (contents_by l (of_number id)))) w.if-id-eq-CODES.true)
       | else-id-eq-CODES w ↦
           w.size-is ∙ w.contents_len-size.ensures
