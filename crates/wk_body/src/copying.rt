@@ -237,7 +237,7 @@ fn rewrite(
 impl Scratch {
     // The written form of a body that is read whole first, in a room of its own: the first fault of reading is answered where there
     // is one.
-    fn spelled_anew(
+    fn read_and_write(
         &mut self,
         alloc: Global,
         cursor: &Cursor<'_>,
@@ -260,7 +260,7 @@ impl Scratch {
     /// # Errors
     /// The first fault from left to right, which says that the bytes spell no body of the profile, or `Memory` at 0 where a growth
     /// was refused.
-    pub fn spelled(
+    pub fn written_form(
         &mut self,
         alloc: Global,
         cursor: &Cursor<'_>,
@@ -279,6 +279,6 @@ impl Scratch {
         if rewrite(profile, &mut self.reader, cursor, &mut self.written).is_some() {
             return Ok(&self.written);
         }
-        self.spelled_anew(alloc, cursor, profile)
+        self.read_and_write(alloc, cursor, profile)
     }
 }

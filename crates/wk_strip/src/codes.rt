@@ -47,7 +47,7 @@ fn append_code(
     written_form_of_code();
     are_bytes(code.rest());
     is_short(code);
-    let body = scratch.spelled(alloc, code, profile)?;
+    let body = scratch.written_form(alloc, code, profile)?;
     put_u32(out, body.len() as u32)?;
     out.extend_from_slice(body)?;
     Ok(())
