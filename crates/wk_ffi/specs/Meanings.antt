@@ -1,10 +1,18 @@
 -- What there is to tell means, in the words of the grammars and of the verdict.
-use Rattle.std.specs.Prelude.{ℕ, Option, Some, None, List}
+use Rattle.std.specs.Prelude.{ℕ, Option, Some, None, List, Result, Ok, Err}
+use Rattle.wk_bytes.specs.declared.fault.ReadFault.{ReadFault}
+use Rattle.wk_bytes.specs.Stands.{StandsIn}
+use Rattle.wk_body.specs.declared.types.Profile.{Profile}
+use Rattle.wk_module.specs.declared.types.Parts.{Parts}
+use Rattle.wk_module.specs.Modules.{SpellsNone}
 use Rattle.wk_module.specs.Reading.{module_at}
+use Rattle.wk_module.specs.Shape.{settle}
+use Rattle.wk_module.specs.Writing.{encoded}
+use Rattle.wk_strip.specs.Stripped.{IsStripped, with_kept}
 use Rattle.wk_edit.specs.Outcome.{outcome_of}
 use Rattle.wk_edit.specs.Theorem.{IsReport}
 use Rattle.wk_answers.specs.Validation.{printed, status_of, Means}
-use Rattle.wk_ffi.specs.Asked.{profile_of, flag_of}
+use Rattle.wk_ffi.specs.Asked.{profile_of, flag_of, keep_of}
 
 -- of a number that has a meaning
 abbrev pub Given : {A : Type 0} → Option A → (A → Type 0) → Type 0
@@ -14,6 +22,16 @@ Given (Some a) P = P a
 -- the text is the verdict of the one module that the bytes spell, or a fault that stands in them where they spell none
 abbrev pub ValidationMeans : ℕ → List ℕ → Type 0
 ValidationMeans profile bytes = Given (profile_of profile) (λ p. Means p bytes (printed (module_at p bytes)) (status_of (module_at p bytes)))
+
+-- what is written is the one module that the bytes spell without the custom sections that go, and spells that alone; or they spell
+-- none, and the fault stands in them
+abbrev pub MeansStripped : Profile → Option (List ℕ) → List ℕ → Result Parts ReadFault → Type 0
+MeansStripped profile keep bytes (Ok m) = IsStripped profile keep bytes (encoded (settle (with_kept keep m)))
+MeansStripped profile keep bytes (Err fault) = SpellsNone profile bytes × StandsIn bytes fault
+
+abbrev pub StripMeans : ℕ → List ℕ → List ℕ → Type 0
+StripMeans profile keep bytes =
+    Given (profile_of profile) (λ p. Given (keep_of keep) (λ k. MeansStripped p k bytes (module_at p bytes)))
 
 -- the bytes and the text are those of the main theorem
 abbrev pub EditMeans : ℕ → ℕ → List ℕ → List ℕ → Type 0

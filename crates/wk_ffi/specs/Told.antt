@@ -64,38 +64,38 @@ told_if_both short None b told = None
 told_if_both short (Some a) b told = told_if short b (told a)
 
 -- the verdict on the module that the bytes spell, or their first fault
-abbrev pub judged : Result Parts ReadFault → Told
-judged read = record { code = status_told (status_of read); bytes = []; text = printed read }
+abbrev pub verdict_answer : Result Parts ReadFault → Told
+verdict_answer read = record { code = status_told (status_of read); bytes = []; text = printed read }
 
 abbrev pub validation_told : ℕ → List ℕ → Option Told
-validation_told profile bytes = told_if (short_enough bytes) (profile_of profile) (λ p. judged (module_at p bytes))
+validation_told profile bytes = told_if (short_enough bytes) (profile_of profile) (λ p. verdict_answer (module_at p bytes))
 
 -- the sections that stand in the bytes, and the fault of their frames
-abbrev pub framed : List (Result Section ReadFault) → Told
-framed items = record { code = if list_any is_fault items then Malformed else Fine; bytes = []; text = listing items }
+abbrev pub frames_answer : List (Result Section ReadFault) → Told
+frames_answer items = record { code = if list_any is_fault items then Malformed else Fine; bytes = []; text = listing items }
 
 abbrev pub sections_told : List ℕ → Option Told
-sections_told bytes = if short_enough bytes then Some (framed (sections_of bytes)) else None
+sections_told bytes = if short_enough bytes then Some (frames_answer (sections_of bytes)) else None
 
 -- where the bytes spell no module
 abbrev pub malformed_told : ReadFault → Told
 malformed_told fault = record { code = Malformed; bytes = []; text = malformed_text fault }
 
 -- a part of the listing of the module
-abbrev pub listed : Part → Result Parts ReadFault → Told
-listed part (Ok m) = record { code = Fine; bytes = []; text = lists.listing m part }
-listed part (Err fault) = malformed_told fault
+abbrev pub listing_answer : Part → Result Parts ReadFault → Told
+listing_answer part (Ok m) = record { code = Fine; bytes = []; text = lists.listing m part }
+listing_answer part (Err fault) = malformed_told fault
 
 abbrev pub list_told : ℕ → ℕ → List ℕ → Option Told
-list_told profile part bytes = told_if_both (short_enough bytes) (profile_of profile) (part_of part) (λ p k. listed k (module_at p bytes))
+list_told profile part bytes = told_if_both (short_enough bytes) (profile_of profile) (part_of part) (λ p k. listing_answer k (module_at p bytes))
 
 -- the module without its custom sections, but those of a name
-abbrev pub stripped : Option (List ℕ) → Result Parts ReadFault → Told
-stripped keep (Ok m) = record { code = Fine; bytes = encoded (settle (with_kept keep m)); text = [] }
-stripped keep (Err fault) = malformed_told fault
+abbrev pub strip_answer : Option (List ℕ) → Result Parts ReadFault → Told
+strip_answer keep (Ok m) = record { code = Fine; bytes = encoded (settle (with_kept keep m)); text = [] }
+strip_answer keep (Err fault) = malformed_told fault
 
 abbrev pub strip_told : ℕ → List ℕ → List ℕ → Option Told
-strip_told profile keep bytes = told_if_both (short_enough bytes) (profile_of profile) (keep_of keep) (λ p k. stripped k (module_at p bytes))
+strip_told profile keep bytes = told_if_both (short_enough bytes) (profile_of profile) (keep_of keep) (λ p k. strip_answer k (module_at p bytes))
 
 -- the module that the edits make, and the report
 abbrev pub outcome_told : Outcome → Told

@@ -6,7 +6,7 @@ ghost use Rattle.wk_list.specs.Listing.{listing};
 ghost use Rattle.wk_edit.specs.Outcome.{outcome_of};
 ghost use Rattle.wk_ffi.specs.declared.code.CallFault.TheVariants as CallFault;
 ghost use Rattle.wk_edit.specs.Theorem.{IsReport};
-ghost use Rattle.wk_ffi.specs.Meanings.{EditMeans, ValidationMeans};
+ghost use Rattle.wk_ffi.specs.Meanings.{EditMeans, MeansStripped, StripMeans, ValidationMeans};
 ghost use Rattle.wk_ffi.specs.Outputs.{told_of, IsAnswer};
 ghost use Rattle.wk_ffi.specs.Told.{
   edit_told,
@@ -14,8 +14,8 @@ ghost use Rattle.wk_ffi.specs.Told.{
   malformed_told,
   outcome_told,
   sections_told,
+  strip_answer,
   strip_told,
-  stripped,
   validation_told,
 };
 
@@ -126,7 +126,9 @@ fn strip_module(
     profile: Profile,
     keep: Option<&Text>,
 ) -> Result<Answer, CallFault>
-    ensures ok { IfOk result (λ a. told_of a ≡ stripped (option_map (λ name. name.now) keep.entry) (module_at profile bytes.now)) }
+    ensures ok { IfOk result (λ a. told_of a ≡ strip_answer (option_map (λ name. name.now) keep.entry) (module_at profile bytes.now)) }
+    ensures means { OnOk result (MeansStripped profile (option_map (λ name. name.now) keep.entry) bytes.now
+        (module_at profile bytes.now)) }
     ensures memory { IfErr result (λ e. e ≡ CallFault.Memory) }
 {
     match strip_bytes(alloc, bytes, profile, keep) {
@@ -141,7 +143,8 @@ fn strip_module(
 
 /// The module without its custom sections, but those of the name `keep`, if that has bytes.
 pub fn strip(alloc: Global, bytes: &[u8], profile: u32, keep: &[u8]) -> Result<Answer, CallFault>
-    ensures { IsAnswer (strip_told profile keep.now bytes.now) result }
+    ensures told { IsAnswer (strip_told profile keep.now bytes.now) result }
+    ensures means { OnOk result (StripMeans profile keep.now bytes.now) }
 {
     let Some(profile) = profile_of(profile) else {
         return Err(CallFault::Argument);

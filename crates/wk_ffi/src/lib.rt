@@ -25,7 +25,8 @@
 //!   neither.
 //! - The text and the code are those of `wk_answers::validate`, `list_sections`, `wk_list::listing` and `outcome_of`. The bytes of
 //!   [`wk_ffi_strip`] are `encoded` of the module with the customs that stay, and those of [`wk_ffi_edit`] those of the main theorem.
-//! - Where there is something to tell, it means what `Means` of `wk_answers` says ([`wk_ffi_validate`]), or what the main theorem does
+//! - Where there is something to tell, it means what `Means` of `wk_answers` says ([`wk_ffi_validate`]), what `IsStripped` of `wk_strip`
+//!   does, or that the bytes spell no module and the fault stands in them ([`wk_ffi_strip`]), or what the main theorem does
 //!   ([`wk_ffi_edit`], `IsReport`): their clauses `means`.
 //! - No clause speaks of null, of lengths that no slice has and of outputs that lie in one another, since a slice has none of these:
 //!   the header checks them, and `tests/embed` tries them.
@@ -36,7 +37,7 @@ mod code;
 mod hand;
 mod jobs;
 
-ghost use Rattle.wk_ffi.specs.Meanings.{EditMeans, ValidationMeans};
+ghost use Rattle.wk_ffi.specs.Meanings.{EditMeans, StripMeans, ValidationMeans};
 ghost use Rattle.wk_ffi.specs.Outputs.{output, AnswersBoth, AnswersText, IsTold};
 ghost use Rattle.wk_ffi.specs.Told.{edit_told, list_told, sections_told, strip_told, validation_told};
 
@@ -102,8 +103,9 @@ pub extern "C" fn wk_ffi_strip(
     text: &mut [u8],
     text_len: &mut usize,
 ) -> u32
-    ensures { AnswersBoth (strip_told profile keep.now bytes.now) (output out.old out.new out_len.new)
+    ensures told { AnswersBoth (strip_told profile keep.now bytes.now) (output out.old out.new out_len.new)
         (output text.old text.new text_len.new) result }
+    ensures means { IsTold result → StripMeans profile keep.now bytes.now }
 {
     let answer = jobs::strip(alloc, bytes, profile, keep);
     hand_both(answer, out, out_len, text, text_len)
