@@ -12,7 +12,7 @@ OPENERS, CLOSERS = "([{", ")]}"
 
 @dataclass
 class Clause:
-    """An `ensures` of a call: its name, which may be empty, and its text in one line."""
+    """A clause of a call: its name, which may be empty, and its text in one line."""
 
     name: str
     text: str
@@ -27,7 +27,8 @@ class Call:
     name: str
     parameters: list
     result: str
-    clauses: list = field(default_factory=list)
+    clauses: list = field(default_factory=list)  # each `ensures`
+    asks: list = field(default_factory=list)  # each `requires`
     laws: list = field(default_factory=list)  # of a trait that is not the repository's, what its implementation says
 
     @property
@@ -78,15 +79,14 @@ def split_top(text):
 
 
 def clauses_from(text, at):
-    """The clauses that stand behind a head, and where they end."""
-    found = []
+    """Each `ensures` and each `requires` that stands behind a head."""
+    found = {"ensures": [], "requires": []}
     pattern = re.compile(r"\s*(ensures|requires)(\*?)\s*(\w*)\s*\{")
     while match := pattern.match(text, at):
         end = closing(text, match.end() - 1)
-        if match[1] == "ensures":
-            found.append(Clause(match[3], " ".join(text[match.end() : end].split())))
+        found[match[1]].append(Clause(match[3], " ".join(text[match.end() : end].split())))
         at = end + 1
-    return found, at
+    return found["ensures"], found["requires"]
 
 
 def functions_in(text, crate, owner, is_public):
@@ -99,9 +99,9 @@ def functions_in(text, crate, owner, is_public):
         end = closing(text, begin)
         head = re.compile(r"\s*(?:->\s*([^{;]*?))?\s*(?=\bwhere\b|\bensures\b|\brequires\b|\{|;)", re.S).match(text, end + 1)
         where = re.compile(r"where\b[^{;]*?(?=\bensures\b|\brequires\b|\{|;)", re.S).match(text, head.end())
-        clauses, _ = clauses_from(text, where.end() if where else head.end())
+        ensures, requires = clauses_from(text, where.end() if where else head.end())
         result = " ".join((head[1] or "").split())
-        yield Call(crate, owner, match[2], split_top(text[begin + 1 : end]), result, clauses)
+        yield Call(crate, owner, match[2], split_top(text[begin + 1 : end]), result, ensures, requires)
 
 
 def skip_generics(text, at):
