@@ -1,4 +1,4 @@
-"""The commands of wasmkit on bytes: by its built program, and by its library for C in the same process."""
+"""The commands of wasmkit on bytes, in either profile: by its built program, and by its library for C in the same process."""
 import ctypes
 import os
 import subprocess
@@ -16,7 +16,7 @@ class Program:
     """Starts the built program for each command, on files in a folder of its own."""
 
     def __init__(self, path):
-        self.path = path
+        self.path, self.extended = path, False
         self.folder = tempfile.TemporaryDirectory(prefix="fuzz-")
 
     def at(self, name):
@@ -34,9 +34,12 @@ class Program:
             raise Wrong(f"{' '.join(words)}: status {done.returncode}, {done.stderr!r}")
         return done.returncode, done.stdout.decode()
 
+    def run_in_profile(self, command, *words):
+        return self.run(command, *(["--extended"] if self.extended else []), *words)
+
     def made(self, *words):
         """The status and the standard output of a command that makes OUT, and the bytes there, or nothing where it is not made."""
-        status, text = self.run(*words, "out.wasm")
+        status, text = self.run_in_profile(*words, "out.wasm")
         if not os.path.exists(self.at("out.wasm")):
             return status, text, None
         with open(self.at("out.wasm"), "rb") as file:
@@ -46,7 +49,7 @@ class Program:
 
     def validate(self, data):
         self.put("in.wasm", data)
-        return self.run("validate", "in.wasm")
+        return self.run_in_profile("validate", "in.wasm")
 
     def sections(self, data):
         self.put("in.wasm", data)
@@ -54,7 +57,7 @@ class Program:
 
     def objdump(self, data, parts):
         self.put("in.wasm", data)
-        return self.run("objdump", *(f"--{part}" for part in parts), "in.wasm")
+        return self.run_in_profile("objdump", *(f"--{part}" for part in parts), "in.wasm")
 
     def strip(self, data):
         self.put("in.wasm", data)
@@ -75,8 +78,12 @@ class Library:
     STATUSES = {0: 0, 1: 1, 2: 2, 4: 1}
 
     def __init__(self, path):
-        self.calls = ctypes.CDLL(path)
+        self.calls, self.extended = ctypes.CDLL(path), False
         self.room = [self.ROOM, self.ROOM]
+
+    @property
+    def profile(self):
+        return int(self.extended)
 
     def call(self, name, *arguments, outputs):
         """The status of a call, and the bytes of each of its outputs. Where one has no room, the call is made again with what it asks."""
@@ -107,14 +114,14 @@ class Library:
         return status, text.decode(), None if status == 2 else data
 
     def validate(self, data):
-        return self.text("validate", data, 0)
+        return self.text("validate", data, self.profile)
 
     def sections(self, data):
         return self.text("sections", data)
 
     def objdump(self, data, parts):
         """The parts one behind the other, as the program prints them; of bytes that are no module their fault, which each part tells."""
-        told = [self.text("list", data, 0, PARTS.index(part)) for part in parts]
+        told = [self.text("list", data, self.profile, PARTS.index(part)) for part in parts]
         if any(status for status, _ in told):
             if len(set(told)) != 1:
                 raise Wrong(f"parts of a listing differ in their fault: {told}")
@@ -122,10 +129,10 @@ class Library:
         return 0, "".join(text for _, text in told)
 
     def strip(self, data):
-        return self.made("strip", data, 0, b"")
+        return self.made("strip", data, self.profile, b"")
 
     def edit(self, data, script, keep_valid):
-        return self.made("edit", data, script, 0, int(keep_valid))
+        return self.made("edit", data, script, self.profile, int(keep_valid))
 
 
 def words_of(argument):
