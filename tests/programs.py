@@ -83,6 +83,17 @@ def allocations(rt=shutil.which("rt")):
     die("the kit has no c/liblibc_c.a")
 
 
+def shared_library(name, folder):
+    """The static library of a crate, linked into one that a process can load. It is made in the folder."""
+    path = f"{folder}/lib{name}.so"
+    compiler = shutil.which("cc") or die("there is no cc, which links the library")
+    whole = ["-Wl,--whole-archive", library(name), allocations(), "-Wl,--no-whole-archive"]
+    linked = subprocess.run([compiler, "-shared", "-o", path, *whole], capture_output=True, text=True)
+    if linked.returncode:
+        die(f"{name} was not linked: {linked.stderr}")
+    return path
+
+
 def wasmkit():
     """The built program `wasmkit`."""
     examples = f"{TOP}/examples"

@@ -62,6 +62,9 @@ PLAIN = {
     ((F64,), I64): [0xB0, 0xB1, 0xBD],
     ((I64,), F64): [0xB9, 0xBA, 0xBF],
 }
+# Those of the extended profile besides.
+SIGN_EXTENSIONS = {((I32,), I32): [0xC0, 0xC1], ((I64,), I64): [0xC2, 0xC3, 0xC4]}
+EXTENDED = {key: PLAIN.get(key, []) + SIGN_EXTENSIONS.get(key, []) for key in {**PLAIN, **SIGN_EXTENSIONS}}
 LOADS = {I32: [(0x28, 2), (0x2C, 0), (0x2F, 1)], I64: [(0x29, 3), (0x30, 0), (0x35, 2)], F32: [(0x2A, 2)], F64: [(0x2B, 3)]}
 STORES = {I32: [(0x36, 2), (0x3A, 0)], I64: [(0x37, 3), (0x3E, 2)], F32: [(0x38, 2)], F64: [(0x39, 3)]}
 
@@ -69,10 +72,10 @@ STORES = {I32: [(0x36, 2), (0x3A, 0)], I64: [(0x37, 3), (0x3E, 2)], F32: [(0x38,
 class Shape:
     """What a module holds, as far as its code asks."""
 
-    def __init__(self, chance):
-        self.chance = chance
+    def __init__(self, chance, extended=False):
+        self.chance, self.extended = chance, extended
         pick = lambda most: tuple(chance.choice(TYPES) for _ in range(chance.randrange(most + 1)))
-        self.types = [((), ())] + [(pick(3), pick(1)) for _ in range(chance.randrange(4))]
+        self.types = [((), ())] + [(pick(3), pick(3 if extended else 1)) for _ in range(chance.randrange(4))]
         self.imports = [chance.choice(["func", "func", "global"]) for _ in range(chance.randrange(4))]
         self.table = chance.choice([None, None, "own", "imported"])
         self.memory = chance.choice([None, "own", "own", "imported"])
@@ -153,7 +156,8 @@ class Body:
         return stack
 
     def numeric(self, stack):
-        fitting = [(k, v) for k, v in PLAIN.items() if tuple(stack[-len(k[0]):]) == k[0]]
+        table = EXTENDED if self.shape.extended else PLAIN
+        fitting = [(k, v) for k, v in table.items() if tuple(stack[-len(k[0]):]) == k[0]]
         if fitting:
             (takes, gives), ops = self.chance.choice(fitting)
             self.out.append(self.chance.choice(ops))
@@ -270,9 +274,9 @@ def exports_of(shape):
     return found
 
 
-def module(chance):
-    """A module that is mostly valid."""
-    shape = Shape(chance)
+def module(chance, extended=False):
+    """A module that is mostly valid, of WebAssembly 1.0 or of the extended profile."""
+    shape = Shape(chance, extended)
     globals_ = [bytes([ty, is_var]) + initialiser(shape, ty, shape.imported_globals) for ty, is_var in shape.own_globals]
     starts = [x for x, ty in enumerate(shape.funcs) if shape.types[ty] == ((), ())]
     offset = lambda: initialiser(shape, I32, shape.imported_globals)
@@ -361,9 +365,9 @@ def line(chance, shape):
     ])()
 
 
-def script(chance):
+def script(chance, extended=False):
     """Lines of edits, without a fault of the language."""
-    shape = Shape(chance)
+    shape = Shape(chance, extended)
     return [line(chance, shape) for _ in range(chance.randrange(1, 7))]
 
 
