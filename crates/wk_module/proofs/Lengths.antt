@@ -15,11 +15,12 @@ use Rattle.wk_body.specs.Lengths.{limited}
 use Rattle.wk_body.specs.LengthsLaws.{limited_some, limited_none}
 use Rattle.wk_body.specs.Written.{written_body}
 use Rattle.wk_module.specs.declared.types.Func.{Func}
+use Rattle.wk_module.specs.Codes.{body_sizes, code_contents}
 use Rattle.wk_module.specs.Items.{written_code}
 use Rattle.wk_module.specs.Sections.{CodeSection}
-use Rattle.wk_module.specs.Sizes.{body_size, body_sizes, entry_size}
-use Rattle.wk_module.specs.Writing.{list_contents, section_contents, code_contents}
-use Rattle.wk_module.specs.WritingLaws.{some_code, length_le_flat_map, code_le, count_within}
+use Rattle.wk_module.specs.Sizes.{body_size, entry_size}
+use Rattle.wk_module.specs.Writing.{list_contents, section_contents}
+use Rattle.wk_module.specs.WritingLaws.{some_code, length_le_flat_map, piece_le, count_within}
 
 -- whether a length is zero, as it is told
 pub is_zero : (n : ℕ) (size : Option ℕ) → size ≡ limited n → true ≡ option_eq eqb size (Some 0) → n ≡ 0
@@ -88,7 +89,13 @@ few_funcs funcs = omega (arith, count_within CodeSection (map (λ (f : Func). f.
 -- a body that is past the limit takes the code section past it
 pub past_by_body : (funcs : List Func) (i : ℕ) (f : Func) → i < length funcs → f ≡ get_or funcs i f → None ≡ limited (length (written_body f.body)) → limit < length (code_contents funcs)
 past_by_body funcs i f within is none =
-    omega (arith, limited_none (length (written_body f.body)) none, code_le funcs i f within is, length-append (short (length (written_body f.body))) (written_body f.body))
+    omega (
+      arith,
+      limited_none (length (written_body f.body)) none,
+      piece_le (λ (g : Func). written_code g.body) funcs i f within is,
+      codes_long funcs (omega arith),
+      length-append (short (length (written_body f.body))) (written_body f.body),
+    )
 
 -- ---- the code section, by the sizes of its bodies
 

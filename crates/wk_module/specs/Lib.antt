@@ -10,6 +10,7 @@ pub mod ListReading
 pub mod Writing
 pub mod Listed
 pub mod Sizes
+pub mod Codes
 pub mod SectionLaws
 pub mod NumberedLaws
 pub mod ShapeLaws

@@ -4,7 +4,6 @@ use Rattle.std.specs.List.{sum_by}
 use Rattle.wk_bytes.specs.Short.{short}
 use Rattle.wk_body.specs.Bodies.{BodyOf}
 use Rattle.wk_body.specs.Written.{written_body}
-use Rattle.wk_module.specs.declared.types.Func.{Func}
 use Rattle.wk_module.specs.declared.types.Parts.{Parts}
 use Rattle.wk_module.specs.Sections.{SectionLists}
 use Rattle.wk_module.specs.Listed.{listed_with}
@@ -25,10 +24,6 @@ whole_size contents customs = 8 + sum_by section_size contents + customs
 abbrev pub body_size : BodyOf → ℕ
 body_size b = length (written_body b)
 
--- the same of the bodies of functions
-abbrev pub body_sizes : List Func → List ℕ
-body_sizes funcs = map (λ f. body_size f.body) funcs
-
 -- an entry of the code section whose body has that many bytes: its size and the body
 abbrev pub entry_size : ℕ → ℕ
 entry_size n = length (short n) + n
@@ -36,4 +31,4 @@ entry_size n = length (short n) + n
 -- The lists are those of the module, but for its codes, whose bodies have these sizes.
 pub record AreListsOf (l : SectionLists) (code_sizes : List ℕ) (m : Parts) : Type 0 where
   pub lists : l ≡ listed_with (map (λ f. f.ty) m.funcs) m
-  pub codes : code_sizes ≡ body_sizes m.funcs
+  pub codes : code_sizes ≡ map (λ f. body_size f.body) m.funcs

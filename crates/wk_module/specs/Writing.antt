@@ -1,5 +1,5 @@
 -- The one written form of a module: each integer in its shortest spelling, empty sections left out.
-use Rattle.std.specs.Prelude.{◌≡◌, ◌≤◌, ◌==◌, ℕ, if◌then◌else◌, Option, Some, None, List, [], ◌∷◌, ◌++◌, length, map, filter, not}
+use Rattle.std.specs.Prelude.{◌≡◌, ◌≤◌, ◌==◌, ℕ, if◌then◌else◌, Option, Some, None, List, [], ◌∷◌, ◌++◌, length, filter, not}
 use Rattle.std.specs.List.{flat_map}
 use Rattle.wk_bytes.specs.ListWords.{is_empty}
 use Rattle.wk_bytes.specs.Short.{short}
@@ -7,10 +7,9 @@ use Rattle.wk_body.specs.Lengths.{limited}
 use Rattle.wk_body.specs.Vectors.{written_vector}
 use Rattle.wk_bytes.specs.Frames.{limit, magic, version}
 use Rattle.wk_module.specs.declared.types.Custom.{Custom}
-use Rattle.wk_module.specs.declared.types.Func.{Func}
 use Rattle.wk_module.specs.declared.types.Parts.{Parts}
 use Rattle.wk_module.specs.Customs.{written_custom}
-use Rattle.wk_module.specs.Sections.{SectionId, CodeSection, number, of_number, ContentsOf, SectionLists, contents, is_full, written_contents}
+use Rattle.wk_module.specs.Sections.{SectionId, number, of_number, ContentsOf, SectionLists, contents, is_full, written_contents}
 use Rattle.wk_module.specs.Shape.{lists_of}
 
 -- a section of an id with those contents
@@ -24,10 +23,6 @@ list_contents written xs = if not (is_empty xs) then written_vector written xs e
 -- the contents of a section as they stand in the written form: nothing where it is left out
 abbrev pub section_contents : (k : SectionId) → ContentsOf k → List ℕ
 section_contents k x = if is_full k x then written_contents k x else []
-
--- those of the code section of functions
-abbrev pub code_contents : List Func → List ℕ
-code_contents funcs = section_contents CodeSection (map (λ f. f.body) funcs)
 
 -- a section, which is left out where it is empty
 abbrev pub written_section : (k : SectionId) → ContentsOf k → List ℕ

@@ -31,7 +31,7 @@ use Rattle.wk_module.specs.SectionLaws.{number_most, of_number-number, number-of
 use Rattle.wk_module.specs.Shape.{lists_of, is_filled, settled_custom, settle, IsInOrderFrom}
 use Rattle.wk_module.specs.ShapeLaws.{settled_in_order}
 use Rattle.wk_module.specs.Sizes.{framed_size, section_size, whole_size}
-use Rattle.wk_module.specs.Writing.{framed, list_contents, section_contents, code_contents, written_section, section_by, contents_by, section_of, customs_at, section_and_customs, ids, encoded, Fits}
+use Rattle.wk_module.specs.Writing.{framed, list_contents, section_contents, written_section, section_by, contents_by, section_of, customs_at, section_and_customs, ids, encoded, Fits}
 
 -- ---- no written form is empty
 
@@ -263,7 +263,7 @@ contents_within m (Some k) = omega (arith, framed_within k (contents (lists_of m
 pub custom_within : (m : Parts) (i : ℕ) (c : Custom) → i < length m.customs → c ≡ get_or m.customs i c → IsInOrderFrom 0 m.customs → length (written_frame c) ≤ length (encoded m)
 custom_within m i c within is order = omega (arith, piece_le written_frame m.customs i c within is, length-encoded m order)
 
-pub code_le : (funcs : List Func) (i : ℕ) (f : Func) → i < length funcs → f ≡ get_or funcs i f → length (written_code f.body) ≤ length (code_contents funcs)
+code_le : (funcs : List Func) (i : ℕ) (f : Func) → i < length funcs → f ≡ get_or funcs i f → length (written_code f.body) ≤ length (section_contents CodeSection (map (λ g. g.body) funcs))
 code_le [] i f within is = absurd (omega arith)
 code_le (g ∷ gs) i f within is =
     let bodies = map (λ (h : Func). h.body) (g ∷ gs) in

@@ -5,10 +5,11 @@ ghost use Rattle.wk_bytes.specs.Frames.{limit};
 ghost use Rattle.wk_body.specs.Bodies.{BodyOf};
 ghost use Rattle.wk_body.specs.Lengths.{limited, GrowsBy};
 ghost use Rattle.wk_body.specs.declared.fault.EncodeFault.TheVariants.{TooLarge};
+ghost use Rattle.wk_module.specs.Codes.{body_sizes, code_contents};
 ghost use Rattle.wk_module.specs.Items.{written_code};
 ghost use Rattle.wk_module.specs.Sections.{CodeSection};
-ghost use Rattle.wk_module.specs.Sizes.{body_size, body_sizes, entry_size};
-ghost use Rattle.wk_module.specs.Writing.{code_contents, section_contents};
+ghost use Rattle.wk_module.specs.Sizes.{body_size, entry_size};
+ghost use Rattle.wk_module.specs.Writing.{section_contents};
 
 use crate::types::Func;
 use crate::writing::{plus, plus_count, plus_u32};

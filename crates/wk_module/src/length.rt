@@ -3,6 +3,7 @@
 ghost use Rattle.std.specs.Prelude.{◌≡◌, ◌+◌, ℕ, List, length};
 ghost use Rattle.wk_body.specs.Lengths.{limited, GrowsBy};
 ghost use Rattle.std.specs.List.{flat_map};
+ghost use Rattle.wk_module.specs.Codes.{body_sizes, code_contents};
 ghost use Rattle.wk_module.specs.Customs.{written_custom};
 ghost use Rattle.wk_module.specs.Formats.{written_bytes};
 ghost use Rattle.wk_module.specs.Items.{written_export};
@@ -11,8 +12,8 @@ ghost use Rattle.wk_module.specs.declared.types.Parts.{Parts as PartsOf};
 ghost use Rattle.wk_module.specs.Listed.{listed};
 ghost use Rattle.wk_module.specs.Sections.{SectionLists, of_number};
 ghost use Rattle.wk_module.specs.Shape.{lists_of, IsInOrderFrom};
-ghost use Rattle.wk_module.specs.Sizes.{body_sizes, framed_size, section_size, whole_size, AreListsOf};
-ghost use Rattle.wk_module.specs.Writing.{encoded, framed, code_contents, section_by, section_of, ids, contents_by, SectionLen};
+ghost use Rattle.wk_module.specs.Sizes.{framed_size, section_size, whole_size, AreListsOf};
+ghost use Rattle.wk_module.specs.Writing.{encoded, framed, section_by, section_of, ids, contents_by, SectionLen};
 
 use crate::codes::{codes_len, codes_len_by};
 use crate::format::{Exports, FuncIndices, FuncTypes};

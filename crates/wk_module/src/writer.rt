@@ -6,12 +6,12 @@ ghost use Rattle.wk_bytes.specs.Short.{short};
 ghost use Rattle.wk_body.specs.declared.fault.EncodeFault.TheVariants.{TooLarge, Memory};
 ghost use Rattle.wk_body.specs.Written.{Fits as FewBytes, Unwritten};
 ghost use Rattle.wk_module.specs.declared.types.Parts.{Parts as Seen};
+ghost use Rattle.wk_module.specs.Codes.{body_sizes};
 ghost use Rattle.wk_module.specs.Customs.{written_custom};
 ghost use Rattle.wk_module.specs.Listed.{listed, IsListId};
 ghost use Rattle.wk_module.specs.Modules.{Spells};
 ghost use Rattle.wk_module.specs.Sections.{of_number};
 ghost use Rattle.wk_module.specs.Shape.{lists_of, IsInOrderFrom, IsShaped};
-ghost use Rattle.wk_module.specs.Sizes.{body_sizes};
 ghost use Rattle.wk_module.specs.Writing.{encoded, framed, contents_by, section_by, section_of, customs_at, Fits};
 
 use crate::codes::{codes_len_by, put_codes, sizes_of_bodies};

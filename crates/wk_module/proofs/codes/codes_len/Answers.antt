@@ -4,7 +4,7 @@ use Rattle.wk_body.specs.Lengths.{limited}
 use Rattle.wk_module.specs.declared.types.Func.{Func}
 use Rattle.wk_module.specs.Items.{written_code}
 use Rattle.wk_module.specs.WritingLaws.{length_le_flat_map, some_code}
-use Rattle.wk_module.specs.Writing.{code_contents}
+use Rattle.wk_module.specs.Codes.{code_contents}
 use Rattle.wk_module.proofs.Lengths.{codes_long, codes_of, past_by_body, some_length, untold}
 use Rattle.wk_module.proofs.codes.codes_len.Goals as goal
 

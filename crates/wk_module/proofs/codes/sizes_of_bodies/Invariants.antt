@@ -1,5 +1,5 @@
 use Rattle.std.proofs.Common.{◌≡◌, ◌≤◌, length, take, vec_len, vec_capacity}
-use Rattle.wk_module.specs.Sizes.{body_sizes}
+use Rattle.wk_module.specs.Codes.{body_sizes}
 use Rattle.wk_module.proofs.codes.sizes_of_bodies.Given as goal
 
 abbrev pub invariant-loop-func : goal.invariant-loop-func

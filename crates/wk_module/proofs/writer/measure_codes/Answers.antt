@@ -1,6 +1,6 @@
 use Rattle.std.proofs.Common.{Some, ap, arith, length}
 use Rattle.wk_module.specs.Sections.{CodeSection}
-use Rattle.wk_module.specs.Writing.{code_contents}
+use Rattle.wk_module.specs.Codes.{code_contents}
 use Rattle.wk_module.specs.WritingLaws.{contents_within}
 use Rattle.wk_module.proofs.writer.measure_codes.Goals as goal
 
