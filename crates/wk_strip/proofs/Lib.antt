@@ -2,3 +2,4 @@ pub mod Staying
 pub mod Assembled
 pub mod Joined
 pub mod Told
+pub mod CodesEnd

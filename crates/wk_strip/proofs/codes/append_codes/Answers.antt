@@ -10,7 +10,8 @@ use Rattle.wk_module.specs.ListReading.{codes_of}
 use Rattle.wk_module.specs.Reading.{section_end}
 use Rattle.wk_module.specs.Sections.{codes_at}
 use Rattle.wk_module.proofs.CodesApart.{code_by, code_not_taken, code_not_read}
-use Rattle.wk_module.proofs.VectorReading.{goes_on, stops_all, all_fails}
+use Rattle.wk_module.proofs.VectorReading.{goes_on, stops_all, all_fails, is_done}
+use Rattle.wk_strip.proofs.CodesEnd.{codes_end}
 use Rattle.wk_strip.proofs.codes.append_codes.Goals as goal
 
 pub returns-in_err-next_code : goal.returns-in_err-next_code
@@ -52,3 +53,10 @@ loop-preserved c =
       end = c.in_ok-next_code.ensures.end ∙ c.loop.invariant.end;
       appended = one.2 ∙ ap (λ (b : List ℕ). b ++ written_code one.0) c.loop.invariant.appended ∙ flat_map_more written_code c.args.out.now.items bodies one.0;
     }
+
+pub returns : goal.returns
+returns c =
+    let at = c.loop.codes in
+    let bodies = c.loop.invariant.bodies in
+    let done = is_done (code_at c.args.profile) bodies c.args.funcs c.loop.counter at.end at.rest c.loop-test.false in
+    codes_end c.args.profile c.args.funcs (raw_view c.args.section.now) bodies at.rest at.end _ _ c.end.result (sym c.loop.invariant.reads ∙ done) c.loop.invariant.end c.loop.invariant.appended c.end.ensures
