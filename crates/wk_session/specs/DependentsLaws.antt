@@ -256,7 +256,7 @@ moving_other moving.Global from (Global x) h = λ same. moved_other from x h (ap
 moving_other kind from r h = absurd cc
 
 other_index : (from x : ℕ) → (moved from x ≡ x → ⊥) → nat_le from x ≡ true
-other_index from x differs = elim (cases_Bool (nat_le from x)) [ | inl t ↦ t | inr f ↦ absurd (differs (cond-false (nat_le from x) (x + 1) x f)) ]
+other_index from x differs = elim (cases_Bool (nat_le from x)) [ inl t ↦ t | inr f ↦ absurd (differs (cond-false (nat_le from x) (x + 1) x f)) ]
 
 other_moving : (kind : Moving) (from : ℕ) (r : Ref) → moved_ref kind from r ≢ r → is_moving kind from r ≡ true
 other_moving moving.Func from (Func x) differs = other_index from x (λ same. differs (ap Func same))

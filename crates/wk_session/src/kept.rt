@@ -114,7 +114,8 @@ fn entries_of(alloc: Global, lists: Lists<'_>, funcs: &Items<Func>) -> Result<En
 fn pieces_len(alloc: Global, pieces: &Pieces) -> Result<Option<u32>, OutOfMemory>
     requires sections { length pieces.now.sections.items ≡ 12 }
     requires few { length pieces.now.codes.items < 2 ^ 32 }
-    ensures { (m : PartsOf) → IsInOrderFrom 0 m.customs → ArePieces m pieces.now → IfOk result (λ len. len ≡ limited (length (encoded m))) }
+    ensures { (m : PartsOf) → IsInOrderFrom 0 m.customs → ArePieces m pieces.now
+        → IfOk result (λ len. len ≡ limited (length (encoded m))) }
 {
     let news = no_news(alloc)?;
     let count = pieces.codes.len();

@@ -50,7 +50,9 @@ pub(crate) fn remade(
 ) -> Result<Items<u8>, EncodeFault>
     requires id { IsListId id }
     requires few { made.old < 12 }
-    ensures contents { MatchResult result (λ c. c ≡ contents_by (listed lists.now) (of_number id)) (IsOverlong (contents_by (listed lists.now) (of_number id))) }
+    ensures contents { MatchResult result
+        (λ c. c ≡ contents_by (listed lists.now) (of_number id))
+        (IsOverlong (contents_by (listed lists.now) (of_number id))) }
     ensures made { made.new ≡ made.old + 1 }
 {
     *made += 1;
@@ -116,7 +118,9 @@ pub(crate) fn one_remade(
     id: u8,
 ) -> Result<NewSections, EncodeFault>
     requires { IsListId id }
-    ensures { MatchResult result (IsOneRemade id (contents_by (listed lists.now) (of_number id))) (IsOverlong (contents_by (listed lists.now) (of_number id))) }
+    ensures { MatchResult result
+        (IsOneRemade id (contents_by (listed lists.now) (of_number id)))
+        (IsOverlong (contents_by (listed lists.now) (of_number id))) }
 {
     let mut made = 0;
     let mut sections = no_news(alloc)?;
@@ -134,7 +138,9 @@ fn contents_at(
 ) -> Result<Items<u8>, EncodeFault>
     requires id { id < 12 }
     requires few { made.old < 12 }
-    ensures contents { MatchResult result (λ c. c ≡ contents_by (listed lists.now) (of_number id)) (IsOverlong (contents_by (listed lists.now) (of_number id))) }
+    ensures contents { MatchResult result
+        (λ c. c ≡ contents_by (listed lists.now) (of_number id))
+        (IsOverlong (contents_by (listed lists.now) (of_number id))) }
     ensures made { made.new ≤ made.old + 1 }
 {
     if id == 0 || id == CODES {
