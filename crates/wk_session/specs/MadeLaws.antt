@@ -18,7 +18,7 @@ use Rattle.wk_session.specs.declared.edit.EditFault.TheVariants.{NoSuchCustom, I
 use Rattle.wk_session.specs.Edits.{fitting, from_bytes, body_put, with_exports, unbroken, lasting}
 
 -- of the module that is made, if one is
-pub Gives : (Parts → Type 0) → Result Parts EditFault → Type 0
+unfoldable pub Gives : (Parts → Type 0) → Result Parts EditFault → Type 0
 Gives P (Ok n) = P n
 Gives P (Err f) = Unit {0}
 
