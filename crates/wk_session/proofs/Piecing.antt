@@ -4,7 +4,7 @@ use Rattle.std.proofs.lemmas.Bool.{cases_eq, ne_eqb}
 use Rattle.std.proofs.lemmas.List.{length-map}
 use Rattle.std.proofs.lemmas.List.Folds.{flat_map-map}
 use Rattle.std.proofs.lemmas.List.Sums.{sum_by-cons}
-use Rattle.std.specs.List.{AllByRecursion, flat_map}
+use Rattle.std.specs.List.{flat_map}
 use Rattle.wk_bytes.specs.Frames.{limit}
 use Rattle.wk_bytes.specs.Short.{short}
 use Rattle.wk_body.specs.Bodies.{BodyOf}
@@ -18,7 +18,7 @@ use Rattle.wk_module.specs.Items.{written_code}
 use Rattle.wk_module.specs.Sections.{CodeSection, of_number}
 use Rattle.wk_module.specs.Shape.{lists_of, IsInOrderFrom}
 use Rattle.wk_module.specs.Sizes.{entry_size, whole_size}
-use Rattle.wk_module.specs.Writing.{encoded, section_contents, ids, Fits}
+use Rattle.wk_module.specs.Writing.{encoded, section_contents, ids}
 use Rattle.wk_module.specs.WritingLaws.{contents_by-lent, contents_size, contents_within, length-encoded, length-encoded_sizes, written_frame}
 use Rattle.wk_session.specs.declared.edit.EditFault.{EditFault}
 use Rattle.wk_session.specs.declared.edit.EditFault.TheVariants.{TooLarge, Memory}
@@ -57,16 +57,6 @@ codes_le (f ∷ fs) = omega (arith, some_codes f fs)
 
 pub codes_within : (m : Parts) → codes_size m.funcs ≤ length (encoded m)
 codes_within m = omega (arith, codes_le m.funcs, contents_within m (Some CodeSection))
-
-each_small : (n : ℕ) (fs : List Func) → codes_size fs ≤ n → AllByRecursion (λ f. length (code_of f) ≤ n) fs
-each_small n [] less = tt
-each_small n (f ∷ fs) less =
-    let parts = length-append (written_code f.body) (flat_map (λ (g : Func). written_code g.body) fs) in
-    (omega (arith, less, parts, entry_sized f), each_small n fs (omega (arith, less, parts)))
-
--- no code of a module that fits is too long
-pub codes_small : (m : Parts) → Fits m → AllByRecursion (λ f. length (code_of f) ≤ limit) m.funcs
-codes_small m fits = each_small limit m.funcs (omega (arith, codes_within m, fits))
 
 -- ---- sections
 

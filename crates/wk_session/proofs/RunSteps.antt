@@ -9,6 +9,8 @@ use Rattle.wk_session.specs.declared.edit.EditFault.{EditFault}
 use Rattle.wk_session.specs.declared.edit.EditFault.TheVariants.{NoSuchFunction, NoSuchExport, NoSuchCustom, IndexOverflow, TooLarge, BadBytes, WouldBreak, Memory}
 use Rattle.wk_session.specs.Edits.{is_decided}
 use Rattle.wk_session.specs.Runs.{reply_of, after_one, is_memory, replies_of, after, refused_for_memory, AreUndecided}
+use Rattle.wk_session.specs.Told.{AreTold}
+use Rattle.wk_session.specs.ToldLaws.{ReadsCode, replies_told}
 
 replies_end : (keep : Bool) (es : List Edit) (rs : List (Result Work EditFault)) (m : Parts) (e : Edit) (r : Result Work EditFault) → length rs ≡ length es
     → replies_of keep (es ++ e ∷ []) (refused_for_memory (rs ++ r ∷ [])) m ≡ replies_of keep es (refused_for_memory rs) m ++ reply_of keep e (is_memory r) (after keep es (refused_for_memory rs) m) ∷ []
@@ -58,6 +60,10 @@ was_undecided e m (Err TooLarge) h = tt
 was_undecided e m (Err (BadBytes f)) h = tt
 was_undecided e m (Err (WouldBreak f)) h = tt
 was_undecided e m (Err Memory) h = h refl
+
+-- replies that are the definition's tell so
+pub told_by : ReadsCode → (keep : Bool) (es : List Edit) (m : Parts) (rs : List (Result Work EditFault)) → rs ≡ replies_of keep es (refused_for_memory rs) m → AreTold m.profile es rs
+told_by reads keep es m rs is = subst (AreTold m.profile es) (sym is) (replies_told reads keep es (refused_for_memory rs) m)
 
 module _ (keep : Bool) (es : List Edit) (i : ℕ) (e : Edit) (rs rs' : List (Result Work EditFault)) (r : Result Work EditFault) (m s s' : Parts) (within : i < length es) (at : e ≡ get_or es i e) (len : length rs ≡ i) (pushed : rs' ≡ rs ++ r ∷ []) (sofar : s ≡ after keep (take i es) (refused_for_memory rs) m) where
   taken : take (i + 1) es ≡ take i es ++ e ∷ []

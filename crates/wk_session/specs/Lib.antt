@@ -9,6 +9,7 @@ pub mod Written
 pub mod EditText
 pub mod Overlays
 pub mod Pieces
+pub mod MadeLaws
 pub mod MovedEntries
 pub mod Imported
 pub mod Functions

@@ -23,6 +23,7 @@ use Rattle.wk_session.specs.declared.edit.Edit.TheVariants as edits
 use Rattle.wk_session.specs.declared.edit.EditFault.{EditFault}
 use Rattle.wk_session.specs.declared.edit.EditFault.TheVariants.{NoSuchFunction, NoSuchExport, NoSuchCustom, IndexOverflow, TooLarge, BadBytes, WouldBreak, Memory}
 use Rattle.wk_session.specs.Edits.{fitting, from_bytes, import_place, entry_of, body_put, with_exports, is_named, without_customs, with_custom, without_all_customs, edited, unbroken, lasting, made}
+use Rattle.wk_session.specs.MadeLaws.{Gives, then_lasting, fitting_gives, bytes_gives, body_gives, import_gives, exports_gives, customs_gives}
 use Rattle.wk_session.specs.declared.edit.Work.{Work}
 use Rattle.wk_session.specs.Runs.{left_by, is_memory, reply_to, reply_of, after_one, replies_of}
 use Rattle.wk_session.specs.Told.{IsUnread, HasBadBytes, IsTold, AreTold}
@@ -122,92 +123,34 @@ module _ (reads : ReadsCode) (keep : Bool) (f : ReadFault) where
 
 -- ---- no edit changes the profile
 
-Keeps : Profile → Result Parts EditFault → Type 0
-Keeps p (Ok n) = n.profile ≡ p
-Keeps p (Err f) = Unit {0}
+abbrev IsAlike : Parts → Parts → Type 0
+IsAlike m n = n.profile ≡ m.profile
 
-module _ (p : Profile) where
-  lasting_keeps : (keep : Bool) (n : Parts) → n.profile ≡ p → Keeps p (lasting keep n)
-  unfolding Keeps
-  lasting_keeps false n is = is
-  lasting_keeps true n is = by (module_verdict n)
-    where
-      by : (v : Verdict) → Keeps p (unbroken n v)
-      by Valid = is
-      by (Invalid g) = tt
+module _ (m : Parts) where
+  edited_alike : (e : Edit) → Gives (IsAlike m) (edited e m)
+  unfolding Gives
+  edited_alike (edits.Ty t) = fitting_gives (IsAlike m) (settle (with_type t m)) refl
+  edited_alike (edits.Import i) =
+      import_gives (IsAlike m) (are_parts_stuck (desc_kind i.desc) (import_place i m) m) (settle (with_import i (moved_parts (desc_kind i.desc) (import_place i m) m))) refl
+  edited_alike (edits.Func t code) = bytes_gives (IsAlike m) (whole_at (all_body_at m.profile) code) (λ b. settle (with_func t b m)) (λ b. refl)
+  edited_alike (edits.Body x code) = body_gives (IsAlike m) (entry_of x m) code m (λ i is b. refl)
+  edited_alike (edits.Global t init) = bytes_gives (IsAlike m) (whole_at (all_expr_at m.profile) init) (λ e. settle (with_global t e m)) (λ e. refl)
+  edited_alike (edits.Export e) = fitting_gives (IsAlike m) (settle (with_export e m)) refl
+  edited_alike (edits.Unexport name) = exports_gives (IsAlike m) (without_first name m.exports) m (λ es. refl)
+  edited_alike (edits.SetCustom name bytes) = fitting_gives (IsAlike m) (settle (with_custom name bytes m)) refl
+  edited_alike (edits.StripCustom name) = customs_gives (IsAlike m) (list_any (is_named name) m.customs) (settle (without_customs name m)) refl
+  edited_alike edits.StripAll = refl
 
-  then_lasting : (keep : Bool) (r : Result Parts EditFault) → Keeps p r → Keeps p (r >>= lasting keep)
-  unfolding Keeps
-  then_lasting keep (Ok n) is = lasting_keeps keep n is
-  then_lasting keep (Err f) is = tt
+  left_alike : (r : Result Parts EditFault) → Gives (IsAlike m) r → (left_by m r).profile ≡ m.profile
+  unfolding Gives
+  left_alike (Ok n) is = is
+  left_alike (Err f) is = refl
 
-  fitting_keeps : (n : Parts) → n.profile ≡ p → Keeps p (fitting n)
-  unfolding Keeps
-  fitting_keeps n is = by (nat_le (length (encoded n)) limit)
-    where
-      by : (b : Bool) → Keeps p (cond b (Ok n) (Err TooLarge))
-      by true = is
-      by false = tt
-
-  bytes_keeps : {V : Type 0} (r : Result V ReadFault) (next : V → Parts) → ((v : V) → (next v).profile ≡ p) → Keeps p (from_bytes r >>= λ v. fitting (next v))
-  unfolding Keeps
-  bytes_keeps (Ok v) next is = fitting_keeps (next v) (is v)
-  bytes_keeps (Err e) next is = tt
-
-  body_keeps : (code : List ℕ) (m : Parts) (entry : Option ℕ) → m.profile ≡ p → Keeps p (body_put entry code m)
-  unfolding Keeps
-  body_keeps code m None is = tt
-  body_keeps code m (Some entry) is = bytes_keeps (whole_at (all_body_at m.profile) code) (λ b. settle (with_body entry b m)) (λ b. is)
-
-  import_keeps : (b : Bool) (n : Parts) → n.profile ≡ p → Keeps p (cond b (Err IndexOverflow) (fitting n))
-  unfolding Keeps
-  import_keeps true n is = tt
-  import_keeps false n is = fitting_keeps n is
-
-  exports_keeps : (es : Option (List _)) (m : Parts) → m.profile ≡ p → Keeps p (with_exports es m)
-  unfolding Keeps
-  exports_keeps None m is = tt
-  exports_keeps (Some es) m is = is
-
-  customs_keeps : (b : Bool) (n : Parts) → n.profile ≡ p → Keeps p (cond b (Ok n) (Err NoSuchCustom))
-  unfolding Keeps
-  customs_keeps true n is = is
-  customs_keeps false n is = tt
-
-edited_keeps : (e : Edit) (m : Parts) → Keeps m.profile (edited e m)
-unfolding Keeps
-edited_keeps (edits.Ty t) m = fitting_keeps m.profile (settle (with_type t m)) refl
-edited_keeps (edits.Import i) m =
-    import_keeps m.profile (are_parts_stuck (desc_kind i.desc) (import_place i m) m) (settle (with_import i (moved_parts (desc_kind i.desc) (import_place i m) m))) refl
-edited_keeps (edits.Func t code) m = bytes_keeps m.profile (whole_at (all_body_at m.profile) code) (λ b. settle (with_func t b m)) (λ b. refl)
-edited_keeps (edits.Body x code) m = body_keeps m.profile code m (entry_of x m) refl
-edited_keeps (edits.Global t init) m = bytes_keeps m.profile (whole_at (all_expr_at m.profile) init) (λ e. settle (with_global t e m)) (λ e. refl)
-edited_keeps (edits.Export e) m = fitting_keeps m.profile (settle (with_export e m)) refl
-edited_keeps (edits.Unexport name) m = exports_keeps m.profile (without_first name m.exports) m refl
-edited_keeps (edits.SetCustom name bytes) m = fitting_keeps m.profile (settle (with_custom name bytes m)) refl
-edited_keeps (edits.StripCustom name) m = customs_keeps m.profile (list_any (is_named name) m.customs) (settle (without_customs name m)) refl
-edited_keeps edits.StripAll m = refl
-
-left_keeps : (m : Parts) (r : Result Parts EditFault) → Keeps m.profile r → (left_by m r).profile ≡ m.profile
-unfolding Keeps
-left_keeps m (Ok n) is = is
-left_keeps m (Err f) is = refl
-
-after_keeps : (keep : Bool) (e : Edit) (m : Parts) → (after_one keep e false m).profile ≡ m.profile
-after_keeps keep e m = left_keeps m (made keep e m) (then_lasting m.profile keep (edited e m) (edited_keeps e m))
+  after_alike : (keep : Bool) (e : Edit) (x : Bool) → (after_one keep e x m).profile ≡ m.profile
+  after_alike keep e true = refl
+  after_alike keep e false = left_alike (made keep e m) (then_lasting (IsAlike m) keep (edited e m) (edited_alike e))
 
 -- ---- all replies
-
-one_told : (e : Edit) (m : Parts) (r : Result Parts EditFault) → ((f : ReadFault) → r ≡ Err (BadBytes f) → HasBadBytes m.profile e f) → IsTold m.profile e (reply_to e m r)
-one_told e m (Ok n) tells = tt
-one_told e m (Err (BadBytes f)) tells = tells f refl
-one_told e m (Err NoSuchFunction) tells = tt
-one_told e m (Err NoSuchExport) tells = tt
-one_told e m (Err NoSuchCustom) tells = tt
-one_told e m (Err IndexOverflow) tells = tt
-one_told e m (Err TooLarge) tells = tt
-one_told e m (Err (WouldBreak g)) tells = tt
-one_told e m (Err Memory) tells = tt
 
 -- a reply that is the definition's tells so
 reply_inverts : (e : Edit) (m : Parts) (r : Result Parts EditFault) (f : ReadFault) → Err (BadBytes f) ≡ reply_to e m r → r ≡ Err (BadBytes f)
@@ -225,9 +168,36 @@ reply_told reads keep e m (Err TooLarge) h = tt
 reply_told reads keep e m (Err (WouldBreak g)) h = tt
 reply_told reads keep e m (Err Memory) h = tt
 
+-- what the definition answers tells so
+one_told : (reads : ReadsCode) (keep : Bool) (e : Edit) (x : Bool) (m : Parts) → IsTold m.profile e (reply_of keep e x m)
+one_told reads keep e true m = tt
+one_told reads keep e false m = by (made keep e m) (λ f h. bad_bytes reads keep f e m h)
+  where
+    by : (r : Result Parts EditFault) → ((f : ReadFault) → r ≡ Err (BadBytes f) → HasBadBytes m.profile e f) → IsTold m.profile e (reply_to e m r)
+    by (Ok n) tells = tt
+    by (Err (BadBytes f)) tells = tells f refl
+    by (Err NoSuchFunction) tells = tt
+    by (Err NoSuchExport) tells = tt
+    by (Err NoSuchCustom) tells = tt
+    by (Err IndexOverflow) tells = tt
+    by (Err TooLarge) tells = tt
+    by (Err (WouldBreak g)) tells = tt
+    by (Err Memory) tells = tt
+
+-- one reply tells so, and all those behind it do, which are answered of the module that it leaves
+more_told : (keep : Bool) (e : Edit) (x : Bool) (es : List Edit) (m : Parts) (reply : Result Work EditFault) (replies : List (Result Work EditFault))
+    → IsTold m.profile e reply → AreTold (after_one keep e x m).profile es replies → AreTold m.profile (e ∷ es) (reply ∷ replies)
+more_told keep e x es m reply replies one rest = (one, subst (λ (p : Profile). AreTold p es replies) (after_alike m keep e x) rest)
+
+-- so do the replies to all edits, whichever of them want memory
+pub replies_told : ReadsCode → (keep : Bool) (es : List Edit) (xs : List Bool) (m : Parts) → AreTold m.profile es (replies_of keep es xs m)
+replies_told reads keep [] xs m = tt
+replies_told reads keep (e ∷ es) [] m =
+    let n = after_one keep e false m in
+    more_told keep e false es m (reply_of keep e false m) (replies_of keep es [] n) (one_told reads keep e false m) (replies_told reads keep es [] n)
+replies_told reads keep (e ∷ es) (x ∷ xs) m =
+    let n = after_one keep e x m in
+    more_told keep e x es m (reply_of keep e x m) (replies_of keep es xs n) (one_told reads keep e x m) (replies_told reads keep es xs n)
+
 pub all_told : ReadsCode → (keep : Bool) (es : List Edit) (m : Parts) → AreTold m.profile es (replies_of keep es [] m)
-all_told reads keep [] m = tt
-all_told reads keep (e ∷ es) m = (
-  one_told e m (made keep e m) (λ f h. bad_bytes reads keep f e m h),
-  subst (λ (p : Profile). AreTold p es (replies_of keep es [] (after_one keep e false m))) (after_keeps keep e m) (all_told reads keep es (after_one keep e false m)),
-)
+all_told reads keep es m = replies_told reads keep es [] m

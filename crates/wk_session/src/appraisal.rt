@@ -26,7 +26,8 @@ pub(crate) struct Appraisal {
 /// Whether a module that an edit would make may stay, which has that verdict, and that length where it is not past the limit; or says
 /// why the edit is refused, where `keep` says whether the module has to be valid. It takes no memory.
 pub(crate) fn admit(keep: bool, verdict: Verdict, len: Option<u32>) -> Result<Appraisal, EditFault>
-    ensures { (n : PartsOf) → IsFormed n → verdict ≡ module_verdict n → len ≡ limited (length (encoded n)) → IsAppraised keep n result }
+    ensures { (n : PartsOf) → IsFormed n → verdict ≡ module_verdict n
+        → len ≡ limited (length (encoded n)) → IsAppraised keep n result }
 {
     let Some(len) = len else {
         return Err(EditFault::TooLarge);
@@ -68,7 +69,8 @@ pub(crate) fn appraise_unless_known(
 ) -> Result<Appraisal, EditFault>
     requires numbered { AreNumbered (listed lists.now) }
     requires few { length verdicts.now.items < 2 ^ 32 }
-    ensures { (n : PartsOf) → IsPending lists.now verdicts.now.items len n → IfSome known (λ v. v ≡ module_verdict n) → IsAppraised keep n result }
+    ensures { (n : PartsOf) → IsPending lists.now verdicts.now.items len n
+        → IfSome known (λ v. v ≡ module_verdict n) → IsAppraised keep n result }
 {
     match known {
         Some(verdict) => admit(keep, verdict, len),

@@ -17,7 +17,8 @@ use wk_module::{Body, Func, Ref};
 
 // Whether a reference that found nothing finds another thing now.
 fn is_found_now(before: &Answer<'_>, now: &Answer<'_>) -> bool
-    ensures { (is_there (found before.now) ≡ true → found now.now ≡ found before.now) → result ≡ not (same_found (found before.now) (found now.now)) }
+    ensures { (is_there (found before.now) ≡ true → found now.now ≡ found before.now)
+        → result ≡ not (same_found (found before.now) (found now.now)) }
 {
     match before {
         Answer::NoType => !matches!(now, Answer::NoType),

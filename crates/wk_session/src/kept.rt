@@ -1,10 +1,7 @@
 //! What a session keeps beside its module, so that an edit computes only what depends on it.
 
-ghost use Rattle.std.specs.Prelude.{◌≡◌, ◌+◌, ◌<◌, ◌≤◌, ◌^◌, length, map, IfOk};
-ghost use Rattle.std.specs.List.{AllByRecursion};
-ghost use Rattle.wk_bytes.specs.Frames.{limit};
+ghost use Rattle.std.specs.Prelude.{◌≡◌, ◌<◌, ◌^◌, length, map, IfOk};
 ghost use Rattle.wk_body.specs.Lengths.{limited};
-ghost use Rattle.wk_body.specs.Written.{written_body};
 ghost use Rattle.wk_module.specs.declared.types.Parts.{Parts as PartsOf};
 ghost use Rattle.wk_module.specs.declared.types.Func.{Func as FuncOf};
 ghost use Rattle.wk_module.specs.Listed.{listed};
@@ -17,12 +14,12 @@ ghost use Rattle.wk_session.specs.Pieces.{ArePieces, code_of};
 
 use crate::judged::judged;
 use crate::lengths::len_after;
-use crate::pieces::{Pieces, encoded_body, no_news};
+use crate::pieces::{Pieces, code_in_room, no_news};
 use std::alloc::Global;
 use std::collections::BTreeSet;
 use wk_bytes::{Items, OutOfMemory};
 use wk_check::{BodyVerdict, Env, Meter, Verdict, Whole, first_code_fault, judge_around};
-use wk_module::{Body, EncodeFault, Func, Lists, Module, Ref, uses};
+use wk_module::{Body, Func, Lists, Module, Ref, uses};
 
 /// What is kept beside a module: each part is what computing it from the module would give (`IsKept` of `specs/Kept`).
 #[derive(Debug, Drop)]
@@ -74,24 +71,9 @@ pub(crate) fn func_uses(
     uses(alloc, own_type, body)
 }
 
-// The code of a body, without its size, which is not too long.
-fn own_code(alloc: Global, body: &Body, encoded: &mut u32) -> Result<Items<u8>, OutOfMemory>
-    requires small { length (written_body body.now) ≤ limit }
-    requires few { encoded.old + 1 < 2 ^ 32 }
-    ensures code { IfOk result (λ c. c ≡ written_body body.now) }
-    ensures encoded { encoded.new ≡ encoded.old + 1 }
-{
-    match encoded_body(alloc, body, None, encoded) {
-        Ok(code) => Ok(code),
-        Err(EncodeFault::Memory) => Err(OutOfMemory),
-        Err(EncodeFault::TooLarge) => unreachable!(),
-    }
-}
-
-// What is kept of functions, none of whose codes is too long. Each is looked at once.
+// What is kept of functions. Each is judged, looked at and written while it is in the processor's caches.
 fn entries_in<E: Env>(alloc: Global, env: &E, funcs: &Items<Func>) -> Result<Entries, OutOfMemory>
-    requires few { length funcs.now < 2 ^ 32 }
-    requires small { AllByRecursion (λ f. length (code_of f) ≤ limit) funcs.now }
+    requires { length funcs.now < 2 ^ 32 }
     ensures verdicts { IfOk result (λ e. e.verdicts.items ≡ map (func_verdict (E.answers env.now)) funcs.now) }
     ensures refs { IfOk result (λ e. map (λ s. s.keys) e.refs.items ≡ map uses_of funcs.now) }
     ensures codes { IfOk result (λ e. e.codes.items ≡ map code_of funcs.now) }
@@ -101,10 +83,11 @@ fn entries_in<E: Env>(alloc: Global, env: &E, funcs: &Items<Func>) -> Result<Ent
     let mut verdicts = Vec::with_capacity(alloc, funcs.len())?;
     let mut refs = Vec::with_capacity(alloc, funcs.len())?;
     let mut codes = Vec::with_capacity(alloc, funcs.len())?;
+    let mut room = Vec::new(alloc);
     for func in funcs.as_slice() {
         let verdict = judged(env, func.ty, &func.body, &mut meter)?;
         let found = func_uses(alloc, func.ty, &func.body)?;
-        let code = own_code(alloc, &func.body, &mut encoded)?;
+        let code = code_in_room(alloc, &mut room, &func.body, &mut encoded)?;
         verdicts.push(verdict)?;
         refs.push(found)?;
         codes.push(code)?;
@@ -118,8 +101,7 @@ fn entries_in<E: Env>(alloc: Global, env: &E, funcs: &Items<Func>) -> Result<Ent
 
 // What is kept of functions in a module with these lists.
 fn entries_of(alloc: Global, lists: Lists<'_>, funcs: &Items<Func>) -> Result<Entries, OutOfMemory>
-    requires few { length funcs.now < 2 ^ 32 }
-    requires small { AllByRecursion (λ f. length (code_of f) ≤ limit) funcs.now }
+    requires { length funcs.now < 2 ^ 32 }
     ensures verdicts { IfOk result (λ e. e.verdicts.items ≡ map (func_verdict (answer_in (spaces_of (listed lists.entry)))) funcs.now) }
     ensures refs { IfOk result (λ e. map (λ s. s.keys) e.refs.items ≡ map uses_of funcs.now) }
     ensures codes { IfOk result (λ e. e.codes.items ≡ map code_of funcs.now) }
@@ -132,7 +114,8 @@ fn entries_of(alloc: Global, lists: Lists<'_>, funcs: &Items<Func>) -> Result<En
 fn pieces_len(alloc: Global, pieces: &Pieces) -> Result<Option<u32>, OutOfMemory>
     requires sections { length pieces.now.sections.items ≡ 12 }
     requires few { length pieces.now.codes.items < 2 ^ 32 }
-    ensures { (m : PartsOf) → IsInOrderFrom 0 m.customs → ArePieces m pieces.now → IfOk result (λ len. len ≡ limited (length (encoded m))) }
+    ensures { (m : PartsOf) → IsInOrderFrom 0 m.customs → ArePieces m pieces.now
+        → IfOk result (λ len. len ≡ limited (length (encoded m))) }
 {
     let news = no_news(alloc)?;
     let count = pieces.codes.len();

@@ -140,7 +140,9 @@ pub(crate) fn len_after(
     requires sections { length sections.now.items ≡ 12 }
     requires news { length news.now.items ≡ 12 }
     requires count { count < 2 ^ 32 }
-    ensures { (n : PartsOf) → IsInOrderFrom 0 n.customs → with_items sections.now.items news.now.items ≡ section_pieces n → count ≡ length n.funcs → codes ≡ codes_size n.funcs → customs ≡ customs_size n.customs
+    ensures { (n : PartsOf) → IsInOrderFrom 0 n.customs
+        → with_items sections.now.items news.now.items ≡ section_pieces n
+        → count ≡ length n.funcs → codes ≡ codes_size n.funcs → customs ≡ customs_size n.customs
         → result ≡ limited (length (encoded n)) }
 {
     let mut sizes = sizes_after(sections, news);

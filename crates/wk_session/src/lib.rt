@@ -11,10 +11,11 @@
 //!   [`Session::uses`] is `uses_of` of the entry, or nothing past the last: all are those of the module judged, encoded and listed from
 //!   scratch.
 //! - A reply tells the [`Work`] of an edit (`specs/Dependents`): `typed` counts the bodies that the edit gives and those that refer to
-//!   something which is found to be another thing (`retyped_meets` of `specs/DependentsLaws` ties that to the set of what changes),
-//!   `encoded` those that it gives and those that move, `sections` the sections that are made again. `typed` is the reading of a
-//!   meter, and the other two are counted where bytes are made.
+//!   something which is found to be another thing, `encoded` those that it gives and those that move, `sections` the sections that
+//!   are made again. [`work_of_edits`] ties the first two to the references that change and to those that move. `typed` is the
+//!   reading of a meter, and the other two are counted where bytes are made.
 //! - [`Session::write`] fails only where its output does, and takes no memory.
+//! - Where bytes of an edit are refused, alone or in a run, they spell nothing, and the fault stands in them (`IsTold` of `specs/Told`).
 //! - What `is_decided` marks is never answered by want of memory (`decided`). `is_memory` marks the edits that were refused for want of
 //!   memory; what the others do and answer is said for those marks.
 //!
@@ -25,10 +26,16 @@
 //! the sections that change, and writing puts what is kept in order. All growths come before what is kept changes; what was pushed to
 //! be judged is taken back where the edit is refused.
 //!
-//! What grows with a session that is kept open is the module, and with it what is kept: an edit leaves nothing behind. Appending to a
-//! list of a valid module costs the bytes of its section, an export also one look at each name; a function or another body costs its
-//! code, one look at the imports and a copy of the list of verdicts; an import, one look at what each function refers to, and the
-//! bodies that move. An edit of an invalid module judges the sections anew, and types the invalid bodies that find another thing.
+//! Opening goes over the bytes once, and over each body once more: it is typed, looked at and written in turn, into one room that
+//! serves all bodies. What is held then is 16 bytes for each token, each code, the contents of each section beside the lists that are
+//! read of them, and a set of some 200 bytes for each function.
+//!
+//! What grows with a session that is kept open is the module, and with it what is kept: an edit leaves nothing behind, but for the room
+//! of a list that got shorter, which later items fill. Appending to a list of a valid module costs the bytes of its section, an export
+//! also one look at each name; a function or another body costs its code, one look at the imports and a copy of the list of verdicts;
+//! an import, one look at what each function refers to, and the bodies that move. An edit of an invalid module judges the sections
+//! anew, and types the invalid bodies that find another thing. A custom section costs its own bytes, and a verdict, a length and what a
+//! function refers to cost nothing: they are looked up.
 #![tactic(auto)]
 
 mod appraisal;
@@ -37,6 +44,7 @@ mod edit;
 mod edits;
 mod judged;
 mod kept;
+mod laws;
 mod lengths;
 mod overlay;
 mod pieces;
@@ -45,5 +53,6 @@ mod write;
 mod written;
 
 pub use edit::{Edit, EditFault, Reply, Work};
+pub use laws::work_of_edits;
 pub use session::Session;
 pub use write::WriteFault;

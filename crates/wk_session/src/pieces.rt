@@ -14,7 +14,9 @@ ghost use Rattle.wk_session.specs.Pieces.{ArePieces, IsOneRemade, IsOverlong, Is
 use crate::lengths::{CODES, LAST, SECTIONS, codes_len, customs_len};
 use std::alloc::{AllocError, Global};
 use wk_bytes::{Items, OutOfMemory};
-use wk_module::{Body, EncodeFault, Lists, Parts, code_bytes, encode_body, encode_section};
+use wk_module::{
+    Body, EncodeFault, Lists, Parts, append_body, code_bytes, encode_body, encode_section,
+};
 
 /// The written form of a module in pieces (`ArePieces` of `specs/Pieces`). Custom sections are not kept a second time: the module holds
 /// their bytes.
@@ -48,7 +50,9 @@ pub(crate) fn remade(
 ) -> Result<Items<u8>, EncodeFault>
     requires id { IsListId id }
     requires few { made.old < 12 }
-    ensures contents { MatchResult result (λ c. c ≡ contents_by (listed lists.now) (of_number id)) (IsOverlong (contents_by (listed lists.now) (of_number id))) }
+    ensures contents { MatchResult result
+        (λ c. c ≡ contents_by (listed lists.now) (of_number id))
+        (IsOverlong (contents_by (listed lists.now) (of_number id))) }
     ensures made { made.new ≡ made.old + 1 }
 {
     *made += 1;
@@ -57,7 +61,7 @@ pub(crate) fn remade(
 }
 
 /// Makes the code of a body, without its size, and counts it: a copy of the bytes that spell it, where they are its written form. No
-/// other function of this crate encodes bodies.
+/// other function of this crate but [`code_in_room`] encodes bodies.
 pub(crate) fn encoded_body(
     alloc: Global,
     body: &Body,
@@ -74,6 +78,25 @@ pub(crate) fn encoded_body(
         Some(spelled) => code_bytes(alloc, body, spelled)?,
         None => encode_body(alloc, body)?,
     };
+    Ok(Items::from_vec(code))
+}
+
+/// Makes the code of a body, without its size, and counts it. It is written in a room that serves one body after the other, so that it
+/// is not measured first, and copied from there, so that it has no spare capacity.
+pub(crate) fn code_in_room(
+    alloc: Global,
+    room: &mut Vec<u8>,
+    body: &Body,
+    made: &mut u32,
+) -> Result<Items<u8>, OutOfMemory>
+    requires { made.old + 1 < 2 ^ 32 }
+    ensures code { IfOk result (λ c. c ≡ written_body body.now) }
+    ensures made { made.new ≡ made.old + 1 }
+{
+    *made += 1;
+    room.clear();
+    append_body(room, body)?;
+    let code = Vec::from_slice(alloc, room.as_slice())?;
     Ok(Items::from_vec(code))
 }
 
@@ -95,7 +118,9 @@ pub(crate) fn one_remade(
     id: u8,
 ) -> Result<NewSections, EncodeFault>
     requires { IsListId id }
-    ensures { MatchResult result (IsOneRemade id (contents_by (listed lists.now) (of_number id))) (IsOverlong (contents_by (listed lists.now) (of_number id))) }
+    ensures { MatchResult result
+        (IsOneRemade id (contents_by (listed lists.now) (of_number id)))
+        (IsOverlong (contents_by (listed lists.now) (of_number id))) }
 {
     let mut made = 0;
     let mut sections = no_news(alloc)?;
@@ -113,7 +138,9 @@ fn contents_at(
 ) -> Result<Items<u8>, EncodeFault>
     requires id { id < 12 }
     requires few { made.old < 12 }
-    ensures contents { MatchResult result (λ c. c ≡ contents_by (listed lists.now) (of_number id)) (IsOverlong (contents_by (listed lists.now) (of_number id))) }
+    ensures contents { MatchResult result
+        (λ c. c ≡ contents_by (listed lists.now) (of_number id))
+        (IsOverlong (contents_by (listed lists.now) (of_number id))) }
     ensures made { made.new ≤ made.old + 1 }
 {
     if id == 0 || id == CODES {

@@ -14,7 +14,7 @@ ghost use Rattle.wk_list.specs.Listing.{listing};
 ghost use Rattle.wk_list.specs.Taken.{failed_after};
 ghost use Rattle.wk_session.specs.Edits.{is_decided};
 ghost use Rattle.wk_session.specs.Kept.{IsKept, Leads, uses_of};
-ghost use Rattle.wk_session.specs.Told.{IsTold};
+ghost use Rattle.wk_session.specs.Told.{IsTold, AreTold};
 ghost use Rattle.wk_session.specs.Written.{Leaves, failures_after_write};
 ghost use Rattle.wk_session.specs.Runs.{reply_of, after_one, is_memory, replies_of, after, refused_for_memory, AreUndecided};
 
@@ -249,9 +249,12 @@ impl Session {
         ensures replies { IfOk result (λ rs. rs.items ≡ replies_of keep edits.now (refused_for_memory rs.items) self.old) }
         ensures count { IfOk result (λ rs. length rs.items ≡ length edits.now) }
         ensures module_is { IfOk result (λ rs. self.new ≡ after keep edits.now (refused_for_memory rs.items) self.old) }
+        ensures told { IfOk result (λ rs. AreTold self.old.profile edits.now rs.items) }
         ensures decided { IfOk result (λ rs. AreUndecided keep edits.now (refused_for_memory rs.items) self.old) }
         ensures err { OnErr result (self.new ≡ self.old) }
     {
+        // The proof asks what this says: what code that is refused spells, and where its fault stands.
+        reading_of_code();
         let mut replies = Vec::with_capacity(self.alloc, edits.len())?;
         for edit in edits {
             let reply = self.apply_with(keep, edit);
@@ -289,6 +292,8 @@ impl Session {
         ensures replies { IfOk result (λ rs. rs.items ≡ replies_of false edits.now (refused_for_memory rs.items) self.old) }
         ensures count { IfOk result (λ rs. length rs.items ≡ length edits.now) }
         ensures module_is { IfOk result (λ rs. self.new ≡ after false edits.now (refused_for_memory rs.items) self.old) }
+        // Bytes that are refused spell nothing, and the fault stands in them.
+        ensures told { IfOk result (λ rs. AreTold self.old.profile edits.now rs.items) }
         // What is decided without memory is never answered by want of it.
         ensures decided { IfOk result (λ rs. AreUndecided false edits.now (refused_for_memory rs.items) self.old) }
         ensures err { OnErr result (self.new ≡ self.old) }
@@ -305,6 +310,8 @@ impl Session {
         ensures replies { IfOk result (λ rs. rs.items ≡ replies_of true edits.now (refused_for_memory rs.items) self.old) }
         ensures count { IfOk result (λ rs. length rs.items ≡ length edits.now) }
         ensures module_is { IfOk result (λ rs. self.new ≡ after true edits.now (refused_for_memory rs.items) self.old) }
+        // Bytes that are refused spell nothing, and the fault stands in them.
+        ensures told { IfOk result (λ rs. AreTold self.old.profile edits.now rs.items) }
         // What is decided without memory is never answered by want of it.
         ensures decided { IfOk result (λ rs. AreUndecided true edits.now (refused_for_memory rs.items) self.old) }
         // What was valid is valid.

@@ -41,7 +41,8 @@ fn work_on(sections: u32) -> Work
 
 // The length of a module, where it is not too large and may stay; or why it is refused. `keep` says whether it has to be valid.
 fn check_module(keep: bool, verdict: &Verdict, len: Option<u32>) -> Result<u32, EditFault>
-    ensures { (n : PartsOf) → IsFormed n → module_verdict n ≡ verdict.now → len ≡ limited (length (encoded n)) → IsChecked keep n result }
+    ensures { (n : PartsOf) → IsFormed n → module_verdict n ≡ verdict.now
+        → len ≡ limited (length (encoded n)) → IsChecked keep n result }
 {
     let Some(len) = len else {
         return Err(EditFault::TooLarge);
@@ -165,7 +166,8 @@ fn len_with_bytes(parts: &Parts, kept: &Kept, index: usize, bytes: &Items<u8>) -
 fn len_with_custom(parts: &Parts, kept: &Kept, name: &Text, bytes: &Items<u8>) -> Option<u32>
     requires order { IsInOrderFrom 0 parts.now.customs }
     requires len { limited (length (encoded parts.now)) ≡ Some kept.now.len }
-    ensures { result ≡ limited (length (encoded (record parts.now { customs = parts.now.customs ++ last_custom name.now bytes.now ∷ [] }))) }
+    ensures { result ≡ limited (length (encoded
+        (record parts.now { customs = parts.now.customs ++ last_custom name.now bytes.now ∷ [] }))) }
 {
     exchange(kept.len, 0, frame_len(name, bytes.len()))
 }
@@ -210,7 +212,9 @@ fn replace_bytes(
     requires shaped { IsShaped parts.old }
     requires kept { IsKept parts.old kept.old }
     requires within { index < length parts.old.customs }
-    ensures { IsPut keep parts.old (record parts.old { customs = bytes_at index bytes.now parts.old.customs }) kept.old result parts.new kept.new }
+    ensures { IsPut keep parts.old
+        (record parts.old { customs = bytes_at index bytes.now parts.old.customs })
+        kept.old result parts.new kept.new }
 {
     let len = len_with_bytes(parts, kept, index, bytes);
     let len = check_module(keep, &kept.verdict, len)?;
@@ -231,7 +235,9 @@ fn append_custom(
 ) -> Result<(), EditFault>
     requires shaped { IsShaped parts.old }
     requires kept { IsKept parts.old kept.old }
-    ensures { IsPut keep parts.old (record parts.old { customs = parts.old.customs ++ last_custom name.now bytes.now ∷ [] }) kept.old result parts.new kept.new }
+    ensures { IsPut keep parts.old
+        (record parts.old { customs = parts.old.customs ++ last_custom name.now bytes.now ∷ [] })
+        kept.old result parts.new kept.new }
 {
     // The text's contract says that it is UTF-8, which a module asks of its names.
     let _text = name.as_str();

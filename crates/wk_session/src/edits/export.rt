@@ -79,7 +79,8 @@ fn appraise_exports(
     requires formed { IsFormed (record parts.now { exports = exports.now }) }
     requires kept { AreKept (answers_of parts.now) parts.now kept.now }
     requires known { IfSome known (λ v. v ≡ module_verdict (record parts.now { exports = exports.now })) }
-    requires others { with_items kept.now.pieces.sections.items (one_new 7 (section_piece 7 (record parts.now { exports = exports.now }))) ≡ section_pieces (record parts.now { exports = exports.now }) }
+    requires others { with_items kept.now.pieces.sections.items (one_new 7 (section_piece 7 (record parts.now { exports = exports.now })))
+        ≡ section_pieces (record parts.now { exports = exports.now }) }
     ensures { IsExported keep (record parts.now { exports = exports.now }) kept.now result }
 {
     let lists = Lists {

@@ -53,7 +53,8 @@ fn read_init(alloc: Global, profile: Profile, init: &Items<u8>) -> Result<Expr, 
 // The lists without the last global.
 fn without_last_global<'a>(lists: Lists<'a>) -> Lists<'a>
     requires { 0 < length lists.globals.now }
-    ensures { listed result ≡ record (listed lists.entry) { globals = take (length lists.entry.globals.now - 1) lists.entry.globals.now } }
+    ensures { listed result
+        ≡ record (listed lists.entry) { globals = take (length lists.entry.globals.now - 1) lists.entry.globals.now } }
 {
     let globals = &lists.globals[..lists.globals.len() - 1];
     Lists { globals, ..lists }
@@ -68,7 +69,8 @@ fn known_with_global(
 ) -> Result<Option<Verdict>, OutOfMemory>
     requires shaped { IsShaped parts.now }
     requires kept { IsKept parts.now kept.now }
-    ensures some { IfOk result (λ known. IfSome known (IsKnown (answers_of parts.now) (with_global global.now.ty global.now.init parts.now))) }
+    ensures some { IfOk result (λ known. IfSome known
+        (IsKnown (answers_of parts.now) (with_global global.now.ty global.now.init parts.now))) }
     ensures none { IfOk result (λ known. IfNone known (kept.now.verdict ≢ Verdict.Valid)) }
 {
     // The proof asks what this says: bodies of a valid module find what they found.
@@ -96,7 +98,9 @@ fn push_global(
     requires fresh { meter.old ≡ 0 }
     ensures ok { OnOk result (parts.new ≡ record parts.old { globals = parts.old.globals ++ global ∷ [] }) }
     ensures err { OnErr result (parts.new ≡ parts.old) }
-    ensures judged { IsJudged keep (answers_of parts.old) (record parts.old { globals = parts.old.globals ++ global ∷ [] }) kept.now meter.new result }
+    ensures judged { IsJudged keep (answers_of parts.old)
+        (record parts.old { globals = parts.old.globals ++ global ∷ [] })
+        kept.now meter.new result }
 {
     let known = known_with_global(alloc, parts, kept, &global)?;
     parts.globals.push(global)?;

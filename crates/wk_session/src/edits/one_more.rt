@@ -48,7 +48,9 @@ fn verdicts_grown(
     requires kept { AreKept (answer_in (spaces_of (listed before))) parts.now kept.now }
     requires fresh { meter.old ≡ 0 }
     ensures verdicts { IfOk result (λ v. v.items ≡ map (func_verdict (answers_of parts.now)) parts.now.funcs) }
-    ensures typed { OnOk result (meter.new ≡ count_by (is_retyped_in (answer_in (spaces_of (listed before.entry))) (answers_of parts.now)) parts.now.funcs) }
+    ensures typed { OnOk result (meter.new ≡ count_by
+        (is_retyped_in (answer_in (spaces_of (listed before.entry))) (answers_of parts.now))
+        parts.now.funcs) }
 {
     let old = Whole::of(alloc, before)?;
     let new = Whole::of(alloc, Lists::of(parts, &kept.types))?;

@@ -1,7 +1,5 @@
-use Rattle.std.proofs.Common.{◌≡◌, ◌<◌, ◌^◌, ◌≤◌, List, ℕ, length, map, refl, sym, ap, subst, ◌∙◌, arith}
+use Rattle.std.proofs.Common.{◌≡◌, ◌<◌, ◌^◌, List, ℕ, length, map, refl, sym, ap, subst, ◌∙◌, arith}
 use Rattle.std.proofs.lemmas.List.{length-map}
-use Rattle.std.specs.List.{AllByRecursion}
-use Rattle.wk_bytes.specs.Frames.{limit}
 use Rattle.wk_body.specs.Lengths.{limited}
 use Rattle.wk_module.specs.declared.types.Func.{Func}
 use Rattle.wk_module.specs.declared.types.Parts.{Parts}
@@ -17,8 +15,7 @@ use Rattle.wk_check.specs.Spaces.{answer_in, spaces_of}
 use Rattle.wk_check.specs.SpacesLaws.{answers_of}
 use Rattle.wk_check.specs.Verdict.{func_verdict, verdict_around}
 use Rattle.wk_session.specs.Kept.{IsPending, uses_of}
-use Rattle.wk_session.specs.Pieces.{ArePieces, code_of}
-use Rattle.wk_session.proofs.Piecing.{codes_small}
+use Rattle.wk_session.specs.Pieces.{ArePieces}
 use Rattle.wk_session.proofs.Putting.{codes_length}
 use Rattle.wk_module.specs.WritingLaws.{room_for_func}
 use Rattle.wk_session.proofs.Appraising.{verdict_lent}
@@ -32,12 +29,8 @@ lent c =
     ∙ ap (λ (ts : List ℕ). listed_with ts c.parts-parts.result.now) (c.deref.ensures.value ∙ c.in_ok-types.ensures)
     ∙ ap (λ (p : Parts). listed_with (map (λ (f : Func). f.ty) p.funcs) p) c.parts-parts.ensures.value
 
-pub entries_of-requires-clause-few : goal.entries_of-requires-clause-few
-entries_of-requires-clause-few c = subst (λ (p : Parts). length p.funcs < 2 ^ 32) (sym c.parts-parts.ensures.value) (funcs_numbered c.args.module.now c.parts-parts.ensures.shaped.formed)
-
-pub entries_of-requires-clause-small : goal.entries_of-requires-clause-small
-entries_of-requires-clause-small c =
-    subst (λ (p : Parts). AllByRecursion (λ (f : Func). length (code_of f) ≤ limit) p.funcs) (sym c.parts-parts.ensures.value) (codes_small c.args.module.now c.requires)
+pub entries_of-requires : goal.entries_of-requires
+entries_of-requires c = subst (λ (p : Parts). length p.funcs < 2 ^ 32) (sym c.parts-parts.ensures.value) (funcs_numbered c.args.module.now c.parts-parts.ensures.shaped.formed)
 
 pub first_code_fault-requires : goal.first_code_fault-requires
 first_code_fault-requires c =
