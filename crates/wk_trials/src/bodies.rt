@@ -373,7 +373,7 @@ impl Code {
                 moves: true,
                 stuck: false,
             };
-        let is_measured = len == Some(self.written.len() as u32)
+        let is_measured = len.map(|len| len as usize) == Some(self.written.len())
             && sum.saturating_add(5) == self.written.len() as u64;
         Outcome::answered(is_measured && groups == 2 && is_moving)
     }

@@ -97,7 +97,10 @@ fn is_name_refused() -> bool {
 // Whether there are so many sections up to the end.
 fn are_sections_found() -> bool {
     let mut sections = Sections::new(WHOLE);
-    let are_well = (0..14).all(|_| matches!(sections.next(), Some(Ok(_))));
+    let mut are_well = true;
+    for _ in 0..14 {
+        are_well = matches!(sections.next(), Some(Ok(_))) && are_well;
+    }
     are_well && sections.next().is_none() && sections.next().is_none()
 }
 

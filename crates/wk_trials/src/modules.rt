@@ -131,13 +131,14 @@ impl Sample {
         let module = Module::of(module.into_parts());
         let len = encoded_len(&module);
         call_ends(alloc);
-        let is_kept = module.parts().types.len() == types && len == Some(self.bytes.len() as u32);
+        let is_measured = len.map(|len| len as usize) == Some(self.bytes.len());
+        let is_kept = is_measured && module.parts().types.len() == types;
         Outcome::answered(is_kept && is_written_as(alloc, &module, self.bytes))
     }
 }
 
 // Each kind, and how many lists of a module of one item each move with what it names.
-const MOVES: [(Kind, u32); 4] = [
+const MOVES: [(Kind, usize); 4] = [
     (Kind::Func, 3),
     (Kind::Table, 1),
     (Kind::Memory, 1),
@@ -145,12 +146,15 @@ const MOVES: [(Kind, u32); 4] = [
 ];
 
 // How many lists moved.
-fn count_of(moved: &MovedLists) -> u32 {
-    u32::from(moved.globals.is_some())
-        + u32::from(moved.exports.is_some())
-        + u32::from(moved.start.is_some())
-        + u32::from(moved.elems.is_some())
-        + u32::from(moved.datas.is_some())
+fn count_of(moved: &MovedLists) -> usize {
+    let lists = [
+        moved.globals.is_some(),
+        moved.exports.is_some(),
+        moved.start.is_some(),
+        moved.elems.is_some(),
+        moved.datas.is_some(),
+    ];
+    lists.iter().filter(|is_moved| **is_moved).count()
 }
 
 // Moves what names each kind, up to the first move that is refused. Says whether the lists are right.

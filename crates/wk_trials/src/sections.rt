@@ -29,18 +29,32 @@ pub(crate) enum OfWhole {
     Lengths,
 }
 
+// Writes a section alone. Says whether the bytes are right.
+fn encode_one(alloc: Global, lists: &Lists<'_>, id: u8, bytes: &[u8]) -> Result<bool, EncodeFault> {
+    if 1 <= id && id <= 11 && id != 10 {
+        let written = encode_section(alloc, lists, id)?;
+        return Ok(written.as_slice() == bytes);
+    }
+    Ok(false)
+}
+
 // Writes each section alone, up to the first that is refused. Says whether the bytes are right.
 fn encode_each(alloc: Global, lists: &Lists<'_>) -> Result<bool, EncodeFault> {
     let mut are_right = true;
     for section in OF_WHOLE {
-        let id = section.id;
-        if id == 0 || id == 10 || id > 11 {
-            return Ok(false);
-        }
-        let bytes = encode_section(alloc, lists, id)?;
-        are_right = are_right && bytes.as_slice() == section.bytes;
+        are_right = encode_one(alloc, lists, section.id, section.bytes)? && are_right;
     }
     Ok(are_right)
+}
+
+// Whether these bytes are a section of one byte of size.
+fn is_framed(made: &[u8], id: u8, contents: &[u8]) -> bool {
+    match made {
+        [first, size, rest @ ..] => {
+            *first == id && usize::from(*size) == contents.len() && rest == contents
+        }
+        _ => false,
+    }
 }
 
 // Appends each section, up to the first that is refused. Says whether the bytes are right.
@@ -49,10 +63,9 @@ fn append_each(lists: &Lists<'_>, out: &mut Vec<u8>) -> Result<bool, EncodeFault
     for section in OF_WHOLE {
         let start = out.len();
         append_section(lists, section.id, out)?;
-        let front = [section.id, section.bytes.len() as u8];
         are_right = are_right
             && match out.get(start..) {
-                Some(made) => made.strip_prefix(&front) == Some(section.bytes),
+                Some(made) => is_framed(made, section.id, section.bytes),
                 None => false,
             };
     }
@@ -86,17 +99,35 @@ fn copy_each(alloc: Global, parts: &Parts) -> Result<bool, AllocError> {
     Ok(are_right)
 }
 
-// Whether each length that is told without memory is right.
+fn is_len(told: Option<u32>, bytes: &[u8]) -> bool {
+    told.map(|len| len as usize) == Some(bytes.len())
+}
+
+// Whether the lengths of sections that are told without memory are right.
 fn are_lengths(module: &Module, lists: &Lists<'_>) -> bool {
-    let parts = module.parts();
-    let are_sections = OF_WHOLE.iter().all(|section| {
-        let len = Some(section.bytes.len() as u32);
-        section_len(module, section.id) == len && lists.contents_len(section.id) == len
-    });
-    let are_customs = parts.customs.as_slice().iter().zip(CUSTOMS_OF_WHOLE).all(|(custom, bytes)| {
-        let len = Some(bytes.len() as u32);
-        custom_len(custom) == len && named_len(&custom.name, custom.bytes.len()) == len
-    });
+    let mut are_right = framed_len(3) == Some(5);
+    for section in OF_WHOLE {
+        let len = section_len(module, section.id);
+        are_right = are_right
+            && is_len(len, section.bytes)
+            && lists.contents_len(section.id) == len;
+    }
+    for (custom, bytes) in module
+        .parts()
+        .customs
+        .as_slice()
+        .iter()
+        .zip(CUSTOMS_OF_WHOLE)
+    {
+        let len = custom_len(custom);
+        are_right = are_right && is_len(len, bytes);
+        are_right = are_right && named_len(&custom.name, custom.bytes.len()) == len;
+    }
+    are_right
+}
+
+// The same of items.
+fn are_item_lengths(parts: &Parts) -> bool {
     let are_types = parts
         .types
         .as_slice()
@@ -109,13 +140,7 @@ fn are_lengths(module: &Module, lists: &Lists<'_>) -> bool {
         .iter()
         .map(export_len)
         .eq([Some(4)]);
-    let are_counted = import_count(parts.imports.as_slice(), Kind::Table) == 1;
-    are_sections
-        && are_customs
-        && are_types
-        && are_exports
-        && are_counted
-        && framed_len(3) == Some(5)
+    are_types && are_exports && import_count(parts.imports.as_slice(), Kind::Table) == 1
 }
 
 impl OfWhole {
@@ -150,7 +175,7 @@ impl OfWhole {
             OfWhole::Copy => copies(alloc, module),
             OfWhole::Lengths => {
                 call_begins(alloc);
-                let are_right = are_lengths(module, &lists);
+                let are_right = are_lengths(module, &lists) && are_item_lengths(module.parts());
                 call_ends(alloc);
                 Outcome::answered(are_right)
             }

@@ -61,7 +61,7 @@ fn tells_of(alloc: Global, session: &Session, bytes: &[u8]) -> Outcome {
         Some(refs) => refs.iter().any(|found| *found == Ref::Func(2)),
         None => false,
     };
-    Outcome::answered(is_valid && len == bytes.len() as u32 && are_used && past.is_none())
+    Outcome::answered(is_valid && len as usize == bytes.len() && are_used && past.is_none())
 }
 
 /// `Session::list` of a part of a module of a profile, to a sink with that much room.
