@@ -126,21 +126,16 @@ fn are_lengths(module: &Module, lists: &Lists<'_>) -> bool {
     are_right
 }
 
-// The same of items.
+// The same of a type and of an export, and how many imports are tables.
 fn are_item_lengths(parts: &Parts) -> bool {
-    let are_types = parts
-        .types
-        .as_slice()
-        .iter()
-        .map(type_len)
-        .eq([Some(3), Some(5)]);
-    let are_exports = parts
-        .exports
-        .as_slice()
-        .iter()
-        .map(export_len)
-        .eq([Some(4)]);
-    are_types && are_exports && import_count(parts.imports.as_slice(), Kind::Table) == 1
+    let types = parts.types.as_slice();
+    let exports = parts.exports.as_slice();
+    match (types.first(), exports.first()) {
+        (Some(ty), Some(export)) => type_len(ty) == Some(3)
+            && export_len(export) == Some(4)
+            && import_count(parts.imports.as_slice(), Kind::Table) == 1,
+        _ => false,
+    }
 }
 
 impl OfWhole {
@@ -233,12 +228,26 @@ impl Walk {
             return reads_up_to_code(alloc, sample, &mut scratch);
         }
         match up_to_code(alloc, sample, &mut scratch) {
-            Ok((reader, Some(section))) => match self {
-                Walk::Codes => reads_codes(alloc, sample.profile, &section),
-                Walk::Look => looks(alloc, &reader, &section),
-                _ => ends(alloc, reader, &mut scratch),
+            Ok((reader, section)) => match section {
+                Some(section) => self.run_from(alloc, sample, reader, &section, &mut scratch),
+                None => Outcome::NO_SAMPLE,
             },
-            _ => Outcome::NO_SAMPLE,
+            Err(_) => Outcome::NO_SAMPLE,
+        }
+    }
+
+    fn run_from(
+        self,
+        alloc: Global,
+        sample: Sample,
+        reader: SectionReader<'_>,
+        section: &RawSection<'_>,
+        scratch: &mut Scratch,
+    ) -> Outcome {
+        match self {
+            Walk::Codes => reads_codes(alloc, sample.profile, section),
+            Walk::Look => looks(alloc, &reader, section),
+            Walk::ToEnd | Walk::UpToCode => ends(alloc, reader, scratch),
         }
     }
 }
