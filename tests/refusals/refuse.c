@@ -1,6 +1,7 @@
-/* Preloaded into a program of this repository, it refuses exactly one of the program's allocations.
+/* Preloaded into a program of this repository, it refuses one of the program's allocations, or one and all behind it.
  *
  *   REFUSE_AT=N         the N-th allocation that is counted is refused, from 1 on; without it none is
+ *   REFUSE_ONWARD=1     and so is each that is counted behind it
  *   REFUSE_FROM_START=1 all are counted; else those between an allocation of ARM bytes and the next of DISARM bytes,
  *                       two that are themselves served and not counted
  *   REFUSE_LOG=FILE     as the program exits, this file gets the line "armed A counted C refused R": how often the
@@ -21,10 +22,10 @@ extern char *getenv(const char *);
 extern long atol(const char *);
 extern int open(const char *, int, ...), dprintf(int, const char *, ...), close(int);
 
-static int is_armed;
+static int is_armed, is_onward;
 static long armed, counted, refused, refuse_at;
 
-/* Whether an allocation of this size is the one to refuse. */
+/* Whether an allocation of this size is one to refuse. */
 static int is_refused(size_t size) {
     if (size == ARM || size == DISARM) {
         is_armed = size == ARM;
@@ -33,7 +34,7 @@ static int is_refused(size_t size) {
     }
     if (!is_armed) return 0;
     counted += 1;
-    if (counted != refuse_at) return 0;
+    if (!refuse_at || counted < refuse_at || (counted > refuse_at && !is_onward)) return 0;
     refused += 1;
     *__errno_location() = NO_MEMORY;
     return 1;
@@ -65,6 +66,7 @@ int posix_memalign(void **block, size_t alignment, size_t size) {
 __attribute__((constructor)) static void begin(void) {
     const char *at = getenv("REFUSE_AT");
     refuse_at = at ? atol(at) : 0;
+    is_onward = getenv("REFUSE_ONWARD") != 0;
     is_armed = getenv("REFUSE_FROM_START") != 0;
     armed = is_armed;
 }

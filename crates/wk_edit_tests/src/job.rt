@@ -11,6 +11,7 @@ use wk_edit::{RunFault, Status, edit, edit_in};
 use wk_module::Profile;
 use wk_samples::lacking::{NO_BLOCK_TYPE, NO_BLOCK_TYPE_MENDED};
 use wk_samples::moving::{ALL_EDITED, ALL_KEPT, ALL_REPORT, KEPT_REPORT, MOVING, OF_EACH_KIND};
+use wk_samples::wide::{self, WIDE};
 
 /// A module of nothing.
 pub(crate) const EMPTY: &[u8] = b"\0asm\x01\0\0\0";
@@ -41,7 +42,7 @@ type Row = (
     &'static [u8],
 );
 
-static ROWS: [Row; 21] = [
+static ROWS: [Row; 22] = [
     (
         EMPTY,
         b"type - -",
@@ -173,6 +174,14 @@ static ROWS: [Row; 21] = [
         b"",
         b"script S2 NotAscii line 12\n",
     ),
+    // a call that moves behind an import
+    (
+        b"\0asm\x01\0\0\0\x01\x04\x01\x60\0\0\x03\x02\x01\0\x0a\x06\x01\x04\0\x10\0\x0b",
+        b"import func env f 0\n",
+        Status::Accepted,
+        b"\0asm\x01\0\0\0\x01\x04\x01\x60\0\0\x02\x09\x01\x03env\x01f\0\0\x03\x02\x01\0\x0a\x06\x01\x04\0\x10\x01\x0b",
+        b"1 ok\nvalid\n",
+    ),
     // an edit of each kind
     (
         MOVING,
@@ -210,22 +219,40 @@ static KEPT: [Row; 4] = [
 ];
 
 // In the other profile.
-static EXTENDED: [Row; 1] = [(
-    NO_BLOCK_TYPE,
-    b"strip\ntype i32 i32",
-    Status::Accepted,
-    NO_BLOCK_TYPE_MENDED,
-    b"1 ok\n2 ok\nvalid\n",
-)];
+static EXTENDED: [Row; 2] = [
+    (
+        NO_BLOCK_TYPE,
+        b"strip\ntype i32 i32",
+        Status::Accepted,
+        NO_BLOCK_TYPE_MENDED,
+        b"1 ok\n2 ok\nvalid\n",
+    ),
+    (
+        WIDE,
+        wide::OF_EACH_KIND,
+        Status::Refused,
+        wide::ALL_EDITED,
+        wide::ALL_REPORT,
+    ),
+];
 
 // In the other profile, where the module has to be valid.
-static EXTENDED_KEPT: [Row; 1] = [(
-    NO_BLOCK_TYPE,
-    b"strip\ntype i32 i32",
-    Status::Refused,
-    NO_BLOCK_TYPE_MENDED,
-    b"1 refused E7 WouldBreak V2 UnknownType at section 10 item 0 token 1\n2 ok\nvalid\n",
-)];
+static EXTENDED_KEPT: [Row; 2] = [
+    (
+        NO_BLOCK_TYPE,
+        b"strip\ntype i32 i32",
+        Status::Refused,
+        NO_BLOCK_TYPE_MENDED,
+        b"1 refused E7 WouldBreak V2 UnknownType at section 10 item 0 token 1\n2 ok\nvalid\n",
+    ),
+    (
+        WIDE,
+        wide::OF_EACH_KIND,
+        Status::Refused,
+        wide::ALL_KEPT,
+        wide::KEPT_REPORT,
+    ),
+];
 
 // How scripts are run.
 #[derive(Clone, Copy)]

@@ -13,6 +13,7 @@ use wk_module::Profile;
 use wk_samples::lacking::NO_BLOCK_TYPE_MENDED;
 use wk_samples::modules::WHOLE;
 use wk_samples::moving::MOVING;
+use wk_samples::wide::WIDE;
 use wk_session::{Session, WriteFault};
 
 // A call that puts to an output.
@@ -128,11 +129,12 @@ fn leaves_beginnings(rt: &impl Abort, alloc: Global, session: &Session) -> Resul
     Ok(())
 }
 
-const MODULES: [(Profile, &[u8]); 4] = [
+const MODULES: [(Profile, &[u8]); 5] = [
     (Profile::Core, MIXED),
     (Profile::Core, WHOLE),
     (Profile::Core, MOVING),
     (Profile::Extended, NO_BLOCK_TYPE_MENDED),
+    (Profile::Extended, WIDE),
 ];
 
 #[test]

@@ -8,3 +8,4 @@ pub mod lacking;
 pub mod listings;
 pub mod modules;
 pub mod moving;
+pub mod wide;

@@ -1,4 +1,6 @@
-//! Calls of `wk_body`.
+//! Calls of `wk_body` on bodies.
+
+ghost use Rattle.std.specs.Prelude.{◌≤◌, length};
 
 use crate::mark::{call_begins, call_ends};
 use crate::outcome::Outcome;
@@ -6,17 +8,83 @@ use crate::sinks::{BEFORE, Room, has_appended, vector};
 use std::alloc::{AllocError, Global};
 use std::collections::BTreeSet;
 use wk_body::{
-    Body, EncodeFault, Expr, Movement, Moving, Profile, Ref, Scratch, ShiftFault, append_body,
-    append_expr, body_len, code_bytes, encode_body, encode_expr, expr_len, expr_movement,
-    next_expr_in, read_body, read_expr, refs, shift, shift_expr, uses,
+    Body, EncodeFault, LocalGroup, Movement, Moving, Profile, Ref, Scratch, ShiftFault,
+    TokenReader, append_body, body_len, code_bytes, encode_body, expr_movement, next_groups,
+    read_body, read_body_in, refs, shift, uses,
 };
-use wk_bytes::{Cursor, OutOfMemory, ReadFault, ReadKind};
-use wk_samples::bodies::{BODY, EXPR, MOVED_EXPR, PADDED, REFERRING, WITH_FUNC_MOVED};
+use wk_bytes::{Cursor, LIMIT, OutOfMemory, ReadFault, ReadKind};
+use wk_samples::bodies::{
+    BODY, PADDED, REFERRING, WIDE, WIDE_PADDED, WIDE_WITH_FUNC_MOVED, WITH_FUNC_MOVED,
+};
 
 /// What a reading answers where memory is wanting.
 pub(crate) const NO_MEMORY: ReadFault = ReadFault {
     kind: ReadKind::Memory,
     at: 0,
+};
+
+/// The code of a function in a profile, and what its calls give.
+#[derive(Clone, Copy)]
+pub(crate) struct Code {
+    profile: Profile,
+    /// With padded integers.
+    padded: &'static [u8],
+    /// In its written form.
+    written: &'static [u8],
+    /// With the function 5 and those above it moved.
+    moved: &'static [u8],
+    /// What it refers to, in order.
+    refs: &'static [Ref],
+    /// The same with the type 4.
+    uses: &'static [Ref],
+}
+
+/// Code of WebAssembly 1.0.
+pub(crate) const CORE_CODE: Code = Code {
+    profile: Profile::Core,
+    padded: PADDED,
+    written: BODY,
+    moved: WITH_FUNC_MOVED,
+    refs: &[
+        Ref::Ty(3),
+        Ref::Func(5),
+        Ref::Global(7),
+        Ref::Table,
+        Ref::Memory,
+    ],
+    uses: &[
+        Ref::Ty(3),
+        Ref::Ty(4),
+        Ref::Func(5),
+        Ref::Global(7),
+        Ref::Table,
+        Ref::Memory,
+    ],
+};
+
+/// Code that only the wider profile has.
+pub(crate) const WIDE_CODE: Code = Code {
+    profile: Profile::Extended,
+    padded: WIDE_PADDED,
+    written: WIDE,
+    moved: WIDE_WITH_FUNC_MOVED,
+    refs: &[
+        Ref::Ty(3),
+        Ref::Ty(64),
+        Ref::Func(5),
+        Ref::Global(7),
+        Ref::Table,
+        Ref::Memory,
+    ],
+    uses: &[
+        Ref::Ty(3),
+        Ref::Ty(4),
+        Ref::Ty(64),
+        Ref::Func(5),
+        Ref::Global(7),
+        Ref::Table,
+        Ref::Memory,
+    ],
 };
 
 // Whether the body is written as these bytes.
@@ -27,81 +95,122 @@ fn is_body(alloc: Global, body: &Body, bytes: &[u8]) -> bool {
     }
 }
 
-// Whether the expression is written as these bytes.
-fn is_expr(alloc: Global, expr: &Expr, bytes: &[u8]) -> bool {
-    match encode_expr(alloc, expr) {
-        Ok(written) => written.as_slice() == bytes,
-        Err(_) => false,
+fn are_refs(found: &BTreeSet<Ref>, wanted: &[Ref]) -> bool {
+    found.len() == wanted.len() && found.iter().zip(wanted.iter()).all(|(a, b)| a == b)
+}
+
+/// A call that reads a code.
+#[derive(Clone, Copy)]
+pub(crate) enum ReadCode {
+    /// `read_body`, or `read_body_in` of the wider profile.
+    Body,
+    /// `Scratch::read_body` in a room that was used before.
+    Again,
+    /// `Scratch::append_spelled` to a full vector.
+    Append,
+    /// `next_groups`, and `TokenReader::next` up to the end.
+    Tokens,
+}
+
+impl ReadCode {
+    /// The call.
+    pub(crate) fn run(self, alloc: Global, code: Code) -> Outcome {
+        if code.padded.len() > LIMIT {
+            return Outcome::NO_SAMPLE;
+        }
+        match self {
+            ReadCode::Body => code.reads(alloc),
+            ReadCode::Again => code.reads_again(alloc),
+            ReadCode::Append => code.appends_spelled(alloc),
+            ReadCode::Tokens => code.reads_tokens(alloc),
+        }
     }
 }
 
-// What reading the body answered.
-fn was_read(alloc: Global, answer: &Result<Body, ReadFault>) -> Outcome {
-    match answer {
-        Ok(body) => Outcome::answered(is_body(alloc, body, BODY)),
-        Err(fault) => Outcome::refused(*fault == NO_MEMORY),
+// The groups and the tokens of a body, one after the other.
+fn read_tokens(
+    groups: &mut Vec<LocalGroup>,
+    reader: &mut TokenReader,
+    profile: Profile,
+    cursor: &mut Cursor<'_>,
+) -> Result<(), ReadFault> {
+    next_groups(groups, cursor)?;
+    reader.begin();
+    for _ in 0..cursor.rest().len() {
+        if reader.next(profile, cursor)?.is_none() {
+            break;
+        }
     }
+    Ok(())
 }
 
-/// `read_body`.
-pub(crate) fn reads(alloc: Global) -> Outcome {
-    call_begins(alloc);
-    let answer = read_body(alloc, PADDED);
-    call_ends(alloc);
-    was_read(alloc, &answer)
-}
-
-/// `Scratch::read_body` in a room that was used before.
-pub(crate) fn reads_again(alloc: Global) -> Outcome {
-    let mut scratch = Scratch::new(alloc);
-    let cursor = Cursor::new(BODY);
-    if scratch.read_body(alloc, &cursor, Profile::Core).is_err() {
-        return Outcome::NO_SAMPLE;
+impl Code {
+    fn read(self, alloc: Global) -> Result<Body, ReadFault> {
+        match self.profile {
+            Profile::Core => read_body(alloc, self.padded),
+            profile => read_body_in(alloc, self.padded, profile),
+        }
     }
-    call_begins(alloc);
-    let answer = scratch.read_body(alloc, &cursor, Profile::Core);
-    call_ends(alloc);
-    was_read(alloc, &answer)
-}
 
-// What taking the expression answered, and where the cursor stands.
-fn was_taken(alloc: Global, answer: &Result<Expr, ReadFault>, at: u32) -> Outcome {
-    match answer {
-        Ok(expr) => Outcome::answered(at == 3 && is_expr(alloc, expr, EXPR)),
-        Err(fault) => Outcome::refused(*fault == NO_MEMORY && at == 0),
+    // What reading the body answered.
+    fn was_read(self, alloc: Global, answer: &Result<Body, ReadFault>) -> Outcome {
+        match answer {
+            Ok(body) => Outcome::answered(is_body(alloc, body, self.written)),
+            Err(fault) => Outcome::refused(*fault == NO_MEMORY),
+        }
     }
-}
 
-// The expression, and a byte behind it.
-const FRONT: &[u8] = b"\x23\x07\x0b\xff";
+    fn reads(self, alloc: Global) -> Outcome {
+        call_begins(alloc);
+        let answer = self.read(alloc);
+        call_ends(alloc);
+        self.was_read(alloc, &answer)
+    }
 
-/// `next_expr_in`, which leaves the cursor where it refuses.
-pub(crate) fn takes_expr(alloc: Global) -> Outcome {
-    let mut cursor = Cursor::new(FRONT);
-    call_begins(alloc);
-    let answer = next_expr_in(alloc, &mut cursor, Profile::Core);
-    call_ends(alloc);
-    was_taken(alloc, &answer, cursor.at())
-}
+    fn reads_again(self, alloc: Global) -> Outcome
+        requires { length self.padded.now ≤ LIMIT }
+    {
+        let mut scratch = Scratch::new(alloc);
+        let cursor = Cursor::new(self.padded);
+        if scratch.read_body(alloc, &cursor, self.profile).is_err() {
+            return Outcome::NO_SAMPLE;
+        }
+        call_begins(alloc);
+        let answer = scratch.read_body(alloc, &cursor, self.profile);
+        call_ends(alloc);
+        self.was_read(alloc, &answer)
+    }
 
-/// `Scratch::next_expr`.
-pub(crate) fn takes_expr_in_room(alloc: Global) -> Outcome {
-    let mut cursor = Cursor::new(FRONT);
-    let mut scratch = Scratch::new(alloc);
-    call_begins(alloc);
-    let answer = scratch.next_expr(alloc, &mut cursor, Profile::Core);
-    call_ends(alloc);
-    was_taken(alloc, &answer, cursor.at())
-}
+    fn appends_spelled(self, alloc: Global) -> Outcome
+        requires { length self.padded.now ≤ LIMIT }
+    {
+        let Some(mut bytes) = vector(alloc, Room::Full) else {
+            return Outcome::NO_SAMPLE;
+        };
+        let mut scratch = Scratch::new(alloc);
+        let cursor = Cursor::new(self.padded);
+        call_begins(alloc);
+        let answer = scratch.append_spelled(alloc, &mut bytes, &cursor, self.profile);
+        call_ends(alloc);
+        match answer {
+            Ok(()) => Outcome::answered(has_appended(&bytes, self.written)),
+            Err(fault) => Outcome::refused(fault == NO_MEMORY && has_appended(&bytes, &[])),
+        }
+    }
 
-/// `read_expr`.
-pub(crate) fn reads_expr(alloc: Global) -> Outcome {
-    call_begins(alloc);
-    let answer = read_expr(alloc, EXPR);
-    call_ends(alloc);
-    match &answer {
-        Ok(expr) => Outcome::answered(is_expr(alloc, expr, EXPR)),
-        Err(fault) => Outcome::refused(*fault == NO_MEMORY),
+    fn reads_tokens(self, alloc: Global) -> Outcome
+        requires { length self.padded.now ≤ LIMIT }
+    {
+        let mut groups = Vec::new(alloc);
+        let mut reader = TokenReader::new(alloc);
+        let mut cursor = Cursor::new(self.padded);
+        call_begins(alloc);
+        let answer = read_tokens(&mut groups, &mut reader, self.profile, &mut cursor);
+        call_ends(alloc);
+        match answer {
+            Ok(()) => Outcome::answered(cursor.rest().is_empty() && groups.len() == 2),
+            Err(fault) => Outcome::refused(fault == NO_MEMORY),
+        }
     }
 }
 
@@ -128,125 +237,145 @@ pub(crate) enum OfBody {
 
 impl OfBody {
     /// The call.
-    pub(crate) fn run(self, alloc: Global) -> Outcome {
+    pub(crate) fn run(self, alloc: Global, code: Code) -> Outcome {
+        match code.read(alloc) {
+            Ok(body) => self.run_on(alloc, code, &body),
+            Err(_) => Outcome::NO_SAMPLE,
+        }
+    }
+
+    fn run_on(self, alloc: Global, code: Code, body: &Body) -> Outcome {
         match self {
-            OfBody::Shorten => shortens(alloc),
-            _ => match read_body(alloc, BODY) {
-                Ok(body) => self.run_on(alloc, &body),
-                Err(_) => Outcome::NO_SAMPLE,
-            },
-        }
-    }
-
-    fn run_on(self, alloc: Global, body: &Body) -> Outcome {
-        match self {
-            OfBody::Encode => encodes(alloc, body),
-            OfBody::Append => appends(alloc, body),
-            OfBody::Shift => shifts(alloc, body),
-            OfBody::Clone => clones(alloc, body),
-            OfBody::Refs => finds(alloc, body, None, &REFS),
-            OfBody::Uses => finds(alloc, body, Some(4), &USES),
-            OfBody::Look => looks(alloc, body),
-            OfBody::Shorten => Outcome::NO_SAMPLE,
+            OfBody::Encode => code.encodes(alloc, body),
+            OfBody::Shorten => code.shortens(alloc, body),
+            OfBody::Append => code.appends(alloc, body),
+            OfBody::Shift => code.shifts(alloc, body),
+            OfBody::Clone => code.clones(alloc, body),
+            OfBody::Refs => code.finds(alloc, body),
+            OfBody::Uses => code.finds_uses(alloc, body),
+            OfBody::Look => code.looks(alloc, body),
         }
     }
 }
 
-fn encodes(alloc: Global, body: &Body) -> Outcome {
-    call_begins(alloc);
-    let answer = encode_body(alloc, body);
-    call_ends(alloc);
-    was_encoded(alloc, &answer, body)
-}
-
-// What encoding the body answered.
-fn was_encoded(alloc: Global, answer: &Result<Vec<u8>, EncodeFault>, body: &Body) -> Outcome {
-    match answer {
-        Ok(bytes) => Outcome::answered(bytes.as_slice() == BODY),
-        Err(fault) => Outcome::refused(*fault == EncodeFault::Memory && is_body(alloc, body, BODY)),
+// The length of the body's expression by its tokens, one after the other.
+fn sum_of_heads(body: &Body) -> u64 {
+    let (tokens, labels) = body.tokens();
+    let mut sum = 0u64;
+    for token in tokens {
+        sum = sum.saturating_add(token.head_len(labels));
     }
+    sum
 }
 
-fn shortens(alloc: Global) -> Outcome {
-    match read_body(alloc, PADDED) {
-        Ok(body) => {
-            call_begins(alloc);
-            let answer = code_bytes(alloc, &body, PADDED);
-            call_ends(alloc);
-            was_encoded(alloc, &answer, &body)
+impl Code {
+    // What encoding the body answered.
+    fn was_encoded(
+        self,
+        alloc: Global,
+        answer: &Result<Vec<u8>, EncodeFault>,
+        body: &Body,
+    ) -> Outcome {
+        match answer {
+            Ok(bytes) => Outcome::answered(bytes.as_slice() == self.written),
+            Err(fault) => Outcome::refused(
+                *fault == EncodeFault::Memory && is_body(alloc, body, self.written),
+            ),
         }
-        Err(_) => Outcome::NO_SAMPLE,
     }
-}
 
-fn appends(alloc: Global, body: &Body) -> Outcome {
-    match vector(alloc, Room::Full) {
-        Some(mut bytes) => {
-            call_begins(alloc);
-            let answer = append_body(&mut bytes, body);
-            call_ends(alloc);
-            match answer {
-                Ok(()) => Outcome::answered(has_appended(&bytes, BODY)),
-                Err(OutOfMemory) => Outcome::refused(bytes.starts_with(&BEFORE)),
+    fn encodes(self, alloc: Global, body: &Body) -> Outcome {
+        call_begins(alloc);
+        let answer = encode_body(alloc, body);
+        call_ends(alloc);
+        self.was_encoded(alloc, &answer, body)
+    }
+
+    fn shortens(self, alloc: Global, body: &Body) -> Outcome {
+        call_begins(alloc);
+        let answer = code_bytes(alloc, body, self.padded);
+        call_ends(alloc);
+        self.was_encoded(alloc, &answer, body)
+    }
+
+    fn appends(self, alloc: Global, body: &Body) -> Outcome {
+        let Some(mut bytes) = vector(alloc, Room::Full) else {
+            return Outcome::NO_SAMPLE;
+        };
+        call_begins(alloc);
+        let answer = append_body(&mut bytes, body);
+        call_ends(alloc);
+        match answer {
+            Ok(()) => Outcome::answered(has_appended(&bytes, self.written)),
+            Err(OutOfMemory) => Outcome::refused(bytes.starts_with(&BEFORE)),
+        }
+    }
+
+    fn shifts(self, alloc: Global, body: &Body) -> Outcome {
+        call_begins(alloc);
+        let answer = shift(alloc, body, Moving::Func, 5);
+        call_ends(alloc);
+        match answer {
+            Ok(moved) => Outcome::answered(is_body(alloc, &moved, self.moved)),
+            Err(fault) => {
+                Outcome::refused(fault == ShiftFault::Memory && is_body(alloc, body, self.written))
             }
         }
-        None => Outcome::NO_SAMPLE,
     }
-}
 
-fn shifts(alloc: Global, body: &Body) -> Outcome {
-    call_begins(alloc);
-    let answer = shift(alloc, body, Moving::Func, 5);
-    call_ends(alloc);
-    match answer {
-        Ok(moved) => Outcome::answered(is_body(alloc, &moved, WITH_FUNC_MOVED)),
-        Err(fault) => Outcome::refused(fault == ShiftFault::Memory && is_body(alloc, body, BODY)),
+    fn clones(self, alloc: Global, body: &Body) -> Outcome {
+        call_begins(alloc);
+        let answer: Result<Body, AllocError> = body.clone();
+        call_ends(alloc);
+        match answer {
+            Ok(copy) => Outcome::answered(is_body(alloc, &copy, self.written)),
+            Err(AllocError) => Outcome::refused(is_body(alloc, body, self.written)),
+        }
     }
-}
 
-fn clones(alloc: Global, body: &Body) -> Outcome {
-    call_begins(alloc);
-    let answer: Result<Body, AllocError> = body.clone();
-    call_ends(alloc);
-    match answer {
-        Ok(copy) => Outcome::answered(is_body(alloc, &copy, BODY)),
-        Err(AllocError) => Outcome::refused(is_body(alloc, body, BODY)),
+    // What looking for references answered, of which these are right.
+    fn was_found(
+        self,
+        alloc: Global,
+        answer: &Result<BTreeSet<Ref>, OutOfMemory>,
+        wanted: &[Ref],
+        body: &Body,
+    ) -> Outcome {
+        match answer {
+            Ok(found) => Outcome::answered(are_refs(found, wanted)),
+            Err(OutOfMemory) => Outcome::refused(is_body(alloc, body, self.written)),
+        }
     }
-}
 
-// The references of the body, in order, and with the type of its function.
-const REFS: [Ref; 5] = [
-    Ref::Ty(3),
-    Ref::Func(5),
-    Ref::Global(7),
-    Ref::Table,
-    Ref::Memory,
-];
+    fn finds(self, alloc: Global, body: &Body) -> Outcome {
+        call_begins(alloc);
+        let answer = refs(alloc, body);
+        call_ends(alloc);
+        self.was_found(alloc, &answer, self.refs, body)
+    }
 
-const USES: [Ref; 6] = [
-    Ref::Ty(3),
-    Ref::Ty(4),
-    Ref::Func(5),
-    Ref::Global(7),
-    Ref::Table,
-    Ref::Memory,
-];
+    fn finds_uses(self, alloc: Global, body: &Body) -> Outcome {
+        call_begins(alloc);
+        let answer = uses(alloc, 4, body);
+        call_ends(alloc);
+        self.was_found(alloc, &answer, self.uses, body)
+    }
 
-fn are_refs(found: &BTreeSet<Ref>, wanted: &[Ref]) -> bool {
-    found.len() == wanted.len() && found.iter().zip(wanted.iter()).all(|(a, b)| a == b)
-}
-
-// `refs`, or `uses` with the type of its function.
-fn finds(alloc: Global, body: &Body, own_type: Option<u32>, wanted: &[Ref]) -> Outcome {
-    call_begins(alloc);
-    let answer = match own_type {
-        Some(own_type) => uses(alloc, own_type, body),
-        None => refs(alloc, body),
-    };
-    call_ends(alloc);
-    match answer {
-        Ok(found) => Outcome::answered(are_refs(&found, wanted)),
-        Err(OutOfMemory) => Outcome::refused(is_body(alloc, body, BODY)),
+    fn looks(self, alloc: Global, body: &Body) -> Outcome {
+        call_begins(alloc);
+        let len = body_len(body);
+        let sum = sum_of_heads(body);
+        let groups = body.groups().len();
+        let movement = expr_movement(body.expr(), Moving::Func, 5);
+        call_ends(alloc);
+        let is_moving = movement
+            == Movement {
+                moves: true,
+                stuck: false,
+            };
+        let is_measured = len.map(|len| len as usize) == Some(self.written.len())
+            && sum.saturating_add(5) == self.written.len() as u64;
+        Outcome::answered(is_measured && groups == 2 && is_moving)
     }
 }
 
@@ -266,121 +395,4 @@ fn finds_many_of(alloc: Global, body: &Body) -> Outcome {
         Ok(found) => Outcome::answered(found.len() == 20),
         Err(OutOfMemory) => Outcome::refused(is_body(alloc, body, REFERRING)),
     }
-}
-
-// The length of the body's expression by its tokens, one after the other.
-fn sum_of_heads(body: &Body) -> u64 {
-    let (tokens, labels) = body.tokens();
-    let mut sum = 0u64;
-    for token in tokens {
-        sum = sum.saturating_add(token.head_len(labels));
-    }
-    sum
-}
-
-fn looks(alloc: Global, body: &Body) -> Outcome {
-    call_begins(alloc);
-    let len = body_len(body);
-    let sum = sum_of_heads(body);
-    let groups = body.groups().len();
-    let movement = expr_movement(body.expr(), Moving::Func, 5);
-    call_ends(alloc);
-    let is_moving = movement
-        == Movement {
-            moves: true,
-            stuck: false,
-        };
-    Outcome::answered(
-        len == Some(BODY.len() as u32)
-            && sum.saturating_add(5) == BODY.len() as u64
-            && groups == 2
-            && is_moving,
-    )
-}
-
-/// A call that is lent an expression.
-#[derive(Clone, Copy)]
-pub(crate) enum OfExpr {
-    /// `encode_expr`.
-    Encode,
-    /// `append_expr`.
-    Append,
-    /// `shift_expr`.
-    Shift,
-    /// `Expr::clone`.
-    Clone,
-    /// `expr_len`.
-    Len,
-}
-
-impl OfExpr {
-    /// The call.
-    pub(crate) fn run(self, alloc: Global) -> Outcome {
-        match read_expr(alloc, EXPR) {
-            Ok(expr) => self.run_on(alloc, &expr),
-            Err(_) => Outcome::NO_SAMPLE,
-        }
-    }
-
-    fn run_on(self, alloc: Global, expr: &Expr) -> Outcome {
-        match self {
-            OfExpr::Encode => encodes_expr(alloc, expr),
-            OfExpr::Append => appends_expr(alloc, expr),
-            OfExpr::Shift => shifts_expr(alloc, expr),
-            OfExpr::Clone => clones_expr(alloc, expr),
-            OfExpr::Len => measures_expr(alloc, expr),
-        }
-    }
-}
-
-fn encodes_expr(alloc: Global, expr: &Expr) -> Outcome {
-    call_begins(alloc);
-    let answer = encode_expr(alloc, expr);
-    call_ends(alloc);
-    match answer {
-        Ok(bytes) => Outcome::answered(bytes.as_slice() == EXPR),
-        Err(fault) => Outcome::refused(fault == EncodeFault::Memory && is_expr(alloc, expr, EXPR)),
-    }
-}
-
-fn appends_expr(alloc: Global, expr: &Expr) -> Outcome {
-    match vector(alloc, Room::Full) {
-        Some(mut bytes) => {
-            call_begins(alloc);
-            let answer = append_expr(&mut bytes, expr);
-            call_ends(alloc);
-            match answer {
-                Ok(()) => Outcome::answered(has_appended(&bytes, EXPR)),
-                Err(OutOfMemory) => Outcome::refused(bytes.starts_with(&BEFORE)),
-            }
-        }
-        None => Outcome::NO_SAMPLE,
-    }
-}
-
-fn shifts_expr(alloc: Global, expr: &Expr) -> Outcome {
-    call_begins(alloc);
-    let answer = shift_expr(alloc, expr, 0);
-    call_ends(alloc);
-    match answer {
-        Ok(moved) => Outcome::answered(is_expr(alloc, &moved, MOVED_EXPR)),
-        Err(fault) => Outcome::refused(fault == ShiftFault::Memory && is_expr(alloc, expr, EXPR)),
-    }
-}
-
-fn clones_expr(alloc: Global, expr: &Expr) -> Outcome {
-    call_begins(alloc);
-    let answer: Result<Expr, AllocError> = expr.clone();
-    call_ends(alloc);
-    match answer {
-        Ok(copy) => Outcome::answered(is_expr(alloc, &copy, EXPR)),
-        Err(AllocError) => Outcome::refused(is_expr(alloc, expr, EXPR)),
-    }
-}
-
-fn measures_expr(alloc: Global, expr: &Expr) -> Outcome {
-    call_begins(alloc);
-    let len = expr_len(expr);
-    call_ends(alloc);
-    Outcome::answered(len == Some(3))
 }

@@ -4,13 +4,12 @@ ghost use Rattle.std.specs.Prelude.{◌≡◌, ◌<◌, ◌-◌, ◌^◌};
 
 use crate::mark::{call_begins, call_ends};
 use crate::outcome::Outcome;
-use crate::sinks::{BEFORE, Room, has_appended, holds, sink};
+use crate::sinks::{BEFORE, Room, has_appended, holds, sink, vector};
 use std::alloc::Global;
 use wk_bytes::{
-    Cursor, Items, Out, OutFault, OutOfMemory, Sections, Sink, Stream, Text, out_u32, put_all,
-    put_s32, put_s33, put_s64, put_u32,
+    Items, Out, OutFault, OutOfMemory, Sink, Stream, Text, out_u32, put_all, put_s32, put_s33,
+    put_s64, put_u32,
 };
-use wk_samples::modules::WHOLE;
 
 /// An integer, put to the end of a vector.
 #[derive(Clone, Copy)]
@@ -63,7 +62,7 @@ impl Integer {
     }
 }
 
-/// What is put to a sink.
+/// What is put to an output.
 #[derive(Clone, Copy, PartialEq, Eq)]
 pub(crate) enum Put {
     /// Bytes, by `put_all`.
@@ -75,12 +74,12 @@ pub(crate) enum Put {
 const MORE: &[u8] = b"more bytes";
 
 impl Put {
-    fn put(self, sink: &mut Sink) -> Result<(), OutFault>
-        requires { ⟦<Sink as Out>⟧.failed sink.old < 2 ^ 64 - 1 }
+    fn put<W: Out>(self, out: &mut W) -> Result<(), OutFault>
+        requires { W.failed out.old < 2 ^ 64 - 1 }
     {
         match self {
-            Put::All => put_all(sink, MORE),
-            Put::U32 => out_u32(sink, 624_485),
+            Put::All => put_all(out, MORE),
+            Put::U32 => out_u32(out, 624_485),
         }
     }
 
@@ -108,6 +107,23 @@ impl Put {
         match answer {
             Ok(()) => Outcome::answered(holds(sink, 0, self.bytes())),
             Err(OutFault) => Outcome::refused(holds(sink, 1, &[])),
+        }
+    }
+
+    /// The call, on a stream over a vector with that much room.
+    pub(crate) fn run_on_stream(self, alloc: Global, room: Room) -> Outcome {
+        let Some(bytes) = vector(alloc, room) else {
+            return Outcome::NO_SAMPLE;
+        };
+        let mut stream = Stream::new(bytes);
+        call_begins(alloc);
+        let answer = self.put(&mut stream);
+        call_ends(alloc);
+        let failures = stream.failures();
+        let bytes = stream.into_inner();
+        match answer {
+            Ok(()) => Outcome::answered(failures == 0 && has_appended(&bytes, self.bytes())),
+            Err(OutFault) => Outcome::refused(failures == 1 && has_appended(&bytes, &[])),
         }
     }
 }
@@ -178,26 +194,4 @@ fn copies_of(alloc: Global, text: &Text) -> Outcome {
         Ok(copy) => Outcome::answered(copy.as_str() == "text"),
         Err(_) => Outcome::refused(text.as_str() == "text"),
     }
-}
-
-// Whether the sections and a cursor find what stands there.
-fn looks(input: &[u8]) -> bool {
-    let mut count = 0;
-    for section in Sections::new(input) {
-        if section.is_ok() && count < 100 {
-            count += 1;
-        }
-    }
-    let mut cursor = Cursor::new(b"\x01a\xe5\x8e\x26");
-    cursor.name() == Ok("a") && cursor.u32() == Ok(624_485) && count == 14
-}
-
-/// `Sections`, `Cursor` and `Stream::new`.
-pub(crate) fn looks_at_bytes(alloc: Global) -> Outcome {
-    let bytes = Vec::new(alloc);
-    call_begins(alloc);
-    let is_right = looks(WHOLE);
-    let stream = Stream::new(bytes);
-    call_ends(alloc);
-    Outcome::answered(is_right && stream.into_inner().is_empty())
 }

@@ -33,8 +33,8 @@ pub(crate) struct Trial {
     pub(crate) wanted: Wanted,
 }
 
-// The one edit of a script.
-fn edit_of(alloc: Global, line: &[u8]) -> Option<Edit> {
+/// The one edit of a script.
+pub(crate) fn edit_of(alloc: Global, line: &[u8]) -> Option<Edit> {
     read_script(alloc, line).ok()?.pop()
 }
 

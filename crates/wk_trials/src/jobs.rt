@@ -2,29 +2,25 @@
 
 ghost use Rattle.std.specs.Prelude.{◌≡◌, ◌<◌, ◌-◌, ◌^◌};
 
-use crate::bodies::NO_MEMORY;
 use crate::mark::{call_begins, call_ends};
 use crate::outcome::Outcome;
 use crate::sinks::{Room, holds, holds_begun, sink};
-use std::alloc::{AllocError, Global};
+use std::alloc::Global;
 use wk_bytes::{Out, Sink};
-use wk_check::Verdict;
-use wk_edit::{
-    RunFault, ScriptFault, Status, edit, edit_in, malformed_line, read_name, read_script,
-    verdict_line,
-};
+use wk_edit::{RunFault, ScriptFault, Status, edit, edit_in, read_script};
 use wk_module::Profile;
 use wk_samples::edits::{
     EDITED, MODULE, REPORT, SCRIPT, VALID, VALID_REPORT, VALID_SCRIPT, VALID_WITH_TYPE,
 };
 use wk_samples::lacking::{NO_BLOCK_TYPE, NO_BLOCK_TYPE_MENDED};
 use wk_samples::moving::{ALL_EDITED, ALL_KEPT, ALL_REPORT, KEPT_REPORT, MOVING, OF_EACH_KIND};
+use wk_samples::wide::{self, WIDE};
 use wk_session::Edit;
 
-/// `read_script`.
+/// `read_script` of a line of each kind.
 pub(crate) fn reads_script(alloc: Global) -> Outcome {
     call_begins(alloc);
-    let answer = read_script(alloc, SCRIPT);
+    let answer = read_script(alloc, OF_EACH_KIND);
     call_ends(alloc);
     match answer {
         Ok(edits) => Outcome::answered(are_edits(&edits)),
@@ -32,15 +28,24 @@ pub(crate) fn reads_script(alloc: Global) -> Outcome {
     }
 }
 
-// Whether these are the edits of the script.
+// Whether these are edits of each kind, in their order.
 fn are_edits(edits: &[Edit]) -> bool {
     matches!(
         edits,
         [
             Edit::Ty(_),
+            Edit::Import(_),
+            Edit::Import(_),
+            Edit::Import(_),
+            Edit::Import(_),
+            Edit::Func { .. },
+            Edit::Body { .. },
+            Edit::Global { .. },
+            Edit::Export(_),
+            Edit::Unexport(_),
+            Edit::SetCustom { .. },
             Edit::StripCustom(_),
-            Edit::StripCustom(_),
-            Edit::Ty(_)
+            Edit::StripAll,
         ]
     )
 }
@@ -109,7 +114,26 @@ pub(crate) const EXTENDED: Job = Job {
     report: b"1 ok\n2 ok\nvalid\n",
 };
 
-/// The same where it has to be valid.
+/// An edit of each kind in that profile.
+pub(crate) const EACH_KIND_WIDE: Job = Job {
+    profile: Profile::Extended,
+    input: WIDE,
+    script: wide::OF_EACH_KIND,
+    keep: false,
+    status: Status::Refused,
+    module: wide::ALL_EDITED,
+    report: wide::ALL_REPORT,
+};
+
+/// The same where the module has to stay valid.
+pub(crate) const EACH_KIND_WIDE_KEPT: Job = Job {
+    keep: true,
+    module: wide::ALL_KEPT,
+    report: wide::KEPT_REPORT,
+    ..EACH_KIND_WIDE
+};
+
+/// The same as [`EXTENDED`] where the module has to be valid.
 pub(crate) const EXTENDED_KEPT: Job = Job {
     keep: true,
     status: Status::Refused,
@@ -188,55 +212,5 @@ impl Job {
                 Outcome::refused(holds(out, 0, &[]) && holds(report, 0, &[]))
             }
         }
-    }
-}
-
-/// A text that is made.
-#[derive(Clone, Copy)]
-pub(crate) enum Line {
-    /// `malformed_line`.
-    Malformed,
-    /// `verdict_line`.
-    Verdict,
-    /// `read_name` of a name in hexadecimal digits.
-    Name,
-}
-
-impl Line {
-    /// The call.
-    pub(crate) fn run(self, alloc: Global) -> Outcome {
-        match self {
-            Line::Malformed => {
-                call_begins(alloc);
-                let answer = malformed_line(alloc, &NO_MEMORY);
-                call_ends(alloc);
-                was_made(answer, "malformed R17 Memory at 0x00000000\n")
-            }
-            Line::Verdict => {
-                call_begins(alloc);
-                let answer = verdict_line(alloc, &Verdict::Valid);
-                call_ends(alloc);
-                was_made(answer, "valid\n")
-            }
-            Line::Name => reads_name(alloc),
-        }
-    }
-}
-
-fn was_made(answer: Result<String, AllocError>, text: &str) -> Outcome {
-    match answer {
-        Ok(line) => Outcome::answered(line.as_str() == text),
-        Err(AllocError) => Outcome::refused(true),
-    }
-}
-
-fn reads_name(alloc: Global) -> Outcome {
-    call_begins(alloc);
-    let answer = read_name(alloc, b"x:6e616d65");
-    call_ends(alloc);
-    match answer {
-        Ok(Some(name)) => Outcome::answered(name.as_str() == "name"),
-        Ok(None) => Outcome::Wrong("it is no name"),
-        Err(AllocError) => Outcome::refused(true),
     }
 }

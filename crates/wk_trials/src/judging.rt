@@ -1,16 +1,21 @@
 //! Calls of `wk_check`.
 
+ghost use Rattle.wk_module.specs.Listed.{AreNumbered, listed};
+
 use crate::bodies::NO_MEMORY;
 use crate::mark::{call_begins, call_ends};
+use crate::modules::Sample;
 use crate::outcome::Outcome;
 use std::alloc::Global;
 use wk_bytes::OutOfMemory;
-use wk_check::{BodyVerdict, Meter, Verdict, Whole, judge, judge_around, judge_body, judge_bytes};
-use wk_module::{Func, Lists, Module, Profile, read};
-use wk_samples::edits::VALID;
+use wk_check::{
+    BodyVerdict, Meter, Verdict, Whole, judge, judge_around, judge_body, judge_bytes,
+    verdict_with_export, verdict_with_global, verdict_with_import, verdict_with_type,
+};
+use wk_module::{Func, Lists, Module};
 
-// The types of the functions that `VALID` defines.
-const TYPES: &[u32] = &[1];
+// The types of the functions that the modules define which have everything that moves.
+const TYPES: &[u32] = &[1, 0];
 
 // What judging a valid module answered.
 fn judged(answer: Result<Verdict, OutOfMemory>) -> Outcome {
@@ -20,9 +25,9 @@ fn judged(answer: Result<Verdict, OutOfMemory>) -> Outcome {
     }
 }
 
-/// `judge` of the valid module that these bytes spell.
-pub(crate) fn judges(alloc: Global, bytes: &[u8]) -> Outcome {
-    match read(alloc, bytes) {
+/// `judge` of a valid module.
+pub(crate) fn judges(alloc: Global, sample: Sample) -> Outcome {
+    match sample.read(alloc) {
         Ok(module) => judges_valid(alloc, &module),
         Err(_) => Outcome::NO_SAMPLE,
     }
@@ -35,10 +40,10 @@ fn judges_valid(alloc: Global, module: &Module) -> Outcome {
     judged(answer)
 }
 
-/// `judge_bytes`.
-pub(crate) fn judges_bytes(alloc: Global) -> Outcome {
+/// `judge_bytes` of a valid module.
+pub(crate) fn judges_bytes(alloc: Global, sample: Sample) -> Outcome {
     call_begins(alloc);
-    let answer = judge_bytes(alloc, VALID, Profile::Core);
+    let answer = judge_bytes(alloc, sample.bytes, sample.profile);
     call_ends(alloc);
     match answer {
         Ok(verdict) => Outcome::answered(verdict == Verdict::Valid),
@@ -46,7 +51,7 @@ pub(crate) fn judges_bytes(alloc: Global) -> Outcome {
     }
 }
 
-/// A call that is lent the valid module.
+/// A call that is lent a valid module in which all that can move does.
 #[derive(Clone, Copy)]
 pub(crate) enum OfValid {
     /// `judge_around`.
@@ -55,12 +60,23 @@ pub(crate) enum OfValid {
     Whole,
     /// `judge_body`, which counts the body also where it refuses.
     Body,
+    /// `verdict_with_global` of a global that is there.
+    WithGlobal,
+    /// `verdict_with_type`, `verdict_with_import` and `verdict_with_export` of what is there.
+    Look,
+}
+
+// The lists of the module.
+fn lists_of(module: &Module) -> Lists<'_>
+    ensures { AreNumbered (listed result) }
+{
+    Lists::of(module.parts(), TYPES)
 }
 
 impl OfValid {
     /// The call.
-    pub(crate) fn run(self, alloc: Global) -> Outcome {
-        match read(alloc, VALID) {
+    pub(crate) fn run(self, alloc: Global, sample: Sample) -> Outcome {
+        match sample.read(alloc) {
             Ok(module) => self.run_on(alloc, &module),
             Err(_) => Outcome::NO_SAMPLE,
         }
@@ -71,12 +87,14 @@ impl OfValid {
             OfValid::Around => judges_around(alloc, module),
             OfValid::Whole => sees_whole(alloc, module),
             OfValid::Body => judges_body(alloc, module),
+            OfValid::WithGlobal => adds_global(alloc, module),
+            OfValid::Look => looks(alloc, module),
         }
     }
 }
 
 fn judges_around(alloc: Global, module: &Module) -> Outcome {
-    let lists = Lists::of(module.parts(), TYPES);
+    let lists = lists_of(module);
     call_begins(alloc);
     let answer = judge_around(alloc, &lists, None);
     call_ends(alloc);
@@ -84,7 +102,7 @@ fn judges_around(alloc: Global, module: &Module) -> Outcome {
 }
 
 fn sees_whole(alloc: Global, module: &Module) -> Outcome {
-    let lists = Lists::of(module.parts(), TYPES);
+    let lists = lists_of(module);
     call_begins(alloc);
     let answer = Whole::of(alloc, lists);
     call_ends(alloc);
@@ -95,10 +113,9 @@ fn sees_whole(alloc: Global, module: &Module) -> Outcome {
 }
 
 fn judges_body(alloc: Global, module: &Module) -> Outcome {
-    let parts = module.parts();
     match (
-        Whole::of(alloc, Lists::of(parts, TYPES)),
-        parts.funcs.as_slice().first(),
+        Whole::of(alloc, lists_of(module)),
+        module.parts().funcs.as_slice().first(),
     ) {
         (Ok(whole), Some(func)) => judges_func(alloc, &whole, func),
         _ => Outcome::NO_SAMPLE,
@@ -114,4 +131,34 @@ fn judges_func(alloc: Global, whole: &Whole<'_>, func: &Func) -> Outcome {
         Ok(verdict) => Outcome::answered(verdict == BodyVerdict::Valid && meter.typed() == 1),
         Err(OutOfMemory) => Outcome::refused(meter.typed() == 1),
     }
+}
+
+fn adds_global(alloc: Global, module: &Module) -> Outcome {
+    let lists = lists_of(module);
+    let Some(global) = module.parts().globals.as_slice().first() else {
+        return Outcome::NO_SAMPLE;
+    };
+    call_begins(alloc);
+    let answer = verdict_with_global(alloc, &lists, global.ty, &global.init);
+    call_ends(alloc);
+    judged(answer)
+}
+
+// A type and an import of a function come once more. An export does not, since another one has its name.
+fn looks(alloc: Global, module: &Module) -> Outcome {
+    let lists = lists_of(module);
+    let (Some(ty), Some(import), Some(export)) = (
+        lists.types.first(),
+        lists.imports.first(),
+        lists.exports.first(),
+    ) else {
+        return Outcome::NO_SAMPLE;
+    };
+    call_begins(alloc);
+    let with_type = verdict_with_type(lists.profile, 0, ty);
+    let with_import = verdict_with_import(&lists, import);
+    let with_export = verdict_with_export(&lists, export);
+    call_ends(alloc);
+    let are_valid = with_type == Verdict::Valid && with_import == Verdict::Valid;
+    Outcome::answered(are_valid && with_export != Verdict::Valid)
 }

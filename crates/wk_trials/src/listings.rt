@@ -3,45 +3,51 @@
 ghost use Rattle.std.specs.Prelude.{◌≡◌};
 
 use crate::mark::{call_begins, call_ends};
+use crate::modules::Sample;
 use crate::outcome::Outcome;
-use crate::sinks::{Room, has_appended, holds, holds_begun, sink, vector};
+use crate::sinks::{Room, holds, holds_begun, sink};
 use std::alloc::Global;
-use wk_bytes::{Out, OutOfMemory, Sink};
-use wk_list::{ListFault, Part, Plain, list, put_header};
-use wk_module::{Module, read};
+use wk_bytes::{Out, Sink};
+use wk_list::{ListFault, Part, Plain, Shape, list};
+use wk_module::{Module, Profile};
 use wk_samples::listings::{CALLING, CODE, DETAILS, HEADERS, USES};
 use wk_samples::modules::WHOLE;
+use wk_samples::wide::{self, WIDE};
 
-/// The module that has such a part, and its lines.
-pub(crate) fn sample(part: Part) -> (&'static [u8], &'static [u8]) {
-    match part {
-        Part::Headers => (WHOLE, HEADERS),
-        Part::Details => (WHOLE, DETAILS),
-        Part::Code => (CALLING, CODE),
-        Part::Uses => (CALLING, USES),
-    }
+/// The module of a profile that has such a part, and its lines.
+pub(crate) fn sample(part: Part, profile: Profile) -> (Sample, &'static [u8]) {
+    let (bytes, lines) = match (profile, part) {
+        (Profile::Core, Part::Headers) => (WHOLE, HEADERS),
+        (Profile::Core, Part::Details) => (WHOLE, DETAILS),
+        (Profile::Core, Part::Code) => (CALLING, CODE),
+        (Profile::Core, Part::Uses) => (CALLING, USES),
+        (Profile::Extended, Part::Headers) => (WIDE, wide::HEADERS),
+        (Profile::Extended, Part::Details) => (WIDE, wide::DETAILS),
+        (Profile::Extended, Part::Code) => (WIDE, wide::CODE),
+        (Profile::Extended, Part::Uses) => (WIDE, wide::USES),
+    };
+    (Sample { profile, bytes }, lines)
 }
 
-/// `list` of a part, to a sink with that much room.
-pub(crate) fn lists(alloc: Global, part: Part, room: Room) -> Outcome {
-    let (input, _) = sample(part);
-    match read(alloc, input) {
-        Ok(module) => lists_of(alloc, &module, part, room),
+/// `list` of a part of a module of a profile, to a sink with that much room.
+pub(crate) fn lists(alloc: Global, part: Part, profile: Profile, room: Room) -> Outcome {
+    let (sample, text) = sample(part, profile);
+    match sample.read(alloc) {
+        Ok(module) => lists_of(alloc, &module, part, text, room),
         Err(_) => Outcome::NO_SAMPLE,
     }
 }
 
-fn lists_of(alloc: Global, module: &Module, part: Part, room: Room) -> Outcome {
+fn lists_of(alloc: Global, module: &Module, part: Part, text: &[u8], room: Room) -> Outcome {
     match (Plain::of(module), sink(alloc, room)) {
-        (Some(plain), Some(sink)) => lists_to(alloc, &plain, part, sink),
+        (Some(plain), Some(sink)) => lists_to(alloc, &plain, part, text, sink),
         _ => Outcome::NO_SAMPLE,
     }
 }
 
-fn lists_to(alloc: Global, plain: &Plain<'_>, part: Part, mut sink: Sink) -> Outcome
+fn lists_to(alloc: Global, plain: &Plain<'_>, part: Part, text: &[u8], mut sink: Sink) -> Outcome
     requires { ⟦<Sink as Out>⟧.failed sink ≡ 0 }
 {
-    let (_, text) = sample(part);
     call_begins(alloc);
     let answer = list(alloc, plain, part, &mut sink);
     call_ends(alloc);
@@ -52,9 +58,9 @@ fn lists_to(alloc: Global, plain: &Plain<'_>, part: Part, mut sink: Sink) -> Out
     }
 }
 
-/// `Plain::of`.
-pub(crate) fn sees_plain(alloc: Global) -> Outcome {
-    match read(alloc, WHOLE) {
+/// `Plain::of`, and the lengths that it tells as a `Shape`.
+pub(crate) fn sees_plain(alloc: Global, sample: Sample) -> Outcome {
+    match sample.read(alloc) {
         Ok(module) => sees_plain_of(alloc, &module),
         Err(_) => Outcome::NO_SAMPLE,
     }
@@ -63,23 +69,7 @@ pub(crate) fn sees_plain(alloc: Global) -> Outcome {
 fn sees_plain_of(alloc: Global, module: &Module) -> Outcome {
     call_begins(alloc);
     let plain = Plain::of(module);
+    let len = plain.as_ref().map(|plain| plain.section_len(9));
     call_ends(alloc);
-    Outcome::answered(plain.is_some())
-}
-
-/// `put_header` to a full vector.
-pub(crate) fn puts_header(alloc: Global) -> Outcome {
-    match vector(alloc, Room::Full) {
-        Some(mut text) => {
-            call_begins(alloc);
-            let answer = put_header(&mut text, 11, 10, 20);
-            call_ends(alloc);
-            let line = b"    Data start=0x0000000a end=0x0000001e size=0x00000014";
-            match answer {
-                Ok(()) => Outcome::answered(has_appended(&text, line)),
-                Err(OutOfMemory) => Outcome::refused(true),
-            }
-        }
-        None => Outcome::NO_SAMPLE,
-    }
+    Outcome::answered(matches!(len, Some(8 | 9)))
 }

@@ -1,26 +1,35 @@
 //! Calls of the libraries where memory may be wanting, one scenario a word.
 //!
-//! - `wk_trials SCENARIO` prints `fine`, `memory`, `memory: PLACE` or `wrong: ..`. Between two allocations of agreed sizes it makes the one
+//! - `wk_trials SCENARIO` prints `fine`, `fine: COUNTS`, `memory`, `memory: PLACE` or `wrong: ..`. Between two allocations of agreed sizes it makes the one
 //!   call that it is about, so that a library loaded before it can refuse each allocation of that call in turn
 //!   (`tests/refusals`).
 //! - `wk_trials` runs each scenario once and prints a line for each.
 #![tactic(auto)]
 
+mod answers;
 mod bodies;
 mod bytes;
+mod carrying;
 mod changes;
+mod cursors;
 mod edits;
+mod exprs;
 mod jobs;
 mod judging;
+mod lines;
 mod listings;
+mod many;
 mod mark;
 mod modules;
 mod outcome;
 mod runs;
 mod same;
 mod scenario;
+mod sections;
 mod sessions;
 mod sinks;
+mod steps;
+mod strips;
 mod table;
 
 use crate::outcome::Outcome;
@@ -52,7 +61,9 @@ fn run_one(rt: &(impl AllocGlobal + Print), name: &str) -> Result<ExitCode> {
     let outcome = scenario.run(rt.alloc());
     println!(rt; "{outcome}")?;
     Ok(match outcome {
-        Outcome::Fine | Outcome::Memory | Outcome::MemoryOf(_) => ExitCode::SUCCESS,
+        Outcome::Fine | Outcome::FineOf(_) | Outcome::Memory | Outcome::MemoryOf(_) => {
+            ExitCode::SUCCESS
+        }
         Outcome::Wrong(_) => ExitCode::FAILURE,
     })
 }

@@ -1,157 +1,173 @@
-//! Calls of `wk_module` and `wk_session` on modules.
+//! Calls of `wk_module` on modules.
 
 use crate::bodies::NO_MEMORY;
 use crate::mark::{call_begins, call_ends};
 use crate::outcome::Outcome;
 use std::alloc::Global;
-use wk_bytes::{RawSection, ReadFault};
+use wk_bytes::ReadFault;
 use wk_module::{
-    CodeReader, EncodeFault, Kind, Lists, Module, Parts, Profile, Scratch, SectionReader,
-    ShiftFault, custom_len, encode, encode_custom, encode_section, encoded_len, read, section_len,
-    shift_lists,
+    EncodeFault, Kind, Module, MovedLists, Parts, Profile, ShiftFault, encode, encoded_len, read,
+    read_in, shift_lists,
 };
-use wk_samples::edits::{MODULE, WITHOUT_CUSTOMS};
-use wk_samples::modules::{ALL_OF_ONE, OF_WHOLE, TWO_CODES, WHOLE};
-use wk_strip::strip_bytes;
+use wk_samples::edits::{MODULE, VALID};
+use wk_samples::modules::{ALL_OF_ONE, TWO_CODES, WHOLE};
+use wk_samples::moving::MOVING;
+use wk_samples::wide::WIDE;
 
-// Whether the module is written as these bytes.
-fn is_written_as(alloc: Global, module: &Module, bytes: &[u8]) -> bool {
+/// The bytes of a module, and the profile that it is read in.
+#[derive(Clone, Copy)]
+pub(crate) struct Sample {
+    /// The profile.
+    pub(crate) profile: Profile,
+    /// The written form of the module.
+    pub(crate) bytes: &'static [u8],
+}
+
+/// Types and custom sections.
+pub(crate) const OF_TYPES: Sample = Sample {
+    profile: Profile::Core,
+    bytes: MODULE,
+};
+
+/// Every section.
+pub(crate) const OF_ALL: Sample = Sample {
+    profile: Profile::Core,
+    bytes: WHOLE,
+};
+
+/// A valid module.
+pub(crate) const OF_VALID: Sample = Sample {
+    profile: Profile::Core,
+    bytes: VALID,
+};
+
+/// A valid module in which all that can move does.
+pub(crate) const OF_MOVING: Sample = Sample {
+    profile: Profile::Core,
+    bytes: MOVING,
+};
+
+/// Two functions.
+pub(crate) const OF_TWO: Sample = Sample {
+    profile: Profile::Core,
+    bytes: TWO_CODES,
+};
+
+/// A valid module of the wider profile, with every section.
+pub(crate) const OF_WIDE: Sample = Sample {
+    profile: Profile::Extended,
+    bytes: WIDE,
+};
+
+/// Whether the module is written as these bytes.
+pub(crate) fn is_written_as(alloc: Global, module: &Module, bytes: &[u8]) -> bool {
     match encode(alloc, module) {
         Ok(written) => written.as_slice() == bytes,
         Err(_) => false,
     }
 }
 
-/// `read` of the module whose written form these bytes are.
-pub(crate) fn reads(alloc: Global, bytes: &[u8]) -> Outcome {
-    call_begins(alloc);
-    let answer = read(alloc, bytes);
-    call_ends(alloc);
-    match &answer {
-        Ok(module) => Outcome::answered(is_written_as(alloc, module, bytes)),
-        Err(fault) => Outcome::refused(*fault == NO_MEMORY),
-    }
-}
-
-/// `encode` of that module.
-pub(crate) fn encodes(alloc: Global, bytes: &[u8]) -> Outcome {
-    match read(alloc, bytes) {
-        Ok(module) => encodes_as(alloc, &module, bytes),
-        Err(_) => Outcome::NO_SAMPLE,
-    }
-}
-
-fn encodes_as(alloc: Global, module: &Module, bytes: &[u8]) -> Outcome {
-    call_begins(alloc);
-    let answer = encode(alloc, module);
-    call_ends(alloc);
-    encoded(alloc, answer, bytes, module, bytes)
-}
-
-// What an encoder answered, where these bytes are right; the module stays the one that the input spells.
-fn encoded(
+/// What an encoder answered, where these bytes are right; the module stays the one that the input spells.
+pub(crate) fn was_encoded(
     alloc: Global,
-    answer: Result<Vec<u8>, EncodeFault>,
-    bytes: &[u8],
+    answer: Result<bool, EncodeFault>,
     module: &Module,
     input: &[u8],
 ) -> Outcome {
     match answer {
-        Ok(written) => Outcome::answered(written.as_slice() == bytes),
+        Ok(is_right) => Outcome::answered(is_right),
         Err(EncodeFault::Memory) => Outcome::refused(is_written_as(alloc, module, input)),
         Err(EncodeFault::TooLarge) => Outcome::Wrong("a small module is too large"),
     }
 }
 
-/// A call that is lent the module with every section.
-#[derive(Clone, Copy)]
-pub(crate) enum OfWhole {
-    /// `encode_section` of its imports.
-    Section,
-    /// `encode_custom` of its first custom section.
-    Custom,
-    /// `encoded_len`, `section_len` and `custom_len`.
-    Lengths,
-}
+impl Sample {
+    /// The module: by `read`, or by `read_in` of the wider profile.
+    pub(crate) fn read(self, alloc: Global) -> Result<Module, ReadFault> {
+        match self.profile {
+            Profile::Core => read(alloc, self.bytes),
+            profile => read_in(alloc, self.bytes, profile),
+        }
+    }
 
-impl OfWhole {
-    /// The call.
-    pub(crate) fn run(self, alloc: Global) -> Outcome {
-        match read(alloc, WHOLE) {
-            Ok(module) => self.run_on(alloc, &module),
+    /// The reading of the module.
+    pub(crate) fn reads(self, alloc: Global) -> Outcome {
+        call_begins(alloc);
+        let answer = self.read(alloc);
+        call_ends(alloc);
+        match &answer {
+            Ok(module) => Outcome::answered(is_written_as(alloc, module, self.bytes)),
+            Err(fault) => Outcome::refused(*fault == NO_MEMORY),
+        }
+    }
+
+    /// `encode` of the module.
+    pub(crate) fn encodes(self, alloc: Global) -> Outcome {
+        match self.read(alloc) {
+            Ok(module) => self.encodes_module(alloc, &module),
             Err(_) => Outcome::NO_SAMPLE,
         }
     }
 
-    fn run_on(self, alloc: Global, module: &Module) -> Outcome {
-        match self {
-            OfWhole::Section => encodes_imports(alloc, module),
-            OfWhole::Custom => encodes_first_custom(alloc, module),
-            OfWhole::Lengths => measures(alloc, module),
+    fn encodes_module(self, alloc: Global, module: &Module) -> Outcome {
+        call_begins(alloc);
+        let answer = encode(alloc, module);
+        call_ends(alloc);
+        let answer = answer.map(|bytes| bytes.as_slice() == self.bytes);
+        was_encoded(alloc, answer, module, self.bytes)
+    }
+
+    /// `Module::of`, `parts`, `into_parts` and `encoded_len`.
+    pub(crate) fn settles(self, alloc: Global) -> Outcome {
+        match self.read(alloc) {
+            Ok(module) => self.settles_module(alloc, module),
+            Err(_) => Outcome::NO_SAMPLE,
         }
     }
-}
 
-fn encodes_imports(alloc: Global, module: &Module) -> Outcome {
-    let lists = Lists::of(module.parts(), &[]);
-    call_begins(alloc);
-    let answer = encode_section(alloc, &lists, 2);
-    call_ends(alloc);
-    encoded(alloc, answer, OF_WHOLE[1].bytes, module, WHOLE)
-}
-
-fn encodes_first_custom(alloc: Global, module: &Module) -> Outcome {
-    let Some(custom) = module.parts().customs.as_slice().first() else {
-        return Outcome::NO_SAMPLE;
-    };
-    call_begins(alloc);
-    let answer = encode_custom(alloc, custom);
-    call_ends(alloc);
-    encoded(alloc, answer, b"\x01a\xaa", module, WHOLE)
-}
-
-fn measures(alloc: Global, module: &Module) -> Outcome {
-    let Some(custom) = module.parts().customs.as_slice().first() else {
-        return Outcome::NO_SAMPLE;
-    };
-    call_begins(alloc);
-    let len = encoded_len(module);
-    let imports = section_len(module, 2);
-    let bytes = custom_len(custom);
-    call_ends(alloc);
-    Outcome::answered(len == Some(WHOLE.len() as u32) && imports == Some(30) && bytes == Some(3))
-}
-
-/// `Module::of`.
-pub(crate) fn settles(alloc: Global) -> Outcome {
-    match read(alloc, WHOLE) {
-        Ok(module) => {
-            let module = settled(alloc, module);
-            Outcome::answered(is_written_as(alloc, &module, WHOLE))
-        }
-        Err(_) => Outcome::NO_SAMPLE,
+    fn settles_module(self, alloc: Global, module: Module) -> Outcome {
+        call_begins(alloc);
+        let types = module.parts().types.len();
+        let module = Module::of(module.into_parts());
+        let len = encoded_len(&module);
+        call_ends(alloc);
+        let is_measured = len.map(|len| len as usize) == Some(self.bytes.len());
+        let is_kept = is_measured && module.parts().types.len() == types;
+        Outcome::answered(is_kept && is_written_as(alloc, &module, self.bytes))
     }
 }
 
-fn settled(alloc: Global, module: Module) -> Module {
-    call_begins(alloc);
-    let module = Module::of(module.into_parts());
-    call_ends(alloc);
-    module
+// Each kind, and how many lists of a module of one item each move with what it names.
+const MOVES: [(Kind, usize); 4] = [
+    (Kind::Func, 3),
+    (Kind::Table, 1),
+    (Kind::Memory, 1),
+    (Kind::Global, 4),
+];
+
+// How many lists moved.
+fn count_of(moved: &MovedLists) -> usize {
+    let lists = [
+        moved.globals.is_some(),
+        moved.exports.is_some(),
+        moved.start.is_some(),
+        moved.elems.is_some(),
+        moved.datas.is_some(),
+    ];
+    lists.iter().filter(|is_moved| **is_moved).count()
 }
 
-/// `strip_bytes`.
-pub(crate) fn strips(alloc: Global) -> Outcome {
-    call_begins(alloc);
-    let answer = strip_bytes(alloc, MODULE, Profile::Core, None);
-    call_ends(alloc);
-    match &answer {
-        Ok(stripped) => Outcome::answered(stripped.as_slice() == WITHOUT_CUSTOMS),
-        Err(fault) => Outcome::refused(*fault == NO_MEMORY),
+// Moves what names each kind, up to the first move that is refused. Says whether the lists are right.
+fn shift_each(alloc: Global, parts: &Parts) -> Result<bool, ShiftFault> {
+    let mut are_right = true;
+    for (kind, wanted) in MOVES {
+        let moved = shift_lists(alloc, parts, kind, 1)?;
+        are_right = are_right && count_of(&moved) == wanted;
     }
+    Ok(are_right)
 }
 
-/// `shift_lists` of globals, which moves four lists.
+/// `shift_lists` of each kind, which moves all lists that there are.
 pub(crate) fn shifts_lists(alloc: Global) -> Outcome {
     match read(alloc, ALL_OF_ONE) {
         Ok(module) => shifts_lists_of(alloc, &module),
@@ -161,13 +177,10 @@ pub(crate) fn shifts_lists(alloc: Global) -> Outcome {
 
 fn shifts_lists_of(alloc: Global, module: &Module) -> Outcome {
     call_begins(alloc);
-    let answer = shift_lists(alloc, module.parts(), Kind::Global, 1);
+    let answer = shift_each(alloc, module.parts());
     call_ends(alloc);
     match answer {
-        Ok(moved) => {
-            let are_two = moved.globals.is_some() && moved.exports.is_some();
-            Outcome::answered(are_two && moved.elems.is_some() && moved.datas.is_some())
-        }
+        Ok(is_right) => Outcome::answered(is_right),
         Err(fault) => {
             let is_memory = fault == ShiftFault::Memory;
             Outcome::refused(is_memory && is_written_as(alloc, module, ALL_OF_ONE))
@@ -175,70 +188,20 @@ fn shifts_lists_of(alloc: Global, module: &Module) -> Outcome {
     }
 }
 
-type UpToCode<'a> = Result<(SectionReader<'a>, Option<RawSection<'a>>), ReadFault>;
-
-fn up_to_code(alloc: Global, scratch: &mut Scratch) -> UpToCode<'static> {
-    SectionReader::new(alloc, TWO_CODES, Profile::Core).up_to_code(alloc, scratch)
-}
-
-/// `SectionReader::up_to_code`.
-pub(crate) fn reads_up_to_code(alloc: Global) -> Outcome {
-    let mut scratch = Scratch::new(alloc);
-    call_begins(alloc);
-    let answer = up_to_code(alloc, &mut scratch);
-    call_ends(alloc);
-    match &answer {
-        Ok((reader, section)) => {
-            Outcome::answered(reader.lists().funcs.len() == 2 && section.is_some())
-        }
-        Err(fault) => Outcome::refused(*fault == NO_MEMORY),
-    }
-}
-
-/// `SectionReader::to_end`, behind the codes.
-pub(crate) fn reads_to_end(alloc: Global) -> Outcome {
-    let mut scratch = Scratch::new(alloc);
-    match up_to_code(alloc, &mut scratch) {
-        Ok((reader, _)) => ends(alloc, reader, &mut scratch),
-        Err(_) => Outcome::NO_SAMPLE,
-    }
-}
-
-fn ends(alloc: Global, reader: SectionReader<'_>, scratch: &mut Scratch) -> Outcome {
-    call_begins(alloc);
-    let answer = reader.to_end(alloc, scratch);
-    call_ends(alloc);
-    match &answer {
-        Ok(reader) => Outcome::answered(reader.lists().datas.len() == 1),
-        Err(fault) => Outcome::refused(*fault == NO_MEMORY),
-    }
-}
-
-/// `CodeReader::next`.
-pub(crate) fn reads_code(alloc: Global) -> Outcome {
-    match up_to_code(alloc, &mut Scratch::new(alloc)) {
-        Ok((_, section)) => match section {
-            Some(section) => reads_code_of(alloc, &section),
-            None => Outcome::NO_SAMPLE,
+/// `MovedLists::put_into`, which takes no memory.
+pub(crate) fn puts_lists(alloc: Global) -> Outcome {
+    match (read(alloc, ALL_OF_ONE), read(alloc, ALL_OF_ONE)) {
+        (Ok(module), Ok(other)) => match shift_lists(alloc, other.parts(), Kind::Global, 1) {
+            Ok(moved) => puts_lists_into(alloc, module, moved),
+            Err(_) => Outcome::NO_SAMPLE,
         },
-        Err(_) => Outcome::NO_SAMPLE,
+        _ => Outcome::NO_SAMPLE,
     }
 }
 
-fn reads_code_of(alloc: Global, section: &RawSection<'_>) -> Outcome {
-    match CodeReader::open(section, 2) {
-        Ok(mut codes) => reads_next(alloc, &mut codes),
-        Err(_) => Outcome::NO_SAMPLE,
-    }
-}
-
-fn reads_next(alloc: Global, codes: &mut CodeReader<'_>) -> Outcome {
-    let mut scratch = Scratch::new(alloc);
+fn puts_lists_into(alloc: Global, module: Module, moved: MovedLists) -> Outcome {
     call_begins(alloc);
-    let answer = codes.next(alloc, &mut scratch, Profile::Core);
+    let parts = moved.put_into(module.into_parts());
     call_ends(alloc);
-    match &answer {
-        Ok(body) => Outcome::answered(body.tokens().0.len() == 2),
-        Err(fault) => Outcome::refused(*fault == NO_MEMORY),
-    }
+    Outcome::answered(parts.exports.len() == 2 && parts.start == Some(1))
 }

@@ -2,12 +2,15 @@
 ghost use Rattle.std.specs.Prelude.{◌≡◌, ◌↔◌, IsTrue};
 
 use std::fmt;
+use wk_session::Work;
 
 /// What the call under test did.
 #[derive(Clone, Copy, Debug, PartialEq, Eq)]
 pub(crate) enum Outcome {
     /// It answered, and rightly.
     Fine,
+    /// It answered so many counts, and rightly.
+    FineOf(Work),
     /// It answered want of memory, and all was as before.
     Memory,
     /// It answered want of memory in that place, and all is as it has to be then.
@@ -47,6 +50,17 @@ impl fmt::Display for Outcome {
     fn fmt<W: fmt::Write>(&self, f: &mut fmt::Formatter<W>) -> fmt::Result {
         match self {
             Outcome::Fine => f.write_str("fine"),
+            Outcome::FineOf(work) => {
+                let Work {
+                    typed,
+                    encoded,
+                    sections,
+                } = work;
+                write!(
+                    f,
+                    "fine: typed={typed} encoded={encoded} sections={sections}"
+                )
+            }
             Outcome::Memory => f.write_str("memory"),
             Outcome::MemoryOf(place) => write!(f, "memory: {place}"),
             Outcome::Wrong(what) => write!(f, "wrong: {what}"),

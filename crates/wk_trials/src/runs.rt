@@ -4,22 +4,25 @@ use crate::mark::{call_begins, call_ends};
 use crate::outcome::Outcome;
 use crate::same::{are_same, is_session_of};
 use std::alloc::Global;
-use wk_bytes::OutOfMemory;
+use wk_bytes::{OutOfMemory, ReadFault};
 use wk_edit::read_script;
 use wk_module::Profile;
 use wk_samples::edits::{EDITED, MODULE, SCRIPT};
 use wk_samples::moving::{ALL_EDITED, ALL_KEPT, MOVING, OF_EACH_KIND};
+use wk_samples::wide::{self, WIDE};
 use wk_session::{Edit, EditFault, Reply, Session};
 
 /// Edits of a module.
 #[derive(Clone, Copy)]
 pub(crate) struct Edits {
+    /// How the module is read.
+    pub(crate) profile: Profile,
     /// The written form of the module.
-    input: &'static [u8],
+    pub(crate) input: &'static [u8],
     /// The edits, as a script.
-    script: &'static [u8],
+    pub(crate) script: &'static [u8],
     /// Whether the module has to stay valid.
-    keep: bool,
+    pub(crate) keep: bool,
     /// How many of them are refused where memory is ample.
     refusals: usize,
     /// The written form of the module that they make then.
@@ -28,6 +31,7 @@ pub(crate) struct Edits {
 
 /// Four edits, one of them of a custom section that is not there.
 pub(crate) const EDITS: Edits = Edits {
+    profile: Profile::Core,
     input: MODULE,
     script: SCRIPT,
     keep: false,
@@ -37,6 +41,7 @@ pub(crate) const EDITS: Edits = Edits {
 
 /// An edit of each kind.
 pub(crate) const EACH_KIND: Edits = Edits {
+    profile: Profile::Core,
     input: MOVING,
     script: OF_EACH_KIND,
     keep: false,
@@ -52,16 +57,36 @@ pub(crate) const EACH_KIND_KEPT: Edits = Edits {
     ..EACH_KIND
 };
 
+/// An edit of each kind in the wider profile.
+pub(crate) const EACH_KIND_WIDE: Edits = Edits {
+    profile: Profile::Extended,
+    input: WIDE,
+    script: wide::OF_EACH_KIND,
+    keep: false,
+    refusals: 0,
+    made: wide::ALL_EDITED,
+};
+
+/// The same, two of which would make the module invalid.
+pub(crate) const EACH_KIND_WIDE_KEPT: Edits = Edits {
+    keep: true,
+    refusals: 2,
+    made: wide::ALL_KEPT,
+    ..EACH_KIND_WIDE
+};
+
 impl Edits {
     /// The run of them.
     pub(crate) fn run(&self, alloc: Global) -> Outcome {
-        match (
-            Session::open(alloc, self.input),
-            read_script(alloc, self.script),
-        ) {
+        match (self.open(alloc), read_script(alloc, self.script)) {
             (Ok(mut session), Ok(edits)) => self.run_in(alloc, &mut session, &edits),
             _ => Outcome::NO_SAMPLE,
         }
+    }
+
+    /// A session of the module.
+    pub(crate) fn open(&self, alloc: Global) -> Result<Session, ReadFault> {
+        Session::open_in(alloc, self.input, self.profile)
     }
 
     fn run_in(&self, alloc: Global, session: &mut Session, edits: &[Edit]) -> Outcome {
@@ -82,7 +107,7 @@ impl Edits {
     }
 
     fn is_session_of(&self, alloc: Global, session: &Session, bytes: &[u8]) -> bool {
-        is_session_of(alloc, session, Profile::Core, bytes)
+        is_session_of(alloc, session, self.profile, bytes)
     }
 
     // What the run came to, beside a session apart.
@@ -93,7 +118,7 @@ impl Edits {
         edits: &[Edit],
         replies: &[Reply],
     ) -> Outcome {
-        match Session::open(alloc, self.input) {
+        match self.open(alloc) {
             Ok(mut apart) => self.after_run(alloc, session, edits, replies, &mut apart),
             Err(_) => Outcome::NO_SAMPLE,
         }
@@ -114,10 +139,12 @@ impl Edits {
         if wants == 0 {
             let is_made = self.is_session_of(alloc, session, self.made);
             Outcome::answered(are_answers && refusals == self.refusals && is_made)
-        } else if wants == 1 && are_answers && are_same(alloc, session, apart) {
+        } else if !(are_answers && are_same(alloc, session, apart)) {
+            Outcome::Wrong("other edits suffered from a refusal")
+        } else if wants == 1 {
             Outcome::MemoryOf("an edit")
         } else {
-            Outcome::Wrong("other edits suffered from a refusal")
+            Outcome::MemoryOf("edits")
         }
     }
 
@@ -130,18 +157,19 @@ impl Edits {
             if *reply == Err(EditFault::Memory) {
                 wants = wants.saturating_add(1);
             } else {
-                let reply_apart = self.reply_apart(apart, edit);
+                let reply_apart = self.reply(apart, edit);
                 are_answers = are_answers && reply_apart == *reply;
             }
         }
         (wants, are_answers)
     }
 
-    fn reply_apart(&self, apart: &mut Session, edit: &Edit) -> Reply {
+    /// What a session replies to an edit.
+    pub(crate) fn reply(&self, session: &mut Session, edit: &Edit) -> Reply {
         if self.keep {
-            apart.apply_kept(edit)
+            session.apply_kept(edit)
         } else {
-            apart.apply(edit)
+            session.apply(edit)
         }
     }
 }

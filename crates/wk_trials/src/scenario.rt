@@ -1,16 +1,22 @@
 //! The scenarios and their names.
 
-use crate::bodies::{OfBody, OfExpr};
+use crate::answers::Answer;
+use crate::bodies::{Code, OfBody, ReadCode};
 use crate::bytes::{Holder, Integer, Put};
+use crate::cursors::Look;
 use crate::edits::{TooLarge, Trial};
-use crate::jobs::{Job, Line};
+use crate::exprs::{OfExpr, ReadExpr};
+use crate::jobs::Job;
 use crate::judging::OfValid;
-use crate::modules::OfWhole;
+use crate::lines::Line;
+use crate::modules::Sample;
 use crate::outcome::Outcome;
 use crate::runs::Edits;
+use crate::sections::{OfWhole, Walk};
 use crate::sinks::Room;
+use crate::strips::Strip;
 use crate::table::tables;
-use crate::{bodies, bytes, jobs, judging, listings, modules, sessions};
+use crate::{bodies, carrying, jobs, judging, listings, many, modules, runs, sessions};
 use std::alloc::Global;
 use wk_list::Part;
 use wk_module::Profile;
@@ -22,78 +28,80 @@ pub(crate) enum Scenario {
     Put(Integer),
     /// Bytes or an integer to a `Sink`.
     PutOut(Put, Room),
+    /// Bytes or an integer to a `Stream`.
+    PutStream(Put, Room),
     /// A call of `Items` or `Text`.
     Hold(Holder),
-    /// `Sections`, `Cursor` and `Stream::new`.
-    LookAtBytes,
-    /// `read_body`.
-    ReadBody,
-    /// `Scratch::read_body` in a room that was used before.
-    ReadBodyAgain,
-    /// `read_expr`.
-    ReadExpr,
-    /// `next_expr_in`.
-    NextExpr,
-    /// `Scratch::next_expr`.
-    NextExprInScratch,
+    /// Calls of `wk_bytes` that take no memory.
+    Look(Look),
+    /// A call that reads a code.
+    ReadCode(ReadCode, Code),
     /// A call that is lent a body.
-    OfBody(OfBody),
+    OfBody(OfBody, Code),
     /// `refs` of many functions.
     ManyRefs,
+    /// A call that reads an expression.
+    ReadExpr(ReadExpr, Profile),
     /// A call that is lent an expression.
     OfExpr(OfExpr),
-    /// `read` of a module.
-    Read(&'static [u8]),
-    /// `encode` of a module.
-    Encode(&'static [u8]),
+    /// `read` or `read_in`.
+    Read(Sample),
+    /// `encode`.
+    Encode(Sample),
+    /// `Module::of`, `parts`, `into_parts` and `encoded_len`.
+    Settle(Sample),
     /// A call that is lent the module with every section.
-    OfWhole(OfWhole),
-    /// `Module::of`.
-    Settle,
-    /// `strip_bytes`.
-    Strip,
+    OfWhole(OfWhole, Profile),
     /// `shift_lists`.
     ShiftLists,
-    /// `SectionReader::up_to_code`.
-    UpToCode,
-    /// `SectionReader::to_end`.
-    ToEnd,
-    /// `CodeReader::next`.
-    NextCode,
+    /// `MovedLists::put_into`.
+    PutLists,
+    /// A call of `SectionReader` or `CodeReader`.
+    Walk(Walk, Sample),
     /// `judge` of a valid module.
-    Judge(&'static [u8]),
-    /// `judge_bytes`.
-    JudgeBytes,
-    /// A call that is lent the valid module.
-    OfValid(OfValid),
+    Judge(Sample),
+    /// `judge_bytes` of a valid module.
+    JudgeBytes(Sample),
+    /// A call that is lent a valid module in which all that can move does.
+    OfValid(OfValid, Sample),
+    /// `carry` and `carry_moved`.
+    Carry,
     /// `Plain::of`.
-    Plain,
-    /// `put_header`.
-    PutHeader,
+    Plain(Sample),
     /// `list` of a part to a `Sink`.
-    List(Part, Room),
-    /// `Session::open_in` of a valid module.
-    Open(&'static [u8], Profile),
+    List(Part, Profile, Room),
+    /// `strip_bytes`.
+    Strip(Strip),
+    /// `Session::open` or `Session::open_in` of a valid module.
+    Open(Sample),
     /// `Session::verdict`, `Session::encoded_len` and `Session::uses`.
-    Tell,
+    Tell(Sample),
     /// `Session::list` of a part to a `Sink`.
-    ListSession(Part, Room),
+    ListSession(Part, Profile, Room),
     /// `Session::write` to a `Sink`.
-    Write(Room),
+    Write(Sample, Room),
     /// `Session::apply` of an edit.
     Apply(Trial),
     /// `Session::apply_kept` of an edit.
     ApplyKept(Trial),
     /// `Session::apply` of an edit that makes the module too long.
     ApplyLarge(TooLarge),
+    /// `Session::apply` of the edit of that number, from 0, among one of each kind in the wider profile, behind those in front of it.
+    Step(usize),
+    /// The same by `Session::apply_kept`.
+    StepKept(usize),
+    /// `Session::apply` of a line to a module of 1,000 functions.
+    ApplyMany(&'static [u8]),
     /// `Session::run` or `Session::run_kept`.
     Run(Edits),
     /// `read_script`.
     ReadScript,
     /// A line or a name.
     Line(Line),
-    /// `edit` onto two outputs.
+    /// `edit` or `edit_in` onto two outputs.
     Edit(Job, Room, Room),
+    /// A call of `wk_answers`.
+    Answer(Answer),
 }
 
 /// A scenario with its name, which ends in `-in-room` where it takes no memory.
@@ -125,42 +133,53 @@ impl Scenario {
         match self {
             Scenario::Put(integer) => integer.run(alloc),
             Scenario::PutOut(put, room) => put.run(alloc, room),
+            Scenario::PutStream(put, room) => put.run_on_stream(alloc, room),
             Scenario::Hold(holder) => holder.run(alloc),
-            Scenario::LookAtBytes => bytes::looks_at_bytes(alloc),
-            Scenario::ReadBody => bodies::reads(alloc),
-            Scenario::ReadBodyAgain => bodies::reads_again(alloc),
-            Scenario::ReadExpr => bodies::reads_expr(alloc),
-            Scenario::NextExpr => bodies::takes_expr(alloc),
-            Scenario::NextExprInScratch => bodies::takes_expr_in_room(alloc),
-            Scenario::OfBody(call) => call.run(alloc),
+            Scenario::Look(look) => look.run(alloc),
+            Scenario::ReadCode(call, code) => call.run(alloc, code),
+            Scenario::OfBody(call, code) => call.run(alloc, code),
             Scenario::ManyRefs => bodies::finds_many(alloc),
+            Scenario::ReadExpr(call, profile) => call.run(alloc, profile),
             Scenario::OfExpr(call) => call.run(alloc),
-            Scenario::Read(bytes) => modules::reads(alloc, bytes),
-            Scenario::Encode(bytes) => modules::encodes(alloc, bytes),
-            Scenario::OfWhole(call) => call.run(alloc),
-            Scenario::Settle => modules::settles(alloc),
-            Scenario::Strip => modules::strips(alloc),
+            Scenario::Read(sample) => sample.reads(alloc),
+            Scenario::Encode(sample) => sample.encodes(alloc),
+            Scenario::Settle(sample) => sample.settles(alloc),
+            Scenario::OfWhole(call, profile) => call.run(alloc, profile),
             Scenario::ShiftLists => modules::shifts_lists(alloc),
-            Scenario::UpToCode => modules::reads_up_to_code(alloc),
-            Scenario::ToEnd => modules::reads_to_end(alloc),
-            Scenario::NextCode => modules::reads_code(alloc),
-            Scenario::Judge(bytes) => judging::judges(alloc, bytes),
-            Scenario::JudgeBytes => judging::judges_bytes(alloc),
-            Scenario::OfValid(call) => call.run(alloc),
-            Scenario::Plain => listings::sees_plain(alloc),
-            Scenario::PutHeader => listings::puts_header(alloc),
-            Scenario::List(part, room) => listings::lists(alloc, part, room),
-            Scenario::Open(bytes, profile) => sessions::opens(alloc, bytes, profile),
-            Scenario::Tell => sessions::tells(alloc),
-            Scenario::ListSession(part, room) => sessions::lists(alloc, part, room),
-            Scenario::Write(room) => sessions::writes(alloc, room),
+            Scenario::PutLists => modules::puts_lists(alloc),
+            Scenario::Walk(walk, sample) => walk.run(alloc, sample),
+            Scenario::Judge(sample) => judging::judges(alloc, sample),
+            Scenario::JudgeBytes(sample) => judging::judges_bytes(alloc, sample),
+            Scenario::OfValid(call, sample) => call.run(alloc, sample),
+            Scenario::Carry => carrying::carries(alloc),
+            Scenario::Plain(sample) => listings::sees_plain(alloc, sample),
+            Scenario::List(part, profile, room) => listings::lists(alloc, part, profile, room),
+            Scenario::Strip(strip) => strip.run(alloc),
+            _ => self.run_above(alloc),
+        }
+    }
+
+    // Runs a call of sessions or of what stands above them.
+    fn run_above(self, alloc: Global) -> Outcome {
+        match self {
+            Scenario::Open(sample) => sessions::opens(alloc, sample),
+            Scenario::Tell(sample) => sessions::tells(alloc, sample),
+            Scenario::ListSession(part, profile, room) => {
+                sessions::lists(alloc, part, profile, room)
+            }
+            Scenario::Write(sample, room) => sessions::writes(alloc, sample, room),
             Scenario::Apply(trial) => trial.run(alloc, false),
             Scenario::ApplyKept(trial) => trial.run(alloc, true),
             Scenario::ApplyLarge(edit) => edit.run(alloc, false),
+            Scenario::Step(number) => runs::EACH_KIND_WIDE.step(alloc, number),
+            Scenario::StepKept(number) => runs::EACH_KIND_WIDE_KEPT.step(alloc, number),
+            Scenario::ApplyMany(line) => many::edits(alloc, line),
             Scenario::Run(edits) => edits.run(alloc),
             Scenario::ReadScript => jobs::reads_script(alloc),
             Scenario::Line(line) => line.run(alloc),
             Scenario::Edit(job, out, report) => job.run(alloc, out, report),
+            Scenario::Answer(answer) => answer.run(alloc),
+            _ => Outcome::NO_SAMPLE,
         }
     }
 }

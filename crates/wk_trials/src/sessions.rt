@@ -5,6 +5,7 @@ ghost use Rattle.std.specs.Prelude.{◌≡◌};
 use crate::bodies::NO_MEMORY;
 use crate::listings::sample;
 use crate::mark::{call_begins, call_ends};
+use crate::modules::Sample;
 use crate::outcome::Outcome;
 use crate::same::{is_session_of, is_written};
 use crate::sinks::{Room, holds, holds_begun, sink};
@@ -13,7 +14,6 @@ use wk_bytes::{Out, ReadFault, Sink};
 use wk_check::Verdict;
 use wk_list::{ListFault, Part};
 use wk_module::{Profile, Ref};
-use wk_samples::edits::VALID;
 use wk_session::{Session, WriteFault};
 
 // Whether the session says that the module is valid, and how long it is, and writes it.
@@ -23,12 +23,15 @@ fn is_valid_session_of(alloc: Global, session: &Session, bytes: &[u8]) -> bool {
     is_told && is_written(alloc, session, bytes)
 }
 
-/// `Session::open_in` of a valid module in its written form.
-pub(crate) fn opens(alloc: Global, bytes: &[u8], profile: Profile) -> Outcome {
+/// `Session::open`, or `Session::open_in` of the wider profile, of a valid module in its written form.
+pub(crate) fn opens(alloc: Global, sample: Sample) -> Outcome {
     call_begins(alloc);
-    let answer = Session::open_in(alloc, bytes, profile);
+    let answer = match sample.profile {
+        Profile::Core => Session::open(alloc, sample.bytes),
+        profile => Session::open_in(alloc, sample.bytes, profile),
+    };
     call_ends(alloc);
-    was_opened(alloc, &answer, bytes)
+    was_opened(alloc, &answer, sample.bytes)
 }
 
 // What opening a session answered.
@@ -39,45 +42,54 @@ fn was_opened(alloc: Global, answer: &Result<Session, ReadFault>, bytes: &[u8]) 
     }
 }
 
-/// `Session::verdict`, `Session::encoded_len` and `Session::uses`.
-pub(crate) fn tells(alloc: Global) -> Outcome {
-    match Session::open(alloc, VALID) {
-        Ok(session) => tells_of(alloc, &session),
+/// `Session::verdict`, `Session::encoded_len` and `Session::uses`, of a module of two functions, the first of which calls function 2.
+pub(crate) fn tells(alloc: Global, sample: Sample) -> Outcome {
+    match Session::open_in(alloc, sample.bytes, sample.profile) {
+        Ok(session) => tells_of(alloc, &session, sample.bytes),
         Err(_) => Outcome::NO_SAMPLE,
     }
 }
 
-fn tells_of(alloc: Global, session: &Session) -> Outcome {
+fn tells_of(alloc: Global, session: &Session, bytes: &[u8]) -> Outcome {
     call_begins(alloc);
     let is_valid = *session.verdict() == Verdict::Valid;
     let len = session.encoded_len();
     let refs = session.uses(0);
-    let past = session.uses(1);
+    let past = session.uses(2);
     call_ends(alloc);
     let are_used = match refs {
-        Some(refs) => refs.iter().eq(&[Ref::Ty(1)]),
+        Some(refs) => refs.iter().any(|found| *found == Ref::Func(2)),
         None => false,
     };
-    Outcome::answered(is_valid && len == VALID.len() as u32 && are_used && past.is_none())
+    Outcome::answered(is_valid && len as usize == bytes.len() && are_used && past.is_none())
 }
 
-/// `Session::list` of a part, to a sink with that much room.
-pub(crate) fn lists(alloc: Global, part: Part, room: Room) -> Outcome {
-    let (input, text) = sample(part);
-    match (Session::open(alloc, input), sink(alloc, room)) {
-        (Ok(session), Some(sink)) => lists_to(alloc, &session, part, text, sink),
+/// `Session::list` of a part of a module of a profile, to a sink with that much room.
+pub(crate) fn lists(alloc: Global, part: Part, profile: Profile, room: Room) -> Outcome {
+    let (input, text) = sample(part, profile);
+    match (
+        Session::open_in(alloc, input.bytes, profile),
+        sink(alloc, room),
+    ) {
+        (Ok(session), Some(sink)) => lists_to(alloc, &session, part, input, text, sink),
         _ => Outcome::NO_SAMPLE,
     }
 }
 
-fn lists_to(alloc: Global, session: &Session, part: Part, text: &[u8], mut sink: Sink) -> Outcome
+fn lists_to(
+    alloc: Global,
+    session: &Session,
+    part: Part,
+    input: Sample,
+    text: &[u8],
+    mut sink: Sink,
+) -> Outcome
     requires { ⟦<Sink as Out>⟧.failed sink ≡ 0 }
 {
     call_begins(alloc);
     let answer = session.list(part, &mut sink);
     call_ends(alloc);
-    let (input, _) = sample(part);
-    let is_kept = is_session_of(alloc, session, Profile::Core, input);
+    let is_kept = is_session_of(alloc, session, input.profile, input.bytes);
     match answer {
         Ok(()) => Outcome::answered(is_kept && holds(sink, 0, text)),
         Err(ListFault::Write) => Outcome::refused(is_kept && holds_begun(sink, 1, text)),
@@ -86,23 +98,27 @@ fn lists_to(alloc: Global, session: &Session, part: Part, text: &[u8], mut sink:
 }
 
 /// `Session::write` to a sink with that much room.
-pub(crate) fn writes(alloc: Global, room: Room) -> Outcome {
-    match (Session::open(alloc, VALID), sink(alloc, room)) {
-        (Ok(session), Some(sink)) => writes_to(alloc, &session, sink),
+pub(crate) fn writes(alloc: Global, input: Sample, room: Room) -> Outcome {
+    match (
+        Session::open_in(alloc, input.bytes, input.profile),
+        sink(alloc, room),
+    ) {
+        (Ok(session), Some(sink)) => writes_to(alloc, &session, input, sink),
         _ => Outcome::NO_SAMPLE,
     }
 }
 
-fn writes_to(alloc: Global, session: &Session, mut sink: Sink) -> Outcome
+fn writes_to(alloc: Global, session: &Session, input: Sample, mut sink: Sink) -> Outcome
     requires { ⟦<Sink as Out>⟧.failed sink ≡ 0 }
 {
+    let Sample { profile, bytes } = input;
     call_begins(alloc);
     let answer = session.write(&mut sink);
     call_ends(alloc);
-    let is_kept = is_session_of(alloc, session, Profile::Core, VALID);
+    let is_kept = is_session_of(alloc, session, profile, bytes);
     match answer {
-        Ok(()) => Outcome::answered(is_kept && holds(sink, 0, VALID)),
-        Err(WriteFault::Write) => Outcome::refused(is_kept && holds_begun(sink, 1, VALID)),
-        Err(WriteFault::Memory) => Outcome::refused(is_kept && holds(sink, 0, &[])),
+        Ok(()) => Outcome::answered(is_kept && holds(sink, 0, bytes)),
+        Err(WriteFault::Write) => Outcome::refused(is_kept && holds_begun(sink, 1, bytes)),
+        Err(WriteFault::Memory) => Outcome::Wrong("writing took memory of its own"),
     }
 }

@@ -20,7 +20,7 @@ pub(crate) enum Room {
 pub(crate) fn vector(alloc: Global, room: Room) -> Option<Vec<u8>> {
     let mut bytes = Vec::from_slice(alloc, &BEFORE).ok()?;
     if room == Room::Ample {
-        bytes.reserve(1000).ok()?;
+        bytes.reserve(2000).ok()?;
     }
     Some(bytes)
 }

@@ -1,0 +1,75 @@
+//! `strip_bytes`.
+
+use crate::bodies::NO_MEMORY;
+use crate::mark::{call_begins, call_ends};
+use crate::modules::{OF_MOVING, OF_TYPES, OF_WIDE, Sample};
+use crate::outcome::Outcome;
+use std::alloc::{AllocError, Global};
+use wk_bytes::Text;
+use wk_samples::{edits, moving, wide};
+use wk_strip::strip_bytes;
+
+/// A module that is stripped, and what is left.
+#[derive(Clone, Copy)]
+pub(crate) struct Strip {
+    sample: Sample,
+    /// The name of the custom sections that stay.
+    keep: Option<&'static str>,
+    left: &'static [u8],
+}
+
+/// Types alone are left.
+pub(crate) const TO_TYPES: Strip = Strip {
+    sample: OF_TYPES,
+    keep: None,
+    left: edits::WITHOUT_CUSTOMS,
+};
+
+/// Code is left.
+pub(crate) const TO_CODE: Strip = Strip {
+    sample: OF_MOVING,
+    keep: None,
+    left: moving::WITHOUT_CUSTOMS,
+};
+
+/// Code of the wider profile is left.
+pub(crate) const TO_WIDE: Strip = Strip {
+    sample: OF_WIDE,
+    keep: None,
+    left: wide::WITHOUT_CUSTOMS,
+};
+
+/// The same with custom sections of one name.
+pub(crate) const TO_ONE_NAME: Strip = Strip {
+    sample: OF_WIDE,
+    keep: Some("c"),
+    left: wide::WITHOUT_D,
+};
+
+fn text(alloc: Global, name: Option<&str>) -> Result<Option<Text>, AllocError> {
+    match name {
+        Some(name) => Ok(Some(Text::from_string(String::from_str(alloc, name)?))),
+        None => Ok(None),
+    }
+}
+
+impl Strip {
+    /// The call.
+    pub(crate) fn run(self, alloc: Global) -> Outcome {
+        match text(alloc, self.keep) {
+            Ok(keep) => self.run_with(alloc, keep.as_ref()),
+            Err(AllocError) => Outcome::NO_SAMPLE,
+        }
+    }
+
+    fn run_with(self, alloc: Global, keep: Option<&Text>) -> Outcome {
+        let Sample { profile, bytes } = self.sample;
+        call_begins(alloc);
+        let answer = strip_bytes(alloc, bytes, profile, keep);
+        call_ends(alloc);
+        match &answer {
+            Ok(stripped) => Outcome::answered(stripped.as_slice() == self.left),
+            Err(fault) => Outcome::refused(*fault == NO_MEMORY),
+        }
+    }
+}

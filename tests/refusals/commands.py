@@ -1,0 +1,169 @@
+"""Command lines whose allocations are refused, and what they answer where none is."""
+from dataclasses import dataclass
+
+from samples import (
+    ALL_EDITED,
+    ALL_KEPT,
+    BAD_WORDS,
+    BRANCHES,
+    CODE,
+    DETAILS,
+    EDITED,
+    EXTENDED,
+    EXTENDED_CODE,
+    EXTENDED_EDITED,
+    EXTENDED_USES,
+    HEADER,
+    HEADERS,
+    HELP,
+    INVALID_LINE,
+    INVALID_MODULE,
+    KEPT,
+    MODULE,
+    MOVING,
+    MOVING_STRIPPED,
+    NO_OUT,
+    OF_EACH_KIND,
+    OF_TWO_RESULTS,
+    ONE_TYPE,
+    SCRIPT,
+    UNKNOWN_LAST,
+    UNREAD,
+    USES,
+    VALID,
+    WIDE,
+    WIDE_EDITED,
+    WIDE_KEPT,
+    WIDE_OF_EACH_KIND,
+    WIDE_STRIPPED,
+    WITH_CUSTOM,
+)
+
+
+@dataclass
+class Command:
+    """A command line, the files that it finds, and what it answers where no allocation is refused. The files that it finds
+    stay as they are."""
+
+    name: str
+    words: list
+    files: dict
+    status: int
+    stdout: bytes = b""
+    stderr: bytes = b""
+    out: bytes = None  # what OUT holds, or None where it is not made
+    pieces: tuple = ()  # the beginnings of standard output that may stand there where memory is wanting, beside nothing
+
+    def is_usual(self, ran):
+        files = self.files if self.out is None else {**self.files, "out.wasm": self.out}
+        return (ran.status, ran.stdout, ran.stderr, ran.files) == (self.status, self.stdout, self.stderr, files)
+
+
+EDIT = ["edit", "in.wasm", "edits", "out.wasm"]
+EDIT_EXTENDED = [*EDIT, "--extended"]
+EDIT_KEPT = [*EDIT, "--keep-valid"]
+OBJDUMP = ["objdump", "in.wasm"]
+SECTIONS = ["sections", "in.wasm"]
+VALIDATE = ["validate", "in.wasm"]
+STRIP = ["strip", "--keep", "first", "in.wasm", "out.wasm"]
+REPORT = b"1 ok\n2 ok\n3 refused E3 NoSuchCustom\n4 ok\n5 refused E3 NoSuchCustom\n6 ok\nvalid\n"
+FINE = b"1 ok\nvalid\n"
+ALL_OK = b"".join(b"%d ok\n" % line for line in range(1, 14))
+TABLES, MEMORIES = b"V5 TooManyTables at section 2 item 5\n", b"V6 TooManyMemories at section 2 item 5\n"
+ALL_REPORT = ALL_OK + b"invalid " + TABLES
+KEPT_REPORT = (
+    ALL_OK.replace(b"3 ok\n4 ok\n", b"3 refused E7 WouldBreak " + TABLES + b"4 refused E7 WouldBreak " + MEMORIES, 1) + b"valid\n"
+)
+WIDE_TABLES, WIDE_MEMORIES = b"V5 TooManyTables at section 4 item 0\n", b"V6 TooManyMemories at section 5 item 0\n"
+WIDE_REPORT = ALL_OK + b"invalid " + WIDE_TABLES
+WIDE_KEPT_REPORT = KEPT_REPORT.replace(TABLES, WIDE_TABLES).replace(MEMORIES, WIDE_MEMORIES)
+INVALID = b"1 ok\ninvalid V1 TypeArity at section 1 item 3\n"
+MALFORMED = b"malformed R6 UnknownSection at 0x00000008\n"
+BAD_SCRIPT = b"script S1 BadWord line 2\n"
+OF_CUSTOMS = b"custom set second 00ff\ncustom set new -\nstrip\ncustom set x:c3a9 07\n"
+CUSTOMS_REPORT = b"1 ok\n2 ok\n3 ok\n4 ok\nvalid\n"
+LISTED = (
+    b"  Custom start=0x0000000a end=0x00000010 size=0x00000006\n"
+    b"    Type start=0x00000012 end=0x00000023 size=0x00000011\n"
+    b"  Custom start=0x00000025 end=0x0000002f size=0x0000000a\n"
+    b"  Custom start=0x00000031 end=0x00000038 size=0x00000007\n"
+    b"  Custom start=0x0000003a end=0x00000042 size=0x00000008\n"
+)
+
+
+def files(module, script):
+    return {"in.wasm": module, "edits": script}
+
+
+COMMANDS = [
+    Command("edit", EDIT, files(MODULE, SCRIPT), 1, REPORT, out=EDITED),
+    Command("edit of the empty module", EDIT, files(HEADER, b"type - -\n"), 0, FINE, out=ONE_TYPE),
+    Command("edit that makes an invalid module", EDIT, files(MODULE, b"type - i32,i32"), 1, INVALID, out=OF_TWO_RESULTS),
+    Command("edit of a malformed module", EDIT, files(HEADER + b"\x0c\x00", b""), 2, MALFORMED),
+    Command("edit by a bad script", EDIT, files(MODULE, b"type - -\ntype"), 3, BAD_SCRIPT),
+    Command("edit of a missing file", EDIT, {"edits": b""}, 4, stderr=UNREAD),
+    Command("edit with a word missing", EDIT[:3], files(MODULE, b""), 3, stderr=NO_OUT),
+    Command("edit onto the script", [*EDIT[:3], "edits"], files(MODULE, b""), 3, stderr=BAD_WORDS),
+    Command("edit of custom sections", EDIT, files(MODULE, OF_CUSTOMS), 0, CUSTOMS_REPORT, out=WITH_CUSTOM),
+    Command("edit in the other profile", EDIT_EXTENDED, files(EXTENDED, b"type - -"), 0, FINE, out=EXTENDED_EDITED),
+    Command("edit of each kind", EDIT, files(MOVING, OF_EACH_KIND), 1, ALL_REPORT, out=ALL_EDITED),
+    Command("edit of each kind that keeps valid", EDIT_KEPT, files(MOVING, OF_EACH_KIND), 1, KEPT_REPORT, out=ALL_KEPT),
+    Command(
+        "edit of each kind in the other profile",
+        EDIT_EXTENDED,
+        files(WIDE, WIDE_OF_EACH_KIND),
+        1,
+        WIDE_REPORT,
+        out=WIDE_EDITED,
+    ),
+    Command(
+        "edit of each kind that keeps valid in the other profile",
+        [*EDIT_EXTENDED, "--keep-valid"],
+        files(WIDE, WIDE_OF_EACH_KIND),
+        1,
+        WIDE_KEPT_REPORT,
+        out=WIDE_KEPT,
+    ),
+    Command("objdump", OBJDUMP, {"in.wasm": VALID}, 0, HEADERS),
+    Command("objdump of details", [*OBJDUMP, "--details"], {"in.wasm": VALID}, 0, DETAILS),
+    Command("objdump of code", [*OBJDUMP, "--code"], {"in.wasm": VALID}, 0, CODE),
+    Command("objdump of uses", [*OBJDUMP, "--uses"], {"in.wasm": VALID}, 0, USES),
+    Command(
+        "objdump of two parts",
+        [*OBJDUMP, "--uses", "--headers"],
+        {"in.wasm": VALID},
+        0,
+        HEADERS + USES,
+        pieces=(HEADERS,),
+    ),
+    Command(
+        "objdump in the other profile",
+        [*OBJDUMP, "--code", "--uses", "--extended"],
+        {"in.wasm": EXTENDED},
+        0,
+        EXTENDED_CODE + EXTENDED_USES,
+        pieces=(EXTENDED_CODE,),
+    ),
+    Command("objdump of a malformed module", OBJDUMP, {"in.wasm": HEADER + b"\x0c\x00"}, 2, MALFORMED),
+    Command("objdump of a missing file", OBJDUMP, {}, 4, stderr=UNREAD),
+    Command("sections", SECTIONS, {"in.wasm": MODULE}, 0, LISTED),
+    Command("sections of a malformed module", SECTIONS, {"in.wasm": MODULE + b"\x0c\x00"}, 2, LISTED + UNKNOWN_LAST),
+    Command("sections of a missing file", SECTIONS, {}, 4, stderr=UNREAD),
+    Command("validate", VALIDATE, {"in.wasm": VALID}, 0, b"valid\n"),
+    Command("validate of labels", VALIDATE, {"in.wasm": BRANCHES}, 0, b"valid\n"),
+    Command("validate of an invalid module", VALIDATE, {"in.wasm": INVALID_MODULE}, 1, INVALID_LINE),
+    Command("validate of a malformed module", VALIDATE, {"in.wasm": HEADER + b"\x0c\x00"}, 2, MALFORMED),
+    Command("validate of a missing file", VALIDATE, {}, 4, stderr=UNREAD),
+    Command("validate in the other profile", [*VALIDATE, "--extended"], {"in.wasm": EXTENDED}, 0, b"valid\n"),
+    Command("strip", STRIP, {"in.wasm": MODULE}, 0, out=KEPT),
+    Command("strip in the other profile", ["strip", "--extended", *STRIP[3:]], {"in.wasm": EXTENDED}, 0, out=EXTENDED),
+    Command("strip of code", ["strip", *STRIP[3:]], {"in.wasm": MOVING}, 0, out=MOVING_STRIPPED),
+    Command("strip of each section in the other profile", ["strip", "--extended", *STRIP[3:]], {"in.wasm": WIDE}, 0, out=WIDE_STRIPPED),
+    Command("validate of each section in the other profile", [*VALIDATE, "--extended"], {"in.wasm": WIDE}, 0, b"valid\n"),
+    Command("strip of a malformed module", STRIP, {"in.wasm": HEADER + b"\x0c\x00"}, 2, MALFORMED),
+    Command("strip of a missing file", STRIP, {}, 4, stderr=UNREAD),
+    Command("strip onto the module", [*STRIP[:3], "in.wasm", "in.wasm"], {"in.wasm": MODULE}, 3, stderr=BAD_WORDS),
+    Command("strip but for no name", ["strip", "--keep", "x:f", *STRIP[3:]], {"in.wasm": MODULE}, 3, stderr=BAD_WORDS),
+    Command("--help", ["--help"], {}, 3, stderr=HELP),
+    Command("--version", ["--version"], {}, 3, stderr=b"wasmkit 0.9.0\n"),
+]
