@@ -31,7 +31,7 @@ fn load<'a, S: Store>(store: &mut S, name: &'a str) -> Result<Vec<u8>, ProgramFa
     ensures { MatchResult result
         (λ bytes. S.asked store.new ≡ then_asked (S.asked store.old) (Loaded name.now (Ok bytes.items)))
         (λ fault. (why : Why) × IsOfLoad name.now why fault
-            × (S.asked store.new ≡ then_asked (S.asked store.old) (Loaded name.now (Err why)))) }
+        × (S.asked store.new ≡ then_asked (S.asked store.old) (Loaded name.now (Err why)))) }
 {
     match store.load(name) {
         Ok(bytes) => Ok(bytes),
@@ -40,15 +40,11 @@ fn load<'a, S: Store>(store: &mut S, name: &'a str) -> Result<Vec<u8>, ProgramFa
 }
 
 // Saves a file.
-fn save<'a, S: Store>(
-    store: &mut S,
-    name: &'a str,
-    bytes: &[u8],
-) -> Result<(), ProgramFault<'a>>
+fn save<'a, S: Store>(store: &mut S, name: &'a str, bytes: &[u8]) -> Result<(), ProgramFault<'a>>
     ensures { MatchResult result
         (λ x. S.asked store.new ≡ then_asked (S.asked store.old) (Saved name.now bytes.now (Ok x)))
         (λ fault. (why : Why) × IsOfSave name.now why fault
-            × (S.asked store.new ≡ then_asked (S.asked store.old) (Saved name.now bytes.now (Err why)))) }
+        × (S.asked store.new ≡ then_asked (S.asked store.old) (Saved name.now bytes.now (Err why)))) }
 {
     match store.save(name, bytes) {
         Ok(()) => Ok(()),
@@ -169,13 +165,7 @@ fn run_edit<'a, S: Store, X: Out>(
 {
     let input = load(store, command.file)?;
     let script = load(store, command.script)?;
-    let edited = edit_bytes(
-        alloc,
-        &input,
-        &script,
-        command.keep_valid,
-        command.profile,
-    )?;
+    let edited = edit_bytes(alloc, &input, &script, command.keep_valid, command.profile)?;
     give(
         command.out,
         edited.saved(),
@@ -360,7 +350,7 @@ pub fn program<S: Store, X: Out, Y: Out>(
     requires err { Y.failed err.old < 2 ^ 64 - 1 }
     ensures { (r : Result ℕ Fault)
         × IsAnswered (S.asked store.old) (S.asked store.new)
-            (printing (X.taken out.old) (X.taken out.new) (X.failed out.old) (X.failed out.new)) r
+        (printing (X.taken out.old) (X.taken out.new) (X.failed out.old) (X.failed out.new)) r
         × Exits r result (printing (Y.taken err.old) (Y.taken err.new) (Y.failed err.old) (Y.failed err.new)) }
 {
     match answer(alloc, words, store, out) {

@@ -222,7 +222,11 @@ fn edits_keep_modules_valid(rt: HostRuntime) -> Result<(), Fail> {
 
 // Words, the status, and what is said.
 const REFUSED: [(&[&str], u8, &str); 47] = [
-    (&["edit", "none", "gone", "out.wasm"], 4, "cannot read none\n"),
+    (
+        &["edit", "none", "gone", "out.wasm"],
+        4,
+        "cannot read none\n",
+    ),
     (
         &["edit", "in.wasm", "script", "large"],
         5,

@@ -10,6 +10,6 @@ returns-in_err-save g c =
 
 pub returns : goal.returns
 returns g c = elim c.match-saved.branch [
-    | in-Some+in_ok-save w ↦ rw (w.store-is, w.in-Some.is) (saved c.args.name.now w.in-Some.bytes.now _ _ _ _ _ _ w.in_ok-save.ensures (ends c.print.ensures))
-    | in_default w ↦ rw (w.store-is, w.in_default.is) (ends c.print.ensures)
-  ]
+  | in-Some+in_ok-save w ↦ rw (w.store-is, w.in-Some.is) (saved c.args.name.now w.in-Some.bytes.now _ _ _ _ _ _ w.in_ok-save.ensures (ends c.print.ensures))
+  | in_default w ↦ rw (w.store-is, w.in_default.is) (ends c.print.ensures)
+]
