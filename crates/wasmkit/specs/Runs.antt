@@ -1,5 +1,5 @@
 -- How a command is run: what the store is asked, in which order, what standard output gets, and how it ends.
-use Rattle.std.specs.Prelude.{◌≡◌, ◌≢◌, ◌⊎◌, ℕ, ◌+◌, Bool, true, false, Option, Some, None, List, [], ◌∷◌, Result, Ok, Err, IsErrAnd}
+use Rattle.std.specs.Prelude.{◌≡◌, ◌≢◌, ◌⊎◌, ℕ, ◌+◌, true, Option, Some, None, List, [], ◌∷◌, Result, Ok, Err, IsErrAnd}
 use Rattle.std.specs.Io.KnownBytes.{Appends}
 use Rattle.wk_bytes.specs.declared.fault.ReadFault.{ReadFault}
 use Rattle.wk_bytes.specs.declared.fault.ReadKind.TheVariants as reads
@@ -8,7 +8,7 @@ use Rattle.wk_edit.specs.ReportText.{malformed_text}
 use Rattle.wasmkit.specs.declared.command.Asked.{Asked}
 use Rattle.wasmkit.specs.declared.command.Asked.TheVariants.{Edit, Objdump, Sections, Strip, Validate}
 use Rattle.wasmkit.specs.declared.fault.ProgramFault.{ProgramFault}
-use Rattle.wasmkit.specs.declared.fault.ProgramFault.TheVariants.{CommandLine, BadWords, Read, Write, Output, Memory}
+use Rattle.wasmkit.specs.declared.fault.ProgramFault.TheVariants.{Read, Output, Memory}
 use Rattle.wasmkit.specs.Answers.{Answer, edited, dumped, framed, stripped, judged}
 use Rattle.wasmkit.specs.Events.{Event, Loaded, Saved, then_all}
 use Rattle.wasmkit.specs.Faults.{fault_status, IsOfLoad, IsOfSave, IsOfWords}

@@ -1,7 +1,7 @@
 //! Where files lie.
 
-ghost use Rattle.std.specs.Prelude.{◌≡◌, Option, List, Ok, Err, MatchResult};
-ghost use Rattle.wasmkit.specs.Events.{Event, Loaded, Saved, then_asked};
+ghost use Rattle.std.specs.Prelude.{◌≡◌, Option, List};
+ghost use Rattle.wasmkit.specs.Events.{bytes_of, then_asked, Event, Loaded, Saved};
 
 /// Why a file was not had.
 #[derive(Clone, Copy, Debug, PartialEq, Eq)]
@@ -19,9 +19,7 @@ pub trait Store {
 
     /// All bytes of a file.
     fn load(&mut self, name: &str) -> Result<Vec<u8>, StoreFault>
-        ensures { MatchResult result
-            (λ bytes. asked self.new ≡ then_asked (asked self.old) (Loaded name.now (Ok bytes.items)))
-            (λ fault. asked self.new ≡ then_asked (asked self.old) (Loaded name.now (Err fault))) };
+        ensures { asked self.new ≡ then_asked (asked self.old) (Loaded name.now (bytes_of result)) };
 
     /// Makes the file of these bytes, in the place of one that is there.
     fn save(&mut self, name: &str, bytes: &[u8]) -> Result<(), StoreFault>

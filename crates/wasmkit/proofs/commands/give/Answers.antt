@@ -1,4 +1,3 @@
-use Rattle.std.proofs.Common.{◌≡◌, rules, refl, inl, inr}
 use Rattle.wasmkit.proofs.Steps.{ends, saved, not_saved, nothing, passed}
 use Rattle.wasmkit.proofs.commands.give.Goals as goal
 use Rattle.wasmkit.proofs.commands.give.Goals.{in-Some+in_ok-save, in_default}

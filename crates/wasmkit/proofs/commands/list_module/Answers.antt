@@ -1,4 +1,3 @@
-use Rattle.std.proofs.Common.{◌∙◌}
 use Rattle.wasmkit.proofs.Steps.{listed_whole, stopped}
 use Rattle.wasmkit.proofs.commands.list_module.Goals as goal
 

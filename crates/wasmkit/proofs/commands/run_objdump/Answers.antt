@@ -1,4 +1,4 @@
-use Rattle.std.proofs.Common.{◌≡◌, [], Ok, rules, ap, ◌∙◌, refl, inl, inr}
+use Rattle.std.proofs.Common.{◌≡◌, [], Ok, rules}
 use Rattle.wk_body.specs.Reads.{FailsAs}
 use Rattle.wk_module.specs.Reading.{module_at}
 use Rattle.wasmkit.specs.Answers.{dumped, listed}

@@ -1,4 +1,4 @@
-use Rattle.std.proofs.Common.{◌≡◌, [], rules, refl, inl, inr}
+use Rattle.std.proofs.Common.{[], rules, refl, inl, inr}
 use Rattle.wasmkit.specs.Answers.{framed}
 use Rattle.wasmkit.specs.Runs.{Gives}
 use Rattle.wasmkit.proofs.Steps.{ends, loaded, not_loaded, nothing, passed}

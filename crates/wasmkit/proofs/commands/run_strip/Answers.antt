@@ -1,4 +1,4 @@
-use Rattle.std.proofs.Common.{◌≡◌, ℕ, Option, Some, List, Ok, rules, ap, ◌∙◌, refl, inl, inr}
+use Rattle.std.proofs.Common.{◌≡◌, ℕ, Option, Some, List, Ok, rules, ap, ◌∙◌, refl}
 use Rattle.wk_body.specs.Reads.{FailsAs}
 use Rattle.wk_module.specs.Reading.{module_at}
 use Rattle.wk_module.specs.Shape.{settle}
@@ -6,7 +6,7 @@ use Rattle.wk_module.specs.Writing.{encoded}
 use Rattle.wk_strip.specs.Stripped.{with_kept}
 use Rattle.wasmkit.specs.Answers.{bare, stripped}
 use Rattle.wasmkit.specs.Runs.{Gives}
-use Rattle.wasmkit.proofs.Steps.{ends, given, loaded, not_loaded, nothing, on_read, on_refused, passed}
+use Rattle.wasmkit.proofs.Steps.{given, loaded, not_loaded, nothing, on_read, on_refused, passed}
 use Rattle.wasmkit.proofs.commands.run_strip.Goals as goal
 
 pub returns-in_err-input : goal.returns-in_err-input
