@@ -1,5 +1,10 @@
 //! The command line.
 
+ghost use Rattle.std.specs.Prelude.{◌≢◌, IfErr, IfOk};
+ghost use Rattle.wasmkit.specs.declared.command.Asked.TheVariants as asks;
+ghost use Rattle.wasmkit.specs.Faults.{IsOfWords};
+ghost use Rattle.wasmkit.specs.Runs.{IsSound};
+
 use crate::fault::ProgramFault;
 use clap::{Arg, ArgAction, ArgMatches, Command};
 use std::alloc::{AllocError, Global};
@@ -235,7 +240,10 @@ fn command<'a>(alloc: Global) -> Result<Command<'a>, AllocError> {
         .subcommand(validate_command(alloc)?)
 }
 
-fn read_edit<'a>(found: &ArgMatches<'a>) -> Result<EditCommand<'a>, ProgramFault<'a>> {
+fn read_edit<'a>(found: &ArgMatches<'a>) -> Result<EditCommand<'a>, ProgramFault<'a>>
+    ensures sound { IfOk result (λ c. IsSound (asks.Edit c)) }
+    ensures fault { IfErr result IsOfWords }
+{
     let (Some(file), Some(script), Some(out)) = (
         found.get_str("FILE"),
         found.get_str("SCRIPT"),
@@ -272,7 +280,9 @@ fn read_parts(alloc: Global, found: &ArgMatches<'_>) -> Result<Vec<Part>, AllocE
 fn read_objdump<'a>(
     alloc: Global,
     found: &ArgMatches<'a>,
-) -> Result<ObjdumpCommand<'a>, ProgramFault<'a>> {
+) -> Result<ObjdumpCommand<'a>, ProgramFault<'a>>
+    ensures { IfErr result IsOfWords }
+{
     let Some(file) = found.get_str("FILE") else {
         return Err(ProgramFault::BadWords);
     };
@@ -284,7 +294,9 @@ fn read_objdump<'a>(
 }
 
 // The name to keep, spelled as in a script.
-fn read_keep<'a>(alloc: Global, word: Option<&str>) -> Result<Option<Text>, ProgramFault<'a>> {
+fn read_keep<'a>(alloc: Global, word: Option<&str>) -> Result<Option<Text>, ProgramFault<'a>>
+    ensures { IfErr result IsOfWords }
+{
     let Some(word) = word else {
         return Ok(None);
     };
@@ -297,7 +309,10 @@ fn read_keep<'a>(alloc: Global, word: Option<&str>) -> Result<Option<Text>, Prog
 fn read_strip<'a>(
     alloc: Global,
     found: &ArgMatches<'a>,
-) -> Result<StripCommand<'a>, ProgramFault<'a>> {
+) -> Result<StripCommand<'a>, ProgramFault<'a>>
+    ensures sound { IfOk result (λ c. IsSound (asks.Strip c)) }
+    ensures fault { IfErr result IsOfWords }
+{
     let (Some(file), Some(out)) = (found.get_str("FILE"), found.get_str("OUT")) else {
         return Err(ProgramFault::BadWords);
     };
@@ -312,7 +327,9 @@ fn read_strip<'a>(
     })
 }
 
-fn read_validate<'a>(found: &ArgMatches<'a>) -> Result<ValidateCommand<'a>, ProgramFault<'a>> {
+fn read_validate<'a>(found: &ArgMatches<'a>) -> Result<ValidateCommand<'a>, ProgramFault<'a>>
+    ensures { IfErr result IsOfWords }
+{
     let Some(file) = found.get_str("FILE") else {
         return Err(ProgramFault::BadWords);
     };
@@ -327,7 +344,10 @@ fn read_validate<'a>(found: &ArgMatches<'a>) -> Result<ValidateCommand<'a>, Prog
 /// # Errors
 ///
 /// What `clap` says of words that are no command, and `BadWords` where OUT is spelled as FILE or SCRIPT, or NAME is no name.
-pub fn read_words<'a>(alloc: Global, words: &'a [String]) -> Result<Asked<'a>, ProgramFault<'a>> {
+pub fn read_words<'a>(alloc: Global, words: &'a [String]) -> Result<Asked<'a>, ProgramFault<'a>>
+    ensures sound { IfOk result IsSound }
+    ensures fault { IfErr result IsOfWords }
+{
     let matches = command(alloc)?.try_get_matches_from(words)?;
     match matches.subcommand() {
         Some(("edit", found)) => Ok(Asked::Edit(read_edit(found)?)),

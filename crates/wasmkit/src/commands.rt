@@ -1,5 +1,17 @@
-//! The commands.
-ghost use Rattle.std.specs.Prelude.{◌-◌, ◌<◌, ◌^◌};
+//! The commands: what is read, what is made of it, and what is saved and printed.
+//!
+//! `specs/Answers` says what each command makes of the files that it reads, and `specs/Runs` in which order they are read, what is
+//! saved, what is printed, and how it ends.
+ghost use Rattle.std.specs.Prelude.{◌≡◌, ◌⊎◌, ℕ, ◌-◌, ◌<◌, ◌^◌, if◌then◌else◌, [], option_map, Result, Ok, Err, IfOk, MatchResult};
+ghost use Rattle.wk_module.specs.Writing.{Fits};
+ghost use Rattle.wk_edit.specs.Outcome.{outcome_of};
+ghost use Rattle.wasmkit.specs.declared.command.Asked.TheVariants as asks;
+ghost use Rattle.wasmkit.specs.declared.fault.ProgramFault.{ProgramFault as Fault};
+ghost use Rattle.wasmkit.specs.declared.store.StoreFault.{StoreFault as Why};
+ghost use Rattle.wasmkit.specs.Answers.{listed, saved_of, AreOf};
+ghost use Rattle.wasmkit.specs.Events.{Loaded, Saved, then_asked};
+ghost use Rattle.wasmkit.specs.Faults.{fault_status, IsOfLoad, IsOfSave};
+ghost use Rattle.wasmkit.specs.Runs.{printing, Carries, Exits, Gives, Goes, IsAnswered, Prints, Refuses, Saves};
 
 use crate::command::{
     Asked, EditCommand, ObjdumpCommand, StripCommand, ValidateCommand, read_words,
@@ -8,11 +20,137 @@ use crate::fault::ProgramFault;
 use crate::store::Store;
 use std::alloc::Global;
 use wk_answers::{Listing, Validation, list_parts, list_sections, validate};
-use wk_bytes::{Out, ReadFault, ReadKind, Sink, put_all};
+use wk_bytes::{Out, OutOfMemory, ReadFault, ReadKind, Sink, put_all};
 use wk_edit::{Status, edit_in, malformed_line};
-use wk_list::Plain;
-use wk_module::read_in;
+use wk_list::{Part, Plain};
+use wk_module::{Module, Profile, read_in};
 use wk_strip::strip_bytes;
+
+// Loads a file.
+fn load<'a, S: Store>(store: &mut S, name: &'a str) -> Result<Vec<u8>, ProgramFault<'a>>
+    ensures { MatchResult result
+        (λ bytes. S.asked store.new ≡ then_asked (S.asked store.old) (Loaded name.now (Ok bytes.items)))
+        (λ fault. (why : Why) × IsOfLoad name.now why fault
+        × (S.asked store.new ≡ then_asked (S.asked store.old) (Loaded name.now (Err why)))) }
+{
+    match store.load(name) {
+        Ok(bytes) => Ok(bytes),
+        Err(fault) => Err(ProgramFault::of_load(fault, name)),
+    }
+}
+
+// Saves a file.
+fn save<'a, S: Store>(store: &mut S, name: &'a str, bytes: &[u8]) -> Result<(), ProgramFault<'a>>
+    ensures { MatchResult result
+        (λ x. S.asked store.new ≡ then_asked (S.asked store.old) (Saved name.now bytes.now (Ok x)))
+        (λ fault. (why : Why) × IsOfSave name.now why fault
+        × (S.asked store.new ≡ then_asked (S.asked store.old) (Saved name.now bytes.now (Err why)))) }
+{
+    match store.save(name, bytes) {
+        Ok(()) => Ok(()),
+        Err(fault) => Err(ProgramFault::of_save(fault, name)),
+    }
+}
+
+// Prints a text, behind which there is only the status.
+fn print<'a, X: Out>(text: &[u8], status: u8, out: &mut X) -> Result<u8, ProgramFault<'a>>
+    requires { X.failed out.old < 2 ^ 64 - 1 }
+    ensures { Prints status text.now []
+        (printing (X.taken out.old) (X.taken out.new) (X.failed out.old) (X.failed out.new)) result }
+{
+    match put_all(out, text) {
+        Ok(()) => Ok(status),
+        Err(_) => Err(ProgramFault::Output),
+    }
+}
+
+// Saves a file, if there are bytes for it, and then prints a text.
+fn give<'a, S: Store, X: Out>(
+    name: &'a str,
+    saved: Option<&[u8]>,
+    text: &[u8],
+    status: u8,
+    store: &mut S,
+    out: &mut X,
+) -> Result<u8, ProgramFault<'a>>
+    requires { X.failed out.old < 2 ^ 64 - 1 }
+    ensures { Goes (Saves name.now (option_map (λ bytes. bytes.now) saved.entry) (Prints status text.now))
+        (S.asked store.old) (S.asked store.new)
+        (printing (X.taken out.old) (X.taken out.new) (X.failed out.old) (X.failed out.new)) result }
+{
+    if let Some(bytes) = saved {
+        save(store, name, bytes)?;
+    }
+    print(text, status, out)
+}
+
+// Prints why the input is no module.
+fn refuse_module<'a, X: Out>(
+    alloc: Global,
+    fault: &ReadFault,
+    out: &mut X,
+) -> Result<u8, ProgramFault<'a>>
+    requires { X.failed out.old < 2 ^ 64 - 1 }
+    ensures { Refuses fault.now
+        (printing (X.taken out.old) (X.taken out.new) (X.failed out.old) (X.failed out.new)) result }
+{
+    if let ReadKind::Memory = fault.kind {
+        return Err(ProgramFault::Memory);
+    }
+    let line = malformed_line(alloc, fault)?;
+    print(line.as_bytes(), 2, out)
+}
+
+// What comes of a module and a script.
+#[derive(Drop)]
+struct Edited {
+    module: Vec<u8>,
+    report: Vec<u8>,
+    status: Status,
+}
+
+impl Edited {
+    // The bytes of OUT, if it is to be made.
+    fn saved(&self) -> Option<&[u8]>
+        ensures { option_map (λ bytes. bytes.now) result ≡ saved_of self.now.status self.now.module.items }
+    {
+        match self.status {
+            Status::Accepted | Status::Refused => Some(&self.module),
+            Status::Malformed | Status::BadScript => None,
+        }
+    }
+}
+
+// Makes the edits of a script on a module. Both outputs lie in memory, so that each fault is a growth that was refused.
+fn edit_bytes(
+    alloc: Global,
+    input: &[u8],
+    script: &[u8],
+    keep_valid: bool,
+    profile: Profile,
+) -> Result<Edited, OutOfMemory>
+    ensures { IfOk result (λ e. AreOf (outcome_of keep_valid profile input.now script.now)
+        e.status e.module.items e.report.items) }
+{
+    let mut module = Sink::new(Vec::new(alloc));
+    let mut report = Sink::new(Vec::new(alloc));
+    match edit_in(
+        alloc,
+        input,
+        script,
+        keep_valid,
+        profile,
+        &mut module,
+        &mut report,
+    ) {
+        Ok(status) => Ok(Edited {
+            module: module.into_inner(),
+            report: report.into_inner(),
+            status,
+        }),
+        Err(_) => Err(OutOfMemory),
+    }
+}
 
 // Makes the edits of a script on a module: OUT is made once all is computed, and the report is printed behind it.
 fn run_edit<'a, S: Store, X: Out>(
@@ -22,40 +160,69 @@ fn run_edit<'a, S: Store, X: Out>(
     out: &mut X,
 ) -> Result<u8, ProgramFault<'a>>
     requires { X.failed out.old < 2 ^ 64 - 1 }
+    ensures { Goes (Carries (asks.Edit command.entry)) (S.asked store.old) (S.asked store.new)
+        (printing (X.taken out.old) (X.taken out.new) (X.failed out.old) (X.failed out.new)) result }
 {
-    let EditCommand {
-        keep_valid,
+    let input = load(store, command.file)?;
+    let script = load(store, command.script)?;
+    let edited = edit_bytes(alloc, &input, &script, command.keep_valid, command.profile)?;
+    give(
+        command.out,
+        edited.saved(),
+        &edited.report,
+        edited.status.code(),
+        store,
+        out,
+    )
+}
+
+// Lists parts of a module: they go out as they are worked out.
+fn list_module<'a, X: Out>(
+    alloc: Global,
+    whole: &Module,
+    parts: &[Part],
+    out: &mut X,
+) -> Result<u8, ProgramFault<'a>>
+    requires room { X.failed out.old < 2 ^ 64 - 1 }
+    requires fits { Fits whole.now }
+    ensures { Gives [] (listed parts.now whole.now) []
+        (printing (X.taken out.old) (X.taken out.new) (X.failed out.old) (X.failed out.new)) result }
+{
+    let Some(plain) = Plain::of(whole) else {
+        unreachable!()
+    };
+    list_parts(alloc, &plain, parts, out)?;
+    Ok(0)
+}
+
+// Lists parts of the module of a file.
+fn run_objdump<'a, S: Store, X: Out>(
+    alloc: Global,
+    command: ObjdumpCommand<'a>,
+    store: &mut S,
+    out: &mut X,
+) -> Result<u8, ProgramFault<'a>>
+    requires { X.failed out.old < 2 ^ 64 - 1 }
+    ensures { Goes (Carries (asks.Objdump command.entry)) (S.asked store.old) (S.asked store.new)
+        (printing (X.taken out.old) (X.taken out.new) (X.failed out.old) (X.failed out.new)) result }
+{
+    let ObjdumpCommand {
+        parts,
         profile,
         file,
-        script: script_file,
-        out: out_file,
     } = command;
-    let input = store
-        .load(file)
-        .map_err(|fault| ProgramFault::of_load(fault, file))?;
-    let script = store
-        .load(script_file)
-        .map_err(|fault| ProgramFault::of_load(fault, script_file))?;
-    let mut module = Sink::new(Vec::new(alloc));
-    let mut report = Sink::new(Vec::new(alloc));
-    let status = edit_in(
-        alloc,
-        &input,
-        &script,
-        keep_valid,
-        profile,
-        &mut module,
-        &mut report,
-    )?;
-    if let Status::Accepted | Status::Refused = status {
-        let bytes = module.into_inner();
-        store
-            .save(out_file, &bytes)
-            .map_err(|fault| ProgramFault::of_save(fault, out_file))?;
+    let input = load(store, file)?;
+    match read_in(alloc, &input, profile) {
+        Ok(module) => list_module(alloc, &module, &parts, out),
+        Err(fault) => refuse_module(alloc, &fault, out),
     }
-    let text = report.into_inner();
-    put_all(out, &text).map_err(|_| ProgramFault::Output)?;
-    Ok(status.code())
+}
+
+// The status of a listing of sections.
+fn status_of(has_fault: bool) -> u8
+    ensures { result ≡ (if has_fault then 2 else 0) }
+{
+    if has_fault { 2 } else { 0 }
 }
 
 // Lists the sections of a module, and then the fault of their frames, if there is one.
@@ -66,57 +233,12 @@ fn run_sections<'a, S: Store, X: Out>(
     out: &mut X,
 ) -> Result<u8, ProgramFault<'a>>
     requires { X.failed out.old < 2 ^ 64 - 1 }
+    ensures { Goes (Carries (asks.Sections file.entry)) (S.asked store.old) (S.asked store.new)
+        (printing (X.taken out.old) (X.taken out.new) (X.failed out.old) (X.failed out.new)) result }
 {
-    let input = store
-        .load(file)
-        .map_err(|fault| ProgramFault::of_load(fault, file))?;
+    let input = load(store, file)?;
     let Listing { text, has_fault } = list_sections(alloc, &input)?;
-    put_all(out, &text).map_err(|_| ProgramFault::Output)?;
-    Ok(if has_fault { 2 } else { 0 })
-}
-
-// Prints why the input is no module.
-fn refuse_module<'a, X: Out>(
-    alloc: Global,
-    fault: &ReadFault,
-    out: &mut X,
-) -> Result<u8, ProgramFault<'a>>
-    requires { X.failed out.old < 2 ^ 64 - 1 }
-{
-    if let ReadKind::Memory = fault.kind {
-        return Err(ProgramFault::Memory);
-    }
-    let line = malformed_line(alloc, fault)?;
-    put_all(out, line.as_bytes()).map_err(|_| ProgramFault::Output)?;
-    Ok(2)
-}
-
-// Lists parts of a module: they go out as they are worked out.
-fn run_objdump<'a, S: Store, X: Out>(
-    alloc: Global,
-    command: ObjdumpCommand<'a>,
-    store: &mut S,
-    out: &mut X,
-) -> Result<u8, ProgramFault<'a>>
-    requires { X.failed out.old < 2 ^ 64 - 1 }
-{
-    let ObjdumpCommand {
-        parts,
-        profile,
-        file,
-    } = command;
-    let input = store
-        .load(file)
-        .map_err(|fault| ProgramFault::of_load(fault, file))?;
-    let module = match read_in(alloc, &input, profile) {
-        Ok(module) => module,
-        Err(fault) => return refuse_module(alloc, &fault, out),
-    };
-    let Some(plain) = Plain::of(&module) else {
-        unreachable!()
-    };
-    list_parts(alloc, &plain, &parts, out)?;
-    Ok(0)
+    print(&text, status_of(has_fault), out)
 }
 
 // Removes the custom sections of a module: OUT is made once all is computed, and nothing is printed.
@@ -127,6 +249,8 @@ fn run_strip<'a, S: Store, X: Out>(
     out: &mut X,
 ) -> Result<u8, ProgramFault<'a>>
     requires { X.failed out.old < 2 ^ 64 - 1 }
+    ensures { Goes (Carries (asks.Strip command.entry)) (S.asked store.old) (S.asked store.new)
+        (printing (X.taken out.old) (X.taken out.new) (X.failed out.old) (X.failed out.new)) result }
 {
     let StripCommand {
         keep,
@@ -134,17 +258,11 @@ fn run_strip<'a, S: Store, X: Out>(
         file,
         out: out_file,
     } = command;
-    let input = store
-        .load(file)
-        .map_err(|fault| ProgramFault::of_load(fault, file))?;
-    let stripped = match strip_bytes(alloc, &input, profile, keep.as_ref()) {
-        Ok(stripped) => stripped,
-        Err(fault) => return refuse_module(alloc, &fault, out),
-    };
-    store
-        .save(out_file, stripped.as_slice())
-        .map_err(|fault| ProgramFault::of_save(fault, out_file))?;
-    Ok(0)
+    let input = load(store, file)?;
+    match strip_bytes(alloc, &input, profile, keep.as_ref()) {
+        Ok(stripped) => give(out_file, Some(stripped.as_slice()), b"", 0, store, out),
+        Err(fault) => refuse_module(alloc, &fault, out),
+    }
 }
 
 // Prints whether a module is valid.
@@ -155,25 +273,27 @@ fn run_validate<'a, S: Store, X: Out>(
     out: &mut X,
 ) -> Result<u8, ProgramFault<'a>>
     requires { X.failed out.old < 2 ^ 64 - 1 }
+    ensures { Goes (Carries (asks.Validate command.entry)) (S.asked store.old) (S.asked store.new)
+        (printing (X.taken out.old) (X.taken out.new) (X.failed out.old) (X.failed out.new)) result }
 {
     let ValidateCommand { profile, file } = command;
-    let input = store
-        .load(file)
-        .map_err(|fault| ProgramFault::of_load(fault, file))?;
+    let input = load(store, file)?;
     let Validation { line, status } = validate(alloc, &input, profile)?;
-    put_all(out, line.as_bytes()).map_err(|_| ProgramFault::Output)?;
-    Ok(status)
+    print(line.as_bytes(), status, out)
 }
 
-fn answer<'a, S: Store, X: Out>(
+// Carries out a command.
+fn run<'a, S: Store, X: Out>(
     alloc: Global,
-    words: &'a [String],
+    asked: Asked<'a>,
     store: &mut S,
     out: &mut X,
 ) -> Result<u8, ProgramFault<'a>>
     requires { X.failed out.old < 2 ^ 64 - 1 }
+    ensures { Goes (Carries asked.entry) (S.asked store.old) (S.asked store.new)
+        (printing (X.taken out.old) (X.taken out.new) (X.failed out.old) (X.failed out.new)) result }
 {
-    match read_words(alloc, words)? {
+    match asked {
         Asked::Edit(command) => run_edit(alloc, command, store, out),
         Asked::Objdump(command) => run_objdump(alloc, command, store, out),
         Asked::Sections(file) => run_sections(alloc, file, store, out),
@@ -182,9 +302,25 @@ fn answer<'a, S: Store, X: Out>(
     }
 }
 
+// Reads the words, and carries out their command.
+fn answer<'a, S: Store, X: Out>(
+    alloc: Global,
+    words: &'a [String],
+    store: &mut S,
+    out: &mut X,
+) -> Result<u8, ProgramFault<'a>>
+    requires { X.failed out.old < 2 ^ 64 - 1 }
+    ensures { IsAnswered (S.asked store.old) (S.asked store.new)
+        (printing (X.taken out.old) (X.taken out.new) (X.failed out.old) (X.failed out.new)) result }
+{
+    let asked = read_words(alloc, words)?;
+    run(alloc, asked, store, out)
+}
+
 /// Says on standard error why there is no answer, and gives the status. Where standard error fails, nothing changes.
 pub fn tell<Y: Out>(alloc: Global, fault: &ProgramFault<'_>, err: &mut Y) -> u8
     requires { Y.failed err.old < 2 ^ 64 - 1 }
+    ensures { (result ≡ fault_status fault.now) ⊎ (result ≡ 5) }
 {
     match fault.to_string(alloc) {
         Ok(text) => {
@@ -199,7 +335,10 @@ pub fn tell<Y: Out>(alloc: Global, fault: &ProgramFault<'_>, err: &mut Y) -> u8
 }
 
 /// Runs the command of these words, the ones after the program's name, and gives the exit status: 0 to 3 of a run
-/// (`Status`) or of `validate`, 0 or 2 of the other commands, 3 for a bad command line, 4 where a file or standard output failed, 5 for want of memory.
+/// (`Status`) or of `validate`, 0 or 2 of the other commands, 3 for a bad command line, 4 where a file or standard output failed, 5 for want
+/// of memory.
+///
+/// The words are a command that is carried out, or none, and then nothing is loaded, saved or printed. Which of these, no clause says.
 pub fn program<S: Store, X: Out, Y: Out>(
     alloc: Global,
     words: &[String],
@@ -209,6 +348,10 @@ pub fn program<S: Store, X: Out, Y: Out>(
 ) -> u8
     requires out { X.failed out.old < 2 ^ 64 - 1 }
     requires err { Y.failed err.old < 2 ^ 64 - 1 }
+    ensures { (r : Result ℕ Fault)
+        × IsAnswered (S.asked store.old) (S.asked store.new)
+        (printing (X.taken out.old) (X.taken out.new) (X.failed out.old) (X.failed out.new)) r
+        × Exits r result (printing (Y.taken err.old) (Y.taken err.new) (Y.failed err.old) (Y.failed err.new)) }
 {
     match answer(alloc, words, store, out) {
         Ok(status) => status,

@@ -1,11 +1,14 @@
 //! Why a command gives no answer.
 
+ghost use Rattle.std.specs.Prelude.{◌≡◌};
+ghost use Rattle.wasmkit.specs.declared.fault.ProgramFault.TheVariants.{Memory as no_memory};
+ghost use Rattle.wasmkit.specs.Faults.{fault_status, of_list, IsOfLoad, IsOfSave, IsOfWords};
+
 use crate::store::StoreFault;
 use clap::error::ErrorKind;
 use std::alloc::{AllocError, AllocFailed};
 use thiserror::Error;
 use wk_bytes::OutOfMemory;
-use wk_edit::RunFault;
 use wk_list::ListFault;
 
 /// Why a command gives no answer. Its text, which ends with LF, goes to standard error.
@@ -33,7 +36,9 @@ pub enum ProgramFault<'a> {
 
 impl<'a> ProgramFault<'a> {
     /// The status of the program: 3 for its words, 4 for files and standard output, 5 for memory.
-    pub fn status(&self) -> u8 {
+    pub fn status(&self) -> u8
+        ensures { result ≡ fault_status self.now }
+    {
         match self {
             ProgramFault::CommandLine(_) | ProgramFault::BadWords => 3,
             ProgramFault::Read(_) | ProgramFault::Write(_) | ProgramFault::Output => 4,
@@ -42,7 +47,9 @@ impl<'a> ProgramFault<'a> {
     }
 
     /// Of a file that was not read.
-    pub fn of_load(fault: StoreFault, name: &'a str) -> ProgramFault<'a> {
+    pub fn of_load(fault: StoreFault, name: &'a str) -> ProgramFault<'a>
+        ensures { IsOfLoad name.now fault result }
+    {
         match fault {
             StoreFault::Failed => ProgramFault::Read(name),
             StoreFault::Memory => ProgramFault::Memory,
@@ -50,7 +57,9 @@ impl<'a> ProgramFault<'a> {
     }
 
     /// Of a file that was not written.
-    pub fn of_save(fault: StoreFault, name: &'a str) -> ProgramFault<'a> {
+    pub fn of_save(fault: StoreFault, name: &'a str) -> ProgramFault<'a>
+        ensures { IsOfSave name.now fault result }
+    {
         match fault {
             StoreFault::Failed => ProgramFault::Write(name),
             StoreFault::Memory => ProgramFault::Memory,
@@ -59,6 +68,8 @@ impl<'a> ProgramFault<'a> {
 }
 
 impl<'a> From<clap::Error> for ProgramFault<'a> {
+    ghost from_gives = { λ _ f. IsOfWords f };
+
     fn from(error: clap::Error) -> ProgramFault<'a> {
         match error.kind() {
             ErrorKind::OutOfMemory => ProgramFault::Memory,
@@ -67,14 +78,9 @@ impl<'a> From<clap::Error> for ProgramFault<'a> {
     }
 }
 
-// The program's outputs of a run lie in memory, so that each of its faults is a growth that was refused.
-impl<'a> From<RunFault> for ProgramFault<'a> {
-    fn from(_fault: RunFault) -> ProgramFault<'a> {
-        ProgramFault::Memory
-    }
-}
-
 impl<'a> From<ListFault> for ProgramFault<'a> {
+    ghost from_gives = { λ e f. f ≡ of_list e };
+
     fn from(fault: ListFault) -> ProgramFault<'a> {
         match fault {
             ListFault::Write => ProgramFault::Output,
@@ -84,18 +90,24 @@ impl<'a> From<ListFault> for ProgramFault<'a> {
 }
 
 impl<'a> From<OutOfMemory> for ProgramFault<'a> {
+    ghost from_gives = { λ _ f. f ≡ no_memory };
+
     fn from(_error: OutOfMemory) -> ProgramFault<'a> {
         ProgramFault::Memory
     }
 }
 
 impl<'a> From<AllocError> for ProgramFault<'a> {
+    ghost from_gives = { λ _ f. f ≡ no_memory };
+
     fn from(_error: AllocError) -> ProgramFault<'a> {
         ProgramFault::Memory
     }
 }
 
 impl<'a, T: Drop> From<AllocFailed<T>> for ProgramFault<'a> {
+    ghost from_gives = { λ _ f. f ≡ no_memory };
+
     fn from(_error: AllocFailed<T>) -> ProgramFault<'a> {
         ProgramFault::Memory
     }

@@ -124,6 +124,10 @@ fn write_whole<R: Files + AllocGlobal>(rt: &R, name: &str, bytes: &[u8]) -> io::
 }
 
 impl<'a, R: Files + AllocGlobal> Store for MachineFiles<'a, R> {
+    ghost use Rattle.std.specs.Prelude.{None};
+
+    ghost asked = { λ files. None };
+
     fn load(&mut self, name: &str) -> Result<Vec<u8>, StoreFault> {
         read_whole(self.rt, name).map_err(fault_of)
     }

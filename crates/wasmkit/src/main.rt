@@ -1,9 +1,17 @@
 //! `wasmkit`: reads, judges, lists, strips and edits WebAssembly 1.0 binary modules.
 //!
-//! The command line, the files and the order in which they are read and written are in `docs/CLI.md`; they are tested. What is
-//! printed of bytes is what `wk_answers` and `wk_edit` answer, and what OUT gets is that of `wk_strip` and `wk_edit`: their clauses
-//! say it.
+//! # What it promises
+//!
+//! - `program` is the whole behind the words, for every `Store` of files and every `Out` (`specs/Runs`, beside `docs/CLI.md`). The files of
+//!   the command are loaded in their order and nothing else is; OUT is saved at most once, behind them; standard output gets its text, or a
+//!   beginning of it where it fails; and the exit status is that of what came of the files, or of what failed.
+//! - What came of them is by the definitions of `wk_answers`, `wk_strip` and `wk_edit` (`specs/Answers`).
+//! - Words that are no command ask nothing of the store, and print nothing on standard output.
+//!
+//! Which command the words are, the texts on standard error and the machine's files have no clauses: they are tested.
 #![tactic(auto)]
+
+ghost use Rattle.wasmkit.specs.Faults.{IsOfWords};
 
 mod command;
 mod commands;
@@ -28,7 +36,9 @@ fn words(rt: &HostRuntime) -> io::Result<Vec<String>> {
 }
 
 // Words that are no text are a bad command line.
-fn fault_of(error: &io::Error) -> ProgramFault<'static> {
+fn fault_of(error: &io::Error) -> ProgramFault<'static>
+    ensures { IsOfWords result }
+{
     match error.kind() {
         io::ErrorKind::OutOfMemory => ProgramFault::Memory,
         _ => ProgramFault::BadWords,

@@ -28,6 +28,10 @@ pub(crate) struct Shelf {
 }
 
 impl Store for Shelf {
+    ghost use Rattle.std.specs.Prelude.{None};
+
+    ghost asked = { λ shelf. None };
+
     fn load(&mut self, name: &str) -> Result<Vec<u8>, StoreFault> {
         let bytes = if name == "in.wasm" {
             self.module
@@ -217,7 +221,12 @@ fn edits_keep_modules_valid(rt: HostRuntime) -> Result<(), Fail> {
 }
 
 // Words, the status, and what is said.
-const REFUSED: [(&[&str], u8, &str); 46] = [
+const REFUSED: [(&[&str], u8, &str); 47] = [
+    (
+        &["edit", "none", "gone", "out.wasm"],
+        4,
+        "cannot read none\n",
+    ),
     (
         &["edit", "in.wasm", "script", "large"],
         5,
@@ -376,10 +385,14 @@ fn says_what_is_not_saved(rt: HostRuntime) -> Result<(), Fail> {
 #[test]
 fn says_what_is_not_printed(rt: HostRuntime) -> Result<(), Fail> {
     let alloc = rt.alloc();
-    let rows: [(&[&str], &[u8], Option<&[u8]>); 3] = [
+    let rows: [(&[&str], &[u8], Option<&[u8]>); 7] = [
         (&EDIT, EMPTY, Some(ONE_TYPE)),
+        (&EDIT, BAD_NAME, None),
         (&["sections", "in.wasm"], CUSTOMS, None),
         (&["objdump", "in.wasm"], CUSTOMS, None),
+        (&["strip", "in.wasm", "out.wasm"], BAD_NAME, None),
+        (&["validate", "in.wasm"], TWO_RESULTS, None),
+        (&["validate", "in.wasm"], BAD_NAME, None),
     ];
     for (words, module, saved) in rows {
         let words = owned(alloc, words)?;

@@ -1,3 +1,2 @@
 pub mod DumpingSteps
 pub mod ListingSteps
-pub mod Refusals

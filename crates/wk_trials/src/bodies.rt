@@ -106,8 +106,8 @@ pub(crate) enum ReadCode {
     Body,
     /// `Scratch::read_body` in a room that was used before.
     Again,
-    /// `Scratch::append_spelled` to a full vector.
-    Append,
+    /// `Scratch::written_form`.
+    Form,
     /// `next_groups`, and `TokenReader::next` up to the end.
     Tokens,
 }
@@ -121,7 +121,7 @@ impl ReadCode {
         match self {
             ReadCode::Body => code.reads(alloc),
             ReadCode::Again => code.reads_again(alloc),
-            ReadCode::Append => code.appends_spelled(alloc),
+            ReadCode::Form => code.writes_form(alloc),
             ReadCode::Tokens => code.reads_tokens(alloc),
         }
     }
@@ -181,20 +181,17 @@ impl Code {
         self.was_read(alloc, &answer)
     }
 
-    fn appends_spelled(self, alloc: Global) -> Outcome
+    fn writes_form(self, alloc: Global) -> Outcome
         requires { length self.padded.now ≤ LIMIT }
     {
-        let Some(mut bytes) = vector(alloc, Room::Full) else {
-            return Outcome::NO_SAMPLE;
-        };
         let mut scratch = Scratch::new(alloc);
         let cursor = Cursor::new(self.padded);
         call_begins(alloc);
-        let answer = scratch.append_spelled(alloc, &mut bytes, &cursor, self.profile);
+        let answer = scratch.written_form(alloc, &cursor, self.profile);
         call_ends(alloc);
         match answer {
-            Ok(()) => Outcome::answered(has_appended(&bytes, self.written)),
-            Err(fault) => Outcome::refused(fault == NO_MEMORY && has_appended(&bytes, &[])),
+            Ok(written) => Outcome::answered(written == self.written),
+            Err(fault) => Outcome::refused(fault == NO_MEMORY),
         }
     }
 

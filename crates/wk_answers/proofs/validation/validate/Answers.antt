@@ -5,7 +5,7 @@ use Rattle.wk_module.specs.ListReading.{IsReading}
 use Rattle.wk_module.specs.Reading.{module_at}
 use Rattle.wk_check.specs.Spelled.{judged}
 use Rattle.wk_answers.specs.Validation.{printed, status_of}
-use Rattle.wk_answers.proofs.Refusals.{other_fault}
+use Rattle.wk_answers.specs.RefusalLaws.{other_fault}
 use Rattle.wk_answers.proofs.validation.validate.Goals as goal
 
 -- where there is no verdict, there is no module

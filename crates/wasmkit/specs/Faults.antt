@@ -1,0 +1,41 @@
+-- Why a command gives no answer.
+use Rattle.std.specs.Prelude.{◌≡◌, ℕ, List}
+use Rattle.wk_list.specs.declared.fault.ListFault.{ListFault}
+use Rattle.wk_list.specs.declared.fault.ListFault.TheVariants as lists
+use Rattle.wasmkit.specs.declared.store.StoreFault.{StoreFault}
+use Rattle.wasmkit.specs.declared.store.StoreFault.TheVariants as stores
+use Rattle.wasmkit.specs.declared.fault.ProgramFault.{ProgramFault}
+use Rattle.wasmkit.specs.declared.fault.ProgramFault.TheVariants.{CommandLine, BadWords, Read, Write, Output, Memory}
+
+-- the exit status
+abbrev pub fault_status : ProgramFault → ℕ
+fault_status (CommandLine complaint) = 3
+fault_status BadWords = 3
+fault_status (Read name) = 4
+fault_status (Write name) = 4
+fault_status Output = 4
+fault_status Memory = 5
+
+-- of a file of that name that was not read
+abbrev pub IsOfLoad : List ℕ → StoreFault → ProgramFault → Type 0
+IsOfLoad name stores.Failed (Read told) = told.now ≡ name
+IsOfLoad name stores.Memory Memory = Unit {0}
+IsOfLoad name why fault = ⊥
+
+-- of a file of that name that was not written
+abbrev pub IsOfSave : List ℕ → StoreFault → ProgramFault → Type 0
+IsOfSave name stores.Failed (Write told) = told.now ≡ name
+IsOfSave name stores.Memory Memory = Unit {0}
+IsOfSave name why fault = ⊥
+
+-- of words that are no command that is carried out, or of want of memory
+abbrev pub IsOfWords : ProgramFault → Type 0
+IsOfWords (CommandLine complaint) = Unit {0}
+IsOfWords BadWords = Unit {0}
+IsOfWords Memory = Unit {0}
+IsOfWords fault = ⊥
+
+-- of a listing that stopped
+abbrev pub of_list : ListFault → ProgramFault
+of_list lists.Write = Output
+of_list lists.Memory = Memory
