@@ -37,7 +37,7 @@ pub(crate) static CODES: [Named; 56] = [
     ),
     (
         "append-spelled",
-        Scenario::ReadCode(ReadCode::Append, CORE_CODE),
+        Scenario::ReadCode(ReadCode::Form, CORE_CODE),
     ),
     (
         "read-tokens",
@@ -64,7 +64,7 @@ pub(crate) static CODES: [Named; 56] = [
     ),
     (
         "append-spelled-wide",
-        Scenario::ReadCode(ReadCode::Append, WIDE_CODE),
+        Scenario::ReadCode(ReadCode::Form, WIDE_CODE),
     ),
     (
         "read-tokens-wide",
