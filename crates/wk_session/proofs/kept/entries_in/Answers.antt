@@ -25,5 +25,5 @@ loop-func-preserved g c =
       refs = pushed uses_of fs i f (map keys c.loop-func.refs.items) (map keys c.push-in-loop-func.new.self.items) c.in_ok-found.found.keys within at so_far.refs more (c.in_ok-found.ensures f (λ j. f.ty) (λ j. f.body));
       codes = pushed code_of fs i f c.loop-func.codes.items c.push-in-loop-func-2.new.self.items c.in_ok-code.code within at so_far.codes c.in_ok-push-3.ensures.items c.in_ok-code.ensures.code;
       typed = c.in_ok-verdict.ensures.typed ∙ ap (λ n. n + 1) so_far.typed;
-      encoded = c.in_ok-code.ensures.encoded ∙ ap (λ n. n + 1) so_far.encoded;
+      encoded = c.in_ok-code.ensures.made ∙ ap (λ n. n + 1) so_far.encoded;
     }
