@@ -18,7 +18,7 @@ returns-in-Ok g c =
     let input = c.in_ok-input.input.items in
     let read : module_at a.profile input ≡ Ok c.in-Ok.«module» = search rules in
     loaded a.file.now input (λ input. Gives [] (dumped a input)) _ _ _ _ _ c.in_ok-input.ensures
-    (on_read [] (listed a.parts.items) _ _ _ _ _ _ read (ends (search rules)))
+    (on_read [] (listed a.parts.items) _ _ _ _ _ _ read (ends c.list_module.ensures))
 
 pub returns : goal.returns
 returns g c =
