@@ -17,8 +17,9 @@ returns-in-Ok g c =
     let a = c.args.command in
     let input = c.in_ok-input.input.items in
     let read : module_at a.profile input ≡ Ok c.in-Ok.«module» = search rules in
+    let whole = rw c.deref-in-Ok.ensures.value at c.list_module.ensures in
     loaded a.file.now input (λ input. Gives [] (dumped a input)) _ _ _ _ _ c.in_ok-input.ensures
-    (on_read [] (listed a.parts.items) _ _ _ _ _ _ read (ends c.list_module.ensures))
+    (on_read [] (listed a.parts.items) _ _ _ _ _ _ read (ends whole))
 
 pub returns : goal.returns
 returns g c =
