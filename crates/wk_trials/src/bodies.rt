@@ -108,6 +108,8 @@ pub(crate) enum ReadCode {
     Again,
     /// `Scratch::written_form`.
     Form,
+    /// `code_bytes` of bytes that are not the shortest.
+    Shorten,
     /// `next_groups`, and `TokenReader::next` up to the end.
     Tokens,
 }
@@ -122,6 +124,7 @@ impl ReadCode {
             ReadCode::Body => code.reads(alloc),
             ReadCode::Again => code.reads_again(alloc),
             ReadCode::Form => code.writes_form(alloc),
+            ReadCode::Shorten => code.shortens(alloc),
             ReadCode::Tokens => code.reads_tokens(alloc),
         }
     }
@@ -216,8 +219,6 @@ impl Code {
 pub(crate) enum OfBody {
     /// `encode_body`.
     Encode,
-    /// `code_bytes` of bytes that are not the shortest.
-    Shorten,
     /// `append_body`.
     Append,
     /// `shift` of functions.
@@ -244,7 +245,6 @@ impl OfBody {
     fn run_on(self, alloc: Global, code: Code, body: &Body) -> Outcome {
         match self {
             OfBody::Encode => code.encodes(alloc, body),
-            OfBody::Shorten => code.shortens(alloc, body),
             OfBody::Append => code.appends(alloc, body),
             OfBody::Shift => code.shifts(alloc, body),
             OfBody::Clone => code.clones(alloc, body),
@@ -288,11 +288,14 @@ impl Code {
         self.was_encoded(alloc, &answer, body)
     }
 
-    fn shortens(self, alloc: Global, body: &Body) -> Outcome {
+    fn shortens(self, alloc: Global) -> Outcome {
+        let Ok(body) = read_body_in(alloc, self.padded, self.profile) else {
+            return Outcome::NO_SAMPLE;
+        };
         call_begins(alloc);
-        let answer = code_bytes(alloc, body, self.padded);
+        let answer = code_bytes(alloc, &body, self.padded);
         call_ends(alloc);
-        self.was_encoded(alloc, &answer, body)
+        self.was_encoded(alloc, &answer, &body)
     }
 
     fn appends(self, alloc: Global, body: &Body) -> Outcome {
