@@ -44,7 +44,10 @@ pub(crate) static CODES: [Named; 56] = [
         Scenario::ReadCode(ReadCode::Tokens, CORE_CODE),
     ),
     ("encode-body", Scenario::OfBody(OfBody::Encode, CORE_CODE)),
-    ("code-bytes", Scenario::ReadCode(ReadCode::Shorten, CORE_CODE)),
+    (
+        "code-bytes",
+        Scenario::ReadCode(ReadCode::Shorten, CORE_CODE),
+    ),
     ("append-body", Scenario::OfBody(OfBody::Append, CORE_CODE)),
     ("shift", Scenario::OfBody(OfBody::Shift, CORE_CODE)),
     ("clone-body", Scenario::OfBody(OfBody::Clone, CORE_CODE)),
