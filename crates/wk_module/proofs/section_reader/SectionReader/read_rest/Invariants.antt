@@ -1,7 +1,7 @@
 use Rattle.std.proofs.Common.{◌≡◌, ℕ}
 use Rattle.wk_module.specs.Listed.{AreNumbered}
-use Rattle.wk_module.specs.ListReading.{lists_read, front_read, rest_read, Rise}
-use Rattle.wk_module.proofs.section_reader.SectionReader.up_to_code.Given as goal
+use Rattle.wk_module.specs.ListReading.{lists_read, rest_read, Rise}
+use Rattle.wk_module.proofs.section_reader.SectionReader.read_rest.Given as goal
 
 abbrev pub invariant-loop-section : goal.invariant-loop-section
 invariant-loop-section l = record {
@@ -11,6 +11,4 @@ invariant-loop-section l = record {
   rise : (last : ℕ) × Rise last l.left;
   few : AreNumbered l.so_far.lists;
   same : l.profile ≡ l.fn.self.profile;
-  front : front_read l.profile l.so_far.lists l.left ≡ front_read l.fn.self.profile l.fn.self.lists l.fn.self.left;
-  no_codes : l.so_far.lists.codes ≡ l.fn.self.lists.codes;
 }
