@@ -130,7 +130,7 @@ IsAnswered before after p r = IsUnread before after p r ⊎ IsCarried before aft
 
 -- ---- the exit status
 
--- It is that of the answer, with nothing on standard error; or of the fault, which is told there, or of want of memory for its text.
+-- It is that of the answer, with nothing on standard error; or of the fault, or of want of memory for its text.
 abbrev pub Exits : Result ℕ ProgramFault → ℕ → Printing → Type 0
 Exits (Ok told) status err = (status ≡ told) × GetsNothing err
 Exits (Err fault) status err = (status ≡ fault_status fault) ⊎ (status ≡ 5)

@@ -21,9 +21,9 @@ use crate::store::Store;
 use std::alloc::Global;
 use wk_answers::{Listing, Validation, list_parts, list_sections, validate};
 use wk_bytes::{Out, OutOfMemory, ReadFault, ReadKind, Sink, put_all};
-use wk_edit::{Status, edit_in, malformed_line};
-use wk_list::{Part, Plain};
-use wk_module::{Module, Profile, read_in};
+use wk_edit::{Status, edit_owned, malformed_line};
+use wk_list::{Layout, Part};
+use wk_module::{EncodeFault, Module, Profile, read_in};
 use wk_strip::strip_bytes;
 
 // Loads a file.
@@ -124,17 +124,17 @@ impl Edited {
 // Makes the edits of a script on a module. Both outputs lie in memory, so that each fault is a growth that was refused.
 fn edit_bytes(
     alloc: Global,
-    input: &[u8],
+    input: Vec<u8>,
     script: &[u8],
     keep_valid: bool,
     profile: Profile,
 ) -> Result<Edited, OutOfMemory>
-    ensures { IfOk result (λ e. AreOf (outcome_of keep_valid profile input.now script.now)
+    ensures { IfOk result (λ e. AreOf (outcome_of keep_valid profile input.items script.now)
         e.status e.module.items e.report.items) }
 {
     let mut module = Sink::new(Vec::new(alloc));
     let mut report = Sink::new(Vec::new(alloc));
-    match edit_in(
+    match edit_owned(
         alloc,
         input,
         script,
@@ -165,7 +165,7 @@ fn run_edit<'a, S: Store, X: Out>(
 {
     let input = load(store, command.file)?;
     let script = load(store, command.script)?;
-    let edited = edit_bytes(alloc, &input, &script, command.keep_valid, command.profile)?;
+    let edited = edit_bytes(alloc, input, &script, command.keep_valid, command.profile)?;
     give(
         command.out,
         edited.saved(),
@@ -176,7 +176,7 @@ fn run_edit<'a, S: Store, X: Out>(
     )
 }
 
-// Lists parts of a module: they go out as they are worked out.
+// Lists parts of a module, whose bodies are measured once: they go out as they are worked out.
 fn list_module<'a, X: Out>(
     alloc: Global,
     whole: &Module,
@@ -188,10 +188,12 @@ fn list_module<'a, X: Out>(
     ensures { Gives [] (listed parts.now whole.now) []
         (printing (X.taken out.old) (X.taken out.new) (X.failed out.old) (X.failed out.new)) result }
 {
-    let Some(plain) = Plain::of(whole) else {
-        unreachable!()
+    let layout = match Layout::of(alloc, whole) {
+        Ok(layout) => layout,
+        Err(EncodeFault::Memory) => return Err(ProgramFault::Memory),
+        Err(EncodeFault::TooLarge) => unreachable!(),
     };
-    list_parts(alloc, &plain, parts, out)?;
+    list_parts(alloc, &layout, parts, out)?;
     Ok(0)
 }
 

@@ -4,7 +4,7 @@
 //!
 //! - `program` is the whole behind the words, for every `Store` of files and every `Out` (`specs/Runs`, beside `docs/CLI.md`). The files of
 //!   the command are loaded in their order and nothing else is; OUT is saved at most once, behind them; standard output gets its text, or a
-//!   beginning of it where it fails; and the exit status is that of what came of the files, or of what failed.
+//!   beginning of it where it fails or a listing wants memory; and the exit status is that of what came of the files, or of what failed, or 5.
 //! - What came of them is by the definitions of `wk_answers`, `wk_strip` and `wk_edit` (`specs/Answers`).
 //! - Words that are no command ask nothing of the store, and print nothing on standard output.
 //!

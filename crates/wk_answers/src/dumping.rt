@@ -8,7 +8,7 @@ ghost use Rattle.wk_list.specs.Taken.{failed_after};
 
 use std::alloc::Global;
 use wk_bytes::Out;
-use wk_list::{ListFault, Part, Plain, list};
+use wk_list::{ListFault, Part, Shape, list};
 
 /// Lists these parts of a module, one behind the other.
 ///
@@ -16,19 +16,19 @@ use wk_list::{ListFault, Part, Plain, list};
 ///
 /// `Write` only where the [`Out`] failed in this call, and else `Memory` where a growth was refused. After either a beginning of the
 /// parts was taken.
-pub fn list_parts<X: Out>(
+pub fn list_parts<S: Shape, X: Out>(
     alloc: Global,
-    plain: &Plain<'_>,
+    shape: &S,
     parts: &[Part],
     out: &mut X,
 ) -> Result<(), ListFault>
     requires { X.failed out.old < 2 ^ 64 - 1 }
-    ensures ok { OnOk result (Appends (X.taken out.old) (X.taken out.new) (flat_map (listing plain.now) parts.now)) }
-    ensures err { OnErr result (TakesFront (X.taken out.old) (X.taken out.new) (flat_map (listing plain.now) parts.now)) }
+    ensures ok { OnOk result (Appends (X.taken out.old) (X.taken out.new) (flat_map (listing (S.seen shape.now)) parts.now)) }
+    ensures err { OnErr result (TakesFront (X.taken out.old) (X.taken out.new) (flat_map (listing (S.seen shape.now)) parts.now)) }
     ensures failures { X.failed out.new ≡ failed_after (X.failed out.old) result }
 {
     for part in parts {
-        list(alloc, plain, *part, out)?;
+        list(alloc, shape, *part, out)?;
     }
     Ok(())
 }

@@ -2,7 +2,8 @@
 //!
 //! # What it promises
 //!
-//! - [`list_sections`] is a line for each item of `sections_of` the bytes, and whether one of them is a fault (`specs/Listing`).
+//! - [`list_sections`] is a line for each item of `sections_of` the bytes, and whether one of them is a fault (`specs/Listing`): each
+//!   section lies in the bytes, and the fault stands in them.
 //! - [`list_parts`] is the listings of these parts of a module, one behind the other, or after a fault a beginning of them.
 //! - [`validate`] is the verdict line of the module that the bytes spell in a profile, or the line of their first fault, with the
 //!   status (`specs/Validation`). That it judges by `judge_bytes`, and never holds that module whole, makes no difference to its clauses.

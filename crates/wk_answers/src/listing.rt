@@ -1,8 +1,9 @@
 //! The sections of a module, listed with their contents unread.
-ghost use Rattle.std.specs.Prelude.{◌≡◌, ◌++◌, IfOk, OnOk};
+ghost use Rattle.std.specs.Prelude.{◌≡◌, ◌++◌, All, IfOk, OnOk};
 ghost use Rattle.std.specs.List.{list_any};
 ghost use Rattle.wk_bytes.specs.Frames.{sections_of};
 ghost use Rattle.wk_bytes.specs.Raw.{item_view, raw_view};
+ghost use Rattle.wk_bytes.specs.Stands.{ItemStands};
 ghost use Rattle.wk_answers.specs.Listing.{is_fault, item_line, listing, section_line};
 
 use std::alloc::Global;
@@ -55,6 +56,8 @@ fn put_item(
 pub fn list_sections(alloc: Global, bytes: &[u8]) -> Result<Listing, OutOfMemory>
     ensures text { IfOk result (λ l. l.text.items ≡ listing (sections_of bytes.now)) }
     ensures fault { IfOk result (λ l. l.has_fault ≡ list_any is_fault (sections_of bytes.now)) }
+    // Each section that has a line lies in the bytes, and the fault stands in them.
+    ensures stands { All (ItemStands bytes.now) (sections_of bytes.now) }
 {
     let mut text = Vec::new(alloc);
     let mut has_fault = false;

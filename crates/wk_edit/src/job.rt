@@ -30,9 +30,46 @@ fn write_edited<W: Out>(session: &Option<Session>, out: &mut W) -> Result<(), Wr
 /// Reads the module `input` of a profile, makes the edits of `script` on it in order, writes the edited module to `out` and a
 /// report to `report`. Where `keep_valid` says so, an edit that would leave an invalid module is refused.
 ///
-/// The module is read first, then the script, and all is computed before the first byte is written. A module or a
-/// script that cannot be read gives a report of one line and no module. Want of memory, also where an edit met it, is
-/// `Memory`, and then nothing was written. `Out` and `Report` come only where that output failed.
+/// The module is read first, then the script, and all is computed before the first byte is written. The bytes of the module
+/// are let go once it is read. A module or a script that cannot be read gives a report of one line and no module. Want of
+/// memory, also where an edit met it, is `Memory`, and then nothing was written. `Out` and `Report` come only where that
+/// output failed.
+pub fn edit_owned<W: Out, X: Out>(
+    alloc: Global,
+    input: Vec<u8>,
+    script: &[u8],
+    keep_valid: bool,
+    profile: Profile,
+    out: &mut W,
+    report: &mut X,
+) -> Result<Status, RunFault>
+    requires out { W.failed out.old < 2 ^ 64 - 1 }
+    requires report { X.failed report.old < 2 ^ 64 - 1 }
+    ensures status { IfOk result (λ status. status ≡ (outcome_of keep_valid profile input.items script.now).status) }
+    ensures out { OutTakes (W.taken out.old) (W.taken out.new) (outcome_of keep_valid profile input.items script.now) result }
+    ensures report { ReportTakes (X.taken report.old) (X.taken report.new) (outcome_of keep_valid profile input.items script.now) result }
+    ensures out_failures { W.failed out.new ≡ out_failures (W.failed out.old) result }
+    ensures report_failures { X.failed report.new ≡ report_failures (X.failed report.old) result }
+    // The outcome is what the grammar, the edits and the verdict say, and what is written spells the edited module and no other.
+    ensures means { OnRun result (IsReport keep_valid profile input.items script.now (outcome_of keep_valid profile input.items script.now)) }
+{
+    let Prepared {
+        session,
+        text,
+        status,
+    } = prepare(alloc, input, script, keep_valid, profile)?;
+    match write_edited(&session, out) {
+        Ok(()) => {}
+        Err(WriteFault::Write) => return Err(RunFault::Out),
+        Err(WriteFault::Memory) => return Err(RunFault::Memory),
+    }
+    match put_all(report, text.as_bytes()) {
+        Ok(()) => Ok(status),
+        Err(OutFault) => Err(RunFault::Report),
+    }
+}
+
+/// Edits a module whose bytes are lent, as [`edit_owned`] does: they are copied.
 pub fn edit_in<W: Out, X: Out>(
     alloc: Global,
     input: &[u8],
@@ -49,23 +86,10 @@ pub fn edit_in<W: Out, X: Out>(
     ensures report { ReportTakes (X.taken report.old) (X.taken report.new) (outcome_of keep_valid profile input.now script.now) result }
     ensures out_failures { W.failed out.new ≡ out_failures (W.failed out.old) result }
     ensures report_failures { X.failed report.new ≡ report_failures (X.failed report.old) result }
-    // The outcome is what the grammar, the edits and the verdict say, and what is written spells the edited module and no other.
     ensures means { OnRun result (IsReport keep_valid profile input.now script.now (outcome_of keep_valid profile input.now script.now)) }
 {
-    let Prepared {
-        session,
-        text,
-        status,
-    } = prepare(alloc, input, script, keep_valid, profile)?;
-    match write_edited(&session, out) {
-        Ok(()) => {}
-        Err(WriteFault::Write) => return Err(RunFault::Out),
-        Err(WriteFault::Memory) => return Err(RunFault::Memory),
-    }
-    match put_all(report, text.as_bytes()) {
-        Ok(()) => Ok(status),
-        Err(OutFault) => Err(RunFault::Report),
-    }
+    let input = Vec::from_slice(alloc, input)?;
+    edit_owned(alloc, input, script, keep_valid, profile, out, report)
 }
 
 /// Edits a module of WebAssembly 1.0, as [`edit_in`] does.

@@ -126,22 +126,24 @@ fn of_run(
     })
 }
 
-/// Reads the module and then the script, makes the edits, and puts the report together.
+/// Reads the module, lets its bytes go, reads the script, makes the edits, and puts the report together.
 pub(crate) fn prepare(
     alloc: Global,
-    input: &[u8],
+    input: Vec<u8>,
     script: &[u8],
     keep_valid: bool,
     profile: Profile,
 ) -> Result<Prepared, RunFault>
-    ensures ok { IfOk result (IsPrepared (outcome_of keep_valid profile input.now script.now)) }
-    ensures means { OnOk result (IsSpelled (outcome_of keep_valid profile input.now script.now).edited
-        → IsReport keep_valid profile input.now script.now (outcome_of keep_valid profile input.now script.now)) }
+    ensures ok { IfOk result (IsPrepared (outcome_of keep_valid profile input.items script.now)) }
+    ensures means { OnOk result (IsSpelled (outcome_of keep_valid profile input.items script.now).edited
+        → IsReport keep_valid profile input.items script.now (outcome_of keep_valid profile input.items script.now)) }
     ensures memory { IfErr result (λ e. e ≡ RunFault.Memory) }
 {
     // The proof asks what this says: what code that is refused spells, and where its fault stands.
     reading_of_code();
-    let session = match Session::open_in(alloc, input, profile) {
+    let opened = Session::open_in(alloc, &input, profile);
+    drop(input);
+    let session = match opened {
         Ok(session) => session,
         Err(fault) => return of_malformed(alloc, &fault),
     };

@@ -1,9 +1,11 @@
 -- What there is to tell means, in the words of the grammars and of the verdict.
-use Rattle.std.specs.Prelude.{ℕ, Option, Some, None, List, Result, Ok, Err}
+use Rattle.std.specs.Prelude.{◌≢◌, ℕ, Option, Some, None, List, Result, Ok, Err}
 use Rattle.wk_bytes.specs.declared.fault.ReadFault.{ReadFault}
+use Rattle.wk_bytes.specs.declared.fault.ReadKind.TheVariants.{Memory}
 use Rattle.wk_bytes.specs.Stands.{StandsIn}
 use Rattle.wk_body.specs.declared.types.Profile.{Profile}
 use Rattle.wk_module.specs.declared.types.Parts.{Parts}
+use Rattle.wk_module.specs.ListReading.{IsReading}
 use Rattle.wk_module.specs.Modules.{SpellsNone}
 use Rattle.wk_module.specs.Reading.{module_at}
 use Rattle.wk_module.specs.Shape.{settle}
@@ -12,7 +14,7 @@ use Rattle.wk_strip.specs.Stripped.{IsStripped, with_kept}
 use Rattle.wk_edit.specs.Outcome.{outcome_of}
 use Rattle.wk_edit.specs.Theorem.{IsReport}
 use Rattle.wk_answers.specs.Validation.{printed, status_of, Means}
-use Rattle.wk_ffi.specs.Asked.{profile_of, flag_of, keep_of}
+use Rattle.wk_ffi.specs.Asked.{profile_of, part_of, flag_of, keep_of}
 
 -- of a number that has a meaning
 abbrev pub Given : {A : Type 0} → Option A → (A → Type 0) → Type 0
@@ -23,11 +25,22 @@ Given (Some a) P = P a
 abbrev pub ValidationMeans : ℕ → List ℕ → Type 0
 ValidationMeans profile bytes = Given (profile_of profile) (λ p. Means p bytes (printed (module_at p bytes)) (status_of (module_at p bytes)))
 
--- what is written is the one module that the bytes spell without the custom sections that go, and spells that alone; or they spell
--- none, and the fault stands in them
+-- the bytes spell no module, and the fault, which is no want of memory, stands in them
+abbrev pub MeansNone : Profile → List ℕ → ReadFault → Type 0
+MeansNone profile bytes fault = SpellsNone profile bytes × StandsIn bytes fault × (fault.kind ≢ Memory)
+
+-- what is listed is the one module that the bytes spell; or they spell none
+abbrev pub MeansListed : Profile → List ℕ → Result Parts ReadFault → Type 0
+MeansListed profile bytes (Ok m) = IsReading profile bytes (Ok m)
+MeansListed profile bytes (Err fault) = MeansNone profile bytes fault
+
+abbrev pub ListMeans : ℕ → ℕ → List ℕ → Type 0
+ListMeans profile part bytes = Given (profile_of profile) (λ p. Given (part_of part) (λ _. MeansListed p bytes (module_at p bytes)))
+
+-- what is written is the one module that the bytes spell without the custom sections that go, and spells that alone; or they spell none
 abbrev pub MeansStripped : Profile → Option (List ℕ) → List ℕ → Result Parts ReadFault → Type 0
 MeansStripped profile keep bytes (Ok m) = IsStripped profile keep bytes (encoded (settle (with_kept keep m)))
-MeansStripped profile keep bytes (Err fault) = SpellsNone profile bytes × StandsIn bytes fault
+MeansStripped profile keep bytes (Err fault) = MeansNone profile bytes fault
 
 abbrev pub StripMeans : ℕ → List ℕ → List ℕ → Type 0
 StripMeans profile keep bytes =

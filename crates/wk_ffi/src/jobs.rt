@@ -1,16 +1,19 @@
 //! What calls work out, before any of it is handed out.
-ghost use Rattle.std.specs.Prelude.{◌≡◌, ◌≢◌, [], IfErr, IfOk, OnOk, option_map};
+ghost use Rattle.std.specs.Prelude.{◌≡◌, ◌≢◌, [], All, IfErr, IfOk, OnOk, option_map};
+ghost use Rattle.wk_bytes.specs.Frames.{sections_of};
+ghost use Rattle.wk_bytes.specs.Stands.{ItemStands};
 ghost use Rattle.wk_module.specs.Reading.{module_at};
 ghost use Rattle.wk_module.specs.Writing.{Fits};
 ghost use Rattle.wk_list.specs.Listing.{listing};
 ghost use Rattle.wk_edit.specs.Outcome.{outcome_of};
 ghost use Rattle.wk_ffi.specs.declared.code.CallFault.TheVariants as CallFault;
 ghost use Rattle.wk_edit.specs.Theorem.{IsReport};
-ghost use Rattle.wk_ffi.specs.Meanings.{EditMeans, MeansStripped, StripMeans, ValidationMeans};
+ghost use Rattle.wk_ffi.specs.Meanings.{EditMeans, ListMeans, MeansListed, MeansStripped, StripMeans, ValidationMeans};
 ghost use Rattle.wk_ffi.specs.Outputs.{told_of, IsAnswer};
 ghost use Rattle.wk_ffi.specs.Told.{
   edit_told,
   list_told,
+  listing_answer,
   malformed_told,
   outcome_told,
   sections_told,
@@ -25,8 +28,8 @@ use std::alloc::Global;
 use wk_answers::{Listing, Validation, list_sections, validate};
 use wk_bytes::{ReadFault, ReadKind, Sink, Text};
 use wk_edit::{edit_in, malformed_line};
-use wk_list::{Part, Plain, list};
-use wk_module::{Module, Profile, read_in};
+use wk_list::{Layout, Part, list};
+use wk_module::{EncodeFault, Module, Profile, read_in, reading_of_module};
 use wk_strip::strip_bytes;
 
 // Of the lines alone.
@@ -72,7 +75,8 @@ pub fn validation(alloc: Global, bytes: &[u8], profile: u32) -> Result<Answer, C
 
 /// The sections that stand in bytes.
 pub fn sections(alloc: Global, bytes: &[u8]) -> Result<Answer, CallFault>
-    ensures { IsAnswer (sections_told bytes.now) result }
+    ensures told { IsAnswer (sections_told bytes.now) result }
+    ensures stands { OnOk result (All (ItemStands bytes.now) (sections_of bytes.now)) }
 {
     if !is_short(bytes) {
         return Err(CallFault::Argument);
@@ -92,24 +96,29 @@ fn list_module(alloc: Global, whole: &Module, part: Part) -> Result<Vec<u8>, Cal
     ensures ok { IfOk result (λ text. text.items ≡ listing whole.now part) }
     ensures memory { IfErr result (λ e. e ≡ CallFault.Memory) }
 {
-    let Some(plain) = Plain::of(whole) else {
-        unreachable!()
+    let layout = match Layout::of(alloc, whole) {
+        Ok(layout) => layout,
+        Err(EncodeFault::Memory) => return Err(CallFault::Memory),
+        Err(EncodeFault::TooLarge) => unreachable!(),
     };
     let mut text = Sink::new(Vec::new(alloc));
-    list(alloc, &plain, part, &mut text)?;
+    list(alloc, &layout, part, &mut text)?;
     Ok(text.into_inner())
 }
 
-/// A part of the listing of a module.
-pub fn listing(alloc: Global, bytes: &[u8], profile: u32, part: u32) -> Result<Answer, CallFault>
-    ensures { IsAnswer (list_told profile part bytes.now) result }
+// A part of the listing of the module that bytes spell.
+fn list_bytes(
+    alloc: Global,
+    bytes: &[u8],
+    profile: Profile,
+    part: Part,
+) -> Result<Answer, CallFault>
+    ensures ok { IfOk result (λ a. told_of a ≡ listing_answer part (module_at profile bytes.now)) }
+    ensures means { OnOk result (MeansListed profile bytes.now (module_at profile bytes.now)) }
+    ensures memory { IfErr result (λ e. e ≡ CallFault.Memory) }
 {
-    let (Some(profile), Some(part)) = (profile_of(profile), part_of(part)) else {
-        return Err(CallFault::Argument);
-    };
-    if !is_short(bytes) {
-        return Err(CallFault::Argument);
-    }
+    // The proof asks for what this says of modules.
+    reading_of_module(bytes, profile);
     match read_in(alloc, bytes, profile) {
         Ok(module) => {
             let text = list_module(alloc, &module, part)?;
@@ -117,6 +126,20 @@ pub fn listing(alloc: Global, bytes: &[u8], profile: u32, part: u32) -> Result<A
         }
         Err(fault) => of_malformed(alloc, &fault),
     }
+}
+
+/// A part of the listing of a module.
+pub fn listing(alloc: Global, bytes: &[u8], profile: u32, part: u32) -> Result<Answer, CallFault>
+    ensures told { IsAnswer (list_told profile part bytes.now) result }
+    ensures means { OnOk result (ListMeans profile part bytes.now) }
+{
+    let (Some(profile), Some(part)) = (profile_of(profile), part_of(part)) else {
+        return Err(CallFault::Argument);
+    };
+    if !is_short(bytes) {
+        return Err(CallFault::Argument);
+    }
+    list_bytes(alloc, bytes, profile, part)
 }
 
 // The module that bytes spell without its custom sections, but those of a name.

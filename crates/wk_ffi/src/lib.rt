@@ -25,9 +25,10 @@
 //!   neither.
 //! - The text and the code are those of `wk_answers::validate`, `list_sections`, `wk_list::listing` and `outcome_of`. The bytes of
 //!   [`wk_ffi_strip`] are `encoded` of the module with the customs that stay, and those of [`wk_ffi_edit`] those of the main theorem.
-//! - Where there is something to tell, it means what `Means` of `wk_answers` says ([`wk_ffi_validate`]), what `IsStripped` of `wk_strip`
-//!   does, or that the bytes spell no module and the fault stands in them ([`wk_ffi_strip`]), or what the main theorem does
-//!   ([`wk_ffi_edit`], `IsReport`): their clauses `means`.
+//! - Where there is something to tell, it means what `Means` of `wk_answers` says ([`wk_ffi_validate`]), that the module listed is the one
+//!   that the bytes spell ([`wk_ffi_list`], `MeansListed`) or what `IsStripped` of `wk_strip` does ([`wk_ffi_strip`]), or that the bytes
+//!   spell no module and the fault stands in them, or what the main theorem does ([`wk_ffi_edit`], `IsReport`): their clauses `means`.
+//!   Sections that are listed lie in the bytes, and the fault behind them stands there ([`wk_ffi_sections`], `stands`).
 //! - No clause speaks of null, of lengths that no slice has and of outputs that lie in one another, since a slice has none of these:
 //!   the header checks them, and `tests/embed` tries them.
 #![tactic(auto)]
@@ -37,7 +38,10 @@ mod code;
 mod hand;
 mod jobs;
 
-ghost use Rattle.wk_ffi.specs.Meanings.{EditMeans, StripMeans, ValidationMeans};
+ghost use Rattle.std.specs.Prelude.{All};
+ghost use Rattle.wk_bytes.specs.Frames.{sections_of};
+ghost use Rattle.wk_bytes.specs.Stands.{ItemStands};
+ghost use Rattle.wk_ffi.specs.Meanings.{EditMeans, ListMeans, StripMeans, ValidationMeans};
 ghost use Rattle.wk_ffi.specs.Outputs.{output, AnswersBoth, AnswersText, IsTold};
 ghost use Rattle.wk_ffi.specs.Told.{edit_told, list_told, sections_told, strip_told, validation_told};
 
@@ -69,7 +73,8 @@ pub extern "C" fn wk_ffi_sections(
     text: &mut [u8],
     text_len: &mut usize,
 ) -> u32
-    ensures { AnswersText (sections_told bytes.now) (output text.old text.new text_len.new) result }
+    ensures told { AnswersText (sections_told bytes.now) (output text.old text.new text_len.new) result }
+    ensures stands { IsTold result → All (ItemStands bytes.now) (sections_of bytes.now) }
 {
     hand_text(jobs::sections(alloc, bytes), text, text_len)
 }
@@ -85,7 +90,8 @@ pub extern "C" fn wk_ffi_list(
     text: &mut [u8],
     text_len: &mut usize,
 ) -> u32
-    ensures { AnswersText (list_told profile part bytes.now) (output text.old text.new text_len.new) result }
+    ensures told { AnswersText (list_told profile part bytes.now) (output text.old text.new text_len.new) result }
+    ensures means { IsTold result → ListMeans profile part bytes.now }
 {
     hand_text(jobs::listing(alloc, bytes, profile, part), text, text_len)
 }

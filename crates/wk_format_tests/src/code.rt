@@ -3,7 +3,7 @@
 use std::alloc::Global;
 use std::test::Fail;
 use wk_bytes::{RawSection, ReadFault, ReadKind};
-use wk_module::{Body, CodeReader, Profile, Scratch, SectionReader, encode_body};
+use wk_module::{Body, CodeReader, Lists, Profile, Scratch, SectionReader, encode_body};
 use wk_samples::modules::{CODES_OF_TWO, TWO_CODES};
 
 type UpToCode<'a> = Result<(SectionReader<'a>, Option<RawSection<'a>>), ReadFault>;
@@ -53,15 +53,16 @@ fn holds_codes(alloc: Global, section: &RawSection<'_>) -> bool {
 }
 
 // Whether there are so many functions and data segments.
-fn has(reader: &SectionReader<'_>, funcs: &[u32], datas: usize) -> bool {
-    let lists = reader.lists();
+fn has(lists: &Lists<'_>, funcs: &[u32], datas: usize) -> bool {
     lists.funcs == funcs && lists.datas.len() == datas
 }
 
-// Whether what stands behind the codes is read.
+// Whether what stands behind the codes is read, and kept where the reader is let go.
 fn reads_the_rest(alloc: Global, reader: SectionReader<'_>, funcs: &[u32]) -> bool {
     match reader.to_end(alloc, &mut Scratch::new(alloc)) {
-        Ok(reader) => has(&reader, funcs, 1),
+        Ok(reader) => {
+            has(&reader.lists(), funcs, 1) && has(&reader.into_lists().lists(), funcs, 1)
+        }
         Err(_) => false,
     }
 }
@@ -73,7 +74,7 @@ fn reads_two(alloc: Global) -> bool {
                 Some(section) => holds_codes(alloc, section),
                 None => false,
             };
-            are_codes && has(&reader, &[0, 0], 0) && reads_the_rest(alloc, reader, &[0, 0])
+            are_codes && has(&reader.lists(), &[0, 0], 0) && reads_the_rest(alloc, reader, &[0, 0])
         }
         Err(_) => false,
     }
@@ -86,7 +87,7 @@ const NO_CODES: &[u8] =
 fn reads_none(alloc: Global) -> bool {
     match up_to_code(alloc, NO_CODES) {
         Ok((reader, section)) => {
-            section.is_none() && has(&reader, &[5, 6], 1) && reads_the_rest(alloc, reader, &[5, 6])
+            section.is_none() && has(&reader.lists(), &[5, 6], 1) && reads_the_rest(alloc, reader, &[5, 6])
         }
         Err(_) => false,
     }

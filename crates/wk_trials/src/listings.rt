@@ -8,8 +8,8 @@ use crate::outcome::Outcome;
 use crate::sinks::{Room, holds, holds_begun, sink};
 use std::alloc::Global;
 use wk_bytes::{Out, Sink};
-use wk_list::{ListFault, Part, Plain, Shape, list};
-use wk_module::{Module, Profile};
+use wk_list::{Layout, ListFault, Part, Plain, Shape, list};
+use wk_module::{EncodeFault, Module, Profile};
 use wk_samples::listings::{CALLING, CODE, DETAILS, HEADERS, USES};
 use wk_samples::modules::WHOLE;
 use wk_samples::wide::{self, WIDE};
@@ -72,4 +72,28 @@ fn sees_plain_of(alloc: Global, module: &Module) -> Outcome {
     let len = plain.as_ref().map(|plain| plain.section_len(9));
     call_ends(alloc);
     Outcome::answered(matches!(len, Some(8 | 9)))
+}
+
+/// `Layout::of`, and the lengths that it tells as a `Shape`.
+pub(crate) fn lays_out(alloc: Global, sample: Sample) -> Outcome {
+    match sample.read(alloc) {
+        Ok(module) => lays_out_of(alloc, &module),
+        Err(_) => Outcome::NO_SAMPLE,
+    }
+}
+
+fn lays_out_of(alloc: Global, module: &Module) -> Outcome {
+    let Some(plain) = Plain::of(module) else {
+        return Outcome::NO_SAMPLE;
+    };
+    call_begins(alloc);
+    let answer = Layout::of(alloc, module);
+    call_ends(alloc);
+    match answer {
+        Ok(layout) => Outcome::answered(
+            layout.section_len(9) == plain.section_len(9)
+                && layout.section_len(10) == plain.section_len(10),
+        ),
+        Err(fault) => Outcome::refused(fault == EncodeFault::Memory),
+    }
 }

@@ -68,6 +68,8 @@ pub(crate) enum Scenario {
     Carry,
     /// `Plain::of`.
     Plain(Sample),
+    /// `Layout::of`.
+    Layout(Sample),
     /// `list` of a part to a `Sink`.
     List(Part, Profile, Room),
     /// `strip_bytes`.
@@ -153,6 +155,7 @@ impl Scenario {
             Scenario::OfValid(call, sample) => call.run(alloc, sample),
             Scenario::Carry => carrying::carries(alloc),
             Scenario::Plain(sample) => listings::sees_plain(alloc, sample),
+            Scenario::Layout(sample) => listings::lays_out(alloc, sample),
             Scenario::List(part, profile, room) => listings::lists(alloc, part, profile, room),
             Scenario::Strip(strip) => strip.run(alloc),
             _ => self.run_above(alloc),

@@ -57,19 +57,20 @@ fn is_framed(made: &[u8], id: u8, contents: &[u8]) -> bool {
     }
 }
 
-// Appends each section, up to the first that is refused. Says whether the bytes are right.
-fn append_each(lists: &Lists<'_>, out: &mut Vec<u8>) -> Result<bool, EncodeFault> {
+// Appends each section, up to the first that is refused. Says whether the bytes are right, and what stood there stays.
+fn append_each(lists: &Lists<'_>, bytes: Vec<u8>) -> Result<bool, EncodeFault> {
+    let mut out = bytes;
     let mut are_right = true;
     for section in OF_WHOLE {
         let start = out.len();
-        append_section(lists, section.id, out)?;
+        out = append_section(lists, section.id, out)?;
         are_right = are_right
             && match out.get(start..) {
                 Some(made) => is_framed(made, section.id, section.bytes),
                 None => false,
             };
     }
-    Ok(are_right)
+    Ok(are_right && out.starts_with(&BEFORE))
 }
 
 fn encode_customs(alloc: Global, parts: &Parts) -> Result<bool, EncodeFault> {
@@ -179,15 +180,12 @@ impl OfWhole {
 }
 
 fn appends_each(alloc: Global, module: &Module, lists: &Lists<'_>) -> Outcome {
-    let Some(mut bytes) = vector(alloc, Room::Full) else {
+    let Some(bytes) = vector(alloc, Room::Full) else {
         return Outcome::NO_SAMPLE;
     };
     call_begins(alloc);
-    let answer = append_each(lists, &mut bytes);
+    let answer = append_each(lists, bytes);
     call_ends(alloc);
-    if !bytes.starts_with(&BEFORE) {
-        return Outcome::Wrong("what stood there is gone");
-    }
     was_encoded(alloc, answer, module, WHOLE)
 }
 
@@ -206,7 +204,7 @@ fn copies(alloc: Global, module: &Module) -> Outcome {
 pub(crate) enum Walk {
     /// `SectionReader::up_to_code`.
     UpToCode,
-    /// `SectionReader::to_end`, behind the codes.
+    /// `SectionReader::to_end`, behind the codes, and `SectionReader::into_lists`.
     ToEnd,
     /// `CodeReader::next` of each code.
     Codes,
@@ -268,9 +266,9 @@ fn ends(alloc: Global, reader: SectionReader<'_>, scratch: &mut Scratch) -> Outc
     call_begins(alloc);
     let answer = reader.to_end(alloc, scratch);
     call_ends(alloc);
-    match &answer {
-        Ok(reader) => Outcome::answered(reader.lists().datas.len() == 1),
-        Err(fault) => Outcome::refused(*fault == NO_MEMORY),
+    match answer {
+        Ok(reader) => Outcome::answered(reader.into_lists().lists().datas.len() == 1),
+        Err(fault) => Outcome::refused(fault == NO_MEMORY),
     }
 }
 

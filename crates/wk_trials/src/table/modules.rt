@@ -95,6 +95,8 @@ pub(crate) static MODULES: [Named; 68] = [
     ("carry-in-room", Scenario::Carry),
     ("plain-in-room", Scenario::Plain(OF_ALL)),
     ("plain-wide-in-room", Scenario::Plain(OF_WIDE)),
+    ("layout", Scenario::Layout(OF_ALL)),
+    ("layout-wide", Scenario::Layout(OF_WIDE)),
     ("list-headers", Scenario::List(Part::Headers, Core, Ample)),
     ("list-details", Scenario::List(Part::Details, Core, Ample)),
     ("list-code", Scenario::List(Part::Code, Core, Ample)),

@@ -37,4 +37,4 @@ returns g c =
     let of : AreOf (outcome_of a.keep_valid a.profile input script) e.status e.«module».items e.report.items = search rules in
     loaded a.file.now input (λ input. Loads a.script.now (λ script. Gives a.out.now (edited a input script))) _ _ _ _ _ c.in_ok-input.ensures
     (loaded a.script.now script (λ script. Gives a.out.now (edited a input script)) _ _ _ _ _ c.in_ok-script.ensures
-    (given_edited a.out.now (outcome_of a.keep_valid a.profile input script) _ e.status _ e.«module».items e.report.items _ _ _ _ _ of c.saved.ensures c.code.ensures c.deref-3.ensures.value c.give.ensures))
+    (given_edited a.out.now (outcome_of a.keep_valid a.profile input script) _ e.status _ e.«module».items e.report.items _ _ _ _ _ of c.saved.ensures c.code.ensures c.deref-2.ensures.value c.give.ensures))
