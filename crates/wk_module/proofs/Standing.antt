@@ -1,5 +1,5 @@
 -- The faults of reading a module stand in its bytes.
-use Rattle.std.proofs.Common.{◌≡◌, ℕ, ◌≤◌, ◌==◌, ◌⊎◌, List, [], ◌∷◌, ◌++◌, length, Option, Some, None, Result, Ok, Err, All, refl, ap, subst, ◌∙◌, inl, inr, arith}
+use Rattle.std.proofs.Common.{◌≡◌, ℕ, ◌-◌, ◌≤◌, ◌==◌, ◌⊎◌, cond, List, [], ◌∷◌, ◌++◌, length, length-append, Option, Some, None, Result, Ok, Err, All, refl, sym, ap, subst, ◌∙◌, inl, inr, arith}
 use Rattle.std.specs.Prelude.{IfErr}
 use Rattle.std.proofs.lemmas.List.Elements.{All-head, All-tail}
 use Rattle.wk_bytes.specs.declared.fault.ReadKind.{ReadKind}
@@ -8,20 +8,22 @@ use Rattle.wk_bytes.specs.declared.fault.ReadFault.{ReadFault}
 use Rattle.wk_bytes.specs.Fault.{no_memory}
 use Rattle.wk_bytes.specs.Leb.{◌>>=◌}
 use Rattle.wk_bytes.specs.LebLaws.{chosen}
-use Rattle.wk_bytes.specs.Span.{fault, name_at}
+use Rattle.wk_bytes.specs.Span.{Span, fault, u32_at, name_at}
 use Rattle.wk_bytes.specs.SpanLaws.{err_is}
 use Rattle.wk_bytes.specs.Frames.{Section, sections_of}
 use Rattle.wk_bytes.specs.FrameStands.{sections_of-stand}
-use Rattle.wk_bytes.specs.Stands.{Stands, StandsIn, LiesIn, ItemStands, contents_of, whole}
-use Rattle.wk_bytes.specs.StandsLaws.{ReadsFront, ReadsFront-name_at, Stands-here, Stands-later, Stands-contents, Stands-at_end}
+use Rattle.wk_bytes.specs.Stands.{Stands, StandsIn, StandsOrMemory, LiesIn, ItemStands, contents_of, whole}
+use Rattle.wk_bytes.specs.StandsLaws.{ReadsFront, ReadsFront-name_at, ReadsFront-u32_at, Stands-here, Stands-later, Stands-within, Stands-contents, Stands-at_end, stands_as}
 use Rattle.wk_body.specs.declared.types.Profile.{Profile}
 use Rattle.wk_body.specs.Reads.{FailsAs, Reads}
 use Rattle.wk_module.specs.declared.types.Custom.{Custom}
 use Rattle.wk_module.specs.declared.types.Parts.{Parts}
 use Rattle.wk_module.specs.Customs.{custom_at}
-use Rattle.wk_module.specs.Formats.{Reader, taking_all, all_at}
-use Rattle.wk_module.specs.Sections.{SectionId, ContentsOf, of_number, contents_at}
+use Rattle.wk_module.specs.Formats.{Reader, bytes_at, taking_all, all_at}
+use Rattle.wk_module.specs.ListReading.{listed_by, with_listed, lists_read, opened_at}
+use Rattle.wk_module.specs.Sections.{SectionId, ContentsOf, SectionLists, of_number, with_contents, contents_at}
 use Rattle.wk_module.specs.Reading.{Progress, at_start, section_end, with_custom, with_lists, section_by, with_section, sections_read, module_of, joined, module_at}
+use Rattle.wk_module.proofs.Formats.{bytes_parts}
 use Rattle.wk_module.proofs.Laws.{SectionLaws}
 
 -- ---- contents
@@ -65,27 +67,47 @@ joined_stands profile b p e h =
       | inr a ↦ inr (inr (subst (Stands (whole b)) (err_is {A = Parts} _ _ a.1) (Stands-at_end FuncCodeCount b tt)))
     ]
 
+-- sections one after the other, as a step reads each
+module _ {P : Type 0} (step : P → Section → Result P ReadFault) (read : P → List (Result Section ReadFault) → Result P ReadFault)
+    (ends : (p : P) → read p [] ≡ Ok p) (fails : (p : P) (e : ReadFault) (items : List (Result Section ReadFault)) → read p (Err e ∷ items) ≡ Err e)
+    (goes : (p : P) (s : Section) (items : List (Result Section ReadFault)) → read p (Ok s ∷ items) ≡ (step p s >>= λ q. read q items))
+    (stands : (p : P) (s : Section) (e : ReadFault) → step p s ≡ Err e → Stands (contents_of s) e) where
+  then_stands : (input : List ℕ) (s : Section) (items : List (Result Section ReadFault)) (e : ReadFault) (p : P) (r : Result P ReadFault) → LiesIn input s → step p s ≡ r
+      → ((q : P) → read q items ≡ Err e → StandsIn input e) → (r >>= λ q. read q items) ≡ Err e → StandsIn input e
+  then_stands input s items e p (Err d) lies is more h = inr (inr (Stands-contents input s e lies (stands p s e (is ∙ cc))))
+  then_stands input s items e p (Ok q) lies is more h = more q h
+
+  pub all_stand : (input : List ℕ) (p : P) (items : List (Result Section ReadFault)) (e : ReadFault) → All (ItemStands input) items → read p items ≡ Err e → StandsIn input e
+  all_stand input p [] e stand h = let no : Ok p ≡ Err e = sym (ends p) ∙ h in absurd cc
+  all_stand input p (Err d ∷ items) e stand h = subst (StandsIn input) (err_is {A = P} d e (sym (fails p d items) ∙ h)) (All-head (ItemStands input) (Err d) items stand)
+  all_stand input p (Ok s ∷ items) e stand h =
+      then_stands input s items e p (step p s) (All-head (ItemStands input) (Ok s) items stand) refl (λ q. all_stand input q items e (All-tail (ItemStands input) (Ok s) items stand)) (sym (goes p s items) ∙ h)
+
 module _ (profile : Profile) (sections : SectionLaws profile) where
+  contents_stand : {B : Type 0} (funcs : ℕ) (s : Section) (e : ReadFault) (k : SectionId) (f : ContentsOf k → B) → (all_at (contents_at profile funcs k) (section_end s) s.contents >>= λ x. Ok (f x)) ≡ Err e → Stands (contents_of s) e
+  contents_stand funcs s e k f h =
+      let read : Reader (ContentsOf k) = contents_at profile funcs k in
+      all_at-stands read ((sections k).fronts funcs) (section_end s) s.contents e (failed_before (all_at read (section_end s) s.contents) f e h) (omega arith)
+
   section_stands : (p : Progress) (s : Section) (e : ReadFault) (k : Option SectionId) → section_by profile p s k ≡ Err e → Stands (contents_of s) e
   unfolding section_by
   section_stands p s e None h =
       custom_at-stands p.place (section_end s) s.contents e (failed_before (custom_at p.place (section_end s) s.contents) (with_custom p) e h) (omega arith)
-  section_stands p s e (Some k) h =
-      let read : Reader (ContentsOf k) = contents_at profile (length p.lists.funcs) k in
-      all_at-stands read ((sections k).fronts (length p.lists.funcs)) (section_end s) s.contents e
-      (failed_before (all_at read (section_end s) s.contents) (with_lists k p) e h) (omega arith)
+  section_stands p s e (Some k) h = contents_stand (length p.lists.funcs) s e k (with_lists k p) h
 
-  then_stands : (input : List ℕ) (s : Section) (items : List (Result Section ReadFault)) (e : ReadFault) (p : Progress) (r : Result Progress ReadFault) → LiesIn input s → with_section profile p s ≡ r
-      → ((q : Progress) → sections_read profile q items ≡ Err e → StandsIn input e) → (r >>= λ q. sections_read profile q items) ≡ Err e → StandsIn input e
-  then_stands input s items e p (Err d) lies is more h = inr (inr (Stands-contents input s e lies (section_stands p s e (of_number s.id) (is ∙ cc))))
-  then_stands input s items e p (Ok q) lies is more h = more q h
+  listed_stands : (l : SectionLists) (s : Section) (e : ReadFault) (k : Option SectionId) → listed_by profile l s k ≡ Err e → Stands (contents_of s) e
+  unfolding listed_by
+  listed_stands l s e None h = ReadsFront-name_at.faults (section_end s) s.contents e (failed_before (name_at (section_end s) s.contents) (λ name. l) e h) (omega arith)
+  listed_stands l s e (Some k) h = contents_stand (length l.funcs) s e k (λ x. with_contents k x l) h
 
   sections_stand : (input : List ℕ) (p : Progress) (items : List (Result Section ReadFault)) (e : ReadFault) → All (ItemStands input) items → sections_read profile p items ≡ Err e → StandsIn input e
   unfolding sections_read
-  sections_stand input p [] e stand h = absurd cc
-  sections_stand input p (Err d ∷ items) e stand h = subst (StandsIn input) (err_is {A = Progress} d e h) (All-head (ItemStands input) (Err d) items stand)
-  sections_stand input p (Ok s ∷ items) e stand h =
-      then_stands input s items e p (with_section profile p s) (All-head (ItemStands input) (Ok s) items stand) refl (λ q. sections_stand input q items e (All-tail (ItemStands input) (Ok s) items stand)) h
+  sections_stand = all_stand (with_section profile) (sections_read profile) (λ p. refl) (λ p e items. refl) (λ p s items. refl) (λ p s e. section_stands p s e (of_number s.id))
+
+  -- the first fault of reading lists stands in the input in which their sections lie
+  pub lists_stand : (input : List ℕ) (l : SectionLists) (items : List (Result Section ReadFault)) (e : ReadFault) → All (ItemStands input) items → lists_read profile l items ≡ Err e → StandsIn input e
+  unfolding lists_read
+  lists_stand = all_stand (with_listed profile) (lists_read profile) (λ l. refl) (λ l e items. refl) (λ l s items. refl) (λ l s e. listed_stands l s e (of_number s.id))
 
   module_by : (b : List ℕ) (e : ReadFault) (r : Result Progress ReadFault) → sections_read profile at_start (sections_of b) ≡ r → (r >>= joined profile (length b)) ≡ Err e → StandsIn b e
   module_by b e (Err d) is h = sections_stand b at_start (sections_of b) e (sections_of-stand b) (is ∙ cc)
@@ -109,12 +131,34 @@ memory_or_read {Y = Y} e read fails = by_kind e.kind refl fails
     by_kind Memory is there = inl (want_of_memory e is there)
     by_kind _ is there = inr there
 
-module _ (profile : Profile) (sections : SectionLaws profile) where
-  -- the fault that is answered stands in the bytes
-  pub answer_stands : (b : List ℕ) (r : Result Parts ReadFault) → Reads (λ m. m) r (module_at profile b) → IfErr r (λ e. StandsIn b e)
-  answer_stands b (Ok m) reads = tt
-  answer_stands b (Err e) reads =
-      elim (memory_or_read e (module_at profile b) reads) [
-        | inl none ↦ inl none
-        | inr read ↦ module_stands profile sections b e read
-      ]
+-- the fault that is answered stands in the bytes
+pub answer_stands : {X Y : Type 0} (view : X → Y) (b : List ℕ) (r : Result X ReadFault) (read : Result Y ReadFault) → ((e : ReadFault) → read ≡ Err e → StandsIn b e) → Reads view r read → IfErr r (λ e. StandsIn b e)
+answer_stands view b (Ok x) read stands reads = tt
+answer_stands view b (Err e) read stands reads =
+    elim (memory_or_read e read reads) [
+      | inl none ↦ inl none
+      | inr is ↦ stands e is
+    ]
+
+-- ---- codes
+
+-- a count that is another one stands at the contents
+pub opened_stands : (funcs end : ℕ) (bytes : List ℕ) (e : ReadFault) → opened_at funcs end bytes ≡ Err e → length bytes ≤ end → Stands (record { rest = bytes; end = end }) e
+unfolding opened_at
+opened_stands funcs end bytes e h fits = opened_by (u32_at end bytes) refl h
+  where
+    opened_by : (r : Result (ℕ × List ℕ) ReadFault) → u32_at end bytes ≡ r → (r >>= λ n. cond (n.0 == funcs) (Ok n.1) (Err (fault FuncCodeCount end bytes))) ≡ Err e → Stands (record { rest = bytes; end = end }) e
+    opened_by (Err d) is h = ReadsFront-u32_at.faults end bytes e (is ∙ cc) fits
+    opened_by (Ok n) is h =
+        elim (chosen (n.0 == funcs) (Ok n.1) (Err (fault FuncCodeCount end bytes)) (Err e) h) [
+          | inl p ↦ absurd cc
+          | inr p ↦ stands_as FuncCodeCount end bytes e (err_is {A = List ℕ} _ _ p.1) tt
+        ]
+
+-- a fault in the bytes of a code stands in what is left of the section
+pub code_stands : (s after code : Span) (e : ReadFault) → bytes_at s.end s.rest ≡ Ok (code.rest, after.rest) → code.end ≡ s.end - length after.rest → length s.rest ≤ s.end → StandsOrMemory code e → StandsOrMemory s e
+code_stands s after code e taken ends fits (inl none) = inl none
+code_stands s after code e taken ends fits (inr stood) =
+    let p = bytes_parts s.end s.rest code.rest after.rest taken in
+    inr (Stands-within p.0 after.rest s code e p.1
+    (omega (arith, ends, fits, ap length p.1, length-append p.0 (code.rest ++ after.rest), length-append code.rest after.rest)) fits stood)

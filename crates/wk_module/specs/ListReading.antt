@@ -79,6 +79,11 @@ pub record PartlyRead : Type 0 where
   pub lists : SectionLists
   pub left : List (Result Section ReadFault)
 
+-- lists that are read, and the sections that are left let go
+pub record AllRead : Type 0 where
+  pub profile : Profile
+  pub lists : SectionLists
+
 -- what reading the sections that are left gives
 abbrev pub rest_read : PartlyRead → Result SectionLists ReadFault
 rest_read r = lists_read r.profile r.lists r.left

@@ -1,10 +1,11 @@
 //! Reading the lists of a module section by section, where its bodies are the caller's to read and its custom sections are let go.
 
-ghost use Rattle.std.specs.Prelude.{◌≡◌, ◌≢◌, ◌<◌, ◌-◌, ◌^◌, [], length, Ok, Err, IfOk, OnOk, IfErr, MatchResult};
+ghost use Rattle.std.specs.Prelude.{◌≡◌, ◌≢◌, ◌<◌, ◌-◌, ◌^◌, ℕ, List, [], length, Ok, Err, All, IfOk, OnOk, IfErr, OnErr, MatchResult};
 ghost use Rattle.wk_bytes.specs.Frames.{sections_of};
 ghost use Rattle.wk_bytes.specs.LebLaws.{IsBytes};
 ghost use Rattle.wk_bytes.specs.Raw.{raw_view};
 ghost use Rattle.wk_bytes.specs.Span.{fault};
+ghost use Rattle.wk_bytes.specs.Stands.{ItemStands, Stands, StandsIn, StandsOrMemory, contents_of};
 ghost use Rattle.wk_body.specs.Reads.{FailsAs, Parses, Reads};
 ghost use Rattle.wk_body.specs.Vectors.{items_at};
 ghost use Rattle.wk_module.specs.Formats.{bytes_at};
@@ -19,7 +20,7 @@ use crate::reader::SoFar;
 use crate::reading::{Readable, at_end};
 use std::alloc::Global;
 use std::marker::Model;
-use wk_body::{Body, Profile, Scratch};
+use wk_body::{Body, Profile, Scratch, reading_of_code, written_form_of_code};
 use wk_bytes::{Cursor, RawSection, ReadFault, ReadKind, Sections};
 
 /// The id of the code section.
@@ -80,6 +81,17 @@ impl SoFar {
             }
         }
     }
+
+    // The lists that are read, but for codes.
+    fn lists(&self, profile: Profile) -> Lists<'_>
+        ensures lists { listed result ≡ record self.now.lists { codes = [] } }
+        ensures profile { result.profile ≡ profile }
+    {
+        Lists {
+            profile,
+            ..Lists::of(&self.parts, self.indices.as_slice())
+        }
+    }
 }
 
 impl<'a> SectionReader<'a> {
@@ -94,14 +106,9 @@ impl<'a> SectionReader<'a> {
         }
     }
 
-    /// Reads up to the code section, which it gives unread, or to the end where there is none. Then functions that were declared
-    /// have no codes, and the bytes spell no module.
-    ///
-    /// # Errors
-    ///
-    /// The first fault of the sections in front of it, or `Memory` at 0 where a growth was refused.
+    // Reads up to the code section, or to the end where there is none.
     #[tactic(auto, unfolding(crate::specs::ListReading::lists_read, crate::specs::ListReading::front_read))]
-    pub fn up_to_code(
+    fn read_front(
         self,
         alloc: Global,
         scratch: &mut Scratch,
@@ -134,20 +141,9 @@ impl<'a> SectionReader<'a> {
         Ok((reader, None))
     }
 
-    /// Reads all sections that are left, a code section among them if there is one: its codes are kept, and [`lists`] does not
-    /// lend them.
-    ///
-    /// [`lists`]: SectionReader::lists
-    ///
-    /// # Errors
-    ///
-    /// Their first fault, or `Memory` at 0 where a growth was refused.
+    // Reads all sections that are left.
     #[tactic(auto, unfolding(crate::specs::ListReading::lists_read))]
-    pub fn to_end(
-        self,
-        alloc: Global,
-        scratch: &mut Scratch,
-    ) -> Result<SectionReader<'a>, ReadFault>
+    fn read_rest(self, alloc: Global, scratch: &mut Scratch) -> Result<SectionReader<'a>, ReadFault>
         ensures read { Reads (λ r. r.lists) result (rest_read self.entry) }
         ensures profile { IfOk result (λ r. r.profile ≡ self.entry.profile) }
         ensures left { IfOk result (λ r. r.left ≡ []) }
@@ -167,16 +163,105 @@ impl<'a> SectionReader<'a> {
         })
     }
 
+    /// Reads up to the code section, which it gives unread, or to the end where there is none. Then functions that were declared
+    /// have no codes, and the bytes spell no module.
+    ///
+    /// # Errors
+    ///
+    /// The first fault of the sections in front of it, or `Memory` at 0 where a growth was refused. The fault stands in the input in
+    /// which the sections lie, as [`Sections`] says of them.
+    pub fn up_to_code(
+        self,
+        alloc: Global,
+        scratch: &mut Scratch,
+    ) -> Result<(SectionReader<'a>, Option<RawSection<'a>>), ReadFault>
+        ensures exact { Reads (λ r. front_of r.0 r.1) result (front_read self.entry.profile self.entry.lists self.entry.left) }
+        ensures goes { MatchResult result (λ r. GoesTo self.entry r.0 r.1) (λ e. FailsAs e e.kind (rest_read self.entry)) }
+        ensures fault { (input : List ℕ) → All (ItemStands input) self.entry.left → IfErr result (λ e. StandsIn input e) }
+    {
+        // The proof asks for what these two say of expressions and bodies.
+        reading_of_code();
+        written_form_of_code();
+        self.read_front(alloc, scratch)
+    }
+
+    /// Reads all sections that are left, a code section among them if there is one: its codes are kept, and [`lists`] does not
+    /// lend them.
+    ///
+    /// [`lists`]: SectionReader::lists
+    ///
+    /// # Errors
+    ///
+    /// Their first fault, or `Memory` at 0 where a growth was refused. The fault stands in the input in which the sections lie, as
+    /// [`Sections`] says of them.
+    pub fn to_end(
+        self,
+        alloc: Global,
+        scratch: &mut Scratch,
+    ) -> Result<SectionReader<'a>, ReadFault>
+        ensures read { Reads (λ r. r.lists) result (rest_read self.entry) }
+        ensures profile { IfOk result (λ r. r.profile ≡ self.entry.profile) }
+        ensures left { IfOk result (λ r. r.left ≡ []) }
+        ensures fault { (input : List ℕ) → All (ItemStands input) self.entry.left → IfErr result (λ e. StandsIn input e) }
+    {
+        // The proof asks for what these two say of expressions and bodies.
+        reading_of_code();
+        written_form_of_code();
+        self.read_rest(alloc, scratch)
+    }
+
     /// The lists that are read, but for codes. Each holds fewer items than there are numbers of 32 bits.
     pub fn lists(&self) -> Lists<'_>
         ensures lists { listed result ≡ record self.now.lists { codes = [] } }
         ensures profile { result.profile ≡ self.now.profile }
         ensures few { AreNumbered (listed result) }
     {
-        Lists {
-            profile: self.profile,
-            ..Lists::of(&self.so_far.parts, self.so_far.indices.as_slice())
-        }
+        self.so_far.lists(self.profile)
+    }
+
+    /// The lists that are read, by themselves: the bytes that were read are let go. The sections that are left are not looked at.
+    pub fn into_lists(self) -> OwnedLists
+        ensures { result ≡ record { profile = self.entry.profile; lists = self.entry.lists } }
+    {
+        let SectionReader {
+            so_far, profile, ..
+        } = self;
+        OwnedLists { so_far, profile }
+    }
+}
+
+/// The lists of a module of which some sections were read, without the bytes that they were read of.
+#[derive(Debug, Drop)]
+pub struct OwnedLists {
+    so_far: SoFar,
+    profile: Profile,
+}
+
+impl Model for OwnedLists {
+    ghost use Rattle.std.specs.Coded.{codes};
+    ghost use Rattle.wk_body.specs.Bodies.{coded_body};
+    ghost use Rattle.wk_body.specs.TreeCode.{coded_instrs};
+    ghost use Rattle.wk_module.specs.ListReading.{AllRead};
+
+    ghost Value = { AllRead };
+
+    ghost coded = { Prim.hlevel (codes, coded_instrs, coded_body) };
+
+    ghost view = { λ r. record { profile = r.profile; lists = r.so_far.lists } };
+
+    ghost use Rattle.wk_module.specs.Listed.{AreNumbered};
+
+    ghost invariant = { λ r. AreNumbered r.so_far.lists };
+}
+
+impl OwnedLists {
+    /// The lists, but for codes. Each holds fewer items than there are numbers of 32 bits.
+    pub fn lists(&self) -> Lists<'_>
+        ensures lists { listed result ≡ record self.now.lists { codes = [] } }
+        ensures profile { result.profile ≡ self.now.profile }
+        ensures few { AreNumbered (listed result) }
+    {
+        self.so_far.lists(self.profile)
     }
 }
 
@@ -211,6 +296,7 @@ impl<'a> CodeReader<'a> {
             (λ e. opened_at funcs (section_end (raw_view section.now)) section.now.contents.now ≡ Err e) }
         ensures end { IfOk result (λ r. r.end ≡ section_end (raw_view section.now)) }
         ensures few { IfOk result (λ r. funcs < 2 ^ 32) }
+        ensures stands { IfErr result (λ e. Stands (contents_of (raw_view section.now)) e) }
     {
         let mut cursor = section.cursor();
         let mismatch = cursor.fault(ReadKind::FuncCodeCount);
@@ -226,7 +312,7 @@ impl<'a> CodeReader<'a> {
     /// # Errors
     ///
     /// `UnexpectedEnd`, `IntTooLong` or `IntTooLarge` where its size is spelled badly; `UnexpectedEnd` at the code where there are
-    /// fewer bytes. After a refusal the reader stands anywhere in the section.
+    /// fewer bytes. After a refusal the reader stands where it stood.
     #[tactic(auto, unfolding(crate::specs::Formats::bytes_at))]
     pub fn next_code(&mut self) -> Result<Cursor<'a>, ReadFault>
         ensures exact { MatchResult result
@@ -235,10 +321,14 @@ impl<'a> CodeReader<'a> {
         ensures fault { IfErr result (λ e. FailsAs e e.kind (bytes_at self.old.end self.old.rest)) }
         ensures place { IfOk result (λ code. code.end ≡ self.old.end - length self.new.rest) }
         ensures end { OnOk result (self.new.end ≡ self.old.end) }
+        ensures stands { IfErr result (λ e. Stands self.old e) }
+        ensures left { OnErr result (self.new ≡ self.old) }
     {
-        let size = self.cursor.u32()?;
-        let at = self.cursor.at();
-        let code = self.cursor.take(size)?;
+        let mut cursor = self.cursor.ahead();
+        let size = cursor.u32()?;
+        let at = cursor.at();
+        let code = cursor.take(size)?;
+        self.cursor = cursor;
         Ok(Cursor::within(code, at))
     }
 
@@ -247,7 +337,7 @@ impl<'a> CodeReader<'a> {
     /// # Errors
     ///
     /// Its first fault, at its offset in the whole input, or `Memory` at 0 where a growth was refused. After a refusal the reader
-    /// stands anywhere in the section.
+    /// stands where it stood.
     #[tactic(auto, unfolding(crate::specs::Items::code_at))]
     pub fn next(
         &mut self,
@@ -255,10 +345,17 @@ impl<'a> CodeReader<'a> {
         scratch: &mut Scratch,
         profile: Profile,
     ) -> Result<Body, ReadFault>
-        ensures { Parses (λ b. b) (code_at profile) self.old result self.new }
+        ensures read { Parses (λ b. b) (code_at profile) self.old result self.new }
+        ensures stands { IfErr result (λ e. StandsOrMemory self.old e) }
+        ensures left { OnErr result (self.new ≡ self.old) }
     {
-        let code = self.next_code()?;
-        scratch.read_body(alloc, &code, profile)
+        let mut ahead = CodeReader {
+            cursor: self.cursor.ahead(),
+        };
+        let code = ahead.next_code()?;
+        let body = scratch.read_body(alloc, &code, profile)?;
+        *self = ahead;
+        Ok(body)
     }
 
     /// The section ends here.
@@ -267,9 +364,10 @@ impl<'a> CodeReader<'a> {
     ///
     /// `SectionSize` at the first byte that is left over.
     pub fn end(&self) -> Result<(), ReadFault>
-        ensures { MatchResult result
+        ensures exact { MatchResult result
             (λ u. self.now.rest ≡ [])
             (λ e. (e ≡ fault ReadKind.SectionSize self.now.end self.now.rest) × (self.now.rest ≢ [])) }
+        ensures stands { IfErr result (λ e. Stands self.now e) }
     {
         at_end(&self.cursor)
     }

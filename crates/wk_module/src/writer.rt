@@ -85,27 +85,28 @@ pub fn encode_section(alloc: Global, lists: &Lists<'_>, id: u8) -> Result<Vec<u8
     Ok(bytes)
 }
 
-/// Appends the section of an id, 1 to 9 or 11, as it stands in the written form: its id, its size and its contents, or nothing
-/// where it is left out. Of any other id nothing is appended, since lists that are lent have no codes.
+/// These bytes with the section of an id, 1 to 9 or 11, behind them, as it stands in the written form: its id, its size and its
+/// contents, or nothing where it is left out. Of any other id nothing is appended, since lists that are lent have no codes.
 ///
 /// # Errors
 ///
-/// `TooLarge` where the contents are more than 2,147,483,647 bytes, and else `Memory` where a growth is refused. Then some of
-/// the section may stand there.
-pub fn append_section(lists: &Lists<'_>, id: u8, bytes: &mut Vec<u8>) -> Result<(), EncodeFault>
+/// `TooLarge` where the contents are more than 2,147,483,647 bytes, and else `Memory` where a growth is refused. Then the bytes are
+/// gone.
+pub fn append_section(lists: &Lists<'_>, id: u8, bytes: Vec<u8>) -> Result<Vec<u8>, EncodeFault>
     ensures { MatchResult result
-        (λ _. bytes.new.items ≡ bytes.old.items ++ section_by (listed lists.now) (of_number id))
+        (λ longer. longer.items ≡ bytes.items ++ section_by (listed lists.now) (of_number id))
         (Unwritten (contents_by (listed lists.now) (of_number id))) }
 {
+    let mut bytes = bytes;
     let Some(contents) = lists.contents_len(id) else {
         return Err(EncodeFault::TooLarge);
     };
     if contents == 0 {
-        return Ok(());
+        return Ok(bytes);
     }
-    put_front(id, contents, bytes)?;
-    lists.put_contents(id, bytes)?;
-    Ok(())
+    put_front(id, contents, &mut bytes)?;
+    lists.put_contents(id, &mut bytes)?;
+    Ok(bytes)
 }
 
 /// The contents of a custom section: its name and its bytes.
