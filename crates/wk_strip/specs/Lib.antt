@@ -1,2 +1,4 @@
 pub mod Stripped
 pub mod Written
+pub mod Moved
+pub mod Apart
