@@ -37,7 +37,10 @@ module _ (profile : Profile) (b : List ℕ) (bodies : List BodyOf) (l w : Sectio
   -- the pieces are the written form
   pub assembled : (codes : List ℕ) (size : ℕ) (made : List ℕ) → codes ≡ codes_bytes bodies → size ≡ length (codes_bytes bodies)
       → made ≡ (((magic ++ version) ++ sections_from w cs 0 10) ++ code_front (length w.funcs) size) ++ (codes ++ sections_from w cs 10 2) → (n : Parts) × (module_at profile b ≡ Ok n) × (made ≡ encoded (record n { customs = cs }))
-  assembled codes size made codes_is size_is made_is = (is.whole, is.read, made_is ∙ rw (codes_is, size_is, ← many, lent) (sym (whole_is l cs bodies l.datas is.whole is.lists)))
+  assembled codes size made codes_is size_is made_is =
+      let count : code_front (length w.funcs) size ≡ code_front (length bodies) size = ap (λ (n : ℕ). code_front n size) (sym many) in
+      let whole = whole_is l cs bodies l.datas is.whole is.lists in
+      (is.whole, is.read, made_is ∙ ap (λ (c : List ℕ). (((magic ++ version) ++ sections_from w cs 0 10) ++ c) ++ (codes ++ sections_from w cs 10 2)) count ∙ rw (codes_is, size_is, lent) (sym whole))
 
 -- the same without a code section, by the lists that are lent
 module _ (profile : Profile) (b : List ℕ) (lists : AreListsOfModule profile b) (l w : SectionLists) (none : l.codes ≡ []) (lent : w ≡ bare l) (no_funcs : w.funcs ≡ []) (read : read_lists profile b ≡ Ok l)

@@ -87,19 +87,19 @@ shorter n m le = short_mono m n m (omega arith) le
 pub fits_there : (b : List ℕ) (from : Place) (code : Span) (n : ℕ) → IsTaken b from.read from.end code → n ≤ length code.rest → from.write ≤ from.read → from.write + length (short n) + n ≤ code.end
 fits_there b from code n taken le behind = omega (arith, le, behind, taken.room, shorter n (length code.rest) le)
 
-pub is_moved : (profile : Profile) (old new : List ℕ) (from : Place) (code : Span) (body : BodyOf) → from.end ≤ length old → from.write ≤ from.read → IsTaken old from.read from.end code
-    → all_body_at profile code.end code.rest ≡ Ok body → length (written_body body) ≤ length code.rest
-    → new ≡ take from.write old ++ (written_code body ++ drop (from.write + length (short (length (written_body body))) + length (written_body body)) old)
-    → IsMoved profile old new from (record { read = code.end; write = from.write + length (short (length (written_body body))) + length (written_body body); end = from.end })
-is_moved profile old new from code body within behind taken read least bytes =
+pub is_moved : (profile : Profile) (old new : List ℕ) (from : Place) (code : Span) (body : BodyOf) (read write : ℕ) → from.end ≤ length old → from.write ≤ from.read → IsTaken old from.read from.end code
+    → all_body_at profile code.end code.rest ≡ Ok body → length (written_body body) ≤ length code.rest → read ≡ code.end → write ≡ from.write + length (short (length (written_body body))) + length (written_body body)
+    → new ≡ take from.write old ++ (written_code body ++ drop write old) → IsMoved profile old new from (record { read = read; write = write; end = from.end })
+is_moved profile old new from code body read write within behind taken is_body least read_is write_is bytes =
     let n = length (written_body body) in
-    let len : length (between code.end from.end old) ≡ from.end - code.end = between-len old code.end from.end within in
+    let len : length (between read from.end old) ≡ from.end - read = between-len old read from.end within in
+    let rest : between code.end from.end old ≡ between read from.end old = ap (λ (i : ℕ). between i from.end old) (sym read_is) in
     record {
       body = body;
-      read = code_by profile from.end (between from.read from.end old) (between code.end from.end old) code body taken.taken (omega (arith, len, taken.within)) read;
-      written = omega (arith, length-append (short n) (written_body body));
-      behind = fits_there old from code n taken least behind;
-      order = taken.within;
+      read = code_by profile from.end (between from.read from.end old) (between read from.end old) code body (taken.taken ∙ ap (λ (l : List ℕ). done (code.rest, l)) rest) (omega (arith, len, taken.within, read_is)) is_body;
+      written = omega (arith, write_is, length-append (short n) (written_body body));
+      behind = omega (arith, write_is, read_is, fits_there old from code n taken least behind);
+      order = omega (arith, read_is, taken.within);
       end = refl;
       bytes = bytes;
     }

@@ -29,7 +29,10 @@ abbrev Lies : List ℕ → Result Front ReadFault → Type 0
 Lies b (Err e) = Unit {0}
 Lies b (Ok f) = (s : Section) → f.code ≡ Some s → LiesIn b s
 
-no_code : (s : Section) → (Option Section).None ≡ Some s → ⊥
+abbrev nothing : Option Section
+nothing = None
+
+no_code : (s : Section) → nothing ≡ Some s → ⊥
 no_code s is = absurd cc
 
 lies_then : (profile : Profile) (b : List ℕ) (items : List (Result Section ReadFault)) (r : Result SectionLists ReadFault) → ((q : SectionLists) → Lies b (front_read profile q items)) → Lies b (r >>= λ q. front_read profile q items)

@@ -107,7 +107,7 @@ fn strip_without_code(
 
 // The lists that were read, or the fault.
 fn lists_alone(read: Result<SectionReader<'_>, ReadFault>) -> Result<OwnedLists, ReadFault>
-    ensures { MatchResult read
+    ensures { MatchResult read.entry
         (λ r. result ≡ Ok (record { profile = r.profile; lists = r.lists }))
         (λ e. result ≡ Err e) }
 {

@@ -23,8 +23,8 @@ returns-in_default-section c =
     let first = c.in-Some-section.ensures.steps ∙ ap (λ (r : Result RawSection ReadFault). item_view r ∷ c.next.new.self) c.in_default-section.is in
     rw c.in-Some.is (left_faulty c.in-Some.name.now c.args.bytes.now c.loop-section.place c.loop-section.kept.items _ _ _ first c.loop-section.invariant.left)
 
-pub loop-section-preserved-in-Continue-1 : goal.loop-section-preserved-in-Continue-1
-loop-section-preserved-in-Continue-1 c =
+pub loop-section-preserved-in-Continue-branch-3 : goal.loop-section-preserved-in-Continue-branch-3
+loop-section-preserved-in-Continue-branch-3 c =
     let first = c.in-Some-section.ensures.steps ∙ ap (λ (r : Result RawSection ReadFault). item_view r ∷ c.next.new.self) c.in-Ok.is in
     record {
       can = tt;
@@ -32,8 +32,8 @@ loop-section-preserved-in-Continue-1 c =
       left = rw c.in_ok-push.ensures.items (left_custom c.in-Some.name.now c.args.bytes.now c.loop-section.place c.loop-section.kept.items (raw_view c.in-Ok.section) _ _ first c.loop-section.invariant.left (Some c.in-Some-named.custom) c.if-section-eq-CUSTOM.true c.in-Some-named.ensures);
     }
 
-pub loop-section-preserved-in_default-named : goal.loop-section-preserved-in_default-named
-loop-section-preserved-in_default-named c =
+pub loop-section-preserved-in_default-2 : goal.loop-section-preserved-in_default-2
+loop-section-preserved-in_default-2 c =
     let first = c.in-Some-section.ensures.steps ∙ ap (λ (r : Result RawSection ReadFault). item_view r ∷ c.next.new.self) c.in-Ok.is in
     record {
       can = tt;

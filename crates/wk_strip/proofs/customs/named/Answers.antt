@@ -39,4 +39,4 @@ returns c = λ c' is s.
     let same : c.in-Ok.found.now ≡ c'.name = ap (λ (d : Custom). d.name) found in
     let named = affirmed (bytes_eq c.in-Ok.found.now c.as_str.result.now) c.if-ne.ensures in
     let passes : bytes_eq c'.name c.args.name.now ≡ true = rw (← same, ← c.as_str.ensures.value) named in
-    kept_by (bytes_eq c'.name c.args.name.now) _ c' found passes
+    rw (c.in_ok-from_str.ensures, c.in_ok-from_slice.ensures.items) (kept_by (bytes_eq c'.name c.args.name.now) _ c' found passes)
