@@ -113,7 +113,8 @@ pub(crate) fn kept_customs(
             return Ok(kept);
         };
         if section.id == CUSTOM {
-            if let Some(custom) = named(alloc, name, place, &section)? {
+            let found = named(alloc, name, place, &section)?;
+            if let Some(custom) = found {
                 kept.push(custom)?;
             }
         } else if !is_empty(&section) {

@@ -129,15 +129,16 @@ fn strip_with(
         (λ s. (m : Parts) × (module_at profile bytes.items ≡ Ok m) × (s ≡ encoded (record m { customs = kept.now })))
         (λ e. FailsAs e e.kind (module_at profile bytes.items)) }
 {
+    let input: &[u8] = &bytes;
     // The proof asks for what this says of modules.
-    reading_of_module(&bytes, profile);
+    reading_of_module(input, profile);
     let mut scratch = Scratch::new(alloc);
-    let (reader, section) = SectionReader::new(alloc, &bytes, profile).up_to_code(
+    let (reader, section) = SectionReader::new(alloc, input, profile).up_to_code(
         alloc,
         &mut scratch,
     )?;
     let Some(section) = section else {
-        return strip_without_code(alloc, &bytes, &reader, kept);
+        return strip_without_code(alloc, input, &reader, kept);
     };
     let codes = Codes::of(&section, reader.lists().funcs.len())?;
     // Their fault comes behind those of the codes, but they are read before any code is written over.
@@ -169,10 +170,11 @@ pub fn strip_bytes(
     ensures refused { IfErr result (λ e. e.kind ≢ ReadKind.Memory → SpellsNone profile bytes.items) }
     ensures fault { IfErr result (λ e. StandsIn bytes.items e) }
 {
+    let input: &[u8] = &bytes;
     // The proof asks for what these say of modules.
-    reading_of_module(&bytes, profile);
+    reading_of_module(input, profile);
     written_form_of_module();
     one_module();
-    let kept = kept_customs(alloc, &bytes, keep)?;
+    let kept = kept_customs(alloc, input, keep)?;
     strip_with(alloc, bytes, profile, &kept)
 }

@@ -1,4 +1,5 @@
-use Rattle.std.proofs.Common.{◌≡◌, ◌+◌, ◌≤◌, List, length, true, refl, ap, arith}
+use Rattle.std.proofs.Common.{◌≡◌, ◌+◌, ◌≤◌, ℕ, List, length, true, refl, ap, ◌∙◌, arith}
+use Rattle.std.specs.Prelude.{string_bytes}
 use Rattle.std.specs.Str.{bytes_eq}
 use Rattle.wk_bytes.specs.Span.{Span}
 use Rattle.wk_bytes.specs.Short.{short}
@@ -39,4 +40,6 @@ returns c = λ c' is s.
     let same : c.in-Ok.found.now ≡ c'.name = ap (λ (d : Custom). d.name) found in
     let named = affirmed (bytes_eq c.in-Ok.found.now c.as_str.result.now) c.if-ne.ensures in
     let passes : bytes_eq c'.name c.args.name.now ≡ true = rw (← same, ← c.as_str.ensures.value) named in
-    rw (c.in_ok-from_str.ensures, c.in_ok-from_slice.ensures.items) (kept_by (bytes_eq c'.name c.args.name.now) _ c' found passes)
+    let made : custom_of c.args.place (string_bytes c.in_ok-from_str.field-0) c.in_ok-from_slice.field-0.items ≡ custom_of c.args.place c.in-Ok.found.now c.rest-bytes.result.now =
+    ap (λ (n : List ℕ). custom_of c.args.place n c.in_ok-from_slice.field-0.items) c.in_ok-from_str.ensures.ok ∙ ap (λ (b : List ℕ). custom_of c.args.place c.in-Ok.found.now b) c.in_ok-from_slice.ensures.items in
+    kept_by (bytes_eq c'.name c.args.name.now) _ c' (made ∙ found) passes
