@@ -7,14 +7,16 @@ use Rattle.std.specs.Prelude.{MatchResult}
 use Rattle.wk_bytes.specs.declared.fault.ReadFault.{ReadFault}
 use Rattle.wk_bytes.specs.Frames.{Section, limit, sections_of}
 use Rattle.wk_bytes.specs.FrameStands.{sections_of-stand}
+use Rattle.wk_bytes.specs.declared.raw.RawSection.{RawSection}
 use Rattle.wk_bytes.specs.Leb.{◌>>=◌}
+use Rattle.wk_bytes.specs.Raw.{raw_view}
 use Rattle.wk_bytes.specs.Stands.{ItemStands, LiesIn}
 use Rattle.wk_body.specs.declared.types.Profile.{Profile}
 use Rattle.wk_body.specs.Bodies.{BodyOf}
 use Rattle.wk_body.specs.Reads.{FailsAs, Reads}
 use Rattle.wk_body.specs.ReadsLaws.{fails_on}
 use Rattle.wk_module.specs.Formats.{taking_all}
-use Rattle.wk_module.specs.ListReading.{AllRead, AreListsOfModule, Front, Rise, codes_of, front_read, lists_read, with_listed}
+use Rattle.wk_module.specs.ListReading.{AllRead, AreListsOfModule, Front, GoesTo, PartlyRead, Rise, codes_of, front_of, front_read, lists_read, with_listed}
 use Rattle.wk_module.specs.Reading.{module_at, section_end}
 use Rattle.wk_module.specs.Sections.{SectionLists, no_lists}
 use Rattle.wk_module.proofs.CodesApart.{read_lists, codes_fail, behind_fails, codes_many, front_stays, read_with_code}
@@ -105,3 +107,35 @@ module _ (profile : Profile) (b : List ℕ) (lists : AreListsOfModule profile b)
     refused = λ e bad. codes_fail profile b lists l s behind code_is none rise read e (are ∙ bad);
     read = λ bodies good. others_told bodies (are ∙ good) others told;
   }
+
+-- ---- what reading up to the codes says
+
+-- what was read up to the section of codes, that section, and what is left
+pub record IsFront (profile : Profile) (b : List ℕ) (r : PartlyRead) (s : Section) : Type 0 where
+  pub profile_is : r.profile ≡ profile
+  pub code_is : s.id ≡ 10
+  pub none : r.lists.codes ≡ []
+  pub rise : Rise 10 r.left
+  pub read : read_lists profile b ≡ lists_read profile r.lists (Ok s ∷ r.left)
+  pub lies : LiesIn b s
+
+pub is_front : (profile : Profile) (b : List ℕ) (old new : PartlyRead) (found : Option RawSection) (s : RawSection) → old ≡ record { profile = profile; lists = no_lists; left = sections_of b } → found ≡ Some s → GoesTo old new found
+    → front_read old.profile old.lists old.left ≡ Ok (front_of new found) → IsFront profile b new (raw_view s)
+is_front profile b old new found s begun is goes exact =
+    let start : PartlyRead = record { profile = profile; lists = no_lists; left = sections_of b } in
+    let gone : GoesTo start new (Some s) = subst (λ (o : PartlyRead). GoesTo o new (Some s)) begun (subst (λ (x : Option RawSection). GoesTo old new x) is goes) in
+    let read : front_read profile no_lists (sections_of b) ≡ Ok (front_of new (Some s)) = subst (λ (o : PartlyRead). front_read o.profile o.lists o.left ≡ Ok (front_of new (Some s))) begun (subst (λ (x : Option RawSection). front_read old.profile old.lists old.left ≡ Ok (front_of new x)) is exact) in
+    record {
+      profile_is = gone.0;
+      code_is = gone.2;
+      none = gone.1;
+      rise = gone.4;
+      read = gone.3 ∙ ap (λ (p : Profile). lists_read p new.lists (Ok (raw_view s) ∷ new.left)) gone.0;
+      lies = code_lies profile b (front_of new (Some s)) (raw_view s) read refl;
+    }
+
+-- the lists without what they were read of
+pub alone_told : (r : Result PartlyRead ReadFault) (alone : Result AllRead ReadFault) (read : Result SectionLists ReadFault) → Reads (λ q. q.lists) r read → MatchResult r (λ q. alone ≡ Ok (record { profile = q.profile; lists = q.lists })) (λ e. alone ≡ Err e)
+    → Reads (λ q. q.lists) alone read
+alone_told (Ok q) alone read told is = rw is told
+alone_told (Err e) alone read told is = rw is told
