@@ -1,7 +1,6 @@
 -- The pieces of a written form, put together, and how long they are.
-use Rattle.std.proofs.Common.{◌≡◌, ◌≢◌, ℕ, zero, suc, ◌+◌, ◌-◌, ◌<◌, ◌≤◌, ◌^◌, List, [], ◌∷◌, ◌++◌, length, map, drop, Some, None, Option, Ok, Err, Result, inl, inr, refl, sym, ap, subst, ◌∙◌, arith, append-nil, append_assoc, length-append}
-use Rattle.std.proofs.lemmas.Bool.{cases_eq, eq-eqb, ne_eqb}
-use Rattle.std.proofs.Math.Seq.{drop-append_seam}
+use Rattle.std.proofs.Common.{◌≡◌, ◌≢◌, ℕ, suc, ◌+◌, ◌-◌, ◌<◌, ◌≤◌, List, [], ◌∷◌, ◌++◌, length, Some, None, Option, Ok, Err, Result, inl, inr, refl, sym, ap, ◌∙◌, arith, append_assoc, length-append}
+use Rattle.std.proofs.lemmas.Bool.{cases_eq, ne_eqb}
 use Rattle.std.specs.Prelude.{IfErr, MatchResult}
 use Rattle.wk_body.specs.declared.fault.EncodeFault.{EncodeFault}
 use Rattle.wk_body.specs.declared.fault.EncodeFault.TheVariants.{TooLarge}
@@ -9,7 +8,7 @@ use Rattle.std.proofs.lemmas.Grind.{flat_map-append}
 use Rattle.std.specs.List.{flat_map, range_with_len}
 use Rattle.wk_bytes.specs.Frames.{limit, magic, version}
 use Rattle.wk_bytes.specs.Short.{short}
-use Rattle.wk_bytes.specs.ShortLaws.{short-few, short-last}
+use Rattle.wk_bytes.specs.ShortLaws.{short-last}
 use Rattle.wk_body.specs.Bodies.{BodyOf}
 use Rattle.wk_module.specs.declared.types.Custom.{Custom}
 use Rattle.wk_module.specs.declared.types.DataSeg.{DataSeg}
@@ -19,7 +18,7 @@ use Rattle.wk_module.specs.SectionLaws.{number-of_number}
 use Rattle.wk_module.specs.Sections.{SectionId, TypeSection, ImportSection, FunctionSection, TableSection, MemorySection, GlobalSection, ExportSection, StartSection, ElementSection, CodeSection, DataSection, SectionLists, of_number}
 use Rattle.wk_module.specs.Shape.{lists_of}
 use Rattle.wk_module.specs.Writing.{encoded, section_by, contents_by, customs_at, section_and_customs, section_contents, written_section, ids, Fits}
-use Rattle.wk_module.specs.WritingLaws.{contents_within, contents_by-lent}
+use Rattle.wk_module.specs.WritingLaws.{contents_within}
 use Rattle.wk_strip.specs.Written.{section_with, sections_from, code_front, IsTooLong}
 
 -- ---- one section more

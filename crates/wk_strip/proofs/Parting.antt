@@ -1,11 +1,11 @@
 -- Codes apart from the other sections of their module: where they stand, and what the module is by them.
-use Rattle.std.proofs.Common.{◌≡◌, ℕ, ◌+◌, ◌-◌, ◌≤◌, Bool, true, false, cond, eqb, List, [], ◌∷◌, ◌++◌, length, take, Option, Some, None, Result, Ok, Err, refl, sym, ap, subst, ◌∙◌, arith, append_assoc, length-append}
+use Rattle.std.proofs.Common.{◌≡◌, ℕ, ◌-◌, ◌≤◌, Bool, true, false, cond, eqb, List, [], ◌∷◌, ◌++◌, length, take, Option, Some, None, Result, Ok, Err, refl, sym, ap, subst, ◌∙◌, arith, append_assoc, length-append}
 use Rattle.std.proofs.lemmas.List.{take_at, drop_at}
 use Rattle.std.proofs.lemmas.List.Elements.{All-head, All-tail}
 use Rattle.std.specs.List.{All, between}
 use Rattle.std.specs.Prelude.{MatchResult}
 use Rattle.wk_bytes.specs.declared.fault.ReadFault.{ReadFault}
-use Rattle.wk_bytes.specs.Frames.{Section, limit, sections_of}
+use Rattle.wk_bytes.specs.Frames.{Section, sections_of}
 use Rattle.wk_bytes.specs.FrameStands.{sections_of-stand}
 use Rattle.wk_bytes.specs.declared.raw.RawSection.{RawSection}
 use Rattle.wk_bytes.specs.Leb.{◌>>=◌}
@@ -15,7 +15,6 @@ use Rattle.wk_body.specs.declared.types.Profile.{Profile}
 use Rattle.wk_body.specs.Bodies.{BodyOf}
 use Rattle.wk_body.specs.Reads.{FailsAs, Reads}
 use Rattle.wk_body.specs.ReadsLaws.{fails_on}
-use Rattle.wk_module.specs.Formats.{taking_all}
 use Rattle.wk_module.specs.ListReading.{AllRead, AreListsOfModule, Front, GoesTo, PartlyRead, Rise, codes_of, front_of, front_read, lists_read, with_listed}
 use Rattle.wk_module.specs.Reading.{module_at, section_end}
 use Rattle.wk_module.specs.Sections.{SectionLists, no_lists}
@@ -23,7 +22,6 @@ use Rattle.wk_module.proofs.CodesApart.{read_lists, codes_fail, behind_fails, co
 use Rattle.wk_strip.specs.declared.codes.Codes.{Codes}
 use Rattle.wk_strip.specs.Apart.{IsApart, IsReadWith}
 use Rattle.wk_strip.specs.Moved.{BeginsCodes, codes_in}
-use Rattle.wk_strip.proofs.Over.{between-len}
 
 -- ---- the code section lies in the input
 

@@ -15,9 +15,7 @@ ghost use Rattle.wk_strip.specs.Written.{code_front};
 
 use crate::sections::CODES;
 use std::alloc::Global;
-use wk_bytes::{
-    Cursor, OutOfMemory, RawSection, ReadFault, ReadKind, leb_len_u32, put_u32,
-};
+use wk_bytes::{Cursor, OutOfMemory, RawSection, ReadFault, ReadKind, leb_len_u32, put_u32};
 use wk_module::{Profile, Scratch, reading_of_code, written_form_of_code};
 
 // So many codes: where the first one stands in the input, and where their section ends.

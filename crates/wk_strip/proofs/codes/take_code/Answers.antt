@@ -1,4 +1,4 @@
-use Rattle.std.proofs.Common.{◌≡◌, ◌++◌, length, ap, sym, ◌∙◌, arith}
+use Rattle.std.proofs.Common.{◌≡◌, ◌++◌, ap, sym, ◌∙◌, arith}
 use Rattle.std.specs.List.{between}
 use Rattle.wk_bytes.specs.Span.{Span}
 use Rattle.wk_strip.proofs.Moving.{is_taken}

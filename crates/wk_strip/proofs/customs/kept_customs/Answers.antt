@@ -1,10 +1,7 @@
-use Rattle.std.proofs.Common.{◌≡◌, ◌∷◌, Result, Ok, Err, Option, Some, None, List, true, false, refl, sym, ap, ◌∙◌}
-use Rattle.std.specs.Prelude.{option_map}
+use Rattle.std.proofs.Common.{◌≡◌, ◌∷◌, Result, Some, None, true, false, refl, sym, ap, ◌∙◌}
 use Rattle.wk_bytes.specs.declared.fault.ReadFault.{ReadFault}
 use Rattle.wk_bytes.specs.declared.raw.RawSection.{RawSection}
-use Rattle.wk_bytes.specs.Frames.{Section}
 use Rattle.wk_bytes.specs.Raw.{raw_view, item_view}
-use Rattle.wk_module.specs.declared.types.Custom.{Custom}
 use Rattle.wk_strip.proofs.Staying.{left_first, left_last, left_faulty, left_custom, left_empty, left_full, none_kept}
 use Rattle.wk_strip.proofs.customs.kept_customs.Goals as goal
 

@@ -2,7 +2,6 @@ use Rattle.std.proofs.Common.{◌≡◌, ◌+◌, ◌≤◌, ℕ, List, length, 
 use Rattle.std.specs.Prelude.{string_bytes}
 use Rattle.std.specs.Str.{bytes_eq}
 use Rattle.wk_bytes.specs.Span.{Span}
-use Rattle.wk_bytes.specs.Short.{short}
 use Rattle.wk_module.specs.declared.types.Custom.{Custom}
 use Rattle.wk_strip.proofs.Staying.{custom_of, custom_is, custom_has_name, sized, negated, affirmed, kept_by}
 use Rattle.wk_strip.proofs.customs.named.Goals as goal

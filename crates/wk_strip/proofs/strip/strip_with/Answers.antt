@@ -1,4 +1,4 @@
-use Rattle.std.proofs.Common.{rules, ◌≡◌, ℕ, List, length, ap, sym, ◌∙◌}
+use Rattle.std.proofs.Common.{rules, ◌≡◌, length, ap, sym, ◌∙◌}
 use Rattle.std.proofs.lemmas.Result.{err_from_is_err_and}
 use Rattle.wk_bytes.specs.Raw.{raw_view}
 use Rattle.wk_body.specs.Reads.{Reads}
