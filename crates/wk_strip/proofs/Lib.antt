@@ -3,5 +3,5 @@ pub mod Assembled
 pub mod Joined
 pub mod Told
 pub mod Over
-pub mod Moving
+pub mod Rewriting
 pub mod Parting

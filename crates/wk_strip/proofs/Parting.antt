@@ -21,7 +21,7 @@ use Rattle.wk_module.specs.Sections.{SectionLists, no_lists}
 use Rattle.wk_module.proofs.CodesApart.{read_lists, codes_fail, behind_fails, codes_many, front_stays, read_with_code}
 use Rattle.wk_strip.specs.declared.codes.Codes.{Codes}
 use Rattle.wk_strip.specs.Apart.{IsApart, IsReadWith}
-use Rattle.wk_strip.specs.Moved.{BeginsCodes, codes_in}
+use Rattle.wk_strip.specs.Rewritten.{BeginsCodes, codes_in}
 
 -- ---- the code section lies in the input
 

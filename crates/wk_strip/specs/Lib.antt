@@ -1,4 +1,4 @@
 pub mod Stripped
 pub mod Written
-pub mod Moved
+pub mod Rewritten
 pub mod Apart

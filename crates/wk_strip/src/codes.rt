@@ -10,7 +10,7 @@ ghost use Rattle.wk_body.specs.Reads.{FailsAs};
 ghost use Rattle.wk_module.specs.Formats.{bytes_at};
 ghost use Rattle.wk_module.specs.Items.{code_at};
 ghost use Rattle.wk_module.specs.ListReading.{codes_of};
-ghost use Rattle.wk_strip.specs.Moved.{codes_in, IsTaken, IsMoved, AreMoved, BeginsCodes};
+ghost use Rattle.wk_strip.specs.Rewritten.{codes_in, IsTaken, IsRewritten, AreRewritten, BeginsCodes};
 ghost use Rattle.wk_strip.specs.Written.{code_front};
 
 use crate::sections::CODES;
@@ -98,7 +98,7 @@ fn put_code(bytes: &mut [u8], at: usize, size: &[u8], body: &[u8])
 }
 
 // Writes the next code, which is no longer than it was: the size of the written form of its body, and that.
-fn move_code(
+fn rewrite_code(
     alloc: Global,
     scratch: &mut Scratch,
     profile: Profile,
@@ -111,7 +111,7 @@ fn move_code(
     requires within { place.end ≤ length bytes.old }
     requires few { place.end ≤ limit }
     ensures { MatchResult result
-        (IsMoved profile bytes.old bytes.new place)
+        (IsRewritten profile bytes.old bytes.new place)
         (λ e. FailsAs e e.kind (code_at profile place.end (between place.read place.end bytes.old))) }
 {
     // The proof asks for what these say: that the body is no longer than the code.
@@ -132,7 +132,7 @@ fn move_code(
 }
 
 // Writes the codes, each behind the one before, from where the first one stands on. It gives where they end then.
-pub(crate) fn move_codes(
+pub(crate) fn rewrite_codes(
     alloc: Global,
     scratch: &mut Scratch,
     profile: Profile,
@@ -143,7 +143,7 @@ pub(crate) fn move_codes(
     requires within { codes.end ≤ length bytes.old }
     requires few { codes.end ≤ limit }
     ensures { MatchResult result
-        (AreMoved profile bytes.old bytes.new codes)
+        (AreRewritten profile bytes.old bytes.new codes)
         (λ e. FailsAs e e.kind (codes_in profile bytes.old codes)) }
 {
     let mut size = Vec::new(alloc);
@@ -153,7 +153,7 @@ pub(crate) fn move_codes(
         end: codes.end,
     };
     for _ in 0..codes.count {
-        place = move_code(alloc, scratch, profile, &mut size, bytes, place)?;
+        place = rewrite_code(alloc, scratch, profile, &mut size, bytes, place)?;
     }
     if place.read < codes.end {
         return Err(ReadFault {

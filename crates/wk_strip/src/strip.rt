@@ -14,11 +14,11 @@ ghost use Rattle.wk_module.specs.Sections.{no_lists};
 ghost use Rattle.wk_module.specs.Shape.{settle};
 ghost use Rattle.wk_module.specs.Writing.{encoded, Fits};
 ghost use Rattle.wk_strip.specs.Apart.{IsApart};
-ghost use Rattle.wk_strip.specs.Moved.{codes_in};
+ghost use Rattle.wk_strip.specs.Rewritten.{codes_in};
 ghost use Rattle.wk_strip.specs.Stripped.{IsStripped, with_kept};
 ghost use Rattle.wk_strip.specs.Written.{code_front, sections_from, IsTooLong};
 
-use crate::codes::{Codes, append_code_front, move_codes};
+use crate::codes::{Codes, append_code_front, rewrite_codes};
 use crate::customs::{KeptCustom, kept_customs};
 use crate::sections::{CODES, END, append_sections, begin, written};
 use crate::stripped::Stripped;
@@ -72,11 +72,11 @@ fn strip_codes(
         (λ s. (m : Parts) × (module_at profile bytes.items ≡ Ok m) × (s ≡ encoded (record m { customs = kept.now })))
         (λ e. FailsAs e e.kind (module_at profile bytes.items)) }
 {
-    let mut moved = bytes;
-    let end = move_codes(alloc, scratch, profile, &mut moved, codes)?;
+    let mut rewritten = bytes;
+    let end = rewrite_codes(alloc, scratch, profile, &mut rewritten, codes)?;
     let others = others?;
-    moved.truncate(end);
-    Ok(assemble(alloc, codes.first, moved, &others.lists(), kept)?)
+    rewritten.truncate(end);
+    Ok(assemble(alloc, codes.first, rewritten, &others.lists(), kept)?)
 }
 
 // Strips the module of these bytes, which are read and hold no code section.

@@ -1,7 +1,7 @@
 use Rattle.std.proofs.Common.{◌≡◌, ◌++◌, ap, sym, ◌∙◌, arith}
 use Rattle.std.specs.List.{between}
 use Rattle.wk_bytes.specs.Span.{Span}
-use Rattle.wk_strip.proofs.Moving.{is_taken}
+use Rattle.wk_strip.proofs.Rewriting.{is_taken}
 use Rattle.wk_strip.proofs.Over.{between-len}
 use Rattle.wk_strip.proofs.codes.take_code.Goals as goal
 

@@ -22,8 +22,8 @@ is_read c =
 
 codes_are : (c : After-truncate) → drop c.args.codes.first c.truncate.new.self.items ≡ codes_bytes c.in_ok-end.ensures.bodies
 codes_are c =
-    let len : length c.move_codes.new.bytes ≡ vec_len c.args.bytes = c.move_codes.auto.bytes ∙ c.deref_mut.ensures.len in
-    ap (λ (b : List ℕ). drop c.args.codes.first b) (c.truncate.ensures.items ∙ ap (λ (b : List ℕ). take c.in_ok-end.end b) (with_items_is c.args.bytes c.move_codes.new.bytes len)) ∙ c.in_ok-end.ensures.written
+    let len : length c.rewrite_codes.new.bytes ≡ vec_len c.args.bytes = c.rewrite_codes.auto.bytes ∙ c.deref_mut.ensures.len in
+    ap (λ (b : List ℕ). drop c.args.codes.first b) (c.truncate.ensures.items ∙ ap (λ (b : List ℕ). take c.in_ok-end.end b) (with_items_is c.args.bytes c.rewrite_codes.new.bytes len)) ∙ c.in_ok-end.ensures.written
 
 size_is : (c : After-truncate) → length c.truncate.new.self.items - c.args.codes.first ≡ length (codes_bytes c.in_ok-end.ensures.bodies)
 size_is c = omega (arith, ap length (codes_are c), length-drop c.args.codes.first c.truncate.new.self.items)

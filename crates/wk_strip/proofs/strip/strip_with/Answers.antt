@@ -7,7 +7,7 @@ use Rattle.wk_module.specs.ListReading.{AreListsOfModule, codes_of, lists_read}
 use Rattle.wk_module.specs.Reading.{module_at}
 use Rattle.wk_module.specs.Sections.{SectionLists}
 use Rattle.wk_module.proofs.CodesApart.{codes_fail}
-use Rattle.wk_strip.specs.Moved.{codes_in}
+use Rattle.wk_strip.specs.Rewritten.{codes_in}
 use Rattle.wk_strip.proofs.Parting.{IsFront, is_front, alone_told, codes_are, ends_within, parted}
 use Rattle.wk_strip.proofs.strip.strip_with.Goals as goal
 use Rattle.wk_strip.proofs.strip.strip_with.Goals.{In-Some, After-lists}

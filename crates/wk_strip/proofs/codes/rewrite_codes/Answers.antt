@@ -1,6 +1,6 @@
 use Rattle.std.proofs.lemmas.Result.{err_from_is_err_and}
-use Rattle.wk_strip.proofs.Moving.{begun, one_more, stopped, ended, left_over}
-use Rattle.wk_strip.proofs.codes.move_codes.Goals as goal
+use Rattle.wk_strip.proofs.Rewriting.{begun, one_more, stopped, ended, left_over}
+use Rattle.wk_strip.proofs.codes.rewrite_codes.Goals as goal
 
 pub loop-init : goal.loop-init
 loop-init c = begun c.args.profile c.args.bytes.now c.args.codes c.requires.order c.requires.within
@@ -13,7 +13,7 @@ returns-in_err-place c =
 
 pub loop-preserved : goal.loop-preserved
 loop-preserved c =
-    one_more c.args.profile c.args.bytes.now c.args.codes c.requires.order c.requires.within c.loop.bytes c.loop.counter c.loop.place c.loop.invariant c.move_code.new.bytes c.in_ok-place.place c.loop-test.true c.in_ok-place.ensures
+    one_more c.args.profile c.args.bytes.now c.args.codes c.requires.order c.requires.within c.loop.bytes c.loop.counter c.loop.place c.loop.invariant c.rewrite_code.new.bytes c.in_ok-place.place c.loop-test.true c.in_ok-place.ensures
 
 pub returns-then-place-codes : goal.returns-then-place-codes
 returns-then-place-codes c =

@@ -25,7 +25,7 @@ use Rattle.wk_module.proofs.CodesApart.{code_by, code_not_taken, code_not_read}
 use Rattle.wk_module.proofs.VectorReading.{with_front, goes_on, stops_all, all_fails, is_done}
 use Rattle.wk_strip.specs.declared.codes.Codes.{Codes}
 use Rattle.wk_strip.specs.declared.codes.Place.{Place}
-use Rattle.wk_strip.specs.Moved.{codes_in, IsTaken, IsMoved, AreMoved}
+use Rattle.wk_strip.specs.Rewritten.{codes_in, IsTaken, IsRewritten, AreRewritten}
 use Rattle.wk_strip.proofs.Over.{middle_is, over_len, untouched, over_more, between-len, between-rest}
 
 -- ---- faults
@@ -87,10 +87,10 @@ shorter n m le = short_mono m n m (omega arith) le
 pub fits_there : (b : List ℕ) (from : Place) (code : Span) (n : ℕ) → IsTaken b from.read from.end code → n ≤ length code.rest → from.write ≤ from.read → from.write + length (short n) + n ≤ code.end
 fits_there b from code n taken le behind = omega (arith, le, behind, taken.room, shorter n (length code.rest) le)
 
-pub is_moved : (profile : Profile) (old new : List ℕ) (from : Place) (code : Span) (body : BodyOf) (read write : ℕ) → from.end ≤ length old → from.write ≤ from.read → IsTaken old from.read from.end code
+pub is_rewritten : (profile : Profile) (old new : List ℕ) (from : Place) (code : Span) (body : BodyOf) (read write : ℕ) → from.end ≤ length old → from.write ≤ from.read → IsTaken old from.read from.end code
     → all_body_at profile code.end code.rest ≡ Ok body → length (written_body body) ≤ length code.rest → read ≡ code.end → write ≡ from.write + length (short (length (written_body body))) + length (written_body body)
-    → new ≡ take from.write old ++ (written_code body ++ drop write old) → IsMoved profile old new from (record { read = read; write = write; end = from.end })
-is_moved profile old new from code body read write within behind taken is_body least read_is write_is bytes =
+    → new ≡ take from.write old ++ (written_code body ++ drop write old) → IsRewritten profile old new from (record { read = read; write = write; end = from.end })
+is_rewritten profile old new from code body read write within behind taken is_body least read_is write_is bytes =
     let n = length (written_body body) in
     let len : length (between read from.end old) ≡ from.end - read = between-len old read from.end within in
     let rest : between code.end from.end old ≡ between read from.end old = ap (λ (i : ℕ). between i from.end old) (sym read_is) in
@@ -166,7 +166,7 @@ module _ (profile : Profile) (old : List ℕ) (c : Codes) (first : c.first ≤ c
     here = ap (λ (e : ℕ). code_at profile e (between p.read e now)) u.end ∙ ap (λ (b : List ℕ). code_at profile c.end b) (unread p.read u.behind)
 
     -- one more
-    pub one_more : (new : List ℕ) (q : Place) → counter < c.count → IsMoved profile now new p q → AreUnderway profile old new c (counter + 1) q
+    pub one_more : (new : List ℕ) (q : Place) → counter < c.count → IsRewritten profile now new p q → AreUnderway profile old new c (counter + 1) q
     one_more new q lt m =
         let end : q.end ≡ c.end = m.end ∙ u.end in
         let forth : p.write ≤ q.write = omega (arith, m.written) in
@@ -194,7 +194,7 @@ module _ (profile : Profile) (old : List ℕ) (c : Codes) (first : c.first ≤ c
       read_all = sym u.reads ∙ is_done (code_at profile) u.bodies c.count counter c.end (between p.read c.end old) all
 
       -- behind the last one their section ends
-      pub ended : c.end ≤ p.read → AreMoved profile old now c p.write
+      pub ended : c.end ≤ p.read → AreRewritten profile old now c p.write
       ended le =
           let none : between p.read c.end old ≡ [] = let no : c.end - p.read ≡ 0 = omega (arith, le) in ap (λ (n : ℕ). take n (drop p.read old)) no in
           record {

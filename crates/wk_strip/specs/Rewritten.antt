@@ -35,7 +35,7 @@ pub record IsTaken (b : List ℕ) (read end : ℕ) (code : Span) : Type 0 where
   pub within : code.end ≤ end
 
 -- one code was read at a place, and written
-pub record IsMoved (profile : Profile) (old new : List ℕ) (from to : Place) : Type 0 where
+pub record IsRewritten (profile : Profile) (old new : List ℕ) (from to : Place) : Type 0 where
   pub body : BodyOf
   pub read : code_at profile from.end (between from.read from.end old) ≡ Ok (body, between to.read to.end old)
   pub written : to.write ≡ from.write + length (written_code body)
@@ -45,7 +45,7 @@ pub record IsMoved (profile : Profile) (old new : List ℕ) (from to : Place) : 
   pub bytes : new ≡ take from.write old ++ (written_code body ++ drop to.write old)
 
 -- all of them were, and end there
-pub record AreMoved (profile : Profile) (old new : List ℕ) (c : Codes) (end : ℕ) : Type 0 where
+pub record AreRewritten (profile : Profile) (old new : List ℕ) (c : Codes) (end : ℕ) : Type 0 where
   pub bodies : List BodyOf
   pub read : codes_in profile old c ≡ Ok bodies
   pub least : c.first ≤ end

@@ -3,9 +3,9 @@ use Rattle.std.proofs.lemmas.Result.{err_from_is_err_and}
 use Rattle.std.specs.List.{between}
 use Rattle.wk_bytes.specs.Short.{short}
 use Rattle.wk_body.specs.Written.{written_body}
-use Rattle.wk_strip.proofs.Moving.{fits_there, is_moved, not_taken, not_read}
-use Rattle.wk_strip.proofs.codes.move_code.Goals as goal
-use Rattle.wk_strip.proofs.codes.move_code.Goals.{In_ok-body, After-deref}
+use Rattle.wk_strip.proofs.Rewriting.{fits_there, is_rewritten, not_taken, not_read}
+use Rattle.wk_strip.proofs.codes.rewrite_code.Goals as goal
+use Rattle.wk_strip.proofs.codes.rewrite_code.Goals.{In_ok-body, After-deref}
 
 pub returns-in_err-code : goal.returns-in_err-code
 returns-in_err-code c =
@@ -48,5 +48,5 @@ returns c =
     let size : c.deref.result.now ≡ short (length (written_body read.0)) = size_is (goal.at.returns c).After-deref ∙ ap (λ (b : List ℕ). short (length b)) body in
     let len : c.len.result ≡ length (short (length (written_body read.0))) = omega (arith, c.len.ensures, ap length size, c.deref.ensures.len) in
     let bytes = rw (size, body) at c.put_code.ensures in
-    is_moved c.args.profile c.args.bytes.now c.put_code.new.bytes c.args.place code read.0 (c.at.result + length c.rest-2.result.now) (c.args.place.write + c.len.result + length c.in_ok-body.body.now) c.requires.within c.requires.behind c.in_ok-code.ensures read.1
+    is_rewritten c.args.profile c.args.bytes.now c.put_code.new.bytes c.args.place code read.0 (c.at.result + length c.rest-2.result.now) (c.args.place.write + c.len.result + length c.in_ok-body.body.now) c.requires.within c.requires.behind c.in_ok-code.ensures read.1
     (least (goal.at.returns c).In_ok-body) (omega (arith, c.at.ensures.end, ap length c.rest-2.ensures)) (omega (arith, len, ap length body)) (rw (len, body) bytes)
