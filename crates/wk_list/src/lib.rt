@@ -4,7 +4,8 @@
 //!
 //! - A [`Shape`] is what a listing asks of a module: its parts, as a shaped module that fits, and the lengths of its sections, custom
 //!   sections and codes, each tied to the written form. [`list`] is proved for every `Shape`. [`Plain`] is the one that counts lengths
-//!   from a module when they are asked for; [`Plain::of`] is nothing exactly where the module does not fit.
+//!   from a module when they are asked for, without memory; [`Plain::of`] is nothing exactly where the module does not fit.
+//!   [`Layout`] measures each body once and keeps the sizes; [`Layout::of`] is refused where the module does not fit, or memory.
 //! - The text of a part (`listing` of `specs/Listing`) is a function of the module alone: `headers_text` (`specs/Headers`),
 //!   `details_text` (`specs/Details`), `code_text` (`specs/CodeText`) and `uses_text` (`specs/Uses`). Where a section begins in it is
 //!   said by the lengths of the written bytes in front. The code is said on the instruction tree, by recursion, with the depth and the
@@ -24,6 +25,7 @@ mod fault;
 mod header;
 mod headers;
 mod imports;
+mod layout;
 mod lines;
 mod listing;
 mod page;
@@ -38,6 +40,7 @@ mod uses;
 
 pub use fault::ListFault;
 pub use header::put_header;
+pub use layout::Layout;
 pub use listing::{Part, list};
 pub use plain::Plain;
 pub use shape::Shape;

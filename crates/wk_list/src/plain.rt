@@ -38,6 +38,14 @@ impl<'a> Plain<'a> {
         encoded_len(whole)?;
         Some(Plain { whole })
     }
+
+    // A module that is known to fit.
+    pub(crate) fn fitting(whole: &'a Module) -> Plain<'a>
+        requires { Fits whole.now }
+        ensures { result ≡ whole.now }
+    {
+        Plain { whole }
+    }
 }
 
 impl<'a> Shape for Plain<'a> {

@@ -1,6 +1,6 @@
 -- The faults of reading a module stand in its bytes.
 use Rattle.std.proofs.Common.{◌≡◌, ℕ, ◌-◌, ◌≤◌, ◌==◌, ◌⊎◌, cond, List, [], ◌∷◌, ◌++◌, length, length-append, Option, Some, None, Result, Ok, Err, All, refl, sym, ap, subst, ◌∙◌, inl, inr, arith}
-use Rattle.std.specs.Prelude.{IfErr}
+use Rattle.std.specs.Prelude.{IfErr, MatchResult}
 use Rattle.std.proofs.lemmas.List.Elements.{All-head, All-tail}
 use Rattle.wk_bytes.specs.declared.fault.ReadKind.{ReadKind}
 use Rattle.wk_bytes.specs.declared.fault.ReadKind.TheVariants.{SectionSize, FuncCodeCount, Memory}
@@ -132,13 +132,21 @@ memory_or_read {Y = Y} e read fails = by_kind e.kind refl fails
     by_kind _ is there = inr there
 
 -- the fault that is answered stands in the bytes
-pub answer_stands : {X Y : Type 0} (view : X → Y) (b : List ℕ) (r : Result X ReadFault) (read : Result Y ReadFault) → ((e : ReadFault) → read ≡ Err e → StandsIn b e) → Reads view r read → IfErr r (λ e. StandsIn b e)
-answer_stands view b (Ok x) read stands reads = tt
-answer_stands view b (Err e) read stands reads =
-    elim (memory_or_read e read reads) [
+told_stands : {Y : Type 0} (b : List ℕ) (e : ReadFault) (read : Result Y ReadFault) → ((d : ReadFault) → read ≡ Err d → StandsIn b d) → FailsAs e e.kind read → StandsIn b e
+told_stands b e read stands fails =
+    elim (memory_or_read e read fails) [
       | inl none ↦ inl none
       | inr is ↦ stands e is
     ]
+
+-- the same of an answer
+pub match_stands : {X Y : Type 0} (P : X → Type 0) (b : List ℕ) (r : Result X ReadFault) (read : Result Y ReadFault) → ((e : ReadFault) → read ≡ Err e → StandsIn b e) → MatchResult r P (λ e. FailsAs e e.kind read) → IfErr r (λ e. StandsIn b e)
+match_stands P b (Ok x) read stands answers = tt
+match_stands P b (Err e) read stands answers = told_stands b e read stands answers
+
+pub answer_stands : {X Y : Type 0} (view : X → Y) (b : List ℕ) (r : Result X ReadFault) (read : Result Y ReadFault) → ((e : ReadFault) → read ≡ Err e → StandsIn b e) → Reads view r read → IfErr r (λ e. StandsIn b e)
+answer_stands view b (Ok x) read stands reads = tt
+answer_stands view b (Err e) read stands reads = told_stands b e read stands reads
 
 -- ---- codes
 
@@ -154,6 +162,13 @@ opened_stands funcs end bytes e h fits = opened_by (u32_at end bytes) refl h
           | inl p ↦ absurd cc
           | inr p ↦ stands_as FuncCodeCount end bytes e (err_is {A = List ℕ} _ _ p.1) tt
         ]
+
+-- a fault behind a size stands in what was left in front of it
+pub behind_size : (old ahead after : Span) (n : ℕ) (e : ReadFault) → ahead ≡ old → (u32_at ahead.end ahead.rest ≡ Ok (n, after.rest)) × (after.end ≡ ahead.end) → length old.rest ≤ old.end → Stands after e → Stands old e
+behind_size old ahead after n e same size fits stood =
+    let is : u32_at old.end old.rest ≡ Ok (n, after.rest) = ap (λ (s : Span). u32_at s.end s.rest) (sym same) ∙ size.0 in
+    let front = ReadsFront-u32_at.takes old.end old.rest n after.rest is in
+    Stands-later front.0 old after e front.1 (sym (size.1 ∙ ap (λ (s : Span). s.end) same)) fits stood
 
 -- a fault in the bytes of a code stands in what is left of the section
 pub code_stands : (s after code : Span) (e : ReadFault) → bytes_at s.end s.rest ≡ Ok (code.rest, after.rest) → code.end ≡ s.end - length after.rest → length s.rest ≤ s.end → StandsOrMemory code e → StandsOrMemory s e

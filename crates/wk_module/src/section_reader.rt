@@ -224,7 +224,9 @@ impl<'a> SectionReader<'a> {
         ensures { result ≡ record { profile = self.entry.profile; lists = self.entry.lists } }
     {
         let SectionReader {
-            so_far, profile, ..
+            so_far,
+            profile,
+            ..
         } = self;
         OwnedLists { so_far, profile }
     }

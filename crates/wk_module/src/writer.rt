@@ -14,12 +14,11 @@ ghost use Rattle.wk_module.specs.Sections.{of_number};
 ghost use Rattle.wk_module.specs.Shape.{lists_of, IsInOrderFrom, IsShaped};
 ghost use Rattle.wk_module.specs.Writing.{encoded, framed, contents_by, section_by, section_of, customs_at, Fits};
 
-use crate::codes::{codes_len_by, put_codes, sizes_of_bodies};
+use crate::codes::put_codes;
 use crate::format::FuncIndices;
-use crate::length::{
-    CODES, FUNCTIONS, LAST, contents_len_by, custom_len, len_by_code, len_of_parts,
-};
+use crate::length::{CODES, FUNCTIONS, LAST, contents_len_by, custom_len};
 use crate::lists::Lists;
+use crate::measures::measure_parts;
 use crate::module::Module;
 use crate::reader::one_module;
 use crate::types::{Custom, Parts};
@@ -134,38 +133,10 @@ fn encode_parts(alloc: Global, parts: &Parts) -> Result<Vec<u8>, EncodeFault>
         (λ bytes. (bytes.items ≡ encoded parts.now) × FewBytes bytes.items)
         (Unwritten (encoded parts.now)) }
 {
-    let code_sizes = measure_codes(alloc, parts)?;
-    let Some(len) = len_by_code(parts, codes_len_by(&code_sizes)) else {
-        return Err(EncodeFault::TooLarge);
-    };
-    let mut bytes = Vec::with_capacity(alloc, len as usize)?;
-    put_module(parts, &code_sizes, &mut bytes)?;
+    let measures = measure_parts(alloc, parts)?;
+    let mut bytes = Vec::with_capacity(alloc, measures.whole as usize)?;
+    put_module(parts, &measures.bodies, &mut bytes)?;
     Ok(bytes)
-}
-
-// The size of each body.
-fn measure_codes(alloc: Global, parts: &Parts) -> Result<Vec<u32>, EncodeFault>
-    requires { IsInOrderFrom 0 parts.now.customs }
-    ensures { MatchResult result
-        (λ sizes. sizes.items ≡ body_sizes parts.now.funcs)
-        (Unwritten (encoded parts.now)) }
-{
-    match sizes_of_bodies(alloc, parts.funcs.as_slice()) {
-        Ok(sizes) => Ok(sizes),
-        Err(EncodeFault::TooLarge) => Err(EncodeFault::TooLarge),
-        Err(EncodeFault::Memory) => Err(unwritten(parts)),
-    }
-}
-
-// Why nothing is written where memory is wanted before it is known whether the module fits.
-fn unwritten(parts: &Parts) -> EncodeFault
-    requires { IsInOrderFrom 0 parts.now.customs }
-    ensures { Unwritten (encoded parts.now) result }
-{
-    match len_of_parts(parts) {
-        Some(_) => EncodeFault::Memory,
-        None => EncodeFault::TooLarge,
-    }
 }
 
 // Appends the header, and each section with the custom sections behind it.

@@ -40,7 +40,7 @@ returns-in_err-end c =
     let p = err_from_is_err_and c.from_residual-in_err-end.result c.from_residual-in_err-end.ensures.1 in
     let lists = c.args.lists.now in
     let codes = c.loop-index.codes in
-    rw (p.1, p.2, c.in_err-end.ensures.0) (section_goes_on lists.profile (listed lists) lists.funcs.now (raw_view c.args.section.now) c.loop-index.fault c.loop-index.index codes.end codes.rest c.loop-index-test.false c.in_err-end.ensures.1 c.loop-index.invariant.end c.loop-index.invariant.reads ∙ ap (λ (e : ReadFault). Err e) (sym c.in_err-end.ensures.0))
+    rw (p.1, p.2, c.in_err-end.ensures.exact.0) (section_goes_on lists.profile (listed lists) lists.funcs.now (raw_view c.args.section.now) c.loop-index.fault c.loop-index.index codes.end codes.rest c.loop-index-test.false c.in_err-end.ensures.exact.1 c.loop-index.invariant.end c.loop-index.invariant.reads ∙ ap (λ (e : ReadFault). Err e) (sym c.in_err-end.ensures.exact.0))
 
 pub loop-index-init : goal.loop-index-init
 loop-index-init c =
@@ -66,4 +66,4 @@ pub returns : goal.returns
 returns c =
     let lists = c.args.lists.now in
     let codes = c.loop-index.codes in
-    section_judged lists.profile (listed lists) lists.funcs.now (raw_view c.args.section.now) c.loop-index.fault c.loop-index.index codes.end codes.rest c.loop-index-test.false c.in_ok-end.ensures c.loop-index.invariant.reads
+    section_judged lists.profile (listed lists) lists.funcs.now (raw_view c.args.section.now) c.loop-index.fault c.loop-index.index codes.end codes.rest c.loop-index-test.false c.in_ok-end.ensures.exact c.loop-index.invariant.reads

@@ -13,4 +13,4 @@ returns-then-contents-eq0 c =
     let id = of_number c.args.id in
     let size = limited_some c.in-Some.contents (length (contents_by lists id)) c.in-Some.ensures in
     let out : section_by lists id ≡ [] = section_none lists id (omega (arith, size.0, c.if-contents-eq0.true)) in
-    rw out (sym (append-nil c.args.bytes.now.items))
+    rw out (sym (append-nil c.args.bytes.items))

@@ -2,7 +2,7 @@ use Rattle.std.proofs.Common.{Some, ap, arith, length}
 use Rattle.wk_module.specs.Sections.{CodeSection}
 use Rattle.wk_module.specs.Codes.{code_contents}
 use Rattle.wk_module.specs.WritingLaws.{contents_within}
-use Rattle.wk_module.proofs.writer.measure_codes.Goals as goal
+use Rattle.wk_module.proofs.measures.measure_codes.Goals as goal
 
 pub returns-in-Err-TooLarge : goal.returns-in-Err-TooLarge
 returns-in-Err-TooLarge c =
