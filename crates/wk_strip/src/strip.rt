@@ -151,7 +151,7 @@ fn strip_with(
 /// What comes is the written form of that module, as [`encode`](wk_module::encode) gives it. The bytes are the room that it is written
 /// in: each code is written over those that were read before it, and no body is kept. The memory taken is rooms for the longest code
 /// and for the sections in front of the codes, the lists of the module without its bodies and custom sections, and the custom
-/// sections to keep. What is longer in front of the codes than it was there takes a second room.
+/// sections to keep; and a second room for what is written where the sections in front of the codes are longer than they were.
 ///
 /// # Errors
 ///
