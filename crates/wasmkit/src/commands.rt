@@ -243,7 +243,7 @@ fn run_sections<'a, S: Store, X: Out>(
     print(&text, status_of(has_fault), out)
 }
 
-// Removes the custom sections of a module: OUT is made once all is computed, and nothing is printed.
+// Removes the custom sections of a module, in the room of its bytes: OUT is made once all is computed, and nothing is printed.
 fn run_strip<'a, S: Store, X: Out>(
     alloc: Global,
     command: StripCommand<'a>,
@@ -261,7 +261,7 @@ fn run_strip<'a, S: Store, X: Out>(
         out: out_file,
     } = command;
     let input = load(store, file)?;
-    match strip_bytes(alloc, &input, profile, keep.as_ref()) {
+    match strip_bytes(alloc, input, profile, keep.as_ref()) {
         Ok(stripped) => give(out_file, Some(stripped.as_slice()), b"", 0, store, out),
         Err(fault) => refuse_module(alloc, &fault, out),
     }

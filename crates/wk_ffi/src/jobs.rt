@@ -154,6 +154,7 @@ fn strip_module(
         (module_at profile bytes.now)) }
     ensures memory { IfErr result (λ e. e ≡ CallFault.Memory) }
 {
+    let bytes = Vec::from_slice(alloc, bytes)?;
     match strip_bytes(alloc, bytes, profile, keep) {
         Ok(stripped) => Ok(Answer {
             code: Code::Fine,

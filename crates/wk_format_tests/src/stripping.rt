@@ -19,6 +19,13 @@ const AROUND: &[u8] = b"\0asm\x01\0\0\0\0\x02\x01x\x01\x04\x01\x60\0\0\0\x02\x01
 const PADDED: &[u8] = b"\0asm\x01\0\0\0\x01\x84\x80\0\x01\x60\0\0\x03\x02\x01\0\
     \x0a\x0b\x01\x09\0\x41\x80\0\x04\x40\x05\x0b\x0b";
 
+// Two functions, of which the first has a padded constant, and the second a padded size.
+const TWO_PADDED: &[u8] = b"\0asm\x01\0\0\0\x01\x04\x01\x60\0\0\x03\x03\x02\0\0\
+    \x0a\x0c\x02\x06\0\x41\x80\0\x1a\x0b\x82\0\0\x0b";
+
+// No codes in a section, and a custom section `a` behind it, which then stands where no section was in front of the codes.
+const BEHIND_NO_CODES: &[u8] = b"\0asm\x01\0\0\0\x0a\x01\0\0\x02\x01a";
+
 // No types, functions, codes and data, each in a section, with a custom section `a` among them.
 const EMPTY_SECTIONS: &[u8] = b"\0asm\x01\0\0\0\x01\x01\0\x03\x01\0\x0a\x01\0\0\x02\x01a\x0b\x01\0";
 
@@ -34,7 +41,7 @@ struct Row {
     stripped: &'static [u8],
 }
 
-const ROWS: [Row; 11] = [
+const ROWS: [Row; 14] = [
     Row {
         bytes: MIXED,
         keep: None,
@@ -76,6 +83,22 @@ const ROWS: [Row; 11] = [
         bytes: PADDED,
         keep: None,
         stripped: b"\0asm\x01\0\0\0\x01\x04\x01\x60\0\0\x03\x02\x01\0\x0a\x09\x01\x07\0\x41\0\x04\x40\x0b\x0b",
+    },
+    Row {
+        bytes: TWO_PADDED,
+        keep: None,
+        stripped: b"\0asm\x01\0\0\0\x01\x04\x01\x60\0\0\x03\x03\x02\0\0\
+            \x0a\x0a\x02\x05\0\x41\0\x1a\x0b\x02\0\x0b",
+    },
+    Row {
+        bytes: BEHIND_NO_CODES,
+        keep: None,
+        stripped: HEADER,
+    },
+    Row {
+        bytes: BEHIND_NO_CODES,
+        keep: Some("a"),
+        stripped: b"\0asm\x01\0\0\0\0\x02\x01a",
     },
     Row {
         bytes: EMPTY_SECTIONS,
@@ -127,6 +150,9 @@ fn is_stripped(
     keep: Option<&Text>,
     wanted: &[u8],
 ) -> bool {
+    let Ok(bytes) = Vec::from_slice(alloc, bytes) else {
+        return false;
+    };
     match strip_bytes(alloc, bytes, profile, keep) {
         Ok(stripped) => stripped.as_slice() == wanted,
         Err(_) => false,
@@ -156,6 +182,9 @@ fn strips_all(alloc: Global) -> bool {
 }
 
 fn is_refused(alloc: Global, bytes: &[u8], fault: ReadFault) -> bool {
+    let Ok(bytes) = Vec::from_slice(alloc, bytes) else {
+        return false;
+    };
     match strip_bytes(alloc, bytes, Profile::Core, None) {
         Ok(_) => false,
         Err(found) => found == fault,

@@ -1,7 +1,6 @@
 -- The pieces of a written form, put together, and how long they are.
-use Rattle.std.proofs.Common.{◌≡◌, ◌≢◌, ℕ, zero, suc, ◌+◌, ◌-◌, ◌<◌, ◌≤◌, ◌^◌, List, [], ◌∷◌, ◌++◌, length, map, drop, Some, None, Option, Ok, Err, Result, inl, inr, refl, sym, ap, subst, ◌∙◌, arith, append-nil, append_assoc, length-append}
-use Rattle.std.proofs.lemmas.Bool.{cases_eq, eq-eqb, ne_eqb}
-use Rattle.std.proofs.Math.Seq.{drop-append_seam}
+use Rattle.std.proofs.Common.{◌≡◌, ◌≢◌, ℕ, suc, ◌+◌, ◌-◌, ◌<◌, ◌≤◌, List, [], ◌∷◌, ◌++◌, length, Some, None, Option, Ok, Err, Result, inl, inr, refl, sym, ap, ◌∙◌, arith, append_assoc, length-append}
+use Rattle.std.proofs.lemmas.Bool.{cases_eq, ne_eqb}
 use Rattle.std.specs.Prelude.{IfErr, MatchResult}
 use Rattle.wk_body.specs.declared.fault.EncodeFault.{EncodeFault}
 use Rattle.wk_body.specs.declared.fault.EncodeFault.TheVariants.{TooLarge}
@@ -9,7 +8,7 @@ use Rattle.std.proofs.lemmas.Grind.{flat_map-append}
 use Rattle.std.specs.List.{flat_map, range_with_len}
 use Rattle.wk_bytes.specs.Frames.{limit, magic, version}
 use Rattle.wk_bytes.specs.Short.{short}
-use Rattle.wk_bytes.specs.ShortLaws.{short-few, short-last}
+use Rattle.wk_bytes.specs.ShortLaws.{short-last}
 use Rattle.wk_body.specs.Bodies.{BodyOf}
 use Rattle.wk_module.specs.declared.types.Custom.{Custom}
 use Rattle.wk_module.specs.declared.types.DataSeg.{DataSeg}
@@ -19,7 +18,7 @@ use Rattle.wk_module.specs.SectionLaws.{number-of_number}
 use Rattle.wk_module.specs.Sections.{SectionId, TypeSection, ImportSection, FunctionSection, TableSection, MemorySection, GlobalSection, ExportSection, StartSection, ElementSection, CodeSection, DataSection, SectionLists, of_number}
 use Rattle.wk_module.specs.Shape.{lists_of}
 use Rattle.wk_module.specs.Writing.{encoded, section_by, contents_by, customs_at, section_and_customs, section_contents, written_section, ids, Fits}
-use Rattle.wk_module.specs.WritingLaws.{contents_within, contents_by-lent}
+use Rattle.wk_module.specs.WritingLaws.{contents_within}
 use Rattle.wk_strip.specs.Written.{section_with, sections_from, code_front, IsTooLong}
 
 -- ---- one section more
@@ -142,16 +141,6 @@ module _ (l : SectionLists) (cs : List Custom) (bodies : List BodyOf) (x : List 
     pub codes_short : length (short (length bodies)) + length (codes_bytes bodies) ≤ limit
     codes_short = codes_within bodies (within (Some CodeSection))
 
--- what stands in front of the codes is short
-pub front_few : (count size : ℕ) → count < 2 ^ 32 → length (short count) + size ≤ limit → length (code_front count size) ≤ 11
-front_few count size few fits =
-    elim (cases_eq count 0) [
-      | inl is ↦ rw (eq-eqb count 0 is) (omega arith)
-      | inr some ↦
-          let whole = length (short count) + size in
-          rw (ne_eqb count 0 some) (omega (arith, length-append (short whole) (short count), short-few 32 count (omega arith) few, short-few 32 whole (omega arith) (omega (arith, fits))))
-    ]
-
 -- ---- without a code section
 
 module _ (m : Parts) (cs : List Custom) (l : SectionLists) (lists : lists_of m ≡ l) where
@@ -169,20 +158,3 @@ module _ (m : Parts) (cs : List Custom) (l : SectionLists) (lists : lists_of m �
 pub not_too_large : {A : Type 0} (r : Result A EncodeFault) (P : A → Type 0) (Long : Type 0) → MatchResult r P (λ e. e ≡ TooLarge → Long) → (Long → ⊥) → IfErr r (λ e. e ≢ TooLarge)
 not_too_large (Ok x) P Long told none = tt
 not_too_large (Err e) P Long told none = λ is. none (told is)
-
-pub gap_is : {A : Type 0} (r : Result A EncodeFault) (P : A → Type 0) (Q : Type 0) → MatchResult r P (λ _. Q) → IfErr r (λ e. e ≢ TooLarge) → MatchResult r P (λ e. e ≢ TooLarge)
-gap_is (Ok x) P Q gap other = gap
-gap_is (Err e) P Q gap other = other
-
--- the front that was written, in the whole
-pub fronted : {A : Type 0} (r : Result A EncodeFault) (items : A → List ℕ) (front middle last made : List ℕ) (E : EncodeFault → Type 0) → MatchResult r (λ f. items f ≡ front) E → MatchResult r (λ f. made ≡ (items f ++ middle) ++ last) (λ _. ⊥)
-    → made ≡ (front ++ middle) ++ last
-fronted (Ok f) items front middle last made E is whole = whole ∙ ap (λ (b : List ℕ). (b ++ middle) ++ last) is
-fronted (Err e) items front middle last made E is whole = absurd whole
-
--- what stands behind a gap
-pub behind_gap : (gap : ℕ) (zeros codes out : List ℕ) → length zeros ≡ gap → out ≡ zeros ++ codes → (drop gap out ≡ codes) × (length out - gap ≡ length codes)
-behind_gap gap zeros codes out len is = (
-  rw (is, ← len) (drop-append_seam zeros codes),
-  omega (arith, len, ap length is, length-append zeros codes),
-)

@@ -2,4 +2,6 @@ pub mod Staying
 pub mod Assembled
 pub mod Joined
 pub mod Told
-pub mod CodesEnd
+pub mod Over
+pub mod Rewriting
+pub mod Parting

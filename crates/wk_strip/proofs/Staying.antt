@@ -1,16 +1,15 @@
 -- The custom sections that stay, as they are found in the frames.
-use Rattle.std.proofs.Common.{◌≡◌, ◌≢◌, ℕ, ◌+◌, ◌≤◌, Bool, true, false, cond, eqb, List, [], ◌++◌, length, map, Result, Ok, Err, Option, Some, None, IsTrue, not, refl, sym, ap, subst, ◌∙◌, inl, inr, suc, if◌then◌else◌, ◌∷◌, arith, append-nil, append_assoc, length-append}
+use Rattle.std.proofs.Common.{◌≡◌, ◌≢◌, ℕ, ◌+◌, ◌≤◌, Bool, true, false, eqb, List, [], ◌++◌, length, map, Result, Ok, Err, Option, Some, None, IsTrue, not, refl, sym, ap, subst, ◌∙◌, inl, inr, suc, if◌then◌else◌, ◌∷◌, arith, append-nil, append_assoc, length-append}
 use Rattle.std.proofs.lemmas.Bool.{eqb-true}
 use Rattle.std.specs.List.{filter}
 use Rattle.wk_bytes.specs.declared.fault.ReadFault.{ReadFault}
 use Rattle.wk_bytes.specs.Leb.{SpellsU}
-use Rattle.wk_bytes.specs.LebLaws.{IsBytes, ok_is, one_SpellsU}
+use Rattle.wk_bytes.specs.LebLaws.{ok_is, one_SpellsU}
 use Rattle.wk_bytes.specs.Frames.{Frame, Section, frame_of, SpellsFraming, without_fault}
 use Rattle.wk_bytes.specs.Pieces.{SpellsName}
-use Rattle.wk_bytes.specs.PieceLaws.{u32_at-found, u32_at-again}
 use Rattle.wk_bytes.specs.Short.{short}
 use Rattle.wk_bytes.specs.ShortLaws.{short-least}
-use Rattle.wk_bytes.specs.Span.{u32_at, name_at}
+use Rattle.wk_bytes.specs.Span.{name_at}
 use Rattle.wk_module.specs.declared.types.Custom.{Custom}
 use Rattle.wk_module.specs.Customs.{SpellsCustom, SpellsCustoms, IsEmptyFrame, IsPlaceAfter, custom_at, written_custom}
 use Rattle.wk_module.proofs.ModuleReading.{custom_again}

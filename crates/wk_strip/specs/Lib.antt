@@ -1,2 +1,4 @@
 pub mod Stripped
 pub mod Written
+pub mod Rewritten
+pub mod Apart

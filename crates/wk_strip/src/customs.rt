@@ -19,28 +19,28 @@ const CUSTOM: u8 = 0;
 /// The id of the start section, which has no count (5.5.2).
 const START: u8 = 8;
 
-// A custom section that stays, lent by the input, with the size of its contents as they are written.
+// A custom section that stays, with the size of its contents as they are written.
 #[derive(Drop)]
-pub(crate) struct KeptCustom<'a> {
+pub(crate) struct KeptCustom {
     place: u8,
     size: u32,
-    name: &'a str,
-    bytes: &'a [u8],
+    name: String,
+    bytes: Vec<u8>,
 }
 
-impl<'a> Model for KeptCustom<'a> {
-    ghost use Rattle.std.specs.Prelude.{◌≡◌, length};
+impl Model for KeptCustom {
+    ghost use Rattle.std.specs.Prelude.{◌≡◌, length, string_bytes};
     ghost use Rattle.wk_module.specs.declared.types.Custom.{Custom};
     ghost use Rattle.wk_module.specs.Customs.{written_custom};
 
     ghost Value = { Custom };
 
-    ghost view = { λ k. record { place = k.place; name = k.name.now; bytes = k.bytes.now } };
+    ghost view = { λ k. record { place = k.place; name = string_bytes k.name; bytes = k.bytes.items } };
 
-    ghost invariant = { λ k. k.size ≡ length (written_custom (record { place = k.place; name = k.name.now; bytes = k.bytes.now })) };
+    ghost invariant = { λ k. k.size ≡ length (written_custom (record { place = k.place; name = string_bytes k.name; bytes = k.bytes.items })) };
 }
 
-impl<'a> KeptCustom<'a> {
+impl KeptCustom {
     // Appends the section.
     fn append(&self, out: &mut Vec<u8>) -> Result<(), OutOfMemory>
         ensures { OnOk result (out.new.items ≡ out.old.items ++ framed 0 (written_custom self.now)) }
@@ -49,30 +49,36 @@ impl<'a> KeptCustom<'a> {
         put_u32(out, self.size)?;
         put_u32(out, self.name.len() as u32)?;
         out.extend_from_slice(self.name.as_bytes())?;
-        out.extend_from_slice(self.bytes)?;
+        out.extend_from_slice(&self.bytes)?;
         Ok(())
     }
 }
 
-// The custom section, if it has that name.
-fn named<'a>(name: &Text, place: u8, section: &RawSection<'a>) -> Option<KeptCustom<'a>>
-    ensures { (c : Custom) → c.place ≡ place → SpellsCustom section.now.contents.now c → result ≡ (if bytes_eq c.name name.now then Some c else None) }
+// The custom section in memory of its own, if it has that name.
+fn named(
+    alloc: Global,
+    name: &Text,
+    place: u8,
+    section: &RawSection<'_>,
+) -> Result<Option<KeptCustom>, OutOfMemory>
+    ensures { IfOk result (λ kept. (c : Custom) → c.place ≡ place → SpellsCustom section.now.contents.now c
+        → kept ≡ (if bytes_eq c.name name.now then Some c else None)) }
 {
     let mut cursor = section.cursor();
     let Ok(found) = cursor.name() else {
-        return None;
+        return Ok(None);
     };
     if found != name.as_str() {
-        return None;
+        return Ok(None);
     }
     let bytes = cursor.rest();
     let size = leb_len_u32(found.len() as u32) + found.len() + bytes.len();
-    Some(KeptCustom {
+    Ok(Some(KeptCustom {
         place,
         size: size as u32,
-        name: found,
-        bytes,
-    })
+        name: String::from_str(alloc, found)?,
+        bytes: Vec::from_slice(alloc, bytes)?,
+    }))
 }
 
 // Whether a section is empty: its contents are a count of zero. Only the start section has no count.
@@ -90,11 +96,11 @@ fn is_empty(section: &RawSection<'_>) -> bool
 }
 
 // The custom sections of the name to keep, each with its place: the id of the last section in front of it that is not empty.
-pub(crate) fn kept_customs<'a>(
+pub(crate) fn kept_customs(
     alloc: Global,
-    bytes: &'a [u8],
+    bytes: &[u8],
     keep: Option<&Text>,
-) -> Result<Vec<KeptCustom<'a>>, OutOfMemory>
+) -> Result<Vec<KeptCustom>, OutOfMemory>
     ensures { IfOk result (λ kept. AreKept (option_map (λ name. name.now) keep.entry) bytes.now kept.items) }
 {
     let mut kept = Vec::new(alloc);
@@ -107,7 +113,8 @@ pub(crate) fn kept_customs<'a>(
             return Ok(kept);
         };
         if section.id == CUSTOM {
-            if let Some(custom) = named(name, place, &section) {
+            let found = named(alloc, name, place, &section)?;
+            if let Some(custom) = found {
                 kept.push(custom)?;
             }
         } else if !is_empty(&section) {
@@ -119,7 +126,7 @@ pub(crate) fn kept_customs<'a>(
 
 // Appends those of a place.
 pub(crate) fn append_customs(
-    customs: &[KeptCustom<'_>],
+    customs: &[KeptCustom],
     place: u8,
     out: &mut Vec<u8>,
 ) -> Result<(), OutOfMemory>

@@ -1,4 +1,4 @@
-//! A module without its custom sections, from bytes to bytes: no body is kept.
+//! A module without its custom sections, from bytes to bytes, in the room of the bytes: no body is kept.
 //!
 //! # What it promises
 //!
@@ -6,7 +6,7 @@
 //!   one name (`with_kept` of `specs/Stripped`, settled and `encoded`), or the fault of reading it, or `Memory` at 0. So it is `encode` of
 //!   what `read_in` gives with other custom sections. Its clause `meaning` tells it in words (`IsStripped`): the module that is spelled,
 //!   that what is made of it fits, and that what comes spells this and no other; `refused` and `fault` are those of `read_in`. That it
-//!   keeps no body is no clause.
+//!   keeps no body, and writes codes over those that it read, is no clause.
 //! - [`Stripped`] is seen as its bytes, which [`Stripped::as_slice`] lends.
 #![tactic(auto)]
 

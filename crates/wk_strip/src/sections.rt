@@ -17,31 +17,33 @@ pub(crate) const CODES: u8 = 10;
 /// The ids end in front of this.
 pub(crate) const END: u8 = 12;
 
-// Appends the sections of the ids from `first` up to `end`, which is not among them, each with the custom sections of its place.
+// These bytes with the sections of the ids from `first` up to `end`, which is not among them, behind them, each with the custom
+// sections of its place.
 pub(crate) fn append_sections(
     lists: &Lists<'_>,
-    customs: &[KeptCustom<'_>],
+    customs: &[KeptCustom],
     first: u8,
     end: u8,
-    out: &mut Vec<u8>,
-) -> Result<(), EncodeFault>
+    bytes: Vec<u8>,
+) -> Result<Vec<u8>, EncodeFault>
     requires { first ≤ end }
     ensures { MatchResult result
-        (λ _. out.new.items ≡ out.old.items ++ sections_from (listed lists.now) customs.now first (end - first))
+        (λ longer. longer.items ≡ bytes.items ++ sections_from (listed lists.now) customs.now first (end - first))
         (λ e. e ≡ TooLarge → IsTooLong (listed lists.now) first end) }
 {
+    let mut out = bytes;
     for id in first..end {
-        append_section(lists, id, out)?;
-        append_customs(customs, id, out)?;
+        out = append_section(lists, id, out)?;
+        append_customs(customs, id, &mut out)?;
     }
-    Ok(())
+    Ok(out)
 }
 
 // The header, and the sections of the ids below `end`.
 pub(crate) fn begin(
     alloc: Global,
     lists: &Lists<'_>,
-    customs: &[KeptCustom<'_>],
+    customs: &[KeptCustom],
     end: u8,
 ) -> Result<Vec<u8>, EncodeFault>
     ensures { MatchResult result
@@ -50,8 +52,7 @@ pub(crate) fn begin(
 {
     let mut bytes = Vec::new(alloc);
     bytes.extend_from_slice(&HEADER)?;
-    append_sections(lists, customs, 0, end, &mut bytes)?;
-    Ok(bytes)
+    append_sections(lists, customs, 0, end, bytes)
 }
 
 // What was written, or want of memory: no other fault comes of a module that fits.

@@ -1,8 +1,9 @@
 //! The bytes of a stripped module.
 
-ghost use Rattle.std.specs.Prelude.{◌≡◌, ◌≤◌, ◌++◌, drop, length};
+ghost use Rattle.std.specs.Prelude.{◌≡◌, ◌≤◌, ◌++◌, IfOk, drop, length};
 
 use std::marker::Model;
+use wk_bytes::OutOfMemory;
 
 /// The bytes of a stripped module, which a contract sees as their list.
 #[derive(Debug, Drop)]
@@ -30,7 +31,7 @@ impl Stripped {
     }
 
     // These bytes with others in the place of the gap at their front, which is as long as the others or longer.
-    pub(crate) fn behind(front: &[u8], gap: usize, mut bytes: Vec<u8>) -> Stripped
+    fn within(front: &[u8], gap: usize, mut bytes: Vec<u8>) -> Stripped
         requires room { length front.now ≤ gap }
         requires within { gap ≤ length bytes.items }
         ensures { result ≡ front.now ++ drop gap bytes.items }
@@ -38,6 +39,23 @@ impl Stripped {
         let start = gap - front.len();
         bytes[start..gap].copy_from_slice(front);
         Stripped { bytes, start }
+    }
+
+    // The same where the others may be longer than the gap. Then all of it goes behind them.
+    pub(crate) fn behind(
+        front: Vec<u8>,
+        gap: usize,
+        bytes: Vec<u8>,
+    ) -> Result<Stripped, OutOfMemory>
+        requires { gap ≤ length bytes.items }
+        ensures { IfOk result (λ s. s ≡ front.items ++ drop gap bytes.items) }
+    {
+        if front.len() <= gap {
+            return Ok(Stripped::within(&front, gap, bytes));
+        }
+        let mut whole = front;
+        whole.extend_from_slice(&bytes[gap..])?;
+        Ok(Stripped::whole(whole))
     }
 
     /// The bytes.

@@ -56,14 +56,17 @@ fn text(alloc: Global, name: Option<&str>) -> Result<Option<Text>, AllocError> {
 impl Strip {
     /// The call.
     pub(crate) fn run(self, alloc: Global) -> Outcome {
-        match text(alloc, self.keep) {
-            Ok(keep) => self.run_with(alloc, keep.as_ref()),
-            Err(AllocError) => Outcome::NO_SAMPLE,
-        }
+        let (Ok(keep), Ok(bytes)) = (
+            text(alloc, self.keep),
+            Vec::from_slice(alloc, self.sample.bytes),
+        ) else {
+            return Outcome::NO_SAMPLE;
+        };
+        self.run_with(alloc, bytes, keep.as_ref())
     }
 
-    fn run_with(self, alloc: Global, keep: Option<&Text>) -> Outcome {
-        let Sample { profile, bytes } = self.sample;
+    fn run_with(self, alloc: Global, bytes: Vec<u8>, keep: Option<&Text>) -> Outcome {
+        let profile = self.sample.profile;
         call_begins(alloc);
         let answer = strip_bytes(alloc, bytes, profile, keep);
         call_ends(alloc);

@@ -1,10 +1,7 @@
-use Rattle.std.proofs.Common.{◌≡◌, ◌∷◌, Result, Ok, Err, Option, Some, None, List, true, false, refl, sym, ap, ◌∙◌}
-use Rattle.std.specs.Prelude.{option_map}
+use Rattle.std.proofs.Common.{◌≡◌, ◌∷◌, Result, Some, None, true, false, refl, sym, ap, ◌∙◌}
 use Rattle.wk_bytes.specs.declared.fault.ReadFault.{ReadFault}
 use Rattle.wk_bytes.specs.declared.raw.RawSection.{RawSection}
-use Rattle.wk_bytes.specs.Frames.{Section}
 use Rattle.wk_bytes.specs.Raw.{raw_view, item_view}
-use Rattle.wk_module.specs.declared.types.Custom.{Custom}
 use Rattle.wk_strip.proofs.Staying.{left_first, left_last, left_faulty, left_custom, left_empty, left_full, none_kept}
 use Rattle.wk_strip.proofs.customs.kept_customs.Goals as goal
 
@@ -23,22 +20,22 @@ returns-in_default-section c =
     let first = c.in-Some-section.ensures.steps ∙ ap (λ (r : Result RawSection ReadFault). item_view r ∷ c.next.new.self) c.in_default-section.is in
     rw c.in-Some.is (left_faulty c.in-Some.name.now c.args.bytes.now c.loop-section.place c.loop-section.kept.items _ _ _ first c.loop-section.invariant.left)
 
-pub loop-section-preserved-in-Continue-1 : goal.loop-section-preserved-in-Continue-1
-loop-section-preserved-in-Continue-1 c =
+pub loop-section-preserved-in-Continue-branch-2 : goal.loop-section-preserved-in-Continue-branch-2
+loop-section-preserved-in-Continue-branch-2 c =
     let first = c.in-Some-section.ensures.steps ∙ ap (λ (r : Result RawSection ReadFault). item_view r ∷ c.next.new.self) c.in-Ok.is in
     record {
       can = tt;
       ends = tt;
-      left = rw c.in_ok-push.ensures.items (left_custom c.in-Some.name.now c.args.bytes.now c.loop-section.place c.loop-section.kept.items (raw_view c.in-Ok.section) _ _ first c.loop-section.invariant.left (Some c.in-Some-named.custom) c.if-section-eq-CUSTOM.true c.in-Some-named.ensures);
+      left = rw c.in_ok-push.ensures.items (left_custom c.in-Some.name.now c.args.bytes.now c.loop-section.place c.loop-section.kept.items (raw_view c.in-Ok.section) _ _ first c.loop-section.invariant.left (Some c.in-Some-found.custom) c.if-section-eq-CUSTOM.true (rw c.in-Some-found.is at c.in_ok-found.ensures));
     }
 
-pub loop-section-preserved-in_default-named : goal.loop-section-preserved-in_default-named
-loop-section-preserved-in_default-named c =
+pub loop-section-preserved-in_default-found : goal.loop-section-preserved-in_default-found
+loop-section-preserved-in_default-found c =
     let first = c.in-Some-section.ensures.steps ∙ ap (λ (r : Result RawSection ReadFault). item_view r ∷ c.next.new.self) c.in-Ok.is in
     record {
       can = tt;
       ends = tt;
-      left = left_custom c.in-Some.name.now c.args.bytes.now c.loop-section.place c.loop-section.kept.items (raw_view c.in-Ok.section) _ _ first c.loop-section.invariant.left None c.if-section-eq-CUSTOM.true c.in_default-named.ensures;
+      left = left_custom c.in-Some.name.now c.args.bytes.now c.loop-section.place c.loop-section.kept.items (raw_view c.in-Ok.section) _ _ first c.loop-section.invariant.left None c.if-section-eq-CUSTOM.true (rw c.in_default-found.is at c.in_ok-found.ensures);
     }
 
 pub loop-section-preserved-then-not-is_empty : goal.loop-section-preserved-then-not-is_empty

@@ -1,7 +1,7 @@
-use Rattle.std.proofs.Common.{◌≡◌, ◌+◌, ◌≤◌, List, length, true, refl, ap, arith}
+use Rattle.std.proofs.Common.{◌≡◌, ◌+◌, ◌≤◌, ℕ, List, length, true, refl, ap, ◌∙◌, arith}
+use Rattle.std.specs.Prelude.{string_bytes}
 use Rattle.std.specs.Str.{bytes_eq}
 use Rattle.wk_bytes.specs.Span.{Span}
-use Rattle.wk_bytes.specs.Short.{short}
 use Rattle.wk_module.specs.declared.types.Custom.{Custom}
 use Rattle.wk_strip.proofs.Staying.{custom_of, custom_is, custom_has_name, sized, negated, affirmed, kept_by}
 use Rattle.wk_strip.proofs.customs.named.Goals as goal
@@ -39,4 +39,6 @@ returns c = λ c' is s.
     let same : c.in-Ok.found.now ≡ c'.name = ap (λ (d : Custom). d.name) found in
     let named = affirmed (bytes_eq c.in-Ok.found.now c.as_str.result.now) c.if-ne.ensures in
     let passes : bytes_eq c'.name c.args.name.now ≡ true = rw (← same, ← c.as_str.ensures.value) named in
-    kept_by (bytes_eq c'.name c.args.name.now) _ c' found passes
+    let made : custom_of c.args.place (string_bytes c.in_ok-from_str.field-0) c.in_ok-from_slice.field-0.items ≡ custom_of c.args.place c.in-Ok.found.now c.rest-bytes.result.now =
+    ap (λ (n : List ℕ). custom_of c.args.place n c.in_ok-from_slice.field-0.items) c.in_ok-from_str.ensures.ok ∙ ap (λ (b : List ℕ). custom_of c.args.place c.in-Ok.found.now b) c.in_ok-from_slice.ensures.items in
+    kept_by (bytes_eq c'.name c.args.name.now) _ c' (made ∙ found) passes

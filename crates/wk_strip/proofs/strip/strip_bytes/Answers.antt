@@ -12,24 +12,34 @@ returns-in_err-kept-clause-refused c =
 pub strip_with-requires : goal.strip_with-requires
 strip_with-requires c =
     let keep = option_map (λ name. name.now) c.args.keep in
-    rw c.deref.ensures.value (kept_fit c.args.profile c.args.bytes.now c.reading_of_module.ensures.is keep c.in_ok-kept.kept.items c.reading_of_module.ensures.fits c.in_ok-kept.ensures)
+    let reading = rw c.deref-input.ensures.value at c.reading_of_module.ensures in
+    let found = rw c.deref-input.ensures.value at c.in_ok-kept.ensures in
+    rw c.deref.ensures.value (kept_fit c.args.profile c.args.bytes.items reading.is keep c.in_ok-kept.kept.items reading.fits found)
 
 pub returns-clause-exact : goal.returns-clause-exact
 returns-clause-exact c =
     let keep = option_map (λ name. name.now) c.args.keep in
-    told_exact c.args.profile c.args.bytes.now c.reading_of_module.ensures.is keep c.in_ok-kept.kept.items c.reading_of_module.ensures.fits c.in_ok-kept.ensures c.strip_with.result (rw c.deref.ensures.value at c.strip_with.ensures)
+    let reading = rw c.deref-input.ensures.value at c.reading_of_module.ensures in
+    let found = rw c.deref-input.ensures.value at c.in_ok-kept.ensures in
+    told_exact c.args.profile c.args.bytes.items reading.is keep c.in_ok-kept.kept.items reading.fits found c.strip_with.result (rw c.deref.ensures.value at c.strip_with.ensures)
 
 pub returns-clause-meaning : goal.returns-clause-meaning
 returns-clause-meaning c =
     let keep = option_map (λ name. name.now) c.args.keep in
-    told_meaning c.args.profile c.args.bytes.now c.reading_of_module.ensures.is keep c.in_ok-kept.kept.items c.reading_of_module.ensures.fits c.in_ok-kept.ensures c.written_form_of_module.ensures.spells c.one_module.ensures.one c.strip_with.result (rw c.deref.ensures.value at c.strip_with.ensures)
+    let reading = rw c.deref-input.ensures.value at c.reading_of_module.ensures in
+    let found = rw c.deref-input.ensures.value at c.in_ok-kept.ensures in
+    told_meaning c.args.profile c.args.bytes.items reading.is keep c.in_ok-kept.kept.items reading.fits found c.written_form_of_module.ensures.spells c.one_module.ensures.one c.strip_with.result (rw c.deref.ensures.value at c.strip_with.ensures)
 
 pub returns-clause-refused : goal.returns-clause-refused
 returns-clause-refused c =
     let keep = option_map (λ name. name.now) c.args.keep in
-    told_refused c.args.profile c.args.bytes.now c.reading_of_module.ensures.is (IsMade c.args.profile c.args.bytes.now c.reading_of_module.ensures.is keep c.in_ok-kept.kept.items c.reading_of_module.ensures.fits c.in_ok-kept.ensures) c.strip_with.result (rw c.deref.ensures.value at c.strip_with.ensures)
+    let reading = rw c.deref-input.ensures.value at c.reading_of_module.ensures in
+    let found = rw c.deref-input.ensures.value at c.in_ok-kept.ensures in
+    told_refused c.args.profile c.args.bytes.items reading.is (IsMade c.args.profile c.args.bytes.items reading.is keep c.in_ok-kept.kept.items reading.fits found) c.strip_with.result (rw c.deref.ensures.value at c.strip_with.ensures)
 
 pub returns-clause-fault : goal.returns-clause-fault
 returns-clause-fault c =
     let keep = option_map (λ name. name.now) c.args.keep in
-    told_fault c.args.profile c.args.bytes.now c.reading_of_module.ensures.is (IsMade c.args.profile c.args.bytes.now c.reading_of_module.ensures.is keep c.in_ok-kept.kept.items c.reading_of_module.ensures.fits c.in_ok-kept.ensures) c.strip_with.result (rw c.deref.ensures.value at c.strip_with.ensures)
+    let reading = rw c.deref-input.ensures.value at c.reading_of_module.ensures in
+    let found = rw c.deref-input.ensures.value at c.in_ok-kept.ensures in
+    told_fault c.args.profile c.args.bytes.items reading.is (IsMade c.args.profile c.args.bytes.items reading.is keep c.in_ok-kept.kept.items reading.fits found) c.strip_with.result (rw c.deref.ensures.value at c.strip_with.ensures)

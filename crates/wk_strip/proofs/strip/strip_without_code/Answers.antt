@@ -1,4 +1,4 @@
-use Rattle.std.proofs.Common.{◌≡◌, ◌++◌, sym, ap, ◌∙◌, arith}
+use Rattle.std.proofs.Common.{◌≡◌, ◌++◌, sym, ◌∙◌, arith}
 use Rattle.wk_bytes.specs.Frames.{magic, version}
 use Rattle.wk_module.specs.Listed.{listed}
 use Rattle.wk_module.specs.Sections.{no_lists}
