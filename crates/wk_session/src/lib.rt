@@ -12,8 +12,8 @@
 //!   scratch.
 //! - A reply tells the [`Work`] of an edit (`specs/Dependents`): `typed` counts the bodies that the edit gives and those that refer to
 //!   something which is found to be another thing, `encoded` those that it gives and those that move, `sections` the sections that
-//!   are made again. [`work_of_edits`] ties the first two to the references that change and to those that move. `typed` is the
-//!   reading of a meter, and the other two are counted where bytes are made.
+//!   are made again. [`work_of_edits`] ties the first two to the references that change and to those that move. That no more
+//!   than these are typed or made again is no clause: tests compare what a meter counts.
 //! - [`Session::write`] fails only where its output does, and takes no memory.
 //! - Where bytes of an edit are refused, alone or in a run, they spell nothing, and the fault stands in them (`IsTold` of `specs/Told`).
 //! - What `is_decided` marks is never answered by want of memory (`decided`). `is_memory` marks the edits that were refused for want of
