@@ -87,7 +87,9 @@ const NO_CODES: &[u8] =
 fn reads_none(alloc: Global) -> bool {
     match up_to_code(alloc, NO_CODES) {
         Ok((reader, section)) => {
-            section.is_none() && has(&reader.lists(), &[5, 6], 1) && reads_the_rest(alloc, reader, &[5, 6])
+            section.is_none()
+                && has(&reader.lists(), &[5, 6], 1)
+                && reads_the_rest(alloc, reader, &[5, 6])
         }
         Err(_) => false,
     }
