@@ -132,7 +132,9 @@ fn edit_bytes(
     ensures { IfOk result (λ e. AreOf (outcome_of keep_valid profile input.items script.now)
         e.status e.module.items e.report.items) }
 {
-    let mut module = Sink::new(Vec::new(alloc));
+    // What is written is seldom longer than both files, and room that stays unwritten takes no memory of the machine.
+    let room = input.len().saturating_add(script.len());
+    let mut module = Sink::new(Vec::with_capacity(alloc, room)?);
     let mut report = Sink::new(Vec::new(alloc));
     match edit_owned(
         alloc,
