@@ -10,7 +10,7 @@ use wk_list::Part;
 use wk_module::Profile::{Core, Extended};
 
 /// Calls of `wk_module`, `wk_check`, `wk_list` and `wk_strip`.
-pub(crate) static MODULES: [Named; 68] = [
+pub(crate) static MODULES: [Named; 70] = [
     ("read-types", Scenario::Read(OF_TYPES)),
     ("read-whole", Scenario::Read(OF_ALL)),
     ("read-valid", Scenario::Read(OF_VALID)),
