@@ -58,12 +58,3 @@ fn main(rt: HostRuntime) -> io::Result<ExitCode> {
     };
     Ok(ExitCode::from(status))
 }
-
-#[cfg(test)]
-mod tests;
-#[cfg(test)]
-mod tests_objdump;
-#[cfg(test)]
-mod tests_strip;
-#[cfg(test)]
-mod tests_validate;
