@@ -96,13 +96,6 @@ fn reads(alloc: Global, bytes: &[u8]) -> bool {
     }
 }
 
-#[test]
-fn reads_bodies(rt: HostRuntime) -> Result<(), Fail> {
-    assert!(rt; reads(rt.alloc(), BODY));
-    assert!(rt; reads(rt.alloc(), PADDED));
-    Ok(())
-}
-
 // Whether a body is read in the wider profile, and is written as it was.
 fn reads_extended(alloc: Global) -> bool {
     match read_body_in(alloc, EXTENDED, Profile::Extended) {
@@ -132,12 +125,22 @@ const INDEX: ReadFault = ReadFault {
     at: 4,
 };
 
+fn is_refused(alloc: Global) -> bool {
+    read_body(alloc, EXTENDED).err() == Some(INDEX)
+}
+
+fn reads_all(alloc: Global) -> bool {
+    reads(alloc, BODY)
+        && reads(alloc, PADDED)
+        && reads_extended(alloc)
+        && is_refused(alloc)
+        && is_shortened(alloc, BODY)
+        && is_shortened(alloc, PADDED)
+}
+
 #[test]
-fn reads_bodies_in_a_profile(rt: HostRuntime) -> Result<(), Fail> {
-    assert!(rt; reads_extended(rt.alloc()));
-    assert_eq!(rt; read_body(rt.alloc(), EXTENDED).err(), Some(INDEX));
-    assert!(rt; is_shortened(rt.alloc(), BODY));
-    assert!(rt; is_shortened(rt.alloc(), PADDED));
+fn reads_bodies(rt: HostRuntime) -> Result<(), Fail> {
+    assert!(rt; reads_all(rt.alloc()));
     Ok(())
 }
 
@@ -205,23 +208,31 @@ fn is_answered(alloc: Global, answer: &Result<Expr, ReadFault>) -> bool {
     }
 }
 
+// Why bytes behind an expression are refused.
+const BEHIND: ReadFault = ReadFault {
+    kind: ReadKind::BodySize,
+    at: 3,
+};
+
+fn reads_expr(alloc: Global) -> bool {
+    is_answered(alloc, &read_expr(alloc, EXPR))
+}
+
+fn reads_expr_in(alloc: Global) -> bool {
+    is_answered(alloc, &read_expr_in(alloc, PADDED_EXPR, Profile::Extended))
+}
+
+fn is_expr_refused(alloc: Global) -> bool {
+    read_expr(alloc, b"\x23\x07\x0b\x00").err() == Some(BEHIND)
+}
+
+fn reads_exprs(alloc: Global) -> bool {
+    reads_expr(alloc) && reads_expr_in(alloc) && is_expr_refused(alloc)
+}
+
 #[test]
 fn reads_expressions(rt: HostRuntime) -> Result<(), Fail> {
-    assert!(rt; is_answered(rt.alloc(), &read_expr(rt.alloc(), EXPR)));
-    assert!(rt;
-        is_answered(
-            rt.alloc(),
-            &read_expr_in(rt.alloc(), PADDED_EXPR, Profile::Extended)
-        )
-    );
-    let behind = ReadFault {
-        kind: ReadKind::BodySize,
-        at: 3,
-    };
-    assert_eq!(rt;
-        read_expr(rt.alloc(), b"\x23\x07\x0b\x00").err(),
-        Some(behind)
-    );
+    assert!(rt; reads_exprs(rt.alloc()));
     Ok(())
 }
 
@@ -246,7 +257,6 @@ fn takes_front_in_room(alloc: Global) -> bool {
 
 #[test]
 fn takes_the_front(rt: HostRuntime) -> Result<(), Fail> {
-    assert!(rt; takes_fronts(rt.alloc()));
-    assert!(rt; takes_front_in_room(rt.alloc()));
+    assert!(rt; takes_fronts(rt.alloc()) && takes_front_in_room(rt.alloc()));
     Ok(())
 }

@@ -3,7 +3,7 @@
 use std::alloc::{AllocError, Global};
 use std::test::Fail;
 use wk_bytes::{Cursor, Items, ReadFault, ReadKind, Sections, Text};
-use wk_samples::modules::{HEADER, TWO_CODES};
+use wk_samples::modules::TWO_CODES;
 
 const PIECES: &[u8] = b"\x09\x00\x00\x80\x3f\x00\x00\x00\x00\x00\x00\xf0\xbf\x02\xc3\xa9\x05\x06";
 
@@ -37,8 +37,7 @@ fn refuses_pieces() -> bool {
 
 #[test]
 fn reads_with_a_cursor(rt: HostRuntime) -> Result<(), Fail> {
-    assert!(rt; reads_pieces());
-    assert!(rt; refuses_pieces());
+    assert!(rt; reads_pieces() && refuses_pieces() && reads_integers());
     Ok(())
 }
 
@@ -57,12 +56,6 @@ fn reads_integers() -> bool {
         && cursor.u32() == Err(cursor.fault(ReadKind::IntTooLarge))
         && cursor.s32() == Err(cursor.fault(ReadKind::IntTooLarge))
         && cursor.at() == 14
-}
-
-#[test]
-fn reads_integers_with_a_cursor(rt: HostRuntime) -> Result<(), Fail> {
-    assert!(rt; reads_integers());
-    Ok(())
 }
 
 // The ids of the sections and where their contents begin, up to a fault.
@@ -104,15 +97,15 @@ fn reads_first(input: &[u8], contents: &[u8], fault: ReadFault) -> bool {
     is_first && is_refused && sections.next().is_none()
 }
 
+const UNKNOWN: ReadFault = ReadFault {
+    kind: ReadKind::UnknownSection,
+    at: 11,
+};
+
 #[test]
 fn reads_frames(rt: HostRuntime) -> Result<(), Fail> {
     assert_eq!(rt; is_framed(rt.alloc()), Ok(true));
-    assert!(rt; Sections::new(HEADER).next().is_none());
-    let fault = ReadFault {
-        kind: ReadKind::UnknownSection,
-        at: 11,
-    };
-    assert!(rt; reads_first(b"\0asm\x01\0\0\0\x01\x01\0\x0c", b"\0", fault));
+    assert!(rt; reads_first(b"\0asm\x01\0\0\0\x01\x01\0\x0c", b"\0", UNKNOWN));
     Ok(())
 }
 

@@ -3,7 +3,9 @@
 use std::alloc::Global;
 use std::test::Fail;
 use wk_bytes::{RawSection, ReadFault, ReadKind};
-use wk_module::{Body, CodeReader, Lists, Profile, Scratch, SectionReader, encode_body};
+use wk_module::{
+    Body, CodeReader, Lists, OwnedLists, Profile, Scratch, SectionReader, encode_body,
+};
 use wk_samples::modules::{CODES_OF_TWO, TWO_CODES};
 
 type UpToCode<'a> = Result<(SectionReader<'a>, Option<RawSection<'a>>), ReadFault>;
@@ -57,24 +59,36 @@ fn has(lists: &Lists<'_>, funcs: &[u32], datas: usize) -> bool {
     lists.funcs == funcs && lists.datas.len() == datas
 }
 
-// Whether what stands behind the codes is read, and kept where the reader is let go.
-fn reads_the_rest(alloc: Global, reader: SectionReader<'_>, funcs: &[u32]) -> bool {
+// The lists of a module whose codes were read, without the reader.
+fn lists_to_end(alloc: Global, reader: SectionReader<'_>) -> Option<OwnedLists> {
     match reader.to_end(alloc, &mut Scratch::new(alloc)) {
-        Ok(reader) => {
-            has(&reader.lists(), funcs, 1) && has(&reader.into_lists().lists(), funcs, 1)
-        }
-        Err(_) => false,
+        Ok(reader) => Some(reader.into_lists()),
+        Err(_) => None,
+    }
+}
+
+// Whether what stands behind the codes is read.
+fn reads_the_rest(alloc: Global, reader: SectionReader<'_>, funcs: &[u32]) -> bool {
+    match lists_to_end(alloc, reader) {
+        Some(lists) => has(&lists.lists(), funcs, 1),
+        None => false,
+    }
+}
+
+// Whether the section holds the codes, if there is one.
+fn are_codes(alloc: Global, section: &Option<RawSection<'_>>) -> bool {
+    match section {
+        Some(section) => holds_codes(alloc, section),
+        None => false,
     }
 }
 
 fn reads_two(alloc: Global) -> bool {
     match up_to_code(alloc, TWO_CODES) {
         Ok((reader, section)) => {
-            let are_codes = match &section {
-                Some(section) => holds_codes(alloc, section),
-                None => false,
-            };
-            are_codes && has(&reader.lists(), &[0, 0], 0) && reads_the_rest(alloc, reader, &[0, 0])
+            let is_front = has(&reader.lists(), &[0, 0], 0) && are_codes(alloc, &section);
+            let is_rest = reads_the_rest(alloc, reader, &[0, 0]);
+            is_front && is_rest
         }
         Err(_) => false,
     }
@@ -87,9 +101,9 @@ const NO_CODES: &[u8] =
 fn reads_none(alloc: Global) -> bool {
     match up_to_code(alloc, NO_CODES) {
         Ok((reader, section)) => {
-            section.is_none()
-                && has(&reader.lists(), &[5, 6], 1)
-                && reads_the_rest(alloc, reader, &[5, 6])
+            let is_front = has(&reader.lists(), &[5, 6], 1) && section.is_none();
+            let is_rest = reads_the_rest(alloc, reader, &[5, 6]);
+            is_front && is_rest
         }
         Err(_) => false,
     }
@@ -97,8 +111,7 @@ fn reads_none(alloc: Global) -> bool {
 
 #[test]
 fn reads_sections_and_codes(rt: HostRuntime) -> Result<(), Fail> {
-    assert!(rt; reads_two(rt.alloc()));
-    assert!(rt; reads_none(rt.alloc()));
+    assert!(rt; reads_two(rt.alloc()) && reads_none(rt.alloc()));
     Ok(())
 }
 

@@ -36,12 +36,6 @@ fn wrong_unsigned(alloc: Global) -> Option<u32> {
     None
 }
 
-#[test]
-fn spells_unsigned(rt: HostRuntime) -> Result<(), Fail> {
-    assert_eq!(rt; wrong_unsigned(rt.alloc()), None);
-    Ok(())
-}
-
 fn is_written_64(alloc: Global, row: Signed) -> Result<bool, OutOfMemory> {
     let mut out = Vec::new(alloc);
     put_s64(&mut out, row.value)?;
@@ -60,14 +54,6 @@ fn wrong_64(alloc: Global, rows: &[Signed]) -> Option<i64> {
         }
     }
     None
-}
-
-#[test]
-fn spells_64_bits(rt: HostRuntime) -> Result<(), Fail> {
-    assert_eq!(rt; wrong_64(rt.alloc(), &SIGNED_32), None);
-    assert_eq!(rt; wrong_64(rt.alloc(), &SIGNED_33), None);
-    assert_eq!(rt; wrong_64(rt.alloc(), &SIGNED_64), None);
-    Ok(())
 }
 
 fn is_written_33(alloc: Global, row: Signed) -> Result<bool, OutOfMemory> {
@@ -92,13 +78,6 @@ fn wrong_33(alloc: Global, rows: &[Signed]) -> Option<i64> {
     None
 }
 
-#[test]
-fn spells_33_bits(rt: HostRuntime) -> Result<(), Fail> {
-    assert_eq!(rt; wrong_33(rt.alloc(), &SIGNED_32), None);
-    assert_eq!(rt; wrong_33(rt.alloc(), &SIGNED_33), None);
-    Ok(())
-}
-
 fn is_written_32(alloc: Global, row: Signed) -> Result<bool, OutOfMemory> {
     let mut out = Vec::new(alloc);
     if let Ok(value) = i32::try_from(row.value) {
@@ -111,18 +90,29 @@ fn is_read_32(row: Signed) -> bool {
     row.bytes.len() <= 5 && Cursor::new(row.bytes).s32().map(i64::from) == Ok(row.value)
 }
 
-// The first integer that is not spelled so in 32 bits.
-fn wrong_32(alloc: Global) -> Option<i64> {
-    for row in SIGNED_32 {
-        if is_written_32(alloc, row) != Ok(true) || !is_read_32(row) {
+// The first of these integers that is not spelled so in 32 bits.
+fn wrong_32(alloc: Global, rows: &[Signed]) -> Option<i64> {
+    for row in rows {
+        if is_written_32(alloc, *row) != Ok(true) || !is_read_32(*row) {
             return Some(row.value);
         }
     }
     None
 }
 
+// The first integer with a sign that is not spelled so in each width that holds it.
+fn wrong_signed(alloc: Global) -> Option<i64> {
+    wrong_64(alloc, &SIGNED_32)
+        .or(wrong_64(alloc, &SIGNED_33))
+        .or(wrong_64(alloc, &SIGNED_64))
+        .or(wrong_33(alloc, &SIGNED_32))
+        .or(wrong_33(alloc, &SIGNED_33))
+        .or(wrong_32(alloc, &SIGNED_32))
+}
+
 #[test]
-fn spells_32_bits(rt: HostRuntime) -> Result<(), Fail> {
-    assert_eq!(rt; wrong_32(rt.alloc()), None);
+fn spells_integers(rt: HostRuntime) -> Result<(), Fail> {
+    assert_eq!(rt; wrong_unsigned(rt.alloc()), None);
+    assert_eq!(rt; wrong_signed(rt.alloc()), None);
     Ok(())
 }

@@ -36,12 +36,16 @@ fn becomes(alloc: Global, bytes: &[u8], profile: Profile, written: &[u8]) -> boo
     }
 }
 
+fn become_all(alloc: Global) -> bool {
+    becomes(alloc, WHOLE, Profile::Core, WHOLE)
+        && becomes(alloc, LONGER, Profile::Core, SHORTEST)
+        && becomes(alloc, WHOLE, Profile::Extended, WHOLE)
+        && becomes(alloc, EXTENDED, Profile::Extended, EXTENDED)
+}
+
 #[test]
 fn reads_and_writes(rt: HostRuntime) -> Result<(), Fail> {
-    assert!(rt; becomes(rt.alloc(), WHOLE, Profile::Core, WHOLE));
-    assert!(rt; becomes(rt.alloc(), LONGER, Profile::Core, SHORTEST));
-    assert!(rt; becomes(rt.alloc(), WHOLE, Profile::Extended, WHOLE));
-    assert!(rt; becomes(rt.alloc(), EXTENDED, Profile::Extended, EXTENDED));
+    assert!(rt; become_all(rt.alloc()));
     Ok(())
 }
 
@@ -99,8 +103,7 @@ fn empty_is_a_header(alloc: Global) -> bool {
 
 #[test]
 fn measures(rt: HostRuntime) -> Result<(), Fail> {
-    assert!(rt; is_whole_measured(rt.alloc()));
-    assert!(rt; empty_is_a_header(rt.alloc()));
+    assert!(rt; is_whole_measured(rt.alloc()) && empty_is_a_header(rt.alloc()));
     Ok(())
 }
 
