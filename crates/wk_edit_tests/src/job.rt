@@ -3,8 +3,8 @@
 ghost use Rattle.std.specs.Prelude.{◌≡◌, ◌<◌, ◌-◌, ◌^◌};
 
 use crate::chopped::Chopped;
-use std::alloc::Global;
-use std::process::Abort;
+use crate::walks::{EMPTY, ONE_TYPE, TWO_RESULTS};
+use std::alloc::{AllocError, Global};
 use std::test::Fail;
 use wk_bytes::{Out, Sink};
 use wk_edit::{RunFault, Status, edit, edit_in};
@@ -13,16 +13,7 @@ use wk_samples::lacking::{NO_BLOCK_TYPE, NO_BLOCK_TYPE_MENDED};
 use wk_samples::moving::{ALL_EDITED, ALL_KEPT, ALL_REPORT, KEPT_REPORT, MOVING, OF_EACH_KIND};
 use wk_samples::wide::{self, WIDE};
 
-/// A module of nothing.
-pub(crate) const EMPTY: &[u8] = b"\0asm\x01\0\0\0";
-
-/// A type that takes nothing and gives nothing.
-pub(crate) const ONE_TYPE: &[u8] = b"\0asm\x01\0\0\0\x01\x04\x01\x60\0\0";
-
 const PADDED_TYPE: &[u8] = b"\0asm\x01\0\0\0\x01\x84\x80\x80\x80\0\x01\x60\0\0";
-
-/// A type of two results.
-pub(crate) const TWO_RESULTS: &[u8] = b"\0asm\x01\0\0\0\x01\x07\x01\x60\x01\x7f\x02\x7f\x7f";
 
 const BAD_SIZE: &[u8] = b"\0asm\x01\0\0\0\x01\x80\x80\x80\x80\x10";
 
@@ -42,7 +33,7 @@ type Row = (
     &'static [u8],
 );
 
-static ROWS: [Row; 22] = [
+const ROWS: [Row; 22] = [
     (
         EMPTY,
         b"type - -",
@@ -193,7 +184,7 @@ static ROWS: [Row; 22] = [
 ];
 
 // Where the module has to stay valid.
-static KEPT: [Row; 4] = [
+const KEPT: [Row; 4] = [
     (
         EMPTY,
         b"type - -\n\ntype i32 i32,i32\n",
@@ -219,7 +210,7 @@ static KEPT: [Row; 4] = [
 ];
 
 // In the other profile.
-static EXTENDED: [Row; 2] = [
+const EXTENDED: [Row; 2] = [
     (
         NO_BLOCK_TYPE,
         b"strip\ntype i32 i32",
@@ -237,7 +228,7 @@ static EXTENDED: [Row; 2] = [
 ];
 
 // In the other profile, where the module has to be valid.
-static EXTENDED_KEPT: [Row; 2] = [
+const EXTENDED_KEPT: [Row; 2] = [
     (
         NO_BLOCK_TYPE,
         b"strip\ntype i32 i32",
@@ -254,25 +245,49 @@ static EXTENDED_KEPT: [Row; 2] = [
     ),
 ];
 
-// How scripts are run.
+// Rows, and how their scripts are run.
 #[derive(Clone, Copy)]
-struct Mode {
+struct Table {
     profile: Profile,
     keep: bool,
+    rows: &'static [Row],
 }
 
-impl Mode {
+static TABLES: [Table; 4] = [
+    Table {
+        profile: Profile::Core,
+        keep: false,
+        rows: &ROWS,
+    },
+    Table {
+        profile: Profile::Core,
+        keep: true,
+        rows: &KEPT,
+    },
+    Table {
+        profile: Profile::Extended,
+        keep: false,
+        rows: &EXTENDED,
+    },
+    Table {
+        profile: Profile::Extended,
+        keep: true,
+        rows: &EXTENDED_KEPT,
+    },
+];
+
+impl Table {
     fn edit<W: Out, X: Out>(
-        self,
+        &self,
         alloc: Global,
-        row: Row,
+        row: &Row,
         out: &mut W,
         report: &mut X,
     ) -> Result<Status, RunFault>
         requires out { W.failed out.old < 2 ^ 64 - 1 }
         requires report { X.failed report.old < 2 ^ 64 - 1 }
     {
-        let (input, script, ..) = row;
+        let (input, script, ..) = *row;
         match self.profile {
             Profile::Core => edit(alloc, input, script, self.keep, out, report),
             Profile::Extended => {
@@ -280,195 +295,141 @@ impl Mode {
             }
         }
     }
-}
 
-// All rows, and how their scripts are run.
-fn tables() -> [(Mode, &'static [Row]); 4] {
-    let (core, extended) = (Profile::Core, Profile::Extended);
-    [
-        (
-            Mode {
-                profile: core,
-                keep: false,
-            },
-            &ROWS,
-        ),
-        (
-            Mode {
-                profile: core,
-                keep: true,
-            },
-            &KEPT,
-        ),
-        (
-            Mode {
-                profile: extended,
-                keep: false,
-            },
-            &EXTENDED,
-        ),
-        (
-            Mode {
-                profile: extended,
-                keep: true,
-            },
-            &EXTENDED_KEPT,
-        ),
-    ]
-}
-
-// The module and the report of a row are put behind what the outputs hold.
-fn appends(rt: &impl Abort, alloc: Global, mode: Mode, row: Row) -> Result<(), Fail> {
-    let (_, script, status, whole, text) = row;
-    let mut out = Sink::new(Vec::from_slice(alloc, b"a")?);
-    let mut report = Sink::new(Vec::from_slice(alloc, b"b")?);
-    let answer = mode.edit(alloc, row, &mut out, &mut report);
-    assert_eq!(rt; answer, Ok(status), "{script:?}");
-    assert_eq!(rt;
-        out.into_inner().strip_prefix(b"a"),
-        Some(whole),
-        "{script:?}"
-    );
-    assert_eq!(rt;
-        report.into_inner().strip_prefix(b"b"),
-        Some(text),
-        "{script:?}"
-    );
-    Ok(())
-}
-
-fn append(rt: &impl Abort, alloc: Global, mode: Mode, rows: &[Row]) -> Result<(), Fail> {
-    for row in rows {
-        appends(rt, alloc, mode, *row)?;
+    // Whether the module and the report of a row are put behind what the outputs hold.
+    fn appends(&self, alloc: Global, row: &Row) -> Result<bool, AllocError> {
+        let (_, _, status, whole, text) = *row;
+        let mut out = Sink::new(Vec::from_slice(alloc, b"a")?);
+        let mut report = Sink::new(Vec::from_slice(alloc, b"b")?);
+        let answer = self.edit(alloc, row, &mut out, &mut report);
+        let is_written = out.into_inner().strip_prefix(b"a") == Some(whole);
+        let is_told = report.into_inner().strip_prefix(b"b") == Some(text);
+        Ok(answer == Ok(status) && is_written && is_told)
     }
-    Ok(())
+
+    // The script of the first row that does otherwise.
+    fn wrong_append(&self, alloc: Global) -> Option<&'static [u8]> {
+        for row in self.rows {
+            if self.appends(alloc, row) != Ok(true) {
+                return Some(row.1);
+            }
+        }
+        None
+    }
+
+    // Puts the module to an output that fails after so many calls. Answers whether it took all. Where it took neither all nor a
+    // beginning, or the report took something that it may not, it answers nothing.
+    fn is_module_taken(&self, alloc: Global, row: &Row, mut out: Chopped) -> Option<bool>
+        requires { ⟦<Chopped as Out>⟧.failed out ≡ 0 }
+    {
+        let (_, _, status, whole, text) = *row;
+        let mut report = Sink::new(Vec::new(alloc));
+        let answer = self.edit(alloc, row, &mut out, &mut report);
+        let (taken, told) = (out.taken(), report.into_inner());
+        let is_whole = taken.len() == whole.len()
+            && answer == Ok(status)
+            && told.as_slice() == text;
+        let is_begun = out.failures() == 1 && answer == Err(RunFault::Out) && told.is_empty();
+        if whole.starts_with(taken) && (is_whole || is_begun) {
+            Some(is_whole)
+        } else {
+            None
+        }
+    }
+
+    // The same of the report, before which the module is written whole.
+    fn is_report_taken(&self, alloc: Global, row: &Row, mut report: Chopped) -> Option<bool>
+        requires { ⟦<Chopped as Out>⟧.failed report ≡ 0 }
+    {
+        let (_, _, status, whole, text) = *row;
+        let mut out = Sink::new(Vec::new(alloc));
+        let answer = self.edit(alloc, row, &mut out, &mut report);
+        let (taken, written) = (report.taken(), out.into_inner());
+        let is_whole = taken.len() == text.len() && answer == Ok(status);
+        let is_begun = report.failures() == 1 && answer == Err(RunFault::Report);
+        if written.as_slice() == whole && text.starts_with(taken) && (is_whole || is_begun) {
+            Some(is_whole)
+        } else {
+            None
+        }
+    }
+
+    // After how many calls an output of the module that takes so many bytes at each never fails.
+    fn module_calls(&self, alloc: Global, row: &Row, most: usize) -> Option<usize> {
+        for calls in 0..=row.3.len() {
+            if self.is_module_taken(alloc, row, Chopped::new(alloc, most, calls))? {
+                return Some(calls);
+            }
+        }
+        None
+    }
+
+    // The same of the report.
+    fn report_calls(&self, alloc: Global, row: &Row, most: usize) -> Option<usize> {
+        for calls in 0..=row.4.len() {
+            if self.is_report_taken(alloc, row, Chopped::new(alloc, most, calls))? {
+                return Some(calls);
+            }
+        }
+        None
+    }
+
+    // At one, two or seven bytes a call the report of a row takes as many calls as its bytes fill, and the module, which goes out in
+    // pieces, as many or more, but no more than it has bytes.
+    fn leaves_beginnings(&self, alloc: Global, row: &Row) -> bool {
+        let (_, _, _, whole, text) = *row;
+        for most in [1, 2, 7] {
+            let is_fair = match self.module_calls(alloc, row, most) {
+                Some(calls) => whole.len().div_ceil(most) <= calls && calls <= whole.len(),
+                None => false,
+            };
+            if !is_fair || self.report_calls(alloc, row, most) != Some(text.len().div_ceil(most)) {
+                return false;
+            }
+        }
+        true
+    }
+
+    // The script of the first row that does otherwise.
+    fn wrong_beginning(&self, alloc: Global) -> Option<&'static [u8]> {
+        for row in self.rows {
+            if !self.leaves_beginnings(alloc, row) {
+                return Some(row.1);
+            }
+        }
+        None
+    }
+}
+
+// The script of the first row of all tables that does otherwise.
+fn wrong_append(alloc: Global) -> Option<&'static [u8]> {
+    for table in &TABLES {
+        let wrong = table.wrong_append(alloc);
+        if wrong.is_some() {
+            return wrong;
+        }
+    }
+    None
+}
+
+fn wrong_beginning(alloc: Global) -> Option<&'static [u8]> {
+    for table in &TABLES {
+        let wrong = table.wrong_beginning(alloc);
+        if wrong.is_some() {
+            return wrong;
+        }
+    }
+    None
 }
 
 #[test]
 fn edits(rt: HostRuntime) -> Result<(), Fail> {
-    for (mode, rows) in tables() {
-        append(&rt, rt.alloc(), mode, rows)?;
-    }
-    Ok(())
-}
-
-// Puts the module to an output that fails after so many calls. Answers whether it took all; else it took a beginning, and the
-// report nothing.
-fn is_module_taken(
-    rt: &impl Abort,
-    alloc: Global,
-    mode: Mode,
-    row: Row,
-    mut out: Chopped,
-) -> Result<bool, Fail>
-    requires { ⟦<Chopped as Out>⟧.failed out ≡ 0 }
-{
-    let (_, script, status, whole, text) = row;
-    let mut report = Sink::new(Vec::new(alloc));
-    let answer = mode.edit(alloc, row, &mut out, &mut report);
-    let is_whole = out.failures() == 0;
-    let (wanted, lines) = if is_whole {
-        (Ok(status), text)
-    } else {
-        (Err(RunFault::Out), b"".as_slice())
-    };
-    assert_eq!(rt; answer, wanted, "{script:?}");
-    assert!(rt; whole.starts_with(out.taken()), "{script:?}");
-    assert!(rt; out.taken().len() == whole.len() || !is_whole, "{script:?}");
-    assert_eq!(rt; report.into_inner().as_slice(), lines, "{script:?}");
-    Ok(is_whole)
-}
-
-// The same of the report, before which the module is written whole.
-fn is_report_taken(
-    rt: &impl Abort,
-    alloc: Global,
-    mode: Mode,
-    row: Row,
-    mut report: Chopped,
-) -> Result<bool, Fail>
-    requires { ⟦<Chopped as Out>⟧.failed report ≡ 0 }
-{
-    let (_, script, status, whole, text) = row;
-    let mut out = Sink::new(Vec::new(alloc));
-    let answer = mode.edit(alloc, row, &mut out, &mut report);
-    let is_whole = report.failures() == 0;
-    let wanted = if is_whole {
-        Ok(status)
-    } else {
-        Err(RunFault::Report)
-    };
-    assert_eq!(rt; answer, wanted, "{script:?}");
-    assert!(rt; text.starts_with(report.taken()), "{script:?}");
-    assert!(rt;
-        report.taken().len() == text.len() || !is_whole,
-        "{script:?}"
-    );
-    assert_eq!(rt; out.into_inner().as_slice(), whole, "{script:?}");
-    Ok(is_whole)
-}
-
-// At so many bytes a call an output of the module fails after no call, after one, and so on. Answers after how many it never fails.
-fn module_calls(
-    rt: &impl Abort,
-    alloc: Global,
-    mode: Mode,
-    row: Row,
-    most: usize,
-) -> Result<usize, Fail> {
-    let (_, _, _, whole, _) = row;
-    for calls in 0..=whole.len() {
-        let out = Chopped::new(alloc, most, calls);
-        if is_module_taken(rt, alloc, mode, row, out)? {
-            return Ok(calls);
-        }
-    }
-    Err("the output takes a byte a call")?
-}
-
-// The same of the report.
-fn report_calls(
-    rt: &impl Abort,
-    alloc: Global,
-    mode: Mode,
-    row: Row,
-    most: usize,
-) -> Result<usize, Fail> {
-    let (_, _, _, _, text) = row;
-    for calls in 0..=text.len() {
-        let report = Chopped::new(alloc, most, calls);
-        if is_report_taken(rt, alloc, mode, row, report)? {
-            return Ok(calls);
-        }
-    }
-    Err("the output takes a byte a call")?
-}
-
-// At one, two or seven bytes a call the report of a row takes as many calls as its bytes fill, and the module, which goes out in pieces,
-// as many or more, but no more than it has bytes.
-fn leaves_beginnings(rt: &impl Abort, alloc: Global, mode: Mode, row: Row) -> Result<(), Fail> {
-    let (_, script, _, whole, text) = row;
-    for most in [1, 2, 7] {
-        let calls = module_calls(rt, alloc, mode, row, most)?;
-        let least = whole.len().div_ceil(most);
-        assert!(rt; least <= calls && calls <= whole.len(), "{script:?} {most}");
-        let calls = report_calls(rt, alloc, mode, row, most)?;
-        assert_eq!(rt; calls, text.len().div_ceil(most), "{script:?} {most}");
-    }
-    Ok(())
-}
-
-fn leave_beginnings(rt: &impl Abort, alloc: Global, mode: Mode, rows: &[Row]) -> Result<(), Fail> {
-    for row in rows {
-        leaves_beginnings(rt, alloc, mode, *row)?;
-    }
+    assert_eq!(rt; wrong_append(rt.alloc()), None);
     Ok(())
 }
 
 #[test]
 fn stops_where_an_output_fails(rt: HostRuntime) -> Result<(), Fail> {
-    for (mode, rows) in tables() {
-        leave_beginnings(&rt, rt.alloc(), mode, rows)?;
-    }
+    assert_eq!(rt; wrong_beginning(rt.alloc()), None);
     Ok(())
 }

@@ -1,27 +1,22 @@
-//! Tests of listings, sessions and scripts, through the calls of `wk_list`, `wk_session` and `wk_edit`.
+//! Tests of the calls of `wk_list`, `wk_session` and `wk_edit`: each once, and what no contract says of them. What commands list, report
+//! and write for this and that input is data: `tests/cases`.
+//!
+//! A test asks one question of plain functions that look: each `?` and each assertion in it would be proved too.
 #![tactic(auto)]
 
 #[cfg(test)]
 mod chopped;
 #[cfg(test)]
-mod examples;
-#[cfg(test)]
 mod job;
-#[cfg(test)]
-mod listing;
-#[cfg(test)]
-mod listing_code;
-#[cfg(test)]
-mod listing_details;
-#[cfg(test)]
-mod listing_output;
 #[cfg(test)]
 mod outputs;
 #[cfg(test)]
-mod replies;
-#[cfg(test)]
 mod script;
 #[cfg(test)]
-mod session;
+mod sessions;
+#[cfg(test)]
+mod step;
 #[cfg(test)]
 mod texts;
+#[cfg(test)]
+mod walks;

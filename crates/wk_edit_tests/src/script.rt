@@ -1,11 +1,12 @@
 //! Scripts, line by line.
 
+use std::alloc::Global;
 use std::test::Fail;
 use wk_edit::{ScriptFault, read_script};
 use wk_module::ValType;
 use wk_session::Edit;
 
-const LINES_OF_TYPES: [(&[u8], &[ValType], &[ValType]); 5] = [
+static LINES_OF_TYPES: [(&[u8], &[ValType], &[ValType]); 5] = [
     (b"type - -", &[], &[]),
     (b"type - -\n", &[], &[]),
     (b"\n\ntype i32 -\n\n", &[ValType::I32], &[]),
@@ -17,7 +18,7 @@ const LINES_OF_TYPES: [(&[u8], &[ValType], &[ValType]); 5] = [
     ),
 ];
 
-const NAMES: [(&[u8], &str); 9] = [
+static NAMES: [(&[u8], &str); 9] = [
     (b"custom strip name", "name"),
     (b"custom strip -", "-"),
     (b"custom strip x", "x"),
@@ -29,7 +30,7 @@ const NAMES: [(&[u8], &str); 9] = [
     (b"custom strip x:20783a", " x:"),
 ];
 
-const BYTES: [(&[u8], &str, &[u8]); 7] = [
+static BYTES: [(&[u8], &str, &[u8]); 7] = [
     (b"custom set c -", "c", b""),
     (b"custom set - -", "-", b""),
     (b"custom set c 00", "c", b"\0"),
@@ -44,16 +45,19 @@ const BYTES: [(&[u8], &str, &[u8]); 7] = [
 ];
 
 // Each wrong word of a line is tried on the program (`tests/cases/scripts.txt`).
-const BAD_WORDS: [(&[u8], u64); 6] = [
-    (b" ", 1),
-    (b"type i32,,i32 -", 1),
-    (b"custom strip x:ff", 1),
-    (b"custom set a 0g", 1),
-    (b"\n\ntype - -\n\ncustom\n", 5),
-    (b"custom strip a\ncustom\nstrips\n", 2),
-];
-
-const HIGH_BYTES: [(&[u8], ScriptFault); 7] = [
+static FAULTS: [(&[u8], ScriptFault); 13] = [
+    (b" ", ScriptFault::BadWord { line: 1 }),
+    (b"type i32,,i32 -", ScriptFault::BadWord { line: 1 }),
+    (b"custom strip x:ff", ScriptFault::BadWord { line: 1 }),
+    (b"custom set a 0g", ScriptFault::BadWord { line: 1 }),
+    (
+        b"\n\ntype - -\n\ncustom\n",
+        ScriptFault::BadWord { line: 5 },
+    ),
+    (
+        b"custom strip a\ncustom\nstrips\n",
+        ScriptFault::BadWord { line: 2 },
+    ),
     (b"\x80", ScriptFault::NotAscii { line: 1 }),
     (
         b"type - -\n\ncustom strip \xc3\xa9\n",
@@ -66,78 +70,100 @@ const HIGH_BYTES: [(&[u8], ScriptFault); 7] = [
     (b"\n\xc3\xa9", ScriptFault::NotAscii { line: 2 }),
 ];
 
-#[test]
-fn reads_types(rt: HostRuntime) -> Result<(), Fail> {
-    for (script, params, results) in LINES_OF_TYPES {
-        let edits = read_script(rt.alloc(), script).ok().ok_or("a script")?;
-        assert_eq!(rt; edits.len(), 1, "{script:?}");
-        match &edits[0] {
-            Edit::Ty(ty) => {
-                assert_eq!(rt; ty.params.as_slice(), params, "{script:?}");
-                assert_eq!(rt; ty.results.as_slice(), results, "{script:?}");
+// Whether a script has one edit, which adds a type of these parameters and results.
+fn is_type(alloc: Global, script: &[u8], params: &[ValType], results: &[ValType]) -> bool {
+    match read_script(alloc, script) {
+        Ok(edits) => match edits.as_slice() {
+            [Edit::Ty(ty)] => ty.params.as_slice() == params && ty.results.as_slice() == results,
+            _ => false,
+        },
+        Err(_) => false,
+    }
+}
+
+// Whether a script has one edit, which strips the custom sections of this name.
+fn is_strip(alloc: Global, script: &[u8], wanted: &str) -> bool {
+    match read_script(alloc, script) {
+        Ok(edits) => match edits.as_slice() {
+            [Edit::StripCustom(name)] => name.as_str() == wanted,
+            _ => false,
+        },
+        Err(_) => false,
+    }
+}
+
+// Whether a script has one edit, which gives the custom section of this name these bytes.
+fn is_set(alloc: Global, script: &[u8], called: &str, wanted: &[u8]) -> bool {
+    match read_script(alloc, script) {
+        Ok(edits) => match edits.as_slice() {
+            [Edit::SetCustom { name, bytes }] => {
+                name.as_str() == called && bytes.as_slice() == wanted
             }
-            _ => assert!(rt; false, "{script:?}"),
+            _ => false,
+        },
+        Err(_) => false,
+    }
+}
+
+// The first script that is read otherwise.
+fn wrong_edit(alloc: Global) -> Option<&'static [u8]> {
+    for (script, params, results) in &LINES_OF_TYPES {
+        if !is_type(alloc, script, params, results) {
+            return Some(*script);
         }
     }
-    Ok(())
+    for (script, name) in &NAMES {
+        if !is_strip(alloc, script, name) {
+            return Some(*script);
+        }
+    }
+    for (script, name, bytes) in &BYTES {
+        if !is_set(alloc, script, name, bytes) {
+            return Some(*script);
+        }
+    }
+    None
+}
+
+static COUNTS: [(&[u8], usize); 6] = [
+    (b"", 0),
+    (b"\n", 0),
+    (b"\n\n\n", 0),
+    (b"strip\n", 1),
+    (b"custom strip d\ntype - -\n", 2),
+    (b"\ncustom strip d\n\n\ntype - -\n\ntype - -", 3),
+];
+
+// The first script with another number of edits.
+fn wrong_count(alloc: Global) -> Option<&'static [u8]> {
+    for (script, count) in &COUNTS {
+        let found = read_script(alloc, script).ok().map(|edits| edits.len());
+        if found != Some(*count) {
+            return Some(*script);
+        }
+    }
+    None
+}
+
+// The first script with another fault, or none.
+fn wrong_fault(alloc: Global) -> Option<&'static [u8]> {
+    for (script, fault) in &FAULTS {
+        if read_script(alloc, script).err() != Some(*fault) {
+            return Some(*script);
+        }
+    }
+    None
 }
 
 #[test]
-fn reads_names(rt: HostRuntime) -> Result<(), Fail> {
-    for (script, name) in NAMES {
-        let edits = read_script(rt.alloc(), script).ok().ok_or("a script")?;
-        assert_eq!(rt; edits.len(), 1, "{script:?}");
-        match &edits[0] {
-            Edit::StripCustom(found) => assert_eq!(rt; found.as_str(), name, "{script:?}"),
-            _ => assert!(rt; false, "{script:?}"),
-        }
-    }
-    Ok(())
-}
-
-#[test]
-fn reads_bytes(rt: HostRuntime) -> Result<(), Fail> {
-    for (script, called, wanted) in BYTES {
-        let edits = read_script(rt.alloc(), script).ok().ok_or("a script")?;
-        assert_eq!(rt; edits.len(), 1, "{script:?}");
-        match &edits[0] {
-            Edit::SetCustom { name, bytes } => {
-                assert_eq!(rt; name.as_str(), called, "{script:?}");
-                assert_eq!(rt; bytes.as_slice(), wanted, "{script:?}");
-            }
-            _ => assert!(rt; false, "{script:?}"),
-        }
-    }
-    let edits = read_script(rt.alloc(), b"strip\n").ok().ok_or("a script")?;
-    assert!(rt; matches!(edits.as_slice(), [Edit::StripAll]));
-    Ok(())
-}
-
-#[test]
-fn counts_edits(rt: HostRuntime) -> Result<(), Fail> {
-    let scripts: [(&[u8], usize); 5] = [
-        (b"", 0),
-        (b"\n", 0),
-        (b"\n\n\n", 0),
-        (b"custom strip d\ntype - -\n", 2),
-        (b"\ncustom strip d\n\n\ntype - -\n\ntype - -", 3),
-    ];
-    for (script, count) in scripts {
-        let edits = read_script(rt.alloc(), script).ok().ok_or("a script")?;
-        assert_eq!(rt; edits.len(), count, "{script:?}");
-    }
+fn reads_edits(rt: HostRuntime) -> Result<(), Fail> {
+    assert_eq!(rt; wrong_edit(rt.alloc()), None);
+    assert_eq!(rt; wrong_count(rt.alloc()), None);
     Ok(())
 }
 
 #[test]
 fn refuses_words(rt: HostRuntime) -> Result<(), Fail> {
-    for (script, line) in BAD_WORDS {
-        let fault = read_script(rt.alloc(), script).err().ok_or("a fault")?;
-        assert_eq!(rt; fault, ScriptFault::BadWord { line }, "{script:?}");
-    }
-    for (script, wanted) in HIGH_BYTES {
-        let fault = read_script(rt.alloc(), script).err().ok_or("a fault")?;
-        assert_eq!(rt; fault, wanted, "{script:?}");
-    }
+    assert_eq!(rt; wrong_fault(rt.alloc()), None);
     Ok(())
 }

@@ -1,12 +1,14 @@
 //! The texts of faults and of verdicts.
 
+use std::alloc::{AllocError, Global};
+use std::fmt;
 use std::test::Fail;
 use wk_bytes::{OutFault, OutOfMemory, ReadFault, ReadKind};
 use wk_check::{Fault, FaultKind, Place, Verdict};
 use wk_edit::{RunFault, ScriptFault, malformed_line, verdict_line};
 use wk_session::EditFault;
 
-const READ_KINDS: [(ReadKind, &str); 17] = [
+static READ_KINDS: [(ReadKind, &str); 17] = [
     (ReadKind::BadMagic, "R1 BadMagic"),
     (ReadKind::BadVersion, "R2 BadVersion"),
     (ReadKind::UnexpectedEnd, "R3 UnexpectedEnd"),
@@ -26,7 +28,7 @@ const READ_KINDS: [(ReadKind, &str); 17] = [
     (ReadKind::Memory, "R17 Memory"),
 ];
 
-const FAULT_KINDS: [(FaultKind, &str); 21] = [
+static FAULT_KINDS: [(FaultKind, &str); 21] = [
     (FaultKind::TypeArity, "V1 TypeArity"),
     (FaultKind::UnknownType, "V2 UnknownType"),
     (FaultKind::LimitsOrder, "V3 LimitsOrder"),
@@ -64,7 +66,7 @@ const UNKNOWN_OPCODE: ReadFault = ReadFault {
     at: 1,
 };
 
-const EDIT_FAULTS: [(EditFault, &str); 8] = [
+static EDIT_FAULTS: [(EditFault, &str); 8] = [
     (EditFault::NoSuchFunction, "E1 NoSuchFunction"),
     (EditFault::NoSuchExport, "E2 NoSuchExport"),
     (EditFault::NoSuchCustom, "E3 NoSuchCustom"),
@@ -81,7 +83,7 @@ const EDIT_FAULTS: [(EditFault, &str); 8] = [
     (EditFault::Memory, "E8 Memory"),
 ];
 
-const OFFSETS: [(u32, &str); 5] = [
+static OFFSETS: [(u32, &str); 5] = [
     (0, "R5 IntTooLarge at 0x00000000"),
     (9, "R5 IntTooLarge at 0x00000009"),
     (0xab_cdef, "R5 IntTooLarge at 0x00abcdef"),
@@ -89,90 +91,107 @@ const OFFSETS: [(u32, &str); 5] = [
     (u32::MAX, "R5 IntTooLarge at 0xffffffff"),
 ];
 
-#[test]
-fn names_kinds(rt: HostRuntime) -> Result<(), Fail> {
-    for (kind, text) in READ_KINDS {
-        assert_eq!(rt; format!(in rt.alloc(); "{kind}")?.as_str(), text);
-    }
-    for (kind, text) in FAULT_KINDS {
-        assert_eq!(rt; format!(in rt.alloc(); "{kind}")?.as_str(), text);
-    }
-    for (fault, text) in EDIT_FAULTS {
-        assert_eq!(rt; format!(in rt.alloc(); "{fault}")?.as_str(), text);
-    }
-    Ok(())
-}
+static ENDS: [(RunFault, &str); 3] = [
+    (RunFault::Out, "cannot write the module"),
+    (RunFault::Report, "cannot write the report"),
+    (RunFault::Memory, "out of memory"),
+];
 
-#[test]
-fn names_places(rt: HostRuntime) -> Result<(), Fail> {
-    for (at, text) in OFFSETS {
-        let fault = ReadFault {
-            kind: ReadKind::IntTooLarge,
-            at,
-        };
-        assert_eq!(rt; format!(in rt.alloc(); "{fault}")?.as_str(), text);
-    }
-    let place = Place {
+static SCRIPT_FAULTS: [(ScriptFault, &str); 3] = [
+    (ScriptFault::BadWord { line: 3 }, "S1 BadWord line 3"),
+    (ScriptFault::NotAscii { line: 12 }, "S2 NotAscii line 12"),
+    (ScriptFault::Memory, "S3 Memory"),
+];
+
+static VERDICTS: [(Verdict, &str); 2] = [
+    (Verdict::Valid, "valid"),
+    (
+        Verdict::Invalid(STACK_HEIGHT),
+        "invalid V15 StackHeight at section 10 item 0 token 1",
+    ),
+];
+
+static PLACES: [(Place, &str); 1] = [(
+    Place {
         section: 1,
         item: u32::MAX,
         token: None,
-    };
-    assert_eq!(rt;
-        format!(in rt.alloc(); "{place}")?.as_str(),
-        "section 1 item 4294967295"
-    );
-    let valid = Verdict::Valid;
-    assert_eq!(rt; format!(in rt.alloc(); "{valid}")?.as_str(), "valid");
+    },
+    "section 1 item 4294967295",
+)];
+
+static MEMORY: [(OutOfMemory, &str); 1] = [(OutOfMemory, "out of memory")];
+
+static OUTPUT: [(OutFault, &str); 1] = [(OutFault, "the output failed")];
+
+fn is_text<T: fmt::Display>(alloc: Global, value: &T, text: &str) -> bool {
+    match format!(in alloc; "{value}") {
+        Ok(found) => found.as_str() == text,
+        Err(_) => false,
+    }
+}
+
+// The text of the first of these values that has another.
+fn wrong_text<T: fmt::Display>(
+    alloc: Global,
+    rows: &'static [(T, &'static str)],
+) -> Option<&'static str> {
+    for (value, text) in rows {
+        if !is_text(alloc, value, text) {
+            return Some(*text);
+        }
+    }
+    None
+}
+
+// The same of offsets.
+fn wrong_offset(alloc: Global) -> Option<&'static str> {
+    for (at, text) in &OFFSETS {
+        let fault = ReadFault {
+            kind: ReadKind::IntTooLarge,
+            at: *at,
+        };
+        if !is_text(alloc, &fault, text) {
+            return Some(*text);
+        }
+    }
+    None
+}
+
+#[test]
+fn names_faults(rt: HostRuntime) -> Result<(), Fail> {
+    let alloc = rt.alloc();
+    assert_eq!(rt; wrong_text(alloc, &READ_KINDS), None);
+    assert_eq!(rt; wrong_text(alloc, &FAULT_KINDS), None);
+    assert_eq!(rt; wrong_text(alloc, &EDIT_FAULTS), None);
+    assert_eq!(rt; wrong_text(alloc, &SCRIPT_FAULTS), None);
+    assert_eq!(rt; wrong_offset(alloc), None);
     Ok(())
 }
 
 #[test]
 fn names_ends(rt: HostRuntime) -> Result<(), Fail> {
-    let ends = [
-        (RunFault::Out, "cannot write the module"),
-        (RunFault::Report, "cannot write the report"),
-        (RunFault::Memory, "out of memory"),
-    ];
-    for (fault, text) in ends {
-        assert_eq!(rt; format!(in rt.alloc(); "{fault}")?.as_str(), text);
-    }
-    let memory = OutOfMemory;
-    assert_eq!(rt;
-        format!(in rt.alloc(); "{memory}")?.as_str(),
-        "out of memory"
-    );
-    let out = OutFault;
-    assert_eq!(rt;
-        format!(in rt.alloc(); "{out}")?.as_str(),
-        "the output failed"
-    );
+    let alloc = rt.alloc();
+    assert_eq!(rt; wrong_text(alloc, &ENDS), None);
+    assert_eq!(rt; wrong_text(alloc, &VERDICTS), None);
+    assert_eq!(rt; wrong_text(alloc, &PLACES), None);
+    assert_eq!(rt; wrong_text(alloc, &MEMORY), None);
+    assert_eq!(rt; wrong_text(alloc, &OUTPUT), None);
     Ok(())
 }
 
-#[test]
-fn names_script_faults(rt: HostRuntime) -> Result<(), Fail> {
-    let faults = [
-        (ScriptFault::BadWord { line: 3 }, "S1 BadWord line 3"),
-        (ScriptFault::NotAscii { line: 12 }, "S2 NotAscii line 12"),
-        (ScriptFault::Memory, "S3 Memory"),
-    ];
-    for (fault, text) in faults {
-        assert_eq!(rt; format!(in rt.alloc(); "{fault}")?.as_str(), text);
-    }
-    Ok(())
+// Whether lines end with a line feed.
+fn writes_lines(alloc: Global) -> Result<bool, AllocError> {
+    let malformed = malformed_line(alloc, &UNKNOWN_OPCODE)?;
+    let verdict = verdict_line(alloc, &Verdict::Invalid(STACK_HEIGHT))?;
+    Ok(
+        malformed.as_str() == "malformed R11 UnknownOpcode at 0x00000001\n"
+            && verdict.as_str() == "invalid V15 StackHeight at section 10 item 0 token 1\n",
+    )
 }
 
 #[test]
-fn writes_lines(rt: HostRuntime) -> Result<(), Fail> {
-    let line = malformed_line(rt.alloc(), &UNKNOWN_OPCODE)?;
-    assert_eq!(rt;
-        line.as_str(),
-        "malformed R11 UnknownOpcode at 0x00000001\n"
-    );
-    let line = verdict_line(rt.alloc(), &Verdict::Invalid(STACK_HEIGHT))?;
-    assert_eq!(rt;
-        line.as_str(),
-        "invalid V15 StackHeight at section 10 item 0 token 1\n"
-    );
+fn ends_lines(rt: HostRuntime) -> Result<(), Fail> {
+    assert_eq!(rt; writes_lines(rt.alloc()), Ok(true));
     Ok(())
 }
