@@ -1,4 +1,4 @@
-//! Samples for the crates that test: integers, bodies and modules, and what is known of them from elsewhere.
+//! What the crates that test share: integers, bodies and modules with what is known of them from elsewhere, and what a trial of a call finds.
 #![tactic(auto)]
 
 pub mod bodies;
@@ -8,4 +8,5 @@ pub mod lacking;
 pub mod listings;
 pub mod modules;
 pub mod moving;
+pub mod outcome;
 pub mod wide;

@@ -4,13 +4,13 @@ ghost use Rattle.std.specs.Prelude.{◌≡◌};
 
 use crate::mark::{call_begins, call_ends};
 use crate::modules::{OF_ALL, OF_WIDE, Sample};
-use crate::outcome::Outcome;
 use crate::sinks::{Room, holds, holds_begun, sink};
 use std::alloc::{AllocError, Global};
 use wk_answers::{list_parts, list_sections, validate};
 use wk_bytes::{Out, OutOfMemory, Sink};
 use wk_list::{ListFault, Part, Plain};
 use wk_module::Module;
+use wk_samples::outcome::Outcome;
 use wk_samples::wide::{CODE, HEADERS};
 
 /// A call of `wk_answers`.
@@ -79,9 +79,23 @@ fn was_answered(answer: Result<bool, OutOfMemory>) -> Outcome {
 }
 
 fn lists_parts(alloc: Global) -> Outcome {
-    match (OF_WIDE.read(alloc), sink(alloc, Room::Full), both(alloc)) {
-        (Ok(module), Some(sink), Ok(text)) => lists_parts_of(alloc, &module, &text, sink),
-        _ => Outcome::NO_SAMPLE,
+    match OF_WIDE.read(alloc) {
+        Ok(module) => lists_parts_of(alloc, &module),
+        Err(_) => Outcome::NO_SAMPLE,
+    }
+}
+
+fn lists_parts_of(alloc: Global, module: &Module) -> Outcome {
+    match both(alloc) {
+        Ok(text) => lists_parts_as(alloc, module, &text),
+        Err(AllocError) => Outcome::NO_SAMPLE,
+    }
+}
+
+fn lists_parts_as(alloc: Global, module: &Module, text: &[u8]) -> Outcome {
+    match sink(alloc, Room::Full) {
+        Some(sink) => lists_parts_to(alloc, module, text, sink),
+        None => Outcome::NO_SAMPLE,
     }
 }
 
@@ -92,7 +106,7 @@ fn both(alloc: Global) -> Result<Vec<u8>, AllocError> {
     Ok(text)
 }
 
-fn lists_parts_of(alloc: Global, module: &Module, text: &[u8], mut sink: Sink) -> Outcome
+fn lists_parts_to(alloc: Global, module: &Module, text: &[u8], mut sink: Sink) -> Outcome
     requires { ⟦<Sink as Out>⟧.failed sink ≡ 0 }
 {
     let Some(plain) = Plain::of(module) else {

@@ -3,19 +3,18 @@
 ghost use Rattle.std.specs.Prelude.{◌≤◌, length};
 
 use crate::mark::{call_begins, call_ends};
-use crate::outcome::Outcome;
 use crate::sinks::{BEFORE, Room, has_appended, vector};
 use std::alloc::{AllocError, Global};
 use std::collections::BTreeSet;
 use wk_body::{
-    Body, EncodeFault, LocalGroup, Movement, Moving, Profile, Ref, Scratch, ShiftFault,
-    TokenReader, append_body, body_len, code_bytes, encode_body, expr_movement, next_groups,
-    read_body, read_body_in, refs, shift, uses,
+    Body, EncodeFault, LocalGroup, Moving, Profile, Ref, Scratch, ShiftFault, TokenReader,
+    append_body, code_bytes, encode_body, next_groups, read_body, read_body_in, refs, shift, uses,
 };
 use wk_bytes::{Cursor, LIMIT, OutOfMemory, ReadFault, ReadKind};
 use wk_samples::bodies::{
     BODY, PADDED, REFERRING, WIDE, WIDE_PADDED, WIDE_WITH_FUNC_MOVED, WITH_FUNC_MOVED,
 };
+use wk_samples::outcome::Outcome;
 
 /// What a reading answers where memory is wanting.
 pub(crate) const NO_MEMORY: ReadFault = ReadFault {
@@ -95,8 +94,22 @@ fn is_body(alloc: Global, body: &Body, bytes: &[u8]) -> bool {
     }
 }
 
+/// Whether it is the length of these bytes.
+pub(crate) fn is_length(len: Option<u32>, bytes: &[u8]) -> bool {
+    match len {
+        Some(len) => len as usize == bytes.len(),
+        None => false,
+    }
+}
+
+// Whether these references are found, and no others.
 fn are_refs(found: &BTreeSet<Ref>, wanted: &[Ref]) -> bool {
-    found.len() == wanted.len() && found.iter().zip(wanted.iter()).all(|(a, b)| a == b)
+    for reference in wanted {
+        if !found.contains(reference) {
+            return false;
+        }
+    }
+    found.len() == wanted.len()
 }
 
 /// A call that reads a code.
@@ -229,8 +242,6 @@ pub(crate) enum OfBody {
     Refs,
     /// `uses`.
     Uses,
-    /// `body_len`, `tokens`, `groups`, `head_len` and `expr_movement`.
-    Look,
 }
 
 impl OfBody {
@@ -250,19 +261,8 @@ impl OfBody {
             OfBody::Clone => code.clones(alloc, body),
             OfBody::Refs => code.finds(alloc, body),
             OfBody::Uses => code.finds_uses(alloc, body),
-            OfBody::Look => code.looks(alloc, body),
         }
     }
-}
-
-// The length of the body's expression by its tokens, one after the other.
-fn sum_of_heads(body: &Body) -> u64 {
-    let (tokens, labels) = body.tokens();
-    let mut sum = 0u64;
-    for token in tokens {
-        sum = sum.saturating_add(token.head_len(labels));
-    }
-    sum
 }
 
 impl Code {
@@ -359,23 +359,6 @@ impl Code {
         let answer = uses(alloc, 4, body);
         call_ends(alloc);
         self.was_found(alloc, &answer, self.uses, body)
-    }
-
-    fn looks(self, alloc: Global, body: &Body) -> Outcome {
-        call_begins(alloc);
-        let len = body_len(body);
-        let sum = sum_of_heads(body);
-        let groups = body.groups().len();
-        let movement = expr_movement(body.expr(), Moving::Func, 5);
-        call_ends(alloc);
-        let is_moving = movement
-            == Movement {
-                moves: true,
-                stuck: false,
-            };
-        let is_measured = len.map(|len| len as usize) == Some(self.written.len())
-            && sum.saturating_add(5) == self.written.len() as u64;
-        Outcome::answered(is_measured && groups == 2 && is_moving)
     }
 }
 

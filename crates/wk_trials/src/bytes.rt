@@ -3,13 +3,13 @@
 ghost use Rattle.std.specs.Prelude.{◌≡◌, ◌<◌, ◌-◌, ◌^◌};
 
 use crate::mark::{call_begins, call_ends};
-use crate::outcome::Outcome;
 use crate::sinks::{BEFORE, Room, has_appended, holds, sink, vector};
 use std::alloc::Global;
 use wk_bytes::{
     Items, Out, OutFault, OutOfMemory, Sink, Stream, Text, out_u32, put_all, put_s32, put_s33,
     put_s64, put_u32,
 };
+use wk_samples::outcome::Outcome;
 
 /// An integer, put to the end of a vector.
 #[derive(Clone, Copy)]

@@ -1,7 +1,6 @@
 //! `Session::apply` and `Session::apply_kept`.
 
 use crate::mark::{call_begins, call_ends};
-use crate::outcome::Outcome;
 use crate::same::is_session_of;
 use std::alloc::{AllocError, Global};
 use std::fmt;
@@ -9,6 +8,7 @@ use wk_bytes::{Items, Text};
 use wk_edit::read_script;
 use wk_module::{Export, FuncType, Kind, Profile, ValType};
 use wk_samples::moving::MOVING;
+use wk_samples::outcome::Outcome;
 use wk_session::{Edit, EditFault, Reply, Session, Work};
 
 /// What an edit comes to where memory is ample.
@@ -61,12 +61,16 @@ fn is_told(alloc: Global, fault: EditFault, text: &str) -> bool {
 impl Trial {
     /// Its edit, where `keep` says whether the module has to be valid afterwards.
     pub(crate) fn run(&self, alloc: Global, keep: bool) -> Outcome {
-        match (
-            Session::open_in(alloc, self.input, self.profile),
-            edit_of(alloc, self.line),
-        ) {
-            (Ok(mut session), Some(edit)) => self.run_on(alloc, keep, &mut session, &edit),
-            _ => Outcome::NO_SAMPLE,
+        match edit_of(alloc, self.line) {
+            Some(edit) => self.run_by(alloc, keep, &edit),
+            None => Outcome::NO_SAMPLE,
+        }
+    }
+
+    fn run_by(&self, alloc: Global, keep: bool, edit: &Edit) -> Outcome {
+        match Session::open_in(alloc, self.input, self.profile) {
+            Ok(mut session) => self.run_on(alloc, keep, &mut session, edit),
+            Err(_) => Outcome::NO_SAMPLE,
         }
     }
 
@@ -165,9 +169,9 @@ impl TooLarge {
 
     /// The edit, which is refused.
     pub(crate) fn run(self, alloc: Global, keep: bool) -> Outcome {
-        match (Session::open(alloc, MOVING), self.edit(alloc)) {
-            (Ok(mut session), Ok(edit)) => TOO_LARGE.run_on(alloc, keep, &mut session, &edit),
-            _ => Outcome::NO_SAMPLE,
+        match self.edit(alloc) {
+            Ok(edit) => TOO_LARGE.run_by(alloc, keep, &edit),
+            Err(AllocError) => Outcome::NO_SAMPLE,
         }
     }
 }

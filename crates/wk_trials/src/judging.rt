@@ -5,14 +5,14 @@ ghost use Rattle.wk_module.specs.Listed.{AreNumbered, listed};
 use crate::bodies::NO_MEMORY;
 use crate::mark::{call_begins, call_ends};
 use crate::modules::Sample;
-use crate::outcome::Outcome;
 use std::alloc::Global;
 use wk_bytes::OutOfMemory;
 use wk_check::{
     BodyVerdict, Meter, Verdict, Whole, judge, judge_around, judge_body, judge_bytes,
-    verdict_with_export, verdict_with_global, verdict_with_import, verdict_with_type,
+    verdict_with_global,
 };
 use wk_module::{Func, Lists, Module};
+use wk_samples::outcome::Outcome;
 
 // The types of the functions that the modules define which have everything that moves.
 const TYPES: &[u32] = &[1, 0];
@@ -62,8 +62,6 @@ pub(crate) enum OfValid {
     Body,
     /// `verdict_with_global` of a global that is there.
     WithGlobal,
-    /// `verdict_with_type`, `verdict_with_import` and `verdict_with_export` of what is there.
-    Look,
 }
 
 // The lists of the module.
@@ -88,7 +86,6 @@ impl OfValid {
             OfValid::Whole => sees_whole(alloc, module),
             OfValid::Body => judges_body(alloc, module),
             OfValid::WithGlobal => adds_global(alloc, module),
-            OfValid::Look => looks(alloc, module),
         }
     }
 }
@@ -113,12 +110,16 @@ fn sees_whole(alloc: Global, module: &Module) -> Outcome {
 }
 
 fn judges_body(alloc: Global, module: &Module) -> Outcome {
-    match (
-        Whole::of(alloc, lists_of(module)),
-        module.parts().funcs.as_slice().first(),
-    ) {
-        (Ok(whole), Some(func)) => judges_func(alloc, &whole, func),
-        _ => Outcome::NO_SAMPLE,
+    match module.parts().funcs.as_slice().first() {
+        Some(func) => judges_body_of(alloc, module, func),
+        None => Outcome::NO_SAMPLE,
+    }
+}
+
+fn judges_body_of(alloc: Global, module: &Module, func: &Func) -> Outcome {
+    match Whole::of(alloc, lists_of(module)) {
+        Ok(whole) => judges_func(alloc, &whole, func),
+        Err(OutOfMemory) => Outcome::NO_SAMPLE,
     }
 }
 
@@ -142,23 +143,4 @@ fn adds_global(alloc: Global, module: &Module) -> Outcome {
     let answer = verdict_with_global(alloc, &lists, global.ty, &global.init);
     call_ends(alloc);
     judged(answer)
-}
-
-// A type and an import of a function come once more. An export does not, since another one has its name.
-fn looks(alloc: Global, module: &Module) -> Outcome {
-    let lists = lists_of(module);
-    let (Some(ty), Some(import), Some(export)) = (
-        lists.types.first(),
-        lists.imports.first(),
-        lists.exports.first(),
-    ) else {
-        return Outcome::NO_SAMPLE;
-    };
-    call_begins(alloc);
-    let with_type = verdict_with_type(lists.profile, 0, ty);
-    let with_import = verdict_with_import(&lists, import);
-    let with_export = verdict_with_export(&lists, export);
-    call_ends(alloc);
-    let are_valid = with_type == Verdict::Valid && with_import == Verdict::Valid;
-    Outcome::answered(are_valid && with_export != Verdict::Valid)
 }

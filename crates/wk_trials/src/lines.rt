@@ -2,13 +2,13 @@
 
 use crate::bodies::NO_MEMORY;
 use crate::mark::{call_begins, call_ends};
-use crate::outcome::Outcome;
 use crate::sinks::{BEFORE, Room, has_appended, vector};
 use std::alloc::{AllocError, Global};
 use wk_bytes::OutOfMemory;
 use wk_check::{Fault, FaultKind, Place, Verdict};
 use wk_edit::{malformed_line, read_name, verdict_line};
 use wk_list::put_header;
+use wk_samples::outcome::Outcome;
 
 /// A text that is made.
 #[derive(Clone, Copy)]

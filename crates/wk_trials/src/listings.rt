@@ -4,7 +4,6 @@ ghost use Rattle.std.specs.Prelude.{◌≡◌};
 
 use crate::mark::{call_begins, call_ends};
 use crate::modules::Sample;
-use crate::outcome::Outcome;
 use crate::sinks::{Room, holds, holds_begun, sink};
 use std::alloc::Global;
 use wk_bytes::{Out, Sink};
@@ -12,19 +11,32 @@ use wk_list::{Layout, ListFault, Part, Plain, Shape, list};
 use wk_module::{EncodeFault, Module, Profile};
 use wk_samples::listings::{CALLING, CODE, DETAILS, HEADERS, USES};
 use wk_samples::modules::WHOLE;
+use wk_samples::outcome::Outcome;
 use wk_samples::wide::{self, WIDE};
+
+fn core_sample(part: Part) -> (&'static [u8], &'static [u8]) {
+    match part {
+        Part::Headers => (WHOLE, HEADERS),
+        Part::Details => (WHOLE, DETAILS),
+        Part::Code => (CALLING, CODE),
+        Part::Uses => (CALLING, USES),
+    }
+}
+
+fn wide_lines(part: Part) -> &'static [u8] {
+    match part {
+        Part::Headers => wide::HEADERS,
+        Part::Details => wide::DETAILS,
+        Part::Code => wide::CODE,
+        Part::Uses => wide::USES,
+    }
+}
 
 /// The module of a profile that has such a part, and its lines.
 pub(crate) fn sample(part: Part, profile: Profile) -> (Sample, &'static [u8]) {
-    let (bytes, lines) = match (profile, part) {
-        (Profile::Core, Part::Headers) => (WHOLE, HEADERS),
-        (Profile::Core, Part::Details) => (WHOLE, DETAILS),
-        (Profile::Core, Part::Code) => (CALLING, CODE),
-        (Profile::Core, Part::Uses) => (CALLING, USES),
-        (Profile::Extended, Part::Headers) => (WIDE, wide::HEADERS),
-        (Profile::Extended, Part::Details) => (WIDE, wide::DETAILS),
-        (Profile::Extended, Part::Code) => (WIDE, wide::CODE),
-        (Profile::Extended, Part::Uses) => (WIDE, wide::USES),
+    let (bytes, lines) = match profile {
+        Profile::Core => core_sample(part),
+        Profile::Extended => (WIDE, wide_lines(part)),
     };
     (Sample { profile, bytes }, lines)
 }
@@ -66,10 +78,14 @@ pub(crate) fn sees_plain(alloc: Global, sample: Sample) -> Outcome {
     }
 }
 
+// The length of the element section.
+fn len_of_elements(module: &Module) -> Option<u32> {
+    Some(Plain::of(module)?.section_len(9))
+}
+
 fn sees_plain_of(alloc: Global, module: &Module) -> Outcome {
     call_begins(alloc);
-    let plain = Plain::of(module);
-    let len = plain.as_ref().map(|plain| plain.section_len(9));
+    let len = len_of_elements(module);
     call_ends(alloc);
     Outcome::answered(matches!(len, Some(8 | 9)))
 }

@@ -9,9 +9,7 @@
 mod answers;
 mod bodies;
 mod bytes;
-mod carrying;
 mod changes;
-mod cursors;
 mod edits;
 mod exprs;
 mod jobs;
@@ -21,7 +19,6 @@ mod listings;
 mod many;
 mod mark;
 mod modules;
-mod outcome;
 mod runs;
 mod same;
 mod scenario;
@@ -32,12 +29,12 @@ mod steps;
 mod strips;
 mod table;
 
-use crate::outcome::Outcome;
 use crate::scenario::{Named, Scenario};
 use crate::table::tables;
 use anyhow::{Result, bail};
 use std::env;
 use std::process::ExitCode;
+use wk_samples::outcome::Outcome;
 
 fn run_each(rt: &(impl AllocGlobal + Print), table: &[Named]) -> Result<()> {
     for (name, scenario) in table {

@@ -2,11 +2,11 @@
 
 use crate::edits::edit_of;
 use crate::mark::{call_begins, call_ends};
-use crate::outcome::Outcome;
 use crate::same::{are_same, is_session_of};
 use std::alloc::{AllocError, Global};
 use wk_module::Profile;
-use wk_session::{Edit, EditFault, Reply, Session};
+use wk_samples::outcome::{Counts, Outcome};
+use wk_session::{Edit, EditFault, Reply, Session, Work};
 
 // A type, and the sizes and counts of the sections behind it.
 const FRONT: &[u8] = b"\0asm\x01\0\0\0\x01\x04\x01\x60\x00\x00\x03\xea\x07\xe8\x07";
@@ -31,21 +31,56 @@ fn module(alloc: Global) -> Result<Vec<u8>, AllocError> {
 
 /// `Session::apply` of the line of a script.
 pub(crate) fn edits(alloc: Global, line: &[u8]) -> Outcome {
-    match (module(alloc), edit_of(alloc, line)) {
-        (Ok(bytes), Some(edit)) => edits_by(alloc, &bytes, &edit),
-        _ => Outcome::NO_SAMPLE,
+    match edit_of(alloc, line) {
+        Some(edit) => edits_by(alloc, &edit),
+        None => Outcome::NO_SAMPLE,
     }
 }
 
-fn edits_by(alloc: Global, bytes: &[u8], edit: &Edit) -> Outcome {
-    match (Session::open(alloc, bytes), Session::open(alloc, bytes)) {
-        (Ok(mut session), Ok(mut apart)) => {
-            call_begins(alloc);
-            let reply = session.apply(edit);
-            call_ends(alloc);
-            was_replied(alloc, &session, &mut apart, bytes, edit, reply)
-        }
-        _ => Outcome::NO_SAMPLE,
+fn edits_by(alloc: Global, edit: &Edit) -> Outcome {
+    match module(alloc) {
+        Ok(bytes) => edits_bytes(alloc, &bytes, edit),
+        Err(AllocError) => Outcome::NO_SAMPLE,
+    }
+}
+
+fn edits_bytes(alloc: Global, bytes: &[u8], edit: &Edit) -> Outcome {
+    match Session::open(alloc, bytes) {
+        Ok(mut session) => edits_in(alloc, &mut session, bytes, edit),
+        Err(_) => Outcome::NO_SAMPLE,
+    }
+}
+
+fn edits_in(alloc: Global, session: &mut Session, bytes: &[u8], edit: &Edit) -> Outcome {
+    match Session::open(alloc, bytes) {
+        Ok(mut apart) => edits_beside(alloc, session, &mut apart, bytes, edit),
+        Err(_) => Outcome::NO_SAMPLE,
+    }
+}
+
+fn edits_beside(
+    alloc: Global,
+    session: &mut Session,
+    apart: &mut Session,
+    bytes: &[u8],
+    edit: &Edit,
+) -> Outcome {
+    call_begins(alloc);
+    let reply = session.apply(edit);
+    call_ends(alloc);
+    was_replied(alloc, session, apart, bytes, edit, reply)
+}
+
+fn counts_of(work: Work) -> Counts {
+    let Work {
+        typed,
+        encoded,
+        sections,
+    } = work;
+    Counts {
+        typed,
+        encoded,
+        sections,
     }
 }
 
@@ -63,7 +98,7 @@ fn was_replied(
             Outcome::refused(is_session_of(alloc, session, Profile::Core, bytes))
         }
         Ok(work) if apart.apply(edit) == reply && are_same(alloc, session, apart) => {
-            Outcome::FineOf(work)
+            Outcome::FineOf(counts_of(work))
         }
         _ => Outcome::answered(false),
     }

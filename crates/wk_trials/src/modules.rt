@@ -1,8 +1,7 @@
 //! Calls of `wk_module` on modules.
 
-use crate::bodies::NO_MEMORY;
+use crate::bodies::{NO_MEMORY, is_length};
 use crate::mark::{call_begins, call_ends};
-use crate::outcome::Outcome;
 use std::alloc::Global;
 use wk_bytes::ReadFault;
 use wk_module::{
@@ -12,6 +11,7 @@ use wk_module::{
 use wk_samples::edits::{MODULE, VALID};
 use wk_samples::modules::{ALL_OF_ONE, TWO_CODES, WHOLE};
 use wk_samples::moving::MOVING;
+use wk_samples::outcome::Outcome;
 use wk_samples::wide::WIDE;
 
 /// The bytes of a module, and the profile that it is read in.
@@ -95,7 +95,12 @@ impl Sample {
         call_begins(alloc);
         let answer = self.read(alloc);
         call_ends(alloc);
-        match &answer {
+        self.was_read(alloc, &answer)
+    }
+
+    // What reading the module answered.
+    fn was_read(self, alloc: Global, answer: &Result<Module, ReadFault>) -> Outcome {
+        match answer {
             Ok(module) => Outcome::answered(is_written_as(alloc, module, self.bytes)),
             Err(fault) => Outcome::refused(*fault == NO_MEMORY),
         }
@@ -131,30 +136,28 @@ impl Sample {
         let module = Module::of(module.into_parts());
         let len = encoded_len(&module);
         call_ends(alloc);
-        let is_measured = len.map(|len| len as usize) == Some(self.bytes.len());
-        let is_kept = is_measured && module.parts().types.len() == types;
+        let is_kept = is_length(len, self.bytes) && module.parts().types.len() == types;
         Outcome::answered(is_kept && is_written_as(alloc, &module, self.bytes))
     }
 }
 
-// Each kind, and how many lists of a module of one item each move with what it names.
-const MOVES: [(Kind, usize); 4] = [
-    (Kind::Func, 3),
-    (Kind::Table, 1),
-    (Kind::Memory, 1),
-    (Kind::Global, 4),
+// Each kind, and which lists of a module of one item each move with what it names: globals, exports, the start, elements and data.
+const MOVES: [(Kind, [bool; 5]); 4] = [
+    (Kind::Func, [false, true, true, true, false]),
+    (Kind::Table, [false, false, false, true, false]),
+    (Kind::Memory, [false, false, false, false, true]),
+    (Kind::Global, [true, true, false, true, true]),
 ];
 
-// How many lists moved.
-fn count_of(moved: &MovedLists) -> usize {
-    let lists = [
+// Which lists moved.
+fn lists_of(moved: &MovedLists) -> [bool; 5] {
+    [
         moved.globals.is_some(),
         moved.exports.is_some(),
         moved.start.is_some(),
         moved.elems.is_some(),
         moved.datas.is_some(),
-    ];
-    lists.iter().filter(|is_moved| **is_moved).count()
+    ]
 }
 
 // Moves what names each kind, up to the first move that is refused. Says whether the lists are right.
@@ -162,7 +165,7 @@ fn shift_each(alloc: Global, parts: &Parts) -> Result<bool, ShiftFault> {
     let mut are_right = true;
     for (kind, wanted) in MOVES {
         let moved = shift_lists(alloc, parts, kind, 1)?;
-        are_right = are_right && count_of(&moved) == wanted;
+        are_right = are_right && lists_of(&moved) == wanted;
     }
     Ok(are_right)
 }
@@ -186,22 +189,4 @@ fn shifts_lists_of(alloc: Global, module: &Module) -> Outcome {
             Outcome::refused(is_memory && is_written_as(alloc, module, ALL_OF_ONE))
         }
     }
-}
-
-/// `MovedLists::put_into`, which takes no memory.
-pub(crate) fn puts_lists(alloc: Global) -> Outcome {
-    match (read(alloc, ALL_OF_ONE), read(alloc, ALL_OF_ONE)) {
-        (Ok(module), Ok(other)) => match shift_lists(alloc, other.parts(), Kind::Global, 1) {
-            Ok(moved) => puts_lists_into(alloc, module, moved),
-            Err(_) => Outcome::NO_SAMPLE,
-        },
-        _ => Outcome::NO_SAMPLE,
-    }
-}
-
-fn puts_lists_into(alloc: Global, module: Module, moved: MovedLists) -> Outcome {
-    call_begins(alloc);
-    let parts = moved.put_into(module.into_parts());
-    call_ends(alloc);
-    Outcome::answered(parts.exports.len() == 2 && parts.start == Some(1))
 }

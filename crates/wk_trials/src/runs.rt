@@ -1,7 +1,6 @@
 //! `Session::run` and `Session::run_kept`.
 
 use crate::mark::{call_begins, call_ends};
-use crate::outcome::Outcome;
 use crate::same::{are_same, is_session_of};
 use std::alloc::Global;
 use wk_bytes::{OutOfMemory, ReadFault};
@@ -9,6 +8,7 @@ use wk_edit::read_script;
 use wk_module::Profile;
 use wk_samples::edits::{EDITED, MODULE, SCRIPT};
 use wk_samples::moving::{ALL_EDITED, ALL_KEPT, MOVING, OF_EACH_KIND};
+use wk_samples::outcome::Outcome;
 use wk_samples::wide::{self, WIDE};
 use wk_session::{Edit, EditFault, Reply, Session};
 
@@ -75,12 +75,29 @@ pub(crate) const EACH_KIND_WIDE_KEPT: Edits = Edits {
     ..EACH_KIND_WIDE
 };
 
+fn refusals_in(replies: &[Reply]) -> usize {
+    let mut refusals = 0usize;
+    for reply in replies {
+        if reply.is_err() {
+            refusals = refusals.saturating_add(1);
+        }
+    }
+    refusals
+}
+
 impl Edits {
     /// The run of them.
     pub(crate) fn run(&self, alloc: Global) -> Outcome {
-        match (self.open(alloc), read_script(alloc, self.script)) {
-            (Ok(mut session), Ok(edits)) => self.run_in(alloc, &mut session, &edits),
-            _ => Outcome::NO_SAMPLE,
+        match read_script(alloc, self.script) {
+            Ok(edits) => self.run_all(alloc, &edits),
+            Err(_) => Outcome::NO_SAMPLE,
+        }
+    }
+
+    fn run_all(&self, alloc: Global, edits: &[Edit]) -> Outcome {
+        match self.open(alloc) {
+            Ok(mut session) => self.run_in(alloc, &mut session, edits),
+            Err(_) => Outcome::NO_SAMPLE,
         }
     }
 
@@ -135,7 +152,7 @@ impl Edits {
         apart: &mut Session,
     ) -> Outcome {
         let (wants, are_answers) = self.replies_apart(apart, edits, replies);
-        let refusals = replies.iter().filter(|reply| reply.is_err()).count();
+        let refusals = refusals_in(replies);
         if wants == 0 {
             let is_made = self.is_session_of(alloc, session, self.made);
             Outcome::answered(are_answers && refusals == self.refusals && is_made)

@@ -35,29 +35,55 @@ fn listed(alloc: Global, session: &Session, part: Part) -> Option<Vec<u8>> {
 }
 
 fn are_listed_alike(alloc: Global, session: &Session, other: &Session, part: Part) -> bool {
-    match (listed(alloc, session, part), listed(alloc, other, part)) {
-        (Some(text), Some(other)) => text.as_slice() == other.as_slice(),
-        _ => false,
+    match listed(alloc, session, part) {
+        Some(text) => is_listed(alloc, other, part, &text),
+        None => false,
+    }
+}
+
+fn is_listed(alloc: Global, session: &Session, part: Part, text: &[u8]) -> bool {
+    match listed(alloc, session, part) {
+        Some(listed) => listed.as_slice() == text,
+        None => false,
     }
 }
 
 fn are_same_refs(refs: Option<&BTreeSet<Ref>>, other: Option<&BTreeSet<Ref>>) -> bool {
-    match (refs, other) {
-        (Some(refs), Some(other)) => refs.len() == other.len()
-            && refs.iter().zip(other.iter()).all(|(a, b)| a == b),
-        (None, None) => true,
-        _ => false,
+    let (Some(refs), Some(other)) = (refs, other) else {
+        return refs.is_none() && other.is_none();
+    };
+    for reference in refs {
+        if !other.contains(reference) {
+            return false;
+        }
     }
+    refs.len() == other.len()
+}
+
+fn are_used_alike(session: &Session, other: &Session) -> bool {
+    for entry in 0..ENTRIES {
+        if !are_same_refs(session.uses(entry), other.uses(entry)) {
+            return false;
+        }
+    }
+    true
+}
+
+fn are_all_listed_alike(alloc: Global, session: &Session, other: &Session) -> bool {
+    for part in PARTS {
+        if !are_listed_alike(alloc, session, other, part) {
+            return false;
+        }
+    }
+    true
 }
 
 /// Whether verdict, length, bytes, all parts of the listing and what the functions refer to are the same.
 pub(crate) fn are_same(alloc: Global, session: &Session, other: &Session) -> bool {
     let is_measured = session.encoded_len() == other.encoded_len();
     let is_judged = *session.verdict() == *other.verdict();
-    let are_listed = PARTS
-        .iter()
-        .all(|part| are_listed_alike(alloc, session, other, *part));
-    let are_used = (0..ENTRIES).all(|entry| are_same_refs(session.uses(entry), other.uses(entry)));
+    let are_listed = are_all_listed_alike(alloc, session, other);
+    let are_used = are_used_alike(session, other);
     match written(alloc, other) {
         Some(bytes) => {
             let is_whole = is_written(alloc, session, &bytes);

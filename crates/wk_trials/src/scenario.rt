@@ -3,23 +3,22 @@
 use crate::answers::Answer;
 use crate::bodies::{Code, OfBody, ReadCode};
 use crate::bytes::{Holder, Integer, Put};
-use crate::cursors::Look;
 use crate::edits::{TooLarge, Trial};
 use crate::exprs::{OfExpr, ReadExpr};
 use crate::jobs::Job;
 use crate::judging::OfValid;
 use crate::lines::Line;
 use crate::modules::Sample;
-use crate::outcome::Outcome;
 use crate::runs::Edits;
 use crate::sections::{OfWhole, Walk};
 use crate::sinks::Room;
 use crate::strips::Strip;
 use crate::table::tables;
-use crate::{bodies, carrying, jobs, judging, listings, many, modules, runs, sessions};
+use crate::{bodies, jobs, judging, listings, many, modules, runs, sessions};
 use std::alloc::Global;
 use wk_list::Part;
 use wk_module::Profile;
+use wk_samples::outcome::Outcome;
 
 /// A call under test.
 #[derive(Clone, Copy)]
@@ -32,8 +31,6 @@ pub(crate) enum Scenario {
     PutStream(Put, Room),
     /// A call of `Items` or `Text`.
     Hold(Holder),
-    /// Calls of `wk_bytes` that take no memory.
-    Look(Look),
     /// A call that reads a code.
     ReadCode(ReadCode, Code),
     /// A call that is lent a body.
@@ -54,8 +51,6 @@ pub(crate) enum Scenario {
     OfWhole(OfWhole, Profile),
     /// `shift_lists`.
     ShiftLists,
-    /// `MovedLists::put_into`.
-    PutLists,
     /// A call of `SectionReader` or `CodeReader`.
     Walk(Walk, Sample),
     /// `judge` of a valid module.
@@ -64,8 +59,6 @@ pub(crate) enum Scenario {
     JudgeBytes(Sample),
     /// A call that is lent a valid module in which all that can move does.
     OfValid(OfValid, Sample),
-    /// `carry` and `carry_moved`.
-    Carry,
     /// `Plain::of`.
     Plain(Sample),
     /// `Layout::of`.
@@ -137,7 +130,6 @@ impl Scenario {
             Scenario::PutOut(put, room) => put.run(alloc, room),
             Scenario::PutStream(put, room) => put.run_on_stream(alloc, room),
             Scenario::Hold(holder) => holder.run(alloc),
-            Scenario::Look(look) => look.run(alloc),
             Scenario::ReadCode(call, code) => call.run(alloc, code),
             Scenario::OfBody(call, code) => call.run(alloc, code),
             Scenario::ManyRefs => bodies::finds_many(alloc),
@@ -148,12 +140,10 @@ impl Scenario {
             Scenario::Settle(sample) => sample.settles(alloc),
             Scenario::OfWhole(call, profile) => call.run(alloc, profile),
             Scenario::ShiftLists => modules::shifts_lists(alloc),
-            Scenario::PutLists => modules::puts_lists(alloc),
             Scenario::Walk(walk, sample) => walk.run(alloc, sample),
             Scenario::Judge(sample) => judging::judges(alloc, sample),
             Scenario::JudgeBytes(sample) => judging::judges_bytes(alloc, sample),
             Scenario::OfValid(call, sample) => call.run(alloc, sample),
-            Scenario::Carry => carrying::carries(alloc),
             Scenario::Plain(sample) => listings::sees_plain(alloc, sample),
             Scenario::Layout(sample) => listings::lays_out(alloc, sample),
             Scenario::List(part, profile, room) => listings::lists(alloc, part, profile, room),

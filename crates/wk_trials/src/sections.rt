@@ -3,16 +3,15 @@
 use crate::bodies::NO_MEMORY;
 use crate::mark::{call_begins, call_ends};
 use crate::modules::{Sample, was_encoded};
-use crate::outcome::Outcome;
 use crate::sinks::{BEFORE, Room, vector};
 use std::alloc::{AllocError, Global};
 use wk_bytes::{RawSection, ReadFault};
 use wk_module::{
-    CodeReader, EncodeFault, Kind, Lists, Module, Parts, Profile, Scratch, SectionReader,
-    append_section, custom_len, encode_custom, encode_section, export_len, framed_len,
-    import_count, named_len, section_len, type_len,
+    CodeReader, EncodeFault, Lists, Module, Parts, Profile, Scratch, SectionReader, append_section,
+    encode_custom, encode_section,
 };
 use wk_samples::modules::{CUSTOMS_OF_WHOLE, OF_WHOLE, WHOLE};
+use wk_samples::outcome::Outcome;
 
 /// A call that is lent the module with every section, in a profile.
 #[derive(Clone, Copy)]
@@ -25,8 +24,6 @@ pub(crate) enum OfWhole {
     Customs,
     /// `copy` of its types, imports and exports.
     Copy,
-    /// `section_len`, `contents_len`, `custom_len`, `type_len`, `export_len`, `named_len`, `framed_len` and `import_count`.
-    Lengths,
 }
 
 // Writes a section alone. Says whether the bytes are right.
@@ -100,45 +97,6 @@ fn copy_each(alloc: Global, parts: &Parts) -> Result<bool, AllocError> {
     Ok(are_right)
 }
 
-fn is_len(told: Option<u32>, bytes: &[u8]) -> bool {
-    told.map(|len| len as usize) == Some(bytes.len())
-}
-
-// Whether the lengths of sections that are told without memory are right.
-fn are_lengths(module: &Module, lists: &Lists<'_>) -> bool {
-    let mut are_right = framed_len(3) == Some(5);
-    for section in OF_WHOLE {
-        let len = section_len(module, section.id);
-        are_right = are_right
-            && is_len(len, section.bytes)
-            && lists.contents_len(section.id) == len;
-    }
-    for (custom, bytes) in module
-        .parts()
-        .customs
-        .as_slice()
-        .iter()
-        .zip(CUSTOMS_OF_WHOLE)
-    {
-        let len = custom_len(custom);
-        are_right = are_right && is_len(len, bytes);
-        are_right = are_right && named_len(&custom.name, custom.bytes.len()) == len;
-    }
-    are_right
-}
-
-// The same of a type and of an export, and how many imports are tables.
-fn are_item_lengths(parts: &Parts) -> bool {
-    let types = parts.types.as_slice();
-    let exports = parts.exports.as_slice();
-    match (types.first(), exports.first()) {
-        (Some(ty), Some(export)) => type_len(ty) == Some(3)
-            && export_len(export) == Some(4)
-            && import_count(parts.imports.as_slice(), Kind::Table) == 1,
-        _ => false,
-    }
-}
-
 impl OfWhole {
     /// The call.
     pub(crate) fn run(self, alloc: Global, profile: Profile) -> Outcome {
@@ -169,12 +127,6 @@ impl OfWhole {
                 was_encoded(alloc, answer, module, WHOLE)
             }
             OfWhole::Copy => copies(alloc, module),
-            OfWhole::Lengths => {
-                call_begins(alloc);
-                let are_right = are_lengths(module, &lists) && are_item_lengths(module.parts());
-                call_ends(alloc);
-                Outcome::answered(are_right)
-            }
         }
     }
 }
@@ -208,8 +160,6 @@ pub(crate) enum Walk {
     ToEnd,
     /// `CodeReader::next` of each code.
     Codes,
-    /// `SectionReader::lists`, `CodeReader::open`, `CodeReader::next_code` and `CodeReader::end`.
-    Look,
 }
 
 type UpToCode<'a> = Result<(SectionReader<'a>, Option<RawSection<'a>>), ReadFault>;
@@ -244,7 +194,6 @@ impl Walk {
     ) -> Outcome {
         match self {
             Walk::Codes => reads_codes(alloc, sample.profile, section),
-            Walk::Look => looks(alloc, &reader, section),
             Walk::ToEnd | Walk::UpToCode => ends(alloc, reader, scratch),
         }
     }
@@ -295,23 +244,4 @@ fn reads_codes(alloc: Global, profile: Profile, section: &RawSection<'_>) -> Out
         Ok(counts) => Outcome::answered(counts == (2, 2) || counts == (11, 12)),
         Err(fault) => Outcome::refused(fault == NO_MEMORY),
     }
-}
-
-// How many bytes both codes have, by cursors that take no memory.
-fn bytes_of_both(section: &RawSection<'_>) -> Result<usize, ReadFault> {
-    let mut codes = CodeReader::open(section, 2)?;
-    let first = codes.next_code()?.rest().len();
-    let second = codes.next_code()?.rest().len();
-    codes.end()?;
-    Ok(first.saturating_add(second))
-}
-
-fn looks(alloc: Global, reader: &SectionReader<'_>, section: &RawSection<'_>) -> Outcome {
-    call_begins(alloc);
-    let funcs = reader.lists().funcs.len();
-    let len = bytes_of_both(section);
-    call_ends(alloc);
-    // Besides them there stand their number and their two sizes, a byte each.
-    let wanted = section.contents.len().checked_sub(3);
-    Outcome::answered(funcs == 2 && len.ok() == wanted)
 }

@@ -6,7 +6,6 @@ use crate::bodies::NO_MEMORY;
 use crate::listings::sample;
 use crate::mark::{call_begins, call_ends};
 use crate::modules::Sample;
-use crate::outcome::Outcome;
 use crate::same::{is_session_of, is_written};
 use crate::sinks::{Room, holds, holds_begun, sink};
 use std::alloc::Global;
@@ -14,6 +13,7 @@ use wk_bytes::{Out, ReadFault, Sink};
 use wk_check::Verdict;
 use wk_list::{ListFault, Part};
 use wk_module::{Profile, Ref};
+use wk_samples::outcome::Outcome;
 use wk_session::{Session, WriteFault};
 
 // Whether the session says that the module is valid, and how long it is, and writes it.
@@ -58,7 +58,7 @@ fn tells_of(alloc: Global, session: &Session, bytes: &[u8]) -> Outcome {
     let past = session.uses(2);
     call_ends(alloc);
     let are_used = match refs {
-        Some(refs) => refs.iter().any(|found| *found == Ref::Func(2)),
+        Some(refs) => refs.contains(&Ref::Func(2)),
         None => false,
     };
     Outcome::answered(is_valid && len as usize == bytes.len() && are_used && past.is_none())
@@ -67,12 +67,23 @@ fn tells_of(alloc: Global, session: &Session, bytes: &[u8]) -> Outcome {
 /// `Session::list` of a part of a module of a profile, to a sink with that much room.
 pub(crate) fn lists(alloc: Global, part: Part, profile: Profile, room: Room) -> Outcome {
     let (input, text) = sample(part, profile);
-    match (
-        Session::open_in(alloc, input.bytes, profile),
-        sink(alloc, room),
-    ) {
-        (Ok(session), Some(sink)) => lists_to(alloc, &session, part, input, text, sink),
-        _ => Outcome::NO_SAMPLE,
+    match Session::open_in(alloc, input.bytes, profile) {
+        Ok(session) => lists_of(alloc, &session, part, input, text, room),
+        Err(_) => Outcome::NO_SAMPLE,
+    }
+}
+
+fn lists_of(
+    alloc: Global,
+    session: &Session,
+    part: Part,
+    input: Sample,
+    text: &[u8],
+    room: Room,
+) -> Outcome {
+    match sink(alloc, room) {
+        Some(sink) => lists_to(alloc, session, part, input, text, sink),
+        None => Outcome::NO_SAMPLE,
     }
 }
 
@@ -99,12 +110,16 @@ fn lists_to(
 
 /// `Session::write` to a sink with that much room.
 pub(crate) fn writes(alloc: Global, input: Sample, room: Room) -> Outcome {
-    match (
-        Session::open_in(alloc, input.bytes, input.profile),
-        sink(alloc, room),
-    ) {
-        (Ok(session), Some(sink)) => writes_to(alloc, &session, input, sink),
-        _ => Outcome::NO_SAMPLE,
+    match Session::open_in(alloc, input.bytes, input.profile) {
+        Ok(session) => writes_of(alloc, &session, input, room),
+        Err(_) => Outcome::NO_SAMPLE,
+    }
+}
+
+fn writes_of(alloc: Global, session: &Session, input: Sample, room: Room) -> Outcome {
+    match sink(alloc, room) {
+        Some(sink) => writes_to(alloc, session, input, sink),
+        None => Outcome::NO_SAMPLE,
     }
 }
 

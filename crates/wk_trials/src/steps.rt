@@ -1,25 +1,39 @@
 //! Single edits of a script, each behind those that stand in front of it.
 
 use crate::mark::{call_begins, call_ends};
-use crate::outcome::Outcome;
 use crate::runs::Edits;
 use crate::same::are_same;
 use std::alloc::Global;
 use wk_edit::read_script;
+use wk_samples::outcome::Outcome;
 use wk_session::{Edit, EditFault, Reply, Session};
 
 impl Edits {
     /// The edit of that number, from 0, beside a session apart that is made the same edits.
     pub(crate) fn step(&self, alloc: Global, number: usize) -> Outcome {
-        match (
-            self.open(alloc),
-            self.open(alloc),
-            read_script(alloc, self.script),
-        ) {
-            (Ok(mut session), Ok(mut apart), Ok(edits)) => {
-                self.step_beside(alloc, &mut session, &mut apart, &edits, number)
-            }
-            _ => Outcome::NO_SAMPLE,
+        match read_script(alloc, self.script) {
+            Ok(edits) => self.step_of(alloc, &edits, number),
+            Err(_) => Outcome::NO_SAMPLE,
+        }
+    }
+
+    fn step_of(&self, alloc: Global, edits: &[Edit], number: usize) -> Outcome {
+        match self.open(alloc) {
+            Ok(mut session) => self.step_in(alloc, &mut session, edits, number),
+            Err(_) => Outcome::NO_SAMPLE,
+        }
+    }
+
+    fn step_in(
+        &self,
+        alloc: Global,
+        session: &mut Session,
+        edits: &[Edit],
+        number: usize,
+    ) -> Outcome {
+        match self.open(alloc) {
+            Ok(mut apart) => self.step_beside(alloc, session, &mut apart, edits, number),
+            Err(_) => Outcome::NO_SAMPLE,
         }
     }
 

@@ -3,9 +3,9 @@
 use crate::bodies::NO_MEMORY;
 use crate::mark::{call_begins, call_ends};
 use crate::modules::{OF_MOVING, OF_TYPES, OF_WIDE, Sample};
-use crate::outcome::Outcome;
 use std::alloc::{AllocError, Global};
 use wk_bytes::Text;
+use wk_samples::outcome::Outcome;
 use wk_samples::{edits, moving, wide};
 use wk_strip::strip_bytes;
 
@@ -56,13 +56,17 @@ fn text(alloc: Global, name: Option<&str>) -> Result<Option<Text>, AllocError> {
 impl Strip {
     /// The call.
     pub(crate) fn run(self, alloc: Global) -> Outcome {
-        let (Ok(keep), Ok(bytes)) = (
-            text(alloc, self.keep),
-            Vec::from_slice(alloc, self.sample.bytes),
-        ) else {
-            return Outcome::NO_SAMPLE;
-        };
-        self.run_with(alloc, bytes, keep.as_ref())
+        match text(alloc, self.keep) {
+            Ok(keep) => self.run_by(alloc, keep.as_ref()),
+            Err(AllocError) => Outcome::NO_SAMPLE,
+        }
+    }
+
+    fn run_by(self, alloc: Global, keep: Option<&Text>) -> Outcome {
+        match Vec::from_slice(alloc, self.sample.bytes) {
+            Ok(bytes) => self.run_with(alloc, bytes, keep),
+            Err(AllocError) => Outcome::NO_SAMPLE,
+        }
     }
 
     fn run_with(self, alloc: Global, bytes: Vec<u8>, keep: Option<&Text>) -> Outcome {

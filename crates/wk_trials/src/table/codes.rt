@@ -2,14 +2,13 @@
 
 use crate::bodies::{CORE_CODE, OfBody, ReadCode, WIDE_CODE};
 use crate::bytes::{Holder, Integer, Put};
-use crate::cursors::Look;
 use crate::exprs::{OfExpr, ReadExpr};
 use crate::scenario::{Named, Scenario};
 use crate::sinks::Room::{Ample, Full};
 use wk_module::Profile::{Core, Extended};
 
 /// Calls of `wk_bytes` and `wk_body`.
-pub(crate) static CODES: [Named; 56] = [
+pub(crate) static CODES: [Named; 48] = [
     ("put-u32", Scenario::Put(Integer::U32)),
     ("put-s32", Scenario::Put(Integer::S32)),
     ("put-s33", Scenario::Put(Integer::S33)),
@@ -25,11 +24,6 @@ pub(crate) static CODES: [Named; 56] = [
     ("items-push", Scenario::Hold(Holder::Push)),
     ("items-copy", Scenario::Hold(Holder::Copy)),
     ("text-copy", Scenario::Hold(Holder::Text)),
-    ("cursor-in-room", Scenario::Look(Look::Cursor)),
-    ("end-of-cursor-in-room", Scenario::Look(Look::EndOfCursor)),
-    ("sections-in-room", Scenario::Look(Look::Sections)),
-    ("leb-len-in-room", Scenario::Look(Look::Lengths)),
-    ("outputs-in-room", Scenario::Look(Look::Outputs)),
     ("read-body", Scenario::ReadCode(ReadCode::Body, CORE_CODE)),
     (
         "read-body-again",
@@ -53,10 +47,6 @@ pub(crate) static CODES: [Named; 56] = [
     ("clone-body", Scenario::OfBody(OfBody::Clone, CORE_CODE)),
     ("refs", Scenario::OfBody(OfBody::Refs, CORE_CODE)),
     ("uses", Scenario::OfBody(OfBody::Uses, CORE_CODE)),
-    (
-        "body-len-in-room",
-        Scenario::OfBody(OfBody::Look, CORE_CODE),
-    ),
     (
         "read-body-wide",
         Scenario::ReadCode(ReadCode::Body, WIDE_CODE),
@@ -92,10 +82,6 @@ pub(crate) static CODES: [Named; 56] = [
     ),
     ("refs-wide", Scenario::OfBody(OfBody::Refs, WIDE_CODE)),
     ("uses-wide", Scenario::OfBody(OfBody::Uses, WIDE_CODE)),
-    (
-        "body-len-wide-in-room",
-        Scenario::OfBody(OfBody::Look, WIDE_CODE),
-    ),
     ("refs-of-many", Scenario::ManyRefs),
     ("read-expr", Scenario::ReadExpr(ReadExpr::Whole, Core)),
     ("next-expr", Scenario::ReadExpr(ReadExpr::Next, Core)),
@@ -119,5 +105,4 @@ pub(crate) static CODES: [Named; 56] = [
     ("append-expr", Scenario::OfExpr(OfExpr::Append)),
     ("shift-expr", Scenario::OfExpr(OfExpr::Shift)),
     ("clone-expr", Scenario::OfExpr(OfExpr::Clone)),
-    ("expr-len-in-room", Scenario::OfExpr(OfExpr::Look)),
 ];

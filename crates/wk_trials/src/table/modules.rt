@@ -10,7 +10,7 @@ use wk_list::Part;
 use wk_module::Profile::{Core, Extended};
 
 /// Calls of `wk_module`, `wk_check`, `wk_list` and `wk_strip`.
-pub(crate) static MODULES: [Named; 70] = [
+pub(crate) static MODULES: [Named; 62] = [
     ("read-types", Scenario::Read(OF_TYPES)),
     ("read-whole", Scenario::Read(OF_ALL)),
     ("read-valid", Scenario::Read(OF_VALID)),
@@ -25,7 +25,6 @@ pub(crate) static MODULES: [Named; 70] = [
     ("append-section", Scenario::OfWhole(OfWhole::Append, Core)),
     ("encode-custom", Scenario::OfWhole(OfWhole::Customs, Core)),
     ("copy-items", Scenario::OfWhole(OfWhole::Copy, Core)),
-    ("lengths-in-room", Scenario::OfWhole(OfWhole::Lengths, Core)),
     (
         "encode-section-wide",
         Scenario::OfWhole(OfWhole::Encode, Extended),
@@ -42,23 +41,13 @@ pub(crate) static MODULES: [Named; 70] = [
         "copy-items-wide",
         Scenario::OfWhole(OfWhole::Copy, Extended),
     ),
-    (
-        "lengths-wide-in-room",
-        Scenario::OfWhole(OfWhole::Lengths, Extended),
-    ),
     ("shift-lists", Scenario::ShiftLists),
-    ("put-lists-in-room", Scenario::PutLists),
     ("up-to-code", Scenario::Walk(Walk::UpToCode, OF_TWO)),
     ("to-end", Scenario::Walk(Walk::ToEnd, OF_TWO)),
     ("next-code", Scenario::Walk(Walk::Codes, OF_TWO)),
-    ("code-cursors-in-room", Scenario::Walk(Walk::Look, OF_TWO)),
     ("up-to-code-wide", Scenario::Walk(Walk::UpToCode, OF_WIDE)),
     ("to-end-wide", Scenario::Walk(Walk::ToEnd, OF_WIDE)),
     ("next-code-wide", Scenario::Walk(Walk::Codes, OF_WIDE)),
-    (
-        "code-cursors-wide-in-room",
-        Scenario::Walk(Walk::Look, OF_WIDE),
-    ),
     ("judge", Scenario::Judge(OF_VALID)),
     ("judge-wide", Scenario::Judge(OF_WIDE)),
     ("judge-types-in-room", Scenario::Judge(OF_TYPES)),
@@ -75,10 +64,6 @@ pub(crate) static MODULES: [Named; 70] = [
         Scenario::OfValid(OfValid::WithGlobal, OF_MOVING),
     ),
     (
-        "verdict-with-in-room",
-        Scenario::OfValid(OfValid::Look, OF_MOVING),
-    ),
-    (
         "judge-around-wide",
         Scenario::OfValid(OfValid::Around, OF_WIDE),
     ),
@@ -88,11 +73,6 @@ pub(crate) static MODULES: [Named; 70] = [
         "verdict-with-global-wide",
         Scenario::OfValid(OfValid::WithGlobal, OF_WIDE),
     ),
-    (
-        "verdict-with-wide-in-room",
-        Scenario::OfValid(OfValid::Look, OF_WIDE),
-    ),
-    ("carry-in-room", Scenario::Carry),
     ("plain-in-room", Scenario::Plain(OF_ALL)),
     ("plain-wide-in-room", Scenario::Plain(OF_WIDE)),
     ("layout", Scenario::Layout(OF_ALL)),
