@@ -1,11 +1,10 @@
-//! Bodies and expressions: read, lent, measured, written and copied.
+//! Bodies and expressions: read, lent and measured. `wk_trials` has them written, copied and moved.
 
-use std::alloc::{AllocError, Global};
+use std::alloc::Global;
 use std::test::Fail;
 use wk_body::{
-    BlockType, Body, EncodeFault, Expr, LocalGroup, Profile, Scratch, Token, ValType, append_body,
-    append_expr, body_len, code_bytes, encode_body, encode_expr, expr_len, next_expr, next_expr_in,
-    read_body, read_body_in, read_expr, read_expr_in,
+    BlockType, Body, Expr, LocalGroup, Profile, Scratch, Token, ValType, body_len, expr_len,
+    next_expr, next_expr_in, read_body, read_expr, read_expr_in,
 };
 use wk_bytes::{Cursor, ReadFault, ReadKind};
 use wk_samples::bodies::{BODY, EXPR, EXTENDED, PADDED, PADDED_EXPR};
@@ -61,61 +60,10 @@ fn is_lent(body: &Body) -> bool {
         && body_len(body) == Some(BODY.len() as u32)
 }
 
-fn is_encoded(alloc: Global, body: &Body, bytes: &[u8]) -> bool {
-    match encode_body(alloc, body) {
-        Ok(written) => written.as_slice() == bytes,
-        Err(_) => false,
-    }
-}
-
-fn is_appended(alloc: Global, body: &Body) -> Result<bool, AllocError> {
-    let mut out = Vec::from_slice(alloc, b"front")?;
-    let is_put = append_body(&mut out, body).is_ok();
-    Ok(is_put && out.strip_prefix(b"front") == Some(BODY))
-}
-
-fn is_copied(body: &Body) -> bool {
-    let copy: Result<Body, AllocError> = body.clone();
-    match copy {
-        Ok(copy) => is_lent(&copy),
-        Err(_) => false,
-    }
-}
-
-fn is_the_body(alloc: Global, body: &Body) -> bool {
-    is_lent(body)
-        && is_encoded(alloc, body, BODY)
-        && is_appended(alloc, body) == Ok(true)
-        && is_copied(body)
-}
-
 fn reads(alloc: Global, bytes: &[u8]) -> bool {
     match read_body(alloc, bytes) {
-        Ok(body) => is_the_body(alloc, &body),
+        Ok(body) => is_lent(&body),
         Err(_) => false,
-    }
-}
-
-// Whether a body is read in the wider profile, and is written as it was.
-fn reads_extended(alloc: Global) -> bool {
-    match read_body_in(alloc, EXTENDED, Profile::Extended) {
-        Ok(body) => is_encoded(alloc, &body, EXTENDED),
-        Err(_) => false,
-    }
-}
-
-// The written form of a body that these bytes spell.
-fn shortened(alloc: Global, bytes: &[u8]) -> Option<Result<Vec<u8>, EncodeFault>> {
-    match read_body_in(alloc, bytes, Profile::Core) {
-        Ok(body) => Some(code_bytes(alloc, &body, bytes)),
-        Err(_) => None,
-    }
-}
-
-fn is_shortened(alloc: Global, bytes: &[u8]) -> bool {
-    match shortened(alloc, bytes) {
-        Some(Ok(written)) => written.as_slice() == BODY,
-        _ => false,
     }
 }
 
@@ -130,12 +78,7 @@ fn is_refused(alloc: Global) -> bool {
 }
 
 fn reads_all(alloc: Global) -> bool {
-    reads(alloc, BODY)
-        && reads(alloc, PADDED)
-        && reads_extended(alloc)
-        && is_refused(alloc)
-        && is_shortened(alloc, BODY)
-        && is_shortened(alloc, PADDED)
+    reads(alloc, BODY) && reads(alloc, PADDED) && is_refused(alloc)
 }
 
 #[test]
@@ -169,41 +112,15 @@ fn reads_in_one_room(rt: HostRuntime) -> Result<(), Fail> {
 
 const GLOBAL: [Token; 2] = [Token::GlobalGet(7), Token::End];
 
-fn is_expr_appended(alloc: Global, expr: &Expr) -> Result<bool, AllocError> {
-    let mut out = Vec::from_slice(alloc, b"front")?;
-    let is_put = append_expr(&mut out, expr).is_ok();
-    Ok(is_put && out.strip_prefix(b"front") == Some(EXPR))
-}
-
-fn is_expr_encoded(alloc: Global, expr: &Expr) -> bool {
-    match encode_expr(alloc, expr) {
-        Ok(written) => written.as_slice() == EXPR,
-        Err(_) => false,
-    }
-}
-
-fn is_expr_copied(expr: &Expr) -> bool {
-    let copy: Result<Expr, AllocError> = expr.clone();
-    match copy {
-        Ok(copy) => copy.tokens() == expr.tokens(),
-        Err(_) => false,
-    }
-}
-
-fn is_the_expr(alloc: Global, expr: &Expr) -> bool {
+fn is_the_expr(expr: &Expr) -> bool {
     let (tokens, labels) = expr.tokens();
-    tokens == GLOBAL.as_slice()
-        && labels.is_empty()
-        && expr_len(expr) == Some(3)
-        && is_expr_encoded(alloc, expr)
-        && is_expr_appended(alloc, expr) == Ok(true)
-        && is_expr_copied(expr)
+    tokens == GLOBAL.as_slice() && labels.is_empty() && expr_len(expr) == Some(3)
 }
 
 // Whether it is the expression that was answered.
-fn is_answered(alloc: Global, answer: &Result<Expr, ReadFault>) -> bool {
+fn is_answered(answer: &Result<Expr, ReadFault>) -> bool {
     match answer {
-        Ok(expr) => is_the_expr(alloc, expr),
+        Ok(expr) => is_the_expr(expr),
         Err(_) => false,
     }
 }
@@ -215,11 +132,11 @@ const BEHIND: ReadFault = ReadFault {
 };
 
 fn reads_expr(alloc: Global) -> bool {
-    is_answered(alloc, &read_expr(alloc, EXPR))
+    is_answered(&read_expr(alloc, EXPR))
 }
 
 fn reads_expr_in(alloc: Global) -> bool {
-    is_answered(alloc, &read_expr_in(alloc, PADDED_EXPR, Profile::Extended))
+    is_answered(&read_expr_in(alloc, PADDED_EXPR, Profile::Extended))
 }
 
 fn is_expr_refused(alloc: Global) -> bool {
@@ -241,7 +158,7 @@ fn takes_fronts(alloc: Global) -> bool {
     let mut cursor = Cursor::new(b"\x23\x07\x0b\x23\x87\x00\x0b\x05");
     let first = next_expr(alloc, &mut cursor);
     let second = next_expr_in(alloc, &mut cursor, Profile::Core);
-    let are_right = is_answered(alloc, &first) && is_answered(alloc, &second);
+    let are_right = is_answered(&first) && is_answered(&second);
     let fault = cursor.fault(ReadKind::UnknownOpcode);
     are_right
         && cursor.at() == 7
@@ -252,7 +169,7 @@ fn takes_fronts(alloc: Global) -> bool {
 fn takes_front_in_room(alloc: Global) -> bool {
     let mut cursor = Cursor::new(b"\x23\x07\x0b\xff");
     let expr = Scratch::new(alloc).next_expr(alloc, &mut cursor, Profile::Core);
-    is_answered(alloc, &expr) && cursor.at() == 3
+    is_answered(&expr) && cursor.at() == 3
 }
 
 #[test]

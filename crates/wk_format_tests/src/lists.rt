@@ -1,73 +1,11 @@
-//! The lists of a module: written alone, and moved.
+//! The lists of a module, moved. `wk_trials` has each written alone.
 
 use std::alloc::Global;
 use std::test::Fail;
 use wk_module::{
-    EncodeFault, Kind, Lists, Module, MovedLists, Parts, Profile, ShiftFault, encode_custom,
-    encode_section, read, shift_lists,
+    Kind, Lists, Module, MovedLists, Parts, ShiftFault, encode_section, read, shift_lists,
 };
-use wk_samples::modules::{ALL_OF_ONE, CUSTOMS_OF_WHOLE, HEADER, OF_WHOLE, WHOLE};
-
-fn is_encoded(answer: Result<Vec<u8>, EncodeFault>, bytes: &[u8]) -> bool {
-    match answer {
-        Ok(written) => written.as_slice() == bytes,
-        Err(_) => false,
-    }
-}
-
-// Whether the section of an id is written alone so.
-fn writes(alloc: Global, lists: &Lists<'_>, id: u8, bytes: &[u8]) -> bool {
-    1 <= id && id <= 11 && id != 10 && is_encoded(encode_section(alloc, lists, id), bytes)
-}
-
-// Whether each section of the whole module is written alone.
-fn writes_sections(alloc: Global, module: &Module) -> bool {
-    let lists = Lists::of(module.parts(), &[0]);
-    for row in OF_WHOLE {
-        if !writes(alloc, &lists, row.id, row.bytes) {
-            return false;
-        }
-    }
-    true
-}
-
-fn writes_customs(alloc: Global, module: &Module) -> bool {
-    let customs = module.parts().customs.as_slice();
-    for (custom, bytes) in customs.iter().zip(CUSTOMS_OF_WHOLE) {
-        if !is_encoded(encode_custom(alloc, custom), bytes) {
-            return false;
-        }
-    }
-    customs.len() == CUSTOMS_OF_WHOLE.len()
-}
-
-fn writes_whole(alloc: Global) -> bool {
-    match read(alloc, WHOLE) {
-        Ok(module) => writes_sections(alloc, &module) && writes_customs(alloc, &module),
-        Err(_) => false,
-    }
-}
-
-// Whether nothing is written of a section that is left out.
-fn writes_nothing(alloc: Global) -> bool {
-    leaves_out(alloc, &Module::empty(alloc, Profile::Core))
-}
-
-fn leaves_out(alloc: Global, module: &Module) -> bool {
-    let lists = Lists::of(module.parts(), &[]);
-    for row in OF_WHOLE {
-        if !writes(alloc, &lists, row.id, b"") {
-            return false;
-        }
-    }
-    true
-}
-
-#[test]
-fn writes_sections_alone(rt: HostRuntime) -> Result<(), Fail> {
-    assert!(rt; writes_whole(rt.alloc()) && writes_nothing(rt.alloc()));
-    Ok(())
-}
+use wk_samples::modules::{ALL_OF_ONE, HEADER};
 
 // How the lists of a module move, and the contents of the sections that moved, each behind its id: nothing where an index has no
 // next.

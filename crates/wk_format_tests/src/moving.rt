@@ -1,66 +1,15 @@
-//! What bodies, expressions and lists refer to, and what they move to.
+//! What the references of bodies and expressions move to. `wk_trials` has them found.
 
 use std::alloc::{AllocError, Global};
-use std::collections::BTreeSet;
 use std::test::Fail;
 use wk_body::{
-    Body, EncodeFault, Movement, Moving, Ref, ShiftFault, encode_body, encode_expr, expr_movement,
-    read_body, read_expr, refs, shift, shift_expr, shift_index, uses,
+    Body, EncodeFault, Movement, Moving, ShiftFault, encode_body, encode_expr, expr_movement,
+    read_body, read_expr, shift, shift_expr, shift_index,
 };
-use wk_bytes::{OutOfMemory, ReadFault};
 use wk_samples::bodies::{
     BODY, EXPR, GREAT_CALL, GREATEST_CALL, GREATEST_EXPR, MOVED_EXPR, WITH_FUNC_MOVED,
     WITH_GLOBAL_MOVED,
 };
-
-// What the body refers to, in order, and the type of its function.
-const REFS: [Ref; 5] = [
-    Ref::Ty(3),
-    Ref::Func(5),
-    Ref::Global(7),
-    Ref::Table,
-    Ref::Memory,
-];
-
-const USES: [Ref; 6] = [
-    Ref::Ty(3),
-    Ref::Ty(4),
-    Ref::Func(5),
-    Ref::Global(7),
-    Ref::Table,
-    Ref::Memory,
-];
-
-fn are_refs(answer: Result<BTreeSet<Ref>, OutOfMemory>, wanted: &[Ref]) -> bool {
-    let Ok(found) = answer else {
-        return false;
-    };
-    for reference in wanted {
-        if !found.contains(reference) {
-            return false;
-        }
-    }
-    found.len() == wanted.len()
-}
-
-fn finds(alloc: Global, body: &Body) -> bool {
-    are_refs(refs(alloc, body), &REFS)
-        && are_refs(uses(alloc, 3, body), &REFS)
-        && are_refs(uses(alloc, 4, body), &USES)
-}
-
-fn finds_in(alloc: Global, answer: &Result<Body, ReadFault>) -> bool {
-    match answer {
-        Ok(body) => finds(alloc, body),
-        Err(_) => false,
-    }
-}
-
-#[test]
-fn finds_references(rt: HostRuntime) -> Result<(), Fail> {
-    assert!(rt; finds_in(rt.alloc(), &read_body(rt.alloc(), BODY)));
-    Ok(())
-}
 
 // How a body's references move, and what it becomes: nothing where an index has no next.
 #[derive(Clone, Copy)]
