@@ -4,8 +4,8 @@ use std::alloc::{AllocError, Global};
 use std::test::Fail;
 use wk_bytes::{Items, ReadFault, ReadKind};
 use wk_module::{
-    FuncType, Kind, Module, Profile, ValType, custom_len, encode, encoded_len, framed_len,
-    import_count, read, read_in, section_len, whole_len,
+    FuncType, Kind, Lists, Module, Profile, ValType, custom_len, encode, encoded_len, export_len,
+    framed_len, import_count, named_len, read, read_in, section_len, type_len, whole_len,
 };
 use wk_samples::modules::{
     CUSTOMS_OF_WHOLE, EXPORTED, EXTENDED, HEADER, LONGER, OF_WHOLE, PRIVATE, SHORTEST, WHOLE,
@@ -71,19 +71,51 @@ fn are_measured(module: &Module) -> bool {
         && section_len(module, 12).is_none()
 }
 
+// Whether the same lengths are told of the lists alone.
+fn are_lists_measured(module: &Module) -> bool {
+    let lists = Lists::of(module.parts(), &[0]);
+    for row in OF_WHOLE {
+        if !is_length(lists.contents_len(row.id), row.bytes) {
+            return false;
+        }
+    }
+    true
+}
+
+// Whether its first type and its first export are so long.
+fn are_items_measured(module: &Module) -> bool {
+    let parts = module.parts();
+    match (
+        parts.types.as_slice().first(),
+        parts.exports.as_slice().first(),
+    ) {
+        (Some(ty), Some(export)) => type_len(ty) == Some(3) && export_len(export) == Some(4),
+        _ => false,
+    }
+}
+
 fn are_customs_measured(module: &Module) -> bool {
     let customs = module.parts().customs.as_slice();
     for (custom, bytes) in customs.iter().zip(CUSTOMS_OF_WHOLE) {
-        if !is_length(custom_len(custom), bytes) {
+        let len = custom_len(custom);
+        if !is_length(len, bytes) || named_len(&custom.name, custom.bytes.len()) != len {
             return false;
         }
     }
     customs.len() == CUSTOMS_OF_WHOLE.len()
 }
 
+fn is_measured(module: &Module) -> bool {
+    are_measured(module)
+        && are_lists_measured(module)
+        && are_items_measured(module)
+        && are_customs_measured(module)
+        && counts(module)
+}
+
 fn is_whole_measured(alloc: Global) -> bool {
     match read(alloc, WHOLE) {
-        Ok(module) => are_measured(&module) && are_customs_measured(&module) && counts(&module),
+        Ok(module) => is_measured(&module),
         Err(_) => false,
     }
 }

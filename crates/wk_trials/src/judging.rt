@@ -8,8 +8,8 @@ use crate::modules::Sample;
 use std::alloc::Global;
 use wk_bytes::OutOfMemory;
 use wk_check::{
-    BodyVerdict, Meter, Verdict, Whole, judge, judge_around, judge_body, judge_bytes,
-    verdict_with_global,
+    BodyVerdict, Meter, Verdict, Whole, first_code_fault, judge, judge_around, judge_body,
+    judge_bytes, verdict_with_export, verdict_with_global, verdict_with_import, verdict_with_type,
 };
 use wk_module::{Func, Lists, Module};
 use wk_samples::outcome::Outcome;
@@ -62,6 +62,8 @@ pub(crate) enum OfValid {
     Body,
     /// `verdict_with_global` of a global that is there.
     WithGlobal,
+    /// `verdict_with_type`, `verdict_with_import` and `verdict_with_export` of what is there, and `first_code_fault` of a valid body.
+    Look,
 }
 
 // The lists of the module.
@@ -86,6 +88,7 @@ impl OfValid {
             OfValid::Whole => sees_whole(alloc, module),
             OfValid::Body => judges_body(alloc, module),
             OfValid::WithGlobal => adds_global(alloc, module),
+            OfValid::Look => looks(alloc, module),
         }
     }
 }
@@ -143,4 +146,24 @@ fn adds_global(alloc: Global, module: &Module) -> Outcome {
     let answer = verdict_with_global(alloc, &lists, global.ty, &global.init);
     call_ends(alloc);
     judged(answer)
+}
+
+// A type and an import of a function come once more. An export does not, since another one has its name.
+fn looks(alloc: Global, module: &Module) -> Outcome {
+    let lists = lists_of(module);
+    let (Some(ty), Some(import), Some(export)) = (
+        lists.types.first(),
+        lists.imports.first(),
+        lists.exports.first(),
+    ) else {
+        return Outcome::NO_SAMPLE;
+    };
+    call_begins(alloc);
+    let with_type = verdict_with_type(lists.profile, 0, ty);
+    let with_import = verdict_with_import(&lists, import);
+    let with_export = verdict_with_export(&lists, export);
+    let fault = first_code_fault(&[BodyVerdict::Valid]);
+    call_ends(alloc);
+    let are_valid = with_type == Verdict::Valid && with_import == Verdict::Valid;
+    Outcome::answered(are_valid && with_export != Verdict::Valid && fault.is_none())
 }

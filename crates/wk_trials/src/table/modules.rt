@@ -10,7 +10,7 @@ use wk_list::Part;
 use wk_module::Profile::{Core, Extended};
 
 /// Calls of `wk_module`, `wk_check`, `wk_list` and `wk_strip`.
-pub(crate) static MODULES: [Named; 62] = [
+pub(crate) static MODULES: [Named; 64] = [
     ("read-types", Scenario::Read(OF_TYPES)),
     ("read-whole", Scenario::Read(OF_ALL)),
     ("read-valid", Scenario::Read(OF_VALID)),
@@ -64,6 +64,10 @@ pub(crate) static MODULES: [Named; 62] = [
         Scenario::OfValid(OfValid::WithGlobal, OF_MOVING),
     ),
     (
+        "verdict-with-in-room",
+        Scenario::OfValid(OfValid::Look, OF_MOVING),
+    ),
+    (
         "judge-around-wide",
         Scenario::OfValid(OfValid::Around, OF_WIDE),
     ),
@@ -72,6 +76,10 @@ pub(crate) static MODULES: [Named; 62] = [
     (
         "verdict-with-global-wide",
         Scenario::OfValid(OfValid::WithGlobal, OF_WIDE),
+    ),
+    (
+        "verdict-with-wide-in-room",
+        Scenario::OfValid(OfValid::Look, OF_WIDE),
     ),
     ("plain-in-room", Scenario::Plain(OF_ALL)),
     ("plain-wide-in-room", Scenario::Plain(OF_WIDE)),
