@@ -60,8 +60,9 @@ pub fn leb_len_s64(n: i64) -> usize
     len
 }
 
-// Appends the shortest spelling, all of it or nothing.
-fn append_short_signed(out: &mut Vec<u8>, n: i64) -> Result<(), OutOfMemory>
+// Appends the shortest spelling, all of it or nothing. It is out of line, for integers of several bytes and where there is no room.
+#[inline(never)]
+fn append_long_signed(out: &mut Vec<u8>, n: i64) -> Result<(), OutOfMemory>
     ensures ok { OnOk result (out.new.items ≡ out.old.items ++ short_signed n) }
     ensures err { OnErr result (out.new.items ≡ out.old.items) }
     ensures full { OnErr result (vec_capacity out.old < vec_len out.old + length (short_signed n)) }
@@ -72,8 +73,24 @@ fn append_short_signed(out: &mut Vec<u8>, n: i64) -> Result<(), OutOfMemory>
     Ok(())
 }
 
+// Appends the shortest spelling, all of it or nothing. Where it has one byte, for which there is room, that is pushed in line: most
+// integers of a module have one.
+#[inline(always)]
+fn append_short_signed(out: &mut Vec<u8>, n: i64) -> Result<(), OutOfMemory>
+    ensures ok { OnOk result (out.new.items ≡ out.old.items ++ short_signed n) }
+    ensures err { OnErr result (out.new.items ≡ out.old.items) }
+    ensures full { OnErr result (vec_capacity out.old < vec_len out.old + length (short_signed n)) }
+{
+    if is_last(n) && out.len() < out.capacity() {
+        out.push_reserved(low_bits(n));
+        return Ok(());
+    }
+    append_long_signed(out, n)
+}
+
 /// Appends the shortest spelling of a signed integer of 64 bits. Want of memory is answered only where `out` has no room for
 /// it, and leaves `out` as before.
+#[inline(always)]
 pub fn put_s64(out: &mut Vec<u8>, n: i64) -> Result<(), OutOfMemory>
     ensures ok { OnOk result (out.new.items ≡ out.old.items ++ short_signed n) }
     ensures err { OnErr result (out.new.items ≡ out.old.items) }
@@ -86,6 +103,7 @@ pub fn put_s64(out: &mut Vec<u8>, n: i64) -> Result<(), OutOfMemory>
 
 /// Appends the shortest spelling of a signed integer of 32 bits. Want of memory is answered only where `out` has no room for
 /// it, and leaves `out` as before.
+#[inline(always)]
 pub fn put_s32(out: &mut Vec<u8>, n: i32) -> Result<(), OutOfMemory>
     ensures ok { OnOk result (out.new.items ≡ out.old.items ++ short_signed n) }
     ensures err { OnErr result (out.new.items ≡ out.old.items) }
@@ -98,6 +116,7 @@ pub fn put_s32(out: &mut Vec<u8>, n: i32) -> Result<(), OutOfMemory>
 
 /// Appends the shortest spelling of a signed integer of 33 bits, from -4,294,967,296 to 4,294,967,295. A type index that stands
 /// as a block type is spelled so. Want of memory is answered only where `out` has no room for it, and leaves `out` as before.
+#[inline(always)]
 pub fn put_s33(out: &mut Vec<u8>, n: i64) -> Result<(), OutOfMemory>
     requires low { neg_ℤ (pos (2 ^ 32)) ≤ℤ n }
     requires high { n <ℤ pos (2 ^ 32) }
