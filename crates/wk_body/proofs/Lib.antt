@@ -24,6 +24,8 @@ pub mod TreeRefs
 pub mod MovedTrees
 pub mod Unmoved
 pub mod RefSets
+pub mod MovedRefs
+pub mod ShiftedCode
 pub mod OnlyShort
 pub mod WrittenSteps
 pub mod WrittenParts

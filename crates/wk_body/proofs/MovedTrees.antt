@@ -1,23 +1,24 @@
 -- Tokens whose references move spell the tree whose references move, and it stays one that bytes can spell.
-use Rattle.std.proofs.Common.{◌≡◌, ℕ, zero, suc, ◌<◌, ◌≤◌, ◌^◌, Bool, true, false, List, [], ◌∷◌, ◌++◌, length, map, get_or, refl, sym, ap, subst, ◌∙◌, arith, Result, Ok, Err, MatchResult, IfOk}
+use Rattle.std.proofs.Common.{◌≡◌, ℕ, zero, suc, ◌+◌, ◌<◌, ◌≤◌, ◌^◌, Bool, true, false, List, [], ◌∷◌, ◌++◌, length, map, take, drop, get_or, refl, sym, ap, subst, ◌∙◌, arith, Result, Ok, Err, MatchResult, IfOk}
 use Rattle.std.specs.Prelude.{◌||◌}
 use Rattle.std.specs.List.{flat_map, AllByRecursion}
 use Rattle.std.proofs.lemmas.Bool.{or_parts, or_left, or_right}
 use Rattle.std.proofs.lemmas.Bool.Decides.{nat_tests}
-use Rattle.std.proofs.lemmas.List.{append-nil, map-append, length-map}
+use Rattle.std.proofs.lemmas.List.{append-nil, map-append, length-map, length-take-le, drop_more, get_or_at}
 use Rattle.std.proofs.lemmas.List.Concat.{flat_map-append}
 use Rattle.wk_body.specs.declared.references.Ref.{Ref}
 use Rattle.wk_body.specs.declared.types.Profile.{Profile}
 use Rattle.wk_body.specs.declared.moves.Moving.{Moving}
 use Rattle.wk_body.specs.declared.moves.Moving.TheVariants as moving
 use Rattle.wk_body.specs.declared.token.Token.{Token}
+use Rattle.wk_body.specs.declared.token.Token.TheVariants as kept
 use Rattle.wk_body.specs.declared.moves.ShiftFault.{ShiftFault}
 use Rattle.wk_body.specs.declared.moves.ShiftFault.TheVariants as faults
 use Rattle.wk_body.specs.Instructions.{Plain, Call, GlobalGet, GlobalSet, immediates, Allows}
 use Rattle.wk_body.specs.Tree.{Instrs, Finish, One, Block, If, Tok, Simple, Open, OpenIf, Otherwise, Close, else_part, flatten, tokens_of, tree_of}
 use Rattle.wk_body.specs.TreeLaws.{tree_of-flatten}
 use Rattle.wk_body.specs.References.{plain_refs, type_refs, refs_of, tok_refs, map_plain, map_tok, moved, moved_plain, shift_instrs, is_stuck_at, is_stuck, any_stuck, IsRefused}
-use Rattle.wk_body.specs.Moved.{IsMoved, AreMoved, MayRefuse}
+use Rattle.wk_body.specs.Moved.{moved_kept, IsMoved, AreMoved, MayRefuse}
 use Rattle.wk_body.specs.Kept.{told, all_told, IsWithin, IsKept, tree_kept}
 use Rattle.wk_body.specs.Shape.{deep, AreInRange, IsInRange, IsShaped, IsOf, depth_limit}
 use Rattle.wk_body.proofs.Built.{all-push}
@@ -160,3 +161,34 @@ refused_whole faults.Memory kind from ts i d lt h = tt
 pub refused_free : (e : ShiftFault) (stuck whole : Bool) → stuck ≡ false → stuck ≡ whole → MayRefuse e stuck → IsRefused e whole
 refused_free faults.Overflow stuck whole free same h = absurd cc
 refused_free faults.Memory stuck whole free same h = sym same ∙ free
+
+-- ---- tokens that move where they stand
+
+pub kept_token : (kind : Moving) (from : ℕ) (t : Token) → any_stuck kind from (tok_refs (told [] t)) ≡ false → IsMoved kind from t (moved_kept kind from t)
+kept_token moving.Func from (kept.Call x) free = record { fits = free; told_moved = λ pool. refl; within = λ len h. h }
+kept_token moving.Global from (kept.GlobalGet x) free = record { fits = free; told_moved = λ pool. refl; within = λ len h. h }
+kept_token moving.Global from (kept.GlobalSet x) free = record { fits = free; told_moved = λ pool. refl; within = λ len h. h }
+kept_token kind from t free = record { fits = free; told_moved = λ pool. refl; within = λ len h. h }
+
+pub kept_tokens : (kind : Moving) (from : ℕ) (ts : List Token) → any_stuck kind from (flat_map tok_refs (all_told [] ts)) ≡ false → AreMoved kind from ts (map (moved_kept kind from) ts)
+kept_tokens kind from [] free = record { fits = free; told_moved = λ pool. refl; within = λ len h. h }
+kept_tokens kind from (t ∷ ts) free =
+    let parts = free_parts kind from (tok_refs (told [] t)) (flat_map tok_refs (all_told [] ts)) free in
+    let first = kept_token kind from t parts.0 in
+    let rest = kept_tokens kind from ts parts.1 in
+    record {
+      fits = free;
+      told_moved = λ pool. rw (first.told_moved pool, rest.told_moved pool) refl;
+      within = λ len h. (first.within len h.0, rest.within len h.1);
+    }
+
+-- none of them is stuck where none of all is
+pub free_at : (kind : Moving) (from : ℕ) (ts : List Token) (i : ℕ) (d : Token) → i < length ts → any_stuck kind from (flat_map tok_refs (all_told [] ts)) ≡ false → any_stuck kind from (tok_refs (told [] (get_or ts i d))) ≡ false
+free_at kind from [] i d lt free = absurd (omega arith)
+free_at kind from (t ∷ ts) zero d lt free = (free_parts kind from (tok_refs (told [] t)) (flat_map tok_refs (all_told [] ts)) free).0
+free_at kind from (t ∷ ts) (suc i) d lt free = free_at kind from ts i d (omega arith) (free_parts kind from (tok_refs (told [] t)) (flat_map tok_refs (all_told [] ts)) free).1
+
+-- the place that a loop over them comes to is as it was
+pub next_place : (f : Token → Token) (ts : List Token) (i : ℕ) (d : Token) → i < length ts → get_or (map f (take i ts) ++ drop i ts) i d ≡ get_or ts i d
+next_place f ts i d lt =
+    rw (drop_more ts i d lt) (get_or_at (map f (take i ts)) (get_or ts i d) (drop (i + 1) ts) d i (length-map (take i ts) f ∙ length-take-le i ts (omega (arith, lt))))

@@ -1,5 +1,5 @@
 -- References that are put into a set.
-use Rattle.std.proofs.Common.{◌≡◌, ℕ, ◌<◌, List, [], ◌∷◌, ◌++◌, ◌⊎◌, inl, inr, refl, sym, ap, subst, ◌∙◌, append_assoc, lit<}
+use Rattle.std.proofs.Common.{◌≡◌, ℕ, ◌<◌, Bool, true, false, List, [], ◌∷◌, ◌++◌, ◌⊎◌, inl, inr, refl, sym, ap, subst, ◌∙◌, append_assoc, lit<}
 use Rattle.std.specs.List.{AllByRecursion, flat_map}
 use Rattle.std.specs.declared.cmp.Ordering.{Ordering}
 use Rattle.std.specs.declared.cmp.Ordering.TheVariants.{Less, Equal, Greater}
@@ -15,7 +15,7 @@ use Rattle.wk_body.specs.declared.references.Ref.TheVariants.{Ty, Func, Global, 
 use Rattle.wk_body.specs.declared.token.Token.{Token}
 use Rattle.wk_body.specs.contracts.references.RefOrd.TheImpl as ord
 use Rattle.wk_body.specs.Kept.{told, all_told}
-use Rattle.wk_body.specs.References.{tok_refs, IsAmong, IsBelow, AreRising, AreSame, Gains}
+use Rattle.wk_body.specs.References.{tok_refs, IsAmong, IsBelow, AreRising, AreSame, Gains, beside, Collects}
 
 abbrev pub cmp : Ref → Ref → Ordering
 cmp a b = (ord.ghosts).cmp a b
@@ -115,8 +115,51 @@ gains_then a b c xs ys p q = record {
   same = subst (AreSame c) (append_assoc a xs ys) (same_then c (b ++ ys) ((a ++ xs) ++ ys) q.same (same_front b (a ++ xs) ys p.same));
 }
 
--- ---- a token more
+-- ---- the memory beside a set
 
-pub gains_token : (old new : List Ref) (front : List Token) (t : Token) → Gains [] old (flat_map tok_refs (all_told [] front)) → Gains old new (tok_refs (told [] t)) → Gains [] new (flat_map tok_refs (all_told [] (front ++ t ∷ [])))
-gains_token old new front t p q =
-    rw (map-append (told []) front (t ∷ []), flat_map-append tok_refs (all_told [] front) (told [] t ∷ []), append-nil (tok_refs (told [] t))) (gains_then [] old new (flat_map tok_refs (all_told [] front)) (tok_refs (told [] t)) p q)
+same_cons : (k : Ref) (xs ys : List Ref) → AreSame xs ys → AreSame (k ∷ xs) (k ∷ ys)
+same_cons k xs ys p r = (λ h. elim h [ inl e ↦ inl e | inr a ↦ inr ((p r).0 a) ], λ h. elim h [ inl e ↦ inl e | inr a ↦ inr ((p r).1 a) ])
+
+same_last : (k : Ref) (xs : List Ref) → AreSame (k ∷ xs) (xs ++ k ∷ [])
+same_last k xs r = (
+  λ h. elim h [ inl e ↦ among_right r xs (k ∷ []) (inl e) | inr a ↦ among_left r xs (k ∷ []) a ],
+  λ h. elim (among_parts r xs (k ∷ []) h) [ inl a ↦ inr a | inr b ↦ elim b [ inl e ↦ inl e | inr never ↦ absurd never ] ],
+)
+
+same_again : (k : Ref) (xs : List Ref) → AreSame (k ∷ xs) (k ∷ (xs ++ k ∷ []))
+same_again k xs r = (
+  λ h. elim h [ inl e ↦ inl e | inr a ↦ inr (among_left r xs (k ∷ []) a) ],
+  λ h. elim h [ inl e ↦ inl e | inr a ↦ elim (among_parts r xs (k ∷ []) a) [ inl b ↦ inr b | inr b ↦ elim b [ inl e ↦ inl e | inr never ↦ absurd never ] ] ],
+)
+
+pub collects_gain : (memory : Bool) (old new more : List Ref) → Gains old new more → Collects old memory new memory more
+collects_gain true old new more g = record { rising = g.rising; same = same_cons Memory new (old ++ more) g.same }
+collects_gain false old new more g = record { rising = g.rising; same = g.same }
+
+pub collects_none : (memory : Bool) (keys : List Ref) → Collects keys memory keys memory []
+collects_none memory keys = collects_gain memory keys keys [] (gains_none keys keys refl)
+
+pub collects_memory : (was : Bool) (keys : List Ref) → Collects keys was keys true (Memory ∷ [])
+collects_memory true keys = record { rising = λ h. h; same = same_again Memory keys }
+collects_memory false keys = record { rising = λ h. h; same = same_last Memory keys }
+
+collects_then : (a b c xs ys : List Ref) (i j k : Bool) → Collects a i b j xs → Collects b j c k ys → Collects a i c k (xs ++ ys)
+collects_then a b c xs ys i j k p q = record {
+  rising = λ h. q.rising (p.rising h);
+  same = subst (AreSame (beside c k)) (append_assoc (beside a i) xs ys) (same_then (beside c k) (beside b j ++ ys) ((beside a i ++ xs) ++ ys) q.same (same_front (beside b j) (beside a i ++ xs) ys p.same));
+}
+
+pub collects_token : (old new : List Ref) (was is : Bool) (front : List Token) (t : Token) → Collects [] false old was (flat_map tok_refs (all_told [] front)) → Collects old was new is (tok_refs (told [] t))
+    → Collects [] false new is (flat_map tok_refs (all_told [] (front ++ t ∷ [])))
+collects_token old new was is front t p q =
+    rw (map-append (told []) front (t ∷ []), flat_map-append tok_refs (all_told [] front) (told [] t ∷ []), append-nil (tok_refs (told [] t))) (collects_then [] old new (flat_map tok_refs (all_told [] front)) (tok_refs (told [] t)) false was is p q)
+
+-- the memory is put in at the end
+pub gains_memory : (keys new rs : List Ref) → Collects [] false keys true rs → Gains keys new (Memory ∷ []) → Gains [] new rs
+gains_memory keys new rs p g = record {
+  rising = λ h. g.rising (p.rising h);
+  same = same_then new (Memory ∷ keys) rs (same_more Memory keys keys new (same_self keys) g) p.same;
+}
+
+pub gains_without : (keys rs : List Ref) → Collects [] false keys false rs → Gains [] keys rs
+gains_without keys rs p = record { rising = p.rising; same = p.same }

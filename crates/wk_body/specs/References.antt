@@ -83,6 +83,15 @@ pub record Gains (old new more : List Ref) : Type 0 where
   pub rising : AreRising old → AreRising new
   pub same : AreSame new (old ++ more)
 
+-- references, and the memory beside them where it is used
+abbrev pub beside : List Ref → Bool → List Ref
+beside rs memory = if memory then Memory ∷ rs else rs
+
+-- the new keys, with the memory beside them where it is used, are the old ones and more
+pub record Collects (old : List Ref) (was : Bool) (new : List Ref) (is : Bool) (more : List Ref) : Type 0 where
+  pub rising : AreRising old → AreRising new
+  pub same : AreSame (beside new is) (beside old was ++ more)
+
 -- ---- moving: an import of the kind comes in front of the index `from`
 
 -- each instruction that holds no others is changed

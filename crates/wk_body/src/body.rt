@@ -1,13 +1,15 @@
 //! Bodies: local groups and instructions.
 
-ghost use Rattle.std.specs.Prelude.{◌≡◌, ◌≤◌, length};
+ghost use Rattle.std.specs.Prelude.{◌≡◌, ◌≤◌, false, length};
 ghost use Rattle.std.specs.List.{AllByRecursion};
 ghost use Rattle.wk_body.specs.Tree.{tokens_of};
 ghost use Rattle.wk_body.specs.Kept.{IsWithin, all_told};
 ghost use Rattle.wk_body.specs.Shape.{IsShaped};
+ghost use Rattle.wk_body.specs.References.{refs_of, any_stuck, shift_body};
 ghost use Rattle.wk_body.specs.Bodies.{BodyOf, AreGroups};
 
 use crate::expr::Expr;
+use crate::moves::Moving;
 use crate::token::Token;
 use crate::types::LocalGroup;
 use std::alloc::AllocError;
@@ -77,5 +79,13 @@ impl Body {
         ensures shaped { IsShaped self.now.instrs }
     {
         self.instrs.tokens()
+    }
+
+    // Moves the references of its instructions where they stand.
+    pub(crate) fn shift_in_place(&mut self, kind: Moving, from: u32)
+        requires { any_stuck kind from (refs_of self.old.instrs) ≡ false }
+        ensures { self.new ≡ shift_body kind from self.old }
+    {
+        self.instrs.shift_in_place(kind, from);
     }
 }

@@ -121,6 +121,15 @@ fn pass_token(
     let Ok(opcode) = walk.cursor.byte() else {
         return None;
     };
+    // (Locals and globals, and numeric instructions, are half of all: they are told apart first, so that few tests lead to them.)
+    if 0x20 <= opcode && opcode <= 0x24 {
+        walk.pass_plain(profile, opcode, out)?;
+        return Some(false);
+    }
+    if 0x45 <= opcode {
+        walk.pass_plain(profile, opcode, out)?;
+        return Some(false);
+    }
     match opcode {
         0x0B => match reader.close() {
             Some(_) => Some(false),

@@ -1,11 +1,13 @@
 //! Expressions, kept flat.
 
-ghost use Rattle.std.specs.Prelude.{◌≡◌, ◌≤◌, length};
+ghost use Rattle.std.specs.Prelude.{◌≡◌, ◌≤◌, false, length};
 ghost use Rattle.std.specs.List.{AllByRecursion};
 ghost use Rattle.wk_body.specs.Tree.{tokens_of};
 ghost use Rattle.wk_body.specs.Shape.{IsShaped};
 ghost use Rattle.wk_body.specs.Kept.{IsKept, IsWithin, all_told, tree_kept};
+ghost use Rattle.wk_body.specs.References.{refs_of, any_stuck, shift_instrs};
 
+use crate::moves::{Moving, shift_tokens};
 use crate::token::Token;
 use std::alloc::AllocError;
 use std::marker::Model;
@@ -66,5 +68,13 @@ impl Expr {
         ensures shaped { IsShaped self.now }
     {
         (&self.tokens, &self.labels)
+    }
+
+    // Moves its references where they stand.
+    pub(crate) fn shift_in_place(&mut self, kind: Moving, from: u32)
+        requires { any_stuck kind from (refs_of self.old) ≡ false }
+        ensures { self.new ≡ shift_instrs kind from self.old }
+    {
+        shift_tokens(kind, from, &mut self.tokens);
     }
 }

@@ -5,6 +5,7 @@ ghost use Rattle.std.specs.List.{flat_map, AllByRecursion};
 ghost use Rattle.wk_bytes.specs.Short.{short, short_signed};
 ghost use Rattle.wk_body.specs.Kept.{told, all_told, IsWithin};
 ghost use Rattle.wk_body.specs.Lengths.{limited, GrowsBy};
+ghost use Rattle.wk_body.specs.Vectors.{written_vector};
 ghost use Rattle.wk_body.specs.Written.{type_bytes, tok_bytes, written_expr, written_body, written_group};
 
 use crate::body::Body;
@@ -68,6 +69,15 @@ impl Token {
         requires { IsWithin (length labels.now) self.now }
         ensures { result ≡ length (tok_bytes (told labels.now self.now)) }
     {
+        self.len_in_loop(labels)
+    }
+
+    // The same, in line: a loop that does little else for a token makes no call.
+    #[inline(always)]
+    pub(crate) fn len_in_loop(&self, labels: &[u32]) -> u64
+        requires { IsWithin (length labels.now) self.now }
+        ensures { result ≡ length (tok_bytes (told labels.now self.now)) }
+    {
         match *self {
             Token::Unreachable
             | Token::Nop
@@ -123,7 +133,7 @@ fn plus_tokens(total: Option<u32>, labels: &[u32], tokens: &[Token]) -> Option<u
 {
     let mut all = total;
     for token in tokens {
-        all = plus(all, token.head_len(labels));
+        all = plus(all, token.len_in_loop(labels));
     }
     all
 }
@@ -145,6 +155,18 @@ fn plus_groups(total: Option<u32>, groups: &[LocalGroup]) -> Option<u32>
         all = plus(all, index_len(group.count));
     }
     all
+}
+
+/// How many bytes local groups have, with their count.
+pub(crate) fn groups_len(groups: &[LocalGroup]) -> u64
+    requires { length groups.now < 2 ^ 32 }
+    ensures { result ≡ length (written_vector written_group groups.now) }
+{
+    let mut total = unsigned_len(groups.len() as u32);
+    for group in groups {
+        total += index_len(group.count);
+    }
+    total
 }
 
 /// How many bytes the written form of an expression has, or nothing past 2,147,483,647. It takes no memory.

@@ -12,14 +12,16 @@
 //!   [`Scratch::written_form`] lends the written form of the body that a code spells, without keeping it.
 //! - [`TokenReader`] hands out the tokens of an expression one by one, and is seen as which blocks are open and the labels of the last
 //!   `br_table` (`specs/TokenReading`): `next` gives the token that stands at the front, or none at the end that closes no block, or
-//!   the token's fault. [`next_groups`] reads the local groups in front of a body's instructions. `specs/TokenReadingLaws` ties these
-//!   to bodies and expressions that are read whole.
+//!   the token's fault. `open_block` and `close_block` tell it of a block whose opener, or whose end, the caller has read itself.
+//!   [`next_groups`] reads the local groups in front of a body's instructions. `specs/TokenReadingLaws` ties these to bodies and expressions
+//!   that are read whole.
 //! - [`encode_body`] and [`encode_expr`] give the written form (`specs/Written`), which spells what it was made of in each profile that
 //!   it belongs to. [`append_body`] and [`append_expr`] append it; [`body_len`], [`expr_len`] and [`Token::head_len`] measure it;
 //!   [`code_bytes`] copies a spelling that is as long as the written form, which it then is.
 //! - [`refs`] is the set of what a body refers to, [`uses`] the same with a function's own type. [`shift`], [`shift_expr`] and
 //!   [`shift_index`] move references (`specs/References`), and overflow exactly where one that moves has no next. [`expr_movement`]
-//!   tells that beforehand (`specs/Moves`).
+//!   tells that beforehand (`specs/Moves`). Where none overflows, [`shift_in_place`] moves those of a body where it stands,
+//!   [`shift_uses`] those of a set, and [`append_shifted`] those of a written form.
 //! - [`reading_of_code`], [`written_form_of_code`], [`one_spelling_of_code`] and [`moving_of_code`] do nothing: they carry the laws of
 //!   reading, writing, the grammar and moving, so that the layer above can prove the same of modules.
 //! - A numeric instruction's opcode, type and name come from `specs/Numeric`, a load's or store's from `specs/MemoryOps`, all others
@@ -44,6 +46,7 @@ mod reader;
 mod reading;
 mod references;
 mod scratch;
+mod shifted;
 mod token;
 mod token_reader;
 mod types;
@@ -56,7 +59,8 @@ pub use fault::EncodeFault;
 pub use length::{body_len, expr_len};
 pub use memory::MemoryOp;
 pub use moves::{
-    Movement, Moving, ShiftFault, expr_movement, moving_of_code, shift, shift_expr, shift_index,
+    Movement, Moving, ShiftFault, expr_movement, moving_of_code, shift, shift_expr, shift_in_place,
+    shift_index,
 };
 pub use numeric::{NumericOp, NumericType};
 pub use reader::{
@@ -66,6 +70,7 @@ pub use reader::{
 pub use reading::MAX_DEPTH;
 pub use references::{Ref, refs, uses};
 pub use scratch::Scratch;
+pub use shifted::{append_shifted, shift_uses};
 pub use token::Token;
 pub use token_reader::{TokenReader, next_groups};
 pub use types::{BlockKind, BlockType, LocalGroup, Profile, ValType};

@@ -72,6 +72,7 @@ impl MemoryOp {
     }
 
     /// The load or store of an opcode.
+    #[inline(always)]
     pub fn from_opcode(opcode: u8) -> Option<MemoryOp>
         ensures { result ≡ memory_of opcode }
     {
@@ -83,6 +84,7 @@ impl MemoryOp {
     }
 
     /// Whether it is a store.
+    #[inline(always)]
     pub fn is_store(self) -> bool
         ensures { result ≡ memory_stores self }
     {
@@ -90,6 +92,7 @@ impl MemoryOp {
     }
 
     /// The type of the value that is loaded or stored (3.3.4).
+    #[inline(always)]
     pub fn ty(self) -> ValType
         ensures { result ≡ memory_type self }
     {
@@ -120,6 +123,7 @@ impl MemoryOp {
     }
 
     /// How many bytes of memory it reads or writes: 1, 2, 4 or 8 (3.3.4).
+    #[inline(always)]
     pub fn width(self) -> u32
         ensures { result ≡ memory_width self }
     {

@@ -333,9 +333,15 @@ impl NumericOp {
         ensures { result ≡ numeric_type self }
     {
         use ValType::{F32, F64, I32, I64};
-        match self.opcode() {
-            0x6A..=0x78 => NumericType::binary(I32, I32),
-            0x46..=0x4F => NumericType::binary(I32, I32),
+        let opcode = self.opcode();
+        // (the two rows that most code has are told apart first; no two rows overlap, so their order says nothing)
+        if 0x6A <= opcode && opcode <= 0x78 {
+            return NumericType::binary(I32, I32);
+        }
+        if 0x46 <= opcode && opcode <= 0x4F {
+            return NumericType::binary(I32, I32);
+        }
+        match opcode {
             0x45 => NumericType::unary(I32, I32),
             0x7C..=0x8A => NumericType::binary(I64, I64),
             0x92..=0x98 => NumericType::binary(F32, F32),

@@ -1,9 +1,9 @@
 //! What a body refers to outside of itself.
 
-ghost use Rattle.std.specs.Prelude.{[], ◌∷◌, IfOk, OnOk};
+ghost use Rattle.std.specs.Prelude.{◌≡◌, [], ◌∷◌, false, IfOk, OnOk};
 ghost use Rattle.std.specs.List.{flat_map};
 ghost use Rattle.wk_body.specs.Kept.{told, all_told};
-ghost use Rattle.wk_body.specs.References.{refs_of, type_refs, tok_refs, AreRising, AreSame, Gains};
+ghost use Rattle.wk_body.specs.References.{refs_of, type_refs, tok_refs, AreRising, AreSame, Gains, Collects};
 
 use crate::body::Body;
 use crate::token::Token;
@@ -23,7 +23,7 @@ pub enum Ref {
 }
 
 // Adds a reference.
-fn add(found: &mut BTreeSet<Ref>, r: Ref) -> Result<(), OutOfMemory>
+pub(crate) fn add(found: &mut BTreeSet<Ref>, r: Ref) -> Result<(), OutOfMemory>
     ensures { OnOk result (Gains found.old.keys found.new.keys (r ∷ [])) }
 {
     found.insert(r)?;
@@ -49,10 +49,9 @@ fn add_indirect(found: &mut BTreeSet<Ref>, x: u32) -> Result<(), OutOfMemory>
     add(found, Ref::Table)
 }
 
-// Adds the references of a token.
-#[tactic(auto, using(crate::proofs::RefSets::gains_none))]
-fn add_refs(found: &mut BTreeSet<Ref>, token: &Token) -> Result<(), OutOfMemory>
-    ensures { OnOk result (Gains found.old.keys found.new.keys (tok_refs (told [] token.now))) }
+// Adds the references of a token to those of the set, or to it that the memory is used.
+fn add_refs(found: &mut BTreeSet<Ref>, memory: &mut bool, token: &Token) -> Result<(), OutOfMemory>
+    ensures { OnOk result (Collects found.old.keys memory.old found.new.keys memory.new (tok_refs (told [] token.now))) }
 {
     match *token {
         Token::Block { ty, .. } | Token::Loop { ty, .. } | Token::If { ty, .. } => {
@@ -61,18 +60,25 @@ fn add_refs(found: &mut BTreeSet<Ref>, token: &Token) -> Result<(), OutOfMemory>
         Token::Call(x) => add(found, Ref::Func(x)),
         Token::CallIndirect(x) => add_indirect(found, x),
         Token::GlobalGet(x) | Token::GlobalSet(x) => add(found, Ref::Global(x)),
-        Token::Access { .. } | Token::MemorySize | Token::MemoryGrow => add(found, Ref::Memory),
+        Token::Access { .. } | Token::MemorySize | Token::MemoryGrow => {
+            *memory = true;
+            Ok(())
+        }
         _ => Ok(()),
     }
 }
 
-// The references of tokens.
+// The references of tokens. Most of them are to the memory, which is put into the set once.
 fn refs_among(alloc: Global, tokens: &[Token]) -> Result<BTreeSet<Ref>, OutOfMemory>
     ensures { IfOk result (λ s. Gains [] s.keys (flat_map tok_refs (all_told [] tokens.now))) }
 {
     let mut found = BTreeSet::new(alloc);
+    let mut memory = false;
     for token in tokens {
-        add_refs(&mut found, token)?;
+        add_refs(&mut found, &mut memory, token)?;
+    }
+    if memory {
+        add(&mut found, Ref::Memory)?;
     }
     Ok(found)
 }

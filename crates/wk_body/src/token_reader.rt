@@ -1,6 +1,6 @@
 //! Tokens that are read one by one, and not kept.
 
-ghost use Rattle.std.specs.Prelude.{◌≡◌, ◌++◌, ◌∷◌, [], length, Ok, Err, if◌then◌else◌, IfOk, IfErr, OnOk, MatchResult};
+ghost use Rattle.std.specs.Prelude.{◌≡◌, ◌++◌, ◌∷◌, ◌<◌, [], length, true, false, Some, Ok, Err, if◌then◌else◌, IfOk, IfErr, OnOk, MatchResult};
 ghost use Rattle.wk_bytes.specs.declared.fault.ReadKind.TheVariants.{UnknownOpcode, TooDeep};
 ghost use Rattle.wk_bytes.specs.declared.fault.ReadFault.{ReadFault};
 ghost use Rattle.wk_bytes.specs.Fault.{no_memory};
@@ -12,8 +12,10 @@ ghost use Rattle.wk_body.specs.Bodies.{AreGroups};
 ghost use Rattle.wk_body.specs.Reads.{FailsAs, Parses};
 ghost use Rattle.wk_body.specs.Meaning.{TakesOnly};
 ghost use Rattle.wk_body.specs.Spelling.{SpellsGroups};
-ghost use Rattle.wk_body.specs.Reading.{type_here, plain_at, tok_at, behind_at, token_at, may_else};
+ghost use Rattle.wk_body.specs.Reading.{type_here, plain_at, tok_at, behind_at, token_at, after, may_else};
 ghost use Rattle.wk_body.specs.Kept.{told, IsWithin};
+ghost use Rattle.wk_body.specs.Shape.{depth_limit};
+ghost use Rattle.wk_body.specs.Tree.{Close};
 ghost use Rattle.wk_body.specs.TokenReading.{NextRead, local_groups_at};
 ghost use Rattle.wk_body.specs.TokenSteps.{IsNext, Opens, Closes, StartsElse};
 
@@ -89,6 +91,30 @@ impl TokenReader {
     {
         self.blocks.clear();
         self.labels.clear();
+    }
+
+    /// Opens a block, for a caller that has read its opcode and its type: where one more may open and there is room for it. Whether
+    /// it did; else the reader is as it was. It takes no memory.
+    #[inline(always)]
+    pub fn open_block(&mut self, is_if: bool) -> bool
+        ensures opened { result ≡ true → (length self.old.kinds < depth_limit) × (self.new.kinds ≡ is_if ∷ self.old.kinds) × (self.new.labels ≡ self.old.labels) }
+        ensures left { result ≡ false → self.new ≡ self.old }
+    {
+        if self.blocks.len() < MAX_DEPTH && self.blocks.len() < self.blocks.capacity() {
+            self.blocks.push_reserved(is_if);
+            return true;
+        }
+        false
+    }
+
+    /// Closes the innermost block, for a caller that has read an `end`. Whether there was one; else the reader is as it was.
+    #[inline(always)]
+    pub fn close_block(&mut self) -> bool
+        ensures closed { result ≡ true → (after Close self.old.kinds ≡ Some self.new.kinds) × (self.new.labels ≡ self.old.labels) }
+        ensures none { result ≡ false → self.old.kinds ≡ [] }
+        ensures left { result ≡ false → self.new ≡ self.old }
+    {
+        self.blocks.pop().is_some()
     }
 
     /// The labels of a `br_table` that was read last: those of its token lie in them, as in the pool of a body. They are told of up

@@ -1,6 +1,6 @@
 //! Writes expressions and bodies in the one written form.
 
-ghost use Rattle.std.specs.Prelude.{◌≡◌, ◌≤◌, ◌<◌, ℕ, List, ◌++◌, ◌∷◌, ◌^◌, length, IfOk, OnOk, OnErr, MatchResult};
+ghost use Rattle.std.specs.Prelude.{◌≡◌, ◌≤◌, ◌<◌, ℕ, List, [], ◌++◌, ◌∷◌, ◌^◌, length, IfOk, OnOk, OnErr, MatchResult};
 ghost use Rattle.std.specs.List.{flat_map, AllByRecursion};
 ghost use Rattle.byteorder.specs.Endian.{little_bytes};
 ghost use Rattle.wk_bytes.specs.LebLaws.{IsBytes};
@@ -22,6 +22,30 @@ use crate::types::{BlockType, LocalGroup, Profile};
 use byteorder::{ByteOrder, LittleEndian};
 use std::alloc::Global;
 use wk_bytes::{OutOfMemory, put_s32, put_s33, put_s64, put_u32};
+
+// Appends a byte where there may be no room.
+#[cold]
+#[inline(never)]
+fn put_growing(out: &mut Vec<u8>, byte: u8) -> Result<(), OutOfMemory>
+    ensures ok { OnOk result (out.new.items ≡ out.old.items ++ byte ∷ []) }
+    ensures err { OnErr result (out.new.items ≡ out.old.items) }
+{
+    out.push(byte)?;
+    Ok(())
+}
+
+// Appends a byte, in line where there is room for it.
+#[inline(always)]
+fn put_byte(out: &mut Vec<u8>, byte: u8) -> Result<(), OutOfMemory>
+    ensures ok { OnOk result (out.new.items ≡ out.old.items ++ byte ∷ []) }
+    ensures err { OnErr result (out.new.items ≡ out.old.items) }
+{
+    if out.len() < out.capacity() {
+        out.push_reserved(byte);
+        return Ok(());
+    }
+    put_growing(out, byte)
+}
 
 fn put_word32(out: &mut Vec<u8>, word: u32) -> Result<(), OutOfMemory>
     ensures ok { OnOk result (out.new.items ≡ out.old.items ++ little_bytes 4 word) }
@@ -59,19 +83,20 @@ pub(crate) fn put_type(out: &mut Vec<u8>, ty: BlockType) -> Result<(), OutOfMemo
     ensures err { OnErr result (out.new.items ≡ out.old.items) }
 {
     match ty {
-        BlockType::Empty => out.push(0x40)?,
-        BlockType::Value(ty) => out.push(ty.byte())?,
+        BlockType::Empty => put_byte(out, 0x40)?,
+        BlockType::Value(ty) => put_byte(out, ty.byte())?,
         BlockType::Index(x) => put_s33(out, i64::from(x))?,
     }
     Ok(())
 }
 
 // An opcode and a label or an index.
-fn put_index(out: &mut Vec<u8>, opcode: u8, x: u32) -> Result<(), OutOfMemory>
+#[inline(always)]
+pub(crate) fn put_index(out: &mut Vec<u8>, opcode: u8, x: u32) -> Result<(), OutOfMemory>
     ensures ok { OnOk result (out.new.items ≡ out.old.items ++ (opcode ∷ short x)) }
     ensures err { OnErr result (StaysInFront out.old.items out.new.items) }
 {
-    out.push(opcode)?;
+    put_byte(out, opcode)?;
     put_u32(out, x)
 }
 
@@ -80,7 +105,7 @@ fn put_opening(out: &mut Vec<u8>, opcode: u8, ty: BlockType) -> Result<(), OutOf
     ensures ok { OnOk result (out.new.items ≡ out.old.items ++ (opcode ∷ type_bytes ty)) }
     ensures err { OnErr result (StaysInFront out.old.items out.new.items) }
 {
-    out.push(opcode)?;
+    put_byte(out, opcode)?;
     put_type(out, ty)
 }
 
@@ -91,13 +116,13 @@ fn put_token(out: &mut Vec<u8>, labels: &[u32], token: &Token) -> Result<(), Out
     ensures err { OnErr result (StaysInFront out.old.items out.new.items) }
 {
     match *token {
-        Token::Unreachable => out.push(0x00)?,
-        Token::Nop => out.push(0x01)?,
+        Token::Unreachable => put_byte(out, 0x00)?,
+        Token::Nop => put_byte(out, 0x01)?,
         Token::Block { ty, .. } => put_opening(out, 0x02, ty)?,
         Token::Loop { ty, .. } => put_opening(out, 0x03, ty)?,
         Token::If { ty, .. } => put_opening(out, 0x04, ty)?,
-        Token::Else { .. } => out.push(0x05)?,
-        Token::End => out.push(0x0B)?,
+        Token::Else { .. } => put_byte(out, 0x05)?,
+        Token::End => put_byte(out, 0x0B)?,
         Token::Br(label) => put_index(out, 0x0C, label)?,
         Token::BrIf(label) => put_index(out, 0x0D, label)?,
         Token::BrTable { start, len, other } => {
@@ -107,14 +132,14 @@ fn put_token(out: &mut Vec<u8>, labels: &[u32], token: &Token) -> Result<(), Out
             put_numbers(out, &labels[start..end])?;
             put_u32(out, other)?;
         }
-        Token::Return => out.push(0x0F)?,
+        Token::Return => put_byte(out, 0x0F)?,
         Token::Call(x) => put_index(out, 0x10, x)?,
         Token::CallIndirect(x) => {
             put_index(out, 0x11, x)?;
-            out.push(0x00)?;
+            put_byte(out, 0x00)?;
         }
-        Token::Drop => out.push(0x1A)?,
-        Token::Select => out.push(0x1B)?,
+        Token::Drop => put_byte(out, 0x1A)?,
+        Token::Select => put_byte(out, 0x1B)?,
         Token::LocalGet(x) => put_index(out, 0x20, x)?,
         Token::LocalSet(x) => put_index(out, 0x21, x)?,
         Token::LocalTee(x) => put_index(out, 0x22, x)?,
@@ -127,22 +152,22 @@ fn put_token(out: &mut Vec<u8>, labels: &[u32], token: &Token) -> Result<(), Out
         Token::MemorySize => out.extend_from_slice(&[0x3F, 0x00])?,
         Token::MemoryGrow => out.extend_from_slice(&[0x40, 0x00])?,
         Token::I32Const(z) => {
-            out.push(0x41)?;
+            put_byte(out, 0x41)?;
             put_s32(out, z)?;
         }
         Token::I64Const(z) => {
-            out.push(0x42)?;
+            put_byte(out, 0x42)?;
             put_s64(out, z)?;
         }
         Token::F32Const(word) => {
-            out.push(0x43)?;
+            put_byte(out, 0x43)?;
             put_word32(out, word)?;
         }
         Token::F64Const(word) => {
-            out.push(0x44)?;
+            put_byte(out, 0x44)?;
             put_word64(out, word)?;
         }
-        Token::Numeric(op) => out.push(op.opcode())?,
+        Token::Numeric(op) => put_byte(out, op.opcode())?,
     }
     Ok(())
 }
@@ -175,7 +200,7 @@ fn put_groups(out: &mut Vec<u8>, groups: &[LocalGroup]) -> Result<(), OutOfMemor
 {
     for group in groups {
         put_u32(out, group.count)?;
-        out.push(group.ty.byte())?;
+        put_byte(out, group.ty.byte())?;
     }
     Ok(())
 }

@@ -3,8 +3,8 @@
 use std::alloc::{AllocError, Global};
 use std::test::Fail;
 use wk_body::{
-    Body, EncodeFault, Movement, Moving, ShiftFault, encode_body, encode_expr, expr_movement,
-    read_body, read_expr, shift, shift_expr, shift_index,
+    Body, EncodeFault, Movement, Moving, ShiftFault, append_shifted, encode_body, encode_expr,
+    expr_movement, read_body, read_expr, shift, shift_expr, shift_in_place, shift_index,
 };
 use wk_samples::bodies::{
     BODY, EXPR, GREAT_CALL, GREATEST_CALL, GREATEST_EXPR, MOVED_EXPR, WITH_FUNC_MOVED,
@@ -107,9 +107,28 @@ fn is_told(body: &Body, row: Move) -> bool {
     found == Movement { moves, stuck }
 }
 
+// Whether the body moves so where it stands, and by its written form.
+fn moves_in_place(alloc: Global, body: Body, row: Move) -> bool {
+    if expr_movement(body.expr(), row.kind, row.from).stuck {
+        return row.becomes.is_none();
+    }
+    let (Ok(code), Some(becomes)) = (encode_body(alloc, &body), row.becomes) else {
+        return false;
+    };
+    let mut moved = Vec::new(alloc);
+    let appended = append_shifted(&mut moved, &body, &code, row.kind, row.from);
+    let mut body = body;
+    shift_in_place(&mut body, row.kind, row.from);
+    appended.is_ok()
+        && moved.as_slice() == becomes
+        && is_encoded(encode_body(alloc, &body), becomes)
+}
+
 fn moves_as_read(alloc: Global, row: Move) -> bool {
     match read_body(alloc, row.body) {
-        Ok(body) => moves(alloc, &body, row) && is_told(&body, row),
+        Ok(body) => {
+            moves(alloc, &body, row) && is_told(&body, row) && moves_in_place(alloc, body, row)
+        }
         Err(_) => false,
     }
 }

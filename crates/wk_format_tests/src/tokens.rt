@@ -69,6 +69,22 @@ fn begins_again(reader: &mut TokenReader) -> bool {
         && reader.next(Profile::Core, &mut Cursor::new(b"\x0b")) == Ok(None)
 }
 
+// Blocks that are opened and closed by whoever reads them: there is no room for one before `next` makes it.
+fn opens_and_closes(alloc: Global) -> bool {
+    let mut reader = TokenReader::new(alloc);
+    let has_none = !reader.open_block(true) && !reader.close_block();
+    let block = Token::Block { ty: EMPTY, skip: 0 };
+    let is_read = reader.next(Profile::Core, &mut Cursor::new(b"\x02\x40")) == Ok(Some(block));
+    let is_other = reader.close_block() && reader.open_block(true);
+    let other = Ok(Some(Token::Else { skip: 0 }));
+    has_none
+        && is_read
+        && is_other
+        && reader.next(Profile::Core, &mut Cursor::new(b"\x05")) == other
+        && reader.close_block()
+        && !reader.close_block()
+}
+
 // A room that held two groups, for one of another body and for too many.
 fn refills_groups(alloc: Global) -> bool {
     let mut groups = Vec::new(alloc);
@@ -91,6 +107,7 @@ fn refills_groups(alloc: Global) -> bool {
 #[test]
 fn reads_one_by_one(rt: HostRuntime) -> Result<(), Fail> {
     assert!(rt; reads_tokens(rt.alloc()) && refills_groups(rt.alloc()));
+    assert!(rt; opens_and_closes(rt.alloc()));
     Ok(())
 }
 
