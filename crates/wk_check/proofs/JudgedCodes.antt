@@ -1,14 +1,13 @@
 -- The verdict of a module whose bodies are judged while they are read.
-use Rattle.std.proofs.Common.{◌≡◌, ℕ, zero, suc, ◌+◌, ◌<◌, ◌≤◌, ◌-◌, max, List, [], ◌∷◌, length, map, drop, get_or, add-one, eqb, cond, true, Result, Ok, Err, IfOk, Option, Some, None, ◌⊎◌, ◌≢◌, refl, sym, ap, subst, ◌∙◌, inl, inr, arith}
-use Rattle.std.proofs.lemmas.Bool.{cases_lt, lt-ltb, eq-eqb, ne_eqb, eqb-true}
+use Rattle.std.proofs.Common.{◌≡◌, ℕ, suc, ◌+◌, ◌<◌, ◌≤◌, ◌-◌, List, [], ◌∷◌, length, map, drop, get_or, add-one, Result, Ok, Err, IfOk, Option, Some, None, ◌≢◌, refl, sym, ap, subst, ◌∙◌, arith}
 use Rattle.std.proofs.Math.Seq.{drop-cons}
-use Rattle.wk_bytes.specs.declared.fault.ReadKind.TheVariants.{LongInput, FuncCodeCount, SectionSize}
+use Rattle.wk_bytes.specs.declared.fault.ReadKind.TheVariants.{FuncCodeCount, SectionSize}
 use Rattle.wk_bytes.specs.declared.fault.ReadFault.{ReadFault}
 use Rattle.wk_bytes.specs.Leb.{◌>>=◌}
-use Rattle.wk_bytes.specs.LebLaws.{bind_ok, chosen, done}
+use Rattle.wk_bytes.specs.LebLaws.{bind_ok, done}
 use Rattle.wk_bytes.specs.SpanLaws.{ok_is}
-use Rattle.wk_bytes.specs.Span.{Span, u32_at, name_at, fault}
-use Rattle.wk_bytes.specs.Frames.{Section, MayCome, limit, header_at, sections_of}
+use Rattle.wk_bytes.specs.Span.{Span, fault}
+use Rattle.wk_bytes.specs.Frames.{Section}
 use Rattle.wk_body.specs.declared.types.Profile.{Profile}
 use Rattle.wk_body.specs.Bodies.{BodyOf}
 use Rattle.wk_body.specs.Reading.{all_body_at}
@@ -22,9 +21,9 @@ use Rattle.wk_module.specs.Listed.{listed}
 use Rattle.wk_module.specs.Formats.{bytes_at, taking_all, all_at}
 use Rattle.wk_module.specs.Items.{code_at}
 use Rattle.wk_module.specs.Reading.{section_end, zipped, module_at}
-use Rattle.wk_module.specs.Sections.{SectionLists, SectionId, DataSection, of_number, with_contents, no_lists, codes_at, contents_at}
+use Rattle.wk_module.specs.Sections.{SectionLists, codes_at}
 use Rattle.wk_module.specs.Shape.{lists_of}
-use Rattle.wk_module.specs.ListReading.{PartlyRead, listed_by, with_listed, lists_read, Rise, joined_lists, AreListsOfModule, IsReading}
+use Rattle.wk_module.specs.ListReading.{PartlyRead, lists_read, Rise, AreListsOfModule, IsReading}
 use Rattle.wk_module.proofs.CodesApart.{HasLists, with_codes, read_lists}
 use Rattle.wk_module.proofs.CodesApart as apart
 use Rattle.wk_check.specs.declared.fault.Flaw.{Flaw}

@@ -3,8 +3,10 @@ use Rattle.std.proofs.Common.{◌≡◌, ℕ, zero, suc, List, [], ◌∷◌, Op
 use Rattle.std.specs.Prelude.{slice_get}
 use Rattle.wk_body.specs.declared.types.ValType.{ValType}
 use Rattle.wk_body.specs.declared.types.BlockType.{BlockType}
+use Rattle.wk_body.specs.declared.types.BlockType.TheVariants.{Empty}
 use Rattle.wk_body.specs.declared.references.Ref.{Ref}
 use Rattle.wk_check.specs.declared.machine.Opener.{Opener}
+use Rattle.wk_check.specs.declared.machine.Opener.TheVariants as openers
 use Rattle.wk_check.specs.Answers.{Found}
 use Rattle.wk_check.specs.Levels.{Level, Blocks, level_label, outer_labels, labels_of}
 use Rattle.wk_check.specs.Moves.{head_in, head_at}
@@ -20,3 +22,14 @@ label_in A (l ∷ ls) (suc n) = label_in A ls n
 
 pub label_at : (A : Ref → Found) (b : Blocks) (n : ℕ) (r : Option (Opener × BlockType)) → r ≡ head_at b n → slice_get (labels_of A b) n ≡ label_found A r
 label_at A b n r e = label_in A (b.inner ∷ b.outer) n ∙ ap (label_found A) (sym e)
+
+-- a block of no types takes none, whatever opened it
+none_at : (A : Ref → Found) (o : Opener) → level_label A o Empty ≡ []
+none_at A openers.Body = refl
+none_at A openers.Block = refl
+none_at A openers.Loop = refl
+none_at A openers.If = refl
+none_at A openers.Else = refl
+
+pub label_none : (A : Ref → Found) (b : Blocks) (n : ℕ) (o : Opener) → Some (o, Empty) ≡ head_at b n → slice_get (labels_of A b) n ≡ Some []
+label_none A b n o e = label_at A b n (Some (o, Empty)) e ∙ ap Some (none_at A o)

@@ -21,6 +21,7 @@ pub mod JudgedCodes
 pub mod Labels
 pub mod LargerSpaces
 pub mod LocalEnds
+pub mod Opcodes
 pub mod Popping
 pub mod Runs
 pub mod Sound

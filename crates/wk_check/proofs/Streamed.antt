@@ -1,5 +1,5 @@
 -- A body that is typed while it is read.
-use Rattle.std.proofs.Common.{◌≡◌, ℕ, suc, Bool, List, [], length, Option, Ok, refl, ◌∙◌}
+use Rattle.std.proofs.Common.{◌≡◌, ℕ, suc, ◌<◌, Bool, List, [], length, Option, Ok, refl, ◌∙◌}
 use Rattle.wk_bytes.specs.Span.{Span}
 use Rattle.wk_body.specs.declared.token.Token.{Token}
 use Rattle.wk_body.specs.declared.types.BlockType.{BlockType}
@@ -11,14 +11,14 @@ use Rattle.wk_body.specs.declared.references.Ref.{Ref}
 use Rattle.wk_body.specs.Kept.{told}
 use Rattle.wk_body.specs.Reading.{With, token_at, parts_at, expr_at}
 use Rattle.wk_body.specs.TokenReading.{TokenReading, NextToken, local_groups_at}
-use Rattle.wk_body.specs.TokenReadingLaws.{token_read, last_read, expr_read, body_read}
+use Rattle.wk_body.specs.TokenReadingLaws.{token_is_shorter, token_read, last_read, expr_read, body_read}
 use Rattle.wk_body.specs.Tree.{Instrs, Close, before, first_part}
 use Rattle.wk_check.specs.Answers.{Found}
 use Rattle.wk_check.specs.Effects.{known, params_of, results_of, local_type}
 use Rattle.wk_check.specs.Levels.{Blocks, step}
 use Rattle.wk_check.specs.Moves.{body_of}
 use Rattle.wk_check.specs.Own.{ended}
-use Rattle.wk_check.specs.Streaming.{IsTyped, IsValidBody}
+use Rattle.wk_check.specs.Streaming.{IsTaken, IsTyped, IsValidBody}
 use Rattle.wk_check.specs.Typing.{code_result}
 use Rattle.wk_check.proofs.Completing.{Completes, Matches, step_matches, step_back, end_back, begins_matches, begins_back}
 
@@ -47,6 +47,12 @@ module _ (A : Ref → Found) (locals : ℕ → Option ValType) (final : List Val
     same_end = n.same_end ∙ u.same_end;
     back = λ x read left. u.back (before (told new.labels token) x.0, x.1) (token_read profile old new at to token n x read) (step_back A locals final old.kinds new.kinds (told new.labels token) b next u.matches n.kinds n.stands typed x.0 left);
   }
+
+  pub moves_on : (from at here to : Span) (old new : TokenReading) (b c next : Blocks) → here ≡ at → c ≡ b → IsTaken A locals final profile old new here to c next → Underway from at old.kinds b → Underway from to new.kinds next
+  moves_on from at here to old new b c next same left t u = rw (same, left) at (λ (v : Underway from here old.kinds c). goes_on from here to old new t.token c next t.read t.typed v) u
+
+  pub shortens : (at here to : Span) (old new : TokenReading) (b next : Blocks) → here ≡ at → IsTaken A locals final profile old new here to b next → length to.rest < length at.rest
+  shortens at here to old new b next same t = rw same at (token_is_shorter profile old new here to t.token t.read)
 
   pub ends : (from at to : Span) (kinds : List Bool) (b : Blocks) → token_at profile kinds at.end at.rest ≡ Ok (Close, to.rest) → kinds ≡ [] → to.end ≡ at.end → ended final b.inner.own ≡ Ok tt → Underway from at kinds b → IsTyped A locals final profile from to
   ends from at to kinds b last none same no_fault u =

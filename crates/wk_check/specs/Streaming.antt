@@ -1,14 +1,27 @@
 -- What is said of bodies that are typed while they are read.
-use Rattle.std.specs.Prelude.{◌≡◌, ℕ, Option, List, Ok}
-use Rattle.wk_bytes.specs.Span.{Span}
+use Rattle.std.specs.Prelude.{◌≡◌, ℕ, ◌<◌, Bool, Option, Some, None, true, List, ◌∷◌, length, Ok}
+use Rattle.wk_bytes.specs.declared.fault.ReadFault.{ReadFault}
+use Rattle.wk_bytes.specs.Span.{Span, byte_at}
 use Rattle.wk_body.specs.declared.types.Profile.{Profile}
 use Rattle.wk_body.specs.declared.types.ValType.{ValType}
+use Rattle.wk_body.specs.declared.types.BlockType.TheVariants.{Empty}
 use Rattle.wk_body.specs.declared.references.Ref.{Ref}
+use Rattle.wk_body.specs.declared.token.Token.{Token}
 use Rattle.wk_body.specs.Bodies.{BodyOf}
-use Rattle.wk_body.specs.Reading.{expr_at, all_body_at}
-use Rattle.wk_body.specs.Tree.{Instrs}
+use Rattle.wk_body.specs.Instructions.{Plain}
+use Rattle.wk_body.specs.Kept.{told, IsWithin}
+use Rattle.wk_body.specs.Reading.{plain_at, after, expr_at, all_body_at}
+use Rattle.wk_body.specs.Shape.{depth_limit}
+use Rattle.wk_body.specs.TokenReading.{TokenReading, NextToken, NextRead}
+use Rattle.wk_body.specs.Tree.{Instrs, Simple, Close}
 use Rattle.wk_check.specs.declared.fault.BodyVerdict.TheVariants.{Valid}
+use Rattle.wk_check.specs.declared.machine.Opener.{Opener}
+use Rattle.wk_check.specs.declared.step.Function.{Function}
+use Rattle.wk_check.specs.declared.streaming.Went.{Went}
+use Rattle.wk_check.specs.declared.streaming.Went.TheVariants as went
 use Rattle.wk_check.specs.Answers.{Found}
+use Rattle.wk_check.specs.Effects.{local_type}
+use Rattle.wk_check.specs.Levels.{Blocks, entering, closed, step}
 use Rattle.wk_check.specs.Typing.{code_result, body_verdict}
 
 -- the instructions from one place to another are typed without a fault
@@ -23,3 +36,44 @@ pub record IsValidBody (A : Ref → Found) (own : ℕ) (profile : Profile) (from
   pub body : BodyOf
   pub read : all_body_at profile from.end from.rest ≡ Ok body
   pub valid : body_verdict A own body ≡ Valid
+
+-- ---- one token, for the private functions that type it
+
+-- A token was read and typed: it moved the reader, the cursor and the open blocks on.
+pub record IsTaken (A : Ref → Found) (locals : ℕ → Option ValType) (final : List ValType) (profile : Profile) (old new : TokenReading) (from to : Span) (b next : Blocks) : Type 0 where
+  pub token : Token
+  pub read : NextToken profile old new from to token
+  pub typed : step A locals final (told new.labels token) b ≡ Ok next
+
+-- The same of what stands behind an opcode, for a token that opens and closes nothing and has no labels: whatever the profile.
+pub record IsTakenBehind (A : Ref → Found) (locals : ℕ → Option ValType) (final : List ValType) (opcode : ℕ) (from to : Span) (b next : Blocks) : Type 0 where
+  pub token : Token
+  pub plain : Plain
+  pub is_plain : (labels : List ℕ) → told labels token ≡ Simple plain
+  pub within : (n : ℕ) → IsWithin n token
+  pub read : (profile : Profile) (e : ReadFault) → plain_at profile e opcode from.end from.rest ≡ Ok (plain, to.rest)
+  pub same_end : to.end ≡ from.end
+  pub typed : step A locals final (Simple plain) b ≡ Ok next
+
+-- that, in a function, where the token is taken
+abbrev pub TakesBehind : (Ref → Found) → Function → ℕ → Span → Span → Blocks → Blocks → Bool → Type 0
+TakesBehind A f opcode from to b next taken = taken ≡ true → IsTakenBehind A (local_type f.locals.params f.locals.groups) f.results.now opcode from to b next
+
+-- A block of no types was opened behind its opcode, with a test or without one.
+pub record IsOpened (A : Ref → Found) (test : Bool) (opener : Opener) (old new : TokenReading) (from to : Span) (b next : Blocks) : Type 0 where
+  pub shallow : length old.kinds < depth_limit
+  pub kinds : new.kinds ≡ test ∷ old.kinds
+  pub empty : byte_at from.end from.rest ≡ Ok (0x40, to.rest)
+  pub same_end : to.end ≡ from.end
+  pub typed : entering A test opener Empty b ≡ Ok next
+
+-- A block was closed behind an `end`.
+pub record IsClosed (A : Ref → Found) (old new : TokenReading) (b next : Blocks) : Type 0 where
+  pub kinds : after Close old.kinds ≡ Some new.kinds
+  pub typed : closed A b.inner.opener b ≡ Ok next
+
+-- what came of a token: it was typed, or it is the end that closes no block
+abbrev pub GoesOn : (Ref → Found) → (ℕ → Option ValType) → List ValType → Profile → Went → TokenReading → TokenReading → Span → Span → Blocks → Blocks → Type 0
+GoesOn A locals final profile went.On old new from to b next = IsTaken A locals final profile old new from to b next
+GoesOn A locals final profile went.End old new from to b next = NextRead profile old new from to None × (next ≡ b)
+GoesOn A locals final profile _ old new from to b next = Unit {0}

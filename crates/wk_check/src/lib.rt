@@ -54,6 +54,7 @@ mod machine;
 mod meter;
 mod operand;
 mod operands;
+mod quick;
 mod rule;
 mod rules;
 mod spelled;

@@ -34,7 +34,7 @@ pub(crate) struct Function<'a> {
 
 // A `local.get`.
 #[inline(always)]
-fn get_local(locals: &Locals, m: &mut Machine, x: u32) -> Result<(), Stop>
+pub(crate) fn get_local(locals: &Locals, m: &mut Machine, x: u32) -> Result<(), Stop>
     ensures { Steps (acting (local_get (local_type locals.now.params locals.now.groups x)) m.old) result m.new }
 {
     match locals.ty(x) {
@@ -45,7 +45,7 @@ fn get_local(locals: &Locals, m: &mut Machine, x: u32) -> Result<(), Stop>
 
 // A `local.set`.
 #[inline(always)]
-fn set_local(locals: &Locals, m: &mut Machine, x: u32) -> Result<(), Stop>
+pub(crate) fn set_local(locals: &Locals, m: &mut Machine, x: u32) -> Result<(), Stop>
     ensures { Steps (acting (local_set (local_type locals.now.params locals.now.groups x)) m.old) result m.new }
 {
     match locals.ty(x) {
@@ -56,7 +56,7 @@ fn set_local(locals: &Locals, m: &mut Machine, x: u32) -> Result<(), Stop>
 
 // A `local.tee`.
 #[inline(always)]
-fn tee_local(locals: &Locals, m: &mut Machine, x: u32) -> Result<(), Stop>
+pub(crate) fn tee_local(locals: &Locals, m: &mut Machine, x: u32) -> Result<(), Stop>
     ensures { Steps (acting (local_tee (local_type locals.now.params locals.now.groups x)) m.old) result m.new }
 {
     match locals.ty(x) {
@@ -66,7 +66,7 @@ fn tee_local(locals: &Locals, m: &mut Machine, x: u32) -> Result<(), Stop>
 }
 
 // A `global.get`.
-fn get_global<E: Env>(env: &E, m: &mut Machine, x: u32) -> Result<(), Stop>
+pub(crate) fn get_global<E: Env>(env: &E, m: &mut Machine, x: u32) -> Result<(), Stop>
     ensures { Steps (acting (global_get (E.answers env.now (Ref.Global x))) m.old) result m.new }
 {
     match env.answer(Ref::Global(x)) {
@@ -76,7 +76,7 @@ fn get_global<E: Env>(env: &E, m: &mut Machine, x: u32) -> Result<(), Stop>
 }
 
 // A `global.set`.
-fn set_global<E: Env>(env: &E, m: &mut Machine, x: u32) -> Result<(), Stop>
+pub(crate) fn set_global<E: Env>(env: &E, m: &mut Machine, x: u32) -> Result<(), Stop>
     ensures { Steps (acting (global_set (E.answers env.now (Ref.Global x))) m.old) result m.new }
 {
     match env.answer(Ref::Global(x)) {
@@ -114,7 +114,7 @@ fn is_over(op: MemoryOp, align: u32) -> bool
 
 // A load or a store.
 #[inline(always)]
-fn access<E: Env>(env: &E, m: &mut Machine, op: MemoryOp, align: u32) -> Result<(), Stop>
+pub(crate) fn access<E: Env>(env: &E, m: &mut Machine, op: MemoryOp, align: u32) -> Result<(), Stop>
     ensures { Steps (acting (access_effect (E.answers env.now Ref.Memory) op align) m.old) result m.new }
 {
     check_memory(env)?;
@@ -181,7 +181,7 @@ fn choose(m: &mut Machine) -> Result<(), Stop>
 
 // A numeric instruction.
 #[inline(always)]
-fn numeric(m: &mut Machine, op: NumericOp) -> Result<(), Stop>
+pub(crate) fn numeric(m: &mut Machine, op: NumericOp) -> Result<(), Stop>
     ensures { Steps (on_top (after_effect (numeric_effect (numeric_type op))) m.old) result m.new }
 {
     match op.ty() {

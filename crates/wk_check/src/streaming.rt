@@ -2,12 +2,13 @@
 
 ghost use Rattle.std.specs.Prelude.{◌≡◌, true, false, IfOk};
 ghost use Rattle.wk_check.specs.Effects.{local_type, results_of};
-ghost use Rattle.wk_check.specs.Streaming.{IsTyped, IsValidBody};
+ghost use Rattle.wk_check.specs.Streaming.{IsTyped, IsValidBody, GoesOn};
 
 use crate::control::{check_end, check_known, params, results};
 use crate::env::Env;
 use crate::locals::{Locals, put_ends, put_first};
 use crate::machine::Machine;
+use crate::quick::quick;
 use crate::step::{Function, type_token};
 use crate::stop::Stop;
 use std::alloc::Global;
@@ -55,8 +56,48 @@ fn stopped(fault: &ReadFault) -> Result<bool, OutOfMemory>
     }
 }
 
+// What one token came to. (It goes in a register.)
+#[derive(Clone, Copy, Debug, PartialEq, Eq)]
+enum Went {
+    // It was typed.
+    On,
+    // It is the end that closes no block.
+    End,
+    // It can't be read, or has a fault.
+    Wrong,
+    // Memory was refused.
+    Memory,
+}
+
+// Types the token at the front, whatever it is. It stands apart, so that the loop over the commonest tokens is small.
+#[inline(never)]
+fn go<E: Env>(
+    env: &E,
+    f: &Function<'_>,
+    profile: Profile,
+    stream: &mut Stream,
+    cursor: &mut Cursor<'_>,
+) -> Went
+    ensures { GoesOn (E.answers env.now) (local_type f.now.locals.params f.now.locals.groups) f.now.results.now profile result stream.old.reader stream.new.reader cursor.old cursor.new stream.old.machine stream.new.machine }
+{
+    let Stream { reader, machine } = stream;
+    match reader.next(profile, cursor) {
+        Ok(Some(token)) => match type_token(env, f, reader.labels(), machine, &token) {
+            Ok(()) => Went::On,
+            Err(Stop::Fault(_)) => Went::Wrong,
+            Err(Stop::Memory) => Went::Memory,
+        },
+        Ok(None) => Went::End,
+        Err(fault) => match fault.kind {
+            ReadKind::Memory => Went::Memory,
+            _ => Went::Wrong,
+        },
+    }
+}
+
 // Whether the instructions at the front, which have this type, go up to their end without a fault. Then the cursor stands behind
 // them.
+#[inline(never)]
 fn flows<E: Env>(
     env: &E,
     f: &Function<'_>,
@@ -68,26 +109,34 @@ fn flows<E: Env>(
     requires { f.now.results.now ≡ results_of (E.answers env.now) block }
     ensures { IfOk result (λ valid. valid ≡ true → IsTyped (E.answers env.now) (local_type f.now.locals.params f.now.locals.groups) f.now.results.now profile cursor.old cursor.new) }
 {
-    let Stream { reader, machine } = stream;
-    reader.begin();
-    machine.begin(block);
+    stream.reader.begin();
+    stream.machine.begin(block);
     // A cursor of its own, which stays in registers from token to token.
     let mut ahead = cursor.ahead();
     loop {
-        match reader.next(profile, &mut ahead) {
-            Ok(Some(token)) => match type_token(env, f, reader.labels(), machine, &token) {
-                Ok(()) => {}
-                Err(Stop::Fault(_)) => return Ok(false),
-                Err(Stop::Memory) => return Err(OutOfMemory),
-            },
-            Ok(None) => {
-                let Ok(()) = check_end(machine, f.results) else {
+        let mut next = ahead.ahead();
+        let Stream { reader, machine } = stream;
+        match quick(env, f, reader, machine, &mut next) {
+            Ok(true) => {
+                ahead = next;
+                continue;
+            }
+            Ok(false) => {}
+            Err(Stop::Fault(_)) => return Ok(false),
+            Err(Stop::Memory) => return Err(OutOfMemory),
+        }
+        let mut next = ahead.ahead();
+        match go(env, f, profile, stream, &mut next) {
+            Went::On => ahead = next,
+            Went::End => {
+                let Ok(()) = check_end(&mut stream.machine, f.results) else {
                     return Ok(false);
                 };
-                *cursor = ahead;
+                *cursor = next;
                 return Ok(true);
             }
-            Err(fault) => return stopped(&fault),
+            Went::Wrong => return Ok(false),
+            Went::Memory => return Err(OutOfMemory),
         }
     }
 }

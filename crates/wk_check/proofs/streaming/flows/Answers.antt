@@ -1,27 +1,41 @@
-use Rattle.std.proofs.Common.{None}
-use Rattle.wk_body.specs.TokenReading.{NextRead}
-use Rattle.wk_body.specs.TokenReadingLaws.{token_is_shorter}
+use Rattle.std.proofs.Common.{refl}
 use Rattle.wk_check.specs.Effects.{local_type}
-use Rattle.wk_check.proofs.Streamed.{starts, goes_on, ends}
+use Rattle.wk_check.proofs.Streamed.{starts, moves_on, shortens, ends}
 use Rattle.wk_check.proofs.streaming.flows.Goals as goal
 
-pub loop-token-init : goal.loop-token-init
-loop-token-init g c =
+pub loop-next-init : goal.loop-next-init
+loop-next-init g c =
     let f = c.args.f.now in
     rw c.ahead-ahead.ensures.same (starts (g.E.Env.answers c.args.env.now) (local_type f.locals.params f.locals.groups) f.results.now c.args.profile c.args.cursor.now c.begin.new.self.kinds c.args.block c.begin-2.new.self c.requires c.begin.ensures.kinds c.begin-2.ensures)
 
-pub loop-token-smaller : goal.loop-token-smaller
-loop-token-smaller g c = token_is_shorter c.args.profile c.loop-token.reader c.next.new.self c.loop-token.ahead c.next.new.cursor c.in-Ok-Some.token (rw c.in-Ok-Some.field-0-is at c.in-Ok-Some.ensures.exact)
-
-pub loop-token-preserved : goal.loop-token-preserved
-loop-token-preserved g c =
+pub loop-next-smaller-in-Ok-true : goal.loop-next-smaller-in-Ok-true
+loop-next-smaller-in-Ok-true g c =
     let f = c.args.f.now in
-    let token = c.in-Ok-Some.token in
-    goes_on (g.E.Env.answers c.args.env.now) (local_type f.locals.params f.locals.groups) f.results.now c.args.profile c.args.cursor.now c.loop-token.ahead c.next.new.cursor c.loop-token.reader c.next.new.self token c.loop-token.machine c.type_token.new.m
-    (rw c.in-Ok-Some.field-0-is at c.in-Ok-Some.ensures.exact) (rw c.labels.ensures at c.in-Ok.ensures) c.loop-token.invariant
+    shortens (g.E.Env.answers c.args.env.now) (local_type f.locals.params f.locals.groups) f.results.now c.args.profile c.loop-next.ahead c.ahead-next.result c.quick.new.cursor c.loop-next.stream.reader c.quick.new.reader c.loop-next.stream.machine c.quick.new.m c.ahead-next.ensures.same (c.in-Ok-true.ensures.taken c.args.profile c.in-Ok-true.field-0-test)
 
-pub returns-in-Ok-None : goal.returns-in-Ok-None
-returns-in-Ok-None g c is =
+pub loop-next-preserved-in-Ok-true : goal.loop-next-preserved-in-Ok-true
+loop-next-preserved-in-Ok-true g c =
     let f = c.args.f.now in
-    let last : NextRead c.args.profile c.loop-token.reader c.next.new.self c.loop-token.ahead c.next.new.cursor None = rw c.in-Ok-None.field-0-is at c.in-Ok-None.ensures.exact in
-    ends (g.E.Env.answers c.args.env.now) (local_type f.locals.params f.locals.groups) f.results.now c.args.profile c.args.cursor.now c.loop-token.ahead c.next.new.cursor c.loop-token.reader.kinds c.loop-token.machine last.0 last.1 last.2 c.in-Ok-check_end.ensures.0 c.loop-token.invariant
+    let r = c.loop-next.stream.reader in
+    let b = c.loop-next.stream.machine in
+    moves_on (g.E.Env.answers c.args.env.now) (local_type f.locals.params f.locals.groups) f.results.now c.args.profile c.args.cursor.now c.loop-next.ahead c.ahead-next.result c.quick.new.cursor r c.quick.new.reader b b c.quick.new.m c.ahead-next.ensures.same refl (c.in-Ok-true.ensures.taken c.args.profile c.in-Ok-true.field-0-test) c.loop-next.invariant
+
+pub loop-next-smaller : goal.loop-next-smaller
+loop-next-smaller g c =
+    let f = c.args.f.now in
+    shortens (g.E.Env.answers c.args.env.now) (local_type f.locals.params f.locals.groups) f.results.now c.args.profile c.loop-next.ahead c.ahead-next-in-loop-next.result c.go.new.cursor c.quick.new.reader c.go.new.stream.reader c.quick.new.m c.go.new.stream.machine c.ahead-next-in-loop-next.ensures.same c.in-On.ensures
+
+pub loop-next-preserved : goal.loop-next-preserved
+loop-next-preserved g c =
+    let f = c.args.f.now in
+    let left = c.in-Ok-false.ensures.left c.in-Ok-false.field-0-test in
+    moves_on (g.E.Env.answers c.args.env.now) (local_type f.locals.params f.locals.groups) f.results.now c.args.profile c.args.cursor.now c.loop-next.ahead c.ahead-next-in-loop-next.result c.go.new.cursor c.loop-next.stream.reader c.go.new.stream.reader c.loop-next.stream.machine c.quick.new.m c.go.new.stream.machine
+    c.ahead-next-in-loop-next.ensures.same left.0 (rw left.1 at c.in-On.ensures) c.loop-next.invariant
+
+pub returns-in-End : goal.returns-in-End
+returns-in-End g c = λ yes.
+    let f = c.args.f.now in
+    let end = c.in-End.ensures in
+    let left = c.in-Ok-false.ensures.left c.in-Ok-false.field-0-test in
+    ends (g.E.Env.answers c.args.env.now) (local_type f.locals.params f.locals.groups) f.results.now c.args.profile c.args.cursor.now c.loop-next.ahead c.go.new.cursor c.loop-next.stream.reader.kinds c.loop-next.stream.machine
+    (rw (c.ahead-next-in-loop-next.ensures.same, left.1) at end.0.0) (rw left.1 at end.0.1) (rw c.ahead-next-in-loop-next.ensures.same at end.0.2) (rw (end.1, left.0) at c.in-Ok.ensures.0) c.loop-next.invariant

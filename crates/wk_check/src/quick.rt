@@ -1,0 +1,370 @@
+//! The commonest tokens, typed from their bytes: the opcode is looked at once, and no token is put together.
+//!
+//! What is told here is what reading the token and typing it do. Any other token, and each whose bytes are refused, is left to them.
+
+ghost use Rattle.std.specs.Prelude.{◌≡◌, ◌≤◌, true, false, IfOk};
+ghost use Rattle.wk_body.specs.declared.types.Profile.{Profile};
+ghost use Rattle.wk_check.specs.Effects.{local_type};
+ghost use Rattle.wk_check.specs.Streaming.{IsTaken, TakesBehind, IsOpened, IsClosed};
+
+use crate::control::call;
+use crate::env::Env;
+use crate::machine::{Machine, Opener};
+use crate::operands::{drop_top, give, remove};
+use crate::step::{
+    Function, access, get_global, get_local, numeric, set_global, set_local, tee_local,
+};
+use crate::stop::Stop;
+use wk_bytes::Cursor;
+use wk_module::{BlockType, MemoryOp, NumericOp, TokenReader, ValType};
+
+// A `local.get` behind its opcode.
+#[inline(always)]
+fn quick_get<E: Env>(
+    env: &E,
+    f: &Function<'_>,
+    m: &mut Machine,
+    cursor: &mut Cursor<'_>,
+) -> Result<bool, Stop>
+    ensures taken { IfOk result (TakesBehind (E.answers env.now) f.now 0x20 cursor.old cursor.new m.old m.new) }
+    ensures left { IfOk result (λ t. t ≡ false → m.new ≡ m.old) }
+{
+    let Ok(x) = cursor.u32() else {
+        return Ok(false);
+    };
+    get_local(&f.locals, m, x)?;
+    Ok(true)
+}
+
+// A `local.set` behind its opcode.
+#[inline(always)]
+fn quick_set<E: Env>(
+    env: &E,
+    f: &Function<'_>,
+    m: &mut Machine,
+    cursor: &mut Cursor<'_>,
+) -> Result<bool, Stop>
+    ensures taken { IfOk result (TakesBehind (E.answers env.now) f.now 0x21 cursor.old cursor.new m.old m.new) }
+    ensures left { IfOk result (λ t. t ≡ false → m.new ≡ m.old) }
+{
+    let Ok(x) = cursor.u32() else {
+        return Ok(false);
+    };
+    set_local(&f.locals, m, x)?;
+    Ok(true)
+}
+
+// A `local.tee` behind its opcode.
+#[inline(always)]
+fn quick_tee<E: Env>(
+    env: &E,
+    f: &Function<'_>,
+    m: &mut Machine,
+    cursor: &mut Cursor<'_>,
+) -> Result<bool, Stop>
+    ensures taken { IfOk result (TakesBehind (E.answers env.now) f.now 0x22 cursor.old cursor.new m.old m.new) }
+    ensures left { IfOk result (λ t. t ≡ false → m.new ≡ m.old) }
+{
+    let Ok(x) = cursor.u32() else {
+        return Ok(false);
+    };
+    tee_local(&f.locals, m, x)?;
+    Ok(true)
+}
+
+// An `i32.const` behind its opcode.
+#[inline(always)]
+fn quick_const<E: Env>(
+    env: &E,
+    f: &Function<'_>,
+    m: &mut Machine,
+    cursor: &mut Cursor<'_>,
+) -> Result<bool, Stop>
+    ensures taken { IfOk result (TakesBehind (E.answers env.now) f.now 0x41 cursor.old cursor.new m.old m.new) }
+    ensures left { IfOk result (λ t. t ≡ false → m.new ≡ m.old) }
+{
+    let Ok(_) = cursor.s32() else {
+        return Ok(false);
+    };
+    give(m, ValType::I32)?;
+    Ok(true)
+}
+
+// A `call` behind its opcode.
+#[inline(always)]
+fn quick_call<E: Env>(
+    env: &E,
+    f: &Function<'_>,
+    m: &mut Machine,
+    cursor: &mut Cursor<'_>,
+) -> Result<bool, Stop>
+    ensures taken { IfOk result (TakesBehind (E.answers env.now) f.now 0x10 cursor.old cursor.new m.old m.new) }
+    ensures left { IfOk result (λ t. t ≡ false → m.new ≡ m.old) }
+{
+    let Ok(x) = cursor.u32() else {
+        return Ok(false);
+    };
+    call(env, m, x)?;
+    Ok(true)
+}
+
+// A `global.get` behind its opcode.
+#[inline(always)]
+fn quick_get_global<E: Env>(
+    env: &E,
+    f: &Function<'_>,
+    m: &mut Machine,
+    cursor: &mut Cursor<'_>,
+) -> Result<bool, Stop>
+    ensures taken { IfOk result (TakesBehind (E.answers env.now) f.now 0x23 cursor.old cursor.new m.old m.new) }
+    ensures left { IfOk result (λ t. t ≡ false → m.new ≡ m.old) }
+{
+    let Ok(x) = cursor.u32() else {
+        return Ok(false);
+    };
+    get_global(env, m, x)?;
+    Ok(true)
+}
+
+// A `global.set` behind its opcode.
+#[inline(always)]
+fn quick_set_global<E: Env>(
+    env: &E,
+    f: &Function<'_>,
+    m: &mut Machine,
+    cursor: &mut Cursor<'_>,
+) -> Result<bool, Stop>
+    ensures taken { IfOk result (TakesBehind (E.answers env.now) f.now 0x24 cursor.old cursor.new m.old m.new) }
+    ensures left { IfOk result (λ t. t ≡ false → m.new ≡ m.old) }
+{
+    let Ok(x) = cursor.u32() else {
+        return Ok(false);
+    };
+    set_global(env, m, x)?;
+    Ok(true)
+}
+
+// An `i64.const` behind its opcode.
+#[inline(always)]
+fn quick_long<E: Env>(
+    env: &E,
+    f: &Function<'_>,
+    m: &mut Machine,
+    cursor: &mut Cursor<'_>,
+) -> Result<bool, Stop>
+    ensures taken { IfOk result (TakesBehind (E.answers env.now) f.now 0x42 cursor.old cursor.new m.old m.new) }
+    ensures left { IfOk result (λ t. t ≡ false → m.new ≡ m.old) }
+{
+    let Ok(_) = cursor.s64() else {
+        return Ok(false);
+    };
+    give(m, ValType::I64)?;
+    Ok(true)
+}
+
+// A load or a store behind its opcode.
+#[inline(always)]
+fn quick_access<E: Env>(
+    env: &E,
+    f: &Function<'_>,
+    opcode: u8,
+    m: &mut Machine,
+    cursor: &mut Cursor<'_>,
+) -> Result<bool, Stop>
+    requires low { 0x28 ≤ opcode }
+    requires high { opcode ≤ 0x3E }
+    ensures taken { IfOk result (TakesBehind (E.answers env.now) f.now opcode cursor.old cursor.new m.old m.new) }
+    ensures left { IfOk result (λ t. t ≡ false → m.new ≡ m.old) }
+{
+    let Some(op) = MemoryOp::from_opcode(opcode) else {
+        return Ok(false);
+    };
+    let Ok(align) = cursor.u32() else {
+        return Ok(false);
+    };
+    let Ok(_) = cursor.u32() else {
+        return Ok(false);
+    };
+    access(env, m, op, align)?;
+    Ok(true)
+}
+
+// A numeric instruction of both profiles.
+#[inline(always)]
+fn quick_numeric<E: Env>(
+    env: &E,
+    f: &Function<'_>,
+    opcode: u8,
+    m: &mut Machine,
+    cursor: &Cursor<'_>,
+) -> Result<bool, Stop>
+    requires low { 0x45 ≤ opcode }
+    requires high { opcode ≤ 0xBF }
+    ensures taken { IfOk result (TakesBehind (E.answers env.now) f.now opcode cursor.now cursor.now m.old m.new) }
+    ensures left { IfOk result (λ t. t ≡ false → m.new ≡ m.old) }
+{
+    let Some(op) = NumericOp::from_opcode(opcode) else {
+        return Ok(false);
+    };
+    numeric(m, op)?;
+    Ok(true)
+}
+
+// A `drop`.
+#[inline(always)]
+fn quick_drop<E: Env>(
+    env: &E,
+    f: &Function<'_>,
+    m: &mut Machine,
+    cursor: &Cursor<'_>,
+) -> Result<bool, Stop>
+    ensures taken { IfOk result (TakesBehind (E.answers env.now) f.now 0x1A cursor.now cursor.now m.old m.new) }
+    ensures left { IfOk result (λ t. t ≡ false → m.new ≡ m.old) }
+{
+    drop_top(m)?;
+    Ok(true)
+}
+
+// A `br` behind its opcode, to a block of no types.
+#[inline(always)]
+fn quick_br<E: Env>(
+    env: &E,
+    f: &Function<'_>,
+    m: &mut Machine,
+    cursor: &mut Cursor<'_>,
+) -> Result<bool, Stop>
+    ensures taken { IfOk result (TakesBehind (E.answers env.now) f.now 0x0C cursor.old cursor.new m.old m.new) }
+    ensures left { IfOk result (λ t. t ≡ false → m.new ≡ m.old) }
+{
+    let Ok(x) = cursor.u32() else {
+        return Ok(false);
+    };
+    let Some((_, BlockType::Empty)) = m.head(x as usize) else {
+        return Ok(false);
+    };
+    m.stop();
+    Ok(true)
+}
+
+// A `br_if` behind its opcode, to a block of no types.
+#[inline(always)]
+fn quick_br_if<E: Env>(
+    env: &E,
+    f: &Function<'_>,
+    m: &mut Machine,
+    cursor: &mut Cursor<'_>,
+) -> Result<bool, Stop>
+    ensures taken { IfOk result (TakesBehind (E.answers env.now) f.now 0x0D cursor.old cursor.new m.old m.new) }
+    ensures left { IfOk result (λ t. t ≡ false → m.new ≡ m.old) }
+{
+    let Ok(x) = cursor.u32() else {
+        return Ok(false);
+    };
+    let Some((_, BlockType::Empty)) = m.head(x as usize) else {
+        return Ok(false);
+    };
+    remove(m, ValType::I32)?;
+    Ok(true)
+}
+
+// The token of an opcode, behind it.
+#[inline(always)]
+fn behind<E: Env>(
+    env: &E,
+    f: &Function<'_>,
+    opcode: u8,
+    m: &mut Machine,
+    cursor: &mut Cursor<'_>,
+) -> Result<bool, Stop>
+    ensures taken { IfOk result (TakesBehind (E.answers env.now) f.now opcode cursor.old cursor.new m.old m.new) }
+    ensures left { IfOk result (λ t. t ≡ false → m.new ≡ m.old) }
+{
+    match opcode {
+        0x0C => quick_br(env, f, m, cursor),
+        0x0D => quick_br_if(env, f, m, cursor),
+        0x10 => quick_call(env, f, m, cursor),
+        0x1A => quick_drop(env, f, m, cursor),
+        0x20 => quick_get(env, f, m, cursor),
+        0x21 => quick_set(env, f, m, cursor),
+        0x22 => quick_tee(env, f, m, cursor),
+        0x23 => quick_get_global(env, f, m, cursor),
+        0x24 => quick_set_global(env, f, m, cursor),
+        0x28..=0x3E => quick_access(env, f, opcode, m, cursor),
+        0x41 => quick_const(env, f, m, cursor),
+        0x42 => quick_long(env, f, m, cursor),
+        0x45..=0xBF => quick_numeric(env, f, opcode, m, cursor),
+        _ => Ok(false),
+    }
+}
+
+// What opens a block of no types, behind its opcode, with a test or without one.
+#[inline(always)]
+fn quick_open<E: Env>(
+    env: &E,
+    test: bool,
+    opener: Opener,
+    reader: &mut TokenReader,
+    m: &mut Machine,
+    cursor: &mut Cursor<'_>,
+) -> Result<bool, Stop>
+    ensures taken { IfOk result (λ t. t ≡ true → IsOpened (E.answers env.now) test opener reader.old reader.new cursor.old cursor.new m.old m.new) }
+    ensures left { IfOk result (λ t. t ≡ false → (m.new ≡ m.old) × (reader.new ≡ reader.old)) }
+{
+    let Ok(0x40) = cursor.byte() else {
+        return Ok(false);
+    };
+    if !reader.open_block(test) {
+        return Ok(false);
+    }
+    if test {
+        remove(m, ValType::I32)?;
+        m.enter(opener, BlockType::Empty)?;
+        return Ok(true);
+    }
+    m.enter(opener, BlockType::Empty)?;
+    Ok(true)
+}
+
+// The end of a block of no types that stands in another.
+#[inline(always)]
+fn quick_end<E: Env>(env: &E, reader: &mut TokenReader, m: &mut Machine) -> bool
+    ensures taken { result ≡ true → IsClosed (E.answers env.now) reader.old reader.new m.old m.new }
+    ensures left { result ≡ false → (m.new ≡ m.old) × (reader.new ≡ reader.old) }
+{
+    let BlockType::Empty = m.block() else {
+        return false;
+    };
+    if !m.is_clear() || m.is_outermost() {
+        return false;
+    }
+    if !reader.close_block() {
+        return false;
+    }
+    m.leave();
+    true
+}
+
+/// Types the token at the front, if it is one of the commonest. Else the reader and the open blocks are as they were, and the cursor
+/// stands anywhere.
+#[inline(always)]
+pub(crate) fn quick<E: Env>(
+    env: &E,
+    f: &Function<'_>,
+    reader: &mut TokenReader,
+    m: &mut Machine,
+    cursor: &mut Cursor<'_>,
+) -> Result<bool, Stop>
+    ensures taken { (profile : Profile) → IfOk result (λ t. t ≡ true → IsTaken (E.answers env.now) (local_type f.now.locals.params f.now.locals.groups) f.now.results.now profile reader.old reader.new cursor.old cursor.new m.old m.new) }
+    ensures left { IfOk result (λ t. t ≡ false → (m.new ≡ m.old) × (reader.new ≡ reader.old)) }
+{
+    let Ok(opcode) = cursor.byte() else {
+        return Ok(false);
+    };
+    match opcode {
+        0x02 => quick_open(env, false, Opener::Block, reader, m, cursor),
+        0x03 => quick_open(env, false, Opener::Loop, reader, m, cursor),
+        0x04 => quick_open(env, true, Opener::If, reader, m, cursor),
+        0x0B => Ok(quick_end(env, reader, m)),
+        _ => behind(env, f, opcode, m, cursor),
+    }
+}
