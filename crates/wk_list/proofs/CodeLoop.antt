@@ -1,5 +1,6 @@
 -- One line more of the code listing.
-use Rattle.std.proofs.Common.{◌≡◌, ℕ, ◌+◌, List, ◌∷◌, ◌++◌, length, Option, ap, subst, ◌∙◌}
+use Rattle.std.proofs.Common.{◌≡◌, ℕ, ◌+◌, List, [], ◌∷◌, ◌++◌, length, Option, refl, ap, sym, subst, ◌∙◌, append-nil, arith}
+use Rattle.std.proofs.lemmas.List.{nil_from_length}
 use Rattle.wk_bytes.specs.Taken.{TakesFront}
 use Rattle.wk_body.specs.declared.token.Token.{Token}
 use Rattle.wk_body.specs.Kept.{told, all_told}
@@ -51,3 +52,28 @@ pub line_stops : (pool : List ℕ) (rest after : List Token) (t : Token) (at dep
 line_stops pool rest after t at depth here a b c all text between so_far e line stands p =
     stops_spilled a b c all text (line_of pool at depth t) (left_at pool at depth t after) between
     (with_token pool rest after t at depth a b all text so_far e) (at_depth pool t at depth here text between line stands) p
+
+without_tokens : (pool : List ℕ) (rest : List Token) (at depth : ℕ) (a b : Option (List ℕ)) (all text : List ℕ)
+    → Leaves a b all (text ++ toks_text at depth (all_told pool rest))
+    → length rest ≡ 0
+    → Leaves a b all (text ++ [])
+without_tokens pool rest at depth a b all text so_far e = subst (λ (r : List Token). Leaves a b all (text ++ toks_text at depth (all_told pool r))) (nil_from_length rest e) so_far
+
+-- behind the last line
+pub lines_end : (pool : List ℕ) (rest : List Token) (at depth : ℕ) (a b c : Option (List ℕ)) (all text between new : List ℕ)
+    → Leaves a b all (text ++ toks_text at depth (all_told pool rest))
+    → length rest ≡ 0
+    → between ≡ text
+    → Leaves b c between new
+    → Leaves a c all new
+lines_end pool rest at depth a b c all text between new so_far e same p =
+    rw append-nil at (leaves_spilled a b c all text [] [] between new (without_tokens pool rest at depth a b all text so_far e) (same ∙ sym (append-nil text)) p)
+
+pub lines_stop : (pool : List ℕ) (rest : List Token) (at depth : ℕ) (a b c : Option (List ℕ)) (all text between : List ℕ)
+    → Leaves a b all (text ++ toks_text at depth (all_told pool rest))
+    → length rest ≡ 0
+    → between ≡ text
+    → TakesFront b c between
+    → TakesFront a c all
+lines_stop pool rest at depth a b c all text between so_far e same p =
+    stops_spilled a b c all text [] [] between (without_tokens pool rest at depth a b all text so_far e) (same ∙ sym (append-nil text)) p

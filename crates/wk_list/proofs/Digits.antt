@@ -1,5 +1,7 @@
 -- Hexadecimal digits from the highest on.
-use Rattle.std.proofs.Common.{◌≡◌, ℕ, zero, suc, ◌+◌, ◌*◌, ◌/◌, ◌%◌, ◌^◌, ◌<◌, List, [], ◌∷◌, ◌++◌, refl, sym, ap, ◌∙◌, append_assoc, append-nil, arith}
+use Rattle.std.proofs.Common.{◌≡◌, ℕ, zero, suc, ◌+◌, ◌*◌, ◌/◌, ◌%◌, ◌^◌, ◌<◌, List, [], ◌∷◌, ◌++◌, refl, sym, ap, ◌∙◌, append_assoc, append-nil, arith, ◌-◌, Bool, true, ◌&&◌, T, eqb, get_or, inl, inr, eq-zero-or-pos, eqb→eq}
+use lib.Ieee.Fits.{and_l, and_r}
+use Rattle.wk_list.specs.declared.hexadecimal.TheConstants.{PAIRS}
 use native.Mathlib.Nat.{pow-suc, div-div-eq-div-mul, div-one, mul_comm, mul_assoc, mod-lt, mod-eq_of_lt, mul-add-mod_self_left, div-add-mod}
 use Rattle.wk_bytes.specs.HexDigits.{hex_digit, hex_digits}
 
@@ -70,3 +72,46 @@ halves n old between e =
     ap (λ (ds : List ℕ). ds ++ hex_digits 8 (n % 0x100000000)) e
     ∙ append_assoc old (hex_digits 8 (n / 0x100000000)) (hex_digits 8 (n % 0x100000000))
     ∙ ap (λ (ds : List ℕ). old ++ ds) (sym (sixteen n))
+
+-- ---- two digits at once, by the table
+
+abbrev are_pairs : ℕ → Bool
+are_pairs zero = true
+are_pairs (suc b) = (eqb (get_or PAIRS (b * 2) 0) (hex_digit (b / 16)) && eqb (get_or PAIRS (b * 2 + 1) 0) (hex_digit (b % 16))) && are_pairs b
+
+below : (n b : ℕ) → T (are_pairs n) → b < n → (get_or PAIRS (b * 2) 0 ≡ hex_digit (b / 16)) × (get_or PAIRS (b * 2 + 1) 0 ≡ hex_digit (b % 16))
+below zero b t h = absurd (omega arith)
+below (suc n) b t h =
+    elim (eq-zero-or-pos (n - b)) [
+      | inl z ↦ let e : b ≡ n = omega arith in let a = and_l _ (are_pairs n) t in rw e (eqb→eq _ _ (and_l _ _ a), eqb→eq _ _ (and_r _ _ a))
+      | inr g ↦ below n b (and_r _ (are_pairs n) t) (omega arith)
+    ]
+
+pub pair_at : (b : ℕ) → b < 256 → (get_or PAIRS (b * 2) 0 ≡ hex_digit (b / 16)) × (get_or PAIRS (b * 2 + 1) 0 ≡ hex_digit (b % 16))
+pair_at b h = below 256 b tt h
+
+-- a number below 2 ^ 32, two digits at a time
+pub eight_by_pairs : (n : ℕ) → n < 2 ^ 32 →
+    hex_digit (n / 0x1000000 / 16) ∷ hex_digit (n / 0x1000000 % 16) ∷ hex_digit (n / 0x10000 % 256 / 16) ∷ hex_digit (n / 0x10000 % 256 % 16)
+    ∷ hex_digit (n / 0x100 % 256 / 16) ∷ hex_digit (n / 0x100 % 256 % 16) ∷ hex_digit (n % 256 / 16) ∷ hex_digit (n % 256 % 16) ∷ []
+    ≡ hex_digits 8 n
+eight_by_pairs n h =
+    let a : n / 0x1000000 / 16 ≡ n / 0x10000000 % 16 = omega arith in
+    let c : n / 0x10000 % 256 / 16 ≡ n / 0x100000 % 16 = omega arith in
+    let d : n / 0x10000 % 256 % 16 ≡ n / 0x10000 % 16 = omega arith in
+    let e : n / 0x100 % 256 / 16 ≡ n / 0x1000 % 16 = omega arith in
+    let f : n / 0x100 % 256 % 16 ≡ n / 0x100 % 16 = omega arith in
+    let i : n % 256 / 16 ≡ n / 0x10 % 16 = omega arith in
+    let j : n % 256 % 16 ≡ n % 16 = omega arith in
+    rw (a, c, d, e, f, i, j) (sym (eight n))
+
+pub put_by_pairs : (n : ℕ) (old one two three four a b c d : List ℕ) → n < 2 ^ 32
+    → one ≡ old ++ a → two ≡ one ++ b → three ≡ two ++ c → four ≡ three ++ d
+    → a ≡ hex_digit (n / 0x1000000 / 16) ∷ hex_digit (n / 0x1000000 % 16) ∷ []
+    → b ≡ hex_digit (n / 0x10000 % 256 / 16) ∷ hex_digit (n / 0x10000 % 256 % 16) ∷ []
+    → c ≡ hex_digit (n / 0x100 % 256 / 16) ∷ hex_digit (n / 0x100 % 256 % 16) ∷ []
+    → d ≡ hex_digit (n % 256 / 16) ∷ hex_digit (n % 256 % 16) ∷ []
+    → four ≡ old ++ hex_digits 8 n
+put_by_pairs n old one two three four a b c d h e f g i p q r s =
+    let joined : four ≡ old ++ (a ++ (b ++ (c ++ d))) = rw (i, g, f, e) (simp append_assoc) in
+    joined ∙ rw (p, q, r, s) (ap (λ (ds : List ℕ). old ++ ds) (eight_by_pairs n h))

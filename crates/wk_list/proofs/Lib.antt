@@ -12,8 +12,10 @@ pub mod ImportSteps
 pub mod LineSteps
 pub mod Listings
 pub mod Offsets
+pub mod Pieces
 pub mod SectionTexts
 pub mod Sections
+pub mod ShortTokens
 pub mod SizeSteps
 pub mod TakenLemmas
 pub mod Told

@@ -1,7 +1,8 @@
 -- Pieces of text.
-use Rattle.std.specs.Prelude.{◌≡◌, ℕ, ◌+◌, nat_le, ◌==◌, ◌&&◌, not, Bool, true, false, if◌then◌else◌, Option, Some, None, List, [], ◌∷◌, ◌++◌, codes, decimal}
+use Rattle.std.specs.Prelude.{◌≡◌, ℕ, ◌+◌, ◌/◌, ◌%◌, nat_le, ◌==◌, ◌&&◌, not, Bool, true, false, if◌then◌else◌, Option, Some, None, List, [], ◌∷◌, ◌++◌, codes, decimal}
 use Rattle.std.specs.List.{flat_map}
 use Rattle.hex.specs.Hex.{encode_lower}
+use Rattle.wk_bytes.specs.HexDigits.{hex_digit}
 use Rattle.wk_body.specs.declared.types.ValType.{ValType}
 use Rattle.wk_body.specs.declared.types.ValType.TheVariants.{I32, I64, F32, F64}
 use Rattle.wk_module.specs.declared.types.FuncType.{FuncType}
@@ -34,6 +35,10 @@ is_word (b ∷ rest) = all_visible (b ∷ rest) && not (begins_hex (b ∷ rest))
 -- a name as it is, or else `x:` and its bytes in hexadecimal digits
 unfoldable pub name_text : List ℕ → List ℕ
 name_text name = if is_word name then name else codes "x:" ++ encode_lower name
+
+-- both hexadecimal digits of a byte
+abbrev pub both_digits : ℕ → List ℕ
+both_digits b = hex_digit (b / 16) ∷ hex_digit (b % 16) ∷ []
 
 -- ---- lists
 

@@ -1,22 +1,24 @@
 //! The code listing.
 
-ghost use Rattle.std.specs.Prelude.{◌≡◌, ◌<◌, ◌≤◌, ◌+◌, ◌-◌, ◌^◌, ◌++◌, length, OnOk, OnErr};
+ghost use Rattle.std.specs.Prelude.{◌≡◌, ◌<◌, ◌≤◌, ◌+◌, ◌-◌, ◌^◌, ◌++◌, length, take, IfOk, OnOk, OnErr};
 ghost use Rattle.std.specs.List.{AllByRecursion, flat_map};
 ghost use Rattle.wk_bytes.specs.Frames.{limit};
 ghost use Rattle.wk_bytes.specs.Taken.{TakesFront};
-ghost use Rattle.wk_body.specs.Kept.{all_told, IsWithin};
-ghost use Rattle.wk_body.specs.Written.{written_expr, written_group, written_body};
+ghost use Rattle.wk_body.specs.Kept.{told, all_told, IsWithin};
+ghost use Rattle.wk_body.specs.Written.{tok_bytes, written_expr, written_group, written_body};
 ghost use Rattle.wk_module.specs.Items.{written_code};
 ghost use Rattle.wk_module.specs.Writing.{customs_at};
 ghost use Rattle.wk_list.specs.Taken.{Leaves, failed_after};
-ghost use Rattle.wk_list.specs.CodeText.{group_text, locals_text, entry_head, entry_text, entries_text, expr_text, code_start, code_text};
-ghost use Rattle.wk_list.specs.TokenText.{toks_text, toks_length};
+ghost use Rattle.wk_list.specs.CodeText.{code_line, group_text, locals_text, entry_head, entry_text, entries_text, expr_text, code_start, code_text};
+ghost use Rattle.wk_list.specs.TokenText.{tok_text, toks_text, toks_length};
 
+use crate::brief::{Line, put_brief_line};
 use crate::fault::ListFault;
 use crate::headers::{HEADER_LEN, contents_start, section_end};
 use crate::page::spill;
 use crate::rows::put_field;
 use crate::shape::Shape;
+use crate::sheet::ROOM;
 use crate::spaces::count_of;
 use crate::text::{put_indexed, put_number};
 use crate::token::{depths, put_line};
@@ -27,11 +29,65 @@ use wk_module::{Expr, Func, Kind, LocalGroup, Token};
 /// The id of the code section (5.5.2).
 const CODES: u8 = 10;
 
-// The lines of tokens, the first of which stands at `start` and outside of all blocks.
+// The lines on a sheet, and behind them the line of a token that goes to no sheet.
+#[inline(never)]
+fn list_long_line<W: Out>(
+    sheet: &[u8],
+    labels: &[u32],
+    token: &Token,
+    at: u32,
+    depth: usize,
+    text: &mut Vec<u8>,
+    out: &mut W,
+) -> Result<(), ListFault>
+    requires room { W.failed out.old < 2 ^ 64 - 1 }
+    requires within { IsWithin (length labels.now) token.now }
+    requires shallow { depth < 2 ^ 32 }
+    ensures ok { OnOk result (Leaves (W.taken out.old) (W.taken out.new) (text.old.items ++ sheet.now ++ code_line at depth (tok_text (told labels.now token.now))) text.new.items) }
+    ensures err { OnErr result (TakesFront (W.taken out.old) (W.taken out.new) (text.old.items ++ sheet.now ++ code_line at depth (tok_text (told labels.now token.now)))) }
+    ensures failures { W.failed out.new ≡ failed_after (W.failed out.old) result }
+{
+    text.extend_from_slice(sheet)?;
+    put_line(text, labels, token, at, depth)?;
+    spill(text, out)
+}
+
+// The line of a token, behind so many bytes of a sheet. Its end is how many stand on it then.
+#[inline(always)]
+fn list_token<W: Out>(
+    labels: &[u32],
+    token: &Token,
+    at: u32,
+    depth: usize,
+    sheet: &mut [u8; ROOM],
+    used: usize,
+    text: &mut Vec<u8>,
+    out: &mut W,
+) -> Result<Line, ListFault>
+    requires room { W.failed out.old < 2 ^ 64 - 1 }
+    requires within { IsWithin (length labels.now) token.now }
+    requires shallow { depth < 2 ^ 32 }
+    requires inside { used ≤ ROOM }
+    ensures inside { IfOk result (λ line. line.end ≤ ROOM) }
+    ensures ok { IfOk result (λ line. Leaves (W.taken out.old) (W.taken out.new) (text.old.items ++ take used sheet.old ++ code_line at depth (tok_text (told labels.now token.now))) (text.new.items ++ take line.end sheet.new)) }
+    ensures len { IfOk result (λ line. line.len ≡ length (tok_bytes (told labels.now token.now))) }
+    ensures err { OnErr result (TakesFront (W.taken out.old) (W.taken out.new) (text.old.items ++ take used sheet.old ++ code_line at depth (tok_text (told labels.now token.now)))) }
+    ensures failures { W.failed out.new ≡ failed_after (W.failed out.old) result }
+{
+    if let Some(line) = put_brief_line(sheet, used, token, at, depth) {
+        return Ok(line);
+    }
+    list_long_line(&sheet[..used], labels, token, at, depth, text, out)?;
+    let len = token.head_len(labels);
+    Ok(Line { end: 0, len })
+}
+
+// The lines of tokens, the first of which stands at `start` and outside of all blocks. They are gathered on a sheet first.
 fn list_tokens<W: Out>(
     labels: &[u32],
     tokens: &[Token],
     start: u32,
+    sheet: &mut [u8; ROOM],
     text: &mut Vec<u8>,
     out: &mut W,
 ) -> Result<(), ListFault>
@@ -45,22 +101,24 @@ fn list_tokens<W: Out>(
     let mut rest = tokens;
     let mut at = start;
     let mut depth = 0;
+    let mut used = 0;
     while let Some((token, after)) = rest.split_first() {
         let (here, behind) = depths(token, depth);
-        put_line(text, labels, token, at, here)?;
-        spill(text, out)?;
-        let len = token.head_len(labels);
-        at += len as u32;
+        let line = list_token(labels, token, at, here, sheet, used, text, out)?;
+        at += line.len as u32;
+        used = line.end;
         depth = behind;
         rest = after;
     }
-    Ok(())
+    text.extend_from_slice(&sheet[..used])?;
+    spill(text, out)
 }
 
 // The lines of an expression whose first instruction stands at `start`.
 fn list_expr<W: Out>(
     expr: &Expr,
     start: u32,
+    sheet: &mut [u8; ROOM],
     text: &mut Vec<u8>,
     out: &mut W,
 ) -> Result<(), ListFault>
@@ -71,7 +129,7 @@ fn list_expr<W: Out>(
     ensures failures { W.failed out.new ≡ failed_after (W.failed out.old) result }
 {
     let (tokens, labels) = expr.tokens();
-    list_tokens(labels, tokens, start, text, out)
+    list_tokens(labels, tokens, start, sheet, text, out)
 }
 
 // How many bytes local groups are, without their count.
@@ -135,6 +193,7 @@ fn list_entry<W: Out>(
     func: &Func,
     at: u32,
     size: u32,
+    sheet: &mut [u8; ROOM],
     text: &mut Vec<u8>,
     out: &mut W,
 ) -> Result<(), ListFault>
@@ -149,7 +208,7 @@ fn list_entry<W: Out>(
     let locals_len = leb_len_u32(groups.len() as u32) as u64 + groups_len(groups);
     let start = at + leb_len_u32(size) as u32 + locals_len as u32;
     put_entry_head(text, index, func)?;
-    list_expr(func.body.expr(), start, text, out)
+    list_expr(func.body.expr(), start, sheet, text, out)
 }
 
 // The lines of all functions, behind so many imported ones; the size of the first begins at `start`.
@@ -157,6 +216,7 @@ fn list_entries<S: Shape, W: Out>(
     shape: &S,
     imported: u32,
     start: u32,
+    sheet: &mut [u8; ROOM],
     text: &mut Vec<u8>,
     out: &mut W,
 ) -> Result<(), ListFault>
@@ -175,6 +235,7 @@ fn list_entries<S: Shape, W: Out>(
             func,
             at,
             size,
+            sheet,
             text,
             out,
         )?;
@@ -228,5 +289,6 @@ pub(crate) fn list_code<S: Shape, W: Out>(
     let imported = count_of(Kind::Func, parts.imports.as_slice());
     let contents = contents_start(code_start(shape), shape.section_len(CODES));
     let first = contents + leb_len_u32(parts.funcs.len() as u32) as u32;
-    list_entries(shape, imported, first, text, out)
+    let mut sheet = [0; ROOM];
+    list_entries(shape, imported, first, &mut sheet, text, out)
 }

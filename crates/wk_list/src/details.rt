@@ -61,7 +61,6 @@ fn list_group<L: Lines, W: Out>(
 
 // The import section.
 fn list_import_group<W: Out>(
-    alloc: Global,
     id: u8,
     imports: &[Import],
     text: &mut Vec<u8>,
@@ -77,7 +76,7 @@ fn list_import_group<W: Out>(
         return Ok(());
     }
     put_heading(text, id, imports.len())?;
-    list_imports(alloc, imports, text, out)
+    list_imports(imports, text, out)
 }
 
 // The line of the code of a function, whose code has that length.
@@ -167,7 +166,7 @@ fn list_section<S: Shape, W: Out>(
     let imports = parts.imports.as_slice();
     match id {
         1 => list_group(alloc, id, &TypeRows, parts.types.as_slice(), text, out),
-        2 => list_import_group(alloc, id, imports, text, out),
+        2 => list_import_group(id, imports, text, out),
         3 => {
             let imported = count_of(Kind::Func, imports);
             list_group(
@@ -222,20 +221,19 @@ fn list_section<S: Shape, W: Out>(
 }
 
 // A custom section.
-fn put_custom(alloc: Global, text: &mut Vec<u8>, custom: &Custom) -> Result<(), OutOfMemory>
+fn put_custom(text: &mut Vec<u8>, custom: &Custom) -> Result<(), OutOfMemory>
     ensures { OnOk result (text.new.items ≡ text.old.items ++ custom_details custom.now) }
 {
     text.extend_from_slice(b"Custom:\n - custom ")?;
-    put_name(alloc, text, custom.name.as_str())?;
+    put_name(text, custom.name.as_str())?;
     text.extend_from_slice(b" bytes=")?;
-    put_hex(alloc, text, custom.bytes.as_slice())?;
+    put_hex(text, custom.bytes.as_slice())?;
     text.extend_from_slice(b"\n")?;
     Ok(())
 }
 
 // The custom sections of a place.
 fn list_customs<W: Out>(
-    alloc: Global,
     customs: &Items<Custom>,
     place: u8,
     text: &mut Vec<u8>,
@@ -248,7 +246,7 @@ fn list_customs<W: Out>(
 {
     for custom in customs.as_slice() {
         if custom.place == place {
-            put_custom(alloc, text, custom)?;
+            put_custom(text, custom)?;
             spill(text, out)?;
         }
     }
@@ -270,7 +268,7 @@ pub(crate) fn list_details<S: Shape, W: Out>(
     let parts = shape.parts();
     for id in 0..=LAST {
         list_section(alloc, shape, id, text, out)?;
-        list_customs(alloc, &parts.customs, id, text, out)?;
+        list_customs(&parts.customs, id, text, out)?;
     }
     Ok(())
 }

@@ -15,7 +15,6 @@ use crate::header::put_header;
 use crate::page::spill;
 use crate::shape::Shape;
 use crate::text::{put_name, put_number};
-use std::alloc::Global;
 use wk_bytes::{Out, OutOfMemory, leb_len_u32};
 use wk_module::{Custom, Parts};
 
@@ -108,27 +107,20 @@ pub(crate) fn section_end(parts: &Parts, id: u8, at: u32, size: u32) -> u32
 }
 
 // The line of a custom section that begins at an offset and has contents of that length.
-fn put_custom(
-    alloc: Global,
-    text: &mut Vec<u8>,
-    custom: &Custom,
-    at: u32,
-    size: u32,
-) -> Result<(), OutOfMemory>
+fn put_custom(text: &mut Vec<u8>, custom: &Custom, at: u32, size: u32) -> Result<(), OutOfMemory>
     requires fits { at + length (custom_frame custom.now) ≤ limit }
     requires size { size ≡ length (written_custom custom.now) }
     ensures { OnOk result (text.new.items ≡ text.old.items ++ custom_header at custom.now) }
 {
     put_header(text, CUSTOM, contents_start(at, size), size)?;
     text.extend_from_slice(b" name=")?;
-    put_name(alloc, text, custom.name.as_str())?;
+    put_name(text, custom.name.as_str())?;
     text.extend_from_slice(b"\n")?;
     Ok(())
 }
 
 // The lines of the custom sections of a place, the first of which begins at an offset. Answers where they end.
 fn list_customs<S: Shape, W: Out>(
-    alloc: Global,
     shape: &S,
     place: u8,
     at: u32,
@@ -146,7 +138,7 @@ fn list_customs<S: Shape, W: Out>(
     for (index, custom) in shape.parts().customs.as_slice().iter().enumerate() {
         if custom.place == place {
             let size = shape.custom_len(index);
-            put_custom(alloc, text, custom, next, size)?;
+            put_custom(text, custom, next, size)?;
             spill(text, out)?;
             next = contents_start(next, size) + size;
         }
@@ -156,7 +148,6 @@ fn list_customs<S: Shape, W: Out>(
 
 /// The lines of all sections.
 pub(crate) fn list_headers<S: Shape, W: Out>(
-    alloc: Global,
     shape: &S,
     text: &mut Vec<u8>,
     out: &mut W,
@@ -172,7 +163,7 @@ pub(crate) fn list_headers<S: Shape, W: Out>(
         let size = shape.section_len(id);
         put_section(text, parts, id, at, size)?;
         at = section_end(parts, id, at, size);
-        at = list_customs(alloc, shape, id, at, text, out)?;
+        at = list_customs(shape, id, at, text, out)?;
     }
     Ok(())
 }

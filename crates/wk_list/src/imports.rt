@@ -14,7 +14,6 @@ use crate::rows::{put_field, put_item, put_named};
 use crate::spaces::{Counts, kind_of};
 use crate::text::put_indexed;
 use crate::typetext::{kind_name, put_globaltype, put_limits};
-use std::alloc::Global;
 use wk_bytes::{Out, OutOfMemory};
 use wk_module::{Import, ImportDesc};
 
@@ -31,32 +30,21 @@ fn put_desc(text: &mut Vec<u8>, desc: &ImportDesc) -> Result<(), OutOfMemory>
 }
 
 // The import at an index, as far as its two names.
-fn put_head(
-    alloc: Global,
-    text: &mut Vec<u8>,
-    index: u64,
-    import: &Import,
-) -> Result<(), OutOfMemory>
+fn put_head(text: &mut Vec<u8>, index: u64, import: &Import) -> Result<(), OutOfMemory>
     ensures { OnOk result (text.new.items ≡ text.old.items ++ import_head index import.now) }
 {
     put_item(text, "import", index)?;
-    put_named(alloc, text, import.from.as_str())?;
-    put_named(alloc, text, import.name.as_str())?;
+    put_named(text, import.from.as_str())?;
+    put_named(text, import.name.as_str())?;
     text.extend_from_slice(b" ")?;
     Ok(())
 }
 
 // The line of the import at an index, which has an index of its own in the space of its kind.
-fn put_import(
-    alloc: Global,
-    text: &mut Vec<u8>,
-    index: u64,
-    own: u64,
-    import: &Import,
-) -> Result<(), OutOfMemory>
+fn put_import(text: &mut Vec<u8>, index: u64, own: u64, import: &Import) -> Result<(), OutOfMemory>
     ensures { (before : List Imported) → index ≡ length before → own ≡ count_of (desc_kind (import.now).desc) before → OnOk result (text.new.items ≡ text.old.items ++ import_line before import.now) }
 {
-    put_head(alloc, text, index, import)?;
+    put_head(text, index, import)?;
     put_indexed(text, kind_name(kind_of(&import.desc)), own)?;
     put_desc(text, &import.desc)?;
     text.extend_from_slice(b"\n")?;
@@ -65,7 +53,6 @@ fn put_import(
 
 /// The lines of all imports.
 pub(crate) fn list_imports<W: Out>(
-    alloc: Global,
     imports: &[Import],
     text: &mut Vec<u8>,
     out: &mut W,
@@ -79,7 +66,7 @@ pub(crate) fn list_imports<W: Out>(
     let mut counts = Counts::new();
     for (index, import) in imports.iter().enumerate() {
         let own = counts.take(&import.desc);
-        put_import(alloc, text, index as u64, own, import)?;
+        put_import(text, index as u64, own, import)?;
         spill(text, out)?;
     }
     Ok(())

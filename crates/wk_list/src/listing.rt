@@ -43,7 +43,7 @@ fn list_part<S: Shape, W: Out>(
     ensures failures { W.failed out.new ≡ failed_after (W.failed out.old) result }
 {
     match part {
-        Part::Headers => list_headers(alloc, shape, text, out),
+        Part::Headers => list_headers(shape, text, out),
         Part::Details => list_details(alloc, shape, text, out),
         Part::Code => list_code(shape, text, out),
         Part::Uses => list_uses(alloc, shape, text, out),

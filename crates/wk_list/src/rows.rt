@@ -27,11 +27,11 @@ pub(crate) fn put_field(text: &mut Vec<u8>, label: &str, n: u32) -> Result<(), O
 }
 
 /// A name after a space.
-pub(crate) fn put_named(alloc: Global, text: &mut Vec<u8>, name: &str) -> Result<(), OutOfMemory>
+pub(crate) fn put_named(text: &mut Vec<u8>, name: &str) -> Result<(), OutOfMemory>
     ensures { OnOk result (text.new.items ≡ text.old.items ++ named name.now) }
 {
     text.extend_from_slice(b" ")?;
-    put_name(alloc, text, name)
+    put_name(text, name)
 }
 
 // An expression behind its label, in its written form.
@@ -41,7 +41,7 @@ fn put_code(alloc: Global, text: &mut Vec<u8>, label: &str, expr: &Expr) -> Resu
     let mut bytes = Vec::new(alloc);
     append_expr(&mut bytes, expr)?;
     text.extend_from_slice(label.as_bytes())?;
-    put_hex(alloc, text, &bytes)
+    put_hex(text, &bytes)
 }
 
 /// Types.
@@ -200,13 +200,13 @@ impl Lines for ExportRows {
 
     fn put(
         &self,
-        alloc: Global,
+        _alloc: Global,
         text: &mut Vec<u8>,
         index: u32,
         export: &Export,
     ) -> Result<(), OutOfMemory> {
         put_item(text, "export", u64::from(index))?;
-        put_named(alloc, text, export.name.as_str())?;
+        put_named(text, export.name.as_str())?;
         text.extend_from_slice(b" ")?;
         text.extend_from_slice(kind_name(export.kind).as_bytes())?;
         put_spaced(text, export.index)?;
@@ -265,7 +265,7 @@ impl Lines for DataRows {
         put_field(text, " memory=", data.memory)?;
         put_code(alloc, text, " offset=", &data.offset)?;
         text.extend_from_slice(b" bytes=")?;
-        put_hex(alloc, text, data.bytes.as_slice())?;
+        put_hex(text, data.bytes.as_slice())?;
         text.extend_from_slice(b"\n")?;
         Ok(())
     }

@@ -1,45 +1,25 @@
 //! Pieces of text, each put behind what was gathered.
 
-ghost use Rattle.std.specs.Prelude.{◌≡◌, ◌<◌, ◌^◌, ◌++◌, codes, decimal, replicate, OnOk, OnErr};
+ghost use Rattle.std.specs.Prelude.{◌≡◌, ◌<◌, ◌^◌, ◌++◌, ◌≤◌, codes, decimal, length, replicate, OnOk, OnErr};
 ghost use Rattle.std.specs.Fmt.{signed_decimal};
 ghost use Rattle.std.specs.List.{flat_map};
 ghost use Rattle.hex.specs.Hex.{encode_lower};
-ghost use Rattle.wk_bytes.specs.HexDigits.{hex_digit, hex_digits};
+ghost use Rattle.wk_bytes.specs.HexDigits.{hex_digits};
 ghost use Rattle.wk_list.specs.Text.{all_visible, is_word, name_text, spaced, indexed};
 
+use crate::hexadecimal::{DIGITS, digits_of, eight};
 use itoa::Buffer;
-use std::alloc::Global;
 use wk_bytes::OutOfMemory;
 
 /// How many bytes become hexadecimal digits at once.
-const CHUNK: usize = 1 << 12;
-
-// The digit of a number below 16.
-#[inline(always)]
-fn digit(d: u32) -> u8
-    requires { d < 16 }
-    ensures { result ≡ hex_digit d }
-{
-    if d < 10 { 48 + d as u8 } else { 87 + d as u8 }
-}
+const CHUNK: usize = DIGITS / 2;
 
 /// A number in eight hexadecimal digits.
-#[tactic(auto, using(crate::proofs::Digits::eight))]
 pub(crate) fn put_hex8(text: &mut Vec<u8>, n: u32) -> Result<(), OutOfMemory>
     ensures ok { OnOk result (text.new.items ≡ text.old.items ++ hex_digits 8 n) }
     ensures err { OnErr result (text.new.items ≡ text.old.items) }
 {
-    let digits = [
-        digit(n / 0x1000_0000 % 16),
-        digit(n / 0x100_0000 % 16),
-        digit(n / 0x10_0000 % 16),
-        digit(n / 0x1_0000 % 16),
-        digit(n / 0x1000 % 16),
-        digit(n / 0x100 % 16),
-        digit(n / 0x10 % 16),
-        digit(n % 16),
-    ];
-    text.extend_from_slice(&digits)?;
+    text.extend_from_slice(&eight(n))?;
     Ok(())
 }
 
@@ -98,24 +78,26 @@ pub(crate) fn put_spaces(text: &mut Vec<u8>, count: usize) -> Result<(), OutOfMe
 }
 
 /// Bytes, each in two hexadecimal digits.
-pub(crate) fn put_hex(alloc: Global, text: &mut Vec<u8>, bytes: &[u8]) -> Result<(), OutOfMemory>
+pub(crate) fn put_hex(text: &mut Vec<u8>, bytes: &[u8]) -> Result<(), OutOfMemory>
     ensures { OnOk result (text.new.items ≡ text.old.items ++ encode_lower bytes.now) }
 {
     let mut rest = bytes;
     while rest.len() > CHUNK {
         let (chunk, after) = rest.split_at(CHUNK);
-        put_chunk(alloc, text, chunk)?;
+        put_chunk(text, chunk)?;
         rest = after;
     }
-    put_chunk(alloc, text, rest)
+    put_chunk(text, rest)
 }
 
 // A few bytes, each in two hexadecimal digits.
-fn put_chunk(alloc: Global, text: &mut Vec<u8>, bytes: &[u8]) -> Result<(), OutOfMemory>
+fn put_chunk(text: &mut Vec<u8>, bytes: &[u8]) -> Result<(), OutOfMemory>
+    requires { length bytes.now ≤ CHUNK }
     ensures { OnOk result (text.new.items ≡ text.old.items ++ encode_lower bytes.now) }
 {
-    let digits = hex::encode(alloc, bytes)?;
-    text.extend_from_slice(digits.as_bytes())?;
+    let mut digits = [0; DIGITS];
+    let end = digits_of(&mut digits, bytes);
+    text.extend_from_slice(&digits[..end])?;
     Ok(())
 }
 
@@ -148,7 +130,7 @@ fn is_plain(name: &[u8]) -> bool
 
 /// A name as it is, or `x:` and its bytes in hexadecimal digits.
 #[tactic(auto, unfolding(crate::specs::Text::name_text))]
-pub(crate) fn put_name(alloc: Global, text: &mut Vec<u8>, name: &str) -> Result<(), OutOfMemory>
+pub(crate) fn put_name(text: &mut Vec<u8>, name: &str) -> Result<(), OutOfMemory>
     ensures { OnOk result (text.new.items ≡ text.old.items ++ name_text name.now) }
 {
     let bytes = name.as_bytes();
@@ -157,7 +139,7 @@ pub(crate) fn put_name(alloc: Global, text: &mut Vec<u8>, name: &str) -> Result<
         return Ok(());
     }
     text.extend_from_slice(b"x:")?;
-    put_hex(alloc, text, bytes)
+    put_hex(text, bytes)
 }
 
 /// What has an index, as `func[1]`.
