@@ -86,6 +86,17 @@ pub const VALID_WITH_TYPE: &[u8] = b"\0asm\x01\0\0\0\
     \x0a\x0f\x01\x0d\x01\x01\x7e\x02\x40\x20\x00\x0d\x00\x0b\x42\x00\x0b\
     \x0b\x08\x01\x00\x41\x00\x0b\x02\xaa\xbb";
 
+/// A module of a memory that is exported twice, most of the section by a name of 60 bytes.
+pub const MOSTLY_ONE_NAME: &[u8] = b"\0asm\x01\0\0\0\
+    \x05\x03\x01\x00\x01\
+    \x07\x44\x02\x01m\x02\x00\
+    \x3cnnnnnnnnnnnnnnnnnnnnnnnnnnnnnnnnnnnnnnnnnnnnnnnnnnnnnnnnnnnn\x02\x00";
+
+/// The same without that name.
+pub const WITHOUT_LONG_NAME: &[u8] = b"\0asm\x01\0\0\0\
+    \x05\x03\x01\x00\x01\
+    \x07\x05\x01\x01m\x02\x00";
+
 /// A custom section `new` of the byte 9, which an edit puts behind all others.
 pub const NEW_CUSTOM: &[u8] = b"\x00\x05\x03new\x09";
 

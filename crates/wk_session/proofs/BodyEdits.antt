@@ -32,10 +32,9 @@ use Rattle.wk_session.specs.Dependents.{held, all_but, is_retyped_in, work_of}
 use Rattle.wk_session.specs.Edits.{entry_of, fitting, lasting, made, body_put}
 use Rattle.wk_session.specs.Functions.{IsPlanned, body_spelled}
 use Rattle.wk_session.specs.Kept.{IsKept, Leads, uses_of, standing}
-use Rattle.wk_session.specs.Overlays.{with_items}
-use Rattle.wk_session.specs.Pieces.{IsOverlong, code_of, codes_size, contents_of, entries_size, no_news, section_pieces}
+use Rattle.wk_session.specs.Pieces.{IsOverlong, code_of, codes_size, contents_of, entries_size, section_pieces}
 use Rattle.wk_session.specs.Refusals.{encode_refusal}
-use Rattle.wk_session.proofs.EntryEdits.{lent, lent_is, answers_in, answers_lent, none_of, unencoded}
+use Rattle.wk_session.proofs.EntryEdits.{lent, lent_is, none_of, unencoded}
 use Rattle.wk_session.proofs.Judging.{agree_none}
 use Rattle.wk_session.proofs.Leading.{accepted}
 use Rattle.wk_session.proofs.Piecing.{entries_codes}
@@ -77,20 +76,17 @@ answers_stay entry b m = ap (λ (ts : List ℕ). answer_in (spaces_of (listed_wi
 pub lent_given : (entry : ℕ) (b : BodyOf) (m : Parts) (types : List ℕ) (w : SectionLists) → w ≡ listed_with types m → types ≡ map (λ f. f.ty) m.funcs → w ≡ lent (with_body entry b m)
 lent_given entry b m types w is told = lent_is (with_body entry b m) types w is (told ∙ sym (types_given entry b m.funcs))
 
-pub verdicts_given : (entry : ℕ) (b : BodyOf) (m : Parts) (t : ℕ) (w : SectionLists) (old new : List BodyVerdict) (v : BodyVerdict) → w ≡ lent m → HasType m.funcs entry t
-    → old ≡ map (func_verdict (answers_of m)) m.funcs → v ≡ func_verdict (answers_in w) (record { ty = t; body = b }) → new ≡ slice_set old entry v
-    → new ≡ map (func_verdict (answers_of (with_body entry b m))) (with_body entry b m).funcs
-verdicts_given entry b m t w old new v is has told same set_there =
-    told_given (func_verdict (answers_of m)) entry b m.funcs t old new v has set_there told (same ∙ ap (λ (A : Ref → Found). func_verdict A (record { ty = t; body = b })) (answers_lent m w is))
-    ∙ ap (λ (A : Ref → Found). map (func_verdict A) (with_body entry b m).funcs) (sym (answers_stay entry b m))
+-- what is kept of the verdicts
+pub others_stay : (entry : ℕ) (b : BodyOf) (m : Parts) (vs : List BodyVerdict) → vs ≡ map (func_verdict (answers_of m)) m.funcs → vs ≡ map (func_verdict (answers_of (with_body entry b m))) m.funcs
+others_stay entry b m vs is =
+    is ∙ ap (λ (A : Ref → Found). map (func_verdict A) m.funcs) (sym (answers_stay entry b m))
 
 -- ---- sections and codes
 
 -- the sections stay
-pub body_sections : (entry : ℕ) (b : BodyOf) (m : Parts) (pieces : List (List ℕ)) → pieces ≡ section_pieces m → with_items pieces no_news ≡ section_pieces (with_body entry b m)
+pub body_sections : (entry : ℕ) (b : BodyOf) (m : Parts) (pieces : List (List ℕ)) → pieces ≡ section_pieces m → pieces ≡ section_pieces (with_body entry b m)
 body_sections entry b m pieces is =
-    ap (λ (ps : List (List ℕ)). with_items ps no_news) is
-    ∙ ap (λ (ts : List ℕ). contents_of (listed_with ts m)) (sym (types_given entry b m.funcs))
+    is ∙ ap (λ (ts : List ℕ). contents_of (listed_with ts m)) (sym (types_given entry b m.funcs))
 
 -- how long codes are where one is another
 pub entries_set : (codes : List (List ℕ)) (i : ℕ) (old new : List ℕ) → i < length codes → old ≡ get_or codes i old
@@ -148,9 +144,9 @@ told_set {C = C} f g xs ys i x y told same =
 
 -- what is kept of the module with another body
 module _ (keep : Bool) (entry : ℕ) (t : ℕ) (b : BodyOf) (m : Parts) (p : Entry) (k new : Kept) where
-  pub body_kept : HasType m.funcs entry t → IsPlanned keep t b (with_body entry b m) k.pieces.sections.items 0 p → IsKept m k → new.verdict ≡ p.appraisal.verdict → new.len ≡ p.appraisal.len
-      → new.types ≡ k.types → new.verdicts ≡ p.verdicts → new.refs.items ≡ slice_set k.refs.items entry p.uses
-      → new.pieces.sections.items ≡ with_items k.pieces.sections.items p.remade.sections.items → new.pieces.codes.items ≡ slice_set k.pieces.codes.items entry p.code
+  pub body_kept : HasType m.funcs entry t → IsPlanned keep t b (with_body entry b m) m.funcs k.verdicts.items 0 p → IsKept m k → new.verdict ≡ p.appraisal.verdict → new.len ≡ p.appraisal.len
+      → new.types ≡ k.types → new.verdicts.items ≡ map (func_verdict (answers_of (with_body entry b m))) (with_body entry b m).funcs → new.refs.items ≡ slice_set k.refs.items entry p.uses
+      → new.pieces.sections.items ≡ k.pieces.sections.items → new.pieces.codes.items ≡ slice_set k.pieces.codes.items entry p.code
       → new.pieces.codes_len ≡ p.codes_len → new.pieces.customs_len ≡ k.pieces.customs_len → IsKept (with_body entry b m) new
   body_kept has plan kept verdict len types verdicts refs sections codes codes_len customs_len =
       let f : Func = record { ty = t; body = b } in
@@ -158,12 +154,12 @@ module _ (keep : Bool) (entry : ℕ) (t : ℕ) (b : BodyOf) (m : Parts) (p : Ent
         verdict = verdict ∙ plan.verdict;
         len = plan.len ∙ ap Some (sym len);
         types = ap (λ v. v.items) types ∙ (kept.types ∙ sym (types_given entry b m.funcs));
-        verdicts = ap (λ v. v.items) verdicts ∙ plan.verdicts;
+        verdicts = verdicts;
         refs =
             ap (map (λ s. s.keys)) refs
             ∙ (told_set (λ s. s.keys) uses_of k.refs.items m.funcs entry p.uses f kept.refs plan.uses ∙ ap (map uses_of) (sym (given_set entry b m.funcs t has)));
         pieces = record {
-          sections = sections ∙ plan.sections;
+          sections = sections ∙ body_sections entry b m k.pieces.sections.items kept.pieces.sections;
           codes = told_given code_of entry b m.funcs t k.pieces.codes.items new.pieces.codes.items p.code has codes kept.pieces.codes plan.code;
           codes_len = codes_len ∙ plan.codes_len;
           customs_len = customs_len ∙ kept.pieces.customs_len;
@@ -171,8 +167,8 @@ module _ (keep : Bool) (entry : ℕ) (t : ℕ) (b : BodyOf) (m : Parts) (p : Ent
       }
 
   pub body_leads : (x : ℕ) (code : List ℕ) (fs : List Func) (typed encoded sections : ℕ) → entry_of x m ≡ Some entry → body_spelled m.profile code ≡ Ok b → HasType m.funcs entry t
-      → fs ≡ slice_set m.funcs entry (record { ty = t; body = b }) → IsPlanned keep t b (with_body entry b m) k.pieces.sections.items 0 p → IsKept (with_body entry b m) new
-      → typed ≡ 1 → encoded ≡ p.encoded → sections ≡ p.remade.made
+      → fs ≡ slice_set m.funcs entry (record { ty = t; body = b }) → IsPlanned keep t b (with_body entry b m) m.funcs k.verdicts.items 0 p → IsKept (with_body entry b m) new
+      → typed ≡ 1 → encoded ≡ p.encoded → sections ≡ p.sections
       → Leads keep (edits.Body x code) m (Ok (record { typed = typed; encoded = encoded; sections = sections })) (record m { funcs = fs }) new
   body_leads x code fs typed encoded sections is read has replaced plan kept once bodies made =
       let n = with_body entry b m in

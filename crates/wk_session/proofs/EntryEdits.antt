@@ -43,8 +43,7 @@ use Rattle.wk_session.specs.Dependents.{is_retyped_in, work_of}
 use Rattle.wk_session.specs.Edits.{fitting, lasting, made}
 use Rattle.wk_session.specs.Functions.{IsPlanned, body_spelled}
 use Rattle.wk_session.specs.Kept.{IsKept, Leads, uses_of, standing}
-use Rattle.wk_session.specs.Overlays.{with_items}
-use Rattle.wk_session.specs.Pieces.{ArePieces, IsOverlong, code_of, codes_size, entries_size, one_new, section_piece, section_pieces}
+use Rattle.wk_session.specs.Pieces.{ArePieces, IsOverlong, code_of, codes_size, entries_size, section_pieces}
 use Rattle.wk_session.specs.Refusals.{encode_refusal}
 use Rattle.wk_session.proofs.ItemLengths.{past_limit}
 use Rattle.wk_session.proofs.Leading.{accepted, too_large}
@@ -166,10 +165,6 @@ func_unencoded keep t b m e order over =
     let f : Func = record { ty = t; body = b } in
     unencoded keep (with_func t b m) (length m.funcs) f e order (omega (arith, length-append m.funcs (f ∷ []))) (at_end m.funcs f f) over
 
--- the sections, where the one of functions is made anew
-pub func_sections : (t : ℕ) (b : BodyOf) (m : Parts) (pieces : List (List ℕ)) → pieces ≡ section_pieces m → with_items pieces (one_new 3 (section_piece 3 (with_func t b m))) ≡ section_pieces (with_func t b m)
-func_sections t b m pieces is = ap (λ (ps : List (List ℕ)). with_items ps (one_new 3 (section_piece 3 (with_func t b m)))) is
-
 -- ---- what the edits come to
 
 pub made_func : (keep : Bool) (t : ℕ) (code : List ℕ) (m : Parts) (b : BodyOf) → body_spelled m.profile code ≡ Ok b → made keep (edits.Func t code) m ≡ standing keep (with_func t b m)
@@ -192,9 +187,9 @@ told_more {C = C} f g xs ys x y told same =
 
 -- what is kept of the module with a function more
 module _ (keep : Bool) (t : ℕ) (b : BodyOf) (m : Parts) (p : Entry) (k new : Kept) where
-  pub func_kept : IsPlanned keep t b (with_func t b m) k.pieces.sections.items 1 p → IsKept m k → new.verdict ≡ p.appraisal.verdict → new.len ≡ p.appraisal.len
-      → new.types.items ≡ k.types.items ++ t ∷ [] → new.verdicts ≡ p.verdicts → new.refs.items ≡ k.refs.items ++ p.uses ∷ []
-      → new.pieces.sections.items ≡ with_items k.pieces.sections.items p.remade.sections.items → new.pieces.codes.items ≡ k.pieces.codes.items ++ p.code ∷ []
+  pub func_kept : IsPlanned keep t b (with_func t b m) m.funcs k.verdicts.items 1 p → IsKept m k → new.verdict ≡ p.appraisal.verdict → new.len ≡ p.appraisal.len
+      → new.types.items ≡ k.types.items ++ t ∷ [] → new.verdicts.items ≡ map (func_verdict (answers_of (with_func t b m))) (with_func t b m).funcs → new.refs.items ≡ k.refs.items ++ p.uses ∷ []
+      → new.pieces.sections.items ≡ section_pieces (with_func t b m) → new.pieces.codes.items ≡ k.pieces.codes.items ++ p.code ∷ []
       → new.pieces.codes_len ≡ p.codes_len → new.pieces.customs_len ≡ k.pieces.customs_len → IsKept (with_func t b m) new
   func_kept plan kept verdict len types verdicts refs sections codes codes_len customs_len =
       let f : Func = record { ty = t; body = b } in
@@ -202,10 +197,10 @@ module _ (keep : Bool) (t : ℕ) (b : BodyOf) (m : Parts) (p : Entry) (k new : K
         verdict = verdict ∙ plan.verdict;
         len = plan.len ∙ ap Some (sym len);
         types = mapped_more (λ g. g.ty) m.funcs f k.types.items new.types.items t types kept.types refl;
-        verdicts = ap (λ v. v.items) verdicts ∙ plan.verdicts;
+        verdicts = verdicts;
         refs = ap (map (λ s. s.keys)) refs ∙ told_more (λ s. s.keys) uses_of k.refs.items m.funcs p.uses f kept.refs plan.uses;
         pieces = record {
-          sections = sections ∙ plan.sections;
+          sections = sections;
           codes = mapped_more code_of m.funcs f k.pieces.codes.items new.pieces.codes.items p.code codes kept.pieces.codes plan.code;
           codes_len = codes_len ∙ plan.codes_len;
           customs_len = customs_len ∙ kept.pieces.customs_len;
@@ -213,8 +208,8 @@ module _ (keep : Bool) (t : ℕ) (b : BodyOf) (m : Parts) (p : Entry) (k new : K
       }
 
   pub func_leads : (code : List ℕ) (after : Parts) (typed encoded sections : ℕ) → body_spelled m.profile code ≡ Ok b → after ≡ with_func t b m
-      → IsPlanned keep t b (with_func t b m) k.pieces.sections.items 1 p → IsKept (with_func t b m) new
-      → typed ≡ 1 + count_by (is_retyped_in (answers_of m) (answers_of (with_func t b m))) m.funcs → encoded ≡ p.encoded → sections ≡ p.remade.made
+      → IsPlanned keep t b (with_func t b m) m.funcs k.verdicts.items 1 p → IsKept (with_func t b m) new
+      → typed ≡ 1 + count_by (is_retyped_in (answers_of m) (answers_of (with_func t b m))) m.funcs → encoded ≡ p.encoded → sections ≡ p.sections
       → Leads keep (edits.Func t code) m (Ok (record { typed = typed; encoded = encoded; sections = sections })) after new
   func_leads code after typed encoded sections read pushed plan kept counted bodies made =
       let w : Work = record { typed = typed; encoded = encoded; sections = sections } in

@@ -41,7 +41,7 @@ pub record AreTold {A : Type 0} (written : A → List ℕ) (xs : List A) (x : A)
       → limited (kept - section_size contents + framed_size (size_with_item contents (length xs) item)) ≡ limited whole
 
 module _ {A : Type 0} (written : A → List ℕ) where
-  item_more : (xs : List A) (x : A) → length (list_contents written (xs ++ x ∷ [])) ≡ size_with_item (length (list_contents written xs)) (length xs) (length (written x))
+  pub item_more : (xs : List A) (x : A) → length (list_contents written (xs ++ x ∷ [])) ≡ size_with_item (length (list_contents written xs)) (length xs) (length (written x))
   item_more [] x =
       omega (arith, short-some 0, length-append (short 1) (written x ++ []), length-append (written x) [])
   item_more (y ∷ ys) x =

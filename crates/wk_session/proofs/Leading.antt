@@ -9,7 +9,6 @@ use Rattle.wk_module.specs.Shape.{settle, IsFormed, IsInOrderFrom}
 use Rattle.wk_module.specs.Writing.{encoded}
 use Rattle.wk_module.specs.WritingLaws.{length-encoded_settle}
 use Rattle.wk_check.specs.Answers.{Found}
-use Rattle.wk_session.specs.declared.appraisal.Appraisal.{Appraisal}
 use Rattle.wk_session.specs.declared.edit.Edit.{Edit}
 use Rattle.wk_session.specs.declared.edit.EditFault.{EditFault}
 use Rattle.wk_session.specs.declared.edit.EditFault.TheVariants.{TooLarge, Memory}
@@ -18,9 +17,9 @@ use Rattle.wk_session.specs.declared.edits.one_more.Judgement.{Judgement}
 use Rattle.wk_session.specs.declared.kept.Kept.{Kept}
 use Rattle.wk_session.specs.Dependents.{work_of}
 use Rattle.wk_session.specs.Edits.{fitting, lasting, made, is_decided}
-use Rattle.wk_session.specs.Judged.{AreKept, MayStay}
+use Rattle.wk_session.specs.Judged.{AreKept, IsUnchanged, MayStay}
 use Rattle.wk_session.specs.Kept.{IsKept, IsAppraised, Leads, standing}
-use Rattle.wk_session.specs.Overlays.{with_items}
+use Rattle.wk_session.specs.Pieces.{section_pieces}
 use Rattle.wk_session.proofs.Outcomes.{fitting-kept, fitting-none}
 
 -- ---- a refusal that an edit passes on
@@ -62,12 +61,29 @@ pub is_none_at : (o : Option ℕ) → is_some o ≡ false → o ≡ None
 is_none_at None h = refl
 is_none_at (Some len) h = absurd cc
 
+-- ---- what is kept of the same module
+
+pub kept_again : (m : Parts) (k new : Kept) → IsUnchanged k new → IsKept m k → IsKept m new
+kept_again m k new same kept = record {
+  verdict = ap (λ (x : Kept). x.verdict) same.others ∙ kept.verdict;
+  len = kept.len ∙ ap (λ (x : Kept). Some x.len) (sym same.others);
+  types = ap (λ (x : Kept). x.types.items) same.others ∙ kept.types;
+  verdicts = ap (λ (x : Kept). x.verdicts.items) same.others ∙ kept.verdicts;
+  refs = ap (λ (x : Kept). map (λ s. s.keys) x.refs.items) same.others ∙ kept.refs;
+  pieces = record {
+    sections = same.sections ∙ kept.pieces.sections;
+    codes = ap (λ (x : Kept). x.pieces.codes.items) same.others ∙ kept.pieces.codes;
+    codes_len = ap (λ (x : Kept). x.pieces.codes_len) same.others ∙ kept.pieces.codes_len;
+    customs_len = ap (λ (x : Kept). x.pieces.customs_len) same.others ∙ kept.pieces.customs_len;
+  };
+}
+
 -- ---- an acceptance
 
 -- a judgement of the new module comes to what is kept
 pub judged_kept : (keep : Bool) (before : Ref → Found) (n : Parts) (typed : ℕ) (k new : Kept) (j : Judgement) → AreKept before n k → MayStay keep before n k typed j
     → new ≡ record k { verdict = j.appraisal.verdict; len = j.appraisal.len; verdicts = unwrap_or j.verdicts k.verdicts; pieces = record k.pieces { sections = new.pieces.sections } }
-    → new.pieces.sections.items ≡ with_items k.pieces.sections.items j.remade.sections.items → IsKept n new
+    → new.pieces.sections.items ≡ section_pieces n → IsKept n new
 judged_kept keep before n typed k new j kept may is sections = record {
   verdict = ap (λ (x : Kept). x.verdict) is ∙ may.verdict;
   len = may.len ∙ ap (λ (x : Kept). Some x.len) (sym is);
@@ -75,7 +91,7 @@ judged_kept keep before n typed k new j kept may is sections = record {
   verdicts = ap (λ (x : Kept). x.verdicts.items) is ∙ may.verdicts;
   refs = ap (λ (x : Kept). map (λ s. s.keys) x.refs.items) is ∙ kept.refs;
   pieces = record {
-    sections = sections ∙ may.sections;
+    sections = sections;
     codes = ap (λ (x : Kept). x.pieces.codes.items) is ∙ kept.codes;
     codes_len = ap (λ (x : Kept). x.pieces.codes_len) is ∙ kept.codes_len;
     customs_len = ap (λ (x : Kept). x.pieces.customs_len) is ∙ kept.customs_len;

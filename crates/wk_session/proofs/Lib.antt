@@ -21,12 +21,14 @@ pub mod Lasting
 pub mod EntryEdits
 pub mod BodyEdits
 pub mod ItemLengths
+pub mod LongerLists
+pub mod Gaps
+pub mod ShorterLists
 pub mod LastItems
 pub mod Removals
 pub mod Shrinking
 pub mod Piecing
 pub mod Putting
-pub mod Exporting
 pub mod Shaping
 pub mod NewSections
 pub mod CodeLengths

@@ -1,15 +1,16 @@
 -- What an import moves of code entries.
-use Rattle.std.proofs.Common.{◌≡◌, ℕ, ◌+◌, ◌<◌, Bool, true, false, cond, ◌||◌, List, [], ◌∷◌, ◌++◌, length, map, take, get_or, count_by, Option, unwrap_or, Global, refl, ap, sym, subst, ◌∙◌, arith, length-append}
+use Rattle.std.proofs.Common.{◌≡◌, ℕ, ◌+◌, ◌<◌, Bool, true, false, cond, ◌||◌, List, [], ◌∷◌, ◌++◌, length, map, take, drop, get_or, count_by, Option, unwrap_or, Global, refl, ap, sym, subst, ◌∙◌, arith, length-append}
 use Rattle.std.specs.Prelude.{option_map}
 use Rattle.std.specs.declared.collections.BTreeSet.{BTreeSet}
 use Rattle.std.specs.List.{list_any}
-use Rattle.std.proofs.lemmas.List.{take_more, map_push, length-map}
+use Rattle.std.proofs.lemmas.List.{take_more, drop_more, map_push, length-map, length-take-le, get_or_at}
 use Rattle.std.proofs.lemmas.List.Sums.{sum_by-append}
+use Rattle.wk_body.specs.declared.moves.Moving.{Moving}
 use Rattle.wk_body.specs.declared.moves.Moving.TheVariants as moving
 use Rattle.wk_body.specs.declared.moves.Movement.{Movement}
 use Rattle.wk_body.specs.declared.references.Ref.{Ref}
 use Rattle.wk_body.specs.Moves.{MoveAlike}
-use Rattle.wk_body.specs.References.{refs_of, AreSame}
+use Rattle.wk_body.specs.References.{refs_of, any_stuck, AreSame}
 use Rattle.wk_module.specs.declared.types.Func.{Func}
 use Rattle.wk_module.specs.declared.types.Kind.{Kind}
 use Rattle.wk_module.specs.declared.types.Kind.TheVariants as kinds
@@ -36,6 +37,17 @@ uses_as_code alike kinds.Func from f keys e = alike moving.Func from keys (refs_
 uses_as_code alike kinds.Global from f keys e = alike moving.Global from keys (refs_of f.body.instrs) f.ty (subst (λ (ks : List Ref). AreSame ks (held f)) (sym e) (in_order_same (held f)))
 uses_as_code alike kinds.Table from f keys e = refl
 uses_as_code alike kinds.Memory from f keys e = refl
+
+-- nor is more of it stuck
+pub uses_free : MoveAlike → (kind : Moving) (from : ℕ) (f : Func) (keys : List Ref) → keys ≡ uses_of f → any_stuck kind from (refs_of f.body.instrs) ≡ false → any_stuck kind from keys ≡ false
+uses_free alike kind from f keys e free =
+    ap (λ (m : Movement). m.stuck) (alike kind from keys (refs_of f.body.instrs) f.ty (subst (λ (ks : List Ref). AreSame ks (held f)) (sym e) (in_order_same (held f)))) ∙ free
+
+-- the place that a loop over functions comes to is as it was
+pub next_func : (change : Func → Func) (fs now : List Func) (i : ℕ) (f : Func) → i < length fs → now ≡ map change (take i fs) ++ drop i fs → f ≡ get_or now i f → f ≡ get_or fs i f
+next_func change fs now i f lt is at =
+    at ∙ ap (λ (gs : List Func). get_or gs i f) (is ∙ ap (λ (gs : List Func). map change (take i fs) ++ gs) (drop_more fs i f lt))
+    ∙ get_or_at (map change (take i fs)) (get_or fs i f) (drop (i + 1) fs) f i (length-map (take i fs) change ∙ length-take-le i fs (omega (arith, lt)))
 
 module _ {A B C : Type 0} (f : A → C) (g : B → C) (p : C → Bool) (q : B → Bool) (same : (y : B) → p (g y) ≡ q y) where
   -- two lists of which the same is told, and a test that is told too
@@ -83,29 +95,22 @@ module _ (kind : Kind) (from : ℕ) where
   is_moving f = is_code_moving kind from f.body.instrs
 
   entries_push : (xs : List Func) (f : Func) (e n : MovedEntries) (m : MovedEntry)
-      → n.funcs.items ≡ e.funcs.items ++ m.func ∷ [] → n.refs.items ≡ e.refs.items ++ m.refs ∷ [] → n.codes.items ≡ e.codes.items ++ m.code ∷ []
+      → n.refs.items ≡ e.refs.items ++ m.refs ∷ [] → n.codes.items ≡ e.codes.items ++ m.code ∷ []
       → n.encoded ≡ e.encoded + one_if (is_moving f) → IsMovedEntry kind from f m → AreMovedEntries kind from xs e → AreMovedEntries kind from (xs ++ f ∷ []) n
-  entries_push xs f e n m funcs refs codes encoded is all = record {
-    funcs =
-        ap (with_items (xs ++ f ∷ [])) funcs
-        ∙ with_items_push xs e.funcs.items f m.func all.func_count
-        ∙ ap (λ (g : Func). with_items xs e.funcs.items ++ g ∷ []) is.func
-        ∙ ap (λ (gs : List Func). gs ++ shifted f ∷ []) all.funcs
-        ∙ sym (map_push shifted xs f);
+  entries_push xs f e n m refs codes encoded is all = record {
     refs =
         ap (λ (sets : List (Option (BTreeSet Ref Global))). with_items (map uses_of (xs ++ f ∷ [])) (map (option_map set_keys) sets)) refs
         ∙ ap (with_items (map uses_of (xs ++ f ∷ []))) (map_push (option_map set_keys) e.refs.items m.refs)
         ∙ part_push uses_of shifted xs f (map (option_map set_keys) e.refs.items) (option_map set_keys m.refs) (length-map e.refs.items (option_map set_keys) ∙ all.ref_count) is.refs all.refs;
     codes = ap (with_items (map code_of (xs ++ f ∷ []))) codes ∙ part_push code_of shifted xs f e.codes.items m.code all.code_count is.code all.codes;
     encoded = encoded ∙ ap (λ (k : ℕ). k + one_if (is_moving f)) all.encoded ∙ sym (count_push is_moving xs f);
-    func_count = omega (arith, all.func_count, ap length funcs, length-append e.funcs.items (m.func ∷ []), length-append xs (f ∷ []));
     ref_count = omega (arith, all.ref_count, ap length refs, length-append e.refs.items (m.refs ∷ []), length-append xs (f ∷ []));
     code_count = omega (arith, all.code_count, ap length codes, length-append e.codes.items (m.code ∷ []), length-append xs (f ∷ []));
   }
 
   pub entries_more : (fs : List Func) (i : ℕ) (f : Func) (e n : MovedEntries) (m : MovedEntry) → i < length fs → f ≡ get_or fs i f
-      → n.funcs.items ≡ e.funcs.items ++ m.func ∷ [] → n.refs.items ≡ e.refs.items ++ m.refs ∷ [] → n.codes.items ≡ e.codes.items ++ m.code ∷ []
+      → n.refs.items ≡ e.refs.items ++ m.refs ∷ [] → n.codes.items ≡ e.codes.items ++ m.code ∷ []
       → n.encoded ≡ e.encoded + one_if (is_moving f) → IsMovedEntry kind from f m → AreMovedEntries kind from (take i fs) e → AreMovedEntries kind from (take (i + 1) fs) n
-  entries_more fs i f e n m within at funcs refs codes encoded is all =
+  entries_more fs i f e n m within at refs codes encoded is all =
       let more : take (i + 1) fs ≡ take i fs ++ f ∷ [] = take_more fs i f within ∙ ap (λ (y : Func). take i fs ++ y ∷ []) (sym at) in
-      subst (λ (xs : List Func). AreMovedEntries kind from xs n) (sym more) (entries_push (take i fs) f e n m funcs refs codes encoded is all)
+      subst (λ (xs : List Func). AreMovedEntries kind from xs n) (sym more) (entries_push (take i fs) f e n m refs codes encoded is all)

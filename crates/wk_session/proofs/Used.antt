@@ -1,5 +1,5 @@
 -- The sets of references, by their code entries.
-use Rattle.std.proofs.Common.{◌≡◌, ℕ, Result, Ok, Err, Option, Some, None, List, ◌∷◌, length, map, refl, sym, ap, ◌∙◌, Bor}
+use Rattle.std.proofs.Common.{◌≡◌, ℕ, Result, Ok, Err, Option, Some, None, List, ◌∷◌, length, map, refl, sym, ap, subst, ◌∙◌, Bor}
 use Rattle.std.specs.BTreeSet.{BTreeSet}
 use Rattle.std.specs.Prelude.{option_map, slice_get, IfOk}
 use Rattle.std.specs.Slice.{IsItemAt}
@@ -10,7 +10,12 @@ use Rattle.wk_body.specs.Bodies.{BodyOf}
 use Rattle.wk_body.specs.References.{AreRising, AreSame, refs_of}
 use Rattle.wk_module.specs.declared.types.Func.{Func}
 use Rattle.wk_list.specs.Uses.{in_order}
-use Rattle.wk_list.specs.UsesLaws.{in_order_is}
+use Rattle.wk_body.specs.declared.moves.Moving.{Moving}
+use Rattle.wk_body.specs.References.{shift_instrs}
+use Rattle.wk_body.specs.Tree.{Instrs}
+use Rattle.wk_list.specs.UsesLaws.{in_order_is, in_order_same}
+use Rattle.wk_session.specs.Dependents.{held}
+use Rattle.wk_session.specs.MovedEntries.{shifted_func}
 use Rattle.wk_session.specs.Kept.{uses_of}
 
 read_at : {X : Type 0} (xs : List X) (i : ℕ) (r : Option (Bor X)) → IsItemAt xs i r → slice_get xs i ≡ option_map (λ b. b.now) r
@@ -36,3 +41,12 @@ pub uses_in_order : {E : Type 0} (r : Result (BTreeSet Ref) E) (own_type : ℕ) 
     → IfOk r (λ s. (f : Func) → f.ty ≡ own_type → f.body ≡ b → s.keys ≡ uses_of f)
 uses_in_order r own_type b =
     both_ok r (λ s rising same f ty body. in_order_is s.keys (refs.Ty own_type ∷ refs_of b.instrs) rising same ∙ sym (ap (λ (t : ℕ). in_order (refs.Ty t ∷ refs_of f.body.instrs)) ty ∙ ap (λ (c : BodyOf). in_order (refs.Ty own_type ∷ refs_of c.instrs)) body))
+
+-- so is one of what it refers to after its body moved, by what it refers to before
+pub moved_in_order : {E : Type 0} (r : Result (BTreeSet Ref) E) (kind : Moving) (from : ℕ) (before : List Ref) → IfOk r (λ s. AreRising s.keys)
+    → IfOk r (λ s. (own_type : ℕ) (t : Instrs) → AreSame before (refs.Ty own_type ∷ refs_of t) → AreSame s.keys (refs.Ty own_type ∷ refs_of (shift_instrs kind from t)))
+    → IfOk r (λ s. (f : Func) → before ≡ uses_of f → s.keys ≡ uses_of (shifted_func kind from f))
+moved_in_order r kind from before =
+    both_ok r (λ s rising same f e.
+    let was : AreSame before (held f) = subst (λ (ks : List Ref). AreSame ks (held f)) (sym e) (in_order_same (held f)) in
+    in_order_is s.keys (held (shifted_func kind from f)) rising (same f.ty f.body.instrs was))

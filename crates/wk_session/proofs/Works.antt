@@ -37,6 +37,10 @@ work_is e m n typed encoded sections is_typed is_encoded is_sections =
     ∙ ap (λ (c : ℕ). let w : Work = record { typed = given e + count_by (is_retyped e m n) (left e m); encoded = c; sections = sections } in w) is_encoded
     ∙ ap (λ (s : ℕ). let w : Work = record { typed = given e + count_by (is_retyped e m n) (left e m); encoded = given e + count_by (is_reencoded e m) (left e m); sections = s } in w) is_sections
 
+-- the work of an edit by which that many sections are made anew
+abbrev pub one_section : ℕ → Work
+one_section made = record { typed = 0; encoded = 0; sections = made }
+
 -- edits of the exports, which no reference sees
 pub export_work : (x : Export) (m n : Parts) → ((r : Ref) → answers_of n r ≡ answers_of m r) → record { typed = 0; encoded = 0; sections = 1 } ≡ work_of (edits.Export x) m n
 export_work x m n same =

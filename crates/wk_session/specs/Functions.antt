@@ -5,18 +5,22 @@ use Rattle.wk_body.specs.Bodies.{BodyOf}
 use Rattle.wk_body.specs.Lengths.{limited}
 use Rattle.wk_body.specs.Reading.{all_body_at, whole_at}
 use Rattle.wk_body.specs.Written.{written_body}
+use Rattle.wk_module.specs.declared.types.Func.{Func}
 use Rattle.wk_module.specs.declared.types.Parts.{Parts}
 use Rattle.wk_module.specs.Shape.{IsFormed, settle}
 use Rattle.wk_module.specs.Writing.{encoded}
+use Rattle.wk_check.specs.declared.fault.BodyVerdict.{BodyVerdict}
 use Rattle.wk_check.specs.SpacesLaws.{answers_of}
+use Rattle.wk_check.specs.Typing.{body_verdict}
 use Rattle.wk_check.specs.Verdict.{func_verdict, module_verdict}
 use Rattle.wk_session.specs.declared.edit.EditFault.{EditFault}
 use Rattle.wk_session.specs.declared.edits.entry.Entry.{Entry}
+use Rattle.wk_session.specs.declared.edits.entry.Verdicts.{Verdicts}
+use Rattle.wk_session.specs.declared.edits.entry.Verdicts.TheVariants as entries
 use Rattle.wk_session.specs.declared.kept.Kept.{Kept}
 use Rattle.wk_session.specs.Edits.{from_bytes}
 use Rattle.wk_session.specs.Kept.{uses_of, standing}
-use Rattle.wk_session.specs.Overlays.{with_items}
-use Rattle.wk_session.specs.Pieces.{ArePieces, codes_size, section_pieces}
+use Rattle.wk_session.specs.Pieces.{ArePieces, codes_size}
 
 -- the body that the bytes of an edit spell, or the first fault in them
 abbrev pub body_spelled : Profile → List ℕ → Result BodyOf EditFault
@@ -31,18 +35,22 @@ pub record IsKeptWithType (t : ℕ) (m : Parts) (k : Kept) : Type 0 where
   pub refs : map (λ s. s.keys) k.refs.items ≡ map uses_of m.funcs
   pub pieces : ArePieces m k.pieces
 
--- n may stay, and this is to be kept of it, where a code entry with that type and body comes or changes: so many sections are made anew
--- in the place of those that are kept
-pub record IsPlanned (keep : Bool) (t : ℕ) (b : BodyOf) (n : Parts) (sections_kept : List (List ℕ)) (sections_made : ℕ) (p : Entry) : Type 0 where
+-- The verdicts of the bodies of n, which has a code entry with that type and body where fs are functions that have kept verdicts: that of
+-- the entry, where those of fs are the kept ones; or all.
+abbrev pub AreVerdicts : ℕ → BodyOf → Parts → List Func → List BodyVerdict → Verdicts → Type 0
+AreVerdicts t b n fs kept (entries.Own v) = (v ≡ body_verdict (answers_of n) t b) × (kept ≡ map (func_verdict (answers_of n)) fs)
+AreVerdicts t b n fs kept (entries.All vs) = vs.items ≡ map (func_verdict (answers_of n)) n.funcs
+
+-- n may stay, and this is to be kept of it, but for its sections, where a code entry with that type and body comes to fs or changes among
+-- them: so many sections are made anew
+pub record IsPlanned (keep : Bool) (t : ℕ) (b : BodyOf) (n : Parts) (fs : List Func) (verdicts_kept : List BodyVerdict) (sections_made : ℕ) (p : Entry) : Type 0 where
   pub stands : standing keep n ≡ Ok (settle n)
   pub formed : IsFormed n
   pub verdict : p.appraisal.verdict ≡ module_verdict n
   pub len : limited (length (encoded n)) ≡ Some p.appraisal.len
   pub uses : p.uses.keys ≡ uses_of (record { ty = t; body = b })
-  pub verdicts : p.verdicts.items ≡ map (func_verdict (answers_of n)) n.funcs
+  pub verdicts : AreVerdicts t b n fs verdicts_kept p.verdicts
   pub code : p.code ≡ written_body b
   pub codes_len : p.codes_len ≡ codes_size n.funcs
   pub encoded : p.encoded ≡ 1
-  pub sections : with_items sections_kept p.remade.sections.items ≡ section_pieces n
-  pub count : length p.remade.sections.items ≡ length sections_kept
-  pub made : p.remade.made ≡ sections_made
+  pub made : p.sections ≡ sections_made

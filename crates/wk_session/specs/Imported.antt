@@ -1,6 +1,5 @@
 -- A module with an import more, and what is planned before it stands.
-use Rattle.std.specs.Prelude.{◌≡◌, ◌≢◌, ◌⊎◌, ◌+◌, ◌-◌, ℕ, Bool, true, false, if◌then◌else◌, Option, Some, None, List, [], ◌∷◌, is_some, length, take, map, count_by, set, unwrap_or, Ok, Err}
-use Rattle.std.specs.List.{list_any}
+use Rattle.std.specs.Prelude.{◌≡◌, ◌≢◌, ◌+◌, ◌-◌, ℕ, Bool, true, false, if◌then◌else◌, Option, Some, None, List, [], ◌∷◌, is_some, length, take, map, count_by, set, unwrap_or, Ok, Err}
 use Rattle.wk_body.specs.Lengths.{limited}
 use Rattle.wk_module.specs.declared.types.Import.{Import}
 use Rattle.wk_module.specs.declared.types.Kind.{Kind}
@@ -15,7 +14,7 @@ use Rattle.wk_module.specs.Writing.{contents_by, encoded}
 use Rattle.wk_check.specs.SpacesLaws.{answers_of}
 use Rattle.wk_check.specs.Verdict.{func_verdict, module_verdict}
 use Rattle.wk_session.specs.declared.edit.EditFault.{EditFault}
-use Rattle.wk_session.specs.declared.edit.EditFault.TheVariants.{IndexOverflow, TooLarge, Memory}
+use Rattle.wk_session.specs.declared.edit.EditFault.TheVariants.{IndexOverflow, Memory}
 use Rattle.wk_session.specs.declared.edits.import.ImportPlan.{ImportPlan}
 use Rattle.wk_session.specs.declared.edits.import.Judgement.{Judgement}
 use Rattle.wk_session.specs.declared.kept.Kept.{Kept}
@@ -26,7 +25,7 @@ use Rattle.wk_session.specs.Dependents.{one_if, is_retyped, sections_moving}
 use Rattle.wk_session.specs.Kept.{IsKept, standing}
 use Rattle.wk_session.specs.Overlays.{with_items}
 use Rattle.wk_session.specs.Pieces.{codes_size, section_pieces}
-use Rattle.wk_session.specs.MovedEntries.{AreMovedEntries, is_too_long}
+use Rattle.wk_session.specs.MovedEntries.{AreMovedEntries}
 
 -- the module with the import, and with each reference moved that it moves; its customs are not settled
 abbrev pub after_import : Import → Parts → Parts
@@ -36,18 +35,15 @@ after_import i m = with_import i (moved_parts (desc_kind i.desc) (import_place i
 abbrev pub before_import : Parts → Parts
 before_import p = record p { imports = take (length p.imports - 1) p.imports }
 
--- what an import of the kind at the index `from` makes of the lists and the code entries of a module
+-- what an import of the kind at the index `from` makes of the lists of a module, and of what is kept of its code entries
 pub record IsImportPlan (kind : Kind) (from : ℕ) (m : Parts) (plan : ImportPlan) : Type 0 where
   pub free : are_parts_stuck kind from m ≡ false
   pub lists : plan.lists ≡ moved_lists kind from m
   pub entries : AreMovedEntries kind from m.funcs plan.entries
 
--- why there is no such plan: a reference can't move, or a code gets too long; or memory was wanted
+-- why there is no such plan: a reference can't move; or memory was wanted
 abbrev pub IsUnplanned : Kind → ℕ → Parts → EditFault → Type 0
-IsUnplanned kind from m e =
-    e ≢ Memory
-    → ((e ≡ IndexOverflow) × (are_parts_stuck kind from m ≡ true))
-    ⊎ ((e ≡ TooLarge) × (are_parts_stuck kind from m ≡ false) × (list_any (is_too_long kind from) m.funcs ≡ true))
+IsUnplanned kind from m e = e ≢ Memory → (e ≡ IndexOverflow) × (are_parts_stuck kind from m ≡ true)
 
 -- The import is pushed on m, all else that it changes is planned, and beside it stands what is kept of m.
 pub record IsReady (i : Import) (m p : Parts) (k : Kept) (all : ImportPlan) : Type 0 where

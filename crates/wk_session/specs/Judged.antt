@@ -13,9 +13,8 @@ use Rattle.wk_session.specs.declared.edit.EditFault.{EditFault}
 use Rattle.wk_session.specs.declared.edits.one_more.Judgement.{Judgement}
 use Rattle.wk_session.specs.declared.kept.Kept.{Kept}
 use Rattle.wk_session.specs.Dependents.{is_retyped_in}
-use Rattle.wk_session.specs.Kept.{uses_of, standing, IsAppraised}
-use Rattle.wk_session.specs.Overlays.{with_items}
-use Rattle.wk_session.specs.Pieces.{code_of, codes_size, customs_size, section_pieces}
+use Rattle.wk_session.specs.Kept.{uses_of, standing, IsAppraised, IsKept}
+use Rattle.wk_session.specs.Pieces.{code_of, codes_size, customs_size}
 
 -- Each part that is kept of functions is that of the functions of n, and the verdicts are those by what references found before.
 pub record AreKept (before : Ref → Found) (n : Parts) (k : Kept) : Type 0 where
@@ -33,19 +32,26 @@ pub record IsKnown (before : Ref → Found) (n : Parts) (v : Verdict) : Type 0 w
   pub verdicts : map (func_verdict before) n.funcs ≡ map (func_verdict (answers_of n)) n.funcs
   pub typed : 0 ≡ count_by (is_retyped_in before (answers_of n)) n.funcs
 
--- n may stay, and that is to be kept of it in the place of what is kept; one section was made anew, and so many bodies were typed: those
--- that find another thing than before. Where no verdicts of bodies stand, those that are kept stay.
+-- n may stay, and that is to be kept of it in the place of what is kept, but for its sections; so many bodies were typed: those that find
+-- another thing than before. Where no verdicts of bodies stand, those that are kept stay.
 pub record MayStay (keep : Bool) (before : Ref → Found) (n : Parts) (k : Kept) (typed : ℕ) (j : Judgement) : Type 0 where
   pub stands : standing keep n ≡ Ok (settle n)
   pub verdict : j.appraisal.verdict ≡ module_verdict n
   pub len : limited (length (encoded n)) ≡ Some j.appraisal.len
   pub verdicts : (unwrap_or j.verdicts k.verdicts).items ≡ map (func_verdict (answers_of n)) n.funcs
-  pub sections : with_items k.pieces.sections.items j.remade.sections.items ≡ section_pieces n
-  pub count : length j.remade.sections.items ≡ length k.pieces.sections.items
-  pub made : j.remade.made ≡ 1
   pub typed_are : typed ≡ count_by (is_retyped_in before (answers_of n)) n.funcs
 
 -- that, or why the edit that makes n is refused, unless memory was wanted
 abbrev pub IsJudged : Bool → (Ref → Found) → Parts → Kept → ℕ → Result Judgement EditFault → Type 0
 IsJudged keep before n k typed (Ok j) = MayStay keep before n k typed j
 IsJudged keep before n k typed (Err e) = IsAppraised keep n (Err e)
+
+-- the same is kept: the contents of sections may have got more room
+pub record IsUnchanged (k new : Kept) : Type 0 where
+  pub others : new ≡ record k { pieces = record k.pieces { sections = new.pieces.sections } }
+  pub sections : new.pieces.sections.items ≡ k.pieces.sections.items
+
+-- n stays and new is kept of it, where so many bodies were typed and sections made anew; or that, and what was kept is as it was
+abbrev pub IsGrown : Bool → (Ref → Found) → Parts → ℕ → ℕ → Kept → Kept → Result ℕ EditFault → Type 0
+IsGrown keep before n typed made k new (Ok sections) = (standing keep n ≡ Ok (settle n)) × IsKept n new × (typed ≡ count_by (is_retyped_in before (answers_of n)) n.funcs) × (sections ≡ made)
+IsGrown keep before n typed made k new (Err e) = IsAppraised keep n (Err e) × IsUnchanged k new

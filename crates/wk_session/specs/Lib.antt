@@ -17,4 +17,5 @@ pub mod ItemSizes
 pub mod Judged
 pub mod Customs
 pub mod Refusals
-pub mod Exported
+pub mod Longer
+pub mod Shorter

@@ -1,16 +1,15 @@
 -- Code entries of which an import moves references, and what is kept of them.
-use Rattle.std.specs.Prelude.{◌≡◌, ◌≢◌, ℕ, Bool, true, false, nat_lt, List, length, map, count_by, unwrap_or, option_map}
-use Rattle.wk_bytes.specs.Frames.{limit}
+use Rattle.std.specs.Prelude.{◌≡◌, ℕ, false, List, length, map, count_by, unwrap_or, option_map}
+use Rattle.wk_body.specs.declared.moves.Moving.{Moving}
 use Rattle.wk_body.specs.declared.moves.Moving.TheVariants as moving
 use Rattle.wk_body.specs.declared.moves.Movement.{Movement}
 use Rattle.wk_body.specs.declared.references.Ref.{Ref}
 use Rattle.wk_body.specs.Moves.{movement_of}
+use Rattle.wk_body.specs.References.{shift_body}
 use Rattle.wk_module.specs.declared.types.Kind.{Kind}
 use Rattle.wk_module.specs.declared.types.Kind.TheVariants.{Func, Global}
 use Rattle.wk_module.specs.declared.types.Func.{Func as FuncOf}
 use Rattle.wk_module.specs.Moving.{moved_func, is_code_moving}
-use Rattle.wk_session.specs.declared.edit.EditFault.{EditFault}
-use Rattle.wk_session.specs.declared.edit.EditFault.TheVariants.{TooLarge, Memory}
 use Rattle.wk_session.specs.declared.edits.moved.MovedEntry.{MovedEntry}
 use Rattle.wk_session.specs.declared.edits.moved.MovedEntries.{MovedEntries}
 use Rattle.wk_session.specs.Kept.{uses_of}
@@ -23,26 +22,19 @@ uses_movement Func from keys = movement_of moving.Func from keys
 uses_movement Global from keys = movement_of moving.Global from keys
 uses_movement _ from keys = record { moves = false; stuck = false }
 
--- whether the code of a function, moved, is longer than a module may be
-abbrev pub is_too_long : Kind → ℕ → FuncOf → Bool
-is_too_long kind from f = nat_lt limit (length (code_of (moved_func kind from f)))
+-- a function whose body moved by references of the kind
+abbrev pub shifted_func : Moving → ℕ → FuncOf → FuncOf
+shifted_func kind from f = record f { body = shift_body kind from f.body }
 
--- what the import makes of one entry: nothing stands in a place where nothing moves
+-- what is kept of one entry after the import: nothing stands in a place where nothing moves
 pub record IsMovedEntry (kind : Kind) (from : ℕ) (f : FuncOf) (e : MovedEntry) : Type 0 where
-  pub func : unwrap_or e.func f ≡ moved_func kind from f
   pub refs : unwrap_or (option_map (λ s. s.keys) e.refs) (uses_of f) ≡ uses_of (moved_func kind from f)
   pub code : unwrap_or e.code (code_of f) ≡ code_of (moved_func kind from f)
 
--- what it makes of all
+-- what is kept of all
 pub record AreMovedEntries (kind : Kind) (from : ℕ) (fs : List FuncOf) (e : MovedEntries) : Type 0 where
-  pub funcs : with_items fs e.funcs.items ≡ map (moved_func kind from) fs
   pub refs : with_items (map uses_of fs) (map (option_map (λ s. s.keys)) e.refs.items) ≡ map uses_of (map (moved_func kind from) fs)
   pub codes : with_items (map code_of fs) e.codes.items ≡ map code_of (map (moved_func kind from) fs)
   pub encoded : e.encoded ≡ count_by (λ f. is_code_moving kind from f.body.instrs) fs
-  pub func_count : length e.funcs.items ≡ length fs
   pub ref_count : length e.refs.items ≡ length fs
   pub code_count : length e.codes.items ≡ length fs
-
--- a refusal on the way: one is too long, or memory was wanted
-abbrev pub IsTooLong : Bool → EditFault → Type 0
-IsTooLong long e = e ≢ Memory → (e ≡ TooLarge) × (long ≡ true)

@@ -1,6 +1,6 @@
 //! How long a module gets, by how long its pieces are. Nothing here takes memory.
 
-ghost use Rattle.std.specs.Prelude.{◌≡◌, ◌+◌, ◌<◌, ◌^◌, ◌==◌, if◌then◌else◌, ℕ, Some, length, map, slice_get, option_map};
+ghost use Rattle.std.specs.Prelude.{◌≡◌, ◌+◌, ◌<◌, ◌^◌, ◌==◌, if◌then◌else◌, ℕ, List, Some, length, map, set, slice_get, option_map};
 ghost use Rattle.wk_bytes.specs.Short.{short};
 ghost use Rattle.wk_body.specs.Lengths.{limited, GrowsBy};
 ghost use Rattle.wk_module.specs.declared.types.Parts.{Parts as PartsOf};
@@ -146,6 +146,60 @@ pub(crate) fn len_after(
         → result ≡ limited (length (encoded n)) }
 {
     let mut sizes = sizes_after(sections, news);
+    sizes[CODES as usize] = code_contents(count, codes);
+    whole_len(&sizes, customs as usize)
+}
+
+// How many bytes the contents of each section have, by their ids.
+fn sizes_of(sections: &Vec<Items<u8>>) -> [usize; 12]
+    requires { length sections.now.items ≡ 12 }
+    ensures { result ≡ map length sections.now.items }
+{
+    let mut sizes = [0; SECTIONS];
+    for id in 0..SECTIONS {
+        sizes[id] = sections[id].len();
+    }
+    sizes
+}
+
+/// The length of a module, as [`len_after`], where one section alone is another, whose contents have that many bytes. It takes no memory.
+pub(crate) fn len_with(
+    sections: &Vec<Items<u8>>,
+    id: usize,
+    size: usize,
+    count: usize,
+    codes: u32,
+    customs: u32,
+) -> Option<u32>
+    requires sections { length sections.now.items ≡ 12 }
+    requires id { id < 12 }
+    requires count { count < 2 ^ 32 }
+    ensures { (n : PartsOf) → IsInOrderFrom 0 n.customs
+        → (bytes : List ℕ) → size ≡ length bytes → set sections.now.items id bytes ≡ section_pieces n
+        → count ≡ length n.funcs → codes ≡ codes_size n.funcs → customs ≡ customs_size n.customs
+        → result ≡ limited (length (encoded n)) }
+{
+    let mut sizes = sizes_of(sections);
+    sizes[id] = size;
+    sizes[CODES as usize] = code_contents(count, codes);
+    whole_len(&sizes, customs as usize)
+}
+
+/// The length of a module, as [`len_with`], whose sections are these. It takes no memory.
+pub(crate) fn len_of(
+    sections: &Vec<Items<u8>>,
+    count: usize,
+    codes: u32,
+    customs: u32,
+) -> Option<u32>
+    requires sections { length sections.now.items ≡ 12 }
+    requires count { count < 2 ^ 32 }
+    ensures { (n : PartsOf) → IsInOrderFrom 0 n.customs
+        → sections.now.items ≡ section_pieces n
+        → count ≡ length n.funcs → codes ≡ codes_size n.funcs → customs ≡ customs_size n.customs
+        → result ≡ limited (length (encoded n)) }
+{
+    let mut sizes = sizes_of(sections);
     sizes[CODES as usize] = code_contents(count, codes);
     whole_len(&sizes, customs as usize)
 }

@@ -31,10 +31,11 @@
 //! read of them, and a set of some 200 bytes for each function.
 //!
 //! What grows with a session that is kept open is the module, and with it what is kept: an edit leaves nothing behind, but for the room
-//! of a list that got shorter, which later items fill. Appending to a list of a valid module costs the bytes of its section, an export
-//! also one look at each name; a function or another body costs its code, one look at the imports and a copy of the list of verdicts;
-//! an import, one look at what each function refers to, and the bodies that move. An edit of an invalid module judges the sections
-//! anew, and types the invalid bodies that find another thing. A custom section costs its own bytes, and a verdict, a length and what a
+//! of a list that got shorter, which later items fill, and room ahead of one that grew, at most as much again. Appending to a list of a valid module costs the bytes of the item, an export also
+//! one look at each name: they come behind those that are kept of the section, where only the count in front is written over. Taking an
+//! export out moves the bytes behind it. A function or another body costs its code and one look at the imports; an import, one look at what
+//! each function refers to, and the bodies that move. An edit of an invalid module judges the sections anew, looks at the verdicts of all
+//! bodies, and types the invalid ones that find another thing. A custom section costs its own bytes, and a verdict, a length and what a
 //! function refers to cost nothing: they are looked up.
 #![tactic(auto)]
 
@@ -46,9 +47,11 @@ mod judged;
 mod kept;
 mod laws;
 mod lengths;
+mod longer;
 mod overlay;
 mod pieces;
 mod session;
+mod shorter;
 mod write;
 mod written;
 

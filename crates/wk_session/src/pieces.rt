@@ -53,6 +53,7 @@ pub(crate) fn remade(
     ensures contents { MatchResult result
         (λ c. c ≡ contents_by (listed lists.now) (of_number id))
         (IsOverlong (contents_by (listed lists.now) (of_number id))) }
+    ensures few { IfOk result (λ c. length c ≤ limit) }
     ensures made { made.new ≡ made.old + 1 }
 {
     *made += 1;
@@ -61,7 +62,7 @@ pub(crate) fn remade(
 }
 
 /// Makes the code of a body, without its size, and counts it: a copy of the bytes that spell it, where they are its written form. No
-/// other function of this crate but [`code_in_room`] encodes bodies.
+/// other function of this crate but [`code_in_room`] and `shifted_code` encodes bodies.
 pub(crate) fn encoded_body(
     alloc: Global,
     body: &Body,

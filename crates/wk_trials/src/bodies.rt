@@ -8,7 +8,8 @@ use std::alloc::{AllocError, Global};
 use std::collections::BTreeSet;
 use wk_body::{
     Body, EncodeFault, LocalGroup, Moving, Profile, Ref, Scratch, ShiftFault, TokenReader,
-    append_body, code_bytes, encode_body, next_groups, read_body, read_body_in, refs, shift, uses,
+    append_body, append_shifted, code_bytes, encode_body, expr_movement, moving_of_code,
+    next_groups, read_body, read_body_in, refs, shift, shift_uses, uses,
 };
 use wk_bytes::{Cursor, LIMIT, OutOfMemory, ReadFault, ReadKind};
 use wk_samples::bodies::{
@@ -21,6 +22,9 @@ pub(crate) const NO_MEMORY: ReadFault = ReadFault {
     kind: ReadKind::Memory,
     at: 0,
 };
+
+// The index of the type of a function with such a code.
+const OWN_TYPE: u32 = 4;
 
 /// The code of a function in a profile, and what its calls give.
 #[derive(Clone, Copy)]
@@ -110,6 +114,16 @@ fn are_refs(found: &BTreeSet<Ref>, wanted: &[Ref]) -> bool {
         }
     }
     found.len() == wanted.len()
+}
+
+// Whether they are the same references.
+fn are_alike(left: &BTreeSet<Ref>, right: &BTreeSet<Ref>) -> bool {
+    for reference in left {
+        if !right.contains(reference) {
+            return false;
+        }
+    }
+    left.len() == right.len()
 }
 
 /// A call that reads a code.
@@ -236,6 +250,10 @@ pub(crate) enum OfBody {
     Append,
     /// `shift` of functions.
     Shift,
+    /// `append_shifted` of functions.
+    AppendShifted,
+    /// `shift_uses` of functions.
+    ShiftUses,
     /// `Body::clone`.
     Clone,
     /// `refs`.
@@ -258,6 +276,8 @@ impl OfBody {
             OfBody::Encode => code.encodes(alloc, body),
             OfBody::Append => code.appends(alloc, body),
             OfBody::Shift => code.shifts(alloc, body),
+            OfBody::AppendShifted => code.appends_shifted(alloc, body),
+            OfBody::ShiftUses => code.shifts_uses(alloc, body),
             OfBody::Clone => code.clones(alloc, body),
             OfBody::Refs => code.finds(alloc, body),
             OfBody::Uses => code.finds_uses(alloc, body),
@@ -323,6 +343,50 @@ impl Code {
         }
     }
 
+    fn appends_shifted(self, alloc: Global, body: &Body) -> Outcome {
+        let (Some(mut bytes), Ok(code)) = (vector(alloc, Room::Full), encode_body(alloc, body))
+        else {
+            return Outcome::NO_SAMPLE;
+        };
+        if expr_movement(body.expr(), Moving::Func, 5).stuck {
+            return Outcome::NO_SAMPLE;
+        }
+        call_begins(alloc);
+        let answer = append_shifted(&mut bytes, body, &code, Moving::Func, 5);
+        call_ends(alloc);
+        match answer {
+            Ok(()) => Outcome::answered(has_appended(&bytes, self.moved)),
+            Err(OutOfMemory) => Outcome::refused(bytes.starts_with(&BEFORE)),
+        }
+    }
+
+    // What the references are that moving the body leaves.
+    fn uses_of_moved(self, alloc: Global, body: &Body) -> Option<BTreeSet<Ref>> {
+        let moved = shift(alloc, body, Moving::Func, 5).ok()?;
+        uses(alloc, OWN_TYPE, &moved).ok()
+    }
+
+    fn shifts_uses(self, alloc: Global, body: &Body) -> Outcome {
+        // The proof asks what this says: of what the function refers to there moves what moves of the body.
+        moving_of_code();
+        let (Ok(found), Some(wanted)) = (
+            uses(alloc, OWN_TYPE, body),
+            self.uses_of_moved(alloc, body),
+        ) else {
+            return Outcome::NO_SAMPLE;
+        };
+        if expr_movement(body.expr(), Moving::Func, 5).stuck {
+            return Outcome::NO_SAMPLE;
+        }
+        call_begins(alloc);
+        let answer = shift_uses(alloc, &found, Moving::Func, 5);
+        call_ends(alloc);
+        match answer {
+            Ok(moved) => Outcome::answered(are_alike(&moved, &wanted)),
+            Err(OutOfMemory) => Outcome::refused(are_refs(&found, self.uses)),
+        }
+    }
+
     fn clones(self, alloc: Global, body: &Body) -> Outcome {
         call_begins(alloc);
         let answer: Result<Body, AllocError> = body.clone();
@@ -356,7 +420,7 @@ impl Code {
 
     fn finds_uses(self, alloc: Global, body: &Body) -> Outcome {
         call_begins(alloc);
-        let answer = uses(alloc, 4, body);
+        let answer = uses(alloc, OWN_TYPE, body);
         call_ends(alloc);
         self.was_found(alloc, &answer, self.uses, body)
     }

@@ -4,7 +4,8 @@ use crate::edits::Trial;
 use crate::edits::Wanted::{Made, Refused};
 use wk_module::Profile;
 use wk_samples::edits::{
-    MODULE, STRIPPED, VALID, VALID_WITH_TYPE, WITH_BYTES, WITH_CUSTOM, WITH_TYPE, WITHOUT_CUSTOMS,
+    MODULE, MOSTLY_ONE_NAME, STRIPPED, VALID, VALID_WITH_TYPE, WITH_BYTES, WITH_CUSTOM, WITH_TYPE,
+    WITHOUT_CUSTOMS, WITHOUT_LONG_NAME,
 };
 use wk_samples::{lacking, moving};
 
@@ -48,6 +49,13 @@ pub(crate) const STRIP_ALL: Trial = Trial {
     input: MODULE,
     line: b"strip",
     wanted: Made([0, 0, 0], WITHOUT_CUSTOMS),
+};
+
+pub(crate) const REMOVE_MOST: Trial = Trial {
+    profile: Profile::Core,
+    input: MOSTLY_ONE_NAME,
+    line: b"unexport nnnnnnnnnnnnnnnnnnnnnnnnnnnnnnnnnnnnnnnnnnnnnnnnnnnnnnnnnnnn",
+    wanted: Made([0, 0, 1], WITHOUT_LONG_NAME),
 };
 
 // Each kind of edit, of a module in which all moves that can.

@@ -1,9 +1,12 @@
 //! Another body for a function.
 
-ghost use Rattle.std.specs.Prelude.{◌≡◌, ◌≢◌, ◌<◌, Ok, Err, IfOk, IfErr, OnOk, length, map, slice_get, option_map, set, Some, ℕ, ◌≤◌};
+ghost use Rattle.std.specs.Prelude.{◌≡◌, ◌≢◌, ◌<◌, Ok, Err, IfOk, IfErr, OnOk, length, map, slice_get, slice_set, option_map, set, List, Some, ℕ, ◌≤◌};
 ghost use Rattle.wk_bytes.specs.Frames.{limit};
 ghost use Rattle.wk_body.specs.Lengths.{limited};
+ghost use Rattle.wk_body.specs.Bodies.{BodyOf};
 ghost use Rattle.wk_body.specs.Spelling.{SpellsBody};
+ghost use Rattle.wk_module.specs.declared.types.Func.{Func as FuncOf};
+ghost use Rattle.wk_module.specs.declared.types.Parts.{Parts as PartsOf};
 ghost use Rattle.wk_module.specs.Changes.{with_body};
 ghost use Rattle.wk_module.specs.Items.{IsCode};
 ghost use Rattle.wk_module.specs.Shape.{IsShaped};
@@ -13,17 +16,17 @@ ghost use Rattle.wk_check.specs.Typing.{body_verdict};
 ghost use Rattle.wk_check.specs.Verdict.{func_verdict};
 ghost use Rattle.wk_session.specs.declared.edit.Edit.{Edit};
 ghost use Rattle.wk_session.specs.Edits.{entry_of as entry_of_index};
-ghost use Rattle.wk_session.specs.Functions.{IsPlanned};
+ghost use Rattle.wk_session.specs.Functions.{AreVerdicts, IsPlanned};
 ghost use Rattle.wk_session.specs.Kept.{IsAppraised, IsKept, Leads, standing};
 ghost use Rattle.wk_session.specs.Pieces.{entries_size};
 
 use crate::appraisal::{Appraisal, admit, appraise};
 use crate::edit::{EditFault, Reply, Work};
-use crate::edits::entry::{Entry, keep_entry, spelled_body, with_other};
+use crate::edits::entry::{Entry, Verdicts, keep_entry, spelled_body, with_other};
 use crate::judged::judged;
 use crate::kept::{Kept, func_uses};
-use crate::lengths::{len_after, plus_code};
-use crate::pieces::{NewSections, Pieces, encoded_body, no_news};
+use crate::lengths::{len_of, plus_code};
+use crate::pieces::{Pieces, encoded_body};
 use std::alloc::Global;
 use std::mem;
 use wk_bytes::{Items, OutOfMemory};
@@ -50,8 +53,8 @@ fn type_at(funcs: &Items<Func>, entry: usize) -> u32
     funcs.as_slice()[entry].ty
 }
 
-// The verdict of a body that comes in the place of another, and the verdicts of all bodies with it.
-fn verdicts_with(
+// The verdict of a body that comes in the place of another.
+fn own_verdict(
     alloc: Global,
     parts: &Parts,
     kept: &Kept,
@@ -59,22 +62,18 @@ fn verdicts_with(
     ty: u32,
     body: &Body,
     meter: &mut Meter,
-) -> Result<(BodyVerdict, Vec<BodyVerdict>), OutOfMemory>
+) -> Result<BodyVerdict, OutOfMemory>
     requires kept { IsKept parts.now kept.now }
-    requires within { entry < length parts.now.funcs }
-    requires ty { Some ty ≡ option_map (λ f. f.ty) (slice_get parts.now.funcs entry) }
     requires fresh { meter.old ≡ 0 }
-    ensures own { IfOk result (λ r. r.0 ≡ body_verdict (answers_of parts.now) ty body.now) }
-    ensures verdicts { IfOk result (λ r. r.1.items ≡ map (func_verdict (answers_of (with_body entry body.now parts.now))) (with_body entry body.now parts.now).funcs) }
+    ensures own { IfOk result (λ v. v ≡ body_verdict (answers_of (with_body entry body.now parts.now)) ty body.now) }
     ensures typed { OnOk result (meter.new ≡ 1) }
 {
     let whole = Whole::of(alloc, Lists::of(parts, &kept.types))?;
-    let own = judged(&whole, ty, body, meter)?;
-    let verdicts = with_other(alloc, &kept.verdicts, entry, own)?;
-    Ok((own, verdicts))
+    judged(&whole, ty, body, meter)
 }
 
-// The verdicts of all bodies where one is replaced, and what is kept of the module as a whole, which is so long; or why it may not stay.
+// The verdicts of bodies where one is replaced, and what is kept of the module as a whole, which is so long; or why it may not stay. In a
+// valid module no other is looked at.
 fn judged_body(
     alloc: Global,
     keep: bool,
@@ -85,7 +84,7 @@ fn judged_body(
     body: &Body,
     len: Option<u32>,
     meter: &mut Meter,
-) -> Result<(Vec<BodyVerdict>, Appraisal), EditFault>
+) -> Result<(Verdicts, Appraisal), EditFault>
     requires shaped { IsShaped parts.now }
     requires kept { IsKept parts.now kept.now }
     requires within { entry < length parts.now.funcs }
@@ -93,20 +92,21 @@ fn judged_body(
     requires valid { IsCode parts.now.profile body.now }
     requires len { len ≡ limited (length (encoded (with_body entry body.now parts.now))) }
     requires fresh { meter.old ≡ 0 }
-    ensures verdicts { IfOk result (λ r. r.0.items ≡ map (func_verdict (answers_of (with_body entry body.now parts.now))) (with_body entry body.now parts.now).funcs) }
+    ensures verdicts { IfOk result (λ r. AreVerdicts ty body.now (with_body entry body.now parts.now) parts.now.funcs kept.now.verdicts.items r.0) }
     ensures ok { IfOk result (λ r. IsAppraised keep (with_body entry body.now parts.now) (Ok r.1)) }
     ensures err { IfErr result (λ f. IsAppraised keep (with_body entry body.now parts.now) (Err f)) }
     ensures typed { OnOk result (meter.new ≡ 1) }
 {
-    let (own, verdicts) = verdicts_with(alloc, parts, kept, entry, ty, body, meter)?;
+    let own = own_verdict(alloc, parts, kept, entry, ty, body, meter)?;
     if let Verdict::Valid = kept.verdict {
         let verdict = verdict_with_body(entry as u32, own);
         let appraisal = admit(keep, verdict, len)?;
-        return Ok((verdicts, appraisal));
+        return Ok((Verdicts::Own(own), appraisal));
     }
+    let verdicts = with_other(alloc, &kept.verdicts, entry, own)?;
     let lists = Lists::of(parts, &kept.types);
     let appraisal = appraise(alloc, keep, &lists, &verdicts, len)?;
-    Ok((verdicts, appraisal))
+    Ok((Verdicts::All(verdicts), appraisal))
 }
 
 // How many bytes all codes have with this one in the place of that of an entry, sizes with them; or nothing past 2,147,483,647.
@@ -141,7 +141,7 @@ fn planned_body(
     requires ty { Some ty ≡ option_map (λ f. f.ty) (slice_get parts.now.funcs entry) }
     requires valid { IsCode parts.now.profile body.now }
     requires fresh { meter.old ≡ 0 }
-    ensures ok { IfOk result (IsPlanned keep ty body.now (with_body entry body.now parts.now) kept.now.pieces.sections.items 0) }
+    ensures ok { IfOk result (IsPlanned keep ty body.now (with_body entry body.now parts.now) parts.now.funcs kept.now.verdicts.items 0) }
     ensures err { IfErr result (λ f. f ≢ EditFault.Memory → standing keep (with_body entry body.now parts.now) ≡ Err f) }
     ensures typed { OnOk result (meter.new ≡ 1) }
 {
@@ -151,13 +151,8 @@ fn planned_body(
     let Some(codes_len) = codes_len_with(pieces, entry, &code) else {
         return Err(EditFault::TooLarge);
     };
-    let remade = NewSections {
-        sections: no_news(alloc)?,
-        made: 0,
-    };
-    let len = len_after(
+    let len = len_of(
         &pieces.sections,
-        &remade.sections,
         parts.funcs.len(),
         codes_len,
         pieces.customs_len,
@@ -170,9 +165,22 @@ fn planned_body(
         code,
         codes_len,
         encoded,
-        remade,
+        sections: 0,
         appraisal,
     })
+}
+
+// Puts the verdicts that are others in their places.
+fn put_verdicts(kept: &mut Vec<BodyVerdict>, entry: usize, verdicts: Verdicts)
+    requires { entry < length kept.old.items }
+    ensures { (t : ℕ) → (b : BodyOf) → (n : PartsOf) → (fs : List FuncOf) → n.funcs ≡ slice_set fs entry (record { ty = t; body = b })
+        → AreVerdicts t b n fs kept.old.items verdicts
+        → kept.new.items ≡ map (func_verdict (answers_of n)) n.funcs }
+{
+    match verdicts {
+        Verdicts::Own(own) => kept[entry] = own,
+        Verdicts::All(all) => *kept = all,
+    }
 }
 
 // Replaces the body of a code entry.
@@ -195,7 +203,16 @@ fn put_at(
     let ty = type_at(&parts.funcs, entry);
     let planned = planned_body(alloc, keep, parts, kept, entry, ty, &body, code, meter)?;
     let _before = parts.funcs.set(entry, Func { ty, body });
-    let (uses, code, encoded, sections) = keep_entry(kept, planned);
+    keep_entry(kept, &planned);
+    let Entry {
+        uses,
+        verdicts,
+        code,
+        encoded,
+        sections,
+        ..
+    } = planned;
+    put_verdicts(&mut kept.verdicts, entry, verdicts);
     let _unused = mem::replace(&mut kept.refs[entry], uses);
     kept.pieces.codes[entry] = code;
     Ok(Work {

@@ -1,37 +1,43 @@
 //! What is kept of a code entry that an edit gives or replaces.
 
-ghost use Rattle.std.specs.Prelude.{◌≡◌, ◌≢◌, ◌<◌, ◌≤◌, length, slice_set, IfOk, IfErr, Ok, Err};
+ghost use Rattle.std.specs.Prelude.{◌≡◌, ◌≢◌, ◌<◌, length, slice_set, IfOk, IfErr, Ok, Err};
 ghost use Rattle.wk_body.specs.Spelling.{SpellsBody};
 ghost use Rattle.wk_module.specs.Items.{IsCode};
 ghost use Rattle.wk_session.specs.Functions.{body_spelled};
-ghost use Rattle.wk_session.specs.Overlays.{with_items};
 
 use crate::appraisal::Appraisal;
 use crate::edit::EditFault;
 use crate::kept::Kept;
-use crate::overlay::replace_each;
-use crate::pieces::NewSections;
 use std::alloc::Global;
 use std::collections::BTreeSet;
 use wk_bytes::{Items, OutOfMemory, ReadKind};
 use wk_check::BodyVerdict;
 use wk_module::{Body, Profile, Ref, read_body_in};
 
+/// The verdicts of the bodies of a module with a code entry that an edit gives or replaces.
+#[derive(Drop)]
+pub(super) enum Verdicts {
+    /// That of the entry. Those of the others stay.
+    Own(BodyVerdict),
+    /// All of them.
+    All(Vec<BodyVerdict>),
+}
+
 /// What is to be kept of a module with a code entry that an edit gives or replaces.
 #[derive(Drop)]
 pub(super) struct Entry {
     /// What the function refers to, its own type too.
     pub(super) uses: BTreeSet<Ref>,
-    /// The verdict of each body of the module.
-    pub(super) verdicts: Vec<BodyVerdict>,
+    /// The verdicts of bodies that are others.
+    pub(super) verdicts: Verdicts,
     /// The code of the entry, without its size.
     pub(super) code: Items<u8>,
     /// How many bytes all codes have, with their sizes.
     pub(super) codes_len: u32,
     /// How many bodies were encoded.
     pub(super) encoded: u32,
-    /// The sections that are made anew.
-    pub(super) remade: NewSections,
+    /// How many sections are made anew.
+    pub(super) sections: u32,
     /// What is kept of the module as a whole.
     pub(super) appraisal: Appraisal,
 }
@@ -73,32 +79,15 @@ pub(super) fn with_other<T: Copy>(
     Ok(copy)
 }
 
-/// Keeps what is to be kept of a module, but for the types of its functions, what they refer to, and their codes. Answers the uses and the
-/// code of the entry, and the counts of what was encoded: of bodies and of sections.
-pub(super) fn keep_entry(kept: &mut Kept, entry: Entry) -> (BTreeSet<Ref>, Items<u8>, u32, u32)
-    requires { length entry.remade.sections.items ≤ length kept.old.pieces.sections.items }
-    ensures result { result ≡ (entry.uses, entry.code, entry.encoded, entry.remade.made) }
-    ensures rest { kept.new ≡ record kept.old {
-      verdict = entry.appraisal.verdict;
-      len = entry.appraisal.len;
-      verdicts = entry.verdicts;
-      pieces = record kept.old.pieces { sections = kept.new.pieces.sections; codes_len = entry.codes_len };
+/// Keeps what is to be kept of a module as a whole, but for its sections.
+pub(super) fn keep_entry(kept: &mut Kept, entry: &Entry)
+    ensures { kept.new ≡ record kept.old {
+      verdict = entry.now.appraisal.verdict;
+      len = entry.now.appraisal.len;
+      pieces = record kept.old.pieces { codes_len = entry.now.codes_len };
     } }
-    ensures sections { kept.new.pieces.sections.items ≡ with_items kept.old.pieces.sections.items entry.remade.sections.items }
 {
-    let Entry {
-        uses,
-        verdicts,
-        code,
-        codes_len,
-        encoded,
-        remade,
-        appraisal,
-    } = entry;
-    kept.verdict = appraisal.verdict;
-    kept.len = appraisal.len;
-    kept.verdicts = verdicts;
-    kept.pieces.codes_len = codes_len;
-    replace_each(&mut kept.pieces.sections, remade.sections);
-    (uses, code, encoded, remade.made)
+    kept.verdict = entry.appraisal.verdict;
+    kept.len = entry.appraisal.len;
+    kept.pieces.codes_len = entry.codes_len;
 }

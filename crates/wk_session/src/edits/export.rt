@@ -1,44 +1,42 @@
 //! Exports: one more, or one less.
 
-ghost use Rattle.std.specs.Prelude.{◌≡◌, ◌≢◌, ◌<◌, ◌≤◌, insert, length, remove, vec_capacity, vec_len, IfNone, IfSome, OnOk, OnErr};
-ghost use Rattle.std.specs.List.{position_from};
+ghost use Rattle.std.specs.Prelude.{◌≡◌, ◌≢◌, ◌+◌, ◌<◌, ◌≤◌, ◌^◌, ℕ, Bool, [], ◌∷◌, drop, get_or, insert, length, remove, set, take, vec_capacity, vec_len, IfNone, IfSome, MatchResult, OnOk, OnErr};
+ghost use Rattle.std.specs.List.{flat_map, position_from};
 ghost use Rattle.std.specs.Str.{bytes_eq};
+ghost use Rattle.wk_bytes.specs.Frames.{limit};
+ghost use Rattle.wk_bytes.specs.Short.{short};
+ghost use Rattle.wk_body.specs.declared.references.Ref.{Ref as RefOf};
+ghost use Rattle.wk_body.specs.Lengths.{limited};
+ghost use Rattle.wk_module.specs.declared.types.Parts.{Parts as PartsOf};
 ghost use Rattle.wk_module.specs.Changes.{with_export};
-ghost use Rattle.wk_module.specs.Items.{IsExport};
-ghost use Rattle.wk_module.specs.Shape.{IsFormed, IsShaped};
+ghost use Rattle.wk_module.specs.Items.{IsExport, written_export};
+ghost use Rattle.wk_module.specs.Shape.{IsFormed, IsInOrderFrom, IsShaped};
+ghost use Rattle.wk_module.specs.Writing.{encoded, list_contents};
+ghost use Rattle.wk_check.specs.Answers.{Found};
 ghost use Rattle.wk_check.specs.SpacesLaws.{answers_of};
 ghost use Rattle.wk_check.specs.Verdict.{module_verdict};
 ghost use Rattle.wk_session.specs.declared.edit.Edit.{Edit};
-ghost use Rattle.wk_session.specs.Judged.{AreKept};
-ghost use Rattle.wk_session.specs.Exported.{IsExported};
+ghost use Rattle.wk_session.specs.Judged.{AreKept, IsGrown, IsJudged};
 ghost use Rattle.wk_session.specs.Kept.{IsKept, Leads};
-ghost use Rattle.wk_session.specs.Overlays.{with_items};
-ghost use Rattle.wk_session.specs.Pieces.{one_new, section_piece, section_pieces};
+ghost use Rattle.wk_session.specs.Longer.{IsNewItem};
+ghost use Rattle.wk_session.specs.Pieces.{IsOverlong, codes_size, customs_size, section_pieces};
+ghost use Rattle.wk_session.specs.Shorter.{without_item};
 
-use crate::appraisal::{Appraisal, appraise_unless_known};
+use crate::appraisal::appraise_unless_known;
 use crate::edit::{EditFault, Reply, Work};
 use crate::edits::item_len::len_with_export;
+use crate::edits::one_more::{Judgement, NewItem, keep_grown, keep_judgement, new_item};
 use crate::kept::Kept;
-use crate::lengths::len_after;
-use crate::overlay::replace_each;
-use crate::pieces::{NewSections, one_remade};
+use crate::lengths::len_with;
+use crate::shorter::{Span, remove_item, shrunk_len};
 use std::alloc::Global;
-use std::mem;
+use std::{mem, slice};
 use wk_bytes::{Items, Text};
 use wk_check::{Verdict, laws_of_valid_modules, verdict_with_export};
-use wk_module::{Export, Lists, Parts};
+use wk_module::{EncodeFault, Export, Lists, Parts, export_len};
 
 /// The id of the export section (5.5.2).
 const SECTION: u8 = 7;
-
-/// What is to be kept of a module with other exports.
-#[derive(Drop)]
-struct Exported {
-    /// Its verdict and its length.
-    appraisal: Appraisal,
-    /// The export section.
-    remade: NewSections,
-}
 
 // The verdict of a module with an export more, where it is known: where the one without is valid.
 fn known_with_export(parts: &Parts, kept: &Kept, export: &Export) -> Option<Verdict>
@@ -67,83 +65,80 @@ fn known_without_export(parts: &Parts, kept: &Kept, place: usize) -> Option<Verd
     }
 }
 
-// Judges and measures a module with these exports in the place of its own. Where its verdict is known it is not judged.
-fn appraise_exports(
+// Judges a module with these exports in the place of its own, which is so long. Where its verdict is known it is not judged.
+fn judge_exports(
     alloc: Global,
     keep: bool,
     parts: &Parts,
     kept: &Kept,
     exports: &[Export],
+    len: Option<u32>,
     known: Option<Verdict>,
-) -> Result<Exported, EditFault>
+) -> Result<Judgement, EditFault>
     requires formed { IsFormed (record parts.now { exports = exports.now }) }
     requires kept { AreKept (answers_of parts.now) parts.now kept.now }
+    requires len { len ≡ limited (length (encoded (record parts.now { exports = exports.now }))) }
     requires known { IfSome known (λ v. v ≡ module_verdict (record parts.now { exports = exports.now })) }
-    requires others { with_items kept.now.pieces.sections.items (one_new 7 (section_piece 7 (record parts.now { exports = exports.now })))
-        ≡ section_pieces (record parts.now { exports = exports.now }) }
-    ensures { IsExported keep (record parts.now { exports = exports.now }) kept.now result }
+    ensures { IsJudged keep (answers_of parts.now) (record parts.now { exports = exports.now }) kept.now 0 result }
 {
     let lists = Lists {
         exports,
         ..Lists::of(parts, &kept.types)
     };
-    let remade = one_remade(alloc, &lists, SECTION)?;
-    let pieces = &kept.pieces;
-    let len = len_after(
-        &pieces.sections,
-        &remade.sections,
-        parts.funcs.len(),
-        pieces.codes_len,
-        pieces.customs_len,
-    );
     let appraisal = appraise_unless_known(alloc, keep, known, &lists, &kept.verdicts, len)?;
-    Ok(Exported { appraisal, remade })
+    Ok(Judgement {
+        verdicts: None,
+        appraisal,
+    })
 }
 
-// Keeps what is to be kept of a module with other exports, and answers the work of the edit.
-fn keep_exported(kept: &mut Kept, exported: Exported) -> Work
-    requires { length exported.remade.sections.items ≤ length kept.old.pieces.sections.items }
-    ensures work { result ≡ record { typed = 0; encoded = 0; sections = exported.remade.made } }
-    ensures rest { kept.new ≡ record kept.old {
-      verdict = exported.appraisal.verdict;
-      len = exported.appraisal.len;
-      pieces = record kept.old.pieces { sections = kept.new.pieces.sections };
-    } }
-    ensures sections { kept.new.pieces.sections.items ≡ with_items kept.old.pieces.sections.items exported.remade.sections.items }
+// The export as it comes to the others.
+fn new_export(
+    alloc: Global,
+    parts: &Parts,
+    kept: &Kept,
+    export: &Export,
+) -> Result<NewItem, EncodeFault>
+    requires { length parts.now.exports < 2 ^ 32 }
+    ensures { MatchResult result
+        (IsNewItem 7 (length parts.now.exports) (list_contents written_export (export.now ∷ [])))
+        (IsOverlong (list_contents written_export (export.now ∷ []))) }
 {
-    let Exported { appraisal, remade } = exported;
-    replace_each(&mut kept.pieces.sections, remade.sections);
-    kept.verdict = appraisal.verdict;
-    kept.len = appraisal.len;
-    Work {
-        typed: 0,
-        encoded: 0,
-        sections: remade.made,
-    }
+    let alone = Lists {
+        exports: slice::from_ref(export),
+        ..Lists::of(parts, &kept.types)
+    };
+    new_item(alloc, &alone, SECTION, parts.exports.len() as u32)
 }
 
-// Appends an export where the module with it may stay; or leaves the parts as they were.
+// Appends an export where the module with it may stay, which is so long, and keeps what is to be kept of it. Answers how many sections
+// were made anew; or leaves all as it was.
 fn push_export(
     alloc: Global,
     keep: bool,
     parts: &mut Parts,
-    kept: &Kept,
+    kept: &mut Kept,
     export: Export,
-) -> Result<Exported, EditFault>
+    len: Option<u32>,
+) -> Result<u32, EditFault>
     requires shaped { IsShaped parts.old }
-    requires kept { IsKept parts.old kept.now }
+    requires kept { IsKept parts.old kept.old }
     requires valid { IsExport export }
+    requires len { len ≡ limited (length (encoded (with_export export parts.old))) }
     ensures ok { OnOk result (parts.new ≡ with_export export parts.old) }
     ensures err { OnErr result (parts.new ≡ parts.old) }
-    ensures exported { IsExported keep (with_export export parts.old) kept.now result }
+    ensures grown { IsGrown keep (answers_of parts.old) (with_export export parts.old) 0 1 kept.old kept.new result }
 {
     let known = known_with_export(parts, kept, &export);
+    let item = new_export(alloc, parts, kept, &export)?;
     parts.exports.push(export)?;
-    let exported = appraise_exports(alloc, keep, parts, kept, parts.exports.as_slice(), known);
-    if exported.is_err() {
+    let exports = parts.exports.as_slice();
+    let judged = judge_exports(alloc, keep, parts, kept, exports, len, known);
+    let grown = keep_grown(alloc, kept, &item, judged);
+    if grown.is_err() {
         let _ = parts.exports.pop();
     }
-    exported
+    grown
 }
 
 /// Appends an export.
@@ -158,14 +153,19 @@ pub(crate) fn add_export(
     requires kept { IsKept parts.old kept.old }
     ensures { Leads keep (Edit.Export export.now) parts.old result parts.new kept.new }
 {
-    if len_with_export(parts, kept, export).is_none() {
+    let len = len_with_export(parts, kept, export);
+    if len.is_none() {
         return Err(EditFault::TooLarge);
     }
     let export = export.copy(alloc)?;
     // The proof asks what this says: the name is text.
     let _name = export.name.as_str();
-    let exported = push_export(alloc, keep, parts, kept, export)?;
-    Ok(keep_exported(kept, exported))
+    let sections = push_export(alloc, keep, parts, kept, export, len)?;
+    Ok(Work {
+        typed: 0,
+        encoded: 0,
+        sections,
+    })
 }
 
 // Where the first export of a name stands.
@@ -189,28 +189,111 @@ fn put_back(exports: &mut Vec<Export>, place: usize, export: Export)
     };
 }
 
-// Takes an export out where the module without it may stay; or leaves the parts as they were.
+// How many bytes exports have as they are written.
+fn written_len(exports: &[Export]) -> usize
+    requires { length (flat_map written_export exports.now) ≤ limit }
+    ensures { result ≡ length (flat_map written_export exports.now) }
+{
+    let mut total = 0;
+    for export in exports {
+        let Some(len) = export_len(export) else {
+            unreachable!()
+        };
+        total += len as usize;
+    }
+    total
+}
+
+// Where the export of a place stands in the contents of the section.
+fn span_of(exports: &[Export], place: usize) -> Span
+    requires place { place < length exports.now }
+    requires few { length (flat_map written_export exports.now) ≤ limit }
+    ensures at { result.at ≡ length (flat_map written_export (take place exports.now)) }
+    ensures size { result.size ≡ length (flat_map written_export (take 1 (drop place exports.now))) }
+{
+    Span {
+        at: written_len(&exports[..place]),
+        size: written_len(&exports[place..=place]),
+    }
+}
+
+// The length of a module without an export of so many that stands there, by how many functions it defines.
+fn len_without(kept: &Kept, funcs: usize, count: u32, span: Span) -> Option<u32>
+    requires sections { length kept.now.pieces.sections.items ≡ 12 }
+    requires some { 0 < count }
+    requires few { length (get_or kept.now.pieces.sections.items 7 []) ≤ limit }
+    requires within { length (short count) + span.at + span.size ≤ length (get_or kept.now.pieces.sections.items 7 []) }
+    requires funcs { funcs < 2 ^ 32 }
+    ensures { (n : PartsOf) → IsInOrderFrom 0 n.customs
+        → set kept.now.pieces.sections.items 7 (without_item (get_or kept.now.pieces.sections.items 7 []) count span.at span.size) ≡ section_pieces n
+        → funcs ≡ length n.funcs → kept.now.pieces.codes_len ≡ codes_size n.funcs → kept.now.pieces.customs_len ≡ customs_size n.customs
+        → result ≡ limited (length (encoded n)) }
+{
+    let pieces = &kept.pieces;
+    let size = shrunk_len(pieces.sections[SECTION as usize].as_slice(), count, span);
+    len_with(
+        &pieces.sections,
+        SECTION as usize,
+        size,
+        funcs,
+        pieces.codes_len,
+        pieces.customs_len,
+    )
+}
+
+// Keeps what is to be kept of a module without an export of so many where it may stay, and answers how many sections were made anew for
+// it; or leaves what is kept as it was.
+fn keep_shrunk(
+    alloc: Global,
+    kept: &mut Kept,
+    count: u32,
+    span: Span,
+    judged: Result<Judgement, EditFault>,
+) -> Result<u32, EditFault>
+    requires sections { length kept.old.pieces.sections.items ≡ 12 }
+    requires some { 0 < count }
+    requires within { length (short count) + span.at + span.size ≤ length (get_or kept.old.pieces.sections.items 7 []) }
+    ensures { (keep : Bool) → (before : RefOf → Found) → (n : PartsOf) → (typed : ℕ) → AreKept before n kept.old
+        → set kept.old.pieces.sections.items 7 (without_item (get_or kept.old.pieces.sections.items 7 []) count span.at span.size) ≡ section_pieces n
+        → IsJudged keep before n kept.old typed judged
+        → IsGrown keep before n typed 1 kept.old kept.new result }
+{
+    let judgement = judged?;
+    let mut made = 0;
+    let section = &mut kept.pieces.sections[SECTION as usize];
+    remove_item(alloc, section, count, span, &mut made)?;
+    keep_judgement(kept, judgement);
+    Ok(made)
+}
+
+// Takes an export out where the module without it may stay, and keeps what is to be kept of it. Answers how many sections were made anew;
+// or leaves all as it was.
 fn take_export(
     alloc: Global,
     keep: bool,
     parts: &mut Parts,
-    kept: &Kept,
+    kept: &mut Kept,
     place: usize,
-) -> Result<Exported, EditFault>
+) -> Result<u32, EditFault>
     requires place { place < length parts.old.exports }
     requires formed { IsFormed (record parts.old { exports = remove parts.old.exports place }) }
-    requires kept { IsKept parts.old kept.now }
+    requires shaped { IsShaped parts.old }
+    requires kept { IsKept parts.old kept.old }
     ensures ok { OnOk result (parts.new ≡ record parts.old { exports = remove parts.old.exports place }) }
     ensures err { OnErr result (parts.new ≡ parts.old) }
-    ensures exported { IsExported keep (record parts.old { exports = remove parts.old.exports place }) kept.now result }
+    ensures shrunk { IsGrown keep (answers_of parts.old) (record parts.old { exports = remove parts.old.exports place }) 0 1 kept.old kept.new result }
 {
     let known = known_without_export(parts, kept, place);
+    let count = parts.exports.len() as u32;
+    let span = span_of(parts.exports.as_slice(), place);
+    let len = len_without(kept, parts.funcs.len(), count, span);
     let mut exports = mem::replace(&mut parts.exports, Items::new(alloc)).into_vec();
     let export = exports.remove(place);
-    match appraise_exports(alloc, keep, parts, kept, &exports, known) {
-        Ok(exported) => {
+    let judged = judge_exports(alloc, keep, parts, kept, &exports, len, known);
+    match keep_shrunk(alloc, kept, count, span, judged) {
+        Ok(made) => {
             parts.exports = Items::from_vec(exports);
-            Ok(exported)
+            Ok(made)
         }
         Err(fault) => {
             put_back(&mut exports, place, export);
@@ -235,6 +318,10 @@ pub(crate) fn remove_export(
     let Some(place) = place_of(&parts.exports, name) else {
         return Err(EditFault::NoSuchExport);
     };
-    let exported = take_export(alloc, keep, parts, kept, place)?;
-    Ok(keep_exported(kept, exported))
+    let sections = take_export(alloc, keep, parts, kept, place)?;
+    Ok(Work {
+        typed: 0,
+        encoded: 0,
+        sections,
+    })
 }

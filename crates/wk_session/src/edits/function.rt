@@ -1,30 +1,39 @@
 //! A function more.
 
-ghost use Rattle.std.specs.Prelude.{◌≡◌, ◌≢◌, ◌+◌, [], ◌∷◌, ◌++◌, if◌then◌else◌, Ok, Err, IfOk, IfErr, OnOk, OnErr, is_ok, count_by, length, map};
+ghost use Rattle.std.specs.Prelude.{◌≡◌, ◌≢◌, ◌+◌, ◌<◌, ◌^◌, ℕ, List, [], ◌∷◌, ◌++◌, if◌then◌else◌, Ok, Err, IfOk, IfErr, OnOk, OnErr, MatchResult, is_ok, count_by, length, map, vec_capacity, vec_len};
+ghost use Rattle.wk_bytes.specs.Short.{short};
 ghost use Rattle.wk_body.specs.Lengths.{limited};
+ghost use Rattle.wk_body.specs.Bodies.{BodyOf};
 ghost use Rattle.wk_body.specs.Spelling.{SpellsBody};
+ghost use Rattle.wk_module.specs.declared.types.Func.{Func as FuncOf};
+ghost use Rattle.wk_module.specs.declared.types.Parts.{Parts as PartsOf};
 ghost use Rattle.wk_module.specs.Changes.{with_func};
 ghost use Rattle.wk_module.specs.Items.{IsCode};
 ghost use Rattle.wk_module.specs.Shape.{IsShaped};
-ghost use Rattle.wk_module.specs.Writing.{encoded};
+ghost use Rattle.wk_module.specs.Writing.{encoded, list_contents};
 ghost use Rattle.wk_check.specs.SpacesLaws.{answers_of};
 ghost use Rattle.wk_check.specs.Verdict.{func_verdict};
 ghost use Rattle.wk_session.specs.declared.edit.Edit.{Edit};
 ghost use Rattle.wk_session.specs.Dependents.{is_retyped_in};
-ghost use Rattle.wk_session.specs.Functions.{IsKeptWithType, IsPlanned};
+ghost use Rattle.wk_session.specs.Functions.{AreVerdicts, IsKeptWithType, IsPlanned};
 ghost use Rattle.wk_session.specs.Kept.{IsAppraised, IsKept, Leads, standing};
+ghost use Rattle.wk_session.specs.Longer.{IsNewItem};
+ghost use Rattle.wk_session.specs.Pieces.{IsOverlong, section_pieces};
 
 use crate::appraisal::{Appraisal, admit, appraise};
 use crate::edit::{EditFault, Reply, Work};
-use crate::edits::entry::{Entry, keep_entry, spelled_body};
+use crate::edits::entry::{Entry, Verdicts, keep_entry, spelled_body};
+use crate::edits::one_more::{NewItem, bytes_of, len_grown, new_item};
 use crate::judged::{judged, rejudged};
 use crate::kept::{Kept, func_uses};
-use crate::lengths::{len_after, plus_code};
-use crate::pieces::{encoded_body, one_remade};
+use crate::lengths::plus_code;
+use crate::longer::append_item;
+use crate::pieces::encoded_body;
 use std::alloc::Global;
+use std::slice;
 use wk_bytes::{Items, OutOfMemory};
 use wk_check::{BodyVerdict, Meter, Verdict, Whole, laws_of_valid_modules, verdict_with_func};
-use wk_module::{Body, Func, Lists, Parts};
+use wk_module::{Body, EncodeFault, Func, Lists, Parts};
 
 /// The id of the function section (5.5.2).
 const SECTION: u8 = 3;
@@ -71,14 +80,14 @@ fn judged_in_valid(
     body: &Body,
     len: Option<u32>,
     meter: &mut Meter,
-) -> Result<(Vec<BodyVerdict>, Appraisal), EditFault>
+) -> Result<(Verdicts, Appraisal), EditFault>
     requires shaped { IsShaped parts.now }
     requires kept { IsKeptWithType ty parts.now kept.now }
     requires was_valid { kept.now.verdict ≡ Verdict.Valid }
     requires valid { IsCode parts.now.profile body.now }
     requires len { len ≡ limited (length (encoded (with_func ty body.now parts.now))) }
     requires fresh { meter.old ≡ 0 }
-    ensures verdicts { IfOk result (λ r. r.0.items ≡ map (func_verdict (answers_of (with_func ty body.now parts.now))) (with_func ty body.now parts.now).funcs) }
+    ensures verdicts { IfOk result (λ r. AreVerdicts ty body.now (with_func ty body.now parts.now) parts.now.funcs kept.now.verdicts.items r.0) }
     ensures ok { IfOk result (λ r. IsAppraised keep (with_func ty body.now parts.now) (Ok r.1)) }
     ensures err { IfErr result (λ f. IsAppraised keep (with_func ty body.now parts.now) (Err f)) }
     ensures typed { OnOk result (meter.new ≡ 1 + count_by (is_retyped_in (answers_of parts.now) (answers_of (with_func ty body.now parts.now))) parts.now.funcs) }
@@ -87,14 +96,12 @@ fn judged_in_valid(
     laws_of_valid_modules();
     let whole = Whole::of(alloc, Lists::of(parts, &kept.types))?;
     let own = judged(&whole, ty, body, meter)?;
-    let mut verdicts = Vec::from_slice(alloc, kept.verdicts.as_slice())?;
-    verdicts.push(own)?;
     let verdict = verdict_with_func(parts.types.len() as u32, parts.funcs.len() as u32, ty, own);
     let appraisal = admit(keep, verdict, len)?;
-    Ok((verdicts, appraisal))
+    Ok((Verdicts::Own(own), appraisal))
 }
 
-// The verdicts of all bodies where a function comes whose type stands behind those of the others already, and what is kept of the
+// The verdicts of bodies where a function comes whose type stands behind those of the others already, and what is kept of the
 // module with it as a whole, which is so long; or why it may not stay.
 fn judged_func(
     alloc: Global,
@@ -105,13 +112,13 @@ fn judged_func(
     body: &Body,
     len: Option<u32>,
     meter: &mut Meter,
-) -> Result<(Vec<BodyVerdict>, Appraisal), EditFault>
+) -> Result<(Verdicts, Appraisal), EditFault>
     requires shaped { IsShaped parts.now }
     requires kept { IsKeptWithType ty parts.now kept.now }
     requires valid { IsCode parts.now.profile body.now }
     requires len { len ≡ limited (length (encoded (with_func ty body.now parts.now))) }
     requires fresh { meter.old ≡ 0 }
-    ensures verdicts { IfOk result (λ r. r.0.items ≡ map (func_verdict (answers_of (with_func ty body.now parts.now))) (with_func ty body.now parts.now).funcs) }
+    ensures verdicts { IfOk result (λ r. AreVerdicts ty body.now (with_func ty body.now parts.now) parts.now.funcs kept.now.verdicts.items r.0) }
     ensures ok { IfOk result (λ r. IsAppraised keep (with_func ty body.now parts.now) (Ok r.1)) }
     ensures err { IfErr result (λ f. IsAppraised keep (with_func ty body.now parts.now) (Err f)) }
     ensures typed { OnOk result (meter.new ≡ 1 + count_by (is_retyped_in (answers_of parts.now) (answers_of (with_func ty body.now parts.now))) parts.now.funcs) }
@@ -122,7 +129,21 @@ fn judged_func(
     let verdicts = verdicts_with(alloc, parts, kept, ty, body, meter)?;
     let lists = Lists::of(parts, &kept.types);
     let appraisal = appraise(alloc, keep, &lists, &verdicts, len)?;
-    Ok((verdicts, appraisal))
+    Ok((Verdicts::All(verdicts), appraisal))
+}
+
+// The index of a type as it comes to those of the others.
+fn new_index(alloc: Global, parts: &Parts, kept: &Kept, ty: &u32) -> Result<NewItem, EncodeFault>
+    requires { length parts.now.funcs < 2 ^ 32 }
+    ensures { MatchResult result
+        (IsNewItem 3 (length parts.now.funcs) (list_contents short (ty.now ∷ [])))
+        (IsOverlong (list_contents short (ty.now ∷ []))) }
+{
+    let alone = Lists {
+        funcs: slice::from_ref(ty),
+        ..Lists::of(parts, &kept.types)
+    };
+    new_item(alloc, &alone, SECTION, parts.funcs.len() as u32)
 }
 
 // What is to be kept of the module with a function more, whose type stands behind those of the others already; or why it may not be.
@@ -134,32 +155,26 @@ fn planned_func(
     ty: u32,
     body: &Body,
     spelled: &Items<u8>,
+    item: &NewItem,
     meter: &mut Meter,
 ) -> Result<Entry, EditFault>
     requires shaped { IsShaped parts.now }
+    requires item { IsNewItem 3 (length parts.now.funcs) (list_contents short (ty ∷ [])) item.now }
     requires spelled { SpellsBody parts.now.profile body.now spelled.now }
     requires kept { IsKeptWithType ty parts.now kept.now }
     requires valid { IsCode parts.now.profile body.now }
     requires fresh { meter.old ≡ 0 }
-    ensures ok { IfOk result (IsPlanned keep ty body.now (with_func ty body.now parts.now) kept.now.pieces.sections.items 1) }
+    ensures ok { IfOk result (IsPlanned keep ty body.now (with_func ty body.now parts.now) parts.now.funcs kept.now.verdicts.items 1) }
     ensures err { IfErr result (λ f. f ≢ EditFault.Memory → standing keep (with_func ty body.now parts.now) ≡ Err f) }
     ensures typed { OnOk result (meter.new ≡ 1 + count_by (is_retyped_in (answers_of parts.now) (answers_of (with_func ty body.now parts.now))) parts.now.funcs) }
 {
-    let lists = Lists::of(parts, &kept.types);
     let pieces = &kept.pieces;
-    let remade = one_remade(alloc, &lists, SECTION)?;
     let mut encoded = 0;
     let code = encoded_body(alloc, body, Some(spelled.as_slice()), &mut encoded)?;
     let Some(codes_len) = plus_code(Some(pieces.codes_len), &code) else {
         return Err(EditFault::TooLarge);
     };
-    let len = len_after(
-        &pieces.sections,
-        &remade.sections,
-        kept.types.len(),
-        codes_len,
-        pieces.customs_len,
-    );
+    let len = len_grown(pieces, item, kept.types.len(), codes_len);
     let uses = func_uses(alloc, ty, body)?;
     let (verdicts, appraisal) = judged_func(alloc, keep, parts, kept, ty, body, len, meter)?;
     Ok(Entry {
@@ -168,37 +183,49 @@ fn planned_func(
         code,
         codes_len,
         encoded,
-        remade,
+        sections: item.made,
         appraisal,
     })
 }
 
-// Appends a function, whose type stands behind those of the others already, and says what is to be kept of the module with it; or leaves
-// the parts as they were.
+// Appends a function, whose type stands behind those of the others already, and that type to the kept contents of the section. Says what
+// else is to be kept of the module with it; or leaves all as it was.
 fn push_planned(
     alloc: Global,
     keep: bool,
     parts: &mut Parts,
-    kept: &Kept,
+    kept: &mut Kept,
     meter: &mut Meter,
     ty: u32,
     body: Body,
     spelled: &Items<u8>,
+    item: &NewItem,
 ) -> Result<Entry, EditFault>
     requires spelled { SpellsBody parts.old.profile body spelled.now }
     requires shaped { IsShaped parts.old }
-    requires kept { IsKeptWithType ty parts.old kept.now }
+    requires kept { IsKeptWithType ty parts.old kept.old }
     requires valid { IsCode parts.old.profile body }
+    requires item { IsNewItem 3 (length parts.old.funcs) (list_contents short (ty ∷ [])) item.now }
     requires fresh { meter.old ≡ 0 }
-    ensures ok { IfOk result (IsPlanned keep ty body (with_func ty body parts.old) kept.now.pieces.sections.items 1) }
+    ensures ok { IfOk result (IsPlanned keep ty body (with_func ty body parts.old) parts.old.funcs kept.old.verdicts.items 1) }
     ensures pushed { OnOk result (parts.new ≡ with_func ty body parts.old) }
     ensures err { IfErr result (λ f. f ≢ EditFault.Memory → standing keep (with_func ty body parts.old) ≡ Err f) }
     ensures same { OnErr result (parts.new ≡ parts.old) }
     ensures typed { OnOk result (meter.new ≡ 1 + count_by (is_retyped_in (answers_of parts.old) (answers_of (with_func ty body parts.old))) parts.old.funcs) }
+    ensures rest { kept.new ≡ record kept.old { pieces = record kept.old.pieces { sections = kept.new.pieces.sections } } }
+    ensures sections { OnOk result (kept.new.pieces.sections.items ≡ section_pieces (with_func ty body parts.old)) }
+    ensures sections_same { OnErr result (kept.new.pieces.sections.items ≡ kept.old.pieces.sections.items) }
 {
-    let entry = planned_func(alloc, keep, parts, kept, ty, &body, spelled, meter)?;
+    let entry = planned_func(alloc, keep, parts, kept, ty, &body, spelled, item, meter)?;
     parts.funcs.push(Func { ty, body })?;
-    Ok(entry)
+    let section = &mut kept.pieces.sections[SECTION as usize];
+    match append_item(alloc, section, item.count, bytes_of(item)) {
+        Ok(()) => Ok(entry),
+        Err(OutOfMemory) => {
+            let _ = parts.funcs.pop();
+            Err(EditFault::Memory)
+        }
+    }
 }
 
 // Appends a function, and its type to those that are kept, and says what else is to be kept of the module with it; or leaves all as it was.
@@ -217,20 +244,39 @@ fn push_func(
     requires kept { IsKept parts.old kept.old }
     requires valid { IsCode parts.old.profile body }
     requires fresh { meter.old ≡ 0 }
-    ensures ok { IfOk result (IsPlanned keep ty body (with_func ty body parts.old) kept.old.pieces.sections.items 1) }
+    ensures ok { IfOk result (IsPlanned keep ty body (with_func ty body parts.old) parts.old.funcs kept.old.verdicts.items 1) }
     ensures pushed { OnOk result (parts.new ≡ with_func ty body parts.old) }
     ensures err { IfErr result (λ f. f ≢ EditFault.Memory → standing keep (with_func ty body parts.old) ≡ Err f) }
     ensures same { OnErr result (parts.new ≡ parts.old) }
     ensures typed { OnOk result (meter.new ≡ 1 + count_by (is_retyped_in (answers_of parts.old) (answers_of (with_func ty body parts.old))) parts.old.funcs) }
-    ensures rest { kept.new ≡ record kept.old { types = kept.new.types } }
+    ensures rest { kept.new ≡ record kept.old {
+      types = kept.new.types;
+      pieces = record kept.old.pieces { sections = kept.new.pieces.sections };
+    } }
     ensures types { kept.new.types.items ≡ (if is_ok result then kept.old.types.items ++ ty ∷ [] else kept.old.types.items) }
+    ensures sections { OnOk result (kept.new.pieces.sections.items ≡ section_pieces (with_func ty body parts.old)) }
+    ensures sections_same { OnErr result (kept.new.pieces.sections.items ≡ kept.old.pieces.sections.items) }
 {
+    let item = new_index(alloc, parts, kept, &ty)?;
     kept.types.push(ty)?;
-    let pushed = push_planned(alloc, keep, parts, kept, meter, ty, body, spelled);
+    let pushed = push_planned(alloc, keep, parts, kept, meter, ty, body, spelled, &item);
     if pushed.is_err() {
         let _ = kept.types.pop();
     }
     pushed
+}
+
+// Puts the verdicts that are others in their places. There is room for one more.
+fn put_verdicts(kept: &mut Vec<BodyVerdict>, verdicts: Verdicts)
+    requires { vec_len kept.old < vec_capacity kept.old }
+    ensures { (t : ℕ) → (b : BodyOf) → (n : PartsOf) → (fs : List FuncOf) → n.funcs ≡ fs ++ record { ty = t; body = b } ∷ []
+        → AreVerdicts t b n fs kept.old.items verdicts
+        → kept.new.items ≡ map (func_verdict (answers_of n)) n.funcs }
+{
+    match verdicts {
+        Verdicts::Own(own) => kept.push_reserved(own),
+        Verdicts::All(all) => *kept = all,
+    }
 }
 
 /// Appends a function.
@@ -249,10 +295,20 @@ pub(crate) fn add_func(
     ensures { Leads keep (Edit.Func ty code.now) parts.old result parts.new kept.new }
 {
     let body = spelled_body(alloc, parts.profile, code)?;
+    kept.verdicts.reserve(1)?;
     kept.refs.reserve(1)?;
     kept.pieces.codes.reserve(1)?;
     let entry = push_func(alloc, keep, parts, kept, meter, ty, body, code)?;
-    let (uses, code, encoded, sections) = keep_entry(kept, entry);
+    keep_entry(kept, &entry);
+    let Entry {
+        uses,
+        verdicts,
+        code,
+        encoded,
+        sections,
+        ..
+    } = entry;
+    put_verdicts(&mut kept.verdicts, verdicts);
     kept.refs.push_reserved(uses);
     kept.pieces.codes.push_reserved(code);
     Ok(Work {

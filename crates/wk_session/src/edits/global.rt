@@ -1,24 +1,28 @@
 //! A global more.
 
-ghost use Rattle.std.specs.Prelude.{◌≡◌, ◌≢◌, ◌<◌, ◌-◌, ◌∷◌, ◌++◌, [], Ok, Err, length, take, IfOk, IfErr, IfNone, IfSome, OnOk, OnErr};
+ghost use Rattle.std.specs.Prelude.{◌≡◌, ◌≢◌, ◌<◌, ◌-◌, ◌^◌, ◌∷◌, ◌++◌, [], Ok, Err, length, take, IfOk, IfErr, IfNone, IfSome, MatchResult, OnOk, OnErr};
 ghost use Rattle.wk_body.specs.Reading.{all_expr_at, whole_at};
 ghost use Rattle.wk_module.specs.Changes.{with_global};
-ghost use Rattle.wk_module.specs.Items.{IsInit};
+ghost use Rattle.wk_module.specs.Items.{IsInit, written_global};
 ghost use Rattle.wk_module.specs.Listed.{listed};
 ghost use Rattle.wk_module.specs.Shape.{IsShaped};
+ghost use Rattle.wk_module.specs.Writing.{list_contents};
 ghost use Rattle.wk_check.specs.SpacesLaws.{answers_of};
 ghost use Rattle.wk_session.specs.declared.edit.Edit.{Edit};
 ghost use Rattle.wk_session.specs.Edits.{from_bytes};
-ghost use Rattle.wk_session.specs.Judged.{IsJudged, IsKnown};
+ghost use Rattle.wk_session.specs.Judged.{IsGrown, IsKnown};
 ghost use Rattle.wk_session.specs.Kept.{IsKept, Leads};
+ghost use Rattle.wk_session.specs.Longer.{IsNewItem};
+ghost use Rattle.wk_session.specs.Pieces.{IsOverlong};
 
 use crate::edit::{EditFault, Reply, Work};
-use crate::edits::one_more::{Judgement, judge_grown, keep_judgement};
+use crate::edits::one_more::{NewItem, judge_grown, keep_grown, len_grown, new_item};
 use crate::kept::Kept;
 use std::alloc::Global;
+use std::slice;
 use wk_bytes::{Items, OutOfMemory, ReadFault, ReadKind};
 use wk_check::{Meter, Verdict, laws_of_valid_modules, verdict_with_global};
-use wk_module::{Expr, GlobalDef, GlobalType, Lists, Parts, Profile, read_expr_in};
+use wk_module::{EncodeFault, Expr, GlobalDef, GlobalType, Lists, Parts, Profile, read_expr_in};
 
 /// The id of the global section (5.5.2).
 const SECTION: u8 = 6;
@@ -83,33 +87,61 @@ fn known_with_global(
     Ok(Some(verdict))
 }
 
-// Appends a global where the module with it may stay, and says what is to be kept of it; or leaves the parts as they were.
+// The global as it comes to the others.
+fn new_global(
+    alloc: Global,
+    parts: &Parts,
+    kept: &Kept,
+    global: &GlobalDef,
+) -> Result<NewItem, EncodeFault>
+    requires { length parts.now.globals < 2 ^ 32 }
+    ensures { MatchResult result
+        (IsNewItem 6 (length parts.now.globals) (list_contents written_global (global.now ∷ [])))
+        (IsOverlong (list_contents written_global (global.now ∷ []))) }
+{
+    let alone = Lists {
+        globals: slice::from_ref(global),
+        ..Lists::of(parts, &kept.types)
+    };
+    new_item(alloc, &alone, SECTION, parts.globals.len() as u32)
+}
+
+// Appends a global where the module with it may stay, and keeps what is to be kept of it. Answers how many sections were made anew; or
+// leaves all as it was.
 fn push_global(
     alloc: Global,
     keep: bool,
     parts: &mut Parts,
-    kept: &Kept,
+    kept: &mut Kept,
     meter: &mut Meter,
     global: GlobalDef,
-) -> Result<Judgement, EditFault>
+) -> Result<u32, EditFault>
     requires shaped { IsShaped parts.old }
-    requires kept { IsKept parts.old kept.now }
+    requires kept { IsKept parts.old kept.old }
     requires valid { IsInit parts.old.profile global.init }
     requires fresh { meter.old ≡ 0 }
     ensures ok { OnOk result (parts.new ≡ record parts.old { globals = parts.old.globals ++ global ∷ [] }) }
     ensures err { OnErr result (parts.new ≡ parts.old) }
-    ensures judged { IsJudged keep (answers_of parts.old)
+    ensures grown { IsGrown keep (answers_of parts.old)
         (record parts.old { globals = parts.old.globals ++ global ∷ [] })
-        kept.now meter.new result }
+        meter.new 1 kept.old kept.new result }
 {
     let known = known_with_global(alloc, parts, kept, &global)?;
+    let item = new_global(alloc, parts, kept, &global)?;
+    let len = len_grown(
+        &kept.pieces,
+        &item,
+        parts.funcs.len(),
+        kept.pieces.codes_len,
+    );
     parts.globals.push(global)?;
     let before = without_last_global(Lists::of(parts, &kept.types));
-    let judged = judge_grown(alloc, keep, before, parts, kept, SECTION, known, meter);
-    if judged.is_err() {
+    let judged = judge_grown(alloc, keep, before, parts, kept, len, known, meter);
+    let grown = keep_grown(alloc, kept, &item, judged);
+    if grown.is_err() {
         let _ = parts.globals.pop();
     }
-    judged
+    grown
 }
 
 /// Appends a global.
@@ -129,8 +161,7 @@ pub(crate) fn add_global(
 {
     let init = read_init(alloc, parts.profile, init)?;
     let global = GlobalDef { ty, init };
-    let judgement = push_global(alloc, keep, parts, kept, meter, global)?;
-    let sections = keep_judgement(kept, judgement);
+    let sections = push_global(alloc, keep, parts, kept, meter, global)?;
     Ok(Work {
         typed: meter.typed() as u32,
         encoded: 0,

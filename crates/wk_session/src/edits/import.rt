@@ -1,12 +1,13 @@
 //! An import more.
 
 ghost use Rattle.std.specs.Prelude.{◌≡◌, ◌≢◌, ◌+◌, ◌<◌, ◌≤◌, ◌^◌, ℕ, Err, true, false, length, map, unwrap_or, count_by, set, Some, if◌then◌else◌, IfErr, IfOk, IfNone, IfSome, OnOk, OnErr, MatchResult};
+ghost use Rattle.std.specs.List.{list_any};
 ghost use Rattle.wk_body.specs.Shape.{IsU32};
 ghost use Rattle.wk_module.specs.Items.{desc_kind, IsImport, IsDesc};
 ghost use Rattle.wk_module.specs.Types.{AreLimits};
 ghost use Rattle.wk_module.specs.Changes.{with_import};
 ghost use Rattle.wk_module.specs.Listed.{IsListId, listed, listed_with};
-ghost use Rattle.wk_module.specs.Moving.{moved_lists, are_parts_stuck, with_lists};
+ghost use Rattle.wk_module.specs.Moving.{moved_func, moved_lists, is_code_stuck, are_parts_stuck, with_lists};
 ghost use Rattle.wk_module.specs.Sections.{of_number};
 ghost use Rattle.wk_module.specs.Shape.{IsShaped, IsFormed};
 ghost use Rattle.wk_module.specs.Writing.{contents_by};
@@ -18,7 +19,7 @@ ghost use Rattle.wk_session.specs.declared.edit.Edit.{Edit};
 ghost use Rattle.wk_session.specs.Dependents.{is_retyped_in};
 ghost use Rattle.wk_session.specs.Edits.{import_place};
 ghost use Rattle.wk_session.specs.Imported.{IsRemadeAfter, IsRemadeWhere, after_import, before_import, retyped_by, IsImportPlan, IsUnplanned, IsReady, IsImportJudgement, IsImportRefusal};
-ghost use Rattle.wk_session.specs.Kept.{IsKept, Leads};
+ghost use Rattle.wk_session.specs.Kept.{IsKept, Leads, uses_of};
 ghost use Rattle.wk_session.specs.Overlays.{with_items};
 ghost use Rattle.wk_session.specs.Pieces.{IsUnwritten};
 
@@ -49,7 +50,7 @@ const SECTION: u8 = 2;
 struct ImportPlan {
     /// The lists of which something moves.
     lists: MovedLists,
-    /// The code entries.
+    /// What is kept of the code entries.
     entries: MovedEntries,
 }
 
@@ -140,7 +141,8 @@ fn plan_import(
     ensures { MatchResult result (IsImportPlan kind from parts.now) (IsUnplanned kind from parts.now) }
 {
     let lists = lists_after(alloc, parts, kept, kind, from)?;
-    let entries = moved_entries(alloc, &parts.funcs, &kept.refs, kind, from)?;
+    let codes = &kept.pieces.codes;
+    let entries = moved_entries(alloc, &parts.funcs, &kept.refs, codes, kind, from)?;
     Ok(ImportPlan { lists, entries })
 }
 
@@ -360,19 +362,22 @@ fn push_judged(
     judged
 }
 
-// Puts all that moved, and what is kept of it, in their places. It takes no memory.
+// Moves what an import of the kind at the index `from` moves, and puts what is kept of it in its place. It takes no memory.
 fn put_import(
     alloc: Global,
     parts: &mut Parts,
     kept: &mut Kept,
+    kind: Kind,
+    from: u32,
     plan: ImportPlan,
     judgement: Judgement,
 )
-    requires funcs { length plan.entries.funcs.items ≤ length parts.old.funcs }
+    requires uses { map (λ s. s.keys) kept.old.refs.items ≡ map uses_of parts.old.funcs }
+    requires free { list_any (λ f. is_code_stuck kind from f.body.instrs) parts.old.funcs ≡ false }
     requires refs { length plan.entries.refs.items ≤ length kept.old.refs.items }
     requires codes { length plan.entries.codes.items ≤ length kept.old.pieces.codes.items }
     requires sections { length judgement.remade.sections.items ≤ length kept.old.pieces.sections.items }
-    ensures parts { parts.new ≡ record (with_lists plan.lists parts.old) { funcs = with_items parts.old.funcs plan.entries.funcs.items } }
+    ensures parts { parts.new ≡ record (with_lists plan.lists parts.old) { funcs = map (moved_func kind from) parts.old.funcs } }
     ensures verdict { kept.new.verdict ≡ judgement.appraisal.verdict }
     ensures len { kept.new.len ≡ judgement.appraisal.len }
     ensures types { kept.new.types ≡ kept.old.types }
@@ -385,7 +390,6 @@ fn put_import(
 {
     let ImportPlan { lists, entries } = plan;
     let MovedEntries {
-        funcs,
         refs,
         codes,
         encoded: _,
@@ -396,7 +400,7 @@ fn put_import(
         remade,
         codes_len,
     } = judgement;
-    put_moved(alloc, parts, lists, funcs);
+    put_moved(alloc, parts, lists, &kept.refs, kind, from);
     replace_each(&mut kept.refs, refs);
     replace_each(&mut kept.pieces.codes, codes);
     replace_each(&mut kept.pieces.sections, remade.sections);
@@ -432,6 +436,6 @@ pub(crate) fn add_import(
         encoded: plan.entries.encoded,
         sections: judgement.remade.made,
     };
-    put_import(alloc, parts, kept, plan, judgement);
+    put_import(alloc, parts, kept, kind, from, plan, judgement);
     Ok(work)
 }

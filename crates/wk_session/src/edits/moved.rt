@@ -1,45 +1,39 @@
 //! What an import moves: the code entries that hold a reference of its kind to what comes behind the imported ones.
 
-ghost use Rattle.std.specs.Prelude.{◌≡◌, ◌≤◌, ◌||◌, ◌++◌, [], ◌∷◌, OnOk, false, true, length, map, IfOk, MatchResult, ◌+◌, ◌<◌, ◌^◌};
+ghost use Rattle.std.specs.Prelude.{◌≡◌, ◌||◌, ◌++◌, [], ◌∷◌, OnOk, Some, false, true, length, map, option_map, IfOk, ◌+◌, ◌<◌, ◌^◌};
 ghost use Rattle.std.specs.List.{list_any};
 ghost use Rattle.wk_body.specs.Moves.{is_moving, movement_of};
 ghost use Rattle.wk_body.specs.References.{is_stuck, any_stuck, refs_of, shift_body};
+ghost use Rattle.wk_body.specs.Written.{written_body};
+ghost use Rattle.wk_module.specs.declared.types.Func.{Func as FuncOf};
 ghost use Rattle.wk_module.specs.Moving.{moved_func, is_code_moving, is_code_stuck, with_lists};
 ghost use Rattle.wk_session.specs.Kept.{uses_of};
 ghost use Rattle.wk_session.specs.Dependents.{one_if};
-ghost use Rattle.wk_session.specs.Overlays.{with_items};
-ghost use Rattle.wk_session.specs.MovedEntries.{uses_movement, is_too_long, IsMovedEntry, AreMovedEntries, IsTooLong};
+ghost use Rattle.wk_session.specs.MovedEntries.{uses_movement, shifted_func, IsMovedEntry, AreMovedEntries};
+ghost use Rattle.wk_session.specs.Pieces.{code_of};
 
-use crate::edit::EditFault;
-use crate::kept::func_uses;
-use crate::overlay::replace_each;
-use crate::pieces::encoded_body;
 use std::alloc::Global;
 use std::collections::BTreeSet;
 use std::mem;
 use wk_bytes::{Items, OutOfMemory};
 use wk_module::{
-    Body, Func, Kind, MovedLists, Movement, Moving, Parts, Profile, Ref, ShiftFault,
-    moving_of_code, moving_of_module, shift,
+    Body, Func, Kind, MovedLists, Movement, Moving, Parts, Profile, Ref, append_shifted,
+    moving_of_code, moving_of_module, shift_in_place, shift_uses,
 };
 
-/// A code entry, and what is kept of it, after an import. Nothing stands in the place of what is as before.
+/// What is kept of a code entry after an import. Nothing stands in the place of what is as before.
 #[derive(Drop)]
 pub(crate) struct MovedEntry {
-    /// The function, where its body moves.
-    pub(crate) func: Option<Func>,
-    /// What it refers to, where its body moves.
+    /// What the function refers to, where its body moves.
     pub(crate) refs: Option<BTreeSet<Ref>>,
     /// Its code without the size, where its body moves.
     pub(crate) code: Option<Items<u8>>,
 }
 
-/// All code entries after an import, in their order.
+/// What is kept of all code entries after an import, in their order.
 #[derive(Drop)]
 pub(crate) struct MovedEntries {
-    /// Each function whose body moves.
-    pub(crate) funcs: Vec<Option<Func>>,
-    /// What each of these refers to.
+    /// What each function refers to whose body moves.
     pub(crate) refs: Vec<Option<BTreeSet<Ref>>>,
     /// The code of each of these, without the size.
     pub(crate) codes: Vec<Option<Items<u8>>>,
@@ -92,106 +86,146 @@ pub(crate) fn is_any_code_stuck(kind: Kind, from: u32, refs: &Vec<BTreeSet<Ref>>
     false
 }
 
-// A body moved, of which nothing is stuck.
-fn shifted_body(alloc: Global, body: &Body, kind: Moving, from: u32) -> Result<Body, OutOfMemory>
-    requires { any_stuck kind from (refs_of body.now.instrs) ≡ false }
-    ensures { IfOk result (λ b. b ≡ shift_body kind from body.now) }
+// Makes the code of a body that moves, without its size, and counts it: by the code before. It is written in a room that serves one
+// body after the other, and copied from there, so that it has no spare capacity.
+fn shifted_code(
+    alloc: Global,
+    room: &mut Vec<u8>,
+    body: &Body,
+    code: &[u8],
+    kind: Moving,
+    from: u32,
+    made: &mut u32,
+) -> Result<Items<u8>, OutOfMemory>
+    requires few { made.old + 1 < 2 ^ 32 }
+    requires free { any_stuck kind from (refs_of body.now.instrs) ≡ false }
+    requires code { code.now ≡ written_body body.now }
+    ensures code { IfOk result (λ c. c ≡ written_body (shift_body kind from body.now)) }
+    ensures made { made.new ≡ made.old + 1 }
 {
-    match shift(alloc, body, kind, from) {
-        Ok(body) => Ok(body),
-        Err(ShiftFault::Memory) => Err(OutOfMemory),
-        Err(ShiftFault::Overflow) => unreachable!(),
-    }
+    *made += 1;
+    room.clear();
+    append_shifted(room, body, code, kind, from)?;
+    let code = Vec::from_slice(alloc, room.as_slice())?;
+    Ok(Items::from_vec(code))
 }
 
-// A function with its body moved, of which something moves and nothing is stuck.
-fn shifted_func(alloc: Global, func: &Func, kind: Kind, from: u32) -> Result<Func, OutOfMemory>
-    requires moves { is_code_moving kind from func.now.body.instrs ≡ true }
-    requires free { is_code_stuck kind from func.now.body.instrs ≡ false }
-    ensures { IfOk result (λ f. f ≡ moved_func kind from func.now) }
+// What a function refers to after its body moved, its own type too, by what it refers to before.
+fn shifted_uses(
+    alloc: Global,
+    uses: &BTreeSet<Ref>,
+    kind: Moving,
+    from: u32,
+) -> Result<BTreeSet<Ref>, OutOfMemory>
+    requires { any_stuck kind from uses.now.keys ≡ false }
+    ensures { IfOk result (λ s. (f : FuncOf) → uses.now.keys ≡ uses_of f → s.keys ≡ uses_of (shifted_func kind from f)) }
 {
-    let ty = func.ty;
-    let body = match kind {
-        Kind::Func => shifted_body(alloc, &func.body, Moving::Func, from)?,
-        Kind::Global => shifted_body(alloc, &func.body, Moving::Global, from)?,
-        Kind::Table | Kind::Memory => unreachable!(),
-    };
-    Ok(Func { ty, body })
+    shift_uses(alloc, uses, kind, from)
 }
 
-// An entry whose body moves.
+// What is kept of an entry whose body moves and has nothing stuck.
 fn shifted_entry(
     alloc: Global,
+    room: &mut Vec<u8>,
     func: &Func,
-    kind: Kind,
+    refs: &BTreeSet<Ref>,
+    code: &Items<u8>,
+    kind: Moving,
     from: u32,
     encoded: &mut u32,
-) -> Result<MovedEntry, EditFault>
+) -> Result<MovedEntry, OutOfMemory>
     requires few { encoded.old + 1 < 2 ^ 32 }
-    requires moves { is_code_moving kind from func.now.body.instrs ≡ true }
-    requires free { is_code_stuck kind from func.now.body.instrs ≡ false }
-    ensures entry { MatchResult result (IsMovedEntry kind from func.now) (IsTooLong (is_too_long kind from func.now)) }
+    requires refs { refs.now.keys ≡ uses_of func.now }
+    requires code { code.now ≡ code_of func.now }
+    requires free { any_stuck kind from (refs_of func.now.body.instrs) ≡ false }
+    ensures refs { IfOk result (λ e. option_map (λ s. s.keys) e.refs ≡ Some (uses_of (shifted_func kind from func.now))) }
+    ensures code { IfOk result (λ e. e.code ≡ Some (code_of (shifted_func kind from func.now))) }
     ensures encoded { OnOk result (encoded.new ≡ encoded.old + 1) }
 {
-    let func = shifted_func(alloc, func, kind, from)?;
-    let refs = func_uses(alloc, func.ty, &func.body)?;
-    let code = encoded_body(alloc, &func.body, None, encoded)?;
+    // The proof asks what this says: of what a function refers to there moves what moves of its body.
+    moving_of_code();
+    let refs = shifted_uses(alloc, refs, kind, from)?;
+    let code = shifted_code(
+        alloc,
+        room,
+        &func.body,
+        code.as_slice(),
+        kind,
+        from,
+        encoded,
+    )?;
     Ok(MovedEntry {
-        func: Some(func),
         refs: Some(refs),
         code: Some(code),
     })
 }
 
-// An entry after an import.
+// What is kept of an entry after an import.
 fn moved_entry(
     alloc: Global,
+    room: &mut Vec<u8>,
     func: &Func,
     refs: &BTreeSet<Ref>,
+    code: &Items<u8>,
     kind: Kind,
     from: u32,
     encoded: &mut u32,
-) -> Result<MovedEntry, EditFault>
+) -> Result<MovedEntry, OutOfMemory>
     requires few { encoded.old + 1 < 2 ^ 32 }
     requires refs { refs.now.keys ≡ uses_of func.now }
+    requires code { code.now ≡ code_of func.now }
     requires free { is_code_stuck kind from func.now.body.instrs ≡ false }
-    ensures entry { MatchResult result (IsMovedEntry kind from func.now) (IsTooLong (is_too_long kind from func.now)) }
+    ensures entry { IfOk result (IsMovedEntry kind from func.now) }
     ensures encoded { OnOk result (encoded.new ≡ encoded.old + one_if (is_code_moving kind from func.now.body.instrs)) }
 {
     // The proof asks what these say: of what a function refers to there moves what moves of its body; where nothing does, it stays.
     moving_of_code();
     moving_of_module();
-    if uses_movement(kind, from, refs).moves {
-        return shifted_entry(alloc, func, kind, from, encoded);
+    if !uses_movement(kind, from, refs).moves {
+        return Ok(MovedEntry {
+            refs: None,
+            code: None,
+        });
     }
-    Ok(MovedEntry {
-        func: None,
-        refs: None,
-        code: None,
-    })
+    match kind {
+        Kind::Func => shifted_entry(alloc, room, func, refs, code, Moving::Func, from, encoded),
+        Kind::Global => shifted_entry(alloc, room, func, refs, code, Moving::Global, from, encoded),
+        Kind::Table | Kind::Memory => unreachable!(),
+    }
 }
 
-/// All code entries after an import of the kind at the index `from`, which leaves none stuck.
+/// What is kept of all code entries after an import of the kind at the index `from`, which leaves none stuck.
 pub(crate) fn moved_entries(
     alloc: Global,
     funcs: &Items<Func>,
     refs: &Vec<BTreeSet<Ref>>,
+    codes: &Vec<Items<u8>>,
     kind: Kind,
     from: u32,
-) -> Result<MovedEntries, EditFault>
+) -> Result<MovedEntries, OutOfMemory>
     requires refs { map (λ s. s.keys) refs.now.items ≡ map uses_of funcs.now }
+    requires codes { codes.now.items ≡ map code_of funcs.now }
     requires few { length funcs.now < 2 ^ 32 }
     requires free { list_any (λ f. is_code_stuck kind from f.body.instrs) funcs.now ≡ false }
-    ensures { MatchResult result (AreMovedEntries kind from funcs.now) (IsTooLong (list_any (is_too_long kind from) funcs.now)) }
+    ensures { IfOk result (AreMovedEntries kind from funcs.now) }
 {
+    let mut room = Vec::new(alloc);
     let mut entries = MovedEntries {
-        funcs: Vec::with_capacity(alloc, funcs.len())?,
         refs: Vec::with_capacity(alloc, funcs.len())?,
         codes: Vec::with_capacity(alloc, funcs.len())?,
         encoded: 0,
     };
     for (i, func) in funcs.as_slice().iter().enumerate() {
-        let entry = moved_entry(alloc, func, &refs[i], kind, from, &mut entries.encoded)?;
+        let entry = moved_entry(
+            alloc,
+            &mut room,
+            func,
+            &refs[i],
+            &codes[i],
+            kind,
+            from,
+            &mut entries.encoded,
+        )?;
         push_entry(&mut entries, entry)?;
     }
     Ok(entries)
@@ -199,32 +233,62 @@ pub(crate) fn moved_entries(
 
 // Appends an entry.
 fn push_entry(entries: &mut MovedEntries, entry: MovedEntry) -> Result<(), OutOfMemory>
-    ensures funcs { OnOk result (entries.new.funcs.items ≡ entries.old.funcs.items ++ entry.func ∷ []) }
     ensures refs { OnOk result (entries.new.refs.items ≡ entries.old.refs.items ++ entry.refs ∷ []) }
     ensures codes { OnOk result (entries.new.codes.items ≡ entries.old.codes.items ++ entry.code ∷ []) }
     ensures encoded { entries.new.encoded ≡ entries.old.encoded }
 {
-    let MovedEntry { func, refs, code } = entry;
-    entries.funcs.push(func)?;
+    let MovedEntry { refs, code } = entry;
     entries.refs.push(refs)?;
     entries.codes.push(code)?;
     Ok(())
 }
 
-/// Puts lists and functions that have moved in their places. It takes no memory.
+// Moves the body of a function where it stands, by what the function refers to.
+fn move_func(func: &mut Func, refs: &BTreeSet<Ref>, kind: Kind, from: u32)
+    requires refs { refs.now.keys ≡ uses_of func.old }
+    requires free { is_code_stuck kind from func.old.body.instrs ≡ false }
+    ensures { func.new ≡ moved_func kind from func.old }
+{
+    // The proof asks what these say: of what a function refers to there moves what moves of its body; where nothing does, it stays.
+    moving_of_code();
+    moving_of_module();
+    if uses_movement(kind, from, refs).moves {
+        match kind {
+            Kind::Func => shift_in_place(&mut func.body, Moving::Func, from),
+            Kind::Global => shift_in_place(&mut func.body, Moving::Global, from),
+            Kind::Table | Kind::Memory => {}
+        }
+    }
+}
+
+// Moves the bodies of functions where they stand.
+fn move_funcs(funcs: &mut Vec<Func>, refs: &Vec<BTreeSet<Ref>>, kind: Kind, from: u32)
+    requires refs { map (λ s. s.keys) refs.now.items ≡ map uses_of funcs.old.items }
+    requires free { list_any (λ f. is_code_stuck kind from f.body.instrs) funcs.old.items ≡ false }
+    ensures { funcs.new.items ≡ map (moved_func kind from) funcs.old.items }
+{
+    for i in 0..funcs.len() {
+        move_func(&mut funcs[i], &refs[i], kind, from);
+    }
+}
+
+/// Puts lists that have moved in their places, and moves functions where they stand, by what each refers to. It takes no memory.
 pub(crate) fn put_moved(
     alloc: Global,
     parts: &mut Parts,
     lists: MovedLists,
-    funcs: Vec<Option<Func>>,
+    refs: &Vec<BTreeSet<Ref>>,
+    kind: Kind,
+    from: u32,
 )
-    requires { length funcs.items ≤ length parts.old.funcs }
-    ensures { parts.new ≡ record (with_lists lists parts.old) { funcs = with_items parts.old.funcs funcs.items } }
+    requires refs { map (λ s. s.keys) refs.now.items ≡ map uses_of parts.old.funcs }
+    requires free { list_any (λ f. is_code_stuck kind from f.body.instrs) parts.old.funcs ≡ false }
+    ensures { parts.new ≡ record (with_lists lists parts.old) { funcs = map (moved_func kind from) parts.old.funcs } }
 {
     let before = mem::replace(parts, Parts::new(alloc, Profile::Core));
     let mut now = lists.put_into(before);
     let mut all = mem::replace(&mut now.funcs, Items::new(alloc)).into_vec();
-    replace_each(&mut all, funcs);
+    move_funcs(&mut all, refs, kind, from);
     now.funcs = Items::from_vec(all);
     *parts = now;
 }

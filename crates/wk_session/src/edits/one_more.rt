@@ -1,28 +1,35 @@
 //! What edits share that add to a module something that references may find.
 
-ghost use Rattle.std.specs.Prelude.{◌≡◌, ◌<◌, ◌≤◌, ◌^◌, count_by, length, map, unwrap_or, IfOk, IfSome, OnOk};
+ghost use Rattle.std.specs.Prelude.{◌≡◌, ◌+◌, ◌<◌, ◌≤◌, ◌^◌, ℕ, Bool, [], count_by, drop, get_or, length, map, unwrap_or, IfOk, IfSome, MatchResult, OnOk};
+ghost use Rattle.wk_bytes.specs.Frames.{limit};
+ghost use Rattle.wk_body.specs.Lengths.{limited};
+ghost use Rattle.wk_body.specs.declared.references.Ref.{Ref as RefOf};
+ghost use Rattle.wk_module.specs.declared.types.Parts.{Parts as PartsOf};
 ghost use Rattle.wk_module.specs.Listed.{IsListId, listed};
-ghost use Rattle.wk_module.specs.Shape.{IsFormed};
+ghost use Rattle.wk_module.specs.Sections.{of_number};
+ghost use Rattle.wk_module.specs.Shape.{IsFormed, IsInOrderFrom};
+ghost use Rattle.wk_module.specs.Writing.{contents_by, encoded};
+ghost use Rattle.wk_check.specs.Answers.{Found};
 ghost use Rattle.wk_check.specs.Finds.{Grows};
 ghost use Rattle.wk_check.specs.Spaces.{answer_in, spaces_of};
 ghost use Rattle.wk_check.specs.SpacesLaws.{answers_of};
 ghost use Rattle.wk_check.specs.Verdict.{func_verdict};
 ghost use Rattle.wk_session.specs.Dependents.{is_retyped_in};
-ghost use Rattle.wk_session.specs.Judged.{AreKept, IsJudged, IsKnown};
-ghost use Rattle.wk_session.specs.Overlays.{with_items};
-ghost use Rattle.wk_session.specs.Pieces.{one_new, section_piece, section_pieces};
+ghost use Rattle.wk_session.specs.Longer.{IsLonger, IsNewItem};
+ghost use Rattle.wk_session.specs.Judged.{AreKept, IsGrown, IsJudged, IsKnown};
+ghost use Rattle.wk_session.specs.Pieces.{IsOverlong, codes_size, customs_size};
 
 use crate::appraisal::{Appraisal, admit, appraise};
 use crate::edit::EditFault;
 use crate::judged::rejudged;
 use crate::kept::Kept;
-use crate::lengths::len_after;
-use crate::overlay::replace_each;
-use crate::pieces::{NewSections, one_remade};
+use crate::lengths::len_with;
+use crate::longer::{append_item, grown_len};
+use crate::pieces::{Pieces, remade};
 use std::alloc::Global;
-use wk_bytes::OutOfMemory;
+use wk_bytes::{Items, OutOfMemory};
 use wk_check::{BodyVerdict, Meter, Verdict, Whole};
-use wk_module::{Lists, Parts};
+use wk_module::{EncodeFault, Lists, Parts};
 
 /// What is to be kept of a module that an edit would make.
 #[derive(Drop)]
@@ -31,8 +38,19 @@ pub(crate) struct Judgement {
     pub(crate) verdicts: Option<Vec<BodyVerdict>>,
     /// Its verdict and its length.
     pub(crate) appraisal: Appraisal,
-    /// The section that is made anew.
-    pub(crate) remade: NewSections,
+}
+
+/// An item that comes to a list, as it is written.
+#[derive(Drop)]
+pub(crate) struct NewItem {
+    /// The id of the section of the list.
+    pub(crate) id: u8,
+    /// How many items the list has without it.
+    pub(crate) count: u32,
+    /// The contents of a list of this item alone.
+    pub(crate) alone: Items<u8>,
+    /// How many sections are made again with it.
+    pub(crate) made: u32,
 }
 
 // The verdicts of the bodies of a module in which each reference finds what it found before, if that was there.
@@ -65,76 +83,127 @@ fn verdicts_grown(
     )
 }
 
-/// Judges a module in which each reference finds what it found before, if that was there, and of whose sections that of an id alone
-/// is another. What is kept is of the module before but for what came to it. Where the verdict is known no body is looked at.
+/// Judges a module in which each reference finds what it found before, if that was there, and which is so long. What is kept is of the
+/// module before but for what came to it. Where the verdict is known no body is looked at.
 pub(crate) fn judge_grown(
     alloc: Global,
     keep: bool,
     before: Lists<'_>,
     parts: &Parts,
     kept: &Kept,
-    id: u8,
+    len: Option<u32>,
     known: Option<Verdict>,
     meter: &mut Meter,
 ) -> Result<Judgement, EditFault>
     requires formed { IsFormed parts.now }
     requires grows { Grows (answer_in (spaces_of (listed before))) (answers_of parts.now) }
     requires kept { AreKept (answer_in (spaces_of (listed before))) parts.now kept.now }
-    requires id { IsListId id }
+    requires len { len ≡ limited (length (encoded parts.now)) }
     requires known { IfSome known (IsKnown (answer_in (spaces_of (listed before))) parts.now) }
-    requires others { with_items kept.now.pieces.sections.items (one_new id (section_piece id parts.now)) ≡ section_pieces parts.now }
     requires fresh { meter.old ≡ 0 }
     ensures { IsJudged keep (answer_in (spaces_of (listed before.entry))) parts.now kept.now meter.new result }
 {
-    let lists = Lists::of(parts, &kept.types);
-    let remade = one_remade(alloc, &lists, id)?;
-    let pieces = &kept.pieces;
-    let len = len_after(
-        &pieces.sections,
-        &remade.sections,
-        parts.funcs.len(),
-        pieces.codes_len,
-        pieces.customs_len,
-    );
     if let Some(verdict) = known {
         let appraisal = admit(keep, verdict, len)?;
         return Ok(Judgement {
             verdicts: None,
             appraisal,
-            remade,
         });
     }
     let verdicts = verdicts_grown(alloc, before, parts, kept, meter)?;
+    let lists = Lists::of(parts, &kept.types);
     let appraisal = appraise(alloc, keep, &lists, &verdicts, len)?;
     Ok(Judgement {
         verdicts: Some(verdicts),
         appraisal,
-        remade,
     })
 }
 
-/// Keeps what is to be kept of a module that an edit makes, and answers how many sections were made anew for it.
-pub(crate) fn keep_judgement(kept: &mut Kept, judgement: Judgement) -> u32
-    requires { length judgement.remade.sections.items ≤ length kept.old.pieces.sections.items }
-    ensures made { result ≡ judgement.remade.made }
-    ensures rest { kept.new ≡ record kept.old {
+/// The item of lists of which that of an id has no other, as it comes to a list of so many.
+pub(crate) fn new_item(
+    alloc: Global,
+    lists: &Lists<'_>,
+    id: u8,
+    count: u32,
+) -> Result<NewItem, EncodeFault>
+    requires { IsListId id }
+    ensures { MatchResult result
+        (IsNewItem id count (contents_by (listed lists.now) (of_number id)))
+        (IsOverlong (contents_by (listed lists.now) (of_number id))) }
+{
+    let mut made = 0;
+    let alone = remade(alloc, lists, id, &mut made)?;
+    Ok(NewItem {
+        id,
+        count,
+        alone,
+        made,
+    })
+}
+
+/// The item, without the count of one in front of it.
+pub(crate) fn bytes_of(item: &NewItem) -> &[u8]
+    ensures { result.now ≡ drop 1 item.now.alone }
+{
+    item.alone.as_slice().get(1..).unwrap_or(&[])
+}
+
+/// The length of a module with that item more, by how many functions it defines and how many bytes its codes have with their sizes; or
+/// nothing past 2,147,483,647. It takes no memory.
+pub(crate) fn len_grown(pieces: &Pieces, item: &NewItem, funcs: usize, codes: u32) -> Option<u32>
+    requires sections { length pieces.now.sections.items ≡ 12 }
+    requires id { item.now.id < 12 }
+    requires count { item.now.count + 1 < 2 ^ 32 }
+    requires item { length item.now.alone ≤ limit }
+    requires contents { length (get_or pieces.now.sections.items item.now.id []) ≤ limit }
+    requires funcs { funcs < 2 ^ 32 }
+    ensures { (n : PartsOf) → IsInOrderFrom 0 n.customs
+        → IsLonger item.now.id item.now.count item.now.alone pieces.now.sections.items n
+        → funcs ≡ length n.funcs → codes ≡ codes_size n.funcs → pieces.now.customs_len ≡ customs_size n.customs
+        → result ≡ limited (length (encoded n)) }
+{
+    let id = item.id as usize;
+    let size = grown_len(pieces.sections[id].as_slice(), item.count, bytes_of(item));
+    len_with(&pieces.sections, id, size, funcs, codes, pieces.customs_len)
+}
+
+/// Keeps what is to be kept of a module that an edit makes, but for its sections.
+pub(crate) fn keep_judgement(kept: &mut Kept, judgement: Judgement)
+    ensures { kept.new ≡ record kept.old {
       verdict = judgement.appraisal.verdict;
       len = judgement.appraisal.len;
       verdicts = unwrap_or judgement.verdicts kept.old.verdicts;
-      pieces = record kept.old.pieces { sections = kept.new.pieces.sections };
     } }
-    ensures sections { kept.new.pieces.sections.items ≡ with_items kept.old.pieces.sections.items judgement.remade.sections.items }
 {
     let Judgement {
         verdicts,
         appraisal,
-        remade,
     } = judgement;
-    replace_each(&mut kept.pieces.sections, remade.sections);
     kept.verdict = appraisal.verdict;
     kept.len = appraisal.len;
     if let Some(verdicts) = verdicts {
         kept.verdicts = verdicts;
     }
-    remade.made
+}
+
+/// Keeps what is to be kept of a module with an item more where it may stay, and answers how many sections were made anew for it; or
+/// leaves what is kept as it was.
+pub(crate) fn keep_grown(
+    alloc: Global,
+    kept: &mut Kept,
+    item: &NewItem,
+    judged: Result<Judgement, EditFault>,
+) -> Result<u32, EditFault>
+    requires id { item.now.id < length kept.old.pieces.sections.items }
+    requires count { item.now.count + 1 < 2 ^ 32 }
+    ensures { (keep : Bool) → (before : RefOf → Found) → (n : PartsOf) → (typed : ℕ) → AreKept before n kept.old
+        → IsLonger item.now.id item.now.count item.now.alone kept.old.pieces.sections.items n
+        → IsJudged keep before n kept.old typed judged
+        → IsGrown keep before n typed item.now.made kept.old kept.new result }
+{
+    let judgement = judged?;
+    let section = &mut kept.pieces.sections[item.id as usize];
+    append_item(alloc, section, item.count, bytes_of(item))?;
+    keep_judgement(kept, judgement);
+    Ok(item.made)
 }

@@ -1,21 +1,27 @@
 //! A type more.
 
-ghost use Rattle.std.specs.Prelude.{◌≡◌, ◌≢◌, ◌<◌, ◌-◌, length, take, IfNone, IfSome, OnOk, OnErr};
+ghost use Rattle.std.specs.Prelude.{◌≡◌, ◌≢◌, ◌<◌, ◌-◌, ◌^◌, ◌∷◌, [], length, take, IfNone, IfSome, MatchResult, OnOk, OnErr};
+ghost use Rattle.wk_body.specs.Lengths.{limited};
 ghost use Rattle.wk_module.specs.Listed.{listed};
 ghost use Rattle.wk_module.specs.Changes.{with_type};
 ghost use Rattle.wk_module.specs.Shape.{IsShaped};
+ghost use Rattle.wk_module.specs.Types.{written_functype};
+ghost use Rattle.wk_module.specs.Writing.{encoded, list_contents};
 ghost use Rattle.wk_check.specs.SpacesLaws.{answers_of};
 ghost use Rattle.wk_session.specs.declared.edit.Edit.{Edit};
-ghost use Rattle.wk_session.specs.Judged.{IsJudged, IsKnown};
+ghost use Rattle.wk_session.specs.Judged.{IsGrown, IsKnown};
 ghost use Rattle.wk_session.specs.Kept.{IsKept, Leads};
+ghost use Rattle.wk_session.specs.Longer.{IsNewItem};
+ghost use Rattle.wk_session.specs.Pieces.{IsOverlong};
 
 use crate::edit::{EditFault, Reply, Work};
 use crate::edits::item_len::len_with_type;
-use crate::edits::one_more::{Judgement, judge_grown, keep_judgement};
+use crate::edits::one_more::{NewItem, judge_grown, keep_grown, new_item};
 use crate::kept::Kept;
 use std::alloc::Global;
+use std::slice;
 use wk_check::{Meter, Verdict, laws_of_valid_modules, verdict_with_type};
-use wk_module::{FuncType, Lists, Parts};
+use wk_module::{EncodeFault, FuncType, Lists, Parts};
 
 /// The id of the type section (5.5.2).
 const SECTION: u8 = 1;
@@ -44,30 +50,54 @@ fn known_with_type(parts: &Parts, kept: &Kept, ty: &FuncType) -> Option<Verdict>
     }
 }
 
-// Appends a type where the module with it may stay, and says what is to be kept of it; or leaves the parts as they were.
+// The type as it comes to the others.
+fn new_type(
+    alloc: Global,
+    parts: &Parts,
+    kept: &Kept,
+    ty: &FuncType,
+) -> Result<NewItem, EncodeFault>
+    requires { length parts.now.types < 2 ^ 32 }
+    ensures { MatchResult result
+        (IsNewItem 1 (length parts.now.types) (list_contents written_functype (ty.now ∷ [])))
+        (IsOverlong (list_contents written_functype (ty.now ∷ []))) }
+{
+    let alone = Lists {
+        types: slice::from_ref(ty),
+        ..Lists::of(parts, &kept.types)
+    };
+    new_item(alloc, &alone, SECTION, parts.types.len() as u32)
+}
+
+// Appends a type where the module with it may stay, which is so long, and keeps what is to be kept of it. Answers how many sections were
+// made anew; or leaves all as it was.
 fn push_type(
     alloc: Global,
     keep: bool,
     parts: &mut Parts,
-    kept: &Kept,
+    kept: &mut Kept,
     meter: &mut Meter,
     ty: FuncType,
-) -> Result<Judgement, EditFault>
+    len: Option<u32>,
+) -> Result<u32, EditFault>
     requires shaped { IsShaped parts.old }
-    requires kept { IsKept parts.old kept.now }
+    requires kept { IsKept parts.old kept.old }
+    requires len { len ≡ limited (length (encoded (with_type ty parts.old))) }
     requires fresh { meter.old ≡ 0 }
     ensures ok { OnOk result (parts.new ≡ with_type ty parts.old) }
     ensures err { OnErr result (parts.new ≡ parts.old) }
-    ensures judged { IsJudged keep (answers_of parts.old) (with_type ty parts.old) kept.now meter.new result }
+    ensures grown { IsGrown keep (answers_of parts.old) (with_type ty parts.old) meter.new 1 kept.old kept.new result }
 {
     let known = known_with_type(parts, kept, &ty);
+    let item = new_type(alloc, parts, kept, &ty)?;
     parts.types.push(ty)?;
     let before = without_last_type(Lists::of(parts, &kept.types));
-    let judged = judge_grown(alloc, keep, before, parts, kept, SECTION, known, meter);
-    if judged.is_err() {
+    let judged = judge_grown(alloc, keep, before, parts, kept, len, known, meter);
+    let grown = keep_grown(alloc, kept, &item, judged);
+    if grown.is_err() {
         let _ = parts.types.pop();
     }
-    judged
+    grown
 }
 
 /// Appends a type.
@@ -84,12 +114,12 @@ pub(crate) fn add_type(
     requires fresh { meter.old ≡ 0 }
     ensures { Leads keep (Edit.Ty ty.now) parts.old result parts.new kept.new }
 {
-    if len_with_type(parts, kept, ty).is_none() {
+    let len = len_with_type(parts, kept, ty);
+    if len.is_none() {
         return Err(EditFault::TooLarge);
     }
     let ty = ty.copy(alloc)?;
-    let judgement = push_type(alloc, keep, parts, kept, meter, ty)?;
-    let sections = keep_judgement(kept, judgement);
+    let sections = push_type(alloc, keep, parts, kept, meter, ty, len)?;
     Ok(Work {
         typed: meter.typed() as u32,
         encoded: 0,

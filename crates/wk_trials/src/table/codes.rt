@@ -8,7 +8,7 @@ use crate::sinks::Room::{Ample, Full};
 use wk_module::Profile::{Core, Extended};
 
 /// Calls of `wk_bytes` and `wk_body`.
-pub(crate) static CODES: [Named; 48] = [
+pub(crate) static CODES: [Named; 50] = [
     ("put-u32", Scenario::Put(Integer::U32)),
     ("put-s32", Scenario::Put(Integer::S32)),
     ("put-s33", Scenario::Put(Integer::S33)),
@@ -44,6 +44,11 @@ pub(crate) static CODES: [Named; 48] = [
     ),
     ("append-body", Scenario::OfBody(OfBody::Append, CORE_CODE)),
     ("shift", Scenario::OfBody(OfBody::Shift, CORE_CODE)),
+    (
+        "append-shifted",
+        Scenario::OfBody(OfBody::AppendShifted, CORE_CODE),
+    ),
+    ("shift-uses", Scenario::OfBody(OfBody::ShiftUses, CORE_CODE)),
     ("clone-body", Scenario::OfBody(OfBody::Clone, CORE_CODE)),
     ("refs", Scenario::OfBody(OfBody::Refs, CORE_CODE)),
     ("uses", Scenario::OfBody(OfBody::Uses, CORE_CODE)),

@@ -6,7 +6,7 @@ use crate::scenario::Named;
 use crate::scenario::Scenario::{self, Apply, ApplyKept, ApplyLarge};
 
 /// Each kind of edit.
-pub(crate) static KINDS: [Named; 26] = [
+pub(crate) static KINDS: [Named; 27] = [
     ("apply-add-type", Apply(changes::ADD_TYPE)),
     ("apply-kept-add-type", ApplyKept(changes::ADD_TYPE)),
     ("apply-import-func", Apply(changes::IMPORT_FUNC)),
@@ -31,6 +31,7 @@ pub(crate) static KINDS: [Named; 26] = [
         "apply-kept-remove-export",
         ApplyKept(changes::REMOVE_EXPORT),
     ),
+    ("apply-remove-most", Apply(changes::REMOVE_MOST)),
     ("apply-set-custom", Apply(changes::SET_CUSTOM)),
     ("apply-kept-set-custom", ApplyKept(changes::SET_CUSTOM)),
     ("apply-add-custom", Apply(changes::ADD_CUSTOM)),

@@ -1,4 +1,4 @@
-use Rattle.std.proofs.Common.{◌≡◌, ◌∙◌, length, ap, sym, arith}
+use Rattle.std.proofs.Common.{◌≡◌, ◌∙◌, length, map, ap, sym, arith}
 use Rattle.std.proofs.lemmas.List.{length-map}
 use Rattle.std.proofs.lemmas.Result.{err_from_is_err_and}
 use Rattle.wk_module.specs.Changes.{with_body}
@@ -6,13 +6,16 @@ use Rattle.wk_module.specs.ChangeLaws.{body_formed}
 use Rattle.wk_module.specs.Listed.{listed}
 use Rattle.wk_module.specs.NumberedLaws.{funcs_numbered}
 use Rattle.wk_module.specs.Shape.{IsFormed}
+use Rattle.wk_body.specs.declared.references.Ref.{Ref}
+use Rattle.wk_check.specs.Answers.{Found}
+use Rattle.wk_check.specs.Typing.{body_verdict}
 use Rattle.wk_check.specs.SpacesLaws.{answers_of}
 use Rattle.wk_check.specs.Verdict.{func_verdict, module_verdict}
 use Rattle.wk_session.specs.Kept.{IsPending}
-use Rattle.wk_session.proofs.BodyEdits.{lent_given}
+use Rattle.wk_session.proofs.BodyEdits.{answers_stay, lent_given, others_stay, told_given}
 use Rattle.wk_session.proofs.EntryEdits.{lent, numbered_lent}
 use Rattle.wk_session.proofs.edits.body.judged_body.Goals as goal
-use Rattle.wk_session.proofs.edits.body.judged_body.Goals.{After-of-lists, After-verdict_with_body-verdict}
+use Rattle.wk_session.proofs.edits.body.judged_body.Goals.{After-of-lists, After-verdict_with_body-verdict, In_ok-own, In_ok-verdicts}
 
 formed : (c : After-of-lists) → IsFormed (with_body c.args.entry c.args.body.now c.args.parts.now)
 formed c = body_formed c.args.entry c.args.body.now c.args.parts.now c.requires.valid c.requires.shaped.formed
@@ -23,14 +26,26 @@ lists_are c =
     lent_given c.args.entry c.args.body.now c.args.parts.now c.deref.result.now _ c.of-lists.ensures.lists (c.deref.ensures.value ∙ c.requires.kept.types)
 
 -- what is pending
-pending : (c : After-of-lists) → IsPending c.of-lists.result c.in_ok-own.verdicts.items c.args.len (with_body c.args.entry c.args.body.now c.args.parts.now)
-pending c = record {
+pending : (c : After-of-lists) → c.in_ok-verdicts.verdicts.items ≡ map (func_verdict (answers_of (with_body c.args.entry c.args.body.now c.args.parts.now))) (with_body c.args.entry c.args.body.now c.args.parts.now).funcs
+    → IsPending c.of-lists.result c.in_ok-verdicts.verdicts.items c.args.len (with_body c.args.entry c.args.body.now c.args.parts.now)
+pending c all = record {
   formed = formed c;
   profile = c.of-lists.ensures.profile;
   lists = lists_are c;
-  verdicts = c.in_ok-own.ensures.verdicts;
+  verdicts = all;
   len = c.requires.len;
 }
+
+-- the kept verdicts are those of the others still
+others : (c : In_ok-own) → c.args.kept.now.verdicts.items ≡ map (func_verdict (answers_of (with_body c.args.entry c.args.body.now c.args.parts.now))) c.args.parts.now.funcs
+others c = others_stay c.args.entry c.args.body.now c.args.parts.now c.args.kept.now.verdicts.items c.requires.kept.verdicts
+
+-- with the one that is another they are those of all
+all_are : (c : In_ok-verdicts) → c.args.kept.now.verdicts.items ≡ map (func_verdict (answers_of (with_body c.args.entry c.args.body.now c.args.parts.now))) c.args.parts.now.funcs
+    → c.in_ok-verdicts.verdicts.items ≡ map (func_verdict (answers_of (with_body c.args.entry c.args.body.now c.args.parts.now))) (with_body c.args.entry c.args.body.now c.args.parts.now).funcs
+all_are c same =
+    let m = c.args.parts.now in
+    told_given (func_verdict (answers_of (with_body c.args.entry c.args.body.now m))) c.args.entry c.args.body.now m.funcs c.args.ty c.args.kept.now.verdicts.items c.in_ok-verdicts.verdicts.items c.in_ok-own.own c.requires.ty c.in_ok-verdicts.ensures same c.in_ok-own.ensures.own
 
 pub overflow_cast-entry : goal.overflow_cast-entry
 overflow_cast-entry c = omega (arith, c.requires.within, funcs_numbered c.args.parts.now c.requires.shaped.formed)
@@ -38,7 +53,7 @@ overflow_cast-entry c = omega (arith, c.requires.within, funcs_numbered c.args.p
 -- the verdict of a valid module with the other body
 verdict_is : (c : After-verdict_with_body-verdict) → c.verdict_with_body-verdict.result ≡ module_verdict (with_body c.args.entry c.args.body.now c.args.parts.now)
 verdict_is c =
-    c.verdict_with_body-verdict.ensures c.args.parts.now c.args.ty c.args.body.now c.requires.ty (sym c.requires.kept.verdict ∙ c.in-Valid.is) c.in_ok-own.ensures.own
+    c.verdict_with_body-verdict.ensures c.args.parts.now c.args.ty c.args.body.now c.requires.ty (sym c.requires.kept.verdict ∙ c.in-Valid.is) (c.in_ok-own.ensures.own ∙ ap (λ (A : Ref → Found). body_verdict A c.args.ty c.args.body.now) (answers_stay c.args.entry c.args.body.now c.args.parts.now))
 
 pub returns-in_err-appraisal-clause-err : goal.returns-in_err-appraisal-clause-err
 returns-in_err-appraisal-clause-err c =
@@ -61,13 +76,23 @@ appraise-requires-clause-numbered c =
 pub appraise-requires-clause-few : goal.appraise-requires-clause-few
 appraise-requires-clause-few c =
     let n = with_body c.args.entry c.args.body.now c.args.parts.now in
-    omega (arith, ap length c.in_ok-own.ensures.verdicts, length-map n.funcs (func_verdict (answers_of n)), funcs_numbered n (formed (goal.at.appraise-requires-clause-few c).After-of-lists))
+    omega (arith, ap length (all_are (goal.at.appraise-requires-clause-few c).In_ok-verdicts (others (goal.at.appraise-requires-clause-few c).In_ok-own)), length-map n.funcs (func_verdict (answers_of n)), funcs_numbered n (formed (goal.at.appraise-requires-clause-few c).After-of-lists))
 
 pub returns-in_err-appraisal-2-clause-err : goal.returns-in_err-appraisal-2-clause-err
 returns-in_err-appraisal-2-clause-err c =
+    let at = goal.at.returns-in_err-appraisal-2-clause-err c in
     let p = err_from_is_err_and c.from_residual-in_err-appraisal-2.result c.from_residual-in_err-appraisal-2.ensures.1 in
-    rw (p.1, p.2) (c.in_err-appraisal-2.ensures (with_body c.args.entry c.args.body.now c.args.parts.now) (pending (goal.at.returns-in_err-appraisal-2-clause-err c).After-of-lists))
+    rw (p.1, p.2) (c.in_err-appraisal-2.ensures (with_body c.args.entry c.args.body.now c.args.parts.now) (pending at.After-of-lists (all_are at.In_ok-verdicts (others at.In_ok-own))))
 
 pub returns-clause-ok : goal.returns-clause-ok
 returns-clause-ok c =
-    c.in_ok-appraisal-2.ensures (with_body c.args.entry c.args.body.now c.args.parts.now) (pending (goal.at.returns-clause-ok c).After-of-lists)
+    let at = goal.at.returns-clause-ok c in
+    c.in_ok-appraisal-2.ensures (with_body c.args.entry c.args.body.now c.args.parts.now) (pending at.After-of-lists (all_are at.In_ok-verdicts (others at.In_ok-own)))
+
+pub returns-in-Valid-clause-verdicts : goal.returns-in-Valid-clause-verdicts
+returns-in-Valid-clause-verdicts c = (c.in_ok-own.ensures.own, others (goal.at.returns-in-Valid-clause-verdicts c).In_ok-own)
+
+pub returns-clause-verdicts : goal.returns-clause-verdicts
+returns-clause-verdicts c =
+    let at = goal.at.returns-clause-verdicts c in
+    all_are at.In_ok-verdicts (others at.In_ok-own)

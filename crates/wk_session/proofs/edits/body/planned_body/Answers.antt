@@ -1,4 +1,4 @@
-use Rattle.std.proofs.Common.{◌≡◌, ℕ, List, Option, length, set, ap, sym, ◌∙◌, refl, arith}
+use Rattle.std.proofs.Common.{◌≡◌, ℕ, List, length, set, ap, sym, ◌∙◌, refl, arith}
 use Rattle.std.proofs.lemmas.Result.{err_from_is_err_and}
 use Rattle.wk_body.specs.Lengths.{limited}
 use Rattle.wk_body.specs.LengthsLaws.{limited_some}
@@ -6,14 +6,13 @@ use Rattle.wk_module.specs.Changes.{with_body}
 use Rattle.wk_module.specs.ChangeLaws.{body_formed}
 use Rattle.wk_module.specs.NumberedLaws.{funcs_numbered}
 use Rattle.wk_module.specs.Writing.{encoded}
-use Rattle.wk_session.specs.Overlays.{with_items}
 use Rattle.wk_session.specs.Pieces.{codes_size, entries_size, section_pieces}
 use Rattle.wk_session.proofs.EntryEdits.{codes_large}
 use Rattle.wk_session.proofs.BodyEdits.{body_sections, body_unencoded, codes_given, length-given}
 use Rattle.wk_session.proofs.Outcomes.{limited-some}
 use Rattle.wk_session.proofs.Piecing.{codes_within, entries_codes}
 use Rattle.wk_session.proofs.edits.body.planned_body.Goals as goal
-use Rattle.wk_session.proofs.edits.body.planned_body.Goals.{After-codes_len_with, In-Some, In_ok-no_news}
+use Rattle.wk_session.proofs.edits.body.planned_body.Goals.{After-codes_len_with, In-Some}
 
 pub returns-in_err-code-clause-err : goal.returns-in_err-code-clause-err
 returns-in_err-code-clause-err c =
@@ -44,8 +43,8 @@ returns-in_default-clause-err c =
     let at = (goal.at.returns-in_default-clause-err c).After-codes_len_with in
     λ other. codes_large c.args.keep (with_body c.args.entry c.args.body.now c.args.parts.now) c.requires.shaped.formed.order (sym c.in_default.is ∙ codes_are at)
 
-pub len_after-len-requires-clause-count : goal.len_after-len-requires-clause-count
-len_after-len-requires-clause-count c = omega (arith, c.len.ensures, funcs_numbered c.args.parts.now c.requires.shaped.formed)
+pub len_of-len-requires-clause-count : goal.len_of-len-requires-clause-count
+len_of-len-requires-clause-count c = omega (arith, c.len.ensures, funcs_numbered c.args.parts.now c.requires.shaped.formed)
 
 -- the length that is kept of all codes
 codes_len_is : (c : In-Some) → c.codes_len_with.result ≡ limited (codes_size (with_body c.args.entry c.args.body.now c.args.parts.now).funcs)
@@ -54,10 +53,11 @@ codes_len_is c codes =
     (limited_some c.in-Some.codes_len (codes_size (with_body c.args.entry c.args.body.now c.args.parts.now).funcs) (sym c.in-Some.is ∙ codes)).0
 
 -- the sections stay
-overlaid : (c : In_ok-no_news) → with_items c.args.kept.now.pieces.sections.items c.in_ok-no_news.field-0.items ≡ section_pieces (with_body c.args.entry c.args.body.now c.args.parts.now)
-overlaid c =
-    let old = c.args.kept.now.pieces.sections.items in
-    ap (λ (news : List (Option (List ℕ))). with_items old news) c.in_ok-no_news.ensures ∙ body_sections c.args.entry c.args.body.now c.args.parts.now old c.requires.kept.pieces.sections
+sections_are : (c : After-codes_len_with) → c.args.kept.now.pieces.sections.items ≡ section_pieces (with_body c.args.entry c.args.body.now c.args.parts.now)
+sections_are c = body_sections c.args.entry c.args.body.now c.args.parts.now c.args.kept.now.pieces.sections.items c.requires.kept.pieces.sections
+
+pub len_of-len-requires-clause-sections : goal.len_of-len-requires-clause-sections
+len_of-len-requires-clause-sections c = ap length c.requires.kept.pieces.sections
 
 pub judged_body-requires-clause-len : goal.judged_body-requires-clause-len
 judged_body-requires-clause-len c =
@@ -66,7 +66,7 @@ judged_body-requires-clause-len c =
     let at = goal.at.judged_body-requires-clause-len c in
     let codes = codes_len_is at.In-Some (codes_are at.After-codes_len_with) in
     let count : c.len.result ≡ length n.funcs = omega (arith, c.len.ensures, length-given c.args.entry c.args.body.now m.funcs c.args.ty c.requires.ty) in
-    c.len_after-len.ensures n c.requires.shaped.formed.order (overlaid at.In_ok-no_news) count codes c.requires.kept.pieces.customs_len
+    c.len_of-len.ensures n c.requires.shaped.formed.order (sections_are at.After-codes_len_with) count codes c.requires.kept.pieces.customs_len
 
 pub returns-in_err-verdicts-clause-err : goal.returns-in_err-verdicts-clause-err
 returns-in_err-verdicts-clause-err c =
@@ -87,7 +87,5 @@ returns-clause-ok c =
       code = c.in_ok-code.ensures.code;
       codes_len = codes_len_is at.In-Some (codes_are at.After-codes_len_with);
       encoded = c.in_ok-code.ensures.made;
-      sections = overlaid at.In_ok-no_news;
-      count = ap length c.in_ok-no_news.ensures ∙ sym (ap length c.requires.kept.pieces.sections);
       made = refl;
     }

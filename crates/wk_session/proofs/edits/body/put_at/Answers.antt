@@ -1,15 +1,26 @@
-use Rattle.std.proofs.Common.{length, ap, ◌∙◌, arith}
+use Rattle.std.proofs.Common.{List, length, ap, refl, subst, sym, ◌∙◌, arith}
 use Rattle.std.proofs.lemmas.List.{length-map}
+use Rattle.wk_module.specs.Changes.{with_body}
+use Rattle.wk_check.specs.declared.fault.BodyVerdict.{BodyVerdict}
+use Rattle.wk_check.specs.SpacesLaws.{answers_of}
+use Rattle.wk_check.specs.Verdict.{func_verdict}
+use Rattle.wk_session.specs.Functions.{AreVerdicts}
 use Rattle.wk_session.specs.declared.kept.Kept.{Kept}
 use Rattle.wk_session.specs.Kept.{uses_of}
-use Rattle.wk_session.proofs.BodyEdits.{body_kept, body_leads, other_at}
+use Rattle.wk_session.proofs.BodyEdits.{body_kept, body_leads, given_set, other_at}
 use Rattle.wk_session.proofs.edits.body.put_at.Goals as goal
 
 pub index_mut-requires : goal.index_mut-requires
 index_mut-requires c =
     let m = c.args.parts.now in
     let k = c.args.kept.now in
-    omega (arith, c.requires.within, ap (λ (x : Kept). length x.refs.items) c.keep_entry-uses.ensures.rest, ap length c.requires.kept.refs, length-map k.refs.items (λ s. s.keys), length-map m.funcs uses_of)
+    omega (arith, c.requires.within, ap (λ (x : Kept). length x.refs.items) c.keep_entry.ensures, ap length c.requires.kept.refs, length-map k.refs.items (λ s. s.keys), length-map m.funcs uses_of)
+
+pub put_verdicts-requires : goal.put_verdicts-requires
+put_verdicts-requires c =
+    let m = c.args.parts.now in
+    let k = c.args.kept.now in
+    omega (arith, c.requires.within, ap (λ (x : Kept). length x.verdicts.items) c.keep_entry.ensures, ap length c.requires.kept.verdicts, length-map m.funcs (func_verdict (answers_of m)))
 
 pub returns : goal.returns
 returns c =
@@ -17,15 +28,17 @@ returns c =
     let m = c.args.parts.now in
     let t = c.type_at-ty.result in
     let b = c.in_ok-body.body in
+    let n = with_body c.args.entry b m in
     let k = c.args.kept.now in
     let p = c.in_ok-planned.planned in
     let plan = c.in_ok-planned.ensures.ok in
-    let put = c.keep_entry-uses.ensures.rest in
-    let result = c.keep_entry-uses.ensures.result in
-    let refs = other_at _ _ c.args.entry _ _ (ap (λ (x : Kept). x.refs.items) put) (c.replace-unused.ensures.after ∙ ap (λ r. r.0) result) in
-    let codes = other_at _ _ c.args.entry _ _ (ap (λ (x : Kept). x.pieces.codes.items) put) (ap (λ r. r.1) result) in
+    let put = c.keep_entry.ensures in
+    let refs = other_at _ _ c.args.entry _ _ (ap (λ (x : Kept). x.refs.items) put) c.replace-unused.ensures.after in
+    let codes = other_at _ _ c.args.entry _ _ (ap (λ (x : Kept). x.pieces.codes.items) put) refl in
+    let same = ap (λ (x : Kept). x.verdicts.items) put in
+    let verdicts = c.put_verdicts.ensures t b n m.funcs (given_set c.args.entry b m.funcs t c.type_at-ty.ensures) (subst (λ (vs : List BodyVerdict). AreVerdicts t b n m.funcs vs p.verdicts) (sym same) plan.verdicts) in
     let kept = body_kept c.args.keep c.args.entry t b m p k _ c.type_at-ty.ensures plan c.requires.kept
-    (ap (λ (x : Kept). x.verdict) put) (ap (λ (x : Kept). x.len) put) (ap (λ (x : Kept). x.types) put) (ap (λ (x : Kept). x.verdicts) put) refs
-    c.keep_entry-uses.ensures.sections codes (ap (λ (x : Kept). x.pieces.codes_len) put) (ap (λ (x : Kept). x.pieces.customs_len) put) in
-    body_leads c.args.keep c.args.entry t b m p k _ x c.args.code.now c.set-before.new.self c.typed.result c.keep_entry-uses.result.2 c.keep_entry-uses.result.3 is c.in_ok-body.ensures.ok c.type_at-ty.ensures c.set-before.ensures.new plan kept
-    (c.typed.ensures ∙ c.in_ok-planned.ensures.typed) (ap (λ r. r.2) result) (ap (λ r. r.3) result)
+    (ap (λ (x : Kept). x.verdict) put) (ap (λ (x : Kept). x.len) put) (ap (λ (x : Kept). x.types) put) verdicts refs
+    (ap (λ (x : Kept). x.pieces.sections.items) put) codes (ap (λ (x : Kept). x.pieces.codes_len) put) (ap (λ (x : Kept). x.pieces.customs_len) put) in
+    body_leads c.args.keep c.args.entry t b m p k _ x c.args.code.now c.set-before.new.self c.typed.result p.encoded p.sections is c.in_ok-body.ensures.ok c.type_at-ty.ensures c.set-before.ensures.new plan kept
+    (c.typed.ensures ∙ c.in_ok-planned.ensures.typed) refl refl

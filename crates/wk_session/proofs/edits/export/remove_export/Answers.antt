@@ -1,4 +1,4 @@
-use Rattle.std.proofs.Common.{◌≡◌, ◌∙◌, sym, ap, refl, arith, Option, Some, List}
+use Rattle.std.proofs.Common.{◌≡◌, ◌∙◌, sym, ap, refl, Option, Some, List}
 use Rattle.std.specs.Prelude.{remove}
 use Rattle.std.proofs.lemmas.Result.{err_from_is_err_and}
 use Rattle.wk_bytes.specs.Leb.{◌>>=◌}
@@ -9,11 +9,10 @@ use Rattle.wk_module.specs.Shape.{settle, IsFormed}
 use Rattle.wk_session.specs.declared.edit.Edit.TheVariants as edits
 use Rattle.wk_session.specs.Edits.{is_none, lasting, made, with_exports}
 use Rattle.wk_session.specs.Kept.{standing}
-use Rattle.wk_session.proofs.Exporting.{exported_kept, one_section}
-use Rattle.wk_session.proofs.Leading.{refused, accepted}
+use Rattle.wk_session.proofs.Leading.{refused, kept_again, accepted}
 use Rattle.wk_session.proofs.Removals.{found_within, without_found, without_missing}
 use Rattle.wk_session.proofs.Shrinking.{shrunk_stands}
-use Rattle.wk_session.proofs.Works.{unexport_work}
+use Rattle.wk_session.proofs.Works.{one_section, unexport_work}
 use Rattle.wk_session.proofs.edits.export.remove_export.Goals as goal
 use Rattle.wk_session.proofs.edits.export.remove_export.Goals.{In-Some}
 
@@ -45,24 +44,22 @@ take_export-requires-clause-place c =
 pub take_export-requires-clause-formed : goal.take_export-requires-clause-formed
 take_export-requires-clause-formed c = formed (goal.at.take_export-requires-clause-formed c).In-Some
 
-pub returns-in_err-exported : goal.returns-in_err-exported
-returns-in_err-exported c =
+pub returns-in_err-sections : goal.returns-in_err-sections
+returns-in_err-sections c =
     let m = c.args.parts.now in
-    let at = (goal.at.returns-in_err-exported c).In-Some in
+    let k = c.args.kept.now in
+    let new = c.take_export.new.kept in
+    let at = (goal.at.returns-in_err-sections c).In-Some in
     let result = c.from_residual.result in
-    refused c.args.keep (edits.Unexport c.args.name.now) m c.args.kept.now c.requires.kept (record m { exports = remove m.exports c.in-Some.place }) c.take_export.new.parts c.in_err-exported.field-0.0 result (err_from_is_err_and result c.from_residual.ensures.1) (makes at) c.in_err-exported.ensures.exported (λ same. ap is_none (without at)) c.in_err-exported.ensures.err
-
-pub keep_exported-requires : goal.keep_exported-requires
-keep_exported-requires c = omega (arith, c.in_ok-exported.ensures.exported.count)
+    let shrunk = c.in_err-sections.ensures.shrunk in
+    refused c.args.keep (edits.Unexport c.args.name.now) m new (kept_again m k new shrunk.1 c.requires.kept) (record m { exports = remove m.exports c.in-Some.place }) c.take_export.new.parts c.in_err-sections.field-0.0 result (err_from_is_err_and result c.from_residual.ensures.1) (makes at) shrunk.0 (λ same. ap is_none (without at)) c.in_err-sections.ensures.err
 
 pub returns : goal.returns
 returns c =
     let m = c.args.parts.now in
     let at = (goal.at.returns c).In-Some in
-    let rest = remove m.exports c.in-Some.place in
-    let n = record m { exports = rest } in
+    let n = record m { exports = remove m.exports c.in-Some.place } in
     let k = c.args.kept.now in
-    let new = c.in_ok-exported.exported in
-    let may = c.in_ok-exported.ensures.exported in
-    let keeps = exported_kept c.args.keep rest m k c.keep_exported.new.kept new c.requires.kept may c.keep_exported.ensures.rest c.keep_exported.ensures.sections in
-    accepted c.args.keep (edits.Unexport c.args.name.now) m n c.take_export.new.parts k c.keep_exported.new.kept c.keep_exported.result c.in_ok-exported.ensures.ok (makes at) may.appraised.0 (c.keep_exported.ensures.work ∙ ap one_section may.made ∙ unexport_work c.args.name.now m (settle n) (λ r. refl)) (formed at) keeps
+    let made = c.in_ok-sections.sections in
+    let shrunk = c.in_ok-sections.ensures.shrunk in
+    accepted c.args.keep (edits.Unexport c.args.name.now) m n c.take_export.new.parts k c.take_export.new.kept (record { typed = 0; encoded = 0; sections = made }) c.in_ok-sections.ensures.ok (makes at) shrunk.0 (ap one_section shrunk.3 ∙ unexport_work c.args.name.now m (settle n) (λ r. refl)) (formed at) shrunk.1

@@ -1,9 +1,10 @@
-use Rattle.std.proofs.Common.{◌<◌, ◌^◌, ap, ◌∙◌, arith}
+use Rattle.std.proofs.Common.{◌<◌, ◌^◌, List, ap, refl, subst, sym, ◌∙◌, arith}
 use Rattle.wk_module.specs.Changes.{with_func}
 use Rattle.wk_check.specs.SpacesLaws.{answers_of}
 use Rattle.wk_session.specs.declared.kept.Kept.{Kept}
+use Rattle.wk_check.specs.declared.fault.BodyVerdict.{BodyVerdict}
+use Rattle.wk_session.specs.Functions.{AreVerdicts, IsPlanned}
 use Rattle.wk_session.specs.Dependents.{is_retyped_in}
-use Rattle.wk_session.specs.Overlays.{with_items}
 use Rattle.wk_session.proofs.EntryEdits.{few_typed, func_kept, func_leads, one_more}
 use Rattle.wk_session.proofs.edits.function.add_func.Goals as goal
 
@@ -18,20 +19,22 @@ returns c =
     let m = c.args.parts.now in
     let t = c.args.ty in
     let b = c.in_ok-body.body in
+    let n = with_func t b m in
     let k = c.args.kept.now in
     let p = c.in_ok-entry.entry in
-    let plan = c.in_ok-entry.ensures.ok in
+    let plan = subst (λ (vs : List BodyVerdict). IsPlanned c.args.keep t b n m.funcs vs 1 p) c.reserve.ensures.items c.in_ok-entry.ensures.ok in
     let pushed = c.in_ok-entry.ensures.rest in
-    let put = c.keep_entry-uses.ensures.rest in
-    let result = c.keep_entry-uses.ensures.result in
+    let put = c.keep_entry.ensures in
     let refs = one_more _ _ _ _ _ c.push_reserved.ensures.items
-    (ap (λ (x : Kept). x.refs.items) put ∙ ap (λ (x : Kept). x.refs.items) pushed ∙ c.reserve.ensures.items) (ap (λ r. r.0) result) in
+    (ap (λ (x : Kept). x.refs.items) put ∙ ap (λ (x : Kept). x.refs.items) pushed ∙ c.reserve-2.ensures.items) refl in
     let codes = one_more _ _ _ _ _ c.push_reserved-2.ensures.items
-    (ap (λ (x : Kept). x.pieces.codes.items) put ∙ ap (λ (x : Kept). x.pieces.codes.items) pushed ∙ c.reserve-2.ensures.items) (ap (λ r. r.1) result) in
+    (ap (λ (x : Kept). x.pieces.codes.items) put ∙ ap (λ (x : Kept). x.pieces.codes.items) pushed ∙ c.reserve-3.ensures.items) refl in
+    let same = ap (λ (x : Kept). x.verdicts.items) put ∙ ap (λ (x : Kept). x.verdicts.items) pushed ∙ c.reserve.ensures.items in
+    let verdicts = c.put_verdicts.ensures t b n m.funcs refl (subst (λ (vs : List BodyVerdict). AreVerdicts t b n m.funcs vs p.verdicts) (sym same) plan.verdicts) in
     let kept = func_kept c.args.keep t b m p k _ plan c.requires.kept
     (ap (λ (x : Kept). x.verdict) put) (ap (λ (x : Kept). x.len) put)
-    (ap (λ (x : Kept). x.types.items) put ∙ c.in_ok-entry.ensures.types) (ap (λ (x : Kept). x.verdicts) put) refs
-    (c.keep_entry-uses.ensures.sections ∙ ap (λ (x : Kept). with_items x.pieces.sections.items p.remade.sections.items) pushed) codes
+    (ap (λ (x : Kept). x.types.items) put ∙ c.in_ok-entry.ensures.types) verdicts refs
+    (ap (λ (x : Kept). x.pieces.sections.items) put ∙ c.in_ok-entry.ensures.sections) codes
     (ap (λ (x : Kept). x.pieces.codes_len) put) (ap (λ (x : Kept). x.pieces.customs_len) put ∙ ap (λ (x : Kept). x.pieces.customs_len) pushed) in
-    func_leads c.args.keep t b m p k _ c.args.code.now c.push_func.new.parts c.typed.result c.keep_entry-uses.result.2 c.keep_entry-uses.result.3 c.in_ok-body.ensures.ok c.in_ok-entry.ensures.pushed plan kept
-    (c.typed.ensures ∙ c.in_ok-entry.ensures.typed) (ap (λ r. r.2) result) (ap (λ r. r.3) result)
+    func_leads c.args.keep t b m p k _ c.args.code.now c.push_func.new.parts c.typed.result p.encoded p.sections c.in_ok-body.ensures.ok c.in_ok-entry.ensures.pushed plan kept
+    (c.typed.ensures ∙ c.in_ok-entry.ensures.typed) refl refl

@@ -11,8 +11,8 @@ use Rattle.wk_check.specs.declared.fault.Verdict.{Verdict}
 use Rattle.wk_check.specs.Answers.{Found}
 use Rattle.wk_check.specs.SpacesLaws.{answers_of, func_grows}
 use Rattle.wk_check.specs.Typing.{body_verdict}
-use Rattle.wk_check.specs.Verdict.{func_verdict, module_verdict}
-use Rattle.wk_session.proofs.EntryEdits.{answers_lent, func_formed_from, lent_is, mapped_more, types_with}
+use Rattle.wk_check.specs.Verdict.{module_verdict}
+use Rattle.wk_session.proofs.EntryEdits.{answers_lent, func_formed_from, lent_is, types_with}
 use Rattle.wk_session.proofs.Growing.{none_retyped}
 use Rattle.wk_session.proofs.Outcomes.{limited-some}
 use Rattle.wk_session.proofs.edits.function.judged_in_valid.Goals as goal
@@ -59,8 +59,7 @@ returns-clause-verdicts c =
     let n = with_func c.args.ty c.args.body.now m in
     let own = (goal.at.returns-clause-verdicts c).In_ok-own in
     let stay = c.laws_of_valid_modules.ensures.stay m (answers_of n) (valid own) (func_grows m c.args.ty c.args.body.now) in
-    mapped_more (func_verdict (answers_of n)) m.funcs (record { ty = c.args.ty; body = c.args.body.now }) c.in_ok-verdicts.verdicts.items c.push.new.self.items c.in_ok-own.own c.in_ok-push.ensures.items
-    (c.in_ok-verdicts.ensures.items ∙ c.as_slice.ensures.value ∙ c.requires.kept.verdicts ∙ sym stay) (own_is own)
+    (own_is own, c.requires.kept.verdicts ∙ sym stay)
 
 pub returns-clause-ok : goal.returns-clause-ok
 returns-clause-ok c =

@@ -39,7 +39,7 @@ returns-in_err-plan c =
     let p = err_from_is_err_and c.from_residual.result c.from_residual.ensures.1 in
     let m = c.args.parts.now in
     rw (p.1, p.2) (
-      λ some. unplanned c.args.keep c.args.import.now m c.kind-kind.result c.import_count-from.result c.in_err-plan.field-0.0 c.kind-kind.ensures (place (goal.at.returns-in_err-plan c).After-import_count-from) c.requires.shaped.formed c.in_err-plan.ensures some,
+      λ some. unplanned c.args.keep c.args.import.now m c.kind-kind.result c.import_count-from.result c.in_err-plan.field-0.0 c.kind-kind.ensures (place (goal.at.returns-in_err-plan c).After-import_count-from) c.in_err-plan.ensures some,
       λ none. refl,
       refl,
       c.requires.kept,
@@ -106,9 +106,11 @@ pub returns : goal.returns
 returns c =
     let i = c.args.import.now in
     let m = c.args.parts.now in
-    let plan = planned (goal.at.returns c).In_ok-plan (place (goal.at.returns c).After-import_count-from) in
+    let at = place (goal.at.returns c).After-import_count-from in
+    let plan = planned (goal.at.returns c).In_ok-plan at in
     let judged = c.in_ok-judgement.ensures in
-    let is = c.put_import.ensures.parts ∙ laid_parts c.moving_of_module.ensures.lists i m c.push_judged.new.parts c.in_ok-plan.plan judged.ok plan in
+    let is = c.put_import.ensures.parts
+    ∙ laid_parts c.moving_of_module.ensures.lists i m c.push_judged.new.parts c.in_ok-plan.plan c.kind-kind.result c.import_count-from.result c.kind-kind.ensures at judged.ok plan in
     subst (λ (q : Parts). (made c.args.keep (edits.Import i) m ≡ Ok (settle q)) × (◌≡◌ {A = Work} (record { typed = c.typed.result; encoded = c.in_ok-plan.plan.entries.encoded; sections = c.in_ok-judgement.judgement.remade.made }) (work_of (edits.Import i) m (settle q))) × IsFormed q × IsKept q c.put_import.new.kept)
     (sym is) (
       made_free c.args.keep i m plan.free ∙ judged.judgement.stands,

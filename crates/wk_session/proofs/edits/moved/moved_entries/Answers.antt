@@ -13,4 +13,4 @@ pub loop-i-preserved : goal.loop-i-preserved
 loop-i-preserved c =
     let within : c.loop-i.i < length c.args.funcs.now = omega (arith, c.loop-i-test.true, ap length c.as_slice-func-items.ensures) in
     let put = c.in_ok-push_entry.ensures in
-    entries_more c.args.kind c.args.from c.args.funcs.now c.loop-i.i c.func-item.result c.loop-i.entries c.push_entry.new.entries c.in_ok-entry.entry within (rw c.as_slice-func-items.ensures at c.func-item.is) put.funcs put.refs put.codes (put.encoded ∙ c.in_ok-entry.ensures.encoded) c.in_ok-entry.ensures.entry c.loop-i.invariant
+    entries_more c.args.kind c.args.from c.args.funcs.now c.loop-i.i c.func-item.result c.loop-i.entries c.push_entry.new.entries c.in_ok-entry.entry within (rw c.as_slice-func-items.ensures at c.func-item.is) put.refs put.codes (put.encoded ∙ c.in_ok-entry.ensures.encoded) c.in_ok-entry.ensures.entry c.loop-i.invariant

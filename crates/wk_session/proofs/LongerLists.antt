@@ -1,0 +1,97 @@
+-- The contents of a list with one item more, by those of the list without it.
+use Rattle.std.proofs.Common.{get_or, ◌≡◌, ℕ, zero, suc, ◌+◌, ◌≤◌, List, [], ◌∷◌, ◌++◌, length, map, drop, set, refl, sym, ap, ◌∙◌, arith, length-append}
+use Rattle.std.proofs.Math.Seq.{drop-append_seam, drop-nil}
+use Rattle.std.proofs.lemmas.List.{length-map, map_push}
+use Rattle.std.proofs.lemmas.List.Concat.{flat_map-append}
+use Rattle.std.specs.List.{flat_map}
+use Rattle.wk_bytes.specs.Short.{short}
+use Rattle.wk_bytes.specs.ShortLaws.{short-last, short-some}
+use Rattle.wk_body.specs.Bodies.{BodyOf}
+use Rattle.wk_body.specs.declared.fault.EncodeFault.{EncodeFault}
+use Rattle.wk_module.specs.declared.types.Export.{Export}
+use Rattle.wk_module.specs.declared.types.Func.{Func}
+use Rattle.wk_module.specs.declared.types.FuncType.{FuncType}
+use Rattle.wk_module.specs.declared.types.GlobalDef.{GlobalDef}
+use Rattle.wk_module.specs.declared.types.Parts.{Parts}
+use Rattle.wk_module.specs.Changes.{with_export, with_func, with_type}
+use Rattle.wk_module.specs.Items.{written_export, written_global}
+use Rattle.wk_module.specs.Types.{written_functype}
+use Rattle.wk_module.specs.Writing.{list_contents}
+use Rattle.wk_session.specs.Longer.{IsLonger, IsNewItem, with_item}
+use Rattle.wk_session.specs.declared.edits.one_more.NewItem.{NewItem}
+use Rattle.wk_session.specs.Pieces.{IsOverlong, section_pieces}
+use Rattle.wk_session.proofs.ItemLengths.{item_more}
+
+one_byte : short 1 ≡ 1 ∷ []
+one_byte = short-last 1 (omega arith)
+
+module _ {A : Type 0} (written : A → List ℕ) where
+  -- the item behind the count of one
+  alone_is : (x : A) → drop 1 (list_contents written (x ∷ [])) ≡ written x ++ []
+  alone_is x = ap (λ (front : List ℕ). drop 1 (front ++ (written x ++ []))) one_byte
+
+  longer_is : (xs : List A) (x : A) → with_item (list_contents written xs) (length xs) (drop 1 (list_contents written (x ∷ []))) ≡ list_contents written (xs ++ x ∷ [])
+  longer_is [] x =
+      ap (λ (item : List ℕ). short 1 ++ (drop (length (short 0)) [] ++ item)) (alone_is x)
+      ∙ ap (λ (none : List ℕ). short 1 ++ (none ++ (written x ++ []))) (drop-nil (length (short 0)))
+  longer_is (y ∷ ys) x =
+      let xs : List A = y ∷ ys in
+      let items : List ℕ = flat_map written xs in
+      let item : List ℕ = written x ++ [] in
+      let front : List ℕ = short (length xs + 1) in
+      ap (λ (bytes : List ℕ). front ++ (drop (length (short (length xs))) (short (length xs) ++ items) ++ bytes)) (alone_is x)
+      ∙ ap (λ (bytes : List ℕ). front ++ (bytes ++ item)) (drop-append_seam (short (length xs)) items)
+      ∙ ap (λ (bytes : List ℕ). front ++ bytes) (sym (flat_map-append written xs (x ∷ [])))
+      ∙ ap (λ (n : ℕ). short n ++ flat_map written (xs ++ x ∷ [])) (sym (length-append xs (x ∷ [])))
+
+  alone_within : (xs : List A) (x : A) → length (list_contents written (x ∷ [])) ≤ length (list_contents written (xs ++ x ∷ []))
+  alone_within xs x =
+      omega (arith, item_more written xs x, item_more written [] x, short-some (length xs + 1), ap length one_byte)
+
+-- an item that can't be made is one of contents that can't, unless memory was wanted
+pub overlong_more : (alone all : List ℕ) (e : EncodeFault) → length alone ≤ length all → IsOverlong alone e → IsOverlong all e
+overlong_more alone all e within over = λ other. omega (arith, over other, within)
+
+-- by the item itself
+pub longer_by : (id count : ℕ) (alone : List ℕ) (pieces : List (List ℕ)) (n : Parts) (item : NewItem) → IsNewItem id count alone item → IsLonger id count alone pieces n → IsLonger item.id item.count item.alone pieces n
+longer_by id count alone pieces n item new longer = rw (new.id_is, new.count_is, new.alone_is) longer
+
+-- ---- of a module
+
+pub type_longer : (t : FuncType) (m : Parts) (pieces : List (List ℕ)) → pieces ≡ section_pieces m → IsLonger 1 (length m.types) (list_contents written_functype (t ∷ [])) pieces (with_type t m)
+type_longer t m pieces is = record {
+  sections =
+      ap (λ (ps : List (List ℕ)). set ps 1 (with_item (get_or ps 1 []) (length m.types) (drop 1 (list_contents written_functype (t ∷ []))))) is
+      ∙ ap (λ (bytes : List ℕ). set (section_pieces m) 1 bytes) (longer_is written_functype m.types t);
+  within = alone_within written_functype m.types t;
+}
+
+pub global_longer : (g : GlobalDef) (m : Parts) (pieces : List (List ℕ)) → pieces ≡ section_pieces m → IsLonger 6 (length m.globals) (list_contents written_global (g ∷ [])) pieces (record m { globals = m.globals ++ g ∷ [] })
+global_longer g m pieces is = record {
+  sections =
+      ap (λ (ps : List (List ℕ)). set ps 6 (with_item (get_or ps 6 []) (length m.globals) (drop 1 (list_contents written_global (g ∷ []))))) is
+      ∙ ap (λ (bytes : List ℕ). set (section_pieces m) 6 bytes) (longer_is written_global m.globals g);
+  within = alone_within written_global m.globals g;
+}
+
+pub export_longer : (e : Export) (m : Parts) (pieces : List (List ℕ)) → pieces ≡ section_pieces m → IsLonger 7 (length m.exports) (list_contents written_export (e ∷ [])) pieces (with_export e m)
+export_longer e m pieces is = record {
+  sections =
+      ap (λ (ps : List (List ℕ)). set ps 7 (with_item (get_or ps 7 []) (length m.exports) (drop 1 (list_contents written_export (e ∷ []))))) is
+      ∙ ap (λ (bytes : List ℕ). set (section_pieces m) 7 bytes) (longer_is written_export m.exports e);
+  within = alone_within written_export m.exports e;
+}
+
+pub func_longer : (t : ℕ) (b : BodyOf) (m : Parts) (pieces : List (List ℕ)) → pieces ≡ section_pieces m → IsLonger 3 (length m.funcs) (list_contents short (t ∷ [])) pieces (with_func t b m)
+func_longer t b m pieces is =
+    let types : List ℕ = map (λ (f : Func). f.ty) m.funcs in
+    let alone = list_contents short (t ∷ []) in
+    let pushed : map (λ (f : Func). f.ty) (with_func t b m).funcs ≡ types ++ t ∷ [] = map_push (λ (f : Func). f.ty) m.funcs (record { ty = t; body = b }) in
+    record {
+      sections =
+          ap (λ (ps : List (List ℕ)). set ps 3 (with_item (get_or ps 3 []) (length m.funcs) (drop 1 alone))) is
+          ∙ ap (λ (n : ℕ). set (section_pieces m) 3 (with_item (list_contents short types) n (drop 1 alone))) (sym (length-map m.funcs (λ (f : Func). f.ty)))
+          ∙ ap (λ (bytes : List ℕ). set (section_pieces m) 3 bytes) (longer_is short types t)
+          ∙ ap (λ (ts : List ℕ). set (section_pieces m) 3 (list_contents short ts)) (sym pushed);
+      within = omega (arith, alone_within short types t, ap (λ (ts : List ℕ). length (list_contents short ts)) pushed);
+    }
