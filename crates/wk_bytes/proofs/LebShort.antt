@@ -1,0 +1,61 @@
+-- Integers of a few bytes, byte by byte.
+use Rattle.std.proofs.Common.{◌≡◌, ℕ, ◌+◌, ◌-◌, ◌*◌, ◌^◌, ◌<◌, ◌≤◌, ℤ, pos, ◌-ℤ◌, inl, inr, List, [], ◌∷◌, get_or, length, take, drop, Ok, refl, sym, ap, ◌∙◌, arith}
+use Rattle.std.proofs.lemmas.List.{take-append-drop}
+use Rattle.std.proofs.lemmas.Int.{ints}
+use Rattle.std.proofs.Math.Nat.{pow-le-pow_right}
+use Rattle.wk_bytes.specs.Leb.{SpellsU, SpellsS, IsLastS, joinU, joinS, uint_at, sint_at}
+use Rattle.wk_bytes.specs.LebLaws.{more_spells, uint_again, sint_again}
+
+-- the first five bytes
+pub first_five : (bytes : List ℕ) → 5 ≤ length bytes → take 5 bytes ≡ get_or bytes 0 0 ∷ get_or bytes 1 0 ∷ get_or bytes 2 0 ∷ get_or bytes 3 0 ∷ get_or bytes 4 0 ∷ []
+first_five (a ∷ b ∷ c ∷ d ∷ e ∷ rest) long = refl
+first_five _ long = absurd (omega arith)
+
+-- ---- unsigned
+
+-- a spelling in front is read, and what is behind it is left
+pub front_u32 : (k : ℕ) (bytes : List ℕ) (n : ℕ) → SpellsU 32 (take k bytes) n → uint_at 32 bytes ≡ Ok (n, drop k bytes)
+front_u32 k bytes n s = ap (uint_at 32) (sym (take-append-drop k bytes)) ∙ uint_again 32 (take k bytes) n (drop k bytes) s
+
+pub five_u32 : (a b c d e : ℕ) → 128 ≤ a → 128 ≤ b → 128 ≤ c → 128 ≤ d → a < 256 → b < 256 → c < 256 → d < 256 → e < 16
+    → SpellsU 32 (a ∷ b ∷ c ∷ d ∷ e ∷ []) (joinU (a - 128) (joinU (b - 128) (joinU (c - 128) (joinU (d - 128) e))))
+five_u32 a b c d e ha hb hc hd fa fb fc fd fe =
+    (ha, fa, omega arith, _, (hb, fb, omega arith, _, (hc, fc, omega arith, _, (hd, fd, omega arith, _, (omega arith, fe, refl), refl), refl), refl), refl)
+
+-- ---- signed: what the bytes spell without a sign, less `over`, which is 0 or the least number with more bits
+
+pub front_signed : (N k : ℕ) (bytes : List ℕ) (z : ℤ) → SpellsS N (take k bytes) z → sint_at N bytes ≡ Ok (z, drop k bytes)
+front_signed N k bytes z s = ap (sint_at N) (sym (take-append-drop k bytes)) ∙ sint_again N (take k bytes) z (drop k bytes) s
+
+-- half of what N bits count to
+half_power : (k N : ℕ) → k < N → 2 ^ k ≤ 2 ^ (N - 1)
+half_power k N lt =
+    let le : k ≤ N - 1 = omega arith in
+    pow-le-pow_right (omega arith) le
+
+-- a last byte of k + 1 bits at most
+pub last_above : (k N x : ℕ) → k < N → x < 64 → x < 2 ^ k → SpellsS N (x ∷ []) (pos x -ℤ pos 0)
+last_above k N x lt small fits = inl (small, omega (arith, half_power k N lt), omega (arith, ints))
+
+pub last_below : (k N x : ℕ) → k < N → 64 ≤ x → x < 128 → 128 ≤ x + 2 ^ k → SpellsS N (x ∷ []) (pos x -ℤ pos 128)
+last_below k N x lt big small fits = inr (big, small, omega (arith, half_power k N lt), refl)
+
+more_signed : (N x : ℕ) (b : List ℕ) (h over : ℕ) → 128 ≤ x → x < 256 → 7 < N → SpellsS (N - 7) b (pos h -ℤ pos over) → SpellsS N (x ∷ b) (pos (joinU (x - 128) h) -ℤ pos (128 * over))
+more_signed N x b h over high small wide s =
+    more_spells IsLastS joinS N x b (pos h -ℤ pos over) (pos (joinU (x - 128) h) -ℤ pos (128 * over)) high small wide s (omega (arith, ints))
+
+-- from the last byte to all of them
+pub two_signed : (N a b over : ℕ) → 128 ≤ a → a < 256 → 7 < N → SpellsS (N - 7) (b ∷ []) (pos b -ℤ pos over) → SpellsS N (a ∷ b ∷ []) (pos (joinU (a - 128) b) -ℤ pos (128 * over))
+two_signed N a b over ha fa wide s = more_signed N a (b ∷ []) b over ha fa wide s
+
+pub three_signed : (N a b c over : ℕ) → 128 ≤ a → 128 ≤ b → a < 256 → b < 256 → 14 < N → SpellsS (N - 7 - 7) (c ∷ []) (pos c -ℤ pos over)
+    → SpellsS N (a ∷ b ∷ c ∷ []) (pos (joinU (a - 128) (joinU (b - 128) c)) -ℤ pos (128 * (128 * over)))
+three_signed N a b c over ha hb fa fb wide s =
+    more_signed N a (b ∷ c ∷ []) (joinU (b - 128) c) (128 * over) ha fa (omega arith) (two_signed (N - 7) b c over hb fb (omega arith) s)
+
+pub five_signed : (N a b c d e over : ℕ) → 128 ≤ a → 128 ≤ b → 128 ≤ c → 128 ≤ d → a < 256 → b < 256 → c < 256 → d < 256 → 28 < N → SpellsS (N - 7 - 7 - 7 - 7) (e ∷ []) (pos e -ℤ pos over)
+    → SpellsS N (a ∷ b ∷ c ∷ d ∷ e ∷ []) (pos (joinU (a - 128) (joinU (b - 128) (joinU (c - 128) (joinU (d - 128) e)))) -ℤ pos (128 * (128 * (128 * (128 * over)))))
+five_signed N a b c d e over ha hb hc hd fa fb fc fd wide s =
+    let three = three_signed (N - 7 - 7) c d e over hc hd fc fd (omega arith) s in
+    let four = more_signed (N - 7) b (c ∷ d ∷ e ∷ []) (joinU (c - 128) (joinU (d - 128) e)) (128 * (128 * over)) hb fb (omega arith) three in
+    more_signed N a (b ∷ c ∷ d ∷ e ∷ []) (joinU (b - 128) (joinU (c - 128) (joinU (d - 128) e))) (128 * (128 * (128 * over))) ha fa (omega arith) four
