@@ -19,7 +19,7 @@ pub struct Signed {
 }
 
 /// Integers of each length of spelling, and 624,485, the usual example.
-pub const UNSIGNED: [Unsigned; 12] = [
+pub const UNSIGNED: [Unsigned; 15] = [
     Unsigned {
         value: 0,
         bytes: b"\x00",
@@ -61,6 +61,18 @@ pub const UNSIGNED: [Unsigned; 12] = [
         bytes: b"\xe5\x8e\x26",
     },
     Unsigned {
+        value: 2_097_151,
+        bytes: b"\xff\xff\x7f",
+    },
+    Unsigned {
+        value: 2_097_152,
+        bytes: b"\x80\x80\x80\x01",
+    },
+    Unsigned {
+        value: 268_435_455,
+        bytes: b"\xff\xff\xff\x7f",
+    },
+    Unsigned {
         value: 1 << 28,
         bytes: b"\x80\x80\x80\x80\x01",
     },
@@ -71,7 +83,7 @@ pub const UNSIGNED: [Unsigned; 12] = [
 ];
 
 /// Integers of 32 bits.
-pub const SIGNED_32: [Signed; 17] = [
+pub const SIGNED_32: [Signed; 26] = [
     Signed {
         value: 0,
         bytes: b"\x00",
@@ -113,6 +125,18 @@ pub const SIGNED_32: [Signed; 17] = [
         bytes: b"\xe5\x8e\x26",
     },
     Signed {
+        value: 1_048_575,
+        bytes: b"\xff\xff\x3f",
+    },
+    Signed {
+        value: 1_048_576,
+        bytes: b"\x80\x80\xc0\x00",
+    },
+    Signed {
+        value: 134_217_728,
+        bytes: b"\x80\x80\x80\xc0\x00",
+    },
+    Signed {
         value: 2_147_483_647,
         bytes: b"\xff\xff\xff\xff\x07",
     },
@@ -133,8 +157,32 @@ pub const SIGNED_32: [Signed; 17] = [
         bytes: b"\x80\x7f",
     },
     Signed {
+        value: -8_192,
+        bytes: b"\x80\x40",
+    },
+    Signed {
+        value: -8_193,
+        bytes: b"\xff\xbf\x7f",
+    },
+    Signed {
         value: -123_456,
         bytes: b"\xc0\xbb\x78",
+    },
+    Signed {
+        value: -1_048_576,
+        bytes: b"\x80\x80\x40",
+    },
+    Signed {
+        value: -1_048_577,
+        bytes: b"\xff\xff\xbf\x7f",
+    },
+    Signed {
+        value: -134_217_728,
+        bytes: b"\x80\x80\x80\x40",
+    },
+    Signed {
+        value: -134_217_729,
+        bytes: b"\xff\xff\xff\xbf\x7f",
     },
     Signed {
         value: -2_147_483_648,
