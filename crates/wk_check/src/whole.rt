@@ -53,7 +53,8 @@ impl<'a> Whole<'a> {
     pub fn of(alloc: Global, lists: Lists<'a>) -> Result<Whole<'a>, OutOfMemory>
         ensures { IfOk result (λ w. w ≡ listed lists.entry) }
     {
-        let mut funcs = Vec::new(alloc);
+        // (Room for all at once: most imports are functions.)
+        let mut funcs = Vec::with_capacity(alloc, lists.imports.len())?;
         let mut globals = Vec::new(alloc);
         let mut tables: usize = 0;
         let mut memories: usize = 0;
