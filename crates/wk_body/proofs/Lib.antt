@@ -14,6 +14,7 @@ pub mod Spelled
 pub mod Standing
 pub mod Promised
 pub mod Encoding
+pub mod Sheets
 pub mod EncodedSpells
 pub mod Least
 pub mod GroupLoop

@@ -46,6 +46,7 @@ mod reader;
 mod reading;
 mod references;
 mod scratch;
+mod sheet;
 mod shifted;
 mod token;
 mod token_reader;

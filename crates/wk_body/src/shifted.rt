@@ -51,7 +51,7 @@ pub fn shift_uses(
     Ok(found)
 }
 
-// Appends the written form of a token that moves and has a next. It is no caller of `put_token`, whose one caller takes it in line.
+// Appends the written form of a token that moves and has a next. It is no caller of `put_token`, which its callers take in line.
 #[inline(never)]
 fn put_shifted(out: &mut Vec<u8>, kind: Moving, from: u32, token: &Token) -> Result<(), OutOfMemory>
     requires moves { any_moving kind from (tok_refs (told [] token.now)) ≡ true }

@@ -1,6 +1,6 @@
 //! Writes expressions and bodies in the one written form.
 
-ghost use Rattle.std.specs.Prelude.{◌≡◌, ◌≤◌, ◌<◌, ℕ, List, [], ◌++◌, ◌∷◌, ◌^◌, length, IfOk, OnOk, OnErr, MatchResult};
+ghost use Rattle.std.specs.Prelude.{◌≡◌, ◌≤◌, ◌<◌, ℕ, List, [], ◌++◌, ◌∷◌, ◌^◌, length, take, IfOk, OnOk, OnErr, MatchResult};
 ghost use Rattle.std.specs.List.{flat_map, AllByRecursion};
 ghost use Rattle.byteorder.specs.Endian.{little_bytes};
 ghost use Rattle.wk_bytes.specs.LebLaws.{IsBytes};
@@ -17,11 +17,15 @@ use crate::expr::Expr;
 use crate::fault::EncodeFault;
 use crate::length::{body_len, expr_len};
 use crate::reading::are_bytes;
+use crate::sheet::{ROOM, put_short};
 use crate::token::Token;
 use crate::types::{BlockType, LocalGroup, Profile};
 use byteorder::{ByteOrder, LittleEndian};
 use std::alloc::Global;
 use wk_bytes::{OutOfMemory, put_s32, put_s33, put_s64, put_u32};
+
+/// So many tokens are written on a sheet: fewer are written sooner one by one.
+const FEW: usize = 8;
 
 // Appends a byte where there may be no room.
 #[cold]
@@ -110,6 +114,7 @@ fn put_opening(out: &mut Vec<u8>, opcode: u8, ty: BlockType) -> Result<(), OutOf
 }
 
 // A token whose labels lie in the pool (5.4).
+#[inline(always)]
 fn put_token(out: &mut Vec<u8>, labels: &[u32], token: &Token) -> Result<(), OutOfMemory>
     requires { IsWithin (length labels.now) token.now }
     ensures ok { OnOk result (out.new.items ≡ out.old.items ++ tok_bytes (told labels.now token.now)) }
@@ -172,8 +177,61 @@ fn put_token(out: &mut Vec<u8>, labels: &[u32], token: &Token) -> Result<(), Out
     Ok(())
 }
 
-// The tokens of an expression.
-fn put_tokens(out: &mut Vec<u8>, labels: &[u32], tokens: &[Token]) -> Result<(), OutOfMemory>
+// The tokens on a sheet, and behind them one that goes to no sheet.
+#[inline(never)]
+fn put_far(
+    out: &mut Vec<u8>,
+    sheet: &[u8],
+    labels: &[u32],
+    token: &Token,
+) -> Result<(), OutOfMemory>
+    requires { IsWithin (length labels.now) token.now }
+    ensures ok { OnOk result (out.new.items ≡ out.old.items ++ sheet.now ++ tok_bytes (told labels.now token.now)) }
+    ensures err { OnErr result (StaysInFront out.old.items out.new.items) }
+{
+    out.extend_from_slice(sheet)?;
+    put_token(out, labels, token)
+}
+
+// A token, behind so many bytes of a sheet. The answer is how many stand on it then.
+#[inline(always)]
+fn put_behind(
+    out: &mut Vec<u8>,
+    sheet: &mut [u8; ROOM],
+    used: usize,
+    labels: &[u32],
+    token: &Token,
+) -> Result<usize, OutOfMemory>
+    requires within { IsWithin (length labels.now) token.now }
+    requires inside { used ≤ ROOM }
+    ensures inside { IfOk result (λ end. end ≤ ROOM) }
+    ensures ok { IfOk result (λ end. out.new.items ++ take end sheet.new ≡ out.old.items ++ take used sheet.old ++ tok_bytes (told labels.now token.now)) }
+    ensures front { StaysInFront out.old.items out.new.items }
+{
+    if let Some(end) = put_short(sheet, used, token) {
+        return Ok(end);
+    }
+    put_far(out, &sheet[..used], labels, token)?;
+    Ok(0)
+}
+
+// Tokens that are gathered on a sheet first.
+fn put_many(out: &mut Vec<u8>, labels: &[u32], tokens: &[Token]) -> Result<(), OutOfMemory>
+    requires { AllByRecursion (IsWithin (length labels.now)) tokens.now }
+    ensures ok { OnOk result (out.new.items ≡ out.old.items ++ flat_map tok_bytes (all_told labels.now tokens.now)) }
+    ensures err { OnErr result (StaysInFront out.old.items out.new.items) }
+{
+    let mut sheet = [0; ROOM];
+    let mut used = 0;
+    for token in tokens {
+        used = put_behind(out, &mut sheet, used, labels, token)?;
+    }
+    out.extend_from_slice(&sheet[..used])?;
+    Ok(())
+}
+
+// The same for few tokens, for which no sheet is cleared.
+fn put_few(out: &mut Vec<u8>, labels: &[u32], tokens: &[Token]) -> Result<(), OutOfMemory>
     requires { AllByRecursion (IsWithin (length labels.now)) tokens.now }
     ensures ok { OnOk result (out.new.items ≡ out.old.items ++ flat_map tok_bytes (all_told labels.now tokens.now)) }
     ensures err { OnErr result (StaysInFront out.old.items out.new.items) }
@@ -182,6 +240,18 @@ fn put_tokens(out: &mut Vec<u8>, labels: &[u32], tokens: &[Token]) -> Result<(),
         put_token(out, labels, token)?;
     }
     Ok(())
+}
+
+// The tokens of an expression.
+fn put_tokens(out: &mut Vec<u8>, labels: &[u32], tokens: &[Token]) -> Result<(), OutOfMemory>
+    requires { AllByRecursion (IsWithin (length labels.now)) tokens.now }
+    ensures ok { OnOk result (out.new.items ≡ out.old.items ++ flat_map tok_bytes (all_told labels.now tokens.now)) }
+    ensures err { OnErr result (StaysInFront out.old.items out.new.items) }
+{
+    if tokens.len() < FEW {
+        return put_few(out, labels, tokens);
+    }
+    put_many(out, labels, tokens)
 }
 
 /// Appends the written form of an expression, which spells it. After a refusal what stood in `out` stands at its front.

@@ -1,6 +1,6 @@
 use Rattle.std.proofs.lemmas.Result.{err_from_is_err_and}
 use Rattle.wk_body.proofs.Encoding.{front_then}
-use Rattle.wk_body.proofs.writing.put_tokens.Goals as goal
+use Rattle.wk_body.proofs.writing.put_few.Goals as goal
 
 pub returns-in_err-put_token-clause-err : goal.returns-in_err-put_token-clause-err
 returns-in_err-put_token-clause-err c =
