@@ -34,5 +34,7 @@ pub mod ElseBranch
 pub mod CopyingLoop
 pub mod Walking
 pub mod Immediates
+pub mod BriefTable
+pub mod BriefWalk
 pub mod Rewriting
 pub mod RewrittenBody

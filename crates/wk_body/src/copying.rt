@@ -121,15 +121,6 @@ fn pass_token(
     let Ok(opcode) = walk.cursor.byte() else {
         return None;
     };
-    // (Locals and globals, and numeric instructions, are half of all: they are told apart first, so that few tests lead to them.)
-    if 0x20 <= opcode && opcode <= 0x24 {
-        walk.pass_plain(profile, opcode, out)?;
-        return Some(false);
-    }
-    if 0x45 <= opcode {
-        walk.pass_plain(profile, opcode, out)?;
-        return Some(false);
-    }
     match opcode {
         0x0B => match reader.close() {
             Some(_) => Some(false),
@@ -171,6 +162,7 @@ fn pass_expr(
     reader.begin();
     let mut left = walk.cursor.rest().len();
     while left > 0 {
+        walk.pass_brief();
         if pass_token(profile, reader, walk, out)? {
             return Some(());
         }

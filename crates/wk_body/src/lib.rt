@@ -32,6 +32,7 @@
 #![tactic(auto)]
 
 mod body;
+mod brief;
 mod copying;
 mod display;
 mod expr;

@@ -3,15 +3,18 @@
 //! What stands there as it is written stays in a run of bytes that is copied at once. A call that answers nothing met something
 //! unclear, or a growth was refused: then nothing is said of what it wrote.
 
-ghost use Rattle.std.specs.Prelude.{◌≡◌, ℕ, ◌∷◌, [], List, ◌++◌, ◌-◌, length, take, IfSome};
+ghost use Rattle.std.specs.Prelude.{◌≡◌, ℕ, Bool, ◌∷◌, [], List, ◌++◌, ◌-◌, length, take, IfSome};
 ghost use Rattle.std.specs.List.{flat_map};
 ghost use Rattle.byteorder.specs.Endian.{little_bytes};
 ghost use Rattle.wk_bytes.specs.Short.{short, short_signed};
 ghost use Rattle.wk_bytes.specs.Span.{u32_at, signed_at, word_at};
 ghost use Rattle.wk_body.specs.Vectors.{items_at, written_vector};
 ghost use Rattle.wk_body.specs.Reading.{reserved_at, labels_at};
-ghost use Rattle.wk_body.specs.Walks.{Passes, Keeps, PassesPlain};
+ghost use Rattle.wk_body.specs.declared.types.Profile.{Profile};
+ghost use Rattle.wk_body.specs.declared.walk.Walk.{Walk};
+ghost use Rattle.wk_body.specs.Walks.{Passes, Keeps, PassesPlain, GoesOn};
 
+use crate::brief::{brief_len, is_brief};
 use crate::layout::{Layout, layout_of};
 use crate::reading::{are_bytes, reserved};
 use crate::types::Profile;
@@ -161,6 +164,31 @@ impl Walk<'_> {
         self.pass_labels(count, out)?;
         self.pass_u32(out)?;
         Some(())
+    }
+
+    // Instructions of both profiles that have a byte for each of their integers, as many as stand here. The least has three bytes
+    // behind it, or the cursor stays in front of it. (No jump depends on which instructions they are: the processor foresees all but
+    // the last.)
+    #[inline(always)]
+    pub(crate) fn pass_brief(&mut self)
+        ensures { (profile : Profile) (before out : List ℕ) (from : Walk) (ks : List Bool) → GoesOn profile before from ks out self.old
+            → GoesOn profile before from ks out self.new }
+    {
+        // The proof asks what this says: 32 bits hold the number of bytes.
+        self.cursor.at();
+        let bytes = self.cursor.rest();
+        let last = bytes.len().saturating_sub(2);
+        let mut at = 0;
+        while at < last {
+            let len = brief_len(bytes[at]);
+            if !is_brief(len, bytes[at + 1], bytes[at + 2]) {
+                break;
+            }
+            at += usize::from(len);
+        }
+        let Ok(_) = self.cursor.take(at as u32) else {
+            unreachable!()
+        };
     }
 
     // What stands behind the opcode of an instruction that holds no others.

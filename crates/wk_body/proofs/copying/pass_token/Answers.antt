@@ -1,4 +1,4 @@
-use Rattle.std.proofs.Common.{◌≡◌, ap, length, refl, subst, ℕ, rules, arith}
+use Rattle.std.proofs.Common.{◌≡◌, ap, length, refl, subst, ℕ, rules}
 use Rattle.wk_body.specs.declared.walk.Walk.{Walk}
 use Rattle.wk_body.specs.TokenReading.{TokenReading}
 use Rattle.wk_body.specs.Walks.{Behind}
@@ -48,22 +48,6 @@ returns-in_ok-pass_opening-in-4 c = λ before from g.
     if_goes c.args.profile before c.args.out.now.items c.pass_opening-in-4.new.out.items from at mid c.pass_opening-in-4.new.walk c.args.reader.now.kinds c.pass_opening-in-4.new.reader.kinds c.in-Ok.opcode c.at-at.result p.field-0 c.at-at.ensures.offset p.ensures.passed g
     c.in-4.is (ap (λ (r : TokenReading). r.kinds) p.ensures.opened) (behind_opcode c.in-Ok.opcode at mid c.in-Ok.ensures.exact refl)
 
-pub returns-then-opcode-le36 : goal.returns-then-opcode-le36
-returns-then-opcode-le36 c = λ before from g.
-    let at = c.args.walk.now in
-    let mid : Walk = record { cursor = c.byte.new.self; run = at.run } in
-    plain_goes c.args.profile before c.args.out.now.items c.pass_plain.new.out.items from at mid c.pass_plain.new.self c.args.reader.now.kinds c.args.reader.now.kinds c.in-Ok.opcode
-    (λ e. omega arith) (λ e. omega arith) (λ e. omega arith) (λ e. omega arith) (λ e. omega arith) refl
-    (behind_opcode c.in-Ok.opcode at mid c.in-Ok.ensures.exact refl) c.in_ok-pass_plain.ensures g
-
-pub returns-then-opcode-ge69 : goal.returns-then-opcode-ge69
-returns-then-opcode-ge69 c = λ before from g.
-    let at = c.args.walk.now in
-    let mid : Walk = record { cursor = c.byte.new.self; run = at.run } in
-    plain_goes c.args.profile before c.args.out.now.items c.pass_plain-then-opcode-ge69.new.out.items from at mid c.pass_plain-then-opcode-ge69.new.self c.args.reader.now.kinds c.args.reader.now.kinds c.in-Ok.opcode
-    (λ e. omega arith) (λ e. omega arith) (λ e. omega arith) (λ e. omega arith) (λ e. omega arith) refl
-    (behind_opcode c.in-Ok.opcode at mid c.in-Ok.ensures.exact refl) c.in_ok-pass_plain-2.ensures g
-
 pub returns-in_ok-pass_plain-in_default-opcode : goal.returns-in_ok-pass_plain-in_default-opcode
 returns-in_ok-pass_plain-in_default-opcode c = λ before from g.
     let at = c.args.walk.now in
@@ -74,5 +58,5 @@ returns-in_ok-pass_plain-in_default-opcode c = λ before from g.
     let n2 : opcode ≡ 0x02 → ⊥ = search rules in
     let n3 : opcode ≡ 0x03 → ⊥ = search rules in
     let n4 : opcode ≡ 0x04 → ⊥ = search rules in
-    plain_goes c.args.profile before c.args.out.now.items c.pass_plain-in_default-opcode.new.out.items from at mid c.pass_plain-in_default-opcode.new.self c.args.reader.now.kinds c.args.reader.now.kinds opcode n0 n1 n2 n3 n4 refl
+    plain_goes c.args.profile before c.args.out.now.items c.pass_plain.new.out.items from at mid c.pass_plain.new.self c.args.reader.now.kinds c.args.reader.now.kinds opcode n0 n1 n2 n3 n4 refl
     (behind_opcode opcode at mid c.in-Ok.ensures.exact refl) c.in_ok-pass_plain-in_default-opcode.ensures g
