@@ -36,5 +36,6 @@ pub mod Walking
 pub mod Immediates
 pub mod BriefTable
 pub mod BriefWalk
+pub mod OpenBlocks
 pub mod Rewriting
 pub mod RewrittenBody

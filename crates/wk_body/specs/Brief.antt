@@ -1,17 +1,56 @@
--- Instructions that have a byte for each of their integers.
-use Rattle.std.specs.Prelude.{ℕ, ◌<◌, Option, Some}
+-- Tokens that are as short as they may be: instructions that have a byte for each of their integers, ends, and openers of blocks whose
+-- type has one byte.
+use Rattle.std.specs.Prelude.{◌≡◌, ℕ, ◌+◌, ◌*◌, ◌/◌, ◌<◌, ◌⊎◌, ◌==◌, if◌then◌else◌, Bool, true, false, List, [], ◌∷◌, Option, Some}
+use Rattle.wk_body.specs.declared.types.Profile.TheVariants.{Core}
+use Rattle.wk_body.specs.declared.types.ValType.{ValType}
 use Rattle.wk_body.specs.declared.layout.Layout.{Layout}
 use Rattle.wk_body.specs.declared.layout.Layout.TheVariants as layouts
+use Rattle.wk_body.specs.ValTypes.{valtype_byte}
+use Rattle.wk_body.specs.Instructions.{form_of}
+use Rattle.wk_body.specs.Layouts.{layout_in}
 
 -- how many bytes an instruction has, with its opcode, where each of its integers has one; none that has anything else behind its opcode
-abbrev pub brief_len : Option Layout → ℕ
-brief_len (Some layouts.Nothing) = 1
-brief_len (Some layouts.Index) = 2
-brief_len (Some layouts.Signed32) = 2
-brief_len (Some layouts.Signed64) = 2
-brief_len (Some layouts.Memarg) = 3
-brief_len _ = 0
+abbrev pub plain_len : Option Layout → ℕ
+plain_len (Some layouts.Nothing) = 1
+plain_len (Some layouts.Index) = 2
+plain_len (Some layouts.Signed32) = 2
+plain_len (Some layouts.Signed64) = 2
+plain_len (Some layouts.Memarg) = 3
+plain_len _ = 0
 
--- there is such an instruction of that many bytes, where these bytes stand behind its opcode: an integer of one byte is below 128
+-- the same of a token: an end, or what opens a block, or an instruction of 1.0
+abbrev pub brief_len : ℕ → ℕ
+brief_len x =
+    if x == 0x0B then 1
+    else if x == 0x02 then 2
+    else if x == 0x03 then 2
+    else if x == 0x04 then 2
+    else plain_len (layout_in (form_of Core x))
+
+-- there is such a token of that many bytes, where these bytes stand behind its opcode: an integer of one byte is below 128
 abbrev pub IsBrief : ℕ → ℕ → ℕ → Type 0
 IsBrief len x y = (0 < len) × (1 < len → x < 128) × (2 < len → y < 128)
+
+-- a block type of one byte: none, or a value type
+abbrev pub IsShortType : ℕ → Type 0
+IsShortType x = (x ≡ 0x40) ⊎ ((t : ValType) × (x ≡ valtype_byte t))
+
+-- ---- open blocks as the bits of a number
+
+abbrev pub bit_of : Bool → ℕ
+bit_of false = 0
+bit_of true = 1
+
+-- of each open block, the innermost lowest, whether an else may still come, and a bit that is set above all
+abbrev pub number_of : List Bool → ℕ
+number_of [] = 1
+number_of (k ∷ ks) = 2 * number_of ks + bit_of k
+
+-- that number behind a token
+abbrev pub blocks_after : ℕ → ℕ → ℕ
+blocks_after x blocks =
+    if x == 0x0B then blocks / 2
+    else if x == 0x02 then 2 * blocks
+    else if x == 0x03 then 2 * blocks
+    else if x == 0x04 then 2 * blocks + 1
+    else blocks

@@ -12,6 +12,7 @@ use Rattle.wk_body.specs.Tree.{Instrs}
 use Rattle.wk_body.specs.Reading.{plain_at, type_here, groups_at, expr_at}
 use Rattle.wk_body.specs.Written.{plain_bytes, type_bytes, written_group, written_expr}
 use Rattle.wk_body.specs.Copying.{Copies}
+use Rattle.wk_body.specs.Brief.{number_of}
 
 -- the bytes that are written, with those of the run that lie in front of the cursor
 abbrev pub Holds : List ℕ → Walk → List ℕ → Type 0
@@ -67,3 +68,9 @@ GoesOn profile out from ks after to = (written : List ℕ) × Copies profile fro
 abbrev pub Goes : Bool → Profile → List ℕ → Walk → List Bool → List ℕ → Walk → Type 0
 Goes false profile out from ks after to = GoesOn profile out from ks after to
 Goes true profile out from ks after to = (t : Instrs) × Passes (expr_at profile) t (written_expr t) out from after to
+
+-- while the blocks `ks` were open above others, tokens were read and written, and those of the number are open now
+abbrev pub BlocksPass : Walk → Walk → ℕ → List Bool → List Bool → Type 0
+BlocksPass from to number ks below =
+    (next : List Bool) × (number ≡ number_of next)
+    × ((profile : Profile) (before out : List ℕ) (first : Walk) → GoesOn profile before first (ks ++ below) out from → GoesOn profile before first (next ++ below) out to)

@@ -1,6 +1,6 @@
 //! Writes a code again while it is read once.
 
-ghost use Rattle.std.specs.Prelude.{◌≡◌, ◌++◌, ◌-◌, ◌∷◌, [], ℕ, List, length, take, Ok, IfErr, IfSome, MatchResult};
+ghost use Rattle.std.specs.Prelude.{◌≡◌, ◌≤◌, ◌^◌, ◌⊎◌, Bool, ◌++◌, ◌-◌, ◌∷◌, [], ℕ, List, length, take, Ok, IfErr, IfSome, MatchResult};
 ghost use Rattle.wk_bytes.specs.Stands.{StandsOrMemory};
 ghost use Rattle.wk_body.specs.declared.types.LocalGroup.{LocalGroup};
 ghost use Rattle.wk_body.specs.declared.walk.Walk.{Walk};
@@ -12,7 +12,8 @@ ghost use Rattle.wk_body.specs.Reading.{expr_at, all_body_at};
 ghost use Rattle.wk_body.specs.TokenReading.{local_groups_at};
 ghost use Rattle.wk_body.specs.TokenSteps.{Opens};
 ghost use Rattle.wk_body.specs.Written.{type_bytes, written_group, written_expr, written_body};
-ghost use Rattle.wk_body.specs.Walks.{Passes, PassesType, PassesGroups, Keeps, Behind, GoesOn, Goes};
+ghost use Rattle.wk_body.specs.Brief.{number_of};
+ghost use Rattle.wk_body.specs.Walks.{Passes, PassesType, PassesGroups, Keeps, Behind, GoesOn, Goes, BlocksPass};
 ghost use Rattle.wk_body.specs.Bodies.{BodyOf};
 
 use crate::length::type_len;
@@ -105,22 +106,67 @@ fn pass_else(
     Some(())
 }
 
-// A token. Whether it is the end that closes no block.
+// Opens the blocks that are the bits of a number, above those that the reader has.
+#[inline(never)]
+fn hand_over(inner: u64, reader: &mut TokenReader) -> Option<()>
+    ensures { IfSome result (λ _. (ks : List Bool) → inner ≡ number_of ks → reader.new.kinds ≡ ks ++ reader.old.kinds) }
+{
+    let mut turned: u64 = 1;
+    let mut left = inner;
+    while left > 1 {
+        turned = turned.checked_mul(2)? + left % 2;
+        left /= 2;
+    }
+    while turned > 1 {
+        let Ok(()) = reader.open(turned % 2 == 1) else {
+            return None;
+        };
+        turned /= 2;
+    }
+    Some(())
+}
+
+// All open blocks are the reader's.
 #[inline(always)]
-fn pass_token(
+fn settle(inner: u64, reader: &mut TokenReader) -> Option<()>
+    ensures { IfSome result (λ _. (ks : List Bool) → inner ≡ number_of ks → reader.new.kinds ≡ ks ++ reader.old.kinds) }
+{
+    if inner > 1 {
+        hand_over(inner, reader)?;
+    }
+    Some(())
+}
+
+// Tokens that are as short as they may be.
+#[inline(always)]
+fn pass_brief(inner: u64, reader: &TokenReader, walk: &mut Walk<'_>) -> u64
+    requires { inner ≤ 2 ^ 62 }
+    ensures small { result ≤ 2 ^ 62 }
+    ensures goes { (ks : List Bool) → inner ≡ number_of ks → BlocksPass walk.old walk.new result ks reader.now.kinds }
+{
+    // The bits of a number are fewer than 64 blocks.
+    if reader.depth() > MAX_DEPTH - 64 {
+        return inner;
+    }
+    walk.pass_brief(inner)
+}
+
+// A token that opens, parts or closes blocks, or the end that closes none: then the answer is true.
+#[inline(always)]
+fn pass_control(
     profile: Profile,
+    opcode: u8,
+    at: u32,
+    left: usize,
     reader: &mut TokenReader,
     walk: &mut Walk<'_>,
     out: &mut Vec<u8>,
 ) -> Option<bool>
-    ensures { (before : List ℕ) (from : Walk) → GoesOn profile before from reader.old.kinds out.old.items walk.old
+    requires { (opcode ≡ 0x0B) ⊎ ((opcode ≡ 0x05) ⊎ ((opcode ≡ 0x02) ⊎ ((opcode ≡ 0x03) ⊎ (opcode ≡ 0x04)))) }
+    ensures { (before : List ℕ) (from token : Walk) → Behind opcode token walk.old → left ≡ length token.cursor.rest → at ≡ token.cursor.end - length token.cursor.rest
+        → GoesOn profile before from reader.old.kinds out.old.items token
         → IfSome result (λ last. Goes last profile before from reader.new.kinds out.new.items walk.new) }
 {
-    let at = walk.cursor.at();
-    let left = walk.cursor.rest().len();
-    let Ok(opcode) = walk.cursor.byte() else {
-        return None;
-    };
     match opcode {
         0x0B => match reader.close() {
             Some(_) => Some(false),
@@ -138,9 +184,38 @@ fn pass_token(
             pass_opening(profile, at, false, reader, walk, out)?;
             Some(false)
         }
-        0x04 => {
+        _ => {
             pass_opening(profile, at, true, reader, walk, out)?;
             Some(false)
+        }
+    }
+}
+
+// A token. Whether it is the end that closes no block.
+#[inline(always)]
+fn pass_token(
+    profile: Profile,
+    inner: &mut u64,
+    reader: &mut TokenReader,
+    walk: &mut Walk<'_>,
+    out: &mut Vec<u8>,
+) -> Option<bool>
+    requires { inner.old ≤ 2 ^ 62 }
+    ensures small { IfSome result (λ _. inner.new ≤ 2 ^ 62) }
+    ensures goes { (before : List ℕ) (from : Walk) (ks : List Bool) → inner.old ≡ number_of ks
+        → GoesOn profile before from (ks ++ reader.old.kinds) out.old.items walk.old
+        → IfSome result (λ last. (next : List Bool) × (inner.new ≡ number_of next) × Goes last profile before from (next ++ reader.new.kinds) out.new.items walk.new) }
+{
+    let at = walk.cursor.at();
+    let left = walk.cursor.rest().len();
+    let Ok(opcode) = walk.cursor.byte() else {
+        return None;
+    };
+    match opcode {
+        0x0B | 0x02..=0x05 => {
+            settle(*inner, reader)?;
+            *inner = 1;
+            pass_control(profile, opcode, at, left, reader, walk, out)
         }
         _ => {
             walk.pass_plain(profile, opcode, out)?;
@@ -160,10 +235,11 @@ fn pass_expr(
         × Passes (expr_at profile) t (written_expr t) out.old.items walk.old out.new.items walk.new) }
 {
     reader.begin();
+    let mut inner: u64 = 1;
     let mut left = walk.cursor.rest().len();
     while left > 0 {
-        walk.pass_brief();
-        if pass_token(profile, reader, walk, out)? {
+        inner = pass_brief(inner, reader, walk);
+        if pass_token(profile, &mut inner, reader, walk, out)? {
             return Some(());
         }
         left -= 1;

@@ -126,6 +126,14 @@ impl TokenReader {
         &self.labels
     }
 
+    // How many blocks are open.
+    #[inline(always)]
+    pub(crate) fn depth(&self) -> usize
+        ensures { result ≡ length self.now.kinds }
+    {
+        self.blocks.len()
+    }
+
     // The type of a block that opens here, behind its opcode, which stands at `at`.
     #[tactic(auto, unfolding(crate::specs::Reading::type_here))]
     #[inline(always)]

@@ -3,7 +3,7 @@
 //! What stands there as it is written stays in a run of bytes that is copied at once. A call that answers nothing met something
 //! unclear, or a growth was refused: then nothing is said of what it wrote.
 
-ghost use Rattle.std.specs.Prelude.{◌≡◌, ℕ, Bool, ◌∷◌, [], List, ◌++◌, ◌-◌, length, take, IfSome};
+ghost use Rattle.std.specs.Prelude.{◌≡◌, ℕ, ◌+◌, ◌≤◌, ◌^◌, Bool, ◌∷◌, [], List, ◌++◌, ◌-◌, length, take, IfSome};
 ghost use Rattle.std.specs.List.{flat_map};
 ghost use Rattle.byteorder.specs.Endian.{little_bytes};
 ghost use Rattle.wk_bytes.specs.Short.{short, short_signed};
@@ -12,9 +12,11 @@ ghost use Rattle.wk_body.specs.Vectors.{items_at, written_vector};
 ghost use Rattle.wk_body.specs.Reading.{reserved_at, labels_at};
 ghost use Rattle.wk_body.specs.declared.types.Profile.{Profile};
 ghost use Rattle.wk_body.specs.declared.walk.Walk.{Walk};
-ghost use Rattle.wk_body.specs.Walks.{Passes, Keeps, PassesPlain, GoesOn};
+ghost use Rattle.wk_body.specs.Brief.{number_of};
+ghost use Rattle.wk_body.specs.Shape.{depth_limit};
+ghost use Rattle.wk_body.specs.Walks.{Passes, Keeps, PassesPlain, BlocksPass};
 
-use crate::brief::{brief_len, is_brief};
+use crate::brief::{blocks_after, brief_len, passes};
 use crate::layout::{Layout, layout_of};
 use crate::reading::{are_bytes, reserved};
 use crate::types::Profile;
@@ -166,29 +168,35 @@ impl Walk<'_> {
         Some(())
     }
 
-    // Instructions of both profiles that have a byte for each of their integers, as many as stand here. The least has three bytes
-    // behind it, or the cursor stays in front of it. (No jump depends on which instructions they are: the processor foresees all but
-    // the last.)
+    // Tokens that are as short as they may be, as many as stand here, where the innermost open blocks are the bits of a number. The
+    // last has three bytes behind its opcode, or the cursor stays in front of it. (No jump depends on which tokens they are: the
+    // processor foresees all but the last.)
     #[inline(always)]
-    pub(crate) fn pass_brief(&mut self)
-        ensures { (profile : Profile) (before out : List ℕ) (from : Walk) (ks : List Bool) → GoesOn profile before from ks out self.old
-            → GoesOn profile before from ks out self.new }
+    pub(crate) fn pass_brief(&mut self, blocks: u64) -> u64
+        requires { blocks ≤ 2 ^ 62 }
+        ensures small { result ≤ 2 ^ 62 }
+        ensures goes { (ks below : List Bool) → blocks ≡ number_of ks → length below + 64 ≤ depth_limit → BlocksPass self.old self.new result ks below }
     {
         // The proof asks what this says: 32 bits hold the number of bytes.
         self.cursor.at();
         let bytes = self.cursor.rest();
         let last = bytes.len().saturating_sub(2);
+        let mut inner = blocks;
         let mut at = 0;
         while at < last {
-            let len = brief_len(bytes[at]);
-            if !is_brief(len, bytes[at + 1], bytes[at + 2]) {
+            let opcode = bytes[at];
+            let len = brief_len(opcode);
+            let after = blocks_after(inner, opcode);
+            if !passes(opcode, len, bytes[at + 1], bytes[at + 2], after) {
                 break;
             }
+            inner = after;
             at += usize::from(len);
         }
         let Ok(_) = self.cursor.take(at as u32) else {
             unreachable!()
         };
+        inner
     }
 
     // What stands behind the opcode of an instruction that holds no others.

@@ -1,14 +1,15 @@
-use Rattle.std.proofs.Common.{ℕ, ◌-◌, ◌≤◌, Bool, List, length}
-use Rattle.wk_body.specs.declared.types.Profile.{Profile}
-use Rattle.wk_body.specs.declared.walk.Walk.{Walk}
-use Rattle.wk_body.specs.Walks.{GoesOn}
+use Rattle.std.proofs.Common.{◌≡◌, ◌+◌, ◌-◌, ◌^◌, ◌≤◌, Bool, List, length}
+use Rattle.wk_body.specs.Brief.{number_of}
+use Rattle.wk_body.specs.Shape.{depth_limit}
+use Rattle.wk_body.specs.Walks.{BlocksPass}
 use Rattle.wk_body.proofs.BriefWalk.{later}
 use Rattle.wk_body.proofs.walk.Walk.pass_brief.Given as goal
 
 abbrev pub invariant-loop-at : goal.invariant-loop-at
 invariant-loop-at l = record {
   within : l.at ≤ length l.bytes;
-  goes : (profile : Profile) (before out : List ℕ) (from : Walk) (ks : List Bool) → GoesOn profile before from ks out l.fn.self → GoesOn profile before from ks out (later l.fn.self l.at);
+  small : l.inner ≤ 2 ^ 62;
+  goes : (ks below : List Bool) → l.fn.blocks ≡ number_of ks → length below + 64 ≤ depth_limit → BlocksPass l.fn.self (later l.fn.self l.at) l.inner ks below;
 }
 
 abbrev pub decreases-loop-at : goal.decreases-loop-at
