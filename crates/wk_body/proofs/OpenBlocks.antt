@@ -1,7 +1,7 @@
 -- Open blocks that are the bits of a number, and are handed over to a reader.
-use Rattle.std.proofs.Common.{◌≡◌, ℕ, ◌+◌, ◌*◌, ◌/◌, ◌%◌, ◌<◌, ◌≤◌, Bool, true, false, eqb, ◌⊎◌, inl, inr, Option, Some, None, List, [], ◌∷◌, ◌++◌, refl, sym, ap, ◌∙◌, arith}
+use Rattle.std.proofs.Common.{◌≡◌, ℕ, ◌+◌, ◌-◌, ◌*◌, ◌/◌, ◌%◌, ◌<◌, ◌≤◌, Bool, true, false, eqb, ◌⊎◌, inl, inr, Option, Some, None, List, [], ◌∷◌, ◌++◌, refl, sym, ap, ◌∙◌, arith}
 use Rattle.std.specs.Prelude.{IfSome}
-use Rattle.wk_body.specs.Brief.{bit_of, number_of}
+use Rattle.wk_body.specs.Brief.{bit_of, number_of, Parts}
 use Rattle.wk_body.proofs.BriefWalk.{number_some}
 
 -- the first list, turned, in front of the second
@@ -61,6 +61,12 @@ none_open turned kinds all le h = gone h.0 h.1 h.2
 pub none_inner : (number : ℕ) (ks : List Bool) → number ≤ 1 → number ≡ number_of ks → ks ≡ []
 none_inner number [] le is = refl
 none_inner number (k ∷ ks) le is = absurd (omega (arith, is, number_some ks))
+
+-- behind an else
+pub parts_at : (inner : ℕ) (ks : List Bool) → inner ≡ number_of ks → 1 < inner → inner % 2 ≡ 1 → Parts ks (inner - 1)
+parts_at inner [] is some odd = absurd (omega arith)
+parts_at inner (true ∷ outer) is some odd = (outer, refl, omega arith)
+parts_at inner (false ∷ outer) is some odd = absurd (omega arith)
 
 -- ---- what follows of a token
 

@@ -1,6 +1,6 @@
 //! Writes a code again while it is read once.
 
-ghost use Rattle.std.specs.Prelude.{◌≡◌, ◌≤◌, ◌^◌, ◌⊎◌, Bool, ◌++◌, ◌-◌, ◌∷◌, [], ℕ, List, length, take, Ok, IfErr, IfSome, MatchResult};
+ghost use Rattle.std.specs.Prelude.{◌≡◌, ◌≢◌, ◌≤◌, ◌^◌, ◌⊎◌, Bool, ◌++◌, ◌-◌, ◌∷◌, [], ℕ, List, length, take, Ok, IfErr, IfSome, MatchResult};
 ghost use Rattle.wk_bytes.specs.Stands.{StandsOrMemory};
 ghost use Rattle.wk_body.specs.declared.types.LocalGroup.{LocalGroup};
 ghost use Rattle.wk_body.specs.declared.walk.Walk.{Walk};
@@ -12,7 +12,7 @@ ghost use Rattle.wk_body.specs.Reading.{expr_at, all_body_at};
 ghost use Rattle.wk_body.specs.TokenReading.{local_groups_at};
 ghost use Rattle.wk_body.specs.TokenSteps.{Opens};
 ghost use Rattle.wk_body.specs.Written.{type_bytes, written_group, written_expr, written_body};
-ghost use Rattle.wk_body.specs.Brief.{number_of};
+ghost use Rattle.wk_body.specs.Brief.{number_of, Parts};
 ghost use Rattle.wk_body.specs.Walks.{Passes, PassesType, PassesGroups, Keeps, Behind, GoesOn, Goes, BlocksPass};
 ghost use Rattle.wk_body.specs.Bodies.{BodyOf};
 
@@ -191,6 +191,20 @@ fn pass_control(
     }
 }
 
+// The bits of the open blocks behind an `else`, where its branch holds something and the innermost block is one of them.
+#[inline(always)]
+fn parted(inner: u64, walk: &Walk<'_>) -> Option<u64>
+    ensures less { IfSome result (λ next. next ≤ inner) }
+    ensures parts { IfSome result (λ next. (ks : List Bool) → inner ≡ number_of ks → Parts ks next) }
+    ensures full { IfSome result (λ _. (opcode : ℕ) × (later : List ℕ) × (walk.now.cursor.rest ≡ opcode ∷ later) × (opcode ≢ 0x0B)) }
+{
+    let (next, _) = walk.cursor.rest().split_first()?;
+    if *next == 0x0B || inner < 2 || inner % 2 == 0 {
+        return None;
+    }
+    Some(inner - 1)
+}
+
 // A token. Whether it is the end that closes no block.
 #[inline(always)]
 fn pass_token(
@@ -211,6 +225,12 @@ fn pass_token(
     let Ok(opcode) = walk.cursor.byte() else {
         return None;
     };
+    if opcode == 0x05
+        && let Some(next) = parted(*inner, walk)
+    {
+        *inner = next;
+        return Some(false);
+    }
     match opcode {
         0x0B | 0x02..=0x05 => {
             settle(*inner, reader)?;

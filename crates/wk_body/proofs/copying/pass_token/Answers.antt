@@ -1,8 +1,8 @@
-use Rattle.std.proofs.Common.{◌≡◌, Bool, List, [], ◌++◌, length, refl, sym, ap, subst, rules, arith}
+use Rattle.std.proofs.Common.{◌≡◌, ℕ, Bool, true, false, List, [], ◌∷◌, ◌++◌, length, refl, sym, ap, subst, rules, arith}
 use Rattle.wk_body.specs.declared.walk.Walk.{Walk}
 use Rattle.wk_body.specs.Brief.{number_of}
-use Rattle.wk_body.specs.Walks.{GoesOn, Goes}
-use Rattle.wk_body.proofs.Rewriting.{behind_opcode, plain_goes}
+use Rattle.wk_body.specs.Walks.{Behind, GoesOn, Goes}
+use Rattle.wk_body.proofs.Rewriting.{behind_opcode, plain_goes, else_stays}
 use Rattle.wk_body.proofs.OpenBlocks.{if_some}
 use Rattle.wk_body.proofs.copying.pass_token.Goals as goal
 
@@ -32,3 +32,14 @@ returns-in_ok-settle-in-11-clause-goes c = λ before from ks is g.
     (λ last. (next : List Bool) × (1 ≡ number_of next) × Goes last c.args.profile before from (next ++ c.pass_control.new.reader.kinds) c.pass_control.new.out.items c.pass_control.new.walk)
     (λ last h. ([], refl, h))
     (c.pass_control.ensures before from at (behind_opcode c.in-Ok.opcode at mid c.in-Ok.ensures.exact refl) (ap length c.rest-left.ensures) c.at-at.ensures.offset here)
+
+pub returns-clause-goes : goal.returns-clause-goes
+returns-clause-goes c = λ before from ks is g.
+    let at = c.args.walk.now in
+    let mid : Walk = record { cursor = c.byte.new.self; run = at.run } in
+    let kinds = c.args.reader.now.kinds in
+    let p = c.in-Some.ensures.parts ks is in
+    let f = c.in-Some.ensures.full in
+    let b : Behind 0x05 at mid = subst (λ (o : ℕ). Behind o at mid) c.if-opcode-eq5.true (behind_opcode c.in-Ok.opcode at mid c.in-Ok.ensures.exact refl) in
+    let here = subst (λ (bs : List Bool). GoesOn c.args.profile before from (bs ++ kinds) c.args.out.now.items at) p.1 g in
+    (false ∷ p.0, p.2, else_stays c.args.profile before c.args.out.now.items from at mid (true ∷ (p.0 ++ kinds)) (false ∷ (p.0 ++ kinds)) f.0 f.1 refl refl f.2 f.3 b here)
