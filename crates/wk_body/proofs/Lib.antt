@@ -1,4 +1,5 @@
 pub mod Built
+pub mod Capped
 pub mod Closing
 pub mod Labels
 pub mod Lookup

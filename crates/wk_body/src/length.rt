@@ -1,6 +1,6 @@
 //! How long written forms are.
 
-ghost use Rattle.std.specs.Prelude.{◌≡◌, ℕ, ◌+◌, ◌*◌, ◌<◌, ◌≤◌, ◌^◌, length};
+ghost use Rattle.std.specs.Prelude.{◌≡◌, ℕ, ◌+◌, ◌-◌, ◌*◌, ◌<◌, ◌≤◌, ◌^◌, length, min};
 ghost use Rattle.std.specs.List.{flat_map, AllByRecursion};
 ghost use Rattle.wk_bytes.specs.Short.{short, short_signed};
 ghost use Rattle.wk_body.specs.Kept.{told, all_told, IsWithin};
@@ -126,16 +126,17 @@ fn plus(total: Option<u32>, more: u64) -> Option<u32>
     }
 }
 
-// A length with tokens added.
-fn plus_tokens(total: Option<u32>, labels: &[u32], tokens: &[Token]) -> Option<u32>
+// How many bytes tokens have, or the greatest number where they have more. (One sum for all: a test for the limit at each token would
+// be half of the loop.)
+fn tokens_len(labels: &[u32], tokens: &[Token]) -> u64
     requires { AllByRecursion (IsWithin (length labels.now)) tokens.now }
-    ensures { GrowsBy (length (flat_map tok_bytes (all_told labels.now tokens.now))) total result }
+    ensures { result ≡ min (length (flat_map tok_bytes (all_told labels.now tokens.now))) (2 ^ 64 - 1) }
 {
-    let mut all = total;
+    let mut total: u64 = 0;
     for token in tokens {
-        all = plus(all, token.len_in_loop(labels));
+        total = total.saturating_add(token.len_in_loop(labels));
     }
-    all
+    total
 }
 
 // A length with an expression added.
@@ -143,7 +144,7 @@ fn plus_expr(total: Option<u32>, expr: &Expr) -> Option<u32>
     ensures { GrowsBy (length (written_expr expr.now)) total result }
 {
     let (tokens, labels) = expr.tokens();
-    plus_tokens(total, labels, tokens)
+    plus(total, tokens_len(labels, tokens))
 }
 
 // A length with local groups added.
