@@ -11,11 +11,20 @@ pub first_five : (bytes : List ℕ) → 5 ≤ length bytes → take 5 bytes ≡ 
 first_five (a ∷ b ∷ c ∷ d ∷ e ∷ rest) long = refl
 first_five _ long = absurd (omega arith)
 
+-- the first four of them
+pub first_four : (bytes : List ℕ) → 5 ≤ length bytes → take 4 bytes ≡ get_or bytes 0 0 ∷ get_or bytes 1 0 ∷ get_or bytes 2 0 ∷ get_or bytes 3 0 ∷ []
+first_four (a ∷ b ∷ c ∷ d ∷ e ∷ rest) long = refl
+first_four _ long = absurd (omega arith)
+
 -- ---- unsigned
 
 -- a spelling in front is read, and what is behind it is left
 pub front_u32 : (k : ℕ) (bytes : List ℕ) (n : ℕ) → SpellsU 32 (take k bytes) n → uint_at 32 bytes ≡ Ok (n, drop k bytes)
 front_u32 k bytes n s = ap (uint_at 32) (sym (take-append-drop k bytes)) ∙ uint_again 32 (take k bytes) n (drop k bytes) s
+
+pub four_u32 : (a b c d : ℕ) → 128 ≤ a → 128 ≤ b → 128 ≤ c → a < 256 → b < 256 → c < 256 → d < 128
+    → SpellsU 32 (a ∷ b ∷ c ∷ d ∷ []) (joinU (a - 128) (joinU (b - 128) (joinU (c - 128) d)))
+four_u32 a b c d ha hb hc fa fb fc fd = (ha, fa, omega arith, _, (hb, fb, omega arith, _, (hc, fc, omega arith, _, (fd, omega arith, refl), refl), refl), refl)
 
 pub five_u32 : (a b c d e : ℕ) → 128 ≤ a → 128 ≤ b → 128 ≤ c → 128 ≤ d → a < 256 → b < 256 → c < 256 → d < 256 → e < 16
     → SpellsU 32 (a ∷ b ∷ c ∷ d ∷ e ∷ []) (joinU (a - 128) (joinU (b - 128) (joinU (c - 128) (joinU (d - 128) e))))
@@ -53,9 +62,13 @@ pub three_signed : (N a b c over : ℕ) → 128 ≤ a → 128 ≤ b → a < 256 
 three_signed N a b c over ha hb fa fb wide s =
     more_signed N a (b ∷ c ∷ []) (joinU (b - 128) c) (128 * over) ha fa (omega arith) (two_signed (N - 7) b c over hb fb (omega arith) s)
 
+pub four_signed : (N a b c d over : ℕ) → 128 ≤ a → 128 ≤ b → 128 ≤ c → a < 256 → b < 256 → c < 256 → 21 < N → SpellsS (N - 7 - 7 - 7) (d ∷ []) (pos d -ℤ pos over)
+    → SpellsS N (a ∷ b ∷ c ∷ d ∷ []) (pos (joinU (a - 128) (joinU (b - 128) (joinU (c - 128) d))) -ℤ pos (128 * (128 * (128 * over))))
+four_signed N a b c d over ha hb hc fa fb fc wide s =
+    more_signed N a (b ∷ c ∷ d ∷ []) (joinU (b - 128) (joinU (c - 128) d)) (128 * (128 * over)) ha fa (omega arith) (three_signed (N - 7) b c d over hb hc fb fc (omega arith) s)
+
 pub five_signed : (N a b c d e over : ℕ) → 128 ≤ a → 128 ≤ b → 128 ≤ c → 128 ≤ d → a < 256 → b < 256 → c < 256 → d < 256 → 28 < N → SpellsS (N - 7 - 7 - 7 - 7) (e ∷ []) (pos e -ℤ pos over)
     → SpellsS N (a ∷ b ∷ c ∷ d ∷ e ∷ []) (pos (joinU (a - 128) (joinU (b - 128) (joinU (c - 128) (joinU (d - 128) e)))) -ℤ pos (128 * (128 * (128 * (128 * over)))))
 five_signed N a b c d e over ha hb hc hd fa fb fc fd wide s =
-    let three = three_signed (N - 7 - 7) c d e over hc hd fc fd (omega arith) s in
-    let four = more_signed (N - 7) b (c ∷ d ∷ e ∷ []) (joinU (c - 128) (joinU (d - 128) e)) (128 * (128 * over)) hb fb (omega arith) three in
-    more_signed N a (b ∷ c ∷ d ∷ e ∷ []) (joinU (b - 128) (joinU (c - 128) (joinU (d - 128) e))) (128 * (128 * (128 * over))) ha fa (omega arith) four
+    more_signed N a (b ∷ c ∷ d ∷ e ∷ []) (joinU (b - 128) (joinU (c - 128) (joinU (d - 128) e))) (128 * (128 * (128 * over))) ha fa (omega arith)
+    (four_signed (N - 7) b c d e over hb hc hd fb fc fd (omega arith) s)

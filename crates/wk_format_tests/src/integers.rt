@@ -6,7 +6,10 @@ use wk_bytes::{
     Cursor, OutOfMemory, Sink, leb_len_s64, leb_len_u32, out_u32, put_s32, put_s33, put_s64,
     put_u32,
 };
-use wk_samples::integers::{SIGNED_32, SIGNED_33, SIGNED_64, Signed, UNSIGNED, Unsigned};
+use wk_samples::integers::{
+    SIGNED_32, SIGNED_32_BORDERS, SIGNED_33, SIGNED_64, Signed, UNSIGNED, UNSIGNED_BORDERS,
+    Unsigned,
+};
 
 // Whether the integer is measured and written so.
 fn is_written(alloc: Global, row: Unsigned) -> Result<bool, OutOfMemory> {
@@ -26,10 +29,10 @@ fn is_read(row: Unsigned) -> bool {
     row.bytes.len() <= 5 && Cursor::new(row.bytes).u32() == Ok(row.value)
 }
 
-// The first integer without a sign that is not spelled so.
-fn wrong_unsigned(alloc: Global) -> Option<u32> {
-    for row in UNSIGNED {
-        if is_written(alloc, row) != Ok(true) || !is_put_out(alloc, row) || !is_read(row) {
+// The first of these integers without a sign that is not spelled so.
+fn wrong_unsigned(alloc: Global, rows: &[Unsigned]) -> Option<u32> {
+    for row in rows {
+        if is_written(alloc, *row) != Ok(true) || !is_put_out(alloc, *row) || !is_read(*row) {
             return Some(row.value);
         }
     }
@@ -108,11 +111,15 @@ fn wrong_signed(alloc: Global) -> Option<i64> {
         .or(wrong_33(alloc, &SIGNED_32))
         .or(wrong_33(alloc, &SIGNED_33))
         .or(wrong_32(alloc, &SIGNED_32))
+        .or(wrong_64(alloc, &SIGNED_32_BORDERS))
+        .or(wrong_33(alloc, &SIGNED_32_BORDERS))
+        .or(wrong_32(alloc, &SIGNED_32_BORDERS))
 }
 
 #[test]
 fn spells_integers(rt: HostRuntime) -> Result<(), Fail> {
-    assert_eq!(rt; wrong_unsigned(rt.alloc()), None);
+    assert_eq!(rt; wrong_unsigned(rt.alloc(), &UNSIGNED), None);
+    assert_eq!(rt; wrong_unsigned(rt.alloc(), &UNSIGNED_BORDERS), None);
     assert_eq!(rt; wrong_signed(rt.alloc()), None);
     Ok(())
 }

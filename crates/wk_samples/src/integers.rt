@@ -19,7 +19,7 @@ pub struct Signed {
 }
 
 /// Integers of each length of spelling, and 624,485, the usual example.
-pub const UNSIGNED: [Unsigned; 15] = [
+pub const UNSIGNED: [Unsigned; 12] = [
     Unsigned {
         value: 0,
         bytes: b"\x00",
@@ -61,6 +61,18 @@ pub const UNSIGNED: [Unsigned; 15] = [
         bytes: b"\xe5\x8e\x26",
     },
     Unsigned {
+        value: 1 << 28,
+        bytes: b"\x80\x80\x80\x80\x01",
+    },
+    Unsigned {
+        value: u32::MAX,
+        bytes: b"\xff\xff\xff\xff\x0f",
+    },
+];
+
+/// More of them, about where three and four bytes end.
+pub const UNSIGNED_BORDERS: [Unsigned; 3] = [
+    Unsigned {
         value: 2_097_151,
         bytes: b"\xff\xff\x7f",
     },
@@ -72,18 +84,10 @@ pub const UNSIGNED: [Unsigned; 15] = [
         value: 268_435_455,
         bytes: b"\xff\xff\xff\x7f",
     },
-    Unsigned {
-        value: 1 << 28,
-        bytes: b"\x80\x80\x80\x80\x01",
-    },
-    Unsigned {
-        value: u32::MAX,
-        bytes: b"\xff\xff\xff\xff\x0f",
-    },
 ];
 
 /// Integers of 32 bits.
-pub const SIGNED_32: [Signed; 26] = [
+pub const SIGNED_32: [Signed; 17] = [
     Signed {
         value: 0,
         bytes: b"\x00",
@@ -125,18 +129,6 @@ pub const SIGNED_32: [Signed; 26] = [
         bytes: b"\xe5\x8e\x26",
     },
     Signed {
-        value: 1_048_575,
-        bytes: b"\xff\xff\x3f",
-    },
-    Signed {
-        value: 1_048_576,
-        bytes: b"\x80\x80\xc0\x00",
-    },
-    Signed {
-        value: 134_217_728,
-        bytes: b"\x80\x80\x80\xc0\x00",
-    },
-    Signed {
         value: 2_147_483_647,
         bytes: b"\xff\xff\xff\xff\x07",
     },
@@ -157,16 +149,36 @@ pub const SIGNED_32: [Signed; 26] = [
         bytes: b"\x80\x7f",
     },
     Signed {
+        value: -123_456,
+        bytes: b"\xc0\xbb\x78",
+    },
+    Signed {
+        value: -2_147_483_648,
+        bytes: b"\x80\x80\x80\x80\x78",
+    },
+];
+
+/// More of them, about where two, three and four bytes end.
+pub const SIGNED_32_BORDERS: [Signed; 9] = [
+    Signed {
+        value: 1_048_575,
+        bytes: b"\xff\xff\x3f",
+    },
+    Signed {
+        value: 1_048_576,
+        bytes: b"\x80\x80\xc0\x00",
+    },
+    Signed {
+        value: 134_217_728,
+        bytes: b"\x80\x80\x80\xc0\x00",
+    },
+    Signed {
         value: -8_192,
         bytes: b"\x80\x40",
     },
     Signed {
         value: -8_193,
         bytes: b"\xff\xbf\x7f",
-    },
-    Signed {
-        value: -123_456,
-        bytes: b"\xc0\xbb\x78",
     },
     Signed {
         value: -1_048_576,
@@ -183,10 +195,6 @@ pub const SIGNED_32: [Signed; 26] = [
     Signed {
         value: -134_217_729,
         bytes: b"\xff\xff\xff\xbf\x7f",
-    },
-    Signed {
-        value: -2_147_483_648,
-        bytes: b"\x80\x80\x80\x80\x78",
     },
 ];
 
