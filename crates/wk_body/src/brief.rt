@@ -70,7 +70,7 @@ pub(crate) fn blocks_after(blocks: u64, opcode: u8) -> u64
     if opcode == 0x0B { opened / 2 } else { opened }
 }
 
-/// The greatest number of open blocks that is kept as bits.
+/// The greatest number whose bits are open blocks: 62 of them.
 const MOST_BLOCKS: u64 = 1 << 62;
 
 /// Whether a token that has that many bytes, where it is as short as it may be, and leaves these blocks open, is so.

@@ -204,7 +204,7 @@ pub(crate) fn put_short(sheet: &mut [u8; ROOM], used: usize, token: &Token) -> O
         return None;
     }
     // (Locals and globals are a third of all tokens or more. Asked for by themselves first, they are told apart by one test of a range,
-    // which is foreseen better than a jump by the kind of token.)
+    // which is foreseen better than a jump by the kind of token. The `match` behind it names them too, and is not reached by them.)
     if matches!(
         *token,
         Token::LocalGet(_)

@@ -168,9 +168,9 @@ impl Walk<'_> {
         Some(())
     }
 
-    // Tokens that are as short as they may be, as many as stand here, where the innermost open blocks are the bits of a number. The
-    // last has three bytes behind its opcode, or the cursor stays in front of it. (No jump depends on which tokens they are: the
-    // processor foresees all but the last.)
+    // Tokens that are as short as they may be, as many as stand here in front of the last two bytes, where the innermost open blocks are
+    // the bits of a number. (No jump depends on which of these tokens it is, so the processor foresees each but the one that ends
+    // the run.)
     #[inline(always)]
     pub(crate) fn pass_brief(&mut self, blocks: u64) -> u64
         requires { blocks ≤ 2 ^ 62 }

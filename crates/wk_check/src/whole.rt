@@ -53,14 +53,19 @@ impl<'a> Whole<'a> {
     pub fn of(alloc: Global, lists: Lists<'a>) -> Result<Whole<'a>, OutOfMemory>
         ensures { IfOk result (λ w. w ≡ listed lists.entry) }
     {
-        // (Room for all at once: most imports are functions.)
-        let mut funcs = Vec::with_capacity(alloc, lists.imports.len())?;
+        let mut funcs = Vec::new(alloc);
         let mut globals = Vec::new(alloc);
         let mut tables: usize = 0;
         let mut memories: usize = 0;
         for import in lists.imports {
             match import.desc {
-                ImportDesc::Func(ty) => funcs.push(ty)?,
+                ImportDesc::Func(ty) => {
+                    // (Room for all behind the first: most imports are functions.)
+                    if funcs.is_empty() {
+                        funcs.reserve(lists.imports.len())?;
+                    }
+                    funcs.push(ty)?;
+                }
                 ImportDesc::Table(_) => tables += 1,
                 ImportDesc::Memory(_) => memories += 1,
                 ImportDesc::Global(ty) => globals.push(ty)?,

@@ -34,11 +34,11 @@ pub(crate) trait Readable {
         ensures { Parses (λ x. x) (read_at profile) cursor.old result cursor.new };
 }
 
-// For how many items room is made before the first is read: short lists then ask for memory once.
+// For how many items room is made behind the first: short lists then ask for memory once.
 const FIRST_ROOM: u32 = 64;
 
-/// Reads a count and as many items. Room for a few is made at once; else it grows with the items and not with the count, which may be
-/// any number.
+/// Reads a count and as many items. Room for a few is made once the first is read; else it grows with the items and not with the count,
+/// which may be any number.
 #[tactic(auto, using(crate::proofs::VectorReading::goes_on, crate::proofs::VectorReading::stops, crate::proofs::VectorReading::is_done), unfolding(wk_body::specs::Vectors::vector_at))]
 pub(crate) fn read_vector<F: Readable>(
     alloc: Global,
@@ -49,11 +49,15 @@ pub(crate) fn read_vector<F: Readable>(
     ensures { Parses (λ x. x) (vector_at (F.read_at profile)) cursor.old result cursor.new }
 {
     let count = cursor.u32()?;
-    let mut items = Items::from_vec(Vec::with_capacity(alloc, count.min(FIRST_ROOM) as usize)?);
+    let mut items = Vec::new(alloc);
     for _ in 0..count {
-        items.push(F::read(alloc, scratch, profile, cursor)?)?;
+        let item = F::read(alloc, scratch, profile, cursor)?;
+        if items.is_empty() {
+            items.reserve(count.min(FIRST_ROOM) as usize)?;
+        }
+        items.push(item)?;
     }
-    Ok(items)
+    Ok(Items::from_vec(items))
 }
 
 /// What was read took all of a section's contents.
