@@ -1,6 +1,6 @@
 //! A module as its code sees it.
 
-ghost use Rattle.std.specs.Prelude.{◌≡◌, IfOk, length, nat_lt, slice_get};
+ghost use Rattle.std.specs.Prelude.{◌≡◌, ◌++◌, ◌∷◌, [], IfOk, OnOk, length, nat_lt, slice_get};
 ghost use Rattle.wk_module.specs.Listed.{listed};
 ghost use Rattle.wk_check.specs.Answers.{found};
 ghost use Rattle.wk_check.specs.Spaces.{answer_in, spaces_of, initial_spaces, imported, table_in, memory_in};
@@ -44,6 +44,17 @@ impl<'a> Model for Whole<'a> {
     ghost invariant = { λ w. AreImported w.lists.imports.now w.funcs.items w.globals.items w.tables w.memories };
 }
 
+// Adds the type of a function. The first makes room for as many as there are imports: most of them are functions.
+fn add(funcs: &mut Vec<u32>, ty: u32, imports: usize) -> Result<(), OutOfMemory>
+    ensures { OnOk result (funcs.new.items ≡ funcs.old.items ++ ty ∷ []) }
+{
+    if funcs.is_empty() {
+        funcs.reserve(imports)?;
+    }
+    funcs.push(ty)?;
+    Ok(())
+}
+
 impl<'a> Whole<'a> {
     /// What the code of a module with these lists sees. It takes memory for the imports alone.
     ///
@@ -59,13 +70,7 @@ impl<'a> Whole<'a> {
         let mut memories: usize = 0;
         for import in lists.imports {
             match import.desc {
-                ImportDesc::Func(ty) => {
-                    // (Room for all behind the first: most imports are functions.)
-                    if funcs.is_empty() {
-                        funcs.reserve(lists.imports.len())?;
-                    }
-                    funcs.push(ty)?;
-                }
+                ImportDesc::Func(ty) => add(&mut funcs, ty, lists.imports.len())?,
                 ImportDesc::Table(_) => tables += 1,
                 ImportDesc::Memory(_) => memories += 1,
                 ImportDesc::Global(ty) => globals.push(ty)?,

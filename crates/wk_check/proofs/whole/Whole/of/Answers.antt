@@ -1,7 +1,7 @@
 use Rattle.std.proofs.Common.{arith}
 use Rattle.wk_check.proofs.Imported.{and_func, and_table, and_memory, and_global, few_tables, few_memories}
 use Rattle.wk_check.proofs.whole.Whole.of.Goals as goal
-use Rattle.wk_check.proofs.whole.Whole.of.Goals.{in-Func+in_ok-push-in-Func, in-Table, in-Memory, in-Global+in_ok-push-in-Global}
+use Rattle.wk_check.proofs.whole.Whole.of.Goals.{in-Func+in_ok-add-in-Func, in-Table, in-Memory, in-Global+in_ok-push-in-Global}
 
 pub overflow_add-tables : goal.overflow_add-tables
 overflow_add-tables c =
@@ -22,8 +22,8 @@ loop-import-preserved c =
     let t = c.loop-import.tables in
     let m = c.loop-import.memories in
     elim c.match-import.branch [
-      | in-Func+in_ok-push-in-Func w ↦
-          rw (w.funcs-is, w.globals-is, w.tables-is, w.memories-is, w.in_ok-push-in-Func.ensures.items)
+      | in-Func+in_ok-add-in-Func w ↦
+          rw (w.funcs-is, w.globals-is, w.tables-is, w.memories-is, w.in_ok-add-in-Func.ensures)
           (and_func is n c.import-item.result w.in-Func.ty fs gs t m c.loop-import-test.true c.import-item.is w.in-Func.is c.loop-import.invariant)
       | in-Table w ↦
           rw (w.funcs-is, w.globals-is, w.tables-is, w.memories-is)
