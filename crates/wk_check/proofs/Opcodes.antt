@@ -4,7 +4,7 @@ use Rattle.std.proofs.lemmas.Bool.{le-ltb, lt-ltb}
 use Rattle.std.specs.Prelude.{ℤ, IfOk}
 use Rattle.wk_bytes.specs.declared.fault.ReadKind.TheVariants.{UnknownOpcode}
 use Rattle.wk_bytes.specs.declared.fault.ReadFault.{ReadFault}
-use Rattle.wk_bytes.specs.Span.{Span, byte_at, u32_at, signed_at}
+use Rattle.wk_bytes.specs.Span.{Span, byte_at, u32_at, signed_at, word_at}
 use Rattle.wk_bytes.specs.SpanLaws.{byte_at-takes}
 use Rattle.wk_body.specs.declared.types.Profile.{Profile}
 use Rattle.wk_body.specs.declared.types.Profile.TheVariants.{Core, Extended}
@@ -17,7 +17,7 @@ use Rattle.wk_body.specs.declared.references.Ref.{Ref}
 use Rattle.wk_body.specs.declared.token.Token.TheVariants as kept
 use Rattle.wk_body.specs.MemoryOps.{memory_of}
 use Rattle.wk_body.specs.Numeric.{numeric_of}
-use Rattle.wk_body.specs.Instructions.{Plain, Br, BrIf, Call, Drop, LocalGet, LocalSet, LocalTee, GlobalGet, GlobalSet, Access, I32Const, I64Const, Numeric, Form, Alone, WithMemarg, any_form, form_of}
+use Rattle.wk_body.specs.Instructions.{Plain, Unreachable, Nop, Return, Select, F32Const, F64Const, Br, BrIf, Call, Drop, LocalGet, LocalSet, LocalTee, GlobalGet, GlobalSet, Access, I32Const, I64Const, Numeric, Form, Alone, WithMemarg, any_form, form_of}
 use Rattle.wk_body.specs.OpcodeLaws.{any_form-memory, any_form-numeric}
 use Rattle.wk_body.specs.Kept.{told}
 use Rattle.wk_body.specs.Reading.{type_at, type_here, plain_at, behind_form, tok_at, token_at, behind_at}
@@ -86,6 +86,36 @@ pub drop_at : (profile : Profile) (e : ReadFault) (end : ℕ) (bytes : List ℕ)
 unfolding plain_at behind_form form_of
 drop_at Core e end bytes = refl
 drop_at Extended e end bytes = refl
+
+pub nop_at : (profile : Profile) (e : ReadFault) (end : ℕ) (bytes : List ℕ) → plain_at profile e 0x01 end bytes ≡ Ok (Nop, bytes)
+unfolding plain_at behind_form form_of
+nop_at Core e end bytes = refl
+nop_at Extended e end bytes = refl
+
+pub unreachable_at : (profile : Profile) (e : ReadFault) (end : ℕ) (bytes : List ℕ) → plain_at profile e 0x00 end bytes ≡ Ok (Unreachable, bytes)
+unfolding plain_at behind_form form_of
+unreachable_at Core e end bytes = refl
+unreachable_at Extended e end bytes = refl
+
+pub return_at : (profile : Profile) (e : ReadFault) (end : ℕ) (bytes : List ℕ) → plain_at profile e 0x0F end bytes ≡ Ok (Return, bytes)
+unfolding plain_at behind_form form_of
+return_at Core e end bytes = refl
+return_at Extended e end bytes = refl
+
+pub select_at : (profile : Profile) (e : ReadFault) (end : ℕ) (bytes : List ℕ) → plain_at profile e 0x1B end bytes ≡ Ok (Select, bytes)
+unfolding plain_at behind_form form_of
+select_at Core e end bytes = refl
+select_at Extended e end bytes = refl
+
+pub single_at : (profile : Profile) (e : ReadFault) (end word : ℕ) (bytes rest : List ℕ) → word_at 4 end bytes ≡ Ok (word, rest) → plain_at profile e 0x43 end bytes ≡ Ok (F32Const word, rest)
+unfolding plain_at behind_form form_of
+single_at Core e end word bytes rest h = rw h refl
+single_at Extended e end word bytes rest h = rw h refl
+
+pub double_at : (profile : Profile) (e : ReadFault) (end word : ℕ) (bytes rest : List ℕ) → word_at 8 end bytes ≡ Ok (word, rest) → plain_at profile e 0x44 end bytes ≡ Ok (F64Const word, rest)
+unfolding plain_at behind_form form_of
+double_at Core e end word bytes rest h = rw h refl
+double_at Extended e end word bytes rest h = rw h refl
 
 form_below : (profile : Profile) (x : ℕ) (f : Form) → x ≤ 0xBF → any_form x ≡ Some f → form_of profile x ≡ Some f
 unfolding form_of

@@ -7,10 +7,10 @@ ghost use Rattle.wk_body.specs.declared.types.Profile.{Profile};
 ghost use Rattle.wk_check.specs.Effects.{local_type};
 ghost use Rattle.wk_check.specs.Streaming.{IsTaken, TakesBehind, IsOpened, IsClosed};
 
-use crate::control::call;
+use crate::control::{branch, branch_if, call};
 use crate::env::Env;
 use crate::machine::{Machine, Opener};
-use crate::operands::{drop_top, give, remove};
+use crate::operands::{drop_top, give, remove, select, stop};
 use crate::step::{
     Function, access, get_global, get_local, numeric, set_global, set_local, tee_local,
 };
@@ -225,7 +225,97 @@ fn quick_drop<E: Env>(
     Ok(true)
 }
 
-// A `br` behind its opcode, to a block of no types.
+// An `f32.const` behind its opcode.
+#[inline(always)]
+fn quick_single<E: Env>(
+    env: &E,
+    f: &Function<'_>,
+    m: &mut Machine,
+    cursor: &mut Cursor<'_>,
+) -> Result<bool, Stop>
+    ensures taken { IfOk result (TakesBehind (E.answers env.now) f.now 0x43 cursor.old cursor.new m.old m.new) }
+    ensures left { IfOk result (λ t. t ≡ false → m.new ≡ m.old) }
+{
+    let Ok(_) = cursor.word32() else {
+        return Ok(false);
+    };
+    give(m, ValType::F32)?;
+    Ok(true)
+}
+
+// An `f64.const` behind its opcode.
+#[inline(always)]
+fn quick_double<E: Env>(
+    env: &E,
+    f: &Function<'_>,
+    m: &mut Machine,
+    cursor: &mut Cursor<'_>,
+) -> Result<bool, Stop>
+    ensures taken { IfOk result (TakesBehind (E.answers env.now) f.now 0x44 cursor.old cursor.new m.old m.new) }
+    ensures left { IfOk result (λ t. t ≡ false → m.new ≡ m.old) }
+{
+    let Ok(_) = cursor.word64() else {
+        return Ok(false);
+    };
+    give(m, ValType::F64)?;
+    Ok(true)
+}
+
+// An `unreachable`.
+#[inline(always)]
+fn quick_unreachable<E: Env>(
+    env: &E,
+    f: &Function<'_>,
+    m: &mut Machine,
+    cursor: &Cursor<'_>,
+) -> Result<bool, Stop>
+    ensures taken { IfOk result (TakesBehind (E.answers env.now) f.now 0x00 cursor.now cursor.now m.old m.new) }
+    ensures left { IfOk result (λ t. t ≡ false → m.new ≡ m.old) }
+{
+    stop(m, false, &[])?;
+    Ok(true)
+}
+
+// A `nop`.
+#[inline(always)]
+fn quick_nop<E: Env>(env: &E, f: &Function<'_>, m: &mut Machine, cursor: &Cursor<'_>) -> bool
+    ensures taken { TakesBehind (E.answers env.now) f.now 0x01 cursor.now cursor.now m.old m.new result }
+    ensures left { result ≡ false → m.new ≡ m.old }
+{
+    true
+}
+
+// A `return`.
+#[inline(always)]
+fn quick_return<E: Env>(
+    env: &E,
+    f: &Function<'_>,
+    m: &mut Machine,
+    cursor: &Cursor<'_>,
+) -> Result<bool, Stop>
+    ensures taken { IfOk result (TakesBehind (E.answers env.now) f.now 0x0F cursor.now cursor.now m.old m.new) }
+    ensures left { IfOk result (λ t. t ≡ false → m.new ≡ m.old) }
+{
+    stop(m, false, f.results)?;
+    Ok(true)
+}
+
+// A `select`.
+#[inline(always)]
+fn quick_select<E: Env>(
+    env: &E,
+    f: &Function<'_>,
+    m: &mut Machine,
+    cursor: &Cursor<'_>,
+) -> Result<bool, Stop>
+    ensures taken { IfOk result (TakesBehind (E.answers env.now) f.now 0x1B cursor.now cursor.now m.old m.new) }
+    ensures left { IfOk result (λ t. t ≡ false → m.new ≡ m.old) }
+{
+    select(m)?;
+    Ok(true)
+}
+
+// A `br` behind its opcode. Most lead to a block of no types.
 #[inline(always)]
 fn quick_br<E: Env>(
     env: &E,
@@ -240,13 +330,14 @@ fn quick_br<E: Env>(
         return Ok(false);
     };
     let Some((_, BlockType::Empty)) = m.head(x as usize) else {
-        return Ok(false);
+        branch(env, m, x)?;
+        return Ok(true);
     };
     m.stop();
     Ok(true)
 }
 
-// A `br_if` behind its opcode, to a block of no types.
+// A `br_if` behind its opcode. Most lead to a block of no types.
 #[inline(always)]
 fn quick_br_if<E: Env>(
     env: &E,
@@ -261,7 +352,8 @@ fn quick_br_if<E: Env>(
         return Ok(false);
     };
     let Some((_, BlockType::Empty)) = m.head(x as usize) else {
-        return Ok(false);
+        branch_if(env, m, x)?;
+        return Ok(true);
     };
     remove(m, ValType::I32)?;
     Ok(true)
@@ -280,10 +372,14 @@ fn behind<E: Env>(
     ensures left { IfOk result (λ t. t ≡ false → m.new ≡ m.old) }
 {
     match opcode {
+        0x00 => quick_unreachable(env, f, m, cursor),
+        0x01 => Ok(quick_nop(env, f, m, cursor)),
         0x0C => quick_br(env, f, m, cursor),
         0x0D => quick_br_if(env, f, m, cursor),
+        0x0F => quick_return(env, f, m, cursor),
         0x10 => quick_call(env, f, m, cursor),
         0x1A => quick_drop(env, f, m, cursor),
+        0x1B => quick_select(env, f, m, cursor),
         0x20 => quick_get(env, f, m, cursor),
         0x21 => quick_set(env, f, m, cursor),
         0x22 => quick_tee(env, f, m, cursor),
@@ -292,6 +388,8 @@ fn behind<E: Env>(
         0x28..=0x3E => quick_access(env, f, opcode, m, cursor),
         0x41 => quick_const(env, f, m, cursor),
         0x42 => quick_long(env, f, m, cursor),
+        0x43 => quick_single(env, f, m, cursor),
+        0x44 => quick_double(env, f, m, cursor),
         0x45..=0xBF => quick_numeric(env, f, opcode, m, cursor),
         _ => Ok(false),
     }

@@ -81,7 +81,11 @@ fn go<E: Env>(
     ensures { GoesOn (E.answers env.now) (local_type f.now.locals.params f.now.locals.groups) f.now.results.now profile result stream.old.reader stream.new.reader cursor.old cursor.new stream.old.machine stream.new.machine }
 {
     let Stream { reader, machine } = stream;
-    match reader.next(profile, cursor) {
+    // (A cursor of its own, which stays in registers from label to label.)
+    let mut ahead = cursor.ahead();
+    let next = reader.next(profile, &mut ahead);
+    *cursor = ahead;
+    match next {
         Ok(Some(token)) => match type_token(env, f, reader.labels(), machine, &token) {
             Ok(()) => Went::On,
             Err(Stop::Fault(_)) => Went::Wrong,

@@ -19,3 +19,15 @@ returns-clause-taken g c = λ yes.
       same_end = c.in-Ok.ensures.exact.1;
       typed = rw label (sym (ap Ok c.stop.ensures));
     }
+
+pub returns-in_default-head-clause-taken : goal.returns-in_default-head-clause-taken
+returns-in_default-head-clause-taken g c = λ yes.
+    record {
+      token = kept.Br c.in-Ok.x;
+      plain = plain.Br c.in-Ok.x;
+      is_plain = λ labels. refl;
+      within = λ n. tt;
+      read = λ profile e. br_at profile e c.args.cursor.now.end c.in-Ok.x c.args.cursor.now.rest c.u32.new.self.rest c.in-Ok.ensures.exact.0;
+      same_end = c.in-Ok.ensures.exact.1;
+      typed = c.in_ok-branch.ensures;
+    }

@@ -19,3 +19,15 @@ returns-clause-taken g c = λ yes.
       same_end = c.in-Ok.ensures.exact.1;
       typed = rw label c.in_ok-remove.ensures;
     }
+
+pub returns-in_default-head-clause-taken : goal.returns-in_default-head-clause-taken
+returns-in_default-head-clause-taken g c = λ yes.
+    record {
+      token = kept.BrIf c.in-Ok.x;
+      plain = plain.BrIf c.in-Ok.x;
+      is_plain = λ labels. refl;
+      within = λ n. tt;
+      read = λ profile e. br_if_at profile e c.args.cursor.now.end c.in-Ok.x c.args.cursor.now.rest c.u32.new.self.rest c.in-Ok.ensures.exact.0;
+      same_end = c.in-Ok.ensures.exact.1;
+      typed = c.in_ok-branch_if.ensures;
+    }
