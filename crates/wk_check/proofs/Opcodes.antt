@@ -1,5 +1,5 @@
 -- Tokens that are typed from their bytes: what stands behind their opcodes.
-use Rattle.std.proofs.Common.{◌≡◌, ℕ, ◌<◌, ◌≤◌, ◌-◌, List, ◌∷◌, length, Bool, true, false, Option, Some, Result, Ok, Err, refl, sym, ap, subst, ◌∙◌, arith}
+use Rattle.std.proofs.Common.{◌≡◌, ℕ, ◌<◌, ◌≤◌, ◌-◌, List, [], ◌∷◌, length, Bool, true, false, Option, Some, None, Result, Ok, Err, refl, sym, ap, subst, ◌∙◌, arith}
 use Rattle.std.proofs.lemmas.Bool.{le-ltb, lt-ltb}
 use Rattle.std.specs.Prelude.{ℤ, IfOk}
 use Rattle.wk_bytes.specs.declared.fault.ReadKind.TheVariants.{UnknownOpcode}
@@ -22,7 +22,7 @@ use Rattle.wk_body.specs.OpcodeLaws.{any_form-memory, any_form-numeric}
 use Rattle.wk_body.specs.Kept.{told}
 use Rattle.wk_body.specs.Reading.{type_at, type_here, plain_at, behind_form, tok_at, token_at, behind_at}
 use Rattle.wk_body.specs.Shape.{depth_limit}
-use Rattle.wk_body.specs.TokenReading.{TokenReading}
+use Rattle.wk_body.specs.TokenReading.{TokenReading, NextRead}
 use Rattle.wk_body.specs.Tree.{Tok, Open, OpenIf, Close}
 use Rattle.wk_body.proofs.Table.{memory_of-opcode, numeric_of-opcode}
 use Rattle.wk_body.proofs.TokenSteps.{plain_token}
@@ -240,6 +240,10 @@ module _ (A : Ref → Found) (locals : ℕ → Option ValType) (final : List Val
     read = record { read = token_is profile old.kinds from mid 0x0B Close mid.rest front (λ at. end_at profile old.kinds at mid.end mid.rest); same_end = front.1; kinds = o.kinds; within = tt; stands = tt };
     typed = o.typed;
   }
+
+  -- the end that closes no block
+  pub last_end : (byte_at from.end from.rest ≡ Ok (0x0B, mid.rest)) × (mid.end ≡ from.end) → old.kinds ≡ [] → NextRead profile old new from mid None
+  last_end front none = (token_is profile old.kinds from mid 0x0B Close mid.rest front (λ at. end_at profile old.kinds at mid.end mid.rest), none, front.1)
 
 -- ---- calls that say whether they took a token
 
