@@ -1,0 +1,149 @@
+-- Eight bytes of an integer as a word, the lowest first: whether more come after each, and their seven bits put side by side.
+use Rattle.std.proofs.Common.{◌≡◌, ℕ, ◌+◌, ◌-◌, ◌*◌, ◌/◌, ◌^◌, ◌<◌, ◌≤◌, ℤ, pos, negsuc, ◌+ℤ◌, ◌*ℤ◌, List, [], ◌∷◌, ◌++◌, get_or, length, take, bit_and, refl, sym, ap, ◌∙◌, arith}
+use Rattle.std.specs.Prelude.{FitsSigned}
+use Rattle.std.specs.Int.{w64}
+use Rattle.std.proofs.lemmas.Int.{ints}
+use Rattle.std.proofs.lemmas.Nat.{and_block, and_le_l, and_le_r, and_mask}
+use Rattle.byteorder.specs.Endian.{little_number}
+use Rattle.wk_bytes.specs.Leb.{SpellsS, IsLastS, IsSignedOf, joinU, joinS}
+use Rattle.wk_bytes.specs.LebLaws.{IsBytes, more_spells}
+
+-- the word of these bytes
+abbrev pub word_of : ℕ → ℕ → ℕ → ℕ → ℕ → ℕ → ℕ → ℕ → ℕ
+word_of a b c d e f g h = a + 256 * (b + 256 * (c + 256 * (d + 256 * (e + 256 * (f + 256 * (g + 256 * h))))))
+
+-- the number of these bytes, seven bits of each
+abbrev pub joined_of : ℕ → ℕ → ℕ → ℕ → ℕ → ℕ → ℕ → ℕ → ℕ
+joined_of a b c d e f g h = joinU a (joinU b (joinU c (joinU d (joinU e (joinU f (joinU g h))))))
+
+lanes_8 : (r a s b : ℕ) → r < 256 → s < 256 → bit_and (r + 256 * a) (s + 256 * b) ≡ bit_and r s + 256 * bit_and a b
+lanes_8 r a s b hr hs =
+    let left : r + 256 * a ≡ a * 2 ^ 8 + r = omega arith in
+    let right : s + 256 * b ≡ b * 2 ^ 8 + s = omega arith in
+    let blocks = and_block 8 a b r s hr hs in
+    rw (left, right, blocks) (omega arith)
+
+lanes_16 : (r a s b : ℕ) → r < 65536 → s < 65536 → bit_and (r + 65536 * a) (s + 65536 * b) ≡ bit_and r s + 65536 * bit_and a b
+lanes_16 r a s b hr hs =
+    let left : r + 65536 * a ≡ a * 2 ^ 16 + r = omega arith in
+    let right : s + 65536 * b ≡ b * 2 ^ 16 + s = omega arith in
+    let blocks = and_block 16 a b r s hr hs in
+    rw (left, right, blocks) (omega arith)
+
+lanes_32 : (r a s b : ℕ) → r < 2 ^ 32 → s < 2 ^ 32 → bit_and (r + 2 ^ 32 * a) (s + 2 ^ 32 * b) ≡ bit_and r s + 2 ^ 32 * bit_and a b
+lanes_32 r a s b hr hs =
+    let left : r + 2 ^ 32 * a ≡ a * 2 ^ 32 + r = omega arith in
+    let right : s + 2 ^ 32 * b ≡ b * 2 ^ 32 + s = omega arith in
+    let blocks = and_block 32 a b r s hr hs in
+    rw (left, right, blocks) (omega arith)
+
+low_8 : (b c : ℕ) → b < 256 → bit_and (b + 256 * c) 255 ≡ b
+low_8 b c small = and_mask (b + 256 * c) 8 ∙ omega arith
+
+low_16 : (b c : ℕ) → b < 65536 → bit_and (b + 65536 * c) 65535 ≡ b
+low_16 b c small = and_mask (b + 65536 * c) 16 ∙ omega arith
+
+-- the second, fourth, sixth and eighth byte
+even_bytes : (b c d e f g h : ℕ) → b < 256 → c < 256 → d < 256 → e < 256 → f < 256 → g < 256 → h < 256
+    → bit_and (b + 256 * (c + 256 * (d + 256 * (e + 256 * (f + 256 * (g + 256 * h)))))) 0x00FF00FF00FF00FF ≡ b + 65536 * (d + 65536 * (f + 65536 * h))
+even_bytes b c d e f g h fb fc fd fe ff fg fh =
+    let lanes : b + 256 * (c + 256 * (d + 256 * (e + 256 * (f + 256 * (g + 256 * h))))) ≡ b + 256 * c + 65536 * (d + 256 * e + 65536 * (f + 256 * g + 65536 * (h + 256 * 0))) = omega arith in
+    let first = lanes_16 (b + 256 * c) (d + 256 * e + 65536 * (f + 256 * g + 65536 * (h + 256 * 0))) 255 (255 + 65536 * (255 + 65536 * 255)) (omega arith) (omega arith) in
+    let second = lanes_16 (d + 256 * e) (f + 256 * g + 65536 * (h + 256 * 0)) 255 (255 + 65536 * 255) (omega arith) (omega arith) in
+    let third = lanes_16 (f + 256 * g) (h + 256 * 0) 255 255 (omega arith) (omega arith) in
+    rw (lanes, first, second, third, low_8 b c fb, low_8 d e fd, low_8 f g ff, low_8 h 0 fh) refl
+
+-- seven bits of each byte, in twos
+pub in_twos : (a b c d e f g h word : ℕ) → a < 128 → b < 128 → c < 128 → d < 128 → e < 128 → f < 128 → g < 128 → h < 128 → word ≡ word_of a b c d e f g h
+    → word - 128 * bit_and (word / 256) 0x00FF00FF00FF00FF ≡ joinU a b + 65536 * (joinU c d + 65536 * (joinU e f + 65536 * joinU g h))
+in_twos a b c d e f g h word fa fb fc fd fe ff fg fh is =
+    let after : word / 256 ≡ b + 256 * (c + 256 * (d + 256 * (e + 256 * (f + 256 * (g + 256 * h))))) = omega arith in
+    let even : bit_and (word / 256) 0x00FF00FF00FF00FF ≡ b + 65536 * (d + 65536 * (f + 65536 * h)) =
+    ap (λ (n : ℕ). bit_and n 0x00FF00FF00FF00FF) after ∙ even_bytes b c d e f g h (omega arith) (omega arith) (omega arith) (omega arith) (omega arith) (omega arith) (omega arith)
+    in
+    omega (arith, even, is)
+
+-- in fours
+pub in_fours : (p q r s twos : ℕ) → p < 16384 → q < 16384 → r < 16384 → s < 16384 → twos ≡ p + 65536 * (q + 65536 * (r + 65536 * s))
+    → twos - 49152 * bit_and (twos / 65536) 0x0000FFFF0000FFFF ≡ p + 16384 * q + 2 ^ 32 * (r + 16384 * s)
+in_fours p q r s twos fp fq fr fs is =
+    let after : twos / 65536 ≡ q + 65536 * r + 2 ^ 32 * (s + 65536 * 0) = omega arith in
+    let lanes = lanes_32 (q + 65536 * r) (s + 65536 * 0) 65535 65535 (omega arith) (omega arith) in
+    let even : bit_and (twos / 65536) 0x0000FFFF0000FFFF ≡ q + 2 ^ 32 * s = ap (λ (n : ℕ). bit_and n 0x0000FFFF0000FFFF) after ∙ lanes ∙ rw (low_16 q r (omega arith), low_16 s 0 (omega arith)) refl in
+    omega (arith, even, is)
+
+-- and all eight
+pub in_eights : (u v fours : ℕ) → u < 2 ^ 28 → v < 2 ^ 28 → fours ≡ u + 2 ^ 32 * v → fours - 4026531840 * (fours / 2 ^ 32) ≡ u + 2 ^ 28 * v
+in_eights u v fours fu fv is =
+    let after : fours / 2 ^ 32 ≡ v = omega arith in
+    omega (arith, after, is)
+
+-- more come after each byte
+pub all_more : (a b c d e f g h word : ℕ) → a < 256 → b < 256 → c < 256 → d < 256 → e < 256 → f < 256 → g < 256 → h < 256 → word ≡ word_of a b c d e f g h
+    → bit_and word 0x8080808080808080 ≡ 0x8080808080808080
+    → (128 ≤ a) × (128 ≤ b) × (128 ≤ c) × (128 ≤ d) × (128 ≤ e) × (128 ≤ f) × (128 ≤ g) × (128 ≤ h)
+all_more a b c d e f g h word fa fb fc fd fe ff fg fh is high =
+    let at_a = lanes_8 a (b + 256 * (c + 256 * (d + 256 * (e + 256 * (f + 256 * (g + 256 * (h))))))) 128 (128 + 256 * (128 + 256 * (128 + 256 * (128 + 256 * (128 + 256 * (128 + 256 * (128))))))) fa (omega arith) in
+    let at_b = lanes_8 b (c + 256 * (d + 256 * (e + 256 * (f + 256 * (g + 256 * (h)))))) 128 (128 + 256 * (128 + 256 * (128 + 256 * (128 + 256 * (128 + 256 * (128)))))) fb (omega arith) in
+    let at_c = lanes_8 c (d + 256 * (e + 256 * (f + 256 * (g + 256 * (h))))) 128 (128 + 256 * (128 + 256 * (128 + 256 * (128 + 256 * (128))))) fc (omega arith) in
+    let at_d = lanes_8 d (e + 256 * (f + 256 * (g + 256 * (h)))) 128 (128 + 256 * (128 + 256 * (128 + 256 * (128)))) fd (omega arith) in
+    let at_e = lanes_8 e (f + 256 * (g + 256 * (h))) 128 (128 + 256 * (128 + 256 * (128))) fe (omega arith) in
+    let at_f = lanes_8 f (g + 256 * (h)) 128 (128 + 256 * (128)) ff (omega arith) in
+    let at_g = lanes_8 g (h) 128 (128) fg (omega arith) in
+    let bits : 0x8080808080808080 ≡ bit_and a 128 + 256 * (bit_and b 128 + 256 * (bit_and c 128 + 256 * (bit_and d 128 + 256 * (bit_and e 128 + 256 * (bit_and f 128 + 256 * (bit_and g 128 + 256 * (bit_and h 128))))))) = sym high ∙ ap (λ (n : ℕ). bit_and n 0x8080808080808080) is ∙ rw (at_a, at_b, at_c, at_d, at_e, at_f, at_g) refl in
+    (omega (arith, bits, and_le_l a 128, and_le_r a 128, and_le_l b 128, and_le_r b 128, and_le_l c 128, and_le_r c 128, and_le_l d 128, and_le_r d 128, and_le_l e 128, and_le_r e 128, and_le_l f 128, and_le_r f 128, and_le_l g 128, and_le_r g 128, and_le_l h 128, and_le_r h 128), omega (arith, bits, and_le_l a 128, and_le_r a 128, and_le_l b 128, and_le_r b 128, and_le_l c 128, and_le_r c 128, and_le_l d 128, and_le_r d 128, and_le_l e 128, and_le_r e 128, and_le_l f 128, and_le_r f 128, and_le_l g 128, and_le_r g 128, and_le_l h 128, and_le_r h 128), omega (arith, bits, and_le_l a 128, and_le_r a 128, and_le_l b 128, and_le_r b 128, and_le_l c 128, and_le_r c 128, and_le_l d 128, and_le_r d 128, and_le_l e 128, and_le_r e 128, and_le_l f 128, and_le_r f 128, and_le_l g 128, and_le_r g 128, and_le_l h 128, and_le_r h 128), omega (arith, bits, and_le_l a 128, and_le_r a 128, and_le_l b 128, and_le_r b 128, and_le_l c 128, and_le_r c 128, and_le_l d 128, and_le_r d 128, and_le_l e 128, and_le_r e 128, and_le_l f 128, and_le_r f 128, and_le_l g 128, and_le_r g 128, and_le_l h 128, and_le_r h 128), omega (arith, bits, and_le_l a 128, and_le_r a 128, and_le_l b 128, and_le_r b 128, and_le_l c 128, and_le_r c 128, and_le_l d 128, and_le_r d 128, and_le_l e 128, and_le_r e 128, and_le_l f 128, and_le_r f 128, and_le_l g 128, and_le_r g 128, and_le_l h 128, and_le_r h 128), omega (arith, bits, and_le_l a 128, and_le_r a 128, and_le_l b 128, and_le_r b 128, and_le_l c 128, and_le_r c 128, and_le_l d 128, and_le_r d 128, and_le_l e 128, and_le_r e 128, and_le_l f 128, and_le_r f 128, and_le_l g 128, and_le_r g 128, and_le_l h 128, and_le_r h 128), omega (arith, bits, and_le_l a 128, and_le_r a 128, and_le_l b 128, and_le_r b 128, and_le_l c 128, and_le_r c 128, and_le_l d 128, and_le_r d 128, and_le_l e 128, and_le_r e 128, and_le_l f 128, and_le_r f 128, and_le_l g 128, and_le_r g 128, and_le_l h 128, and_le_r h 128), omega (arith, bits, and_le_l a 128, and_le_r a 128, and_le_l b 128, and_le_r b 128, and_le_l c 128, and_le_r c 128, and_le_l d 128, and_le_r d 128, and_le_l e 128, and_le_r e 128, and_le_l f 128, and_le_r f 128, and_le_l g 128, and_le_r g 128, and_le_l h 128, and_le_r h 128))
+
+word_less : (a b c d e f g h word : ℕ) → word ≡ word_of (128 + a) (128 + b) (128 + c) (128 + d) (128 + e) (128 + f) (128 + g) (128 + h) → word - 0x8080808080808080 ≡ word_of a b c d e f g h
+word_less a b c d e f g h word is = omega (arith, is)
+
+back : (n : ℕ) → 128 ≤ n → 128 + (n - 128) ≡ n
+back n more = omega arith
+
+eight_value : (a b c d e f g h low : ℕ) (z : ℤ) → low ≡ joined_of a b c d e f g h
+    → pos low +ℤ (pos (2 ^ 56) *ℤ z) ≡ joinS a (joinS b (joinS c (joinS d (joinS e (joinS f (joinS g (joinS h z)))))))
+eight_value a b c d e f g h low (pos n) is = omega (arith, ints)
+eight_value a b c d e f g h low (negsuc n) is = omega (arith, ints)
+
+-- what the bits of eight bytes spell before others
+abbrev pub EightMore : List ℕ → ℕ → Type 0
+EightMore bytes low = (low < 2 ^ 56) × ((rest : List ℕ) (z : ℤ) → SpellsS 8 rest z → SpellsS 64 (take 8 bytes ++ rest) (pos low +ℤ (pos (2 ^ 56) *ℤ z)))
+
+pub eight_more : (bytes : List ℕ) (word low : ℕ) → IsBytes bytes → 8 ≤ length bytes → word ≡ little_number 8 bytes → bit_and word 0x8080808080808080 ≡ 0x8080808080808080
+    → ((a b c d e f g h : ℕ) → a < 128 → b < 128 → c < 128 → d < 128 → e < 128 → f < 128 → g < 128 → h < 128 → word - 0x8080808080808080 ≡ word_of a b c d e f g h → low ≡ joined_of a b c d e f g h)
+    → EightMore bytes low
+eight_more (a ∷ b ∷ c ∷ d ∷ e ∷ f ∷ g ∷ h ∷ behind) word low fits long is high joined =
+    let fa : a < 256 = fits 0 in
+    let fb : b < 256 = fits 1 in
+    let fc : c < 256 = fits 2 in
+    let fd : d < 256 = fits 3 in
+    let fe : e < 256 = fits 4 in
+    let ff : f < 256 = fits 5 in
+    let fg : g < 256 = fits 6 in
+    let fh : h < 256 = fits 7 in
+    let word_is : word ≡ word_of a b c d e f g h = omega (arith, is) in
+    let m = all_more a b c d e f g h word fa fb fc fd fe ff fg fh word_is high in
+    let less : word - 0x8080808080808080 ≡ word_of (a - 128) (b - 128) (c - 128) (d - 128) (e - 128) (f - 128) (g - 128) (h - 128) =
+    word_less (a - 128) (b - 128) (c - 128) (d - 128) (e - 128) (f - 128) (g - 128) (h - 128) word (rw (back a m.0, back b m.1, back c m.2, back d m.3, back e m.4, back f m.5, back g m.6, back h m.7) word_is)
+    in
+    let low_is : low ≡ joined_of (a - 128) (b - 128) (c - 128) (d - 128) (e - 128) (f - 128) (g - 128) (h - 128) =
+    joined (a - 128) (b - 128) (c - 128) (d - 128) (e - 128) (f - 128) (g - 128) (h - 128) (omega arith) (omega arith) (omega arith) (omega arith) (omega arith) (omega arith) (omega arith) (omega arith) less
+    in (
+      omega (arith, low_is),
+      λ rest z s.
+          let eighth : SpellsS 15 (h ∷ rest) (joinS (h - 128) z) = more_spells IsLastS joinS 15 h rest z _ m.7 fh (omega arith) s refl in
+          (m.0, fa, omega arith, _, (m.1, fb, omega arith, _, (m.2, fc, omega arith, _, (m.3, fd, omega arith, _, (m.4, fe, omega arith, _, (m.5, ff, omega arith, _, (m.6, fg, omega arith, _, eighth, refl), refl), refl), refl), refl), refl), eight_value (a - 128) (b - 128) (c - 128) (d - 128) (e - 128) (f - 128) (g - 128) (h - 128) low z low_is),
+    )
+eight_more _ word low fits long is high joined = absurd (omega arith)
+
+-- a number of eight bits above fits
+pub fits_above : (low : ℕ) (h : ℤ) → low < 2 ^ 56 → IsSignedOf 8 h → FitsSigned w64 (pos low +ℤ (pos (2 ^ 56) *ℤ h))
+fits_above low (pos n) small fits = record { sfits = omega arith }
+fits_above low (negsuc n) small fits = omega (arith, ints)
+
+pub front_nine : (bytes : List ℕ) → 10 ≤ length bytes → take 9 bytes ≡ take 8 bytes ++ (get_or bytes 8 0 ∷ [])
+front_nine (a ∷ b ∷ c ∷ d ∷ e ∷ f ∷ g ∷ h ∷ i ∷ rest) long = refl
+front_nine _ long = absurd (omega arith)
+
+pub front_ten : (bytes : List ℕ) → 10 ≤ length bytes → take 10 bytes ≡ take 8 bytes ++ (get_or bytes 8 0 ∷ get_or bytes 9 0 ∷ [])
+front_ten (a ∷ b ∷ c ∷ d ∷ e ∷ f ∷ g ∷ h ∷ i ∷ j ∷ rest) long = refl
+front_ten _ long = absurd (omega arith)
