@@ -15,7 +15,7 @@ ghost use Rattle.wk_body.specs.Spelling.{SpellsGroups};
 ghost use Rattle.wk_body.specs.Reading.{type_here, plain_at, tok_at, behind_at, token_at, after, may_else};
 ghost use Rattle.wk_body.specs.Kept.{told, IsWithin};
 ghost use Rattle.wk_body.specs.Shape.{depth_limit};
-ghost use Rattle.wk_body.specs.Tree.{Close};
+ghost use Rattle.wk_body.specs.Tree.{Close, Otherwise};
 ghost use Rattle.wk_body.specs.TokenReading.{NextRead, local_groups_at};
 ghost use Rattle.wk_body.specs.TokenSteps.{IsNext, Opens, Closes, StartsElse};
 
@@ -115,6 +115,22 @@ impl TokenReader {
         ensures left { result ≡ false → self.new ≡ self.old }
     {
         self.blocks.pop().is_some()
+    }
+
+    /// Begins the else branch of the innermost block, for a caller that has read an `else`: where that block is an `if` in which none
+    /// came yet. Whether it is; else the reader is as it was. It takes no memory.
+    #[inline(always)]
+    pub fn part_block(&mut self) -> bool
+        ensures may { result ≡ true → may_else self.old.kinds ≡ true }
+        ensures parted { result ≡ true → (after (Otherwise 0) self.old.kinds ≡ Some self.new.kinds) × (self.new.labels ≡ self.old.labels) }
+        ensures none { result ≡ false → may_else self.old.kinds ≡ false }
+        ensures left { result ≡ false → self.new ≡ self.old }
+    {
+        let Some(is_if) = self.blocks.pop() else {
+            return false;
+        };
+        self.blocks.push_reserved(false);
+        is_if
     }
 
     /// The labels of a `br_table` that was read last: those of its token lie in them, as in the pool of a body. They are told of up
