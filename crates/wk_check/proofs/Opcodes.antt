@@ -9,7 +9,7 @@ use Rattle.wk_bytes.specs.SpanLaws.{byte_at-takes}
 use Rattle.wk_body.specs.declared.types.Profile.{Profile}
 use Rattle.wk_body.specs.declared.types.Profile.TheVariants.{Core, Extended}
 use Rattle.wk_body.specs.declared.types.BlockKind.TheVariants as kinds
-use Rattle.wk_body.specs.declared.types.BlockType.TheVariants.{Empty}
+use Rattle.wk_body.specs.declared.types.BlockType.{BlockType}
 use Rattle.wk_body.specs.declared.types.ValType.{ValType}
 use Rattle.wk_body.specs.declared.memory.MemoryOp.{MemoryOp}
 use Rattle.wk_body.specs.declared.numeric.NumericOp.{NumericOp}
@@ -17,20 +17,21 @@ use Rattle.wk_body.specs.declared.references.Ref.{Ref}
 use Rattle.wk_body.specs.declared.token.Token.TheVariants as kept
 use Rattle.wk_body.specs.MemoryOps.{memory_of}
 use Rattle.wk_body.specs.Numeric.{numeric_of}
-use Rattle.wk_body.specs.Instructions.{Plain, Unreachable, Nop, Return, Select, F32Const, F64Const, Br, BrIf, Call, Drop, LocalGet, LocalSet, LocalTee, GlobalGet, GlobalSet, Access, I32Const, I64Const, Numeric, Form, Alone, WithMemarg, any_form, form_of}
+use Rattle.wk_body.specs.Instructions.{Plain, Unreachable, Nop, Return, Select, F32Const, F64Const, Br, BrIf, Call, Drop, LocalGet, LocalSet, LocalTee, GlobalGet, GlobalSet, Access, CallIndirect, MemorySize, MemoryGrow, I32Const, I64Const, Numeric, Form, Alone, WithMemarg, any_form, form_of}
 use Rattle.wk_body.specs.OpcodeLaws.{any_form-memory, any_form-numeric}
 use Rattle.wk_body.specs.Kept.{told}
-use Rattle.wk_body.specs.Reading.{type_at, type_here, plain_at, behind_form, tok_at, token_at, behind_at}
+use Rattle.wk_body.specs.Reading.{reserved_at, type_at, type_here, may_else, plain_at, behind_form, tok_at, token_at, behind_at}
 use Rattle.wk_body.specs.Shape.{depth_limit}
-use Rattle.wk_body.specs.TokenReading.{TokenReading, NextRead}
-use Rattle.wk_body.specs.Tree.{Tok, Open, OpenIf, Close}
+use Rattle.wk_body.specs.TokenReading.{TokenReading, NextRead, MayStand}
+use Rattle.wk_body.specs.Tree.{Tok, Open, OpenIf, Otherwise, Close}
 use Rattle.wk_body.proofs.Table.{memory_of-opcode, numeric_of-opcode}
 use Rattle.wk_body.proofs.TokenSteps.{plain_token}
 use Rattle.wk_check.specs.declared.machine.Opener.TheVariants as openers
+use Rattle.wk_check.specs.declared.quick_blocks.Met.{Met}
 use Rattle.wk_check.specs.declared.stop.Stop.{Stop}
 use Rattle.wk_check.specs.Answers.{Found}
 use Rattle.wk_check.specs.Levels.{Blocks}
-use Rattle.wk_check.specs.Streaming.{IsTaken, IsTakenBehind, IsOpened, IsClosed}
+use Rattle.wk_check.specs.Streaming.{IsTaken, IsTakenBehind, IsOpened, IsParted, IsClosed}
 
 pub br_at : (profile : Profile) (e : ReadFault) (end x : ℕ) (bytes rest : List ℕ) → u32_at end bytes ≡ Ok (x, rest) → plain_at profile e 0x0C end bytes ≡ Ok (Br x, rest)
 unfolding plain_at behind_form form_of
@@ -117,6 +118,21 @@ unfolding plain_at behind_form form_of
 double_at Core e end word bytes rest h = rw h refl
 double_at Extended e end word bytes rest h = rw h refl
 
+pub indirect_at : (profile : Profile) (e : ReadFault) (end x : ℕ) (bytes mid rest : List ℕ) → u32_at end bytes ≡ Ok (x, mid) → byte_at end mid ≡ Ok (0, rest) → plain_at profile e 0x11 end bytes ≡ Ok (CallIndirect x, rest)
+unfolding plain_at behind_form form_of reserved_at
+indirect_at Core e end x bytes mid rest h k = rw (h, k) refl
+indirect_at Extended e end x bytes mid rest h k = rw (h, k) refl
+
+pub size_at : (profile : Profile) (e : ReadFault) (end : ℕ) (bytes rest : List ℕ) → byte_at end bytes ≡ Ok (0, rest) → plain_at profile e 0x3F end bytes ≡ Ok (MemorySize, rest)
+unfolding plain_at behind_form form_of reserved_at
+size_at Core e end bytes rest h = rw h refl
+size_at Extended e end bytes rest h = rw h refl
+
+pub grow_at : (profile : Profile) (e : ReadFault) (end : ℕ) (bytes rest : List ℕ) → byte_at end bytes ≡ Ok (0, rest) → plain_at profile e 0x40 end bytes ≡ Ok (MemoryGrow, rest)
+unfolding plain_at behind_form form_of reserved_at
+grow_at Core e end bytes rest h = rw h refl
+grow_at Extended e end bytes rest h = rw h refl
+
 form_below : (profile : Profile) (x : ℕ) (f : Form) → x ≤ 0xBF → any_form x ≡ Some f → form_of profile x ≡ Some f
 unfolding form_of
 form_below Core x f le e = rw (le-ltb 0xBF x le, e) refl
@@ -189,21 +205,30 @@ taken A locals final profile r from mid to opcode b next front t =
 
 -- ---- openers and ends
 
-block_at : (profile : Profile) (ks : List Bool) (at end : ℕ) (bytes rest : List ℕ) → length ks < depth_limit → byte_at end bytes ≡ Ok (0x40, rest) → behind_at profile ks at 0x02 end bytes ≡ Ok (Open kinds.Block Empty 0, rest)
-unfolding behind_at type_here type_at
-block_at profile ks at end bytes rest lt e = rw (lt-ltb (length ks) depth_limit lt, e) refl
+block_at : (profile : Profile) (ks : List Bool) (at end : ℕ) (bytes rest : List ℕ) (block : BlockType) → length ks < depth_limit → type_at profile end bytes ≡ Ok (block, rest) → behind_at profile ks at 0x02 end bytes ≡ Ok (Open kinds.Block block 0, rest)
+unfolding behind_at type_here
+block_at profile ks at end bytes rest block lt e = rw (lt-ltb (length ks) depth_limit lt, e) refl
 
-loop_at : (profile : Profile) (ks : List Bool) (at end : ℕ) (bytes rest : List ℕ) → length ks < depth_limit → byte_at end bytes ≡ Ok (0x40, rest) → behind_at profile ks at 0x03 end bytes ≡ Ok (Open kinds.Loop Empty 0, rest)
-unfolding behind_at type_here type_at
-loop_at profile ks at end bytes rest lt e = rw (lt-ltb (length ks) depth_limit lt, e) refl
+loop_at : (profile : Profile) (ks : List Bool) (at end : ℕ) (bytes rest : List ℕ) (block : BlockType) → length ks < depth_limit → type_at profile end bytes ≡ Ok (block, rest) → behind_at profile ks at 0x03 end bytes ≡ Ok (Open kinds.Loop block 0, rest)
+unfolding behind_at type_here
+loop_at profile ks at end bytes rest block lt e = rw (lt-ltb (length ks) depth_limit lt, e) refl
 
-if_at : (profile : Profile) (ks : List Bool) (at end : ℕ) (bytes rest : List ℕ) → length ks < depth_limit → byte_at end bytes ≡ Ok (0x40, rest) → behind_at profile ks at 0x04 end bytes ≡ Ok (OpenIf Empty 0, rest)
-unfolding behind_at type_here type_at
-if_at profile ks at end bytes rest lt e = rw (lt-ltb (length ks) depth_limit lt, e) refl
+if_at : (profile : Profile) (ks : List Bool) (at end : ℕ) (bytes rest : List ℕ) (block : BlockType) → length ks < depth_limit → type_at profile end bytes ≡ Ok (block, rest) → behind_at profile ks at 0x04 end bytes ≡ Ok (OpenIf block 0, rest)
+unfolding behind_at type_here
+if_at profile ks at end bytes rest block lt e = rw (lt-ltb (length ks) depth_limit lt, e) refl
+
+else_at : (profile : Profile) (ks : List Bool) (at end : ℕ) (bytes : List ℕ) → may_else ks ≡ true → behind_at profile ks at 0x05 end bytes ≡ Ok (Otherwise 0, bytes)
+unfolding behind_at
+else_at profile ks at end bytes may = rw may refl
 
 end_at : (profile : Profile) (ks : List Bool) (at end : ℕ) (bytes : List ℕ) → behind_at profile ks at 0x0B end bytes ≡ Ok (Close, bytes)
 unfolding behind_at
 end_at profile ks at end bytes = refl
+
+-- an else stands in the block of which one may come
+stands_in : (ks : List Bool) → may_else ks ≡ true → MayStand (Otherwise 0) ks
+stands_in [] may = absurd cc
+stands_in (k ∷ ks) may = tt
 
 -- a token is what stands behind its opcode
 token_is : (profile : Profile) (ks : List Bool) (from mid : Span) (opcode : ℕ) (t : Tok) (rest : List ℕ) → (byte_at from.end from.rest ≡ Ok (opcode, mid.rest)) × (mid.end ≡ from.end)
@@ -215,22 +240,29 @@ token_is profile ks from mid opcode t rest front is =
 module _ (A : Ref → Found) (locals : ℕ → Option ValType) (final : List ValType) (profile : Profile) (old new : TokenReading) (from mid to : Span) (b next : Blocks) where
   pub block_taken : (byte_at from.end from.rest ≡ Ok (0x02, mid.rest)) × (mid.end ≡ from.end) → IsOpened A false openers.Block old new mid to b next → IsTaken A locals final profile old new from to b next
   block_taken front o = record {
-    token = kept.Block Empty 0;
-    read = record { read = token_is profile old.kinds from mid 0x02 (Open kinds.Block Empty 0) to.rest front (λ at. block_at profile old.kinds at mid.end mid.rest to.rest o.shallow o.empty); same_end = o.same_end ∙ front.1; kinds = rw o.kinds refl; within = tt; stands = tt };
+    token = kept.Block o.block 0;
+    read = record { read = token_is profile old.kinds from mid 0x02 (Open kinds.Block o.block 0) to.rest front (λ at. block_at profile old.kinds at mid.end mid.rest to.rest o.block o.shallow (o.read profile)); same_end = o.same_end ∙ front.1; kinds = rw o.kinds refl; within = tt; stands = tt };
     typed = o.typed;
   }
 
   pub loop_taken : (byte_at from.end from.rest ≡ Ok (0x03, mid.rest)) × (mid.end ≡ from.end) → IsOpened A false openers.Loop old new mid to b next → IsTaken A locals final profile old new from to b next
   loop_taken front o = record {
-    token = kept.Loop Empty 0;
-    read = record { read = token_is profile old.kinds from mid 0x03 (Open kinds.Loop Empty 0) to.rest front (λ at. loop_at profile old.kinds at mid.end mid.rest to.rest o.shallow o.empty); same_end = o.same_end ∙ front.1; kinds = rw o.kinds refl; within = tt; stands = tt };
+    token = kept.Loop o.block 0;
+    read = record { read = token_is profile old.kinds from mid 0x03 (Open kinds.Loop o.block 0) to.rest front (λ at. loop_at profile old.kinds at mid.end mid.rest to.rest o.block o.shallow (o.read profile)); same_end = o.same_end ∙ front.1; kinds = rw o.kinds refl; within = tt; stands = tt };
     typed = o.typed;
   }
 
   pub if_taken : (byte_at from.end from.rest ≡ Ok (0x04, mid.rest)) × (mid.end ≡ from.end) → IsOpened A true openers.If old new mid to b next → IsTaken A locals final profile old new from to b next
   if_taken front o = record {
-    token = kept.If Empty 0;
-    read = record { read = token_is profile old.kinds from mid 0x04 (OpenIf Empty 0) to.rest front (λ at. if_at profile old.kinds at mid.end mid.rest to.rest o.shallow o.empty); same_end = o.same_end ∙ front.1; kinds = rw o.kinds refl; within = tt; stands = tt };
+    token = kept.If o.block 0;
+    read = record { read = token_is profile old.kinds from mid 0x04 (OpenIf o.block 0) to.rest front (λ at. if_at profile old.kinds at mid.end mid.rest to.rest o.block o.shallow (o.read profile)); same_end = o.same_end ∙ front.1; kinds = rw o.kinds refl; within = tt; stands = tt };
+    typed = o.typed;
+  }
+
+  pub else_taken : (byte_at from.end from.rest ≡ Ok (0x05, mid.rest)) × (mid.end ≡ from.end) → IsParted A old new b next → IsTaken A locals final profile old new from mid b next
+  else_taken front o = record {
+    token = kept.Else 0;
+    read = record { read = token_is profile old.kinds from mid 0x05 (Otherwise 0) mid.rest front (λ at. else_at profile old.kinds at mid.end mid.rest o.may); same_end = front.1; kinds = o.kinds; within = tt; stands = stands_in old.kinds o.may };
     typed = o.typed;
   }
 
@@ -245,9 +277,9 @@ module _ (A : Ref → Found) (locals : ℕ → Option ValType) (final : List Val
   pub last_end : (byte_at from.end from.rest ≡ Ok (0x0B, mid.rest)) × (mid.end ≡ from.end) → old.kinds ≡ [] → NextRead profile old new from mid None
   last_end front none = (token_is profile old.kinds from mid 0x0B Close mid.rest front (λ at. end_at profile old.kinds at mid.end mid.rest), none, front.1)
 
--- ---- calls that say whether they took a token
+-- ---- calls that say what they met
 
--- what holds where a call took something holds in other words
-pub taken_where : {X Y : Type 0} (told : Result Bool Stop) → (X → Y) → IfOk told (λ t. t ≡ true → X) → IfOk told (λ t. t ≡ true → Y)
-taken_where (Ok t) f h = λ yes. f (h yes)
-taken_where (Err e) f h = h
+-- what holds where a call met something holds in other words
+pub met_where : {X Y : Type 0} (met : Met) (told : Result Met Stop) → (X → Y) → IfOk told (λ t. t ≡ met → X) → IfOk told (λ t. t ≡ met → Y)
+met_where met (Ok t) f h = λ yes. f (h yes)
+met_where met (Err e) f h = h

@@ -1,19 +1,20 @@
 -- What is said of bodies that are typed while they are read.
 use Rattle.std.specs.Prelude.{◌≡◌, ℕ, ◌<◌, Bool, Option, Some, None, true, List, ◌∷◌, length, Ok}
 use Rattle.wk_bytes.specs.declared.fault.ReadFault.{ReadFault}
-use Rattle.wk_bytes.specs.Span.{Span, byte_at}
+use Rattle.wk_bytes.specs.Span.{Span}
 use Rattle.wk_body.specs.declared.types.Profile.{Profile}
 use Rattle.wk_body.specs.declared.types.ValType.{ValType}
-use Rattle.wk_body.specs.declared.types.BlockType.TheVariants.{Empty}
+use Rattle.wk_body.specs.declared.types.BlockType.{BlockType}
+use Rattle.wk_body.specs.declared.types.BlockType.TheVariants.{Index}
 use Rattle.wk_body.specs.declared.references.Ref.{Ref}
 use Rattle.wk_body.specs.declared.token.Token.{Token}
 use Rattle.wk_body.specs.Bodies.{BodyOf}
 use Rattle.wk_body.specs.Instructions.{Plain}
 use Rattle.wk_body.specs.Kept.{told, IsWithin}
-use Rattle.wk_body.specs.Reading.{plain_at, after, expr_at, all_body_at}
+use Rattle.wk_body.specs.Reading.{plain_at, type_at, may_else, after, expr_at, all_body_at}
 use Rattle.wk_body.specs.Shape.{depth_limit}
 use Rattle.wk_body.specs.TokenReading.{TokenReading, NextToken, NextRead}
-use Rattle.wk_body.specs.Tree.{Instrs, Simple, Close}
+use Rattle.wk_body.specs.Tree.{Instrs, Simple, Otherwise, Close}
 use Rattle.wk_check.specs.declared.fault.BodyVerdict.TheVariants.{Valid}
 use Rattle.wk_check.specs.declared.machine.Opener.{Opener}
 use Rattle.wk_check.specs.declared.step.Function.{Function}
@@ -21,7 +22,7 @@ use Rattle.wk_check.specs.declared.streaming.Went.{Went}
 use Rattle.wk_check.specs.declared.streaming.Went.TheVariants as went
 use Rattle.wk_check.specs.Answers.{Found}
 use Rattle.wk_check.specs.Effects.{local_type}
-use Rattle.wk_check.specs.Levels.{Blocks, entering, closed, step}
+use Rattle.wk_check.specs.Levels.{Blocks, entering, halved, closed, step}
 use Rattle.wk_check.specs.Typing.{code_result, body_verdict}
 
 -- the instructions from one place to another are typed without a fault
@@ -59,13 +60,25 @@ pub record IsTakenBehind (A : Ref → Found) (locals : ℕ → Option ValType) (
 abbrev pub TakesBehind : (Ref → Found) → Function → ℕ → Span → Span → Blocks → Blocks → Bool → Type 0
 TakesBehind A f opcode from to b next taken = taken ≡ true → IsTakenBehind A (local_type f.locals.params f.locals.groups) f.results.now opcode from to b next
 
--- A block of no types was opened behind its opcode, with a test or without one.
+-- a block type that is told without an index
+abbrev pub IsShort : BlockType → Type 0
+IsShort (Index x) = ⊥
+IsShort _ = Unit {0}
+
+-- A block was opened behind its opcode, with a test or without one.
 pub record IsOpened (A : Ref → Found) (test : Bool) (opener : Opener) (old new : TokenReading) (from to : Span) (b next : Blocks) : Type 0 where
+  pub block : BlockType
   pub shallow : length old.kinds < depth_limit
   pub kinds : new.kinds ≡ test ∷ old.kinds
-  pub empty : byte_at from.end from.rest ≡ Ok (0x40, to.rest)
+  pub read : (profile : Profile) → type_at profile from.end from.rest ≡ Ok (block, to.rest)
   pub same_end : to.end ≡ from.end
-  pub typed : entering A test opener Empty b ≡ Ok next
+  pub typed : entering A test opener block b ≡ Ok next
+
+-- A then branch was ended behind an `else`.
+pub record IsParted (A : Ref → Found) (old new : TokenReading) (b next : Blocks) : Type 0 where
+  pub may : may_else old.kinds ≡ true
+  pub kinds : after (Otherwise 0) old.kinds ≡ Some new.kinds
+  pub typed : halved A b ≡ Ok next
 
 -- A block was closed behind an `end`.
 pub record IsClosed (A : Ref → Found) (old new : TokenReading) (b next : Blocks) : Type 0 where

@@ -55,6 +55,7 @@ mod meter;
 mod operand;
 mod operands;
 mod quick;
+mod quick_blocks;
 mod rule;
 mod rules;
 mod spelled;

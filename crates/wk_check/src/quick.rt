@@ -1,22 +1,21 @@
-//! The commonest tokens, typed from their bytes: the opcode is looked at once, and no token is put together.
+//! Instructions that hold no others, typed from their bytes: the opcode is looked at once, and no token is put together.
 //!
 //! What is told here is what reading the token and typing it do. Any other token, and each whose bytes are refused, is left to them.
 
 ghost use Rattle.std.specs.Prelude.{◌≡◌, ◌≤◌, true, false, IfOk};
-ghost use Rattle.wk_body.specs.declared.types.Profile.{Profile};
-ghost use Rattle.wk_check.specs.Effects.{local_type};
-ghost use Rattle.wk_check.specs.Streaming.{IsTaken, TakesBehind, IsOpened, IsClosed};
+ghost use Rattle.wk_check.specs.Streaming.{TakesBehind};
 
-use crate::control::{branch, branch_if, call};
+use crate::control::{branch, branch_if, call, call_indirect};
 use crate::env::Env;
-use crate::machine::{Machine, Opener};
+use crate::machine::Machine;
 use crate::operands::{drop_top, give, remove, select, stop};
 use crate::step::{
-    Function, access, get_global, get_local, numeric, set_global, set_local, tee_local,
+    Function, access, get_global, get_local, memory_grow, memory_size, numeric, set_global,
+    set_local, tee_local,
 };
 use crate::stop::Stop;
 use wk_bytes::Cursor;
-use wk_module::{BlockType, MemoryOp, NumericOp, TokenReader, ValType};
+use wk_module::{BlockType, MemoryOp, NumericOp, ValType};
 
 // A `local.get` behind its opcode.
 #[inline(always)]
@@ -359,9 +358,66 @@ fn quick_br_if<E: Env>(
     Ok(true)
 }
 
-// The token of an opcode, behind it.
+// A `call_indirect` behind its opcode.
 #[inline(always)]
-fn behind<E: Env>(
+fn quick_call_indirect<E: Env>(
+    env: &E,
+    f: &Function<'_>,
+    m: &mut Machine,
+    cursor: &mut Cursor<'_>,
+) -> Result<bool, Stop>
+    ensures taken { IfOk result (TakesBehind (E.answers env.now) f.now 0x11 cursor.old cursor.new m.old m.new) }
+    ensures left { IfOk result (λ t. t ≡ false → m.new ≡ m.old) }
+{
+    let Ok(x) = cursor.u32() else {
+        return Ok(false);
+    };
+    let Ok(0) = cursor.byte() else {
+        return Ok(false);
+    };
+    call_indirect(env, m, x)?;
+    Ok(true)
+}
+
+// A `memory.size` behind its opcode.
+#[inline(always)]
+fn quick_size<E: Env>(
+    env: &E,
+    f: &Function<'_>,
+    m: &mut Machine,
+    cursor: &mut Cursor<'_>,
+) -> Result<bool, Stop>
+    ensures taken { IfOk result (TakesBehind (E.answers env.now) f.now 0x3F cursor.old cursor.new m.old m.new) }
+    ensures left { IfOk result (λ t. t ≡ false → m.new ≡ m.old) }
+{
+    let Ok(0) = cursor.byte() else {
+        return Ok(false);
+    };
+    memory_size(env, m)?;
+    Ok(true)
+}
+
+// A `memory.grow` behind its opcode.
+#[inline(always)]
+fn quick_grow<E: Env>(
+    env: &E,
+    f: &Function<'_>,
+    m: &mut Machine,
+    cursor: &mut Cursor<'_>,
+) -> Result<bool, Stop>
+    ensures taken { IfOk result (TakesBehind (E.answers env.now) f.now 0x40 cursor.old cursor.new m.old m.new) }
+    ensures left { IfOk result (λ t. t ≡ false → m.new ≡ m.old) }
+{
+    let Ok(0) = cursor.byte() else {
+        return Ok(false);
+    };
+    memory_grow(env, m)?;
+    Ok(true)
+}
+
+/// The token of an opcode, behind it. Where it is none of these the open blocks are as they were, and the cursor stands anywhere.
+#[inline(always)]
+pub(crate) fn behind<E: Env>(
     env: &E,
     f: &Function<'_>,
     opcode: u8,
@@ -378,6 +434,7 @@ fn behind<E: Env>(
         0x0D => quick_br_if(env, f, m, cursor),
         0x0F => quick_return(env, f, m, cursor),
         0x10 => quick_call(env, f, m, cursor),
+        0x11 => quick_call_indirect(env, f, m, cursor),
         0x1A => quick_drop(env, f, m, cursor),
         0x1B => quick_select(env, f, m, cursor),
         0x20 => quick_get(env, f, m, cursor),
@@ -386,83 +443,13 @@ fn behind<E: Env>(
         0x23 => quick_get_global(env, f, m, cursor),
         0x24 => quick_set_global(env, f, m, cursor),
         0x28..=0x3E => quick_access(env, f, opcode, m, cursor),
+        0x3F => quick_size(env, f, m, cursor),
+        0x40 => quick_grow(env, f, m, cursor),
         0x41 => quick_const(env, f, m, cursor),
         0x42 => quick_long(env, f, m, cursor),
         0x43 => quick_single(env, f, m, cursor),
         0x44 => quick_double(env, f, m, cursor),
         0x45..=0xBF => quick_numeric(env, f, opcode, m, cursor),
         _ => Ok(false),
-    }
-}
-
-// What opens a block of no types, behind its opcode, with a test or without one.
-#[inline(always)]
-fn quick_open<E: Env>(
-    env: &E,
-    test: bool,
-    opener: Opener,
-    reader: &mut TokenReader,
-    m: &mut Machine,
-    cursor: &mut Cursor<'_>,
-) -> Result<bool, Stop>
-    ensures taken { IfOk result (λ t. t ≡ true → IsOpened (E.answers env.now) test opener reader.old reader.new cursor.old cursor.new m.old m.new) }
-    ensures left { IfOk result (λ t. t ≡ false → (m.new ≡ m.old) × (reader.new ≡ reader.old)) }
-{
-    let Ok(0x40) = cursor.byte() else {
-        return Ok(false);
-    };
-    if !reader.open_block(test) {
-        return Ok(false);
-    }
-    if test {
-        remove(m, ValType::I32)?;
-        m.enter(opener, BlockType::Empty)?;
-        return Ok(true);
-    }
-    m.enter(opener, BlockType::Empty)?;
-    Ok(true)
-}
-
-// The end of a block of no types that stands in another.
-#[inline(always)]
-fn quick_end<E: Env>(env: &E, reader: &mut TokenReader, m: &mut Machine) -> bool
-    ensures taken { result ≡ true → IsClosed (E.answers env.now) reader.old reader.new m.old m.new }
-    ensures left { result ≡ false → (m.new ≡ m.old) × (reader.new ≡ reader.old) }
-{
-    let BlockType::Empty = m.block() else {
-        return false;
-    };
-    if !m.is_clear() || m.is_outermost() {
-        return false;
-    }
-    if !reader.close_block() {
-        return false;
-    }
-    m.leave();
-    true
-}
-
-/// Types the token at the front, if it is one of the commonest. Else the reader and the open blocks are as they were, and the cursor
-/// stands anywhere.
-#[inline(always)]
-pub(crate) fn quick<E: Env>(
-    env: &E,
-    f: &Function<'_>,
-    reader: &mut TokenReader,
-    m: &mut Machine,
-    cursor: &mut Cursor<'_>,
-) -> Result<bool, Stop>
-    ensures taken { (profile : Profile) → IfOk result (λ t. t ≡ true → IsTaken (E.answers env.now) (local_type f.now.locals.params f.now.locals.groups) f.now.results.now profile reader.old reader.new cursor.old cursor.new m.old m.new) }
-    ensures left { IfOk result (λ t. t ≡ false → (m.new ≡ m.old) × (reader.new ≡ reader.old)) }
-{
-    let Ok(opcode) = cursor.byte() else {
-        return Ok(false);
-    };
-    match opcode {
-        0x02 => quick_open(env, false, Opener::Block, reader, m, cursor),
-        0x03 => quick_open(env, false, Opener::Loop, reader, m, cursor),
-        0x04 => quick_open(env, true, Opener::If, reader, m, cursor),
-        0x0B => Ok(quick_end(env, reader, m)),
-        _ => behind(env, f, opcode, m, cursor),
     }
 }

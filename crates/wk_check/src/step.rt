@@ -129,7 +129,7 @@ pub(crate) fn access<E: Env>(env: &E, m: &mut Machine, op: MemoryOp, align: u32)
 }
 
 // A `memory.size`.
-fn memory_size<E: Env>(env: &E, m: &mut Machine) -> Result<(), Stop>
+pub(crate) fn memory_size<E: Env>(env: &E, m: &mut Machine) -> Result<(), Stop>
     ensures { Steps (acting (with_memory (E.answers env.now Ref.Memory) (Takes [] (I32 ∷ []))) m.old) result m.new }
 {
     check_memory(env)?;
@@ -137,7 +137,7 @@ fn memory_size<E: Env>(env: &E, m: &mut Machine) -> Result<(), Stop>
 }
 
 // A `memory.grow`.
-fn memory_grow<E: Env>(env: &E, m: &mut Machine) -> Result<(), Stop>
+pub(crate) fn memory_grow<E: Env>(env: &E, m: &mut Machine) -> Result<(), Stop>
     ensures { Steps (acting (with_memory (E.answers env.now Ref.Memory) (Takes (I32 ∷ []) (I32 ∷ []))) m.old) result m.new }
 {
     check_memory(env)?;

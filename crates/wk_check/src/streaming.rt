@@ -1,16 +1,16 @@
 //! Typing a body while it is read: each token is looked at once, and nothing is kept.
 
-ghost use Rattle.std.specs.Prelude.{◌≡◌, ℕ, List, Option, true, false, IfOk, IfSome, IfNone};
+ghost use Rattle.std.specs.Prelude.{◌≡◌, ℕ, List, Option, true, false, IfOk};
 ghost use Rattle.wk_body.specs.declared.types.Profile.{Profile};
 ghost use Rattle.wk_body.specs.declared.types.ValType.{ValType};
 ghost use Rattle.wk_check.specs.Effects.{local_type, results_of};
 ghost use Rattle.wk_check.specs.Streaming.{IsTyped, IsValidBody, GoesOn};
 
-use crate::control::{check_end, check_known, close, params, results};
+use crate::control::{check_end, check_known, params, results};
 use crate::env::Env;
 use crate::locals::{Locals, put_ends, put_first};
 use crate::machine::Machine;
-use crate::quick::quick;
+use crate::quick_blocks::{Met, quick};
 use crate::step::{Function, type_token};
 use crate::stop::Stop;
 use std::alloc::Global;
@@ -71,29 +71,7 @@ enum Went {
     Memory,
 }
 
-// An `end` at the front, of a block or of the body; nothing where another token stands there.
-#[inline(always)]
-fn pass_end<E: Env>(env: &E, stream: &mut Stream, cursor: &mut Cursor<'_>) -> Option<Went>
-    ensures took { (locals : ℕ → Option ValType) (final : List ValType) (profile : Profile) → IfSome result (λ went. GoesOn (E.answers env.now) locals final profile went stream.old.reader stream.new.reader cursor.old cursor.new stream.old.machine stream.new.machine) }
-    ensures left { IfNone result ((stream.new ≡ stream.old) × (cursor.new ≡ cursor.old)) }
-{
-    let mut behind = cursor.ahead();
-    let Ok(0x0B) = behind.byte() else {
-        return None;
-    };
-    let Stream { reader, machine } = stream;
-    *cursor = behind;
-    if !reader.close_block() {
-        return Some(Went::End);
-    }
-    match close(env, machine) {
-        Ok(()) => Some(Went::On),
-        Err(Stop::Fault(_)) => Some(Went::Wrong),
-        Err(Stop::Memory) => Some(Went::Memory),
-    }
-}
-
-// Types the token at the front, whatever it is. It stands apart, so that the loop over the commonest tokens is small.
+// Types the token at the front, whatever it is. It stands apart, so that the loop over the other tokens is small.
 #[inline(never)]
 fn go<E: Env>(
     env: &E,
@@ -104,9 +82,6 @@ fn go<E: Env>(
 ) -> Went
     ensures { GoesOn (E.answers env.now) (local_type f.now.locals.params f.now.locals.groups) f.now.results.now profile result stream.old.reader stream.new.reader cursor.old cursor.new stream.old.machine stream.new.machine }
 {
-    if let Some(went) = pass_end(env, stream, cursor) {
-        return went;
-    }
     let Stream { reader, machine } = stream;
     // (A cursor of its own, which stays in registers from label to label.)
     let mut ahead = cursor.ahead();
@@ -148,11 +123,18 @@ fn flows<E: Env>(
         let mut next = ahead.ahead();
         let Stream { reader, machine } = stream;
         match quick(env, f, reader, machine, &mut next) {
-            Ok(true) => {
+            Ok(Met::Token) => {
                 ahead = next;
                 continue;
             }
-            Ok(false) => {}
+            Ok(Met::Last) => {
+                let Ok(()) = check_end(machine, f.results) else {
+                    return Ok(false);
+                };
+                *cursor = next;
+                return Ok(true);
+            }
+            Ok(Met::Other) => {}
             Err(Stop::Fault(_)) => return Ok(false),
             Err(Stop::Memory) => return Err(OutOfMemory),
         }

@@ -8,17 +8,17 @@ loop-next-init g c =
     let f = c.args.f.now in
     rw c.ahead-ahead.ensures.same (starts (g.E.Env.answers c.args.env.now) (local_type f.locals.params f.locals.groups) f.results.now c.args.profile c.args.cursor.now c.begin.new.self.kinds c.args.block c.begin-2.new.self c.requires c.begin.ensures.kinds c.begin-2.ensures)
 
-pub loop-next-smaller-in-Ok-true : goal.loop-next-smaller-in-Ok-true
-loop-next-smaller-in-Ok-true g c =
+pub loop-next-smaller-in-Ok-Token : goal.loop-next-smaller-in-Ok-Token
+loop-next-smaller-in-Ok-Token g c =
     let f = c.args.f.now in
-    shortens (g.E.Env.answers c.args.env.now) (local_type f.locals.params f.locals.groups) f.results.now c.args.profile c.loop-next.ahead c.ahead-next.result c.quick.new.cursor c.loop-next.stream.reader c.quick.new.reader c.loop-next.stream.machine c.quick.new.m c.ahead-next.ensures.same (c.in-Ok-true.ensures.taken c.args.profile c.in-Ok-true.field-0-test)
+    shortens (g.E.Env.answers c.args.env.now) (local_type f.locals.params f.locals.groups) f.results.now c.args.profile c.loop-next.ahead c.ahead-next.result c.quick.new.cursor c.loop-next.stream.reader c.quick.new.reader c.loop-next.stream.machine c.quick.new.m c.ahead-next.ensures.same (c.in-Ok-Token.ensures.taken c.args.profile c.in-Ok-Token.field-0-is)
 
-pub loop-next-preserved-in-Ok-true : goal.loop-next-preserved-in-Ok-true
-loop-next-preserved-in-Ok-true g c =
+pub loop-next-preserved-in-Ok-Token : goal.loop-next-preserved-in-Ok-Token
+loop-next-preserved-in-Ok-Token g c =
     let f = c.args.f.now in
     let r = c.loop-next.stream.reader in
     let b = c.loop-next.stream.machine in
-    moves_on (g.E.Env.answers c.args.env.now) (local_type f.locals.params f.locals.groups) f.results.now c.args.profile c.args.cursor.now c.loop-next.ahead c.ahead-next.result c.quick.new.cursor r c.quick.new.reader b b c.quick.new.m c.ahead-next.ensures.same refl (c.in-Ok-true.ensures.taken c.args.profile c.in-Ok-true.field-0-test) c.loop-next.invariant
+    moves_on (g.E.Env.answers c.args.env.now) (local_type f.locals.params f.locals.groups) f.results.now c.args.profile c.args.cursor.now c.loop-next.ahead c.ahead-next.result c.quick.new.cursor r c.quick.new.reader b b c.quick.new.m c.ahead-next.ensures.same refl (c.in-Ok-Token.ensures.taken c.args.profile c.in-Ok-Token.field-0-is) c.loop-next.invariant
 
 pub loop-next-smaller : goal.loop-next-smaller
 loop-next-smaller g c =
@@ -28,7 +28,7 @@ loop-next-smaller g c =
 pub loop-next-preserved : goal.loop-next-preserved
 loop-next-preserved g c =
     let f = c.args.f.now in
-    let left = c.in-Ok-false.ensures.left c.in-Ok-false.field-0-test in
+    let left = c.in-Ok-Other.ensures.left c.in-Ok-Other.field-0-is in
     moves_on (g.E.Env.answers c.args.env.now) (local_type f.locals.params f.locals.groups) f.results.now c.args.profile c.args.cursor.now c.loop-next.ahead c.ahead-next-in-loop-next.result c.go.new.cursor c.loop-next.stream.reader c.go.new.stream.reader c.loop-next.stream.machine c.quick.new.m c.go.new.stream.machine
     c.ahead-next-in-loop-next.ensures.same left.0 (rw left.1 at c.in-On.ensures) c.loop-next.invariant
 
@@ -36,6 +36,13 @@ pub returns-in-End : goal.returns-in-End
 returns-in-End g c = λ yes.
     let f = c.args.f.now in
     let end = c.in-End.ensures in
-    let left = c.in-Ok-false.ensures.left c.in-Ok-false.field-0-test in
+    let left = c.in-Ok-Other.ensures.left c.in-Ok-Other.field-0-is in
     ends (g.E.Env.answers c.args.env.now) (local_type f.locals.params f.locals.groups) f.results.now c.args.profile c.args.cursor.now c.loop-next.ahead c.go.new.cursor c.loop-next.stream.reader.kinds c.loop-next.stream.machine
-    (rw (c.ahead-next-in-loop-next.ensures.same, left.1) at end.0.0) (rw left.1 at end.0.1) (rw c.ahead-next-in-loop-next.ensures.same at end.0.2) (rw (end.1, left.0) at c.in-Ok.ensures.0) c.loop-next.invariant
+    (rw (c.ahead-next-in-loop-next.ensures.same, left.1) at end.0.0) (rw left.1 at end.0.1) (rw c.ahead-next-in-loop-next.ensures.same at end.0.2) (rw (end.1, left.0) at c.in-Ok-check_end.ensures.0) c.loop-next.invariant
+
+pub returns-in-Ok-Last : goal.returns-in-Ok-Last
+returns-in-Ok-Last g c = λ yes.
+    let f = c.args.f.now in
+    let end = c.in-Ok-Last.ensures.last c.args.profile c.in-Ok-Last.field-0-is in
+    ends (g.E.Env.answers c.args.env.now) (local_type f.locals.params f.locals.groups) f.results.now c.args.profile c.args.cursor.now c.loop-next.ahead c.quick.new.cursor c.loop-next.stream.reader.kinds c.loop-next.stream.machine
+    (rw c.ahead-next.ensures.same at end.0.0) end.0.1 (rw c.ahead-next.ensures.same at end.0.2) (rw end.1 at c.in-Ok.ensures.0) c.loop-next.invariant

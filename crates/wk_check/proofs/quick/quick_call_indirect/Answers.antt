@@ -1,0 +1,17 @@
+use Rattle.std.proofs.Common.{refl, ◌∙◌}
+use Rattle.wk_body.specs.declared.token.Token.TheVariants as kept
+use Rattle.wk_body.specs.Instructions as plain
+use Rattle.wk_check.proofs.Opcodes.{indirect_at}
+use Rattle.wk_check.proofs.quick.quick_call_indirect.Goals as goal
+
+pub returns-clause-taken : goal.returns-clause-taken
+returns-clause-taken g c = λ yes.
+    record {
+      token = kept.CallIndirect c.in-Ok.x;
+      plain = plain.CallIndirect c.in-Ok.x;
+      is_plain = λ labels. refl;
+      within = λ n. tt;
+      read = λ profile e. indirect_at profile e c.args.cursor.now.end c.in-Ok.x c.args.cursor.now.rest c.u32.new.self.rest c.byte.new.self.rest c.in-Ok.ensures.exact.0 (rw (c.in-Ok-eq0.field-0-test, c.in-Ok.ensures.exact.1) at c.in-Ok-eq0.ensures.exact.0);
+      same_end = c.in-Ok-eq0.ensures.exact.1 ∙ c.in-Ok.ensures.exact.1;
+      typed = c.in_ok-call_indirect.ensures;
+    }

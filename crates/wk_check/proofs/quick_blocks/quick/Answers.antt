@@ -1,0 +1,52 @@
+use Rattle.wk_check.specs.Effects.{local_type}
+use Rattle.wk_check.specs.declared.quick_blocks.Met.TheVariants.{Token, Last}
+use Rattle.wk_check.proofs.Opcodes.{taken, met_where, block_taken, loop_taken, if_taken, else_taken, end_taken, last_end}
+use Rattle.wk_check.proofs.quick_blocks.quick.Goals as goal
+
+pub returns-in-2-clause-taken : goal.returns-in-2-clause-taken
+returns-in-2-clause-taken g c = λ profile.
+    let f = c.args.f.now in
+    met_where Token c.quick_open.result
+    (block_taken (g.E.Env.answers c.args.env.now) (local_type f.locals.params f.locals.groups) f.results.now profile c.args.reader.now c.quick_open.new.reader c.args.cursor.now c.byte.new.self c.quick_open.new.cursor c.args.m.now c.quick_open.new.m (rw c.in-2.is at c.in-Ok.ensures.exact))
+    c.quick_open.ensures.taken
+
+pub returns-in-3-clause-taken : goal.returns-in-3-clause-taken
+returns-in-3-clause-taken g c = λ profile.
+    let f = c.args.f.now in
+    met_where Token c.quick_open-in-3.result
+    (loop_taken (g.E.Env.answers c.args.env.now) (local_type f.locals.params f.locals.groups) f.results.now profile c.args.reader.now c.quick_open-in-3.new.reader c.args.cursor.now c.byte.new.self c.quick_open-in-3.new.cursor c.args.m.now c.quick_open-in-3.new.m (rw c.in-3.is at c.in-Ok.ensures.exact))
+    c.quick_open-in-3.ensures.taken
+
+pub returns-in-4-clause-taken : goal.returns-in-4-clause-taken
+returns-in-4-clause-taken g c = λ profile.
+    let f = c.args.f.now in
+    met_where Token c.quick_open-in-4.result
+    (if_taken (g.E.Env.answers c.args.env.now) (local_type f.locals.params f.locals.groups) f.results.now profile c.args.reader.now c.quick_open-in-4.new.reader c.args.cursor.now c.byte.new.self c.quick_open-in-4.new.cursor c.args.m.now c.quick_open-in-4.new.m (rw c.in-4.is at c.in-Ok.ensures.exact))
+    c.quick_open-in-4.ensures.taken
+
+pub returns-in-5-clause-taken : goal.returns-in-5-clause-taken
+returns-in-5-clause-taken g c = λ profile.
+    let f = c.args.f.now in
+    met_where Token c.quick_else.result
+    (else_taken (g.E.Env.answers c.args.env.now) (local_type f.locals.params f.locals.groups) f.results.now profile c.args.reader.now c.quick_else.new.reader c.args.cursor.now c.byte.new.self c.byte.new.self c.args.m.now c.quick_else.new.m (rw c.in-5.is at c.in-Ok.ensures.exact))
+    c.quick_else.ensures.taken
+
+pub returns-in-11-clause-taken : goal.returns-in-11-clause-taken
+returns-in-11-clause-taken g c = λ profile.
+    let f = c.args.f.now in
+    met_where Token c.quick_end.result
+    (end_taken (g.E.Env.answers c.args.env.now) (local_type f.locals.params f.locals.groups) f.results.now profile c.args.reader.now c.quick_end.new.reader c.args.cursor.now c.byte.new.self c.byte.new.self c.args.m.now c.quick_end.new.m (rw c.in-11.is at c.in-Ok.ensures.exact))
+    c.quick_end.ensures.taken
+
+pub returns-in-11-clause-last : goal.returns-in-11-clause-last
+returns-in-11-clause-last g c = λ profile.
+    let f = c.args.f.now in
+    met_where Last c.quick_end.result
+    (λ none. (last_end (g.E.Env.answers c.args.env.now) (local_type f.locals.params f.locals.groups) f.results.now profile c.args.reader.now c.quick_end.new.reader c.args.cursor.now c.byte.new.self c.byte.new.self c.args.m.now c.quick_end.new.m (rw c.in-11.is at c.in-Ok.ensures.exact) none.0, none.1))
+    c.quick_end.ensures.last
+
+pub returns-in_ok-behind-in_default-opcode-clause-taken : goal.returns-in_ok-behind-in_default-opcode-clause-taken
+returns-in_ok-behind-in_default-opcode-clause-taken g c = λ profile yes.
+    let f = c.args.f.now in
+    taken (g.E.Env.answers c.args.env.now) (local_type f.locals.params f.locals.groups) f.results.now profile c.args.reader.now c.args.cursor.now c.byte.new.self c.behind.new.cursor c.in-Ok.opcode c.args.m.now c.behind.new.m c.in-Ok.ensures.exact
+    (c.in_ok-behind-in_default-opcode.ensures.taken (c.token_if.ensures.yes yes))

@@ -1,0 +1,189 @@
+//! Tokens at the front, typed from their bytes: openers, `else` and `end` here, and what stands behind the other opcodes in `quick`.
+
+ghost use Rattle.std.specs.Prelude.{◌≡◌, [], false, true, None, Ok, IfOk, IfSome};
+ghost use Rattle.wk_body.specs.declared.types.Profile.{Profile};
+ghost use Rattle.wk_body.specs.Reading.{type_at};
+ghost use Rattle.wk_body.specs.TokenReading.{NextRead};
+ghost use Rattle.wk_check.specs.Effects.{local_type};
+ghost use Rattle.wk_check.specs.Levels.{entering, halved, closed};
+ghost use Rattle.wk_check.specs.Moves.{Steps};
+ghost use Rattle.wk_check.specs.Streaming.{IsShort, IsTaken, IsOpened, IsParted, IsClosed};
+
+use crate::control::{close, halve};
+use crate::env::Env;
+use crate::machine::{Machine, Opener};
+use crate::operands::remove;
+use crate::quick::behind;
+use crate::step::Function;
+use crate::stop::Stop;
+use wk_bytes::Cursor;
+use wk_module::{BlockType, TokenReader, ValType};
+
+/// What was met at the front.
+#[derive(Clone, Copy, Debug, PartialEq, Eq)]
+pub(crate) enum Met {
+    /// A token, which was typed.
+    Token,
+    /// The end that closes no block.
+    Last,
+    /// A token that is left to others, and nothing was done.
+    Other,
+}
+
+// What was met where a token was typed, or is left to others.
+#[inline(always)]
+fn token_if(taken: bool) -> Met
+    ensures yes { result ≡ Met.Token → taken ≡ true }
+    ensures no { result ≡ Met.Other → taken ≡ false }
+    ensures never { result ≡ Met.Last → ⊥ }
+{
+    if taken { Met::Token } else { Met::Other }
+}
+
+// A block type of one byte that names no other type.
+#[tactic(auto, unfolding(wk_body::specs::Reading::type_at))]
+#[inline(always)]
+fn short_type(cursor: &mut Cursor<'_>) -> Option<BlockType>
+    ensures read { (profile : Profile) → IfSome result (λ ty. (type_at profile cursor.old.end cursor.old.rest ≡ Ok (ty, cursor.new.rest)) × (cursor.new.end ≡ cursor.old.end)) }
+    ensures known { IfSome result IsShort }
+{
+    let Ok(byte) = cursor.byte() else {
+        return None;
+    };
+    if byte == 0x40 {
+        return Some(BlockType::Empty);
+    }
+    match ValType::from_byte(byte) {
+        Some(ty) => Some(BlockType::Value(ty)),
+        None => None,
+    }
+}
+
+// A block of such a type begins, behind its test, where there is one.
+#[inline(always)]
+fn begin<E: Env>(
+    env: &E,
+    test: bool,
+    opener: Opener,
+    block: BlockType,
+    m: &mut Machine,
+) -> Result<(), Stop>
+    requires { IsShort block }
+    ensures { Steps (entering (E.answers env.now) test opener block m.old) result m.new }
+{
+    if test {
+        remove(m, ValType::I32)?;
+        m.enter(opener, block)?;
+        return Ok(());
+    }
+    m.enter(opener, block)?;
+    Ok(())
+}
+
+// What opens a block, behind its opcode, with a test or without one.
+#[inline(always)]
+fn quick_open<E: Env>(
+    env: &E,
+    test: bool,
+    opener: Opener,
+    reader: &mut TokenReader,
+    m: &mut Machine,
+    cursor: &mut Cursor<'_>,
+) -> Result<Met, Stop>
+    ensures taken { IfOk result (λ met. met ≡ Met.Token → IsOpened (E.answers env.now) test opener reader.old reader.new cursor.old cursor.new m.old m.new) }
+    ensures left { IfOk result (λ met. met ≡ Met.Other → (m.new ≡ m.old) × (reader.new ≡ reader.old)) }
+    ensures never { IfOk result (λ met. met ≡ Met.Last → ⊥) }
+{
+    let Some(block) = short_type(cursor) else {
+        return Ok(Met::Other);
+    };
+    if !reader.open_block(test) {
+        return Ok(Met::Other);
+    }
+    begin(env, test, opener, block, m)?;
+    Ok(Met::Token)
+}
+
+// The end of a then branch that has a type or operands, out of line.
+#[inline(never)]
+fn part_typed<E: Env>(env: &E, m: &mut Machine) -> Result<(), Stop>
+    ensures { Steps (halved (E.answers env.now) m.old) result m.new }
+{
+    halve(env, m)
+}
+
+// An `else`. Most have no type, and nothing is left of the branch before.
+#[inline(always)]
+fn quick_else<E: Env>(env: &E, reader: &mut TokenReader, m: &mut Machine) -> Result<Met, Stop>
+    ensures taken { IfOk result (λ met. met ≡ Met.Token → IsParted (E.answers env.now) reader.old reader.new m.old m.new) }
+    ensures left { IfOk result (λ met. met ≡ Met.Other → (m.new ≡ m.old) × (reader.new ≡ reader.old)) }
+    ensures never { IfOk result (λ met. met ≡ Met.Last → ⊥) }
+{
+    if !reader.part_block() {
+        return Ok(Met::Other);
+    }
+    if let BlockType::Empty = m.block()
+        && m.is_clear()
+    {
+        m.restart();
+        return Ok(Met::Token);
+    }
+    part_typed(env, m)?;
+    Ok(Met::Token)
+}
+
+// The end of a block that has a type or operands, out of line.
+#[inline(never)]
+fn close_typed<E: Env>(env: &E, m: &mut Machine) -> Result<(), Stop>
+    ensures { Steps (closed (E.answers env.now) m.old.inner.opener m.old) result m.new }
+{
+    close(env, m)
+}
+
+// An `end`. Most close a block of no type in another, and nothing is left of it.
+#[inline(always)]
+fn quick_end<E: Env>(env: &E, reader: &mut TokenReader, m: &mut Machine) -> Result<Met, Stop>
+    ensures taken { IfOk result (λ met. met ≡ Met.Token → IsClosed (E.answers env.now) reader.old reader.new m.old m.new) }
+    ensures last { IfOk result (λ met. met ≡ Met.Last → (reader.old.kinds ≡ []) × (m.new ≡ m.old)) }
+    ensures never { IfOk result (λ met. met ≡ Met.Other → ⊥) }
+{
+    if !reader.close_block() {
+        return Ok(Met::Last);
+    }
+    let is_bare = m.is_clear() && !m.is_outermost();
+    if let BlockType::Empty = m.block()
+        && is_bare
+    {
+        m.leave();
+        return Ok(Met::Token);
+    }
+    close_typed(env, m)?;
+    Ok(Met::Token)
+}
+
+/// Types the token at the front, if it is one of those that are typed from their bytes. Else the reader and the open blocks are as
+/// they were, and the cursor stands anywhere.
+#[inline(always)]
+pub(crate) fn quick<E: Env>(
+    env: &E,
+    f: &Function<'_>,
+    reader: &mut TokenReader,
+    m: &mut Machine,
+    cursor: &mut Cursor<'_>,
+) -> Result<Met, Stop>
+    ensures taken { (profile : Profile) → IfOk result (λ met. met ≡ Met.Token → IsTaken (E.answers env.now) (local_type f.now.locals.params f.now.locals.groups) f.now.results.now profile reader.old reader.new cursor.old cursor.new m.old m.new) }
+    ensures last { (profile : Profile) → IfOk result (λ met. met ≡ Met.Last → NextRead profile reader.old reader.new cursor.old cursor.new None × (m.new ≡ m.old)) }
+    ensures left { IfOk result (λ met. met ≡ Met.Other → (m.new ≡ m.old) × (reader.new ≡ reader.old)) }
+{
+    let Ok(opcode) = cursor.byte() else {
+        return Ok(Met::Other);
+    };
+    match opcode {
+        0x02 => quick_open(env, false, Opener::Block, reader, m, cursor),
+        0x03 => quick_open(env, false, Opener::Loop, reader, m, cursor),
+        0x04 => quick_open(env, true, Opener::If, reader, m, cursor),
+        0x05 => quick_else(env, reader, m),
+        0x0B => quick_end(env, reader, m),
+        _ => Ok(token_if(behind(env, f, opcode, m, cursor)?)),
+    }
+}
