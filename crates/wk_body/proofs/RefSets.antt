@@ -1,5 +1,5 @@
 -- References that are put into a set.
-use Rattle.std.proofs.Common.{◌≡◌, ℕ, ◌<◌, Bool, true, false, List, [], ◌∷◌, ◌++◌, ◌⊎◌, inl, inr, refl, sym, ap, subst, ◌∙◌, append_assoc, lit<}
+use Rattle.std.proofs.Common.{◌≡◌, ℕ, ◌<◌, Bool, true, false, ◌||◌, List, [], ◌∷◌, ◌++◌, ◌⊎◌, inl, inr, refl, sym, ap, subst, ◌∙◌, append_assoc, lit<}
 use Rattle.std.specs.List.{AllByRecursion, flat_map}
 use Rattle.std.specs.declared.cmp.Ordering.{Ordering}
 use Rattle.std.specs.declared.cmp.Ordering.TheVariants.{Less, Equal, Greater}
@@ -13,9 +13,11 @@ use Rattle.std.proofs.lemmas.Map.Keys.{sorted_head, sorted_tail}
 use Rattle.wk_body.specs.declared.references.Ref.{Ref}
 use Rattle.wk_body.specs.declared.references.Ref.TheVariants.{Ty, Func, Global, Table, Memory}
 use Rattle.wk_body.specs.declared.token.Token.{Token}
+use Rattle.wk_body.specs.declared.token.Token.TheVariants as kept
 use Rattle.wk_body.specs.contracts.references.RefOrd.TheImpl as ord
 use Rattle.wk_body.specs.Kept.{told, all_told}
 use Rattle.wk_body.specs.References.{tok_refs, IsAmong, IsBelow, AreRising, AreSame, Gains, beside, Collects}
+use Rattle.wk_body.specs.Naming.{takes_memory, may_name}
 
 abbrev pub cmp : Ref → Ref → Ordering
 cmp a b = (ord.ghosts).cmp a b
@@ -142,6 +144,32 @@ collects_none memory keys = collects_gain memory keys keys [] (gains_none keys k
 pub collects_memory : (was : Bool) (keys : List Ref) → Collects keys was keys true (Memory ∷ [])
 collects_memory true keys = record { rising = λ h. h; same = same_again Memory keys }
 collects_memory false keys = record { rising = λ h. h; same = same_last Memory keys }
+
+-- a token that names nothing
+pub collects_unnamed : (t : Token) (was : Bool) (keys : List Ref) → may_name t ≡ false → Collects keys was keys (was || takes_memory t) (tok_refs (told [] t))
+collects_unnamed (kept.Block ty skip) was keys h = absurd cc
+collects_unnamed (kept.Loop ty skip) was keys h = absurd cc
+collects_unnamed (kept.If ty skip) was keys h = absurd cc
+collects_unnamed (kept.Call x) was keys h = absurd cc
+collects_unnamed (kept.CallIndirect x) was keys h = absurd cc
+collects_unnamed (kept.GlobalGet x) was keys h = absurd cc
+collects_unnamed (kept.GlobalSet x) was keys h = absurd cc
+collects_unnamed (kept.Access op align offset) true keys h = collects_memory true keys
+collects_unnamed (kept.Access op align offset) false keys h = collects_memory false keys
+collects_unnamed kept.MemorySize true keys h = collects_memory true keys
+collects_unnamed kept.MemorySize false keys h = collects_memory false keys
+collects_unnamed kept.MemoryGrow true keys h = collects_memory true keys
+collects_unnamed kept.MemoryGrow false keys h = collects_memory false keys
+collects_unnamed t true keys h = collects_none true keys
+collects_unnamed t false keys h = collects_none false keys
+
+-- one that may name something does not use the memory
+pub named_takes_none : (t : Token) (was : Bool) → may_name t ≡ true → was || takes_memory t ≡ was
+named_takes_none (kept.Access op align offset) was h = absurd cc
+named_takes_none kept.MemorySize was h = absurd cc
+named_takes_none kept.MemoryGrow was h = absurd cc
+named_takes_none t true h = refl
+named_takes_none t false h = refl
 
 collects_then : (a b c xs ys : List Ref) (i j k : Bool) → Collects a i b j xs → Collects b j c k ys → Collects a i c k (xs ++ ys)
 collects_then a b c xs ys i j k p q = record {

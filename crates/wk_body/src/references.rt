@@ -1,9 +1,10 @@
 //! What a body refers to outside of itself.
 
-ghost use Rattle.std.specs.Prelude.{◌≡◌, [], ◌∷◌, false, IfOk, OnOk};
+ghost use Rattle.std.specs.Prelude.{◌≡◌, [], ◌∷◌, true, IfOk, OnOk};
 ghost use Rattle.std.specs.List.{flat_map};
 ghost use Rattle.wk_body.specs.Kept.{told, all_told};
 ghost use Rattle.wk_body.specs.References.{refs_of, type_refs, tok_refs, AreRising, AreSame, Gains, Collects};
+ghost use Rattle.wk_body.specs.Naming.{takes_memory, may_name};
 
 use crate::body::Body;
 use crate::token::Token;
@@ -49,9 +50,38 @@ fn add_indirect(found: &mut BTreeSet<Ref>, x: u32) -> Result<(), OutOfMemory>
     add(found, Ref::Table)
 }
 
-// Adds the references of a token to those of the set, or to it that the memory is used.
-fn add_refs(found: &mut BTreeSet<Ref>, memory: &mut bool, token: &Token) -> Result<(), OutOfMemory>
-    ensures { OnOk result (Collects found.old.keys memory.old found.new.keys memory.new (tok_refs (told [] token.now))) }
+// Whether a token uses the memory.
+#[inline(always)]
+fn takes_memory(token: &Token) -> bool
+    ensures { result ≡ takes_memory token.now }
+{
+    matches!(
+        *token,
+        Token::Access { .. } | Token::MemorySize | Token::MemoryGrow
+    )
+}
+
+// Whether a token may refer to something else.
+#[inline(always)]
+fn may_name(token: &Token) -> bool
+    ensures { result ≡ may_name token.now }
+{
+    matches!(
+        *token,
+        Token::Block { .. }
+            | Token::Loop { .. }
+            | Token::If { .. }
+            | Token::Call(_)
+            | Token::CallIndirect(_)
+            | Token::GlobalGet(_)
+            | Token::GlobalSet(_)
+    )
+}
+
+// Adds the references of a token that may have some.
+fn add_named(found: &mut BTreeSet<Ref>, token: &Token) -> Result<(), OutOfMemory>
+    requires { may_name token.now ≡ true }
+    ensures { OnOk result (Gains found.old.keys found.new.keys (tok_refs (told [] token.now))) }
 {
     match *token {
         Token::Block { ty, .. } | Token::Loop { ty, .. } | Token::If { ty, .. } => {
@@ -60,12 +90,21 @@ fn add_refs(found: &mut BTreeSet<Ref>, memory: &mut bool, token: &Token) -> Resu
         Token::Call(x) => add(found, Ref::Func(x)),
         Token::CallIndirect(x) => add_indirect(found, x),
         Token::GlobalGet(x) | Token::GlobalSet(x) => add(found, Ref::Global(x)),
-        Token::Access { .. } | Token::MemorySize | Token::MemoryGrow => {
-            *memory = true;
-            Ok(())
-        }
-        _ => Ok(()),
+        _ => unreachable!(),
     }
+}
+
+// Adds the references of a token to those of the set, or to it that the memory is used. (Both questions are tests of bits, and the first
+// goes by no jump: a jump by the kind of each token would often be foreseen wrongly.)
+#[inline(always)]
+fn add_refs(found: &mut BTreeSet<Ref>, memory: &mut bool, token: &Token) -> Result<(), OutOfMemory>
+    ensures { OnOk result (Collects found.old.keys memory.old found.new.keys memory.new (tok_refs (told [] token.now))) }
+{
+    *memory |= takes_memory(token);
+    if may_name(token) {
+        return add_named(found, token);
+    }
+    Ok(())
 }
 
 // The references of tokens. Most of them are to the memory, which is put into the set once.
