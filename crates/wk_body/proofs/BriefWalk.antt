@@ -147,7 +147,7 @@ pub number_long : (ks : List Bool) → 2 ^ length ks ≤ number_of ks
 number_long [] = omega arith
 number_long (k ∷ ks) = let long : length (k ∷ ks) ≡ length ks + 1 = omega arith in omega (arith, number_long ks, pow-add 2 (length ks) 1, ap (λ (i : ℕ). 2 ^ i) long)
 
-few_blocks : (ks below : List Bool) → number_of ks ≤ 2 ^ 62 → length below + 64 ≤ depth_limit → length (ks ++ below) < depth_limit
+pub few_blocks : (ks below : List Bool) → number_of ks ≤ 2 ^ 62 → length below + 64 ≤ depth_limit → length (ks ++ below) < depth_limit
 few_blocks ks below small room =
     elim (cases_lt (length ks) 63) [
       | inl lt ↦ omega (arith, length-append ks below)

@@ -1,7 +1,16 @@
 -- Open blocks that are the bits of a number, and are handed over to a reader.
-use Rattle.std.proofs.Common.{◌≡◌, ℕ, ◌+◌, ◌-◌, ◌*◌, ◌/◌, ◌%◌, ◌<◌, ◌≤◌, Bool, true, false, eqb, ◌⊎◌, inl, inr, Option, Some, None, List, [], ◌∷◌, ◌++◌, refl, sym, ap, ◌∙◌, arith}
-use Rattle.std.specs.Prelude.{IfSome}
-use Rattle.wk_body.specs.Brief.{bit_of, number_of, Parts}
+use Rattle.std.proofs.Common.{◌≡◌, ℕ, ◌+◌, ◌-◌, ◌*◌, ◌/◌, ◌%◌, ◌<◌, ◌≤◌, Bool, true, false, eqb, inl, inr, Some, List, [], ◌∷◌, ◌++◌, ◌^◌, length, take, drop, reverse, length-take, length-drop, refl, sym, ap, ◌∙◌, arith}
+use Rattle.std.proofs.lemmas.Nat.{pow-add}
+use Rattle.std.proofs.lemmas.List.{length-reverse, reverse-append, take-append-drop, take_at, drop_at}
+use Rattle.std.proofs.Math.Nat.{pow-le-pow_right}
+use Rattle.std.proofs.lemmas.Bool.{cases_eq}
+use Rattle.wk_body.specs.declared.types.Profile.{Profile}
+use Rattle.wk_body.specs.declared.walk.Walk.{Walk}
+use Rattle.wk_body.specs.Tree.{Close}
+use Rattle.wk_body.specs.Reading.{after}
+use Rattle.wk_body.specs.Walks.{Behind, GoesOn, Goes, Ends}
+use Rattle.wk_body.specs.Brief.{bit_of, number_of, blocks_after, Parts}
+use Rattle.wk_body.proofs.Rewriting.{close_goes, close_ends}
 use Rattle.wk_body.proofs.BriefWalk.{number_some}
 
 -- the first list, turned, in front of the second
@@ -58,6 +67,23 @@ none_open turned kinds all le h = gone h.0 h.1 h.2
     gone [] a e = e
     gone (k ∷ rest) a e = absurd (omega (arith, a, number_some rest))
 
+number_short : (ks : List Bool) → number_of ks < 2 ^ (length ks + 1)
+number_short [] = omega arith
+number_short (k ∷ ks) =
+    let long : length (k ∷ ks) + 1 ≡ length ks + 1 + 1 = omega arith in
+    omega (arith, number_short ks, low k, pow-add 2 (length ks + 1) 1, ap (λ (i : ℕ). 2 ^ i) long)
+  where
+    low : (k : Bool) → bit_of k ≤ 1
+    low true = omega arith
+    low false = omega arith
+
+-- few blocks, the innermost last
+pub front_short : (blocks : List Bool) (i number : ℕ) → length blocks ≤ 31 → number ≡ number_of (reverse (take i blocks)) → number < 2 ^ 32
+front_short blocks i number few is =
+    let short : length (reverse (take i blocks)) ≤ 31 = omega (arith, length-reverse (take i blocks), length-take i blocks) in
+    let less : 2 ^ (length (reverse (take i blocks)) + 1) ≤ 2 ^ 32 = pow-le-pow_right {n = 2} (omega arith) {i = length (reverse (take i blocks)) + 1} {j = 32} (omega arith) in
+    omega (arith, number_short (reverse (take i blocks)))
+
 pub none_inner : (number : ℕ) (ks : List Bool) → number ≤ 1 → number ≡ number_of ks → ks ≡ []
 none_inner number [] le is = refl
 none_inner number (k ∷ ks) le is = absurd (omega (arith, is, number_some ks))
@@ -68,15 +94,50 @@ parts_at inner [] is some odd = absurd (omega arith)
 parts_at inner (true ∷ outer) is some odd = (outer, refl, omega arith)
 parts_at inner (false ∷ outer) is some odd = absurd (omega arith)
 
--- ---- what follows of a token
+-- ---- the innermost blocks of a list that has them last
 
-pub last_control : (opcode : ℕ) → (opcode ≡ 0x0B) ⊎ ((opcode ≡ 0x05) ⊎ ((opcode ≡ 0x02) ⊎ ((opcode ≡ 0x03) ⊎ (opcode ≡ 0x04)))) → (opcode ≡ 0x0B → ⊥) → (opcode ≡ 0x05 → ⊥) → (opcode ≡ 0x02 → ⊥) → (opcode ≡ 0x03 → ⊥) → opcode ≡ 0x04
-last_control opcode (inl e) a b d f = absurd (a e)
-last_control opcode (inr (inl e)) a b d f = absurd (b e)
-last_control opcode (inr (inr (inl e))) a b d f = absurd (d e)
-last_control opcode (inr (inr (inr (inl e)))) a b d f = absurd (f e)
-last_control opcode (inr (inr (inr (inr e)))) a b d f = e
+turned_parts : (blocks : List Bool) (m : ℕ) → reverse blocks ≡ reverse (drop m blocks) ++ reverse (take m blocks)
+turned_parts blocks m = ap (reverse {A = Bool}) (sym (take-append-drop m blocks)) ∙ reverse-append (take m blocks) (drop m blocks)
 
-pub if_some : (o : Option Bool) (P Q : Bool → Type 0) → ((b : Bool) → P b → Q b) → IfSome o P → IfSome o Q
-if_some None P Q f p = tt
-if_some (Some b) P Q f p = f b p
+pub left_open : (blocks : List Bool) (n count : ℕ) → n ≡ length blocks → count ≤ length blocks → reverse (take (n - count) blocks) ≡ drop count (reverse blocks)
+left_open blocks n count is within =
+    let last = drop (n - count) blocks in
+    let long : length (reverse last) ≡ count = omega (arith, length-reverse last, length-drop (n - count) blocks) in
+    sym (ap (drop count) (turned_parts blocks (n - count)) ∙ drop_at (reverse last) (reverse (take (n - count) blocks)) count long)
+
+pub last_turned : (blocks last : List Bool) (m : ℕ) → last ≡ drop m blocks → reverse last ≡ take (length last) (reverse blocks)
+last_turned blocks last m is =
+    let long : length (reverse (drop m blocks)) ≡ length last = omega (arith, ap length is, length-reverse (drop m blocks)) in
+    ap (reverse {A = Bool}) is ∙ sym (ap (take (length last)) (turned_parts blocks m) ∙ take_at (reverse (drop m blocks)) (reverse (take m blocks)) (length last) long)
+
+-- ---- ends and openers
+
+pub closes_bit : (inner : ℕ) (ks kinds : List Bool) → 1 < inner → inner ≡ number_of ks → Ends false (ks ++ kinds) (inner / 2) kinds
+closes_bit inner [] kinds some is = absurd (omega arith)
+closes_bit inner (k ∷ ks) kinds some is = (ks, ap (λ (n : ℕ). n / 2) is ∙ high_bits k (number_of ks), refl)
+
+pub closes_kept : (inner number : ℕ) (ks next old closed kinds : List Bool) → inner ≤ 1 → inner ≡ number_of ks → after Close old ≡ Some closed → number ≡ number_of next → closed ≡ next ++ kinds → Ends false (ks ++ old) number kinds
+closes_kept inner number ks next old closed kinds le is read taken same =
+    (next, taken, ap (λ (bs : List Bool). after Close (bs ++ old)) (none_inner inner ks le is) ∙ read ∙ ap (λ (bs : List Bool). Some bs) same)
+
+pub closes_none : (inner : ℕ) (ks old kinds : List Bool) → inner ≤ 1 → inner ≡ number_of ks → old ≡ [] → Ends true (ks ++ old) inner kinds
+closes_none inner ks old kinds le is none = (ks, is, ap (λ (bs : List Bool). bs ++ old) (none_inner inner ks le is) ∙ none)
+
+pub end_goes : (last : Bool) (profile : Profile) (before out : List ℕ) (first from to : Walk) (all kinds : List Bool) (number opcode : ℕ) → opcode ≡ 0x0B → Ends last all number kinds → Behind opcode from to
+    → GoesOn profile before first all out from → (next : List Bool) × (number ≡ number_of next) × Goes last profile before first (next ++ kinds) out to
+end_goes false profile before out first from to all kinds number opcode is e b g = (e.0, e.1, close_goes profile before out first from to all (e.0 ++ kinds) opcode is e.2 b g)
+end_goes true profile before out first from to all kinds number opcode is e b g = (e.0, e.1, close_ends profile before out first from to all opcode is e.2 b g)
+
+pub opened_bits : (opcode blocks : ℕ) (ks : List Bool) → 0x02 ≤ opcode → opcode ≤ 0x04 → blocks ≡ number_of ks → blocks_after opcode blocks ≡ number_of (eqb opcode 0x04 ∷ ks)
+opened_bits opcode blocks ks low high is =
+    elim (cases_eq opcode 0x02) [
+      | inl e ↦ let bit = ap (λ (o : ℕ). bit_of (eqb o 0x04)) e in let after = ap (λ (o : ℕ). blocks_after o blocks) e in omega (arith, bit, after, is)
+      | inr n2 ↦ elim (cases_eq opcode 0x03) [
+        | inl e ↦ let bit = ap (λ (o : ℕ). bit_of (eqb o 0x04)) e in let after = ap (λ (o : ℕ). blocks_after o blocks) e in omega (arith, bit, after, is)
+        | inr n3 ↦
+            let e : opcode ≡ 0x04 = omega (arith, n2, n3) in
+            let bit = ap (λ (o : ℕ). bit_of (eqb o 0x04)) e in
+            let after = ap (λ (o : ℕ). blocks_after o blocks) e in
+            omega (arith, bit, after, is)
+      ]
+    ]

@@ -1,6 +1,6 @@
 -- A code that is written again while it is read, token by token.
-use Rattle.std.proofs.Common.{◌≡◌, ◌≢◌, ℕ, ◌-◌, Bool, true, false, eqb, ltb, inl, inr, List, [], ◌∷◌, ◌++◌, length, take, Some, Ok, Err, refl, sym, ap, subst, ◌∙◌, arith, length-append}
-use Rattle.std.proofs.lemmas.Bool.{ne_eqb}
+use Rattle.std.proofs.Common.{◌≡◌, ◌≢◌, ℕ, ◌-◌, ◌<◌, ◌≤◌, Bool, true, false, eqb, ltb, inl, inr, List, [], ◌∷◌, ◌++◌, length, take, Some, Ok, Err, refl, sym, ap, subst, ◌∙◌, arith, length-append}
+use Rattle.std.proofs.lemmas.Bool.{cases_eq, ne_eqb, lt-ltb}
 use Rattle.std.proofs.lemmas.List.{take_at}
 use Rattle.wk_bytes.specs.declared.fault.ReadKind.TheVariants.{UnknownOpcode, TooDeep}
 use Rattle.wk_bytes.specs.declared.fault.ReadFault.{ReadFault}
@@ -18,7 +18,7 @@ use Rattle.wk_body.specs.Reading.{type_at, type_here, behind_at, token_at, plain
 use Rattle.wk_body.specs.Shape.{depth_limit}
 use Rattle.wk_body.specs.ToWrite.{IsNoElse}
 use Rattle.wk_body.specs.Copying.{Copies}
-use Rattle.wk_body.specs.Walks.{Adds, Passes, PassesPlain, Behind, GoesOn}
+use Rattle.wk_body.specs.Walks.{Adds, Passes, PassesType, PassesPlain, Behind, GoesOn}
 use Rattle.wk_body.proofs.Pieces.{type_takes}
 use Rattle.wk_body.proofs.OnlyShort.{type_only}
 use Rattle.wk_body.proofs.ElseBranch.{is_empty, is_full}
@@ -38,6 +38,15 @@ type_kept profile ks e ty out from to fits read same long =
           let only = type_only profile ty t.front t.spelled (omega (arith, long, ap length t.parts, length-append t.front to.cursor.rest)) in
           record { is = read.0; same_end = read.1; adds = stays (type_bytes ty) t.front out from to t.parts same only }
       | inr p ↦ absurd cc
+    ]
+
+-- a type that is read above some blocks is read above more
+pub type_above : (profile : Profile) (ks all : List Bool) (at : ℕ) (ty : BlockType) (out ended : List ℕ) (from to : Walk) → length all < depth_limit → PassesType profile ks at ty out from ended to → PassesType profile all at ty out from ended to
+unfolding type_here
+type_above profile ks all at ty out ended from to few p =
+    elim (chosen (ltb (length ks) depth_limit) (type_at profile from.cursor.end from.cursor.rest) (Err (record { kind = TooDeep; at = at })) (Ok (ty, to.cursor.rest)) p.is) [
+      | inl t ↦ record { is = rw (lt-ltb (length all) depth_limit few) t.1; same_end = p.same_end; adds = p.adds }
+      | inr n ↦ absurd (let no = n.1 in cc)
     ]
 
 -- ---- tokens
@@ -120,6 +129,16 @@ module _ (profile : Profile) (before out ended : List ℕ) (first from mid to : 
   if_goes is opened b =
       opening_goes profile before out ended first from mid to ks next 0x04 at ty (OpenIf ty 0) (token_if profile ks from.cursor.end ty mid.cursor.rest to.cursor.rest) tt (ap (λ (ks : List Bool). Some ks) (sym opened)) refl there
       (subst (λ (o : ℕ). Behind o from mid) is b) p g
+
+  pub opener_goes : 0x02 ≤ opcode → opcode ≤ 0x04 → next ≡ eqb opcode 0x04 ∷ ks → Behind opcode from mid → GoesOn profile before first next ended to
+  opener_goes low high opened b =
+      elim (cases_eq opcode 0x02) [
+        | inl e ↦ block_goes e (opened ∙ ap (λ (o : ℕ). eqb o 0x04 ∷ ks) e) b
+        | inr n2 ↦ elim (cases_eq opcode 0x03) [
+          | inl e ↦ loop_goes e (opened ∙ ap (λ (o : ℕ). eqb o 0x04 ∷ ks) e) b
+          | inr n3 ↦ let e : opcode ≡ 0x04 = omega (arith, n2, n3) in if_goes e (opened ∙ ap (λ (o : ℕ). eqb o 0x04 ∷ ks) e) b
+        ]
+      ]
 
 -- ---- ends
 

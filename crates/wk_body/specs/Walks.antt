@@ -1,5 +1,5 @@
 -- A code that is read and written again: what is written of it, and the run of its bytes that is still to be copied.
-use Rattle.std.specs.Prelude.{◌≡◌, ℕ, Bool, true, false, List, ◌∷◌, ◌++◌, length, Result, Ok}
+use Rattle.std.specs.Prelude.{◌≡◌, ℕ, Bool, true, false, List, [], ◌∷◌, ◌++◌, length, Some, Result, Ok}
 use Rattle.std.specs.List.{flat_map}
 use Rattle.wk_bytes.specs.declared.fault.ReadKind.TheVariants.{TooDeep}
 use Rattle.wk_body.specs.declared.types.BlockType.{BlockType}
@@ -8,8 +8,8 @@ use Rattle.wk_bytes.specs.declared.fault.ReadFault.{ReadFault}
 use Rattle.wk_body.specs.declared.walk.Walk.{Walk}
 use Rattle.wk_body.specs.declared.types.Profile.{Profile}
 use Rattle.wk_body.specs.Instructions.{Plain}
-use Rattle.wk_body.specs.Tree.{Instrs}
-use Rattle.wk_body.specs.Reading.{plain_at, type_here, groups_at, expr_at}
+use Rattle.wk_body.specs.Tree.{Instrs, Close}
+use Rattle.wk_body.specs.Reading.{after, plain_at, type_here, groups_at, expr_at}
 use Rattle.wk_body.specs.Written.{plain_bytes, type_bytes, written_group, written_expr}
 use Rattle.wk_body.specs.Copying.{Copies}
 use Rattle.wk_body.specs.Brief.{number_of}
@@ -68,6 +68,11 @@ GoesOn profile out from ks after to = (written : List ℕ) × Copies profile fro
 abbrev pub Goes : Bool → Profile → List ℕ → Walk → List Bool → List ℕ → Walk → Type 0
 Goes false profile out from ks after to = GoesOn profile out from ks after to
 Goes true profile out from ks after to = (t : Instrs) × Passes (expr_at profile) t (written_expr t) out from after to
+
+-- behind an end, where these blocks were open: it closes none, or those of the number are open now above the others
+abbrev pub Ends : Bool → List Bool → ℕ → List Bool → Type 0
+Ends false ks number below = (next : List Bool) × (number ≡ number_of next) × (after Close ks ≡ Some (next ++ below))
+Ends true ks number below = (next : List Bool) × (number ≡ number_of next) × (ks ≡ [])
 
 -- while the blocks `ks` were open above others, tokens were read and written, and those of the number are open now
 abbrev pub BlocksPass : Walk → Walk → ℕ → List Bool → List Bool → Type 0

@@ -1,8 +1,8 @@
 //! Tokens that are as short as they may be, told by a table: instructions that have a byte for each of their integers, ends, and
 //! openers of blocks whose type has one byte.
 
-ghost use Rattle.std.specs.Prelude.{◌≡◌, ◌<◌, ◌≤◌, ◌^◌, true, ◌⊎◌};
-ghost use Rattle.wk_body.specs.Brief.{brief_len, blocks_after, IsBrief, IsShortType};
+ghost use Rattle.std.specs.Prelude.{◌≡◌, ◌<◌, ◌≤◌, ◌^◌, true, ◌⊎◌, length, reverse};
+ghost use Rattle.wk_body.specs.Brief.{brief_len, number_of, blocks_after, IsBrief, IsShortType};
 
 /// How many bytes the token of an opcode has, where it has a byte for each integer, and for the type of a block. It is 0 for what
 /// has others behind its opcode, for an `else`, and where 1.0 has no token.
@@ -71,7 +71,21 @@ pub(crate) fn blocks_after(blocks: u64, opcode: u8) -> u64
 }
 
 /// The greatest number whose bits are open blocks: 62 of them.
-const MOST_BLOCKS: u64 = 1 << 62;
+pub(crate) const MOST_BLOCKS: u64 = 1 << 62;
+
+/// These blocks, the innermost last, as the bits of a number.
+#[inline(always)]
+pub(crate) fn number_of(blocks: &[bool]) -> u64
+    requires { length blocks.now ≤ 31 }
+    ensures number { result ≡ number_of (reverse blocks.now) }
+    ensures small { result ≤ 2 ^ 62 }
+{
+    let mut number: u64 = 1;
+    for &block in blocks {
+        number = 2 * number + u64::from(block);
+    }
+    number
+}
 
 /// Whether a token that has that many bytes, where it is as short as it may be, and leaves these blocks open, is so.
 #[inline(always)]

@@ -1,6 +1,6 @@
 //! Writes a code again while it is read once.
 
-ghost use Rattle.std.specs.Prelude.{◌≡◌, ◌≢◌, ◌≤◌, ◌^◌, ◌⊎◌, Bool, ◌++◌, ◌-◌, ◌∷◌, [], ℕ, List, length, take, Ok, IfErr, IfSome, MatchResult};
+ghost use Rattle.std.specs.Prelude.{◌≡◌, ◌≢◌, ◌+◌, ◌≤◌, ◌^◌, Bool, true, ◌++◌, ◌-◌, ◌∷◌, [], ℕ, List, length, take, Ok, IfErr, IfSome, MatchResult};
 ghost use Rattle.wk_bytes.specs.Stands.{StandsOrMemory};
 ghost use Rattle.wk_body.specs.declared.types.LocalGroup.{LocalGroup};
 ghost use Rattle.wk_body.specs.declared.walk.Walk.{Walk};
@@ -10,12 +10,13 @@ ghost use Rattle.wk_body.specs.Tree.{Instrs};
 ghost use Rattle.wk_body.specs.Reads.{FailsAs};
 ghost use Rattle.wk_body.specs.Reading.{expr_at, all_body_at};
 ghost use Rattle.wk_body.specs.TokenReading.{local_groups_at};
-ghost use Rattle.wk_body.specs.TokenSteps.{Opens};
 ghost use Rattle.wk_body.specs.Written.{type_bytes, written_group, written_expr, written_body};
 ghost use Rattle.wk_body.specs.Brief.{number_of, Parts};
-ghost use Rattle.wk_body.specs.Walks.{Passes, PassesType, PassesGroups, Keeps, Behind, GoesOn, Goes, BlocksPass};
+ghost use Rattle.wk_body.specs.Walks.{Passes, PassesType, PassesGroups, Keeps, Behind, GoesOn, Goes, Ends, BlocksPass};
 ghost use Rattle.wk_body.specs.Bodies.{BodyOf};
+ghost use Rattle.wk_body.specs.Shape.{depth_limit};
 
+use crate::brief::{MOST_BLOCKS, blocks_after, number_of};
 use crate::length::type_len;
 use crate::reader::{at_end, local_type};
 use crate::reading::{MAX_DEPTH, are_bytes};
@@ -58,26 +59,6 @@ fn pass_type(
         respell_type(out, walk.run, left, ty)?;
         walk.run = rest;
     }
-    Some(ty)
-}
-
-// A block opens here, behind its opcode, which stands at `at`.
-#[inline(always)]
-fn pass_opening(
-    profile: Profile,
-    at: u32,
-    is_if: bool,
-    reader: &mut TokenReader,
-    walk: &mut Walk<'_>,
-    out: &mut Vec<u8>,
-) -> Option<BlockType>
-    ensures passed { IfSome result (λ ty. PassesType profile reader.old.kinds at ty out.old.items walk.old out.new.items walk.new) }
-    ensures opened { IfSome result (λ _. Opens is_if reader.old reader.new) }
-{
-    let ty = pass_type(profile, at, reader, walk, out)?;
-    let Ok(()) = reader.open(is_if) else {
-        return None;
-    };
     Some(ty)
 }
 
@@ -137,6 +118,33 @@ fn settle(inner: u64, reader: &mut TokenReader) -> Option<()>
     Some(())
 }
 
+// How many blocks are taken back from the reader at once, at most: half of what the bits hold. So 31 openers come in front of the next
+// handing over, and 31 ends in front of the next taking back: no code has more than three blocks moved for each of its openers
+// and ends. (But an `else` with nothing in its branch hands over all of them.)
+const TAKEN_BACK: usize = 31;
+
+// Takes the innermost open blocks back from the reader, as the bits of a number: then the ends behind them go by the table again.
+#[inline(never)]
+fn take_back(reader: &mut TokenReader) -> u64
+    ensures small { result ≤ 2 ^ 62 }
+    ensures taken { (next : List Bool) × (result ≡ number_of next)
+        × (reader.old.kinds ≡ next ++ reader.new.kinds) }
+{
+    let blocks = reader.innermost(TAKEN_BACK);
+    let count = blocks.len();
+    let inner = number_of(blocks);
+    reader.close_blocks(count);
+    inner
+}
+
+// Whether blocks may be open as the bits of a number, above those that the reader has: they are fewer than 64.
+#[inline(always)]
+fn has_room(reader: &TokenReader) -> bool
+    ensures { result ≡ true → length reader.now.kinds + 64 ≤ depth_limit }
+{
+    reader.depth() <= MAX_DEPTH - 64
+}
+
 // Tokens that are as short as they may be.
 #[inline(always)]
 fn pass_brief(inner: u64, reader: &TokenReader, walk: &mut Walk<'_>) -> u64
@@ -144,51 +152,90 @@ fn pass_brief(inner: u64, reader: &TokenReader, walk: &mut Walk<'_>) -> u64
     ensures small { result ≤ 2 ^ 62 }
     ensures goes { (ks : List Bool) → inner ≡ number_of ks → BlocksPass walk.old walk.new result ks reader.now.kinds }
 {
-    // The bits of a number are fewer than 64 blocks.
-    if reader.depth() > MAX_DEPTH - 64 {
+    if !has_room(reader) {
         return inner;
     }
     walk.pass_brief(inner)
 }
 
-// A token that opens, parts or closes blocks, or the end that closes none: then the answer is true.
-#[inline(always)]
-fn pass_control(
+// A block opens, behind its opcode, which stands at `at`, where it has no room among the bits: then all open blocks are the reader's.
+#[inline(never)]
+fn open_settled(
     profile: Profile,
     opcode: u8,
     at: u32,
-    left: usize,
+    inner: u64,
     reader: &mut TokenReader,
     walk: &mut Walk<'_>,
     out: &mut Vec<u8>,
-) -> Option<bool>
-    requires { (opcode ≡ 0x0B) ⊎ ((opcode ≡ 0x05) ⊎ ((opcode ≡ 0x02) ⊎ ((opcode ≡ 0x03) ⊎ (opcode ≡ 0x04)))) }
-    ensures { (before : List ℕ) (from token : Walk) → Behind opcode token walk.old → left ≡ length token.cursor.rest → at ≡ token.cursor.end - length token.cursor.rest
-        → GoesOn profile before from reader.old.kinds out.old.items token
-        → IfSome result (λ last. Goes last profile before from reader.new.kinds out.new.items walk.new) }
+) -> Option<()>
+    requires opener { (0x02 ≤ opcode) × (opcode ≤ 0x04) }
+    ensures { (before : List ℕ) (from token : Walk) (ks : List Bool)
+        → inner ≡ number_of ks → Behind opcode token walk.old
+        → at ≡ token.cursor.end - length token.cursor.rest
+        → GoesOn profile before from (ks ++ reader.old.kinds) out.old.items token
+        → IfSome result (λ _. GoesOn profile before from reader.new.kinds out.new.items walk.new) }
 {
-    match opcode {
-        0x0B => match reader.close() {
-            Some(_) => Some(false),
-            None => Some(true),
-        },
-        0x05 => {
-            pass_else(left, reader, walk, out)?;
-            Some(false)
-        }
-        0x02 => {
-            pass_opening(profile, at, false, reader, walk, out)?;
-            Some(false)
-        }
-        0x03 => {
-            pass_opening(profile, at, false, reader, walk, out)?;
-            Some(false)
-        }
-        _ => {
-            pass_opening(profile, at, true, reader, walk, out)?;
-            Some(false)
-        }
+    settle(inner, reader)?;
+    pass_type(profile, at, reader, walk, out)?;
+    let Ok(()) = reader.open(opcode == 0x04) else {
+        return None;
+    };
+    Some(())
+}
+
+// A block opens, behind its opcode, which stands at `at`.
+#[inline(always)]
+fn pass_opening(
+    profile: Profile,
+    opcode: u8,
+    at: u32,
+    inner: &mut u64,
+    reader: &mut TokenReader,
+    walk: &mut Walk<'_>,
+    out: &mut Vec<u8>,
+) -> Option<()>
+    requires opener { (0x02 ≤ opcode) × (opcode ≤ 0x04) }
+    requires small { inner.old ≤ 2 ^ 62 }
+    ensures small { IfSome result (λ _. inner.new ≤ 2 ^ 62) }
+    ensures goes { (before : List ℕ) (from token : Walk) (ks : List Bool)
+        → inner.old ≡ number_of ks → Behind opcode token walk.old
+        → at ≡ token.cursor.end - length token.cursor.rest
+        → GoesOn profile before from (ks ++ reader.old.kinds) out.old.items token
+        → IfSome result (λ _. (next : List Bool) × (inner.new ≡ number_of next)
+        × GoesOn profile before from (next ++ reader.new.kinds) out.new.items walk.new) }
+{
+    let after = blocks_after(*inner, opcode);
+    if MOST_BLOCKS < after || !has_room(reader) {
+        open_settled(profile, opcode, at, *inner, reader, walk, out)?;
+        *inner = 1;
+        return Some(());
     }
+    // A block of a longer type is one of the bits too: else code of such blocks would have all of them moved at each.
+    pass_type(profile, at, reader, walk, out)?;
+    *inner = after;
+    Some(())
+}
+
+// An end. Whether it closes no block.
+#[inline(always)]
+fn pass_end(inner: &mut u64, reader: &mut TokenReader) -> bool
+    requires { inner.old ≤ 2 ^ 62 }
+    ensures small { inner.new ≤ 2 ^ 62 }
+    ensures ends { (ks : List Bool) → inner.old ≡ number_of ks
+        → Ends result (ks ++ reader.old.kinds) inner.new reader.new.kinds }
+{
+    if *inner > 1 {
+        *inner /= 2;
+        return false;
+    }
+    if !reader.close_block() {
+        return true;
+    }
+    if has_room(reader) {
+        *inner = take_back(reader);
+    }
+    false
 }
 
 // The bits of the open blocks behind an `else`, where its branch holds something and the innermost block is one of them.
@@ -232,10 +279,16 @@ fn pass_token(
         return Some(false);
     }
     match opcode {
-        0x0B | 0x02..=0x05 => {
+        0x0B => Some(pass_end(inner, reader)),
+        0x02..=0x04 => {
+            pass_opening(profile, opcode, at, inner, reader, walk, out)?;
+            Some(false)
+        }
+        0x05 => {
             settle(*inner, reader)?;
             *inner = 1;
-            pass_control(profile, opcode, at, left, reader, walk, out)
+            pass_else(left, reader, walk, out)?;
+            Some(false)
         }
         _ => {
             walk.pass_plain(profile, opcode, out)?;

@@ -1,6 +1,6 @@
 //! Tokens that are read one by one, and not kept.
 
-ghost use Rattle.std.specs.Prelude.{◌≡◌, ◌++◌, ◌∷◌, ◌<◌, [], length, true, false, Some, Ok, Err, if◌then◌else◌, IfOk, IfErr, OnOk, MatchResult};
+ghost use Rattle.std.specs.Prelude.{◌≡◌, ◌++◌, ◌∷◌, ◌<◌, ◌≤◌, [], length, reverse, take, drop, true, false, Some, Ok, Err, if◌then◌else◌, IfOk, IfErr, OnOk, MatchResult};
 ghost use Rattle.wk_bytes.specs.declared.fault.ReadKind.TheVariants.{UnknownOpcode, TooDeep};
 ghost use Rattle.wk_bytes.specs.declared.fault.ReadFault.{ReadFault};
 ghost use Rattle.wk_bytes.specs.Fault.{no_memory};
@@ -148,6 +148,24 @@ impl TokenReader {
         ensures { result ≡ length self.now.kinds }
     {
         self.blocks.len()
+    }
+
+    // The innermost open blocks, so many at most, the innermost last: of each, whether an `else` may still come.
+    #[inline(always)]
+    pub(crate) fn innermost(&self, most: usize) -> &[bool]
+        ensures few { (length result.now ≤ most) × (length result.now ≤ length self.now.kinds) }
+        ensures innermost { reverse result.now ≡ take (length result.now) self.now.kinds }
+    {
+        &self.blocks[self.blocks.len().saturating_sub(most)..]
+    }
+
+    // Closes so many blocks.
+    #[inline(always)]
+    pub(crate) fn close_blocks(&mut self, count: usize)
+        requires { count ≤ length self.old.kinds }
+        ensures { self.new.kinds ≡ drop count self.old.kinds }
+    {
+        self.blocks.truncate(self.blocks.len() - count);
     }
 
     // The type of a block that opens here, behind its opcode, which stands at `at`.

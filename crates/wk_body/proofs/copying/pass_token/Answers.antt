@@ -1,9 +1,8 @@
 use Rattle.std.proofs.Common.{◌≡◌, ℕ, Bool, true, false, List, [], ◌∷◌, ◌++◌, length, refl, sym, ap, subst, rules, arith}
 use Rattle.wk_body.specs.declared.walk.Walk.{Walk}
-use Rattle.wk_body.specs.Brief.{number_of}
-use Rattle.wk_body.specs.Walks.{Behind, GoesOn, Goes}
+use Rattle.wk_body.specs.Walks.{Behind, GoesOn}
 use Rattle.wk_body.proofs.Rewriting.{behind_opcode, plain_goes, else_stays}
-use Rattle.wk_body.proofs.OpenBlocks.{if_some}
+use Rattle.wk_body.proofs.OpenBlocks.{end_goes}
 use Rattle.wk_body.proofs.copying.pass_token.Goals as goal
 
 pub returns-in_ok-pass_plain-in_default-opcode-clause-goes : goal.returns-in_ok-pass_plain-in_default-opcode-clause-goes
@@ -23,15 +22,26 @@ returns-in_ok-pass_plain-in_default-opcode-clause-goes c = λ before from ks is 
           (behind_opcode opcode at mid c.in-Ok.ensures.exact refl) c.in_ok-pass_plain-in_default-opcode.ensures g,
     )
 
-pub returns-in_ok-settle-in-11-clause-goes : goal.returns-in_ok-settle-in-11-clause-goes
-returns-in_ok-settle-in-11-clause-goes c = λ before from ks is g.
+pub returns-in-11-clause-goes : goal.returns-in-11-clause-goes
+returns-in-11-clause-goes c = λ before from ks is g.
     let at = c.args.walk.now in
     let mid : Walk = record { cursor = c.byte.new.self; run = at.run } in
-    let here = subst (λ (bs : List Bool). GoesOn c.args.profile before from bs c.args.out.now.items at) (sym (c.in_ok-settle-in-11.ensures ks is)) g in
-    if_some c.pass_control.result (λ last. Goes last c.args.profile before from c.pass_control.new.reader.kinds c.pass_control.new.out.items c.pass_control.new.walk)
-    (λ last. (next : List Bool) × (1 ≡ number_of next) × Goes last c.args.profile before from (next ++ c.pass_control.new.reader.kinds) c.pass_control.new.out.items c.pass_control.new.walk)
-    (λ last h. ([], refl, h))
-    (c.pass_control.ensures before from at (behind_opcode c.in-Ok.opcode at mid c.in-Ok.ensures.exact refl) (ap length c.rest-left.ensures) c.at-at.ensures.offset here)
+    end_goes c.pass_end.result c.args.profile before c.args.out.now.items from at mid (ks ++ c.args.reader.now.kinds) c.pass_end.new.reader.kinds c.pass_end.new.inner c.in-Ok.opcode c.in-11.is (c.pass_end.ensures.ends ks is)
+    (behind_opcode c.in-Ok.opcode at mid c.in-Ok.ensures.exact refl) g
+
+pub returns-in_ok-pass_opening-in-2-to-4-clause-goes : goal.returns-in_ok-pass_opening-in-2-to-4-clause-goes
+returns-in_ok-pass_opening-in-2-to-4-clause-goes c = λ before from ks is g.
+    let at = c.args.walk.now in
+    let mid : Walk = record { cursor = c.byte.new.self; run = at.run } in
+    c.in_ok-pass_opening-in-2-to-4.ensures.goes before from at ks is (behind_opcode c.in-Ok.opcode at mid c.in-Ok.ensures.exact refl) c.at-at.ensures.offset g
+
+pub returns-in_ok-pass_else-in-5-clause-goes : goal.returns-in_ok-pass_else-in-5-clause-goes
+returns-in_ok-pass_else-in-5-clause-goes c = λ before from ks is g.
+    let at = c.args.walk.now in
+    let mid : Walk = record { cursor = c.byte.new.self; run = at.run } in
+    let b : Behind 0x05 at mid = subst (λ (o : ℕ). Behind o at mid) c.in-5.is (behind_opcode c.in-Ok.opcode at mid c.in-Ok.ensures.exact refl) in
+    let here = subst (λ (bs : List Bool). GoesOn c.args.profile before from bs c.args.out.now.items at) (sym (c.in_ok-settle-in-5.ensures ks is)) g in
+    ([], refl, c.in_ok-pass_else-in-5.ensures c.args.profile before from at b (ap length c.rest-left.ensures) here)
 
 pub returns-clause-goes : goal.returns-clause-goes
 returns-clause-goes c = λ before from ks is g.

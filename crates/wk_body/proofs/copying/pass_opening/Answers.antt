@@ -1,0 +1,23 @@
+use Rattle.std.proofs.Common.{◌≤◌, ◌^◌, ◌∷◌, ◌++◌, [], eqb, refl, ◌∙◌, arith}
+use Rattle.wk_body.specs.Brief.{number_of}
+use Rattle.wk_body.proofs.BriefWalk.{few_blocks}
+use Rattle.wk_body.proofs.Rewriting.{type_above, opener_goes}
+use Rattle.wk_body.proofs.OpenBlocks.{opened_bits}
+use Rattle.wk_body.proofs.copying.pass_opening.Goals as goal
+
+pub returns-then-after-gt-MOST_BLOCKS-clause-goes :
+    goal.returns-then-after-gt-MOST_BLOCKS-clause-goes
+returns-then-after-gt-MOST_BLOCKS-clause-goes c = λ before from token ks is b there g. ([], refl, c.in_ok-open_settled.ensures before from token ks is b there g)
+
+pub returns-clause-goes : goal.returns-clause-goes
+returns-clause-goes c = λ before from token ks is b there g.
+    let kinds = c.args.reader.now.kinds in
+    let opened = eqb c.args.opcode 0x04 ∷ ks in
+    let small : number_of ks ≤ 2 ^ 62 = omega (arith, is, c.requires.small) in
+    let few = few_blocks ks kinds small (c.if-not-has_room.ensures refl) in
+    let ty = type_above c.args.profile kinds (ks ++ kinds) c.args.at c.in_ok-pass_type.field-0 c.args.out.now.items c.pass_type.new.out.items c.args.walk.now c.pass_type.new.walk few c.in_ok-pass_type.ensures in (
+      opened,
+      c.blocks_after-after.ensures ∙ opened_bits c.args.opcode c.args.inner.now ks c.requires.opener.0 c.requires.opener.1 is,
+      opener_goes c.args.profile before c.args.out.now.items c.pass_type.new.out.items from token c.args.walk.now c.pass_type.new.walk (ks ++ kinds) (opened ++ kinds) c.args.opcode c.args.at c.in_ok-pass_type.field-0 there ty g
+          c.requires.opener.0 c.requires.opener.1 refl b,
+    )
