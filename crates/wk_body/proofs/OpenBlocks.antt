@@ -6,10 +6,10 @@ use Rattle.std.proofs.Math.Nat.{pow-le-pow_right}
 use Rattle.std.proofs.lemmas.Bool.{cases_eq}
 use Rattle.wk_body.specs.declared.types.Profile.{Profile}
 use Rattle.wk_body.specs.declared.walk.Walk.{Walk}
-use Rattle.wk_body.specs.Tree.{Close}
-use Rattle.wk_body.specs.Reading.{after}
-use Rattle.wk_body.specs.Walks.{Behind, GoesOn, Goes, Ends}
-use Rattle.wk_body.specs.Brief.{bit_of, number_of, blocks_after, Parts}
+use Rattle.wk_body.specs.Tree.{Close, Otherwise}
+use Rattle.wk_body.specs.Reading.{after, may_else}
+use Rattle.wk_body.specs.Walks.{Behind, GoesOn, Goes, Ends, Parts}
+use Rattle.wk_body.specs.Brief.{bit_of, number_of, blocks_after}
 use Rattle.wk_body.proofs.Rewriting.{close_goes, close_ends}
 use Rattle.wk_body.proofs.BriefWalk.{number_some}
 
@@ -88,12 +88,6 @@ pub none_inner : (number : ℕ) (ks : List Bool) → number ≤ 1 → number ≡
 none_inner number [] le is = refl
 none_inner number (k ∷ ks) le is = absurd (omega (arith, is, number_some ks))
 
--- behind an else
-pub parts_at : (inner : ℕ) (ks : List Bool) → inner ≡ number_of ks → 1 < inner → inner % 2 ≡ 1 → Parts ks (inner - 1)
-parts_at inner [] is some odd = absurd (omega arith)
-parts_at inner (true ∷ outer) is some odd = (outer, refl, omega arith)
-parts_at inner (false ∷ outer) is some odd = absurd (omega arith)
-
 -- ---- the innermost blocks of a list that has them last
 
 turned_parts : (blocks : List Bool) (m : ℕ) → reverse blocks ≡ reverse (drop m blocks) ++ reverse (take m blocks)
@@ -110,7 +104,7 @@ last_turned blocks last m is =
     let long : length (reverse (drop m blocks)) ≡ length last = omega (arith, ap length is, length-reverse (drop m blocks)) in
     ap (reverse {A = Bool}) is ∙ sym (ap (take (length last)) (turned_parts blocks m) ∙ take_at (reverse (drop m blocks)) (reverse (take m blocks)) (length last) long)
 
--- ---- ends and openers
+-- ---- ends, elses and openers
 
 pub closes_bit : (inner : ℕ) (ks kinds : List Bool) → 1 < inner → inner ≡ number_of ks → Ends false (ks ++ kinds) (inner / 2) kinds
 closes_bit inner [] kinds some is = absurd (omega arith)
@@ -127,6 +121,19 @@ pub end_goes : (last : Bool) (profile : Profile) (before out : List ℕ) (first 
     → GoesOn profile before first all out from → (next : List Bool) × (number ≡ number_of next) × Goes last profile before first (next ++ kinds) out to
 end_goes false profile before out first from to all kinds number opcode is e b g = (e.0, e.1, close_goes profile before out first from to all (e.0 ++ kinds) opcode is e.2 b g)
 end_goes true profile before out first from to all kinds number opcode is e b g = (e.0, e.1, close_ends profile before out first from to all opcode is e.2 b g)
+
+pub parts_bit : (inner : ℕ) (ks kinds : List Bool) → inner ≡ number_of ks → 1 < inner → inner % 2 ≡ 1 → Parts (ks ++ kinds) (inner - 1) kinds
+parts_bit inner [] kinds is some odd = absurd (omega arith)
+parts_bit inner (true ∷ outer) kinds is some odd = (outer ++ kinds, false ∷ outer, refl, omega arith, refl)
+parts_bit inner (false ∷ outer) kinds is some odd = absurd (omega arith)
+
+pub parts_kept : (inner : ℕ) (ks old kinds : List Bool) → inner ≤ 1 → inner ≡ number_of ks → may_else old ≡ true → after (Otherwise 0) old ≡ Some kinds → Parts (ks ++ old) inner kinds
+parts_kept inner ks [] kinds le is may e = absurd cc
+parts_kept inner ks (false ∷ outer) kinds le is may e = absurd cc
+parts_kept inner ks (true ∷ outer) kinds le is may e =
+    let none = none_inner inner ks le is in
+    let same : false ∷ outer ≡ kinds = cc in
+    (outer, ks, ap (λ (bs : List Bool). bs ++ true ∷ outer) none, is, ap (λ (bs : List Bool). bs ++ kinds) none ∙ sym same)
 
 pub opened_bits : (opcode blocks : ℕ) (ks : List Bool) → 0x02 ≤ opcode → opcode ≤ 0x04 → blocks ≡ number_of ks → blocks_after opcode blocks ≡ number_of (eqb opcode 0x04 ∷ ks)
 opened_bits opcode blocks ks low high is =

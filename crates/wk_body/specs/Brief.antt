@@ -54,7 +54,3 @@ blocks_after x blocks =
     else if x == 0x03 then 2 * blocks
     else if x == 0x04 then 2 * blocks + 1
     else blocks
-
--- the innermost of these blocks is an `if` without an else, and that number has its else behind it
-abbrev pub Parts : List Bool → ℕ → Type 0
-Parts ks number = (outer : List Bool) × (ks ≡ true ∷ outer) × (number ≡ number_of (false ∷ outer))

@@ -74,6 +74,11 @@ abbrev pub Ends : Bool → List Bool → ℕ → List Bool → Type 0
 Ends false ks number below = (next : List Bool) × (number ≡ number_of next) × (after Close ks ≡ Some (next ++ below))
 Ends true ks number below = (next : List Bool) × (number ≡ number_of next) × (ks ≡ [])
 
+-- an else stands in the innermost of these blocks, and behind it those of the number are open above the others: the same, but that no
+-- other else may come in the innermost
+abbrev pub Parts : List Bool → ℕ → List Bool → Type 0
+Parts ks number below = (outer next : List Bool) × (ks ≡ true ∷ outer) × (number ≡ number_of next) × (next ++ below ≡ false ∷ outer)
+
 -- while the blocks `ks` were open above others, tokens were read and written, and those of the number are open now
 abbrev pub BlocksPass : Walk → Walk → ℕ → List Bool → List Bool → Type 0
 BlocksPass from to number ks below =

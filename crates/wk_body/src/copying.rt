@@ -1,6 +1,6 @@
 //! Writes a code again while it is read once.
 
-ghost use Rattle.std.specs.Prelude.{◌≡◌, ◌≢◌, ◌+◌, ◌≤◌, ◌^◌, Bool, true, ◌++◌, ◌-◌, ◌∷◌, [], ℕ, List, length, take, Ok, IfErr, IfSome, MatchResult};
+ghost use Rattle.std.specs.Prelude.{◌≡◌, ◌≢◌, ◌+◌, ◌≤◌, ◌^◌, Bool, true, false, ◌++◌, ◌-◌, ◌∷◌, [], ℕ, List, length, take, Ok, IfErr, IfSome, MatchResult};
 ghost use Rattle.wk_bytes.specs.Stands.{StandsOrMemory};
 ghost use Rattle.wk_body.specs.declared.types.LocalGroup.{LocalGroup};
 ghost use Rattle.wk_body.specs.declared.walk.Walk.{Walk};
@@ -11,8 +11,8 @@ ghost use Rattle.wk_body.specs.Reads.{FailsAs};
 ghost use Rattle.wk_body.specs.Reading.{expr_at, all_body_at};
 ghost use Rattle.wk_body.specs.TokenReading.{local_groups_at};
 ghost use Rattle.wk_body.specs.Written.{type_bytes, written_group, written_expr, written_body};
-ghost use Rattle.wk_body.specs.Brief.{number_of, Parts};
-ghost use Rattle.wk_body.specs.Walks.{Passes, PassesType, PassesGroups, Keeps, Behind, GoesOn, Goes, Ends, BlocksPass};
+ghost use Rattle.wk_body.specs.Brief.{number_of};
+ghost use Rattle.wk_body.specs.Walks.{Passes, PassesType, PassesGroups, Keeps, Behind, GoesOn, Goes, Ends, Parts, BlocksPass};
 ghost use Rattle.wk_body.specs.Bodies.{BodyOf};
 ghost use Rattle.wk_body.specs.Shape.{depth_limit};
 
@@ -62,33 +62,7 @@ fn pass_type(
     Some(ty)
 }
 
-// An else, behind its opcode, before which `left` bytes were left. It goes where its branch is empty.
-#[inline(always)]
-fn pass_else(
-    left: usize,
-    reader: &mut TokenReader,
-    walk: &mut Walk<'_>,
-    out: &mut Vec<u8>,
-) -> Option<()>
-    ensures { (profile : Profile) (before : List ℕ) (from at : Walk) → Behind 0x05 at walk.old → left ≡ length at.cursor.rest
-        → GoesOn profile before from reader.old.kinds out.old.items at
-        → IfSome result (λ _. GoesOn profile before from reader.new.kinds out.new.items walk.new) }
-{
-    let at = walk.cursor.at();
-    let Ok(_) = reader.other(at) else {
-        return None;
-    };
-    let rest = walk.cursor.rest();
-    let (next, _) = rest.split_first()?;
-    if *next == 0x0B {
-        write_run(out, walk.run, left)?;
-        walk.run = rest;
-    }
-    Some(())
-}
-
 // Opens the blocks that are the bits of a number, above those that the reader has.
-#[inline(never)]
 fn hand_over(inner: u64, reader: &mut TokenReader) -> Option<()>
     ensures { IfSome result (λ _. (ks : List Bool) → inner ≡ number_of ks → reader.new.kinds ≡ ks ++ reader.old.kinds) }
 {
@@ -107,20 +81,9 @@ fn hand_over(inner: u64, reader: &mut TokenReader) -> Option<()>
     Some(())
 }
 
-// All open blocks are the reader's.
-#[inline(always)]
-fn settle(inner: u64, reader: &mut TokenReader) -> Option<()>
-    ensures { IfSome result (λ _. (ks : List Bool) → inner ≡ number_of ks → reader.new.kinds ≡ ks ++ reader.old.kinds) }
-{
-    if inner > 1 {
-        hand_over(inner, reader)?;
-    }
-    Some(())
-}
-
 // How many blocks are taken back from the reader at once, at most: half of what the bits hold. So 31 openers come in front of the next
 // handing over, and 31 ends in front of the next taking back: no code has more than three blocks moved for each of its openers
-// and ends. (But an `else` with nothing in its branch hands over all of them.)
+// and ends.
 const TAKEN_BACK: usize = 31;
 
 // Takes the innermost open blocks back from the reader, as the bits of a number: then the ends behind them go by the table again.
@@ -176,7 +139,7 @@ fn open_settled(
         → GoesOn profile before from (ks ++ reader.old.kinds) out.old.items token
         → IfSome result (λ _. GoesOn profile before from reader.new.kinds out.new.items walk.new) }
 {
-    settle(inner, reader)?;
+    hand_over(inner, reader)?;
     pass_type(profile, at, reader, walk, out)?;
     let Ok(()) = reader.open(opcode == 0x04) else {
         return None;
@@ -238,18 +201,41 @@ fn pass_end(inner: &mut u64, reader: &mut TokenReader) -> bool
     false
 }
 
-// The bits of the open blocks behind an `else`, where its branch holds something and the innermost block is one of them.
+// The innermost open block has its else, whose opcode stands at `at`.
 #[inline(always)]
-fn parted(inner: u64, walk: &Walk<'_>) -> Option<u64>
-    ensures less { IfSome result (λ next. next ≤ inner) }
-    ensures parts { IfSome result (λ next. (ks : List Bool) → inner ≡ number_of ks → Parts ks next) }
-    ensures full { IfSome result (λ _. (opcode : ℕ) × (later : List ℕ) × (walk.now.cursor.rest ≡ opcode ∷ later) × (opcode ≢ 0x0B)) }
+fn part(at: u32, inner: &mut u64, reader: &mut TokenReader) -> Option<()>
+    ensures less { IfSome result (λ _. inner.new ≤ inner.old) }
+    ensures parts { (ks : List Bool) → inner.old ≡ number_of ks
+        → IfSome result (λ _. Parts (ks ++ reader.old.kinds) inner.new reader.new.kinds) }
 {
-    let (next, _) = walk.cursor.rest().split_first()?;
-    if *next == 0x0B || inner < 2 || inner % 2 == 0 {
-        return None;
+    if *inner > 1 {
+        if *inner % 2 == 0 {
+            return None;
+        }
+        *inner -= 1;
+        return Some(());
     }
-    Some(inner - 1)
+    let Ok(_) = reader.other(at) else {
+        return None;
+    };
+    Some(())
+}
+
+// An else, behind its opcode, before which `left` bytes were left. It goes where its branch is empty.
+#[inline(always)]
+fn pass_else(left: usize, walk: &mut Walk<'_>, out: &mut Vec<u8>) -> Option<()>
+    ensures { (profile : Profile) (before : List ℕ) (from at : Walk) (outer : List Bool)
+        → Behind 0x05 at walk.old → left ≡ length at.cursor.rest
+        → GoesOn profile before from (true ∷ outer) out.old.items at
+        → IfSome result (λ _. GoesOn profile before from (false ∷ outer) out.new.items walk.new) }
+{
+    let rest = walk.cursor.rest();
+    let (next, _) = rest.split_first()?;
+    if *next == 0x0B {
+        write_run(out, walk.run, left)?;
+        walk.run = rest;
+    }
+    Some(())
 }
 
 // A token. Whether it is the end that closes no block.
@@ -272,12 +258,6 @@ fn pass_token(
     let Ok(opcode) = walk.cursor.byte() else {
         return None;
     };
-    if opcode == 0x05
-        && let Some(next) = parted(*inner, walk)
-    {
-        *inner = next;
-        return Some(false);
-    }
     match opcode {
         0x0B => Some(pass_end(inner, reader)),
         0x02..=0x04 => {
@@ -285,9 +265,8 @@ fn pass_token(
             Some(false)
         }
         0x05 => {
-            settle(*inner, reader)?;
-            *inner = 1;
-            pass_else(left, reader, walk, out)?;
+            part(at, inner, reader)?;
+            pass_else(left, walk, out)?;
             Some(false)
         }
         _ => {

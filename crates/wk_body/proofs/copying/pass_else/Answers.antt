@@ -1,18 +1,18 @@
-use Rattle.std.proofs.Common.{◌≡◌, ◌∷◌, sym, rules}
+use Rattle.std.proofs.Common.{◌≡◌, true, false, ◌∷◌, refl, sym, rules}
 use Rattle.wk_body.specs.declared.walk.Walk.{Walk}
 use Rattle.wk_body.proofs.Rewriting.{else_stays, else_goes}
 use Rattle.wk_body.proofs.copying.pass_else.Goals as goal
 
 pub returns-in_ok-write_run : goal.returns-in_ok-write_run
-returns-in_ok-write_run c = λ profile before from at b left g.
+returns-in_ok-write_run c = λ profile before from at outer b left g.
     let mid = c.args.walk.now in
     let to : Walk = record { cursor = mid.cursor; run = c.rest-rest.result } in
     let parts : mid.cursor.rest ≡ c.in_ok-next.next.now ∷ c.in_ok-next.field-0-1.now = search rules in
-    else_goes profile before c.args.out.now.items c.write_run.new.out.items from at to c.args.reader.now.kinds c.other.new.self.kinds c.in_ok-next.field-0-1.now c.in_ok-next.next.now c.args.left
-    c.in-Ok.ensures.may c.in-Ok.ensures.kinds parts c.if-next-eq11.true (sym b.parts) b.same_end left mid.run.now b.same_run c.in_ok-write_run.ensures c.rest-rest.ensures g
+    else_goes profile before c.args.out.now.items c.write_run.new.out.items from at to (true ∷ outer) (false ∷ outer) c.in_ok-next.field-0-1.now c.in_ok-next.next.now c.args.left
+    refl refl parts c.if-next-eq11.true (sym b.parts) b.same_end left mid.run.now b.same_run c.in_ok-write_run.ensures c.rest-rest.ensures g
 
 pub returns-else-next-eq11 : goal.returns-else-next-eq11
-returns-else-next-eq11 c = λ profile before from at b left g.
+returns-else-next-eq11 c = λ profile before from at outer b left g.
     let mid = c.args.walk.now in
     let parts : mid.cursor.rest ≡ c.in_ok-next.next.now ∷ c.in_ok-next.field-0-1.now = search rules in
-    else_stays profile before c.args.out.now.items from at mid c.args.reader.now.kinds c.other.new.self.kinds c.in_ok-next.next.now c.in_ok-next.field-0-1.now c.in-Ok.ensures.may c.in-Ok.ensures.kinds parts c.if-next-eq11.false b g
+    else_stays profile before c.args.out.now.items from at mid (true ∷ outer) (false ∷ outer) c.in_ok-next.next.now c.in_ok-next.field-0-1.now refl refl parts c.if-next-eq11.false b g

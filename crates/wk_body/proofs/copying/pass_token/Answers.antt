@@ -1,7 +1,7 @@
-use Rattle.std.proofs.Common.{◌≡◌, ℕ, Bool, true, false, List, [], ◌∷◌, ◌++◌, length, refl, sym, ap, subst, rules, arith}
+use Rattle.std.proofs.Common.{◌≡◌, ℕ, Bool, List, ◌++◌, length, refl, sym, ap, subst, rules, arith}
 use Rattle.wk_body.specs.declared.walk.Walk.{Walk}
 use Rattle.wk_body.specs.Walks.{Behind, GoesOn}
-use Rattle.wk_body.proofs.Rewriting.{behind_opcode, plain_goes, else_stays}
+use Rattle.wk_body.proofs.Rewriting.{behind_opcode, plain_goes}
 use Rattle.wk_body.proofs.OpenBlocks.{end_goes}
 use Rattle.wk_body.proofs.copying.pass_token.Goals as goal
 
@@ -40,16 +40,7 @@ returns-in_ok-pass_else-in-5-clause-goes c = λ before from ks is g.
     let at = c.args.walk.now in
     let mid : Walk = record { cursor = c.byte.new.self; run = at.run } in
     let b : Behind 0x05 at mid = subst (λ (o : ℕ). Behind o at mid) c.in-5.is (behind_opcode c.in-Ok.opcode at mid c.in-Ok.ensures.exact refl) in
-    let here = subst (λ (bs : List Bool). GoesOn c.args.profile before from bs c.args.out.now.items at) (sym (c.in_ok-settle-in-5.ensures ks is)) g in
-    ([], refl, c.in_ok-pass_else-in-5.ensures c.args.profile before from at b (ap length c.rest-left.ensures) here)
-
-pub returns-clause-goes : goal.returns-clause-goes
-returns-clause-goes c = λ before from ks is g.
-    let at = c.args.walk.now in
-    let mid : Walk = record { cursor = c.byte.new.self; run = at.run } in
-    let kinds = c.args.reader.now.kinds in
-    let p = c.in-Some.ensures.parts ks is in
-    let f = c.in-Some.ensures.full in
-    let b : Behind 0x05 at mid = subst (λ (o : ℕ). Behind o at mid) c.if-opcode-eq5.true (behind_opcode c.in-Ok.opcode at mid c.in-Ok.ensures.exact refl) in
-    let here = subst (λ (bs : List Bool). GoesOn c.args.profile before from (bs ++ kinds) c.args.out.now.items at) p.1 g in
-    (false ∷ p.0, p.2, else_stays c.args.profile before c.args.out.now.items from at mid (true ∷ (p.0 ++ kinds)) (false ∷ (p.0 ++ kinds)) f.0 f.1 refl refl f.2 f.3 b here)
+    let p = c.in_ok-part-in-5.ensures.parts ks is in
+    let here = subst (λ (bs : List Bool). GoesOn c.args.profile before from bs c.args.out.now.items at) p.2 g in
+    let there = c.in_ok-pass_else-in-5.ensures c.args.profile before from at p.0 b (ap length c.rest-left.ensures) here in
+    (p.1, p.3, subst (λ (bs : List Bool). GoesOn c.args.profile before from bs c.pass_else.new.out.items c.pass_else.new.walk) (sym p.4) there)
