@@ -85,6 +85,16 @@ fn opens_and_closes(alloc: Global) -> bool {
         && !reader.close_block()
 }
 
+// An else branch that is begun by whoever reads it: of an `if`, and once.
+fn parts(alloc: Global) -> bool {
+    let mut reader = TokenReader::new(alloc);
+    let has_none = !reader.part_block();
+    let opened = Token::If { ty: EMPTY, skip: 0 };
+    let is_read = reader.next(Profile::Core, &mut Cursor::new(b"\x04\x40")) == Ok(Some(opened));
+    let is_parted = reader.part_block() && !reader.part_block();
+    has_none && is_read && is_parted && reader.close_block() && !reader.part_block()
+}
+
 // A room that held two groups, for one of another body and for too many.
 fn refills_groups(alloc: Global) -> bool {
     let mut groups = Vec::new(alloc);
@@ -108,6 +118,7 @@ fn refills_groups(alloc: Global) -> bool {
 fn reads_one_by_one(rt: HostRuntime) -> Result<(), Fail> {
     assert!(rt; reads_tokens(rt.alloc()) && refills_groups(rt.alloc()));
     assert!(rt; opens_and_closes(rt.alloc()));
+    assert!(rt; parts(rt.alloc()));
     Ok(())
 }
 
