@@ -1,6 +1,6 @@
 //! Typing a body while it is read: each token is looked at once, and nothing is kept.
 
-ghost use Rattle.std.specs.Prelude.{◌≡◌, ℕ, List, Option, true, false, IfOk};
+ghost use Rattle.std.specs.Prelude.{◌≡◌, true, false, IfOk};
 ghost use Rattle.wk_body.specs.declared.types.Profile.{Profile};
 ghost use Rattle.wk_body.specs.declared.types.ValType.{ValType};
 ghost use Rattle.wk_check.specs.Effects.{local_type, results_of};
@@ -71,7 +71,7 @@ enum Went {
     Memory,
 }
 
-// Types the token at the front, whatever it is. It stands apart, so that the loop over the other tokens is small.
+// Types the token at the front, whatever it is. It stands apart, so that the loop over those that `quick` takes is small.
 #[inline(never)]
 fn go<E: Env>(
     env: &E,

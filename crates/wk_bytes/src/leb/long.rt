@@ -1,6 +1,6 @@
 //! Signed integers of 64 bits that have more bytes than those of 32, as constants of hashes: full-width ones have nine or ten.
 
-ghost use Rattle.std.specs.Prelude.{ℕ, ◌≡◌, ◌+◌, ◌-◌, ◌*◌, ◌≤◌, ◌<◌, ◌^◌, ℤ, pos, ◌+ℤ◌, ◌*ℤ◌, List, [], ◌∷◌, ◌++◌, length, take, drop, Ok, IsErr, IfSome};
+ghost use Rattle.std.specs.Prelude.{ℕ, ◌≡◌, ◌+◌, ◌-◌, ◌*◌, ◌≤◌, ◌<◌, ◌^◌, ℤ, pos, ◌+ℤ◌, ◌*ℤ◌, List, ◌∷◌, ◌++◌, length, take, drop, Ok, IsErr, IfSome};
 ghost use Rattle.wk_bytes.specs.Leb.{IsSignedOf, joinU, sint_at, SpellsS};
 
 use super::{above, five_bytes, five_signed, one_signed, read_signed, three_signed, two_signed};
