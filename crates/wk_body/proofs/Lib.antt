@@ -40,3 +40,10 @@ pub mod BriefWalk
 pub mod OpenBlocks
 pub mod Rewriting
 pub mod RewrittenBody
+pub mod Strides
+pub mod Found
+pub mod Integers
+pub mod ShiftShapes
+pub mod Shifting
+pub mod IntegerLoop
+pub mod ShiftedBody

@@ -39,7 +39,7 @@ static MORE: [u32; 4] = [0, 0, 0x0080, 0x8080];
 
 // Whether these bytes behind an opcode leave the token that many bytes.
 #[inline(always)]
-fn is_brief(len: u8, x: u8, y: u8) -> bool
+pub(crate) fn is_brief(len: u8, x: u8, y: u8) -> bool
     requires { len ≤ 3 }
     ensures { result ≡ true → IsBrief len x y }
 {

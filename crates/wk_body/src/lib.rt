@@ -21,7 +21,8 @@
 //! - [`refs`] is the set of what a body refers to, [`uses`] the same with a function's own type. [`shift`], [`shift_expr`] and
 //!   [`shift_index`] move references (`specs/References`), and overflow exactly where one that moves has no next. [`expr_movement`]
 //!   tells that beforehand (`specs/Moves`). Where none overflows, [`shift_in_place`] moves those of a body where it stands,
-//!   [`shift_uses`] those of a set, and [`append_shifted`] those of a written form.
+//!   [`shift_uses`] those of a set, and [`append_shifted`] those of a written form. [`append_shifts`] moves those of a written form by
+//!   several at once (`specs/Shifts`), from its bytes alone, where each has a place then.
 //! - [`reading_of_code`], [`written_form_of_code`], [`one_spelling_of_code`] and [`moving_of_code`] do nothing: they carry the laws of
 //!   reading, writing, the grammar and moving, so that the layer above can prove the same of modules.
 //! - A numeric instruction's opcode, type and name come from `specs/Numeric`, a load's or store's from `specs/MemoryOps`, all others
@@ -49,6 +50,7 @@ mod references;
 mod scratch;
 mod sheet;
 mod shifted;
+mod shifts;
 mod token;
 mod token_reader;
 mod types;
@@ -73,6 +75,7 @@ pub use reading::MAX_DEPTH;
 pub use references::{Ref, refs, uses};
 pub use scratch::Scratch;
 pub use shifted::{append_shifted, shift_uses};
+pub use shifts::{Shifts, append_shifts};
 pub use token::Token;
 pub use token_reader::{TokenReader, next_groups};
 pub use types::{BlockKind, BlockType, LocalGroup, Profile, ValType};
