@@ -6,6 +6,8 @@ pub mod Sections
 pub mod Shape
 pub mod Modules
 pub mod Reading
+pub mod Outlines
+pub mod OutlineReading
 pub mod ListReading
 pub mod Writing
 pub mod Listed

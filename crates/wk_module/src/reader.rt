@@ -36,7 +36,7 @@ pub(crate) struct SoFar {
     pub(crate) parts: Parts,
     pub(crate) indices: Items<u32>,
     bodies: Items<Body>,
-    place: u8,
+    pub(crate) place: u8,
 }
 
 impl Model for SoFar {
@@ -114,7 +114,7 @@ fn read_codes(
 }
 
 // The place behind a section: its id, unless it is empty.
-fn place_behind(place: u8, id: u8, full: bool) -> u8
+pub(crate) fn place_behind(place: u8, id: u8, full: bool) -> u8
     ensures { result ≡ (if full then id else place) }
 {
     if full { id } else { place }
@@ -219,7 +219,7 @@ impl SoFar {
 
     // Reads one more section.
     #[tactic(auto, unfolding(crate::specs::Reading::section_by))]
-    fn read_section(
+    pub(crate) fn read_section(
         &mut self,
         alloc: Global,
         scratch: &mut Scratch,

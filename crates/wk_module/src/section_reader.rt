@@ -24,7 +24,7 @@ use wk_body::{Body, Profile, Scratch, reading_of_code, written_form_of_code};
 use wk_bytes::{Cursor, RawSection, ReadFault, ReadKind, Sections};
 
 /// The id of the code section.
-const CODE: u8 = 10;
+pub(crate) const CODE: u8 = 10;
 
 /// The lists of a module of which some sections are read, and the sections that are left.
 #[derive(Debug, Drop)]
