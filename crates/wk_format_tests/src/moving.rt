@@ -3,8 +3,9 @@
 use std::alloc::{AllocError, Global};
 use std::test::Fail;
 use wk_body::{
-    Body, EncodeFault, Movement, Moving, ShiftFault, append_shifted, encode_body, encode_expr,
-    expr_movement, read_body, read_expr, shift, shift_expr, shift_in_place, shift_index,
+    Body, EncodeFault, Movement, Moving, ShiftFault, Shifts, append_shifted, append_shifts,
+    encode_body, encode_expr, expr_movement, read_body, read_expr, shift, shift_expr,
+    shift_in_place, shift_index,
 };
 use wk_samples::bodies::{
     BODY, EXPR, GREAT_CALL, GREATEST_CALL, GREATEST_EXPR, MOVED_EXPR, WITH_FUNC_MOVED,
@@ -127,10 +128,73 @@ fn moves_in_place(alloc: Global, body: Body, row: Move) -> bool {
 fn moves_as_read(alloc: Global, row: Move) -> bool {
     match read_body(alloc, row.body) {
         Ok(body) => {
-            moves(alloc, &body, row) && is_told(&body, row) && moves_in_place(alloc, body, row)
+            moves(alloc, &body, row)
+                && is_told(&body, row)
+                && moves_in_place(alloc, body, row)
+                && moves_from_bytes(alloc, row)
         }
         Err(_) => false,
     }
+}
+
+// Whether the written form, moved by its bytes alone, is that one, or is none.
+fn is_shifted(alloc: Global, code: &[u8], shifts: Shifts, becomes: Option<&[u8]>) -> bool {
+    let mut moved = Vec::new(alloc);
+    match (append_shifts(&mut moved, code, shifts), becomes) {
+        (Ok(true), Some(bytes)) => moved.as_slice() == bytes,
+        (Ok(false), None) => true,
+        _ => false,
+    }
+}
+
+const UNMOVED: Shifts = Shifts {
+    funcs_from: 0,
+    funcs_by: 0,
+    globals_from: 0,
+    globals_by: 0,
+};
+
+// The same of a move by one.
+fn moves_from_bytes(alloc: Global, row: Move) -> bool {
+    let mut shifts = UNMOVED;
+    match row.kind {
+        Moving::Func => {
+            shifts.funcs_from = row.from;
+            shifts.funcs_by = 1;
+        }
+        Moving::Global => {
+            shifts.globals_from = row.from;
+            shifts.globals_by = 1;
+        }
+    }
+    is_shifted(alloc, row.body, shifts, row.becomes)
+}
+
+// The body with 300 functions in front of the function 5, and 120 globals in front of the global 7: the one index gets longer.
+const SHIFTED: &[u8] = b"\x02\x02\x7f\x01\x7c\
+    \x02\x40\x04\x40\x10\xb1\x02\x05\x11\x03\x00\x0b\x23\x7f\x1a\x0b\
+    \x0e\x03\x00\x01\x02\x00\
+    \x03\x7f\x3f\x00\x0b\x0b";
+
+fn shifts_bodies(alloc: Global) -> bool {
+    let mut shifts = Shifts {
+        funcs_from: 5,
+        funcs_by: 300,
+        globals_from: 7,
+        globals_by: 120,
+    };
+    let both = is_shifted(alloc, BODY, shifts, Some(SHIFTED));
+    shifts.funcs_from = 6;
+    shifts.globals_from = 8;
+    let none = is_shifted(alloc, BODY, shifts, Some(BODY));
+    let nothing = is_shifted(alloc, b"", shifts, None);
+    both && none && nothing && is_shifted(alloc, SHIFTED, UNMOVED, Some(SHIFTED))
+}
+
+#[test]
+fn shifts_by_several(rt: HostRuntime) -> Result<(), Fail> {
+    assert!(rt; shifts_bodies(rt.alloc()));
+    Ok(())
 }
 
 // The first row of the table that is wrong.

@@ -200,7 +200,7 @@ impl Lines for ExportRows {
 
     fn put(
         &self,
-        _alloc: Global,
+        alloc: Global,
         text: &mut Vec<u8>,
         index: u32,
         export: &Export,
