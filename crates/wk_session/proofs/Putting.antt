@@ -1,30 +1,25 @@
 -- A module put out piece after piece.
-use Rattle.std.proofs.Common.{◌≡◌, ◌≢◌, ℕ, zero, suc, ◌+◌, ◌<◌, ◌≤◌, ◌==◌, Bool, true, false, if◌then◌else◌, Option, Some, List, [], ◌∷◌, ◌++◌, length, map, take, drop, slice_index_or, refl, sym, ap, ◌∙◌, arith, append_assoc, length-append}
+use Rattle.std.proofs.Common.{◌≡◌, ◌≢◌, ℕ, zero, suc, ◌+◌, ◌<◌, ◌≤◌, ◌==◌, Bool, false, if◌then◌else◌, Option, List, [], ◌∷◌, ◌++◌, length, map, take, drop, slice_index_or, refl, sym, ap, ◌∙◌, arith, append_assoc, length-append}
 use Rattle.std.specs.Prelude.{Result, Ok, Err, OnOk, OnErr}
 use Rattle.std.proofs.lemmas.Bool.{eq-eqb, ne_eqb}
 use Rattle.std.proofs.lemmas.List.{flat_map_more, length-map, take_more}
-use Rattle.std.proofs.lemmas.List.Folds.{flat_map-map}
 use Rattle.std.proofs.lemmas.List.Sums.{sum_by-cons}
 use Rattle.std.specs.List.{flat_map}
 use Rattle.std.specs.Io.KnownBytes.{Appends}
-use Rattle.wk_bytes.specs.Frames.{limit, magic, version}
-use Rattle.wk_bytes.specs.ListWords.{is_empty}
+use Rattle.wk_bytes.specs.Frames.{magic, version}
 use Rattle.wk_bytes.specs.Short.{short}
 use Rattle.wk_bytes.specs.Taken.{TakesFront}
 use Rattle.wk_bytes.specs.TakenLaws.{Appends-then, TakesFront-first, TakesFront-then}
-use Rattle.wk_body.specs.Bodies.{BodyOf}
 use Rattle.wk_body.specs.Vectors.{written_vector}
-use Rattle.wk_body.specs.Written.{written_body}
 use Rattle.wk_module.specs.declared.types.Custom.{Custom}
-use Rattle.wk_module.specs.declared.types.Func.{Func}
 use Rattle.wk_module.specs.declared.types.Parts.{Parts}
 use Rattle.wk_module.specs.Formats.{written_bytes}
-use Rattle.wk_module.specs.Items.{written_code}
-use Rattle.wk_module.specs.Sections.{CodeSection, SectionLists, of_number}
+use Rattle.wk_module.specs.Sections.{of_number}
 use Rattle.wk_module.specs.Shape.{lists_of}
 use Rattle.wk_module.specs.Sizes.{entry_size}
-use Rattle.wk_module.specs.Writing.{contents_by, customs_at, encoded, framed, ids, section_and_customs, section_by, section_of, written_section, Fits}
+use Rattle.wk_module.specs.Writing.{contents_by, customs_at, encoded, framed, ids, section_and_customs, section_of}
 use Rattle.wk_module.specs.WritingLaws.{at_place, contents_by-lent, customs_at-cons, id_is, piece_le, section_none, section_some, written_frame}
+use Rattle.wk_session.specs.RecodedLaws.{section_codes}
 use Rattle.wk_session.specs.Pieces.{code_of, code_section, entries_size, framed_some, section_piece, section_pieces}
 
 -- ---- what calls take, one after the other
@@ -108,21 +103,6 @@ entries_length [] = refl
 entries_length (c ∷ cs) =
     omega (arith, sum_by-cons (λ (code : List ℕ). entry_size (length code)) c cs, entries_length cs, length-append (short (length c)) c, length-append (written_bytes c) (flat_map written_bytes cs))
 
-codes_same : (fs : List Func) → flat_map written_code (map (λ f. f.body) fs) ≡ flat_map written_bytes (map code_of fs)
-codes_same [] = refl
-codes_same (f ∷ fs) = ap (λ (b : List ℕ). written_code f.body ++ b) (codes_same fs)
-
-codes_framed : (fs : List Func) → written_section CodeSection (map (λ f. f.body) fs) ≡ code_section (map code_of fs)
-codes_framed [] = refl
-codes_framed (f ∷ fs) =
-    let all : List Func = f ∷ fs in
-    let bodies = map (λ (g : Func). g.body) all in
-    ap (λ (n : ℕ). framed 10 (short n ++ flat_map written_code bodies)) (length-map all (λ (g : Func). g.body) ∙ sym (length-map all code_of))
-    ∙ ap (λ (b : List ℕ). framed 10 (short (length (map code_of all)) ++ b)) (codes_same all)
-
-pub section_codes : (m : Parts) → section_of m 10 ≡ code_section (map code_of m.funcs)
-section_codes m = codes_framed m.funcs
-
 some_codes : (codes : List (List ℕ)) → (length codes == 0) ≡ false → code_section codes ≡ framed 10 (written_vector written_bytes codes)
 some_codes [] some = absurd cc
 some_codes (c ∷ cs) some = refl
@@ -137,14 +117,26 @@ code_section_is codes size some is =
 
 -- ---- modules
 
+-- a form with a piece for each id: it up to an id, the piece of that, and the rest
+pub form_split : (f : ℕ → List ℕ) (id : ℕ) → id < 12 → (magic ++ version) ++ flat_map f ids ≡ ((magic ++ version) ++ flat_map f (take id ids)) ++ (f id ++ flat_map f (drop (suc id) ids))
+form_split f id lt =
+    let later = f id ++ flat_map f (drop (suc id) ids) in
+    ap (λ (b : List ℕ). (magic ++ version) ++ b) (flat_split f ids id id lt (id_is id lt))
+    ∙ sym (append_assoc (magic ++ version) (flat_map f (take id ids)) later)
+
+-- one piece more
+pub form_more : (f : ℕ → List ℕ) (id : ℕ) → id < 12 → (magic ++ version) ++ flat_map f (take (id + 1) ids) ≡ ((magic ++ version) ++ flat_map f (take id ids)) ++ f id
+form_more f id lt =
+    let so_far = flat_map f (take id ids) in
+    ap (λ (is : List ℕ). (magic ++ version) ++ flat_map f is) (take_more ids id id lt ∙ ap (λ y. take id ids ++ y ∷ []) (sym (id_is id lt)))
+    ∙ ap (λ (b : List ℕ). (magic ++ version) ++ b) (sym (flat_map_more f [] (take id ids) id))
+    ∙ sym (append_assoc (magic ++ version) so_far (f id))
+
 -- the form up to a section, it with the customs behind it, and the rest
 pub encoded_split : (m : Parts) (id : ℕ) → id < 12
     → encoded m ≡ ((magic ++ version) ++ flat_map (section_and_customs m) (take id ids)) ++ (section_and_customs m id ++ flat_map (section_and_customs m) (drop (suc id) ids))
 unfolding encoded
-encoded_split m id lt =
-    let later = section_and_customs m id ++ flat_map (section_and_customs m) (drop (suc id) ids) in
-    ap (λ (b : List ℕ). (magic ++ version) ++ b) (flat_split (section_and_customs m) ids id id lt (id_is id lt))
-    ∙ sym (append_assoc (magic ++ version) (flat_map (section_and_customs m) (take id ids)) later)
+encoded_split m id lt = form_split (section_and_customs m) id lt
 
 -- a section and the customs behind it are within the form
 pub both_within : (m : Parts) (id : ℕ) → id < 12 → length (section_of m id) + length (customs_at id m.customs) ≤ length (encoded m)
@@ -162,11 +154,16 @@ encoded_first m = refl
 pub codes_length : (m : Parts) (codes : List (List ℕ)) → codes ≡ map code_of m.funcs → length codes ≡ length m.funcs
 codes_length m codes is = ap length is ∙ length-map m.funcs code_of
 
+-- codes with their sizes and their number are within their section
+pub codes_within : (codes : List (List ℕ)) → 0 < length codes → length (short (length codes)) + entries_size codes ≤ length (code_section codes)
+codes_within codes some =
+    let whole = written_vector written_bytes codes in
+    let section = ap length (some_codes codes (ne_eqb (length codes) 0 (λ none. absurd (omega (arith, none, some))))) in
+    omega (arith, section, entries_length codes, length-append (short (length codes)) (flat_map written_bytes codes), length-append (short (length whole)) whole)
+
 pub code_section_within : (m : Parts) (codes : List (List ℕ)) → codes ≡ map code_of m.funcs → 0 < length codes → length (short (length codes)) + entries_size codes ≤ length (encoded m)
 code_section_within m codes is some =
-    let whole = written_vector written_bytes codes in
-    let section = ap length (section_codes m ∙ ap code_section (sym is) ∙ some_codes codes (ne_eqb (length codes) 0 (λ none. absurd (omega (arith, none, some))))) in
-    omega (arith, section, both_within m 10 (omega arith), entries_length codes, length-append (short (length codes)) (flat_map written_bytes codes), length-append (short (length whole)) whole)
+    omega (arith, codes_within codes some, ap length (section_codes m ∙ ap code_section (sym is)), both_within m 10 (omega arith))
 
 pub no_entries : (codes : List (List ℕ)) → length codes ≡ 0 → entries_size codes ≡ 0
 no_entries [] none = refl
@@ -176,8 +173,4 @@ no_entries (c ∷ cs) none = absurd (omega (arith, none))
 
 pub encoded_more : (m : Parts) (id : ℕ) → id < 12
     → (magic ++ version) ++ flat_map (section_and_customs m) (take (id + 1) ids) ≡ ((magic ++ version) ++ flat_map (section_and_customs m) (take id ids)) ++ section_and_customs m id
-encoded_more m id lt =
-    let so_far = flat_map (section_and_customs m) (take id ids) in
-    ap (λ (is : List ℕ). (magic ++ version) ++ flat_map (section_and_customs m) is) (take_more ids id id lt ∙ ap (λ y. take id ids ++ y ∷ []) (sym (id_is id lt)))
-    ∙ ap (λ (b : List ℕ). (magic ++ version) ++ b) (sym (flat_map_more (section_and_customs m) [] (take id ids) id))
-    ∙ sym (append_assoc (magic ++ version) so_far (section_and_customs m id))
+encoded_more m id lt = form_more (section_and_customs m) id lt

@@ -9,6 +9,8 @@ pub mod Written
 pub mod EditText
 pub mod Overlays
 pub mod Pieces
+pub mod Recoded
+pub mod RecodedLaws
 pub mod MadeLaws
 pub mod MovedEntries
 pub mod Imported

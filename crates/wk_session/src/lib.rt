@@ -4,6 +4,7 @@
 //!
 //! - A [`Session`] is seen as its plain module; no clause names what it keeps. [`Session::open_in`] is the grammar of a profile,
 //!   [`Session::open`] that of 1.0.
+//! - [`Session::of`] is over a module that is given, unless its written form would be too long.
 //! - [`Session::apply`] and [`Session::apply_kept`] make of the module what the definition of the edit says, and answer its reply
 //!   (`made` of `specs/Edits`; `reply_of`, `after_one` of `specs/Runs`), for any module and for a valid one. [`Session::run`] and
 //!   [`Session::run_kept`] are `after` and `replies_of` over the list, and after `run_kept` what was valid is valid.
@@ -14,7 +15,9 @@
 //!   something which is found to be another thing, `encoded` those that it gives and those that move, `sections` the sections that
 //!   are made again. [`work_of_edits`] ties the first two to the references that change and to those that move. That no more
 //!   than these are typed or made again is no clause: tests compare what a meter counts.
-//! - [`Session::write`] fails only where its output does, and takes no memory.
+//! - [`Session::write`] fails only where its output does, and takes no memory. So does [`Session::write_with`], which appends
+//!   `encoded_with` (`specs/Recoded`): the written form with other codes in the place of some. With the codes of bodies it is that of the
+//!   module with these bodies (`recoded` of `specs/RecodedLaws`).
 //! - Where bytes of an edit are refused, alone or in a run, they spell nothing, and the fault stands in them (`IsTold` of `specs/Told`).
 //! - What `is_decided` marks is never answered by want of memory (`decided`). `is_memory` marks the edits that were refused for want of
 //!   memory; what the others do and answer is said for those marks.
@@ -50,6 +53,7 @@ mod lengths;
 mod longer;
 mod overlay;
 mod pieces;
+mod recoded;
 mod session;
 mod shorter;
 mod write;

@@ -1,6 +1,7 @@
 //! A session over a module.
-ghost use Rattle.std.specs.Prelude.{◌≡◌, ◌≢◌, ◌<◌, ◌-◌, ◌^◌, false, true, IfOk, IfErr, OnOk, OnErr, length, option_map, slice_get};
+ghost use Rattle.std.specs.Prelude.{◌≡◌, ◌≢◌, ◌<◌, ◌≤◌, ◌-◌, ◌^◌, false, true, IfOk, IfErr, OnOk, OnErr, length, map, option_map, slice_get};
 ghost use Rattle.std.specs.Io.KnownBytes.{Appends};
+ghost use Rattle.wk_bytes.specs.Frames.{limit};
 ghost use Rattle.wk_bytes.specs.Stands.{StandsIn};
 ghost use Rattle.wk_bytes.specs.Taken.{TakesFront};
 ghost use Rattle.wk_body.specs.Reads.{Reads};
@@ -14,6 +15,9 @@ ghost use Rattle.wk_list.specs.Listing.{listing};
 ghost use Rattle.wk_list.specs.Taken.{failed_after};
 ghost use Rattle.wk_session.specs.Edits.{is_decided};
 ghost use Rattle.wk_session.specs.Kept.{IsKept, Leads, uses_of};
+ghost use Rattle.wk_session.specs.Overlays.{with_items};
+ghost use Rattle.wk_session.specs.Pieces.{code_of};
+ghost use Rattle.wk_session.specs.Recoded.{encoded_with};
 ghost use Rattle.wk_session.specs.Told.{IsTold, AreTold};
 ghost use Rattle.wk_session.specs.Written.{Leaves, failures_after_write};
 ghost use Rattle.wk_session.specs.Runs.{reply_of, after_one, is_memory, replies_of, after, refused_for_memory, AreUndecided};
@@ -25,18 +29,19 @@ use crate::edits::{
 };
 use crate::kept::Kept;
 use crate::lengths::{CODES, code_contents};
+use crate::recoded::put_module_with;
 use crate::write::WriteFault;
 use crate::written::put_module;
 use std::alloc::Global;
 use std::collections::BTreeSet;
 use std::marker::Model;
 use std::mem;
-use wk_bytes::{Out, OutFault, OutOfMemory, ReadFault, ReadKind};
+use wk_bytes::{Items, Out, OutFault, OutOfMemory, ReadFault, ReadKind};
 use wk_check::{Meter, Verdict};
 use wk_list::{ListFault, Part, Shape, list};
 use wk_module::{
-    Module, Parts, Profile, Ref, custom_len, one_module, read_in, reading_of_code,
-    written_form_of_module,
+    EncodeFault, Module, Parts, Profile, Ref, custom_len, encoded_len, one_module, read_in,
+    reading_of_code, written_form_of_module,
 };
 
 /// A module under edits, seen by contracts as its plain lists.
@@ -130,6 +135,27 @@ impl Session {
         Session::open_in(alloc, bytes, Profile::Core)
     }
 
+    /// A session over a module.
+    ///
+    /// # Errors
+    ///
+    /// `TooLarge` where its written form is longer than 2,147,483,647 bytes; `Memory` where a growth is refused.
+    pub fn of(alloc: Global, module: Module) -> Result<Session, EncodeFault>
+        ensures value { IfOk result (λ m. m ≡ «module») }
+        ensures fits { IfOk result (λ m. Fits m) }
+        ensures refused { IfErr result (λ e. e ≢ EncodeFault.Memory → limit < length (encoded «module»)) }
+    {
+        if encoded_len(&module).is_none() {
+            return Err(EncodeFault::TooLarge);
+        }
+        let kept = Kept::of(alloc, &module)?;
+        Ok(Session {
+            alloc,
+            module,
+            kept,
+        })
+    }
+
     /// The verdict of the module.
     pub fn verdict(&self) -> &Verdict
         ensures { result.now ≡ module_verdict self.now }
@@ -167,6 +193,34 @@ impl Session {
             Ok(()) => Ok(()),
             Err(OutFault) => Err(WriteFault::Write),
         }
+    }
+
+    /// Writes the module with other codes in the place of some of its own: `codes` has one for each function that it defines, or nothing
+    /// where its own stays. A code stands without its size, and what it spells is not looked at. That form must be no longer than
+    /// 2,147,483,647 bytes. It takes no memory.
+    ///
+    /// With the codes of bodies that is the written form of the module with these bodies (`recoded` of `specs/RecodedLaws`).
+    ///
+    /// # Errors
+    ///
+    /// `Write`, and only where the [`Out`] failed in this call: want of memory is never answered. After it a beginning of that form was
+    /// taken. The session stays as it is.
+    pub fn write_with<W: Out>(
+        &self,
+        codes: &Vec<Option<Items<u8>>>,
+        out: &mut W,
+    ) -> Result<(), WriteFault>
+        requires failed { W.failed out.old < 2 ^ 64 - 1 }
+        requires many { length codes.now.items ≡ length (self.now).funcs }
+        requires fits { length (encoded_with self.now (with_items (map code_of (self.now).funcs) codes.now.items)) ≤ limit }
+        ensures ok { OnOk result (Appends (W.taken out.old) (W.taken out.new) (encoded_with self.now (with_items (map code_of (self.now).funcs) codes.now.items))) }
+        ensures err { IfErr result (Leaves (W.taken out.old) (W.taken out.new) (encoded_with self.now (with_items (map code_of (self.now).funcs) codes.now.items))) }
+        ensures failures { W.failed out.new ≡ failures_after_write (W.failed out.old) result }
+        ensures never { IfErr result (λ e. e ≡ WriteFault.Write) }
+    {
+        put_module_with(out, self.module.parts(), &self.kept.pieces, codes).map_err(
+            |_| WriteFault::Write,
+        )
     }
 
     /// Writes a part of the listing of the module.

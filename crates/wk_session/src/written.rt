@@ -18,13 +18,13 @@ use wk_bytes::{Items, Out, OutFault, leb_len_u32, out_u32, put_all};
 use wk_module::{Custom, Parts, custom_len};
 
 /// The magic and the version (5.5.15).
-const HEADER: [u8; 8] = [0, 97, 115, 109, 1, 0, 0, 0];
+pub(crate) const HEADER: [u8; 8] = [0, 97, 115, 109, 1, 0, 0, 0];
 
 /// The id of custom sections (5.5.2).
 const CUSTOM: u8 = 0;
 
-// The id and the size of a section.
-fn put_head<W: Out>(out: &mut W, id: u8, size: u32) -> Result<(), OutFault>
+/// The id and the size of a section.
+pub(crate) fn put_head<W: Out>(out: &mut W, id: u8, size: u32) -> Result<(), OutFault>
     requires { W.failed out.old < 2 ^ 64 - 1 }
     ensures ok { OnOk result (Appends (W.taken out.old) (W.taken out.new) (id ∷ short size)) }
     ensures err { OnErr result (TakesFront (W.taken out.old) (W.taken out.new) (id ∷ short size)) }
@@ -34,8 +34,8 @@ fn put_head<W: Out>(out: &mut W, id: u8, size: u32) -> Result<(), OutFault>
     out_u32(out, size)
 }
 
-// Bytes behind their number.
-fn put_bytes<W: Out>(out: &mut W, bytes: &[u8]) -> Result<(), OutFault>
+/// Bytes behind their number.
+pub(crate) fn put_bytes<W: Out>(out: &mut W, bytes: &[u8]) -> Result<(), OutFault>
     requires failed { W.failed out.old < 2 ^ 64 - 1 }
     requires few { length bytes.now ≤ limit }
     ensures ok { OnOk result (Appends (W.taken out.old) (W.taken out.new) (written_bytes bytes.now)) }
@@ -114,8 +114,12 @@ fn put_custom<W: Out>(out: &mut W, custom: &Custom) -> Result<(), OutFault>
     put_all(out, custom.bytes.as_slice())
 }
 
-// The custom sections of a place.
-fn put_customs_at<W: Out>(out: &mut W, customs: &Items<Custom>, place: u8) -> Result<(), OutFault>
+/// The custom sections of a place.
+pub(crate) fn put_customs_at<W: Out>(
+    out: &mut W,
+    customs: &Items<Custom>,
+    place: u8,
+) -> Result<(), OutFault>
     requires failed { W.failed out.old < 2 ^ 64 - 1 }
     requires few { length (customs_at place customs.now) ≤ limit }
     ensures ok { OnOk result (Appends (W.taken out.old) (W.taken out.new) (customs_at place customs.now)) }
@@ -151,8 +155,13 @@ fn put_section_of<W: Out>(
     put_section(out, id, &pieces.sections[id as usize])
 }
 
-// The section of an id, and the custom sections behind it.
-fn put_place<W: Out>(out: &mut W, parts: &Parts, pieces: &Pieces, id: u8) -> Result<(), OutFault>
+/// The section of an id, and the custom sections behind it.
+pub(crate) fn put_place<W: Out>(
+    out: &mut W,
+    parts: &Parts,
+    pieces: &Pieces,
+    id: u8,
+) -> Result<(), OutFault>
     requires failed { W.failed out.old < 2 ^ 64 - 1 }
     requires id { id < 12 }
     requires pieces { ArePieces parts.now pieces.now }

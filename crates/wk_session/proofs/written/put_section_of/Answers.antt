@@ -8,8 +8,9 @@ use Rattle.wk_bytes.specs.Taken.{TakesFront}
 use Rattle.wk_module.specs.Writing.{section_of}
 use Rattle.wk_module.specs.WritingLaws.{room_for_func}
 use Rattle.wk_session.specs.Pieces.{code_section, entries_size, framed_some, section_piece}
+use Rattle.wk_session.specs.RecodedLaws.{section_codes}
 use Rattle.wk_session.proofs.Piecing.{entries_codes, section_within}
-use Rattle.wk_session.proofs.Putting.{codes_length, code_section_within, no_entries, piece_at, section_codes, section_framed}
+use Rattle.wk_session.proofs.Putting.{codes_length, code_section_within, no_entries, piece_at, section_framed}
 use Rattle.wk_session.proofs.written.put_section_of.Given.{Over}
 use Rattle.wk_session.proofs.written.put_section_of.Goals as goal
 use Rattle.wk_session.proofs.written.put_section_of.Goals.{Then-id-eq-CODES, After-index}
