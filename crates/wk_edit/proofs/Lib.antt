@@ -3,6 +3,7 @@ pub mod Utf8
 pub mod ScriptSteps
 pub mod ReportSteps
 pub mod OutcomeLemmas
+pub mod DraftOutcomes
 pub mod Joining
 pub mod WordLaws
 pub mod NumberLaws

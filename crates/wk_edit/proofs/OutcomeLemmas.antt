@@ -8,8 +8,12 @@ use Rattle.wk_module.specs.declared.types.Parts.{Parts}
 use Rattle.wk_bytes.specs.Stands.{StandsIn}
 use Rattle.wk_body.specs.declared.types.Profile.{Profile}
 use Rattle.wk_body.specs.Reads.{FailsAs}
-use Rattle.wk_module.specs.Modules.{SpellsNone}
+use Rattle.wk_module.specs.ListReading.{IsReading}
+use Rattle.wk_module.specs.ModuleLaws.{SpellOne}
+use Rattle.wk_module.specs.Modules.{Spells}
 use Rattle.wk_module.specs.Reading.{module_at}
+use Rattle.wk_module.specs.Shape.{IsShaped}
+use Rattle.wk_module.specs.Writing.{encoded, Fits}
 use Rattle.wk_check.specs.declared.fault.Verdict.{Verdict}
 use Rattle.wk_check.specs.Verdict.{module_verdict}
 use Rattle.wk_session.specs.declared.edit.Edit.{Edit}
@@ -23,10 +27,17 @@ use Rattle.wk_edit.specs.declared.prepared.Prepared.{Prepared}
 use Rattle.wk_edit.specs.Script.{script_of}
 use Rattle.wk_edit.specs.ScriptGrammar.{IsScript, IsOnlyScript, IsNoScript, IsFaultOf}
 use Rattle.wk_edit.specs.ReportText.{report_text}
-use Rattle.wk_edit.specs.Outcome.{Outcome, malformed_outcome, run_status, run_outcome, script_outcome, outcome_on, outcome_of}
+use Rattle.wk_edit.specs.Outcome.{Outcome, out_of, malformed_outcome, run_status, run_outcome, script_outcome, outcome_on, outcome_of}
 use Rattle.wk_edit.specs.Prepared.{IsPrepared, IsSpelled}
 use Rattle.wk_edit.specs.Theorem.{IsRun, IsRead, IsReport}
 use Rattle.wk_session.specs.ToldLaws.{ReadsCode, all_told}
+
+-- ---- the written form of a module spells it, and no other
+
+pub spelled_once : ((m : Parts) → IsShaped m → Fits m → Spells (encoded m) m) → SpellOne → (m : Parts) → IsShaped m → Fits m → IsSpelled (Some m)
+spelled_once spells one m shaped fits =
+    let own = spells m shaped fits in
+    (own, λ n same other. one (encoded m) n m same other own)
 
 -- ---- no edit was refused for want of memory
 
@@ -60,8 +71,11 @@ module _ (keep : Bool) (m n : Parts) (es : List Edit) (rs : List (Result Work Ed
   v_is : v ≡ module_verdict (after keep es [] m)
   v_is = judged ∙ ap module_verdict n_is
 
-  pub ran_session : (Some n) ≡ (run_outcome keep m es).edited
-  ran_session = ap Some n_is
+  pub ran_made : encoded n ≡ out_of (run_outcome keep m es)
+  ran_made = ap encoded n_is
+
+  pub ran_spelled : IsSpelled (Some n) → IsSpelled (run_outcome keep m es).edited
+  ran_spelled is = subst (λ (p : Parts). IsSpelled (Some p)) n_is is
 
   pub ran_report : (text : List ℕ) → text ≡ report_text 1 rs v → text ≡ (run_outcome keep m es).report
   ran_report text is = is ∙ ap (λ (r : List (Result Work EditFault)). report_text 1 r v) rs_are ∙ ap (report_text 1 (replies_of keep es [] m)) v_is
@@ -83,6 +97,12 @@ other_fault : (e : ReadFault) (k : ReadKind) (read : Result Parts ReadFault) →
 other_fault e ReadKind.Memory read other fails = absurd (other refl)
 other_fault e _ read other fails = fails
 
+-- bytes that are read again spell the same module
+pub same_module : (profile : Profile) (lent bytes : List ℕ) (s m : Parts) → lent ≡ bytes → module_at profile lent ≡ Ok s → module_at profile bytes ≡ Ok m → s ≡ m
+same_module profile lent bytes s m same exact at =
+    let both : (let r : Result Parts ReadFault = Ok s in r) ≡ Ok m = sym exact ∙ ap (module_at profile) same ∙ at in
+    cc
+
 -- ---- what `prepare` answers
 
 module _ (keep : Bool) (profile : Profile) (input script : List ℕ) where
@@ -90,12 +110,14 @@ module _ (keep : Bool) (profile : Profile) (input script : List ℕ) where
   malformed_ok (Ok p) e is other fails = subst (λ (o : Outcome). IsPrepared o p) (sym (outcome_malformed keep profile input script e (other_fault e e.kind (module_at profile input) other fails))) is
   malformed_ok (Err f) e is other fails = tt
 
-  pub malformed_means : (r : Result Prepared RunFault) (e : ReadFault) → OnOk r (e.kind ≢ ReadKind.Memory) → FailsAs e e.kind (module_at profile input) → (e.kind ≢ ReadKind.Memory → SpellsNone profile input) → StandsIn input e
-      → OnOk r (IsSpelled (outcome_of keep profile input script).edited → IsReport keep profile input script (outcome_of keep profile input script))
-  malformed_means (Ok p) e other fails none stands = λ _.
-      subst (IsReport keep profile input script) (sym (outcome_malformed keep profile input script e (other_fault e e.kind (module_at profile input) other fails)))
-      (inl (record { fault = e; none = none other; stands = stands; other = other; out = refl; report = refl; status = refl }))
-  malformed_means (Err f) e other fails none stands = tt
+  pub malformed_means : (r : Result Prepared RunFault) (e : ReadFault) → OnOk r (e.kind ≢ ReadKind.Memory) → FailsAs e e.kind (module_at profile input) → IsReading profile input (module_at profile input)
+      → OnOk r (IsReport keep profile input script (outcome_of keep profile input script))
+  malformed_means (Ok p) e other fails is =
+      let read = other_fault e e.kind (module_at profile input) other fails in
+      let told : IsReading profile input (Err e) = subst (IsReading profile input) read is in
+      subst (IsReport keep profile input script) (sym (outcome_malformed keep profile input script e read))
+      (inl (record { fault = e; none = told.0; stands = told.1; other = other; out = refl; report = refl; status = refl }))
+  malformed_means (Err f) e other fails is = tt
 
   pub ran_ok : (r : Result Prepared RunFault) (m : Parts) (s : Result (List Edit) ScriptFault) → IfOk r (IsPrepared (outcome_on keep m s)) → module_at profile input ≡ Ok m → script_of script ≡ s → IfOk r (IsPrepared (outcome_of keep profile input script))
   ran_ok r m s is read said = subst (λ (o : Outcome). IfOk r (IsPrepared o)) (sym (outcome_ran keep profile input script m s read said)) is
@@ -115,18 +137,24 @@ module _ (keep : Bool) (profile : Profile) (input script : List ℕ) where
     status = refl;
   }
 
-  pub ran_means : ReadsCode → (r : Result Prepared RunFault) (m : Parts) (es : List Edit) → IsRead profile input m → module_at profile input ≡ Ok m → IsScript script es → IsOnlyScript script es → script_of script ≡ Ok es
-      → OnOk r (IsSpelled (outcome_of keep profile input script).edited → IsReport keep profile input script (outcome_of keep profile input script))
-  ran_means reads (Ok p) m es of read is only said =
-      subst (λ (o : Outcome). IsSpelled o.edited → IsReport keep profile input script o) (sym (outcome_ran keep profile input script m (Ok es) read said))
-      (λ spelled. inr (m, of, inr (run_told reads m es is only spelled)))
-  ran_means reads (Err e) m es of read is only said = tt
+  read_as : (m : Parts) → module_at profile input ≡ Ok m → IsReading profile input (module_at profile input) → IsRead profile input m
+  read_as m read is =
+      let told : IsReading profile input (Ok m) = subst (IsReading profile input) read is in
+      record { profile_is = told.0; spelled = told.1; only = told.2 }
 
-  pub script_means : (r : Result Prepared RunFault) (m : Parts) (f : ScriptFault) → OnOk r (f ≢ ScriptFault.Memory) → IsRead profile input m → module_at profile input ≡ Ok m → (f ≢ ScriptFault.Memory → script_of script ≡ Err f) → (f ≢ ScriptFault.Memory → IsNoScript script) → (f ≢ ScriptFault.Memory → IsFaultOf script f)
-      → OnOk r (IsSpelled (outcome_of keep profile input script).edited → IsReport keep profile input script (outcome_of keep profile input script))
-  script_means (Ok p) m f other of read said none faulty = λ _.
+  pub ran_means : ReadsCode → (r : Result Prepared RunFault) (m : Parts) (es : List Edit) → IsReading profile input (module_at profile input) → module_at profile input ≡ Ok m → IsScript script es → IsOnlyScript script es → script_of script ≡ Ok es
+      → IfOk r (IsPrepared (outcome_of keep profile input script)) → OnOk r (IsReport keep profile input script (outcome_of keep profile input script))
+  ran_means reads (Ok p) m es of read is only said prepared =
+      let ran = outcome_ran keep profile input script m (Ok es) read said in
+      let spelled : IsSpelled (run_outcome keep m es).edited = subst (λ (o : Outcome). IsSpelled o.edited) ran prepared.spelled in
+      subst (IsReport keep profile input script) (sym ran) (inr (m, read_as m read of, inr (run_told reads m es is only spelled)))
+  ran_means reads (Err e) m es of read is only said prepared = tt
+
+  pub script_means : (r : Result Prepared RunFault) (m : Parts) (f : ScriptFault) → OnOk r (f ≢ ScriptFault.Memory) → IsReading profile input (module_at profile input) → module_at profile input ≡ Ok m → (f ≢ ScriptFault.Memory → script_of script ≡ Err f) → (f ≢ ScriptFault.Memory → IsNoScript script) → (f ≢ ScriptFault.Memory → IsFaultOf script f)
+      → OnOk r (IsReport keep profile input script (outcome_of keep profile input script))
+  script_means (Ok p) m f other of read said none faulty =
       subst (IsReport keep profile input script) (sym (outcome_ran keep profile input script m (Err f) read (said other)))
-      (inr (m, of, inl (record { fault = f; none = none other; first = faulty other; out = refl; report = refl; status = refl })))
+      (inr (m, read_as m read of, inl (record { fault = f; none = none other; first = faulty other; out = refl; report = refl; status = refl })))
   script_means (Err e) m f other of read said none faulty = tt
 
   pub script_ok : (r : Result Prepared RunFault) (m : Parts) (f : ScriptFault) → IfOk r (IsPrepared (script_outcome f)) → OnOk r (f ≢ ScriptFault.Memory) → module_at profile input ≡ Ok m → (f ≢ ScriptFault.Memory → script_of script ≡ Err f) → IfOk r (IsPrepared (outcome_of keep profile input script))

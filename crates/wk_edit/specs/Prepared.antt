@@ -1,17 +1,37 @@
 -- An outcome before it is written.
-use Rattle.std.specs.Prelude.{◌≡◌, Option, Some, None, string_bytes}
+use Rattle.std.specs.Prelude.{◌≡◌, ◌↔◌, ℕ, true, List, [], Option, Some, None, Ok, string_bytes}
+use Rattle.wk_body.specs.declared.types.Profile.{Profile}
 use Rattle.wk_module.specs.declared.types.Parts.{Parts}
 use Rattle.wk_module.specs.Modules.{Spells}
+use Rattle.wk_module.specs.Reading.{module_at}
 use Rattle.wk_module.specs.Writing.{encoded}
+use Rattle.wk_check.specs.declared.fault.Verdict.TheVariants.{Valid}
+use Rattle.wk_check.specs.Verdict.{module_verdict}
+use Rattle.wk_edit.specs.declared.prepared.Made.{Made}
+use Rattle.wk_edit.specs.declared.prepared.Made.TheVariants.{Nothing, Session, Edited}
+use Rattle.wk_edit.specs.declared.prepared.Opened.{Opened}
+use Rattle.wk_edit.specs.declared.prepared.Opened.TheVariants.{Whole, Judged}
 use Rattle.wk_edit.specs.declared.prepared.Prepared.{Prepared}
-use Rattle.wk_edit.specs.Outcome.{Outcome}
+use Rattle.wk_edit.specs.Outcome.{Outcome, out_of}
 
-pub record IsPrepared (o : Outcome) (p : Prepared) : Type 0 where
-  pub session : p.session ≡ o.edited
-  pub report : string_bytes p.text ≡ o.report
-  pub status : p.status ≡ o.status
+-- the module, or bytes that spell it and whether it is valid
+abbrev pub IsOpened : Profile → Parts → Opened → Type 0
+IsOpened profile m (Whole s) = s ≡ m
+IsOpened profile m (Judged is_valid input) = (module_at profile input.items ≡ Ok m) × (is_valid ≡ true ↔ module_verdict m ≡ Valid)
+
+-- what is written of the module
+abbrev pub made_bytes : Made → List ℕ
+made_bytes Nothing = []
+made_bytes (Session m) = encoded m
+made_bytes (Edited bytes) = bytes
 
 -- the written form of a module spells it, and no other of its profile
 abbrev pub IsSpelled : Option Parts → Type 0
 IsSpelled None = Unit {0}
 IsSpelled (Some m) = Spells (encoded m) m × ((n : Parts) → n.profile ≡ m.profile → Spells (encoded m) n → n ≡ m)
+
+pub record IsPrepared (o : Outcome) (p : Prepared) : Type 0 where
+  pub made : made_bytes p.made ≡ out_of o
+  pub spelled : IsSpelled o.edited
+  pub report : string_bytes p.text ≡ o.report
+  pub status : p.status ≡ o.status

@@ -2,28 +2,53 @@
 ghost use Rattle.std.specs.Prelude.{◌≡◌, ◌-◌, ◌<◌, ◌^◌, IfOk, OnOk, IfErr};
 ghost use Rattle.std.specs.Io.KnownBytes.{Appends};
 ghost use Rattle.wk_session.specs.Written.{Leaves, failures_after_write};
-ghost use Rattle.wk_edit.specs.Outcome.{bytes_of, outcome_of, out_failures, report_failures, OnRun, OutTakes, ReportTakes};
-ghost use Rattle.wk_edit.specs.Prepared.{IsSpelled};
+ghost use Rattle.wk_edit.specs.Outcome.{Outcome, outcome_of, out_failures, report_failures, OnRun, OutTakes, ReportTakes};
+ghost use Rattle.wk_edit.specs.Prepared.{IsPrepared, made_bytes};
 ghost use Rattle.wk_edit.specs.Theorem.{IsReport};
 
 use crate::fault::{RunFault, Status};
-use crate::prepared::{Prepared, prepare};
+use crate::prepared::{Made, Prepared, prepare};
 use std::alloc::Global;
 use wk_bytes::{Out, OutFault, put_all};
 use wk_module::Profile;
-use wk_session::{Session, WriteFault};
+use wk_session::WriteFault;
 
 // Writes the edited module, if there is one.
-fn write_edited<W: Out>(session: &Option<Session>, out: &mut W) -> Result<(), WriteFault>
+fn write_edited<W: Out>(made: &Made, out: &mut W) -> Result<(), WriteFault>
     requires { W.failed out.old < 2 ^ 64 - 1 }
-    ensures ok { OnOk result (Appends (W.taken out.old) (W.taken out.new) (bytes_of session.now)) }
-    ensures err { IfErr result (Leaves (W.taken out.old) (W.taken out.new) (bytes_of session.now)) }
+    ensures ok { OnOk result (Appends (W.taken out.old) (W.taken out.new) (made_bytes made.now)) }
+    ensures err { IfErr result (Leaves (W.taken out.old) (W.taken out.new) (made_bytes made.now)) }
     ensures failures { W.failed out.new ≡ failures_after_write (W.failed out.old) result }
-    ensures spelled { IsSpelled session.now }
 {
-    match session {
-        Some(session) => session.write(out),
-        None => Ok(()),
+    match made {
+        Made::Nothing => Ok(()),
+        Made::Session(session) => session.write(out),
+        Made::Edited(edited) => edited.write(out),
+    }
+}
+
+// Writes what was prepared: the module, and behind it the report.
+fn put_prepared<W: Out, X: Out>(
+    prepared: &Prepared,
+    out: &mut W,
+    report: &mut X,
+) -> Result<Status, RunFault>
+    requires out { W.failed out.old < 2 ^ 64 - 1 }
+    requires report { X.failed report.old < 2 ^ 64 - 1 }
+    ensures status { (o : Outcome) → IsPrepared o prepared.now → IfOk result (λ status. status ≡ o.status) }
+    ensures out { (o : Outcome) → IsPrepared o prepared.now → OutTakes (W.taken out.old) (W.taken out.new) o result }
+    ensures report { (o : Outcome) → IsPrepared o prepared.now → ReportTakes (X.taken report.old) (X.taken report.new) o result }
+    ensures out_failures { W.failed out.new ≡ out_failures (W.failed out.old) result }
+    ensures report_failures { X.failed report.new ≡ report_failures (X.failed report.old) result }
+{
+    match write_edited(&prepared.made, out) {
+        Ok(()) => {}
+        Err(WriteFault::Write) => return Err(RunFault::Out),
+        Err(WriteFault::Memory) => return Err(RunFault::Memory),
+    }
+    match put_all(report, prepared.text.as_bytes()) {
+        Ok(()) => Ok(prepared.status),
+        Err(OutFault) => Err(RunFault::Report),
     }
 }
 
@@ -31,7 +56,7 @@ fn write_edited<W: Out>(session: &Option<Session>, out: &mut W) -> Result<(), Wr
 /// report to `report`. Where `keep_valid` says so, an edit that would leave an invalid module is refused.
 ///
 /// The module is read first, then the script, and all is computed before the first byte is written. The bytes of the module
-/// are let go once it is read. A module or a script that cannot be read gives a report of one line and no module. Want of
+/// are let go before that. A module or a script that cannot be read gives a report of one line and no module. Want of
 /// memory, also where an edit met it, is `Memory`, and then nothing was written. `Out` and `Report` come only where that
 /// output failed.
 pub fn edit_owned<W: Out, X: Out>(
@@ -53,20 +78,8 @@ pub fn edit_owned<W: Out, X: Out>(
     // The outcome is what the grammar, the edits and the verdict say, and what is written spells the edited module and no other.
     ensures means { OnRun result (IsReport keep_valid profile input.items script.now (outcome_of keep_valid profile input.items script.now)) }
 {
-    let Prepared {
-        session,
-        text,
-        status,
-    } = prepare(alloc, input, script, keep_valid, profile)?;
-    match write_edited(&session, out) {
-        Ok(()) => {}
-        Err(WriteFault::Write) => return Err(RunFault::Out),
-        Err(WriteFault::Memory) => return Err(RunFault::Memory),
-    }
-    match put_all(report, text.as_bytes()) {
-        Ok(()) => Ok(status),
-        Err(OutFault) => Err(RunFault::Report),
-    }
+    let prepared = prepare(alloc, input, script, keep_valid, profile)?;
+    put_prepared(&prepared, out, report)
 }
 
 /// Edits a module whose bytes are lent, as [`edit_owned`] does: they are copied.

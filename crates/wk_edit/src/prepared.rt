@@ -1,26 +1,54 @@
 //! An outcome that is computed whole before any of it is written.
-ghost use Rattle.std.specs.Prelude.{◌≡◌, ◌≢◌, Err, IfOk, IfErr, OnOk, false};
+ghost use Rattle.std.specs.Prelude.{◌≡◌, ◌≢◌, Bool, true, Ok, List, IfOk, IfErr, IfSome, MatchResult, OnOk};
 ghost use Rattle.std.specs.List.{list_all, list_any};
+ghost use Rattle.wk_module.specs.declared.types.Parts.{Parts as PartsOf};
+ghost use Rattle.wk_body.specs.Reads.{FailsAs};
+ghost use Rattle.wk_module.specs.ListReading.{IsReading};
+ghost use Rattle.wk_module.specs.Reading.{module_at};
+ghost use Rattle.wk_check.specs.Verdict.{module_verdict};
+ghost use Rattle.wk_session.specs.declared.edit.Edit.{Edit as EditOf};
 ghost use Rattle.wk_session.specs.declared.edit.EditFault.{EditFault};
 ghost use Rattle.wk_session.specs.Runs.{is_memory, replies_of, after, refused_for_memory};
+ghost use Rattle.wk_draft.specs.Runs.{IsRun};
 ghost use Rattle.wk_edit.specs.Outcome.{is_accepted, is_valid, malformed_outcome, outcome_of, run_outcome, run_status, script_outcome};
-ghost use Rattle.wk_edit.specs.Prepared.{IsPrepared, IsSpelled};
+ghost use Rattle.wk_edit.specs.Prepared.{IsOpened, IsPrepared};
 ghost use Rattle.wk_edit.specs.Theorem.{IsReport};
 
 use crate::fault::{RunFault, ScriptFault, Status};
 use crate::lines::{malformed_line, refused_script, report};
 use crate::script::read_script;
 use std::alloc::Global;
-use wk_bytes::{OutOfMemory, ReadFault, ReadKind};
+use wk_bytes::{OutOfMemory, RawSection, ReadFault, ReadKind, Sections};
 use wk_check::Verdict;
-use wk_module::{Profile, reading_of_code};
+use wk_draft::{Edited, Run, edit_valid, is_valid};
+use wk_list::Shape;
+use wk_module::{
+    Profile, one_module, reading_of_code, reading_of_module, written_form_of_module,
+};
 use wk_session::{Edit, EditFault, Reply, Session};
+
+/// The id of the code section (5.5.13).
+const CODES: u8 = 10;
+
+/// Codes of fewer bytes on the average, their sizes with them, take no longer than stubs.
+const LEAST: usize = 16;
+
+/// The edited module, if there is one.
+#[derive(Drop)]
+pub(crate) enum Made {
+    /// None.
+    Nothing,
+    /// In a session over it.
+    Session(Session),
+    /// As it is to be written.
+    Edited(Edited),
+}
 
 /// What is to be written.
 #[derive(Drop)]
 pub(crate) struct Prepared {
-    /// The edited module, if there is one.
-    pub session: Option<Session>,
+    /// The edited module.
+    pub made: Made,
     /// The report.
     pub text: String,
     /// How the run ends.
@@ -37,7 +65,7 @@ fn of_malformed(alloc: Global, fault: &ReadFault) -> Result<Prepared, RunFault>
         return Err(RunFault::Memory);
     }
     Ok(Prepared {
-        session: None,
+        made: Made::Nothing,
         text: malformed_line(alloc, fault)?,
         status: Status::Malformed,
     })
@@ -53,7 +81,7 @@ fn of_script(alloc: Global, fault: &ScriptFault) -> Result<Prepared, RunFault>
         return Err(RunFault::Memory);
     }
     Ok(Prepared {
-        session: None,
+        made: Made::Nothing,
         text: refused_script(alloc, fault)?,
         status: Status::BadScript,
     })
@@ -112,21 +140,167 @@ fn of_run(
     ensures ok { IfOk result (IsPrepared (run_outcome keep_valid session edits.now)) }
     ensures memory { IfErr result (λ e. e ≡ RunFault.Memory) }
 {
+    // The proof asks what these say: the written form of a module spells it, and no other.
+    written_form_of_module();
+    one_module();
     let mut session = session;
     let replies = make_edits(&mut session, edits, keep_valid)?;
     if has_memory(&replies) {
         return Err(RunFault::Memory);
     }
+    // The proof asks what this says: the module is shaped and fits.
+    let _parts = session.parts();
     let text = report(alloc, &replies, session.verdict())?;
     let status = status_of(&replies, session.verdict());
     Ok(Prepared {
-        session: Some(session),
+        made: Made::Session(session),
         text,
         status,
     })
 }
 
-/// Reads the module, lets its bytes go, reads the script, makes the edits, and puts the report together.
+// Of a run of edits of which the untouched bodies stayed bytes.
+fn of_draft(alloc: Global, run: Run) -> Result<Prepared, RunFault>
+    ensures ok { (keep : Bool) (m : PartsOf) (edits : List EditOf) → IsRun keep m edits run
+        → IfOk result (IsPrepared (run_outcome keep m edits)) }
+    ensures memory { IfErr result (λ e. e ≡ RunFault.Memory) }
+{
+    // The proof asks what these say: the written form of a module spells it, and no other.
+    written_form_of_module();
+    one_module();
+    let Run {
+        edited,
+        verdict,
+        replies,
+    } = run;
+    Ok(Prepared {
+        made: Made::Edited(edited),
+        text: report(alloc, &replies, &verdict)?,
+        status: status_of(&replies, &verdict),
+    })
+}
+
+// Makes the edits on a module that was judged, where it is valid, with its untouched bodies as bytes; or does not, and the module is to be
+// held whole.
+fn drafted(
+    alloc: Global,
+    is_valid: bool,
+    input: &[u8],
+    edits: &[Edit],
+    keep_valid: bool,
+    profile: Profile,
+) -> Result<Option<Prepared>, RunFault>
+    requires { is_valid ≡ true → (m : PartsOf) × (module_at profile input.now ≡ Ok m) × (module_verdict m ≡ Verdict.Valid) }
+    ensures ok { (m : PartsOf) → module_at profile input.now ≡ Ok m
+        → IfOk result (λ r. IfSome r (IsPrepared (run_outcome keep_valid m edits.now))) }
+    ensures memory { IfErr result (λ e. e ≡ RunFault.Memory) }
+{
+    if !is_valid {
+        return Ok(None);
+    }
+    match edit_valid(alloc, input, profile, edits, keep_valid)? {
+        Some(run) => Ok(Some(of_draft(alloc, run)?)),
+        None => Ok(None),
+    }
+}
+
+// Makes the edits on a module that is held whole. Its bytes are let go once it is read.
+fn by_session(
+    alloc: Global,
+    input: Vec<u8>,
+    edits: &[Edit],
+    keep_valid: bool,
+    profile: Profile,
+) -> Result<Prepared, RunFault>
+    requires { (m : PartsOf) × (module_at profile input.items ≡ Ok m) }
+    ensures ok { (m : PartsOf) → module_at profile input.items ≡ Ok m
+        → IfOk result (IsPrepared (run_outcome keep_valid m edits.now)) }
+    ensures memory { IfErr result (λ e. e ≡ RunFault.Memory) }
+{
+    let opened = Session::open_in(alloc, &input, profile);
+    drop(input);
+    match opened {
+        Ok(session) => of_run(alloc, session, edits, keep_valid),
+        Err(fault) if fault.kind == ReadKind::Memory => Err(RunFault::Memory),
+        // The bytes spell a module.
+        Err(_) => unreachable!(),
+    }
+}
+
+/// A module that was read.
+#[derive(Drop)]
+pub(crate) enum Opened {
+    /// It is held whole.
+    Whole(Session),
+    /// It is judged, and still to be held.
+    Judged {
+        /// Whether it is valid.
+        is_valid: bool,
+        /// Its bytes.
+        input: Vec<u8>,
+    },
+}
+
+// Whether codes have more than so many bytes on the average.
+fn are_long(codes: &RawSection<'_>) -> bool {
+    match codes.cursor().u32() {
+        Ok(count) => codes.contents.len() / LEAST > count as usize,
+        Err(_) => false,
+    }
+}
+
+// Whether the bodies are so long that a draft is worth its stubs. What comes of the edits is the same where it is not.
+fn is_worth_draft(input: &[u8]) -> bool {
+    for section in Sections::new(input) {
+        match section {
+            Ok(section) if section.id == CODES => return are_long(&section),
+            Ok(_) => {}
+            Err(_) => return false,
+        }
+    }
+    false
+}
+
+// Reads a module: judges it where a draft may serve, and else holds it whole and lets its bytes go.
+fn open(alloc: Global, input: Vec<u8>, profile: Profile) -> Result<Opened, ReadFault>
+    ensures exact { MatchResult result
+        (λ opened. (m : PartsOf) × (module_at profile input.items ≡ Ok m) × IsOpened profile m opened)
+        (λ e. FailsAs e e.kind (module_at profile input.items)) }
+    ensures is { IsReading profile input.items (module_at profile input.items) }
+{
+    // The proof asks what this says: what is read is what the grammar spells.
+    reading_of_module(&input, profile);
+    if is_worth_draft(&input) {
+        let is_valid = is_valid(alloc, &input, profile)?;
+        return Ok(Opened::Judged { is_valid, input });
+    }
+    Ok(Opened::Whole(Session::open_in(alloc, &input, profile)?))
+}
+
+// Makes the edits on a module that was read.
+fn run_edits(
+    alloc: Global,
+    opened: Opened,
+    edits: &[Edit],
+    keep_valid: bool,
+    profile: Profile,
+) -> Result<Prepared, RunFault>
+    requires { (m : PartsOf) × IsOpened profile m opened }
+    ensures ok { (m : PartsOf) → IsOpened profile m opened → IfOk result (IsPrepared (run_outcome keep_valid m edits.now)) }
+    ensures memory { IfErr result (λ e. e ≡ RunFault.Memory) }
+{
+    let (is_valid, input) = match opened {
+        Opened::Whole(session) => return of_run(alloc, session, edits, keep_valid),
+        Opened::Judged { is_valid, input } => (is_valid, input),
+    };
+    match drafted(alloc, is_valid, &input, edits, keep_valid, profile)? {
+        Some(prepared) => Ok(prepared),
+        None => by_session(alloc, input, edits, keep_valid, profile),
+    }
+}
+
+/// Reads the module, then the script, makes the edits, and puts the report together. The bytes of the module are let go before
+/// anything is written.
 pub(crate) fn prepare(
     alloc: Global,
     input: Vec<u8>,
@@ -135,20 +309,18 @@ pub(crate) fn prepare(
     profile: Profile,
 ) -> Result<Prepared, RunFault>
     ensures ok { IfOk result (IsPrepared (outcome_of keep_valid profile input.items script.now)) }
-    ensures means { OnOk result (IsSpelled (outcome_of keep_valid profile input.items script.now).edited
-        → IsReport keep_valid profile input.items script.now (outcome_of keep_valid profile input.items script.now)) }
+    ensures means { OnOk result (IsReport keep_valid profile input.items script.now
+        (outcome_of keep_valid profile input.items script.now)) }
     ensures memory { IfErr result (λ e. e ≡ RunFault.Memory) }
 {
     // The proof asks what this says: what code that is refused spells, and where its fault stands.
     reading_of_code();
-    let opened = Session::open_in(alloc, &input, profile);
-    drop(input);
-    let session = match opened {
-        Ok(session) => session,
+    let opened = match open(alloc, input, profile) {
+        Ok(opened) => opened,
         Err(fault) => return of_malformed(alloc, &fault),
     };
     match read_script(alloc, script) {
-        Ok(edits) => of_run(alloc, session, &edits, keep_valid),
+        Ok(edits) => run_edits(alloc, opened, &edits, keep_valid, profile),
         Err(fault) => of_script(alloc, &fault),
     }
 }

@@ -8,7 +8,7 @@ use std::test::Fail;
 use wk_bytes::{OutOfMemory, ReadFault, ReadKind, Sink};
 use wk_check::{Fault, FaultKind, Place, Verdict};
 use wk_edit::read_script;
-use wk_module::{Profile, Ref};
+use wk_module::{Profile, Ref, read_in};
 use wk_session::{Edit, Reply, Session};
 
 // The bytes that a session writes.
@@ -18,8 +18,8 @@ fn written(alloc: Global, session: &Session) -> Option<Vec<u8>> {
     Some(out.into_inner())
 }
 
-// Whether a session has this verdict, and is measured and written as these bytes.
-fn says(alloc: Global, session: &Session, whole: &[u8], verdict: Verdict) -> bool {
+/// Whether a session has this verdict, and is measured and written as these bytes.
+pub(crate) fn says(alloc: Global, session: &Session, whole: &[u8], verdict: Verdict) -> bool {
     let is_judged = *session.verdict() == verdict;
     let is_measured = session.encoded_len() as usize == whole.len();
     match written(alloc, session) {
@@ -39,6 +39,17 @@ pub(crate) fn open(alloc: Global, profile: Profile, bytes: &[u8]) -> Result<Sess
 // Whether a module is opened with this verdict, and written as these bytes.
 fn opens_as(alloc: Global, profile: Profile, bytes: &[u8], whole: &[u8], verdict: Verdict) -> bool {
     match open(alloc, profile, bytes) {
+        Ok(session) => says(alloc, &session, whole, verdict),
+        Err(_) => false,
+    }
+}
+
+// Whether a session over the module that was read says the same.
+fn is_over(alloc: Global, profile: Profile, bytes: &[u8], whole: &[u8], verdict: Verdict) -> bool {
+    let Ok(module) = read_in(alloc, bytes, profile) else {
+        return false;
+    };
+    match Session::of(alloc, module) {
         Ok(session) => says(alloc, &session, whole, verdict),
         Err(_) => false,
     }
@@ -95,7 +106,8 @@ static OPENED: [Opened; 9] = [
 // The first module that is opened otherwise.
 fn wrong_opened(alloc: Global) -> Option<&'static [u8]> {
     for (profile, bytes, whole, verdict) in &OPENED {
-        if !opens_as(alloc, *profile, bytes, whole, *verdict) {
+        let is_opened = opens_as(alloc, *profile, bytes, whole, *verdict);
+        if !is_opened || !is_over(alloc, *profile, bytes, whole, *verdict) {
             return Some(*bytes);
         }
     }
@@ -205,7 +217,8 @@ fn edits_of(alloc: Global, steps: &[Step]) -> Option<Vec<Edit>> {
     read_script(alloc, &script_of(alloc, steps)?).ok()
 }
 
-fn run(session: &mut Session, keep: bool, edits: &[Edit]) -> Result<Vec<Reply>, OutOfMemory> {
+/// What edits are answered.
+pub(crate) fn run(session: &mut Session, keep: bool, edits: &[Edit]) -> Result<Vec<Reply>, OutOfMemory> {
     if keep {
         session.run_kept(edits)
     } else {

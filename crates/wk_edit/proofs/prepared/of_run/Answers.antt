@@ -5,7 +5,7 @@ use Rattle.wk_session.specs.declared.edit.EditFault.{EditFault}
 use Rattle.wk_session.specs.Runs.{is_memory}
 use Rattle.wk_edit.specs.Outcome.{run_status}
 use Rattle.wk_edit.specs.ReportText.{report_text}
-use Rattle.wk_edit.proofs.OutcomeLemmas.{ran_session, ran_report, ran_status}
+use Rattle.wk_edit.proofs.OutcomeLemmas.{ran_made, ran_spelled, ran_report, ran_status, spelled_once}
 use Rattle.wk_edit.proofs.prepared.of_run.Goals as goal
 
 pub returns-clause-ok : goal.returns-clause-ok
@@ -18,10 +18,12 @@ returns-clause-ok c =
     let none : list_any is_memory rs ≡ false = ap (list_any is_memory) (sym c.deref.ensures.value) ∙ sym c.has_memory.ensures ∙ c.if-has_memory.false in
     let replies = c.in_ok-replies.ensures.replies in
     let module_is = c.in_ok-replies.ensures.module_is in
+    let own = spelled_once c.written_form_of_module.ensures.spells c.one_module.ensures.one n c.parts-parts.ensures.shaped c.parts-parts.ensures.fits in
     let text = c.in_ok-text.ensures ∙ ap (λ (r : List (Result Work EditFault)). report_text 1 r c.verdict.result.now) c.deref-2.ensures.value in
     let status = c.status_of-status.ensures ∙ ap (λ (r : List (Result Work EditFault)). run_status r c.verdict-2.result.now) c.deref-3.ensures.value in
     record {
-      session = ran_session keep m n es rs c.verdict.result.now none replies module_is c.verdict.ensures;
+      made = ran_made keep m n es rs c.verdict.result.now none replies module_is c.verdict.ensures;
+      spelled = ran_spelled keep m n es rs c.verdict.result.now none replies module_is c.verdict.ensures own;
       report = ran_report keep m n es rs c.verdict.result.now none replies module_is c.verdict.ensures _ text;
       status = ran_status keep m n es rs c.verdict-2.result.now none replies module_is c.verdict-2.ensures _ status;
     }

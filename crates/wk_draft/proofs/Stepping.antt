@@ -1,0 +1,98 @@
+-- One edit of a draft that is held: what it answers is what the module would, and the draft that is left is that of what the module comes to.
+use Rattle.std.proofs.Common.{◌≡◌, ◌≢◌, ℕ, ◌+◌, ◌≤◌, Bool, false, List, length, Result, Ok, Err, refl, sym, ap, subst, ◌∙◌}
+use Rattle.wk_bytes.specs.Frames.{limit}
+use Rattle.wk_body.specs.declared.shifts.Shifts.{Shifts}
+use Rattle.wk_module.specs.declared.types.Func.{Func}
+use Rattle.wk_module.specs.declared.types.Parts.{Parts}
+use Rattle.wk_module.specs.Shape.{IsShaped, IsInOrderFrom}
+use Rattle.wk_module.specs.Writing.{encoded, Fits}
+use Rattle.wk_session.specs.declared.edit.Edit.{Edit}
+use Rattle.wk_session.specs.declared.edit.EditFault.{EditFault}
+use Rattle.wk_session.specs.declared.edit.EditFault.TheVariants.{NoSuchFunction, NoSuchExport, NoSuchCustom, IndexOverflow, TooLarge, BadBytes, WouldBreak, Memory}
+use Rattle.wk_session.specs.declared.edit.Work.{Work}
+use Rattle.wk_session.specs.Edits.{made}
+use Rattle.wk_session.specs.Runs.{after_one, is_memory, left_by, reply_of, reply_to}
+use Rattle.wk_draft.specs.declared.draft.Draft.{Draft}
+use Rattle.wk_draft.specs.Drafts.{IsDraft, aside_room}
+use Rattle.wk_draft.specs.Runs.{IsAlike, IsHeld, IsStepped}
+use Rattle.wk_draft.specs.Steps.{Follows, IsSure, marks_after, shifts_after}
+use Rattle.wk_draft.proofs.DraftLengths.{draft_fits}
+
+-- ---- what a reply tells of the outcome
+
+accepted_by : (e : Edit) (d : Parts) (r : Result Parts EditFault) (w : Work) → Ok w ≡ reply_to e d r → r ≡ Ok (left_by d r)
+accepted_by e d (Ok n) w is = refl
+accepted_by e d (Err f) w is = absurd cc
+
+refused_by : (e : Edit) (d : Parts) (r : Result Parts EditFault) (f : EditFault) → Err f ≡ reply_to e d r → (r ≡ Err f) × (left_by d r ≡ d)
+refused_by e d (Ok n) f is = absurd cc
+refused_by e d (Err g) f is = (cc, refl)
+
+unforgotten : (keep : Bool) (e : Edit) (d : Parts) (f : EditFault) → f ≢ Memory → Err f ≡ reply_of keep e (is_memory (Err f)) d → Err f ≡ reply_of keep e false d
+unforgotten keep e d NoSuchFunction other is = is
+unforgotten keep e d NoSuchExport other is = is
+unforgotten keep e d NoSuchCustom other is = is
+unforgotten keep e d IndexOverflow other is = is
+unforgotten keep e d TooLarge other is = is
+unforgotten keep e d (BadBytes b) other is = is
+unforgotten keep e d (WouldBreak b) other is = is
+unforgotten keep e d Memory other is = absurd (other refl)
+
+unforgotten_left : (keep : Bool) (e : Edit) (d n : Parts) (f : EditFault) → f ≢ Memory → n ≡ after_one keep e (is_memory (Err f)) d → n ≡ after_one keep e false d
+unforgotten_left keep e d n NoSuchFunction other is = is
+unforgotten_left keep e d n NoSuchExport other is = is
+unforgotten_left keep e d n NoSuchCustom other is = is
+unforgotten_left keep e d n IndexOverflow other is = is
+unforgotten_left keep e d n TooLarge other is = is
+unforgotten_left keep e d n (BadBytes b) other is = is
+unforgotten_left keep e d n (WouldBreak b) other is = is
+unforgotten_left keep e d n Memory other is = absurd (other refl)
+
+-- what is sure is no want of memory
+pub sure_other : (e : Edit) (n : ℕ) (f : EditFault) → IsSure e n f → f ≢ Memory
+sure_other e n NoSuchFunction sure = λ same. absurd cc
+sure_other e n NoSuchExport sure = λ same. absurd cc
+sure_other e n NoSuchCustom sure = λ same. absurd cc
+sure_other e n IndexOverflow sure = λ same. absurd cc
+sure_other e n TooLarge sure = absurd sure
+sure_other e n (BadBytes b) sure = λ same. absurd cc
+sure_other e n (WouldBreak b) sure = λ same. absurd cc
+sure_other e n Memory sure = absurd sure
+
+-- ---- the step
+
+module _ (keep : Bool) (e : Edit) (os : List Func) (m : Parts) (old new : Draft) (held : IsHeld os m old)
+    (follows : Follows keep e old.shifts os old.marks.items m old.session (made keep e old.session)) where
+  -- what the accepted edit makes of the module
+  pub stepped : (w : Work) → Ok w ≡ reply_of keep e false old.session → new.session ≡ after_one keep e false old.session
+      → IsShaped new.session → length (encoded new.session) + aside_room os ≤ limit
+      → new.shifts ≡ shifts_after e old.shifts → new.marks.items ≡ marks_after e old.session old.marks.items
+      → IsStepped keep e os m (Ok w) new
+  stepped w replied is shaped room shifts marks =
+      let r = made keep e old.session in
+      let makes : r ≡ Ok new.session = accepted_by e old.session r w replied ∙ ap (λ (n : Parts). let q : Result Parts EditFault = Ok n in q) (sym is) in
+      let led = subst (Follows keep e old.shifts os old.marks.items m old.session) makes follows shaped room in
+      let p = led.0 in
+      let comes : made keep e m ≡ Ok p = led.1 in
+      let drafted : IsDraft new.shifts os new.marks.items p new.session =
+      subst (λ (t : Shifts). IsDraft t os new.marks.items p new.session) (sym shifts)
+      (subst (λ (ms : List Bool). IsDraft (shifts_after e old.shifts) os ms p new.session) (sym marks) led.2) in
+      let same_customs : new.session.customs ≡ p.customs = ap (λ (q : Parts). q.customs) drafted.sketch.rest in
+      let fits : Fits p = draft_fits new.shifts os new.marks.items p new.session drafted.sketch (subst (IsInOrderFrom 0) same_customs shaped.formed.order) room in
+      let stands : IsHeld os p new = record { draft = drafted; fits = fits } in
+      subst (λ (q : Result Parts EditFault). IsHeld os (left_by m q) new × IsAlike (Ok w) (reply_to e m q)) (sym comes) (stands, tt)
+
+  pub refused : (f : EditFault) → f ≢ Memory → Err f ≡ reply_of keep e (is_memory (Err f)) old.session → new.session ≡ after_one keep e (is_memory (Err f)) old.session
+      → IsSure e (length (encoded old.session) + aside_room os) f → new.shifts ≡ old.shifts → new.marks.items ≡ old.marks.items
+      → IsStepped keep e os m (Err f) new
+  refused f other replied is sure shifts marks =
+      let r = made keep e old.session in
+      let told = refused_by e old.session r f (unforgotten keep e old.session f other replied) in
+      let comes : made keep e m ≡ Err f = subst (Follows keep e old.shifts os old.marks.items m old.session) told.0 follows sure in
+      let same : new.session ≡ old.session = unforgotten_left keep e old.session new.session f other is ∙ told.1 in
+      let drafted : IsDraft new.shifts os new.marks.items m new.session =
+      subst (λ (t : Shifts). IsDraft t os new.marks.items m new.session) (sym shifts)
+      (subst (λ (ms : List Bool). IsDraft old.shifts os ms m new.session) (sym marks)
+      (subst (IsDraft old.shifts os old.marks.items m) (sym same) held.draft)) in
+      let stands : IsHeld os m new = record { draft = drafted; fits = held.fits } in
+      subst (λ (q : Result Parts EditFault). IsHeld os (left_by m q) new × IsAlike (Err f) (reply_to e m q)) (sym comes) (stands, refl)

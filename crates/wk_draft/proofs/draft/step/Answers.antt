@@ -1,0 +1,45 @@
+use Rattle.std.proofs.Common.{◌≡◌, ◌+◌, ◌≤◌, ℕ, refl, sym, ap, subst, ◌∙◌, length, arith}
+use Rattle.wk_module.specs.declared.types.Parts.{Parts}
+use Rattle.wk_module.specs.Writing.{encoded}
+use Rattle.wk_draft.specs.declared.draft.Draft.{Draft}
+use Rattle.wk_draft.specs.Drafts.{aside_room}
+use Rattle.wk_draft.specs.Steps.{IsSure, marks_after}
+use Rattle.wk_draft.proofs.CodeLengths.{CodeIsLeast}
+use Rattle.wk_draft.proofs.Following.{follows}
+use Rattle.wk_draft.proofs.Stepping.{stepped, refused, sure_other}
+use Rattle.wk_draft.proofs.draft.step.Goals as goal
+
+pub returns-else-not-has_room : goal.returns-else-not-has_room
+returns-else-not-has_room c = λ os m room held.
+    let e = c.args.edit.now in
+    let old = c.args.draft.now in
+    let new : Draft = record { session = c.apply.new.session; marks = c.unmark.new.marks; shifts = c.in-Some.shifts } in
+    let laws = c.verdicts_that_keep.ensures in
+    let least : CodeIsLeast = record {
+      body = c.reading_of_code.ensures.body;
+      expr = c.reading_of_code.ensures.all_expr;
+      least_body = c.written_form_of_code.ensures.least_body;
+      least_expr = c.written_form_of_code.ensures.least_expr;
+    } in
+    let told = follows laws.frame laws.moved laws.there c.moving_of_module.ensures.formed least c.args.keep old.shifts os old.marks.items m old.session held.draft c.parts.ensures.shaped held.fits e c.bytes_of_edit.ensures in
+    let within = c.if-not-has_room.ensures refl in
+    let fits : length (encoded c.apply.new.session) + aside_room os ≤ _ = omega (arith, within, c.encoded_len.ensures.value, room) in
+    let marks = c.unmark.ensures ∙ sym (c.replaced-entry.ensures old.marks.items) ∙ ap (λ (d : Parts). marks_after e d old.marks.items) c.parts.ensures.value in
+    stepped c.args.keep e os m old new held told c.in-Ok.work c.in-Ok.ensures.reply c.in-Ok.ensures.module_is c.parts-parts.ensures.shaped fits c.in-Some.ensures marks
+
+pub returns-in-Err : goal.returns-in-Err
+returns-in-Err c = λ os m room held.
+    let e = c.args.edit.now in
+    let old = c.args.draft.now in
+    let new : Draft = record { session = c.apply.new.session; marks = old.marks; shifts = old.shifts } in
+    let laws = c.verdicts_that_keep.ensures in
+    let least : CodeIsLeast = record {
+      body = c.reading_of_code.ensures.body;
+      expr = c.reading_of_code.ensures.all_expr;
+      least_body = c.written_form_of_code.ensures.least_body;
+      least_expr = c.written_form_of_code.ensures.least_expr;
+    } in
+    let told = follows laws.frame laws.moved laws.there c.moving_of_module.ensures.formed least c.args.keep old.shifts os old.marks.items m old.session held.draft c.parts.ensures.shaped held.fits e c.bytes_of_edit.ensures in
+    let size : c.encoded_len-len.result + c.args.room ≡ length (encoded old.session) + aside_room os = omega (arith, c.encoded_len-len.ensures.value, room) in
+    let sure = subst (λ (n : ℕ). IsSure e n c.in-Err.fault) size (c.if-is_sure.ensures refl) in
+    refused c.args.keep e os m old new held told c.in-Err.fault (sure_other e _ c.in-Err.fault sure) c.in-Err.ensures.reply c.in-Err.ensures.module_is sure refl refl

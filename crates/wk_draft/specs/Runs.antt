@@ -1,0 +1,78 @@
+-- What edits make of a draft, beside what they make of the module.
+use Rattle.std.specs.Prelude.{◌≡◌, ℕ, Bool, true, false, Option, Some, None, List, [], ◌∷◌, map, Result, Ok, Err}
+use Rattle.std.specs.List.{AllByRecursion}
+use Rattle.wk_body.specs.declared.types.Profile.{Profile}
+use Rattle.wk_body.specs.Shifts.{shifted_body}
+use Rattle.wk_body.specs.declared.shifts.Shifts.{Shifts}
+use Rattle.wk_body.specs.Written.{written_body}
+use Rattle.wk_module.specs.declared.types.Func.{Func}
+use Rattle.wk_module.specs.declared.types.Kind.TheVariants as kinds
+use Rattle.wk_module.specs.declared.types.Parts.{Parts}
+use Rattle.wk_module.specs.Imports.{import_count}
+use Rattle.wk_module.specs.Items.{IsCode}
+use Rattle.wk_module.specs.Shape.{IsShaped}
+use Rattle.wk_module.specs.Writing.{encoded, Fits}
+use Rattle.wk_check.specs.Verdict.{module_verdict}
+use Rattle.wk_session.specs.declared.edit.Edit.{Edit}
+use Rattle.wk_session.specs.declared.edit.EditFault.{EditFault}
+use Rattle.wk_session.specs.declared.edit.Work.{Work}
+use Rattle.wk_session.specs.Pieces.{code_of}
+use Rattle.wk_session.specs.Runs.{after, after_one, replies_of, reply_of}
+use Rattle.wk_draft.specs.declared.draft.Draft.{Draft}
+use Rattle.wk_draft.specs.declared.run.Run.{Run}
+use Rattle.wk_draft.specs.Drafts.{IsDraft}
+
+-- ---- replies
+
+-- the same, but for the work that an accepted edit took
+abbrev pub IsAlike : Result Work EditFault → Result Work EditFault → Type 0
+IsAlike (Ok v) (Ok w) = Unit {0}
+IsAlike (Err f) (Err g) = f ≡ g
+IsAlike _ _ = ⊥
+
+abbrev pub AreAlike : List (Result Work EditFault) → List (Result Work EditFault) → Type 0
+AreAlike [] [] = Unit {0}
+AreAlike (r ∷ rs) (q ∷ qs) = IsAlike r q × AreAlike rs qs
+AreAlike _ _ = ⊥
+
+-- ---- where references stand before any edit
+
+pub record IsFirst (m : Parts) (s : Shifts) : Type 0 where
+  pub funcs_from : s.funcs_from ≡ import_count kinds.Func m.imports
+  pub funcs_by : s.funcs_by ≡ 0
+  pub globals_from : s.globals_from ≡ import_count kinds.Global m.imports
+  pub globals_by : s.globals_by ≡ 0
+
+-- ---- a draft that is held, and a step of it
+
+-- m is a module that fits, and d is held as its draft
+pub record IsHeld (os : List Func) (m : Parts) (d : Draft) : Type 0 where
+  pub draft : IsDraft d.shifts os d.marks.items m d.session
+  pub fits : Fits m
+
+-- the edit leaves the draft of what it makes of the module, and was answered as the module would answer it
+abbrev pub IsStepped : Bool → Edit → List Func → Parts → Result Work EditFault → Draft → Type 0
+IsStepped keep e os m reply d = IsHeld os (after_one keep e false m) d × IsAlike reply (reply_of keep e false m)
+
+-- ---- the codes of bodies that stand aside, where their references stand now, and nothing in the place of any other
+
+abbrev pub aside_codes : Shifts → List Func → List Bool → List (Option (List ℕ))
+aside_codes s (o ∷ os) (true ∷ marks) = Some (written_body (shifted_body s o.body)) ∷ aside_codes s os marks
+aside_codes s (o ∷ os) (false ∷ marks) = None ∷ aside_codes s os marks
+aside_codes s _ _ = []
+
+-- the bodies of os, which stand aside in d, have these codes
+pub record IsReady (profile : Profile) (os : List Func) (m : Parts) (codes : List (List ℕ)) (d : Draft) : Type 0 where
+  pub codes_are : codes ≡ map code_of os
+  pub valid : AllByRecursion (λ o. IsCode profile o.body) os
+  pub held : IsHeld os m d
+
+-- ---- a run
+
+-- what the edits make of m, where none is refused for want of memory
+pub record IsRun (keep : Bool) (m : Parts) (edits : List Edit) (r : Run) : Type 0 where
+  pub edited : r.edited ≡ encoded (after keep edits [] m)
+  pub shaped : IsShaped (after keep edits [] m)
+  pub fits : Fits (after keep edits [] m)
+  pub verdict : r.verdict ≡ module_verdict (after keep edits [] m)
+  pub replies : AreAlike r.replies.items (replies_of keep edits [] m)

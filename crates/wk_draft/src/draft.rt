@@ -1,0 +1,128 @@
+//! A draft of a module, and one edit of it.
+
+ghost use Rattle.std.specs.Prelude.{◌≡◌, Bool, true, false, List, IfOk, IfSome, Some};
+ghost use Rattle.wk_module.specs.declared.types.Func.{Func as FuncOf};
+ghost use Rattle.wk_module.specs.declared.types.Parts.{Parts as PartsOf};
+ghost use Rattle.wk_session.specs.Runs.{after_one, is_memory, reply_of};
+ghost use Rattle.wk_draft.specs.Drafts.{aside_room};
+ghost use Rattle.wk_draft.specs.Steps.{marks_after, shifts_after, unmarked};
+ghost use Rattle.wk_draft.specs.Runs.{IsHeld, IsStepped};
+
+use crate::bytes::bytes_of_edit;
+use crate::room::{has_room, is_sure};
+use wk_bytes::OutOfMemory;
+use wk_check::verdicts_that_keep;
+use wk_list::Shape;
+use wk_module::{
+    Kind, Parts, Shifts, import_count, moving_of_module, reading_of_code, written_form_of_code,
+};
+use wk_session::{Edit, EditFault, Reply, Session};
+
+/// A draft of a module, in which a stub stands in the place of each body that stands aside.
+#[derive(Drop)]
+pub(crate) struct Draft {
+    /// The draft.
+    pub(crate) session: Session,
+    /// For each function of the first module, whether its body stands aside.
+    pub(crate) marks: Vec<bool>,
+    /// Where the references of these bodies stand now.
+    pub(crate) shifts: Shifts,
+}
+
+// The function whose body an edit replaces, if it does: which of those that the module defines.
+fn replaced(parts: &Parts, edit: &Edit) -> Option<usize>
+    ensures { (marks : List Bool) → marks_after edit.now parts.now marks ≡ unmarked result marks }
+{
+    let Edit::Body { func, .. } = edit else {
+        return None;
+    };
+    let imported = import_count(parts.imports.as_slice(), Kind::Func);
+    let index = *func as usize;
+    if index < imported || index - imported >= parts.funcs.len() {
+        return None;
+    }
+    Some(index - imported)
+}
+
+// A body that is replaced stands aside no more.
+fn unmark(marks: &mut Vec<bool>, entry: Option<usize>)
+    ensures { marks.new.items ≡ unmarked entry marks.old.items }
+{
+    let Some(entry) = entry else {
+        return;
+    };
+    if entry < marks.len() {
+        marks[entry] = false;
+    }
+}
+
+// Where references stand after an edit that is made; or nothing where so many imports can't be counted.
+fn shifts_after(edit: &Edit, shifts: Shifts) -> Option<Shifts>
+    ensures { IfSome result (λ s. s ≡ shifts_after edit.now shifts) }
+{
+    let Edit::Import(import) = edit else {
+        return Some(shifts);
+    };
+    match import.desc.kind() {
+        Kind::Func => Some(Shifts {
+            funcs_by: shifts.funcs_by.checked_add(1)?,
+            ..shifts
+        }),
+        Kind::Global => Some(Shifts {
+            globals_by: shifts.globals_by.checked_add(1)?,
+            ..shifts
+        }),
+        Kind::Table | Kind::Memory => Some(shifts),
+    }
+}
+
+// Makes an edit of the session.
+fn apply(session: &mut Session, keep: bool, edit: &Edit) -> Reply
+    ensures reply { result ≡ reply_of keep edit.now (is_memory result) session.old }
+    ensures module_is { session.new ≡ after_one keep edit.now (is_memory result) session.old }
+{
+    if keep {
+        session.apply_kept(edit)
+    } else {
+        session.apply(edit)
+    }
+}
+
+/// Makes an edit of the draft, where what it answers is what the module would. Nothing is answered where that is not sure.
+pub(crate) fn step(
+    draft: &mut Draft,
+    keep: bool,
+    edit: &Edit,
+    room: usize,
+) -> Result<Option<Reply>, OutOfMemory>
+    ensures { (os : List FuncOf) (m : PartsOf) → room ≡ aside_room os → IsHeld os m draft.old
+        → IfOk result (λ r. IfSome r (λ reply. IsStepped keep edit.now os m reply draft.new)) }
+{
+    // The proof asks what these say: that verdicts are kept, that what has moved is formed, and that no code is shorter than its written
+    // form.
+    verdicts_that_keep();
+    moving_of_module();
+    reading_of_code();
+    written_form_of_code();
+    bytes_of_edit(edit);
+    let entry = replaced(draft.session.parts(), edit);
+    let len = draft.session.encoded_len();
+    match apply(&mut draft.session, keep, edit) {
+        Ok(work) => {
+            let Some(shifts) = shifts_after(edit, draft.shifts) else {
+                return Ok(None);
+            };
+            // The proof asks what this says: the draft is shaped.
+            let _parts = draft.session.parts();
+            if !has_room(draft.session.encoded_len(), room) {
+                return Ok(None);
+            }
+            unmark(&mut draft.marks, entry);
+            draft.shifts = shifts;
+            Ok(Some(Ok(work)))
+        }
+        Err(EditFault::Memory) => Err(OutOfMemory),
+        Err(fault) if is_sure(edit, len, room, fault) => Ok(Some(Err(fault))),
+        Err(_) => Ok(None),
+    }
+}

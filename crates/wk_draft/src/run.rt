@@ -1,0 +1,215 @@
+//! Edits of a valid module, from its bytes.
+
+ghost use Rattle.std.specs.Prelude.{◌≡◌, ◌↔◌, ◌+◌, ◌≤◌, List, [], Ok, IfOk, IfSome, MatchResult, length, map, replicate, true};
+ghost use Rattle.wk_body.specs.declared.types.Profile.{Profile as ProfileOf};
+ghost use Rattle.wk_body.specs.Reads.{FailsAs};
+ghost use Rattle.wk_module.specs.declared.types.Func.{Func as FuncOf};
+ghost use Rattle.wk_module.specs.declared.types.Parts.{Parts as PartsOf};
+ghost use Rattle.wk_module.specs.ListReading.{IsReading};
+ghost use Rattle.wk_module.specs.Reading.{module_at};
+ghost use Rattle.wk_module.specs.Outlines.{outlined};
+ghost use Rattle.wk_module.specs.Shape.{IsShaped};
+ghost use Rattle.wk_module.specs.Writing.{encoded, Fits};
+ghost use Rattle.wk_check.specs.Verdict.{module_verdict};
+ghost use Rattle.wk_session.specs.Runs.{after, replies_of};
+ghost use Rattle.wk_draft.specs.Drafts.{aside_room};
+ghost use Rattle.wk_draft.specs.Runs.{AreAlike, IsFirst, IsHeld, IsReady, IsRun};
+
+use crate::aside::codes_now;
+use crate::draft::{Draft, step};
+use crate::edited::Edited;
+use crate::room::{aside_room, has_room};
+use std::alloc::Global;
+use wk_bytes::{Items, OutOfMemory, ReadFault, ReadKind};
+use wk_check::{Verdict, judge_bytes, laws_of_valid_modules};
+use wk_list::Shape;
+use wk_module::{
+    EncodeFault, Kind, Module, Outline, Parts, Profile, Shifts, import_count, read_outline,
+    reading_of_module,
+};
+use wk_session::{Edit, Reply, Session};
+
+/// What edits made of a module.
+#[derive(Debug, Drop)]
+pub struct Run {
+    /// The edited module, as it is to be written.
+    pub edited: Edited,
+    /// Its verdict.
+    pub verdict: Verdict,
+    /// What each edit was answered. How much work an accepted one took is not told.
+    pub replies: Vec<Reply>,
+}
+
+// Where references stand at first.
+fn shifts_of(parts: &Parts) -> Option<Shifts>
+    ensures { IfSome result (IsFirst parts.now) }
+{
+    let funcs = import_count(parts.imports.as_slice(), Kind::Func);
+    let globals = import_count(parts.imports.as_slice(), Kind::Global);
+    Some(Shifts {
+        funcs_from: u32::try_from(funcs).ok()?,
+        funcs_by: 0,
+        globals_from: u32::try_from(globals).ok()?,
+        globals_by: 0,
+    })
+}
+
+// So many marks.
+fn all_marked(alloc: Global, count: usize) -> Result<Vec<bool>, OutOfMemory>
+    ensures { IfOk result (λ marks. marks.items ≡ replicate count true) }
+{
+    let mut marks = Vec::with_capacity(alloc, count)?;
+    for _ in 0..count {
+        marks.push_reserved(true);
+    }
+    Ok(marks)
+}
+
+// A session over the draft, or nothing where it is too large.
+fn session_of(alloc: Global, module: Module) -> Result<Option<Session>, OutOfMemory>
+    ensures { IfOk result (λ r. IfSome r (λ session. session ≡ «module»)) }
+{
+    match Session::of(alloc, module) {
+        Ok(session) => Ok(Some(session)),
+        Err(EncodeFault::TooLarge) => Ok(None),
+        Err(EncodeFault::Memory) => Err(OutOfMemory),
+    }
+}
+
+// The draft of a module, each of whose bodies stands aside; or nothing where it is not valid, has no such room, or imports too many.
+fn draft_of(alloc: Global, module: Module, room: usize) -> Result<Option<Draft>, OutOfMemory>
+    ensures { (m : PartsOf) → «module» ≡ outlined m → IsShaped m → module_verdict m ≡ Verdict.Valid
+        → room ≡ aside_room m.funcs → IfOk result (λ r. IfSome r (IsHeld m.funcs m)) }
+{
+    // The proof asks what this says: bodies of a valid module are valid.
+    laws_of_valid_modules();
+    let Some(session) = session_of(alloc, module)? else {
+        return Ok(None);
+    };
+    let parts = session.parts();
+    let Some(shifts) = shifts_of(parts) else {
+        return Ok(None);
+    };
+    let marks = all_marked(alloc, parts.funcs.len())?;
+    let Verdict::Valid = session.verdict() else {
+        return Ok(None);
+    };
+    if !has_room(session.encoded_len(), room) {
+        return Ok(None);
+    }
+    Ok(Some(Draft {
+        session,
+        marks,
+        shifts,
+    }))
+}
+
+// Makes edits of a draft, and answers each as the module would. Nothing is answered where the module may be too large.
+fn make_edits(
+    alloc: Global,
+    draft: &mut Draft,
+    keep: bool,
+    edits: &[Edit],
+    room: usize,
+) -> Result<Option<Vec<Reply>>, OutOfMemory>
+    ensures { (os : List FuncOf) (m : PartsOf) → room ≡ aside_room os → IsHeld os m draft.old
+        → IfOk result (λ r. IfSome r (λ replies. IsHeld os (after keep edits.now [] m) draft.new
+        × AreAlike replies.items (replies_of keep edits.now [] m))) }
+{
+    let mut replies = Vec::with_capacity(alloc, edits.len())?;
+    for edit in edits {
+        let Some(reply) = step(draft, keep, edit, room)? else {
+            return Ok(None);
+        };
+        replies.push_reserved(reply);
+    }
+    Ok(Some(replies))
+}
+
+// The run of a draft whose edits are made and answered so: its bodies that stand aside, which have these codes, are put back.
+fn run_of(
+    alloc: Global,
+    draft: Draft,
+    codes: Vec<Items<u8>>,
+    replies: Vec<Reply>,
+) -> Result<Option<Run>, OutOfMemory>
+    requires many { length draft.marks.items ≡ length codes.items }
+    requires ready { (profile : ProfileOf) × (os : List FuncOf) × (m : PartsOf) × IsReady profile os m codes.items draft }
+    ensures { (profile : ProfileOf) (os : List FuncOf) (m : PartsOf) → IsReady profile os m codes.items draft
+        → IfOk result (λ r. IfSome r (λ run. (run.edited ≡ encoded m) × IsShaped m × (run.verdict ≡ module_verdict m)
+        × (run.replies ≡ replies))) }
+{
+    let Some(codes) = codes_now(alloc, &draft, codes)? else {
+        return Ok(None);
+    };
+    let Draft { session, .. } = draft;
+    // The proof asks what this says: the draft is shaped.
+    let _parts = session.parts();
+    let verdict = *session.verdict();
+    Ok(Some(Run {
+        edited: Edited { session, codes },
+        verdict,
+        replies,
+    }))
+}
+
+/// Whether the module of a profile that bytes spell is valid.
+///
+/// # Errors
+///
+/// Where the bytes spell no module of the profile, the first fault from left to right, at its offset; where a growth is refused,
+/// `Memory` at 0.
+pub fn is_valid(alloc: Global, input: &[u8], profile: Profile) -> Result<bool, ReadFault>
+    ensures exact { MatchResult result
+        (λ valid. (m : PartsOf) × (module_at profile input.now ≡ Ok m) × (valid ≡ true ↔ module_verdict m ≡ Verdict.Valid))
+        (λ e. FailsAs e e.kind (module_at profile input.now)) }
+    ensures is { IsReading profile input.now (module_at profile input.now) }
+{
+    match judge_bytes(alloc, input, profile)? {
+        Verdict::Valid => Ok(true),
+        Verdict::Invalid(_) => Ok(false),
+    }
+}
+
+/// Makes edits in order on the module of a profile that bytes spell, which has to be valid ([`is_valid`] tells whether it is); `keep` says
+/// whether each has to leave a valid module.
+///
+/// Or nothing is answered, and then nothing is known; no clause says when. It is so where the module may pass 2,147,483,647 bytes by a bound
+/// of three times its codes, and where an import or a custom section is refused because the module would be invalid. Where bodies are no
+/// longer than a stub, of three bytes, a session over the whole module takes less time.
+///
+/// # Errors
+///
+/// Want of memory, also where an edit met it.
+pub fn edit_valid(
+    alloc: Global,
+    input: &[u8],
+    profile: Profile,
+    edits: &[Edit],
+    keep: bool,
+) -> Result<Option<Run>, OutOfMemory>
+    requires { (m : PartsOf) × (module_at profile input.now ≡ Ok m) × (module_verdict m ≡ Verdict.Valid) }
+    ensures { (m : PartsOf) → module_at profile input.now ≡ Ok m
+        → IfOk result (λ r. IfSome r (IsRun keep m edits.now)) }
+{
+    // The proof asks what this says: the module is shaped and fits.
+    reading_of_module(input, profile);
+    let Outline { module, codes } = match read_outline(alloc, input, profile) {
+        Ok(outline) => outline,
+        Err(fault) if fault.kind == ReadKind::Memory => return Err(OutOfMemory),
+        Err(_) => return Ok(None),
+    };
+    let Some(room) = aside_room(&codes) else {
+        return Ok(None);
+    };
+    let Some(mut draft) = draft_of(alloc, module, room)? else {
+        return Ok(None);
+    };
+    let Some(replies) = make_edits(alloc, &mut draft, keep, edits, room)? else {
+        return Ok(None);
+    };
+    if draft.marks.len() != codes.len() {
+        return Ok(None);
+    }
+    run_of(alloc, draft, codes, replies)
+}

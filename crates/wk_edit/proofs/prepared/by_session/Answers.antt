@@ -1,0 +1,12 @@
+use Rattle.std.proofs.Common.{◌≡◌, subst}
+use Rattle.std.specs.Prelude.{IfOk}
+use Rattle.wk_module.specs.declared.types.Parts.{Parts}
+use Rattle.wk_edit.specs.Outcome.{run_outcome}
+use Rattle.wk_edit.specs.Prepared.{IsPrepared}
+use Rattle.wk_edit.proofs.OutcomeLemmas.{same_module}
+use Rattle.wk_edit.proofs.prepared.by_session.Goals as goal
+
+pub returns-in-Ok-clause-ok : goal.returns-in-Ok-clause-ok
+returns-in-Ok-clause-ok c = λ m at.
+    let same = same_module c.args.profile c.deref.result.now c.args.input.items c.in-Ok.session m c.deref.ensures.value c.in-Ok.ensures.exact at in
+    subst (λ (p : Parts). IfOk c.of_run.result (IsPrepared (run_outcome c.args.keep_valid p c.args.edits.now))) same c.of_run.ensures.ok

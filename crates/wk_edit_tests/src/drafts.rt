@@ -1,0 +1,133 @@
+//! Edits of a valid module of which the untouched bodies stay bytes, beside those of a session over the whole module.
+
+use crate::sessions::{run, says};
+use crate::walks::{EMPTY, TWO_RESULTS};
+use std::alloc::Global;
+use std::test::Fail;
+use wk_bytes::{ReadFault, ReadKind, Sink};
+use wk_draft::{Edited, Run, edit_valid, is_valid};
+use wk_edit::read_script;
+use wk_module::Profile;
+use wk_session::{Edit, Reply, Session};
+
+// It imports a function and a global, and defines a global and two functions. The first of these calls both that stand before it, the
+// second itself and, from either branch of an `if`, the same two; its integers are padded.
+const BODIES: &[u8] = b"\0asm\x01\0\0\0\x01\x09\x02\x60\0\0\x60\x01\x7f\x01\x7f\x02\x0e\x02\x01m\x01f\0\0\x01m\x01g\x03\x7f\0\
+    \x03\x03\x02\0\x01\x06\x06\x01\x7f\x01\x41\x01\x0b\x07\x05\x01\x01x\0\x02\
+    \x0a\x32\x02\x11\0\x10\0\x10\x01\x23\0\x24\x01\x23\x01\x1a\x41\xc0\0\x1a\x0b\
+    \x1e\0\x20\0\x10\x82\x80\x80\x80\0\x23\x81\x80\x80\x80\0\x6a\x41\0\x04\x40\x10\0\x05\x10\x01\x0b\x41\x03\x1a\x0b\0\x02\x01c";
+
+// Scripts, and whether each edit has to leave a valid module.
+static SCRIPTS: [(&[u8], bool); 8] = [
+    (b"", false),
+    (b"import func m h 0\nimport global m k f32 const\nimport func m i 1\n", false),
+    (b"import table m t 1\nimport memory m n 1\nimport global m k i32 var\n", true),
+    (b"import func m h 0\nbody 3 00200010010b\nfunc 0 0010030b\nexport func y 4\nimport func m i 0\n", true),
+    (b"body 1 0010020b\nbody 9 000b\nbody 1 00ff\nbody 1 000b\nbody 2 0020000b\n", false),
+    (b"export func x 1\nexport func y 9\nunexport x\nunexport z\nglobal i32 const 23000b\n", true),
+    (b"type i32 i64\nfunc 2 0042000b\ncustom set c ff\ncustom set d 00\ncustom strip e\n", true),
+    (b"strip\nimport func m h 9\ntype - -\n", false),
+];
+
+fn is_alike(reply: &Reply, wanted: &Reply) -> bool {
+    match (reply, wanted) {
+        (Ok(_), Ok(_)) => true,
+        (Err(fault), Err(other)) => *fault == *other,
+        _ => false,
+    }
+}
+
+fn are_alike(replies: &[Reply], wanted: &[Reply]) -> bool {
+    for (reply, other) in replies.iter().zip(wanted) {
+        if !is_alike(reply, other) {
+            return false;
+        }
+    }
+    replies.len() == wanted.len()
+}
+
+fn written(alloc: Global, edited: &Edited) -> Option<Vec<u8>> {
+    let mut out = Sink::new(Vec::new(alloc));
+    edited.write(&mut out).ok()?;
+    Some(out.into_inner())
+}
+
+// Whether a session over the whole module answers the edits so, and leaves the same.
+fn is_of_session(alloc: Global, made: &Run, edits: &[Edit], keep: bool) -> bool {
+    let Ok(mut session) = Session::open(alloc, BODIES) else {
+        return false;
+    };
+    let Ok(replies) = run(&mut session, keep, edits) else {
+        return false;
+    };
+    match written(alloc, &made.edited) {
+        Some(bytes) => {
+            are_alike(&made.replies, &replies) && says(alloc, &session, &bytes, made.verdict)
+        }
+        None => false,
+    }
+}
+
+// What edits make of the module, where it is found valid.
+fn made_of(alloc: Global, edits: &[Edit], keep: bool) -> Option<Run> {
+    let Ok(is_valid) = is_valid(alloc, BODIES, Profile::Core) else {
+        return None;
+    };
+    if !is_valid {
+        return None;
+    }
+    edit_valid(alloc, BODIES, Profile::Core, edits, keep).ok()?
+}
+
+// Whether they make what those of a session make.
+fn is_drafted(alloc: Global, script: &[u8], keep: bool) -> bool {
+    let Ok(edits) = read_script(alloc, script) else {
+        return false;
+    };
+    match made_of(alloc, &edits, keep) {
+        Some(made) => is_of_session(alloc, &made, &edits, keep),
+        None => false,
+    }
+}
+
+// The first script whose edits make something else.
+fn wrong_script(alloc: Global) -> Option<&'static [u8]> {
+    for (script, keep) in &SCRIPTS {
+        if !is_drafted(alloc, script, *keep) {
+            return Some(*script);
+        }
+    }
+    None
+}
+
+#[test]
+fn drafts(rt: HostRuntime) -> Result<(), Fail> {
+    assert_eq!(rt; wrong_script(rt.alloc()), None);
+    Ok(())
+}
+
+// An import that would break the module is not answered for it.
+fn gives_up(alloc: Global) -> bool {
+    match read_script(alloc, b"import func m h 9\n") {
+        Ok(edits) => made_of(alloc, &edits, true).is_none(),
+        Err(_) => false,
+    }
+}
+
+#[test]
+fn leaves_it_to_a_session(rt: HostRuntime) -> Result<(), Fail> {
+    assert!(rt; gives_up(rt.alloc()));
+    Ok(())
+}
+
+#[test]
+fn judges(rt: HostRuntime) -> Result<(), Fail> {
+    let fault = ReadFault {
+        kind: ReadKind::UnexpectedEnd,
+        at: 0,
+    };
+    assert_eq!(rt; is_valid(rt.alloc(), EMPTY, Profile::Core), Ok(true));
+    assert_eq!(rt; is_valid(rt.alloc(), TWO_RESULTS, Profile::Core), Ok(false));
+    assert_eq!(rt; is_valid(rt.alloc(), b"", Profile::Core), Err(fault));
+    Ok(())
+}
