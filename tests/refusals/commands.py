@@ -19,11 +19,15 @@ from samples import (
     INVALID_LINE,
     INVALID_MODULE,
     KEPT,
+    LONG,
+    LONG_EDITED,
+    LONG_KEPT,
     MODULE,
     MOVING,
     MOVING_STRIPPED,
     NO_OUT,
     OF_EACH_KIND,
+    OF_MOST_KINDS,
     OF_TWO_RESULTS,
     ONE_TYPE,
     SCRIPT,
@@ -74,6 +78,7 @@ ALL_REPORT = ALL_OK + b"invalid " + TABLES
 KEPT_REPORT = (
     ALL_OK.replace(b"3 ok\n4 ok\n", b"3 refused E7 WouldBreak " + TABLES + b"4 refused E7 WouldBreak " + MEMORIES, 1) + b"valid\n"
 )
+MOST_REPORT = ALL_OK.replace(b"12 ok\n13 ok\n", b"") + b"valid\n"
 WIDE_TABLES, WIDE_MEMORIES = b"V5 TooManyTables at section 4 item 0\n", b"V6 TooManyMemories at section 5 item 0\n"
 WIDE_REPORT = ALL_OK + b"invalid " + WIDE_TABLES
 WIDE_KEPT_REPORT = KEPT_REPORT.replace(TABLES, WIDE_TABLES).replace(MEMORIES, WIDE_MEMORIES)
@@ -108,6 +113,9 @@ COMMANDS = [
     Command("edit in the other profile", EDIT_EXTENDED, files(EXTENDED, b"type - -"), 0, FINE, out=EXTENDED_EDITED),
     Command("edit of each kind", EDIT, files(MOVING, OF_EACH_KIND), 1, ALL_REPORT, out=ALL_EDITED),
     Command("edit of each kind that keeps valid", EDIT_KEPT, files(MOVING, OF_EACH_KIND), 1, KEPT_REPORT, out=ALL_KEPT),
+    Command("edit of each kind by a draft", EDIT, files(LONG, OF_EACH_KIND), 1, ALL_REPORT, out=LONG_EDITED),
+    Command("edit by a draft that gives up", EDIT_KEPT, files(LONG, OF_EACH_KIND), 1, KEPT_REPORT, out=LONG_KEPT),
+    Command("edit by a draft that keeps valid", EDIT_KEPT, files(LONG, OF_MOST_KINDS), 0, MOST_REPORT, out=LONG_KEPT),
     Command(
         "edit of each kind in the other profile",
         EDIT_EXTENDED,

@@ -227,6 +227,21 @@ ALL_KEPT = (
     + b"\x0a\x19\x03\x06\x01\x01\x7e\x20\x01\x0b\x08\x00\x10\x00\x23\x00\x24\x02\x0b\x07\x00\x41\x00\x10\x02\x1a\x0b"
     + b"\x0b\x08\x01\x00\x41\x00\x0b\x02\xaa\xbb"
 )
+NOPS = 40
+
+
+def lengthened(module, size):
+    """A module with nops in its second body, of eight bytes, where its code section has that many."""
+    section = module.index(b"\x0a" + bytes([size]))
+    body = module.index(b"\x08\x00\x10\x00\x23\x00\x24", section)
+    front = module[:section] + b"\x0a" + bytes([size + NOPS]) + module[section + 2 : body]
+    return front + bytes([8 + NOPS]) + module[body + 1 : body + 8] + b"\x01" * NOPS + module[body + 8 :]
+
+
+# MOVING with bodies so long that `edit` holds a draft of it, and what OF_EACH_KIND makes of it. Where it has to stay valid, the imports of a
+# table and of a memory have a session over all of it make the edits; without them the draft serves.
+LONG, LONG_EDITED, LONG_KEPT = lengthened(MOVING, 0x1D), lengthened(ALL_EDITED, 0x19), lengthened(ALL_KEPT, 0x19)
+OF_MOST_KINDS = OF_EACH_KIND.replace(b"import table a u 4\nimport memory a n 1 3\n", b"")
 # What WIDE_OF_EACH_KIND makes of WIDE, and what it makes where the module has to stay valid.
 WIDE_EDITED = (
     HEADER
