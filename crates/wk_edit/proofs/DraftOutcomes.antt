@@ -1,10 +1,9 @@
 -- What a run of a draft comes to: replies that are alike make the same report and the same status.
-use Rattle.std.proofs.Common.{◌≡◌, ℕ, ◌+◌, ◌++◌, ◌&&◌, List, [], ◌∷◌, Bool, true, false, Result, Ok, Err, refl, sym, ap, subst, ◌∙◌}
+use Rattle.std.proofs.Common.{◌≡◌, ℕ, ◌+◌, ◌++◌, ◌&&◌, List, [], ◌∷◌, Bool, Result, Ok, Err, refl, ap, ◌∙◌}
 use Rattle.std.specs.List.{list_all}
 use Rattle.wk_check.specs.declared.fault.Verdict.{Verdict}
 use Rattle.wk_session.specs.declared.edit.EditFault.{EditFault}
 use Rattle.wk_session.specs.declared.edit.Work.{Work}
-use Rattle.wk_session.specs.EditText.{edit_fault_text}
 use Rattle.wk_draft.specs.Runs.{AreAlike, IsAlike}
 use Rattle.wk_edit.specs.Outcome.{is_accepted, run_status}
 use Rattle.wk_edit.specs.ReportText.{reply_line, report_text}

@@ -5,7 +5,6 @@ use Rattle.std.specs.List.{list_any}
 use Rattle.wk_bytes.specs.declared.fault.ReadKind.{ReadKind}
 use Rattle.wk_bytes.specs.declared.fault.ReadFault.{ReadFault}
 use Rattle.wk_module.specs.declared.types.Parts.{Parts}
-use Rattle.wk_bytes.specs.Stands.{StandsIn}
 use Rattle.wk_body.specs.declared.types.Profile.{Profile}
 use Rattle.wk_body.specs.Reads.{FailsAs}
 use Rattle.wk_module.specs.ListReading.{IsReading}

@@ -22,9 +22,7 @@ use wk_bytes::{OutOfMemory, RawSection, ReadFault, ReadKind, Sections};
 use wk_check::Verdict;
 use wk_draft::{Edited, Run, edit_valid, is_valid};
 use wk_list::Shape;
-use wk_module::{
-    Profile, one_module, reading_of_code, reading_of_module, written_form_of_module,
-};
+use wk_module::{Profile, one_module, reading_of_code, reading_of_module, written_form_of_module};
 use wk_session::{Edit, EditFault, Reply, Session};
 
 /// The id of the code section (5.5.13).

@@ -12,7 +12,8 @@ use wk_session::{Edit, Reply, Session};
 
 // It imports a function and a global, and defines a global and two functions. The first of these calls both that stand before it, the
 // second itself and, from either branch of an `if`, the same two; its integers are padded.
-const BODIES: &[u8] = b"\0asm\x01\0\0\0\x01\x09\x02\x60\0\0\x60\x01\x7f\x01\x7f\x02\x0e\x02\x01m\x01f\0\0\x01m\x01g\x03\x7f\0\
+const BODIES: &[u8] =
+    b"\0asm\x01\0\0\0\x01\x09\x02\x60\0\0\x60\x01\x7f\x01\x7f\x02\x0e\x02\x01m\x01f\0\0\x01m\x01g\x03\x7f\0\
     \x03\x03\x02\0\x01\x06\x06\x01\x7f\x01\x41\x01\x0b\x07\x05\x01\x01x\0\x02\
     \x0a\x32\x02\x11\0\x10\0\x10\x01\x23\0\x24\x01\x23\x01\x1a\x41\xc0\0\x1a\x0b\
     \x1e\0\x20\0\x10\x82\x80\x80\x80\0\x23\x81\x80\x80\x80\0\x6a\x41\0\x04\x40\x10\0\x05\x10\x01\x0b\x41\x03\x1a\x0b\0\x02\x01c";
@@ -20,12 +21,30 @@ const BODIES: &[u8] = b"\0asm\x01\0\0\0\x01\x09\x02\x60\0\0\x60\x01\x7f\x01\x7f\
 // Scripts, and whether each edit has to leave a valid module.
 static SCRIPTS: [(&[u8], bool); 8] = [
     (b"", false),
-    (b"import func m h 0\nimport global m k f32 const\nimport func m i 1\n", false),
-    (b"import table m t 1\nimport memory m n 1\nimport global m k i32 var\n", true),
-    (b"import func m h 0\nbody 3 00200010010b\nfunc 0 0010030b\nexport func y 4\nimport func m i 0\n", true),
-    (b"body 1 0010020b\nbody 9 000b\nbody 1 00ff\nbody 1 000b\nbody 2 0020000b\n", false),
-    (b"export func x 1\nexport func y 9\nunexport x\nunexport z\nglobal i32 const 23000b\n", true),
-    (b"type i32 i64\nfunc 2 0042000b\ncustom set c ff\ncustom set d 00\ncustom strip e\n", true),
+    (
+        b"import func m h 0\nimport global m k f32 const\nimport func m i 1\n",
+        false,
+    ),
+    (
+        b"import table m t 1\nimport memory m n 1\nimport global m k i32 var\n",
+        true,
+    ),
+    (
+        b"import func m h 0\nbody 3 00200010010b\nfunc 0 0010030b\nexport func y 4\nimport func m i 0\n",
+        true,
+    ),
+    (
+        b"body 1 0010020b\nbody 9 000b\nbody 1 00ff\nbody 1 000b\nbody 2 0020000b\n",
+        false,
+    ),
+    (
+        b"export func x 1\nexport func y 9\nunexport x\nunexport z\nglobal i32 const 23000b\n",
+        true,
+    ),
+    (
+        b"type i32 i64\nfunc 2 0042000b\ncustom set c ff\ncustom set d 00\ncustom strip e\n",
+        true,
+    ),
     (b"strip\nimport func m h 9\ntype - -\n", false),
 ];
 

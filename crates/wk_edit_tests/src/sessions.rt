@@ -218,7 +218,11 @@ fn edits_of(alloc: Global, steps: &[Step]) -> Option<Vec<Edit>> {
 }
 
 /// What edits are answered.
-pub(crate) fn run(session: &mut Session, keep: bool, edits: &[Edit]) -> Result<Vec<Reply>, OutOfMemory> {
+pub(crate) fn run(
+    session: &mut Session,
+    keep: bool,
+    edits: &[Edit],
+) -> Result<Vec<Reply>, OutOfMemory> {
     if keep {
         session.run_kept(edits)
     } else {

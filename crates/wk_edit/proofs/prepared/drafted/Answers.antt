@@ -1,4 +1,3 @@
-use Rattle.std.proofs.Common.{◌≡◌}
 use Rattle.wk_edit.proofs.prepared.drafted.Goals as goal
 
 pub returns-in_ok-of_draft-in-Some-clause-ok : goal.returns-in_ok-of_draft-in-Some-clause-ok

@@ -1,4 +1,4 @@
-use Rattle.std.proofs.Common.{◌≡◌, [], List, Result, ap, ◌∙◌}
+use Rattle.std.proofs.Common.{[], List, Result, ap, ◌∙◌}
 use Rattle.wk_session.specs.declared.edit.EditFault.{EditFault}
 use Rattle.wk_session.specs.declared.edit.Work.{Work}
 use Rattle.wk_session.specs.Runs.{after, replies_of}

@@ -1,4 +1,4 @@
-use Rattle.std.proofs.Common.{◌≡◌, ℕ, List, Result, Ok, subst}
+use Rattle.std.proofs.Common.{List, Result, Ok, subst}
 use Rattle.std.specs.Prelude.{IfOk}
 use Rattle.wk_module.specs.declared.types.Parts.{Parts}
 use Rattle.wk_session.specs.declared.edit.Edit.{Edit}
@@ -30,7 +30,7 @@ returns-in-Ok-read_script-clause-ok c =
     let m : Parts = c.in-Ok.ensures.exact.0 in
     let r : Result Prepared RunFault = c.run_edits.result in
     let ran : IfOk r (IsPrepared (run_outcome keep m c.in-Ok-read_script.edits.items)) =
-        subst (λ (es : List Edit). IfOk r (IsPrepared (run_outcome keep m es))) c.deref.ensures.value (c.run_edits.ensures.ok m c.in-Ok.ensures.exact.2) in
+    subst (λ (es : List Edit). IfOk r (IsPrepared (run_outcome keep m es))) c.deref.ensures.value (c.run_edits.ensures.ok m c.in-Ok.ensures.exact.2) in
     ran_ok keep c.args.profile c.args.input.items c.args.script.now r m (Ok c.in-Ok-read_script.edits.items) ran c.in-Ok.ensures.exact.1 c.in-Ok-read_script.ensures.exact
 
 pub returns-in-Ok-read_script-clause-means : goal.returns-in-Ok-read_script-clause-means
@@ -43,7 +43,7 @@ returns-in-Ok-read_script-clause-means c =
     let read = c.in-Ok.ensures.exact.1 in
     let r : Result Prepared RunFault = c.run_edits.result in
     let ran : IfOk r (IsPrepared (run_outcome keep m edits)) =
-        subst (λ (es : List Edit). IfOk r (IsPrepared (run_outcome keep m es))) c.deref.ensures.value (c.run_edits.ensures.ok m c.in-Ok.ensures.exact.2) in
+    subst (λ (es : List Edit). IfOk r (IsPrepared (run_outcome keep m es))) c.deref.ensures.value (c.run_edits.ensures.ok m c.in-Ok.ensures.exact.2) in
     let reads : ReadsCode = record {
       body = c.reading_of_code.ensures.body;
       expr = c.reading_of_code.ensures.all_expr;

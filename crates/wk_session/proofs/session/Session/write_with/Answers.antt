@@ -1,8 +1,5 @@
 use Rattle.std.proofs.Common.{◌≡◌, ◌≤◌, ℕ, List, length, map, sym, ap, subst, ◌∙◌}
-use Rattle.std.specs.Prelude.{OnErr, OnOk}
-use Rattle.std.specs.Io.KnownBytes.{Appends}
 use Rattle.wk_bytes.specs.Frames.{limit}
-use Rattle.wk_bytes.specs.Taken.{TakesFront}
 use Rattle.wk_module.specs.declared.types.Parts.{Parts}
 use Rattle.wk_session.specs.Overlays.{with_items}
 use Rattle.wk_session.specs.Pieces.{code_of}
