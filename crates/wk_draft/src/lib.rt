@@ -18,6 +18,7 @@
 #![tactic(auto)]
 
 mod aside;
+mod breaking;
 mod bytes;
 mod draft;
 mod edited;

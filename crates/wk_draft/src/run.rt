@@ -16,6 +16,7 @@ ghost use Rattle.wk_draft.specs.Drafts.{aside_room};
 ghost use Rattle.wk_draft.specs.Runs.{AreAlike, IsFirst, IsHeld, IsReady, IsRun};
 
 use crate::aside::codes_now;
+use crate::breaking::would_break;
 use crate::draft::{Draft, step};
 use crate::edited::Edited;
 use crate::room::{aside_room, has_room};
@@ -175,8 +176,8 @@ pub fn is_valid(alloc: Global, input: &[u8], profile: Profile) -> Result<bool, R
 /// whether each has to leave a valid module.
 ///
 /// Or nothing is answered, and then nothing is known; no clause says when. It is so where the module may pass 2,147,483,647 bytes by a bound
-/// of three times its codes, and where an import or a custom section is refused because the module would be invalid. Where bodies are no
-/// longer than a stub, of three bytes, a session over the whole module takes less time.
+/// of three times its codes, and where an import or a custom section is refused because the module would be invalid, which is mostly told
+/// before any edit is made. Where bodies are no longer than a stub, of three bytes, a session over the whole module takes less time.
 ///
 /// # Errors
 ///
@@ -199,6 +200,9 @@ pub fn edit_valid(
         Err(fault) if fault.kind == ReadKind::Memory => return Err(OutOfMemory),
         Err(_) => return Ok(None),
     };
+    if keep && would_break(module.parts(), edits) {
+        return Ok(None);
+    }
     let Some(room) = aside_room(&codes) else {
         return Ok(None);
     };
