@@ -13,16 +13,11 @@ def die(why):
     sys.exit(1)
 
 
-def uses_of_crates():
-    """What each crate of the repository stands on, as `crates.txt` says."""
-    with open(f"{TOP}/crates.txt") as it:
-        lines = [line.partition("#")[0].partition(":") for line in it]
-    return {head.split()[0]: tail.split() for head, _, tail in lines if head.strip()}
-
-
 def libraries_below(name):
     """The crate and those of the repository that it stands on."""
-    uses = uses_of_crates()
+    with open(f"{TOP}/crates.txt") as it:
+        lines = [line.partition("#")[0].partition(":") for line in it]
+    uses = {head.split()[0]: tail.split() for head, _, tail in lines if head.strip()}
     found, waiting = set(), [name]
     while waiting:
         crate = waiting.pop()
@@ -46,67 +41,42 @@ def is_current(program, name):
     return os.path.isfile(program) and newest_source(name) < os.path.getmtime(program)
 
 
-def built(name, words, rt=shutil.which("rt")):
-    """The built program of a crate. Where it is not there or older than a source, `rt run` builds it, and runs it on these words."""
-    program = f"{TOP}/crates/{name}/out/{name}"
-    if is_current(program, name):
-        return program
+def current(path, name, words, rt):
+    """The path of what is made of a crate. Where it is not there or older than a source, `rt` with these words makes it, and where that
+    fails, what it said is shown, but for the functions that it proved."""
+    if is_current(path, name):
+        return path
     if not rt:
         die(f"{name} is not built from the sources as they are, and the command rt is not on PATH")
     print(f"building {name}", flush=True)
-    quiet = {"stdin": subprocess.DEVNULL, "stdout": subprocess.DEVNULL}
-    ran = subprocess.run([rt, "run", "--", *words], cwd=f"{TOP}/crates/{name}", **quiet)
-    if ran.returncode or not os.path.isfile(program):
-        die(f"{name} was not built")
-    return program
+    said = {"stdout": subprocess.PIPE, "stderr": subprocess.STDOUT, "text": True, "errors": "replace"}
+    ran = subprocess.run([rt, *words], cwd=f"{TOP}/crates/{name}", stdin=subprocess.DEVNULL, **said)
+    if ran.returncode or not os.path.isfile(path):
+        print("\n".join(line for line in ran.stdout.splitlines() if not line.endswith(": proved")), flush=True)
+        die(f"{name} was not built: rt {words[0]} ended with status {ran.returncode}")
+    return path
+
+
+def built(name, words, rt=shutil.which("rt")):
+    """The built program of a crate. Where it is not there or older than a source, `rt run` builds it, and runs it on these words."""
+    return current(f"{TOP}/crates/{name}/out/{name}", name, ["run", "--", *words], rt)
 
 
 def library(name, rt=shutil.which("rt")):
-    """The static library of a crate. Where it is not there or older than a source, it is built over the libraries below it that are proved
-    already, as `rt ci` leaves them. Where one of those is not, `rt lib` proves them, and that takes as long as all their proofs."""
-    archive = f"{TOP}/crates/{name}/out/lib{name}.a"
-    if is_current(archive, name):
-        return archive
-    if not rt:
-        die(f"{name} is not built from the sources as they are, and the command rt is not on PATH")
-    print(f"building {name}", flush=True)
-    quiet = {"stdin": subprocess.DEVNULL, "stdout": subprocess.DEVNULL, "cwd": f"{TOP}/crates/{name}"}
-    words = words_over_proved(name, kit(rt))
-    if not words or subprocess.run([*words, "-o", archive], stderr=subprocess.DEVNULL, **quiet).returncode:
-        subprocess.run([rt, "lib"], **quiet)
-    if not is_current(archive, name):
-        die(f"{name} was not built")
-    return archive
-
-
-def words_over_proved(name, folder):
-    """The words that prove and build a static library over the proved libraries below it, with the kit in this folder; none where one of
-    those is not there, or older than a source."""
-    uses = uses_of_crates()
-    below = libraries_below(name) - {name}
-    proved = {it: f"{TOP}/crates/{it}/out/rlib/{it}.rlib" for it in below}
-    if not all(is_current(f"{path}/format", it) for it, path in proved.items()):
-        return []
-    words = [f"{folder}/bin/rattle", "build", "--crate-name", name, "src/lib.rt", "--crate-type", "staticlib"]
-    for used in ["std", *uses[name]]:
-        words += ["--extern", f"{used}={proved.get(used, f'{folder}/rlibs/{used}.rlib')}"]
-    for path in [f"{folder}/rlibs", *(os.path.dirname(it) for it in proved.values())]:
-        words += ["-L", f"dependency={path}"]
-    words += ["--antt-project", f"{folder}/rattle/logic/antt-project.json", "--logic-built", f"{folder}/logic_built"]
-    return [*words, "--jobs", "2", "--links", f"{name}=", "--toolchain", f"{folder}/toolchain", "--backend", "llvm"]
-
-
-def kit(rt=shutil.which("rt")):
-    """The folder of the kit."""
-    if not rt:
-        die("the command rt, which knows where the kit is, is not on PATH")
-    return os.path.dirname(subprocess.run([rt, "doc"], stdout=subprocess.PIPE, text=True, check=True).stdout.strip())
+    """The static library of a crate. Where it is not there or older than a source, `rt lib` builds it."""
+    return current(f"{TOP}/crates/{name}/out/lib{name}.a", name, ["lib"], rt)
 
 
 def allocations(rt=shutil.which("rt")):
     """The archive of the kit that passes a library's allocations on to malloc, realloc and free."""
-    archive = f"{kit(rt)}/c/liblibc_c.a"
-    return archive if os.path.isfile(archive) else die("the kit has no c/liblibc_c.a")
+    if not rt:
+        die("the command rt, which knows where the kit is, is not on PATH")
+    folder = subprocess.run([rt, "doc"], stdout=subprocess.PIPE, text=True, check=True).stdout.strip()
+    while folder != os.path.dirname(folder):
+        folder = os.path.dirname(folder)
+        if os.path.isfile(f"{folder}/c/liblibc_c.a"):
+            return f"{folder}/c/liblibc_c.a"
+    die("the kit has no c/liblibc_c.a")
 
 
 def shared_library(name, folder):

@@ -5,6 +5,7 @@ from samples import (
     ALL_EDITED,
     ALL_KEPT,
     BAD_WORDS,
+    BEHIND_PIECES,
     BRANCHES,
     CODE,
     DETAILS,
@@ -56,7 +57,8 @@ class Command:
     stdout: bytes = b""
     stderr: bytes = b""
     out: bytes = None  # what OUT holds, or None where it is not made
-    pieces: tuple = ()  # the beginnings of standard output that may stand there where memory is wanting, beside nothing
+    # The beginnings of standard output that may stand there where memory is wanting, beside nothing. The last one is left once at least.
+    pieces: tuple = ()
 
     def is_usual(self, ran):
         files = self.files if self.out is None else {**self.files, "out.wasm": self.out}
@@ -151,6 +153,10 @@ COMMANDS = [
         0,
         EXTENDED_CODE + EXTENDED_USES,
         pieces=(EXTENDED_CODE,),
+    ),
+    *(
+        Command(f"objdump of code behind {what}", [*OBJDUMP, "--code"], {"in.wasm": module}, 0, text, pieces=tuple(pieces[:-1]))
+        for what, (module, text, pieces) in BEHIND_PIECES.items()
     ),
     Command("objdump of a malformed module", OBJDUMP, {"in.wasm": HEADER + b"\x0c\x00"}, 2, MALFORMED),
     Command("objdump of a missing file", OBJDUMP, {}, 4, stderr=UNREAD),

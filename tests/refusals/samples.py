@@ -227,15 +227,20 @@ ALL_KEPT = (
     + b"\x0a\x19\x03\x06\x01\x01\x7e\x20\x01\x0b\x08\x00\x10\x00\x23\x00\x24\x02\x0b\x07\x00\x41\x00\x10\x02\x1a\x0b"
     + b"\x0b\x08\x01\x00\x41\x00\x0b\x02\xaa\xbb"
 )
-NOPS = 40
+NOPS = 1600
+
+
+def two_bytes(number):
+    """A number of two bytes, in its shortest form."""
+    return bytes([number % 128 + 128, number // 128])
 
 
 def lengthened(module, size):
     """A module with nops in its second body, of eight bytes, where its code section has that many."""
     section = module.index(b"\x0a" + bytes([size]))
     body = module.index(b"\x08\x00\x10\x00\x23\x00\x24", section)
-    front = module[:section] + b"\x0a" + bytes([size + NOPS]) + module[section + 2 : body]
-    return front + bytes([8 + NOPS]) + module[body + 1 : body + 8] + b"\x01" * NOPS + module[body + 8 :]
+    front = module[:section] + b"\x0a" + two_bytes(size + 1 + NOPS) + module[section + 2 : body]
+    return front + two_bytes(8 + NOPS) + module[body + 1 : body + 8] + b"\x01" * NOPS + module[body + 8 :]
 
 
 # MOVING with bodies so long that `edit` holds a draft of it, and what OF_EACH_KIND makes of it. Where it has to stay valid, the imports of a
@@ -277,3 +282,40 @@ WIDE_KEPT = (
 )
 MOVING_STRIPPED = MOVING.replace(b"\x00\x04\x01\x63\x01\x02", b"", 1).replace(b"\x00\x02\x01\x64", b"").replace(b"\x00\x03\x01\x63\x03", b"")
 WIDE_STRIPPED = WIDE.replace(b"\x00\x04\x01\x63\x01\x02", b"", 1).replace(b"\x00\x02\x01\x64", b"").replace(b"\x00\x03\x01\x63\x03", b"")
+PIECE = 1 << 16  # how many bytes of a listing go out together, with the rest of their last line
+
+
+def unsigned(number):
+    """A number as WebAssembly spells it, in as few bytes as may be."""
+    low, high = number & 0x7F, number >> 7
+    return bytes([low | 0x80]) + unsigned(high) if high else bytes([low])
+
+
+def run_of(nops, labels):
+    """Nops, and a br_table of so many labels."""
+    return nops * [(b"nop", b"\x01")] + [(b"br_table" + (labels + 1) * b" 0", b"\x0e" + unsigned(labels) + (labels + 1) * b"\x00")]
+
+
+def long_code(*runs):
+    """A module of one body, which has these runs of nops, each with a br_table behind it. Also what is listed of its code, and the beginnings
+    of that at which pieces of it go out, as lines come one by one."""
+    tokens = [token for run in runs for token in run_of(*run)] + [(b"end", b"\x0b")]
+    body = b"\x00" + b"".join(code for _, code in tokens)
+    contents = b"\x01" + unsigned(len(body)) + body
+    module = HEADER + b"\x01\x04\x01\x60\x00\x00\x03\x02\x01\x00\x0a" + unsigned(len(contents)) + contents
+    text, at, gone, pieces = bytearray(b"func[0] type=0:\n"), len(module) - len(body) + 1, 0, []
+    for line, code in tokens:
+        text += b" %08x: %s\n" % (at, line)
+        at += len(code)
+        if len(text) - gone >= PIECE:
+            gone = len(text)
+            pieces.append(bytes(text))
+    return module, bytes(text), pieces
+
+
+# The line of a long br_table asks for memory, behind these.
+BEHIND_PIECES = {
+    "two pieces": long_code((9034, 100000)),
+    "one piece": long_code((4456, 100000)),
+    "lines of all lengths": long_code((4000, 5), (100, 3000), (3000, 0), (1400, 100000), (7, 9)),
+}

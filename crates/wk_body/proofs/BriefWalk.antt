@@ -38,7 +38,7 @@ later w n = record { cursor = record { rest = drop n w.cursor.rest; end = w.curs
 
 -- ---- integers of one byte
 
-unsigned_passed : (out : List ℕ) (w : Walk) (n m : ℕ) → m ≡ n + 1 → n < length w.cursor.rest → get_or w.cursor.rest n 0 < 128
+pub unsigned_passed : (out : List ℕ) (w : Walk) (n m : ℕ) → m ≡ n + 1 → n < length w.cursor.rest → get_or w.cursor.rest n 0 < 128
     → Passes u32_at (get_or w.cursor.rest n 0) (short (get_or w.cursor.rest n 0)) out (later w n) out (later w m)
 unsigned_passed out w n m next within low =
     let x = get_or w.cursor.rest n 0 in
@@ -66,7 +66,7 @@ signed_passed N out w n m wide next within low =
 -- ---- an instruction
 
 -- what is an instruction of 1.0 is one of the other profile
-in_both : (profile : Profile) (opcode : ℕ) (k : Layout) → Some k ≡ layout_in (form_of Core opcode) → Some k ≡ layout_in (form_of profile opcode)
+pub in_both : (profile : Profile) (opcode : ℕ) (k : Layout) → Some k ≡ layout_in (form_of Core opcode) → Some k ≡ layout_in (form_of profile opcode)
 unfolding form_of
 in_both Core opcode k e = e
 in_both Extended opcode k e =
@@ -87,7 +87,7 @@ few (Some layouts.Memarg) = omega arith
 few _ = omega arith
 
 pub few_bytes : (opcode : ℕ) → brief_len opcode ≤ 3
-few_bytes opcode = cond_few (eqb opcode 0x0B) 1 _ (omega arith) (cond_few (eqb opcode 0x02) 2 _ (omega arith) (cond_few (eqb opcode 0x03) 2 _ (omega arith) (cond_few (eqb opcode 0x04) 2 _ (omega arith) (few (layout_in (form_of Core opcode))))))
+few_bytes opcode = cond_few (eqb opcode 0x0B) 1 _ (omega arith) (cond_few (eqb opcode 0x01) 0 _ (omega arith) (cond_few (eqb opcode 0x02) 2 _ (omega arith) (cond_few (eqb opcode 0x03) 2 _ (omega arith) (cond_few (eqb opcode 0x04) 2 _ (omega arith) (few (layout_in (form_of Core opcode)))))))
   where
     cond_few : (b : Bool) (n m : ℕ) → n ≤ 3 → m ≤ 3 → cond b n m ≤ 3
     cond_few true n m p q = p
@@ -218,33 +218,37 @@ token_passed w n opcode len number ks below within small room there long blocks 
           let m : number ≡ number_of ks / 2 = blocks ∙ ap (λ (o : ℕ). blocks_after o (number_of ks)) e in
           let p = end_passed w n ks below within (sym there ∙ e) (omega (arith, m, some)) in
           subst (λ (k : ℕ). Passed w n (n + k) number ks below) (sym l) (p.0, m ∙ p.1, p.2)
-      | inr n0 ↦ elim (cases_eq opcode 0x02) [
-        | inl e ↦
-            let l : len ≡ 2 = long ∙ ap brief_len e in
-            let m : number ≡ 2 * number_of ks = blocks ∙ ap (λ (o : ℕ). blocks_after o (number_of ks)) e in
-            subst (λ (k : ℕ). Passed w n (n + k) number ks below) (sym l) (false ∷ ks, omega (arith, m), block_step w n ks below within small room (sym there ∙ e) (ty (inl e)))
-        | inr n2 ↦ elim (cases_eq opcode 0x03) [
+      | inr n0 ↦ elim (cases_eq opcode 0x01) [
+        | inl e ↦ absurd (omega (arith, b.0, long ∙ ap brief_len e))
+        | inr n1 ↦ elim (cases_eq opcode 0x02) [
           | inl e ↦
               let l : len ≡ 2 = long ∙ ap brief_len e in
               let m : number ≡ 2 * number_of ks = blocks ∙ ap (λ (o : ℕ). blocks_after o (number_of ks)) e in
-              subst (λ (k : ℕ). Passed w n (n + k) number ks below) (sym l) (false ∷ ks, omega (arith, m), loop_step w n ks below within small room (sym there ∙ e) (ty (inr (inl e))))
-          | inr n3 ↦ elim (cases_eq opcode 0x04) [
+              subst (λ (k : ℕ). Passed w n (n + k) number ks below) (sym l) (false ∷ ks, omega (arith, m), block_step w n ks below within small room (sym there ∙ e) (ty (inl e)))
+          | inr n2 ↦ elim (cases_eq opcode 0x03) [
             | inl e ↦
                 let l : len ≡ 2 = long ∙ ap brief_len e in
-                let m : number ≡ 2 * number_of ks + 1 = blocks ∙ ap (λ (o : ℕ). blocks_after o (number_of ks)) e in
-                subst (λ (k : ℕ). Passed w n (n + k) number ks below) (sym l) (true ∷ ks, omega (arith, m), if_step w n ks below within small room (sym there ∙ e) (ty (inr (inr e))))
-            | inr n4 ↦
-                let e0 : eqb opcode 0x0B ≡ false = ne_eqb opcode 0x0B n0 in
-                let e2 : eqb opcode 0x02 ≡ false = ne_eqb opcode 0x02 n2 in
-                let e3 : eqb opcode 0x03 ≡ false = ne_eqb opcode 0x03 n3 in
-                let e4 : eqb opcode 0x04 ≡ false = ne_eqb opcode 0x04 n4 in
-                let o = layout_in (form_of Core (get_or w.cursor.rest n 0)) in
-                let same : brief_len opcode ≡ plain_len (layout_in (form_of Core opcode)) = rw (e0, e2, e3, e4) refl in
-                let l : len ≡ plain_len o = long ∙ same ∙ ap (λ (x : ℕ). plain_len (layout_in (form_of Core x))) there in
-                let kept : blocks_after opcode (number_of ks) ≡ number_of ks = rw (e0, e2, e3, e4) refl in
-                let here = subst (λ (k : ℕ). IsBrief k (get_or w.cursor.rest (n + 1) 0) (get_or w.cursor.rest (n + 2) 0)) l b in
-                subst (λ (k : ℕ). Passed w n (n + k) number ks below) (sym l)
-                (ks, blocks ∙ kept, plain_step w n ks below within small room (λ e. n0 (there ∙ e)) (λ e. n2 (there ∙ e)) (λ e. n3 (there ∙ e)) (λ e. n4 (there ∙ e)) o refl here)
+                let m : number ≡ 2 * number_of ks = blocks ∙ ap (λ (o : ℕ). blocks_after o (number_of ks)) e in
+                subst (λ (k : ℕ). Passed w n (n + k) number ks below) (sym l) (false ∷ ks, omega (arith, m), loop_step w n ks below within small room (sym there ∙ e) (ty (inr (inl e))))
+            | inr n3 ↦ elim (cases_eq opcode 0x04) [
+              | inl e ↦
+                  let l : len ≡ 2 = long ∙ ap brief_len e in
+                  let m : number ≡ 2 * number_of ks + 1 = blocks ∙ ap (λ (o : ℕ). blocks_after o (number_of ks)) e in
+                  subst (λ (k : ℕ). Passed w n (n + k) number ks below) (sym l) (true ∷ ks, omega (arith, m), if_step w n ks below within small room (sym there ∙ e) (ty (inr (inr e))))
+              | inr n4 ↦
+                  let e0 : eqb opcode 0x0B ≡ false = ne_eqb opcode 0x0B n0 in
+                  let e1 : eqb opcode 0x01 ≡ false = ne_eqb opcode 0x01 n1 in
+                  let e2 : eqb opcode 0x02 ≡ false = ne_eqb opcode 0x02 n2 in
+                  let e3 : eqb opcode 0x03 ≡ false = ne_eqb opcode 0x03 n3 in
+                  let e4 : eqb opcode 0x04 ≡ false = ne_eqb opcode 0x04 n4 in
+                  let o = layout_in (form_of Core (get_or w.cursor.rest n 0)) in
+                  let same : brief_len opcode ≡ plain_len (layout_in (form_of Core opcode)) = rw (e0, e1, e2, e3, e4) refl in
+                  let l : len ≡ plain_len o = long ∙ same ∙ ap (λ (x : ℕ). plain_len (layout_in (form_of Core x))) there in
+                  let kept : blocks_after opcode (number_of ks) ≡ number_of ks = rw (e0, e2, e3, e4) refl in
+                  let here = subst (λ (k : ℕ). IsBrief k (get_or w.cursor.rest (n + 1) 0) (get_or w.cursor.rest (n + 2) 0)) l b in
+                  subst (λ (k : ℕ). Passed w n (n + k) number ks below) (sym l)
+                  (ks, blocks ∙ kept, plain_step w n ks below within small room (λ e. n0 (there ∙ e)) (λ e. n2 (there ∙ e)) (λ e. n3 (there ∙ e)) (λ e. n4 (there ∙ e)) o refl here)
+            ]
           ]
         ]
       ]

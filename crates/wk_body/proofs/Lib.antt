@@ -34,6 +34,7 @@ pub mod WrittenParts
 pub mod ElseBranch
 pub mod CopyingLoop
 pub mod Walking
+pub mod WideWalk
 pub mod Immediates
 pub mod BriefTable
 pub mod BriefWalk

@@ -1,6 +1,6 @@
 -- Tokens that are as short as they may be: instructions that have a byte for each of their integers, ends, and openers of blocks whose
 -- type has one byte.
-use Rattle.std.specs.Prelude.{◌≡◌, ℕ, ◌+◌, ◌*◌, ◌/◌, ◌<◌, ◌⊎◌, ◌==◌, if◌then◌else◌, Bool, true, false, List, [], ◌∷◌, Option, Some}
+use Rattle.std.specs.Prelude.{◌≡◌, ℕ, ◌+◌, ◌*◌, ◌/◌, ◌<◌, ◌≤◌, ◌⊎◌, ◌==◌, if◌then◌else◌, Bool, true, false, List, [], ◌∷◌, Option, Some}
 use Rattle.wk_body.specs.declared.types.Profile.TheVariants.{Core}
 use Rattle.wk_body.specs.declared.types.ValType.{ValType}
 use Rattle.wk_body.specs.declared.layout.Layout.{Layout}
@@ -18,10 +18,11 @@ plain_len (Some layouts.Signed64) = 2
 plain_len (Some layouts.Memarg) = 3
 plain_len _ = 0
 
--- the same of a token: an end, or what opens a block, or an instruction of 1.0
+-- the same of a token: an end, or what opens a block, or an instruction of 1.0 that is no nop
 abbrev pub brief_len : ℕ → ℕ
 brief_len x =
     if x == 0x0B then 1
+    else if x == 0x01 then 0
     else if x == 0x02 then 2
     else if x == 0x03 then 2
     else if x == 0x04 then 2
@@ -30,6 +31,27 @@ brief_len x =
 -- there is such a token of that many bytes, where these bytes stand behind its opcode: an integer of one byte is below 128
 abbrev pub IsBrief : ℕ → ℕ → ℕ → Type 0
 IsBrief len x y = (0 < len) × (1 < len → x < 128) × (2 < len → y < 128)
+
+-- an unsigned integer of two bytes is as short as it may be
+abbrev pub IsWideIndex : ℕ → ℕ → Type 0
+IsWideIndex x y = (128 ≤ x) × (x < 256) × (0 < y) × (y < 128)
+
+-- a signed one is: its last byte says more than the sign of the one before
+abbrev pub IsWideNumber : ℕ → ℕ → Type 0
+IsWideNumber x y = (128 ≤ x) × (x < 256) × (y < 128) × (y ≡ 0 → 192 ≤ x) × (y ≡ 127 → x < 192)
+
+-- an instruction that isn't of those above has that many bytes, and each of its integers is as short as it may be, where these bytes
+-- stand behind its opcode
+abbrev pub IsWide : Option Layout → ℕ → ℕ → ℕ → ℕ → Type 0
+IsWide (Some layouts.Reserved) len x y z = (len ≡ 2) × (x ≡ 0)
+IsWide (Some layouts.Index) len x y z = (len ≡ 3) × IsWideIndex x y
+IsWide (Some layouts.IndexReserved) len x y z = (len ≡ 3) × (x < 128) × (y ≡ 0)
+IsWide (Some layouts.Memarg) len x y z = (len ≡ 4) × (x < 128) × IsWideIndex y z
+IsWide (Some layouts.Signed32) len x y z = (len ≡ 3) × IsWideNumber x y
+IsWide (Some layouts.Signed64) len x y z = (len ≡ 3) × IsWideNumber x y
+IsWide (Some layouts.Word32) len x y z = len ≡ 5
+IsWide (Some layouts.Word64) len x y z = len ≡ 9
+IsWide _ len x y z = ⊥
 
 -- a block type of one byte: none, or a value type
 abbrev pub IsShortType : ℕ → Type 0

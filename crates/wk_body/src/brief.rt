@@ -1,13 +1,20 @@
 //! Tokens that are as short as they may be, told by a table: instructions that have a byte for each of their integers, ends, and
 //! openers of blocks whose type has one byte.
 
-ghost use Rattle.std.specs.Prelude.{◌≡◌, ◌<◌, ◌≤◌, ◌^◌, true, ◌⊎◌, length, reverse};
-ghost use Rattle.wk_body.specs.Brief.{brief_len, number_of, blocks_after, IsBrief, IsShortType};
+ghost use Rattle.std.specs.Prelude.{ℕ, ◌+◌, ◌*◌, ◌≡◌, ◌<◌, ◌≤◌, ◌^◌, ◌%◌, true, false, ◌⊎◌, length, reverse, get_or};
+ghost use Rattle.wk_body.specs.declared.types.Profile.TheVariants.{Core};
+ghost use Rattle.wk_body.specs.Instructions.{form_of};
+ghost use Rattle.wk_body.specs.Layouts.{layout_in};
+ghost use Rattle.wk_body.specs.Brief.{brief_len, number_of, blocks_after, IsBrief, IsShortType, IsWideIndex, IsWideNumber, IsWide};
+
+use crate::layout::{Layout, layout_of};
+use crate::types::Profile;
 
 /// How many bytes the token of an opcode has, where it has a byte for each integer, and for the type of a block. It is 0 for what
-/// has others behind its opcode, for an `else`, and where 1.0 has no token.
+/// has others behind its opcode, for an `else`, and where 1.0 has no token. It is 0 for a `nop` too: where one stands, there are often
+/// many, which are counted their own way.
 static LENGTHS: [u8; 256] = [
-    1, 1, 2, 2, 2, 0, 0, 0, 0, 0, 0, 1, 2, 2, 0, 1, // 00: unreachable, nop, openers, end, br, br_if, return
+    1, 0, 2, 2, 2, 0, 0, 0, 0, 0, 0, 1, 2, 2, 0, 1, // 00: unreachable, openers, end, br, br_if, return
     2, 0, 0, 0, 0, 0, 0, 0, 0, 0, 1, 1, 0, 0, 0, 0, // 10: call, drop, select
     2, 2, 2, 2, 2, 0, 0, 0, 3, 3, 3, 3, 3, 3, 3, 3, // 20: locals, globals, loads
     3, 3, 3, 3, 3, 3, 3, 3, 3, 3, 3, 3, 3, 3, 3, 0, // 30: loads, stores
@@ -34,6 +41,16 @@ pub(crate) fn brief_len(opcode: u8) -> u8
     LENGTHS[usize::from(opcode)]
 }
 
+/// Whether the first of these bytes is an opcode that the table has a length for. Where it isn't, the token's own way is shorter than
+/// to try.
+#[inline(always)]
+pub(crate) fn begins_brief(bytes: &[u8]) -> bool {
+    match bytes.first() {
+        Some(&opcode) => brief_len(opcode) > 0,
+        None => false,
+    }
+}
+
 /// Of two bytes behind an opcode, the bits that are set where an integer has more bytes, by how many bytes the token has else.
 static MORE: [u32; 4] = [0, 0, 0x0080, 0x8080];
 
@@ -48,12 +65,21 @@ pub(crate) fn is_brief(len: u8, x: u8, y: u8) -> bool
     (u32::from(behind) & MORE[usize::from(len)]) < u32::from(len)
 }
 
+// Whether an opcode opens a block. (Both that ask it are one test then.)
+#[inline(always)]
+fn opens(opcode: u8) -> bool
+    ensures yes { result ≡ true → (0x02 ≤ opcode) × (opcode ≤ 0x04) }
+    ensures no { result ≡ false → (opcode < 0x02) ⊎ (0x04 < opcode) }
+{
+    0x02 <= opcode && opcode <= 0x04
+}
+
 // Whether the byte behind an opcode is a block type, where the opcode opens a block.
 #[inline(always)]
 fn has_type(opcode: u8, x: u8) -> bool
     ensures { result ≡ true → (opcode ≡ 0x02) ⊎ ((opcode ≡ 0x03) ⊎ (opcode ≡ 0x04)) → IsShortType x }
 {
-    opcode < 0x02 || 0x04 < opcode || x == 0x40 || (0x7C <= x && x <= 0x7F)
+    !opens(opcode) || x == 0x40 || (0x7C <= x && x <= 0x7F)
 }
 
 /// The open blocks behind a token, as the bits of a number.
@@ -62,7 +88,7 @@ pub(crate) fn blocks_after(blocks: u64, opcode: u8) -> u64
     requires { blocks ≤ 2 ^ 62 }
     ensures { result ≡ blocks_after opcode blocks }
 {
-    let opened = if 0x02 <= opcode && opcode <= 0x04 {
+    let opened = if opens(opcode) {
         2 * blocks + u64::from(opcode == 0x04)
     } else {
         blocks
@@ -97,4 +123,85 @@ pub(crate) fn passes(opcode: u8, len: u8, x: u8, y: u8, after: u64) -> bool
     ensures small { result ≡ true → after ≤ 2 ^ 62 }
 {
     is_brief(len, x, y) && has_type(opcode, x) && 0 < after && after <= MOST_BLOCKS
+}
+
+// Whether two bytes, the first lowest, are an unsigned integer that is as short as it may be.
+#[inline(always)]
+fn is_wide_index(both: u16) -> bool
+    ensures { result ≡ true → (x y : ℕ) → x < 256 → y < 256 → both ≡ x + y * 256 → IsWideIndex x y }
+{
+    both & 0x8080 == 0x0080 && both / 0x80 != 1
+}
+
+// Whether two bytes, the first lowest, are a signed integer that is as short as it may be: the bits of the last one aren't all the sign
+// of the first.
+#[inline(always)]
+fn is_wide_number(both: u16) -> bool
+    ensures { result ≡ true → (x y : ℕ) → x < 256 → y < 256 → both ≡ x + y * 256 → IsWideNumber x y }
+{
+    if both & 0x8080 != 0x0080 {
+        return false;
+    }
+    both / 0x40 != 0x002 && both / 0x40 != 0x1FF
+}
+
+// Whether the second of two bytes, the first lowest, is an unsigned integer that is as short as it may be with the byte behind them,
+// and the first is one alone.
+#[inline(always)]
+fn is_wide_second(both: u16, z: u8) -> bool
+    ensures { result ≡ true → (x y : ℕ) → x < 256 → y < 256 → both ≡ x + y * 256 → (x < 128) × IsWideIndex y z }
+{
+    both & 0x8080 == 0x8000 && 0 < z && z < 0x80
+}
+
+/// How many bytes an instruction has that the table has no length for, or that has an integer of two bytes, where two bytes, the
+/// first lowest, and a third stand behind its opcode and leave it as short as it may be. It is 0 where they don't tell.
+#[inline(always)]
+pub(crate) fn wide_len(opcode: u8, both: u16, z: u8) -> usize
+    ensures { 0 < result → (x y : ℕ) → x < 256 → y < 256 → both ≡ x + y * 256 → IsWide (layout_in (form_of Core opcode)) result x y z }
+{
+    let Some(layout) = layout_of(Profile::Core, opcode) else {
+        return 0;
+    };
+    match layout {
+        Layout::Reserved if both % 256 == 0 => 2,
+        Layout::Index if is_wide_index(both) => 3,
+        Layout::IndexReserved if both < 0x80 => 3,
+        Layout::Memarg if is_wide_second(both, z) => 4,
+        Layout::Signed32 | Layout::Signed64 if is_wide_number(both) => 3,
+        Layout::Word32 => 5,
+        Layout::Word64 => 9,
+        _ => 0,
+    }
+}
+
+/// Whether a nop is in front.
+#[inline(always)]
+pub(crate) fn begins_nop(bytes: &[u8]) -> bool {
+    match bytes.first() {
+        Some(&opcode) => opcode == 0x01,
+        None => false,
+    }
+}
+
+/// How many nops are in front. It stands apart, so that the loop over other tokens has its registers.
+#[inline(never)]
+pub(crate) fn nops(bytes: &[u8]) -> usize
+    ensures within { result ≤ length bytes.now }
+    ensures nops { (i : ℕ) → i < result → get_or bytes.now i 0 ≡ 0x01 }
+{
+    let mut count = 0;
+    while count < bytes.len() && bytes[count] == 0x01 {
+        count += 1;
+    }
+    count
+}
+
+/// Whether an else may come in the innermost of the open blocks that are the bits of a number.
+#[inline(always)]
+pub(crate) fn may_part(blocks: u64) -> bool
+    ensures some { result ≡ true → 1 < blocks }
+    ensures may { result ≡ true → blocks % 2 ≡ 1 }
+{
+    blocks > 1 && blocks % 2 == 1
 }

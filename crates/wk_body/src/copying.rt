@@ -16,7 +16,7 @@ ghost use Rattle.wk_body.specs.Walks.{Passes, PassesType, PassesGroups, Keeps, B
 ghost use Rattle.wk_body.specs.Bodies.{BodyOf};
 ghost use Rattle.wk_body.specs.Shape.{depth_limit};
 
-use crate::brief::{MOST_BLOCKS, blocks_after, number_of};
+use crate::brief::{MOST_BLOCKS, begins_brief, blocks_after, number_of};
 use crate::length::type_len;
 use crate::reader::{at_end, local_type};
 use crate::reading::{MAX_DEPTH, are_bytes};
@@ -115,7 +115,7 @@ fn pass_brief(inner: u64, reader: &TokenReader, walk: &mut Walk<'_>) -> u64
     ensures small { result ≤ 2 ^ 62 }
     ensures goes { (ks : List Bool) → inner ≡ number_of ks → BlocksPass walk.old walk.new result ks reader.now.kinds }
 {
-    if !has_room(reader) {
+    if !begins_brief(walk.cursor.rest()) || !has_room(reader) {
         return inner;
     }
     walk.pass_brief(inner)
@@ -170,7 +170,10 @@ fn pass_opening(
 {
     let after = blocks_after(*inner, opcode);
     if MOST_BLOCKS < after || !has_room(reader) {
-        open_settled(profile, opcode, at, *inner, reader, walk, out)?;
+        // A copy is lent: else the walk would lie in memory for all tokens.
+        let mut own = walk.ahead();
+        open_settled(profile, opcode, at, *inner, reader, &mut own, out)?;
+        *walk = own;
         *inner = 1;
         return Some(());
     }
@@ -269,6 +272,11 @@ fn pass_token(
             pass_else(left, walk, out)?;
             Some(false)
         }
+        0x01 => {
+            walk.pass_plain(profile, 0x01, out)?;
+            walk.pass_nops();
+            Some(false)
+        }
         _ => {
             walk.pass_plain(profile, opcode, out)?;
             Some(false)
@@ -312,19 +320,22 @@ fn pass_valtype(walk: &mut Walk<'_>) -> Option<ValType>
     Some(ty)
 }
 
-// So many local groups.
+// So many local groups. It stands apart and has a walk of its own: where there are many, no cursor lies in memory.
+#[inline(never)]
 fn pass_groups(count: u32, walk: &mut Walk<'_>, out: &mut Vec<u8>) -> Option<()>
     ensures { IfSome result (λ _. (groups : List LocalGroup) × PassesGroups count groups out.old.items walk.old out.new.items walk.new) }
 {
+    let mut own = walk.ahead();
     let mut declared: u32 = 0;
     for _ in 0..count {
-        let count = walk.pass_u32(out)?;
+        let count = own.pass_u32(out)?;
         let Some(sum) = declared.checked_add(count) else {
             return None;
         };
-        pass_valtype(walk)?;
+        pass_valtype(&mut own)?;
         declared = sum;
     }
+    *walk = own;
     Some(())
 }
 
@@ -334,7 +345,10 @@ fn pass_locals(walk: &mut Walk<'_>, out: &mut Vec<u8>) -> Option<()>
         × Passes local_groups_at groups (written_vector written_group groups) out.old.items walk.old out.new.items walk.new) }
 {
     let count = walk.pass_u32(out)?;
-    pass_groups(count, walk, out)?;
+    // A copy is lent: else the walk would lie in memory for all tokens behind.
+    let mut own = walk.ahead();
+    pass_groups(count, &mut own, out)?;
+    *walk = own;
     Some(())
 }
 

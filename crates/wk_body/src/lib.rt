@@ -12,7 +12,8 @@
 //!   [`Scratch::written_form`] lends the written form of the body that a code spells, without keeping it.
 //! - [`TokenReader`] hands out the tokens of an expression one by one, and is seen as which blocks are open and the labels of the last
 //!   `br_table` (`specs/TokenReading`): `next` gives the token that stands at the front, or none at the end that closes no block, or
-//!   the token's fault. `open_block` and `close_block` tell it of a block whose opener, or whose end, the caller has read itself.
+//!   the token's fault. `open_block`, `close_block` and `part_block` tell it of a block whose opener, whose end or whose `else` the
+//!   caller has read itself.
 //!   [`next_groups`] reads the local groups in front of a body's instructions. `specs/TokenReadingLaws` ties these to bodies and expressions
 //!   that are read whole.
 //! - [`encode_body`] and [`encode_expr`] give the written form (`specs/Written`), which spells what it was made of in each profile that

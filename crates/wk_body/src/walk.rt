@@ -3,7 +3,7 @@
 //! What stands there as it is written stays in a run of bytes that is copied at once. A call that answers nothing met something
 //! unclear, or a growth was refused: then nothing is said of what it wrote.
 
-ghost use Rattle.std.specs.Prelude.{◌≡◌, ℕ, ◌+◌, ◌≤◌, ◌^◌, Bool, ◌∷◌, [], List, ◌++◌, ◌-◌, length, take, IfSome};
+ghost use Rattle.std.specs.Prelude.{◌≡◌, ℕ, ◌+◌, ◌≤◌, ◌^◌, Bool, ◌∷◌, [], List, ◌++◌, ◌-◌, ◌<◌, length, take, get_or, IfSome};
 ghost use Rattle.std.specs.List.{flat_map};
 ghost use Rattle.byteorder.specs.Endian.{little_bytes};
 ghost use Rattle.wk_bytes.specs.Short.{short, short_signed};
@@ -14,9 +14,9 @@ ghost use Rattle.wk_body.specs.declared.types.Profile.{Profile};
 ghost use Rattle.wk_body.specs.declared.walk.Walk.{Walk};
 ghost use Rattle.wk_body.specs.Brief.{number_of};
 ghost use Rattle.wk_body.specs.Shape.{depth_limit};
-ghost use Rattle.wk_body.specs.Walks.{Passes, Keeps, PassesPlain, BlocksPass};
+ghost use Rattle.wk_body.specs.Walks.{Passes, Keeps, PassesPlain, BlocksPass, GoesOn};
 
-use crate::brief::{blocks_after, brief_len, passes};
+use crate::brief::{begins_nop, blocks_after, brief_len, may_part, nops, passes, wide_len};
 use crate::layout::{Layout, layout_of};
 use crate::reading::{are_bytes, reserved};
 use crate::types::Profile;
@@ -53,6 +53,27 @@ fn respell_signed(out: &mut Vec<u8>, run: &[u8], left: usize, n: i64) -> Option<
 {
     write_run(out, run, left)?;
     put_s64(out, n).ok()
+}
+
+// The byte that stands there, or 0 behind the end.
+#[inline(always)]
+fn byte_or_0(bytes: &[u8], at: usize) -> u8
+    ensures { at < length bytes.now → result ≡ get_or bytes.now at 0 }
+{
+    if at < bytes.len() { bytes[at] } else { 0 }
+}
+
+impl<'a> Walk<'a> {
+    // The same walk, of its own.
+    #[inline(always)]
+    pub(crate) fn ahead(&self) -> Walk<'a>
+        ensures { result ≡ self.now }
+    {
+        Walk {
+            cursor: self.cursor.ahead(),
+            run: self.run,
+        }
+    }
 }
 
 impl Walk<'_> {
@@ -144,15 +165,29 @@ impl Walk<'_> {
         Some(zero)
     }
 
-    // So many labels.
+    // So many labels. It stands apart and has a walk of its own: where there are many, no cursor lies in memory.
+    #[inline(never)]
+    fn labels_apart(&mut self, count: u32, out: &mut Vec<u8>) -> Option<()>
+        ensures { IfSome result (λ _. (labels : List ℕ)
+            × Passes (items_at u32_at count) labels (flat_map short labels) out.old.items self.old out.new.items self.new) }
+    {
+        let mut walk = self.ahead();
+        for _ in 0..count {
+            walk.pass_u32(out)?;
+        }
+        *self = walk;
+        Some(())
+    }
+
+    // So many labels. No walk but a copy is lent to the function that stands apart: else this one would lie in memory for all tokens.
     #[inline(always)]
     fn pass_labels(&mut self, count: u32, out: &mut Vec<u8>) -> Option<()>
         ensures { IfSome result (λ _. (labels : List ℕ)
             × Passes (items_at u32_at count) labels (flat_map short labels) out.old.items self.old out.new.items self.new) }
     {
-        for _ in 0..count {
-            self.pass_u32(out)?;
-        }
+        let mut own = self.ahead();
+        own.labels_apart(count, out)?;
+        *self = own;
         Some(())
     }
 
@@ -169,17 +204,19 @@ impl Walk<'_> {
     }
 
     // Tokens that are as short as they may be, as many as stand here in front of the last two bytes, where the innermost open blocks are
-    // the bits of a number. (No jump depends on which of these tokens it is, so the processor foresees each but the one that ends
-    // the run.)
+    // the bits of a number. (No jump depends on which of the brief ones it is, so the processor foresees each but the one that ends
+    // a run of them. Others that stay as they stand are passed over in the same loop: to leave it and to begin it again takes more
+    // than the token.)
     #[inline(always)]
     pub(crate) fn pass_brief(&mut self, blocks: u64) -> u64
         requires { blocks ≤ 2 ^ 62 }
         ensures small { result ≤ 2 ^ 62 }
         ensures goes { (ks below : List Bool) → blocks ≡ number_of ks → length below + 64 ≤ depth_limit → BlocksPass self.old self.new result ks below }
     {
-        // The proof asks what this says: 32 bits hold the number of bytes.
+        // The proof asks what these say: 32 bits hold the number of bytes, and each byte is below 256.
         self.cursor.at();
         let bytes = self.cursor.rest();
+        are_bytes(bytes);
         let last = bytes.len().saturating_sub(2);
         let mut inner = blocks;
         let mut at = 0;
@@ -187,16 +224,49 @@ impl Walk<'_> {
             let opcode = bytes[at];
             let len = brief_len(opcode);
             let after = blocks_after(inner, opcode);
-            if !passes(opcode, len, bytes[at + 1], bytes[at + 2], after) {
+            let (x, y) = (bytes[at + 1], bytes[at + 2]);
+            if passes(opcode, len, x, y, after) {
+                inner = after;
+                at += usize::from(len);
+            } else if opcode < 0x05 {
                 break;
+            } else if opcode == 0x05 {
+                if x == 0x0B || !may_part(inner) {
+                    break;
+                }
+                inner -= 1;
+                at += 1;
+            } else {
+                let both = u16::from_le_bytes([x, y]);
+                let size = wide_len(opcode, both, byte_or_0(bytes, at + 3));
+                if size == 0 || bytes.len() - at < size {
+                    break;
+                }
+                at += size;
             }
-            inner = after;
-            at += usize::from(len);
         }
         let Ok(_) = self.cursor.take(at as u32) else {
             unreachable!()
         };
         inner
+    }
+
+    // The nops that stand here, which are more often many than any other instruction: their run takes a look at each byte.
+    #[inline(always)]
+    pub(crate) fn pass_nops(&mut self)
+        ensures { (profile : Profile) (before out : List ℕ) (from : Walk) (ks : List Bool)
+            → GoesOn profile before from ks out self.old → GoesOn profile before from ks out self.new }
+    {
+        // The proof asks what this says: 32 bits hold the number of bytes.
+        self.cursor.at();
+        let bytes = self.cursor.rest();
+        if !begins_nop(bytes) {
+            return;
+        }
+        let count = nops(bytes);
+        let Ok(_) = self.cursor.take(count as u32) else {
+            unreachable!()
+        };
     }
 
     // What stands behind the opcode of an instruction that holds no others.

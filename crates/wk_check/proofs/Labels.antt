@@ -1,6 +1,7 @@
 -- Labels and open blocks.
-use Rattle.std.proofs.Common.{◌≡◌, ℕ, zero, suc, List, [], ◌∷◌, Option, Some, None, refl, sym, ap, ◌∙◌}
-use Rattle.std.specs.Prelude.{slice_get}
+use Rattle.std.proofs.Common.{◌≡◌, ℕ, zero, suc, List, [], ◌∷◌, Option, Some, None, length, refl, sym, ap, ◌∙◌, arith}
+use Rattle.std.proofs.lemmas.Bool.{ne_eqb}
+use Rattle.std.specs.Prelude.{slice_get, nat_eq}
 use Rattle.wk_body.specs.declared.types.ValType.{ValType}
 use Rattle.wk_body.specs.declared.types.BlockType.{BlockType}
 use Rattle.wk_body.specs.declared.types.BlockType.TheVariants.{Empty}
@@ -8,6 +9,7 @@ use Rattle.wk_body.specs.declared.references.Ref.{Ref}
 use Rattle.wk_check.specs.declared.machine.Opener.{Opener}
 use Rattle.wk_check.specs.declared.machine.Opener.TheVariants as openers
 use Rattle.wk_check.specs.Answers.{Found}
+use Rattle.wk_check.specs.Effects.{same_types}
 use Rattle.wk_check.specs.Levels.{Level, Blocks, level_label, outer_labels, labels_of}
 use Rattle.wk_check.specs.Moves.{head_in, head_at}
 
@@ -33,3 +35,8 @@ none_at A openers.Else = refl
 
 pub label_none : (A : Ref → Found) (b : Blocks) (n : ℕ) (o : Opener) → Some (o, Empty) ≡ head_at b n → slice_get (labels_of A b) n ≡ Some []
 label_none A b n o e = label_at A b n (Some (o, Empty)) e ∙ ap Some (none_at A o)
+
+-- none are the types of a list exactly where it is empty
+pub no_types : (ts : List ValType) → nat_eq (length ts) 0 ≡ same_types [] ts
+no_types [] = refl
+no_types (t ∷ ts) = ne_eqb (suc (length ts)) 0 (λ e. omega (arith, e))

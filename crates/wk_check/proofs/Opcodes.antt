@@ -31,7 +31,7 @@ use Rattle.wk_check.specs.declared.quick_blocks.Met.{Met}
 use Rattle.wk_check.specs.declared.stop.Stop.{Stop}
 use Rattle.wk_check.specs.Answers.{Found}
 use Rattle.wk_check.specs.Levels.{Blocks}
-use Rattle.wk_check.specs.Streaming.{IsTaken, IsTakenBehind, IsOpened, IsParted, IsClosed}
+use Rattle.wk_check.specs.Streaming.{IsTaken, IsTakenBehind, IsSigned, IsOpened, IsParted, IsClosed}
 
 pub br_at : (profile : Profile) (e : ReadFault) (end x : ℕ) (bytes rest : List ℕ) → u32_at end bytes ≡ Ok (x, rest) → plain_at profile e 0x0C end bytes ≡ Ok (Br x, rest)
 unfolding plain_at behind_form form_of
@@ -151,6 +151,12 @@ numeric_at profile e end opcode op bytes le is =
     let form : any_form opcode ≡ Some (Alone (Numeric op)) = ap any_form (sym (numeric_of-opcode opcode op is)) ∙ any_form-numeric op in
     rw (form_below profile opcode (Alone (Numeric op)) le form) refl
 
+sign_at : (e : ReadFault) (end opcode : ℕ) (op : NumericOp) (bytes : List ℕ) → opcode ≤ 0xC4 → numeric_of opcode ≡ Some op → plain_at Extended e opcode end bytes ≡ Ok (Numeric op, bytes)
+unfolding plain_at behind_form form_of
+sign_at e end opcode op bytes le is =
+    let form : any_form opcode ≡ Some (Alone (Numeric op)) = ap any_form (sym (numeric_of-opcode opcode op is)) ∙ any_form-numeric op in
+    rw (le-ltb 0xC4 opcode le, form) refl
+
 -- ---- a token with its opcode
 
 -- opcodes of blocks, of `else` and of `end` begin no instruction of the table
@@ -203,6 +209,29 @@ taken A locals final profile r from mid to opcode b next front t =
       typed = rw (t.is_plain r.labels) t.typed;
     }
 
+-- the same of a sign extension
+pub sign_taken : (A : Ref → Found) (locals : ℕ → Option ValType) (final : List ValType) (r : TokenReading) (from mid : Span) (opcode : ℕ) (b next : Blocks)
+    → (byte_at from.end from.rest ≡ Ok (opcode, mid.rest)) × (mid.end ≡ from.end) → IsSigned A locals final opcode b next → IsTaken A locals final Extended r r from mid b next
+sign_taken A locals final r from mid opcode b next front s =
+    let at = from.end - length (opcode ∷ mid.rest) in
+    let e : ReadFault = record { kind = UnknownOpcode; at = at } in
+    let plain : plain_at Extended e opcode mid.end mid.rest ≡ Ok (Numeric s.op, mid.rest) = sign_at e mid.end opcode s.op mid.rest s.high s.is_op in
+    let low = s.low in
+    let is = plain_token Extended r r opcode at mid mid (kept.Numeric s.op) (λ k. omega (arith, low, k)) (λ k. omega (arith, low, k)) (λ k. omega (arith, low, k)) (λ k. omega (arith, low, k)) (λ k. omega (arith, low, k))
+    (rw plain refl, refl) tt refl in
+    let takes : from.rest ≡ opcode ∷ mid.rest = byte_at-takes from.end from.rest opcode mid.rest front.0 in
+    record {
+      token = kept.Numeric s.op;
+      read = record {
+        read = ap (token_at Extended r.kinds from.end) takes ∙ subst (λ (end : ℕ). behind_at Extended r.kinds at opcode end mid.rest ≡ Ok (told r.labels (kept.Numeric s.op), mid.rest)) front.1 is.is;
+        same_end = front.1;
+        kinds = is.kinds;
+        within = is.within;
+        stands = is.stands;
+      };
+      typed = s.typed;
+    }
+
 -- ---- openers and ends
 
 block_at : (profile : Profile) (ks : List Bool) (at end : ℕ) (bytes rest : List ℕ) (block : BlockType) → length ks < depth_limit → type_at profile end bytes ≡ Ok (block, rest) → behind_at profile ks at 0x02 end bytes ≡ Ok (Open kinds.Block block 0, rest)
@@ -238,24 +267,24 @@ token_is profile ks from mid opcode t rest front is =
     ap (token_at profile ks from.end) (byte_at-takes from.end from.rest opcode mid.rest front.0) ∙ subst (λ (end : ℕ). behind_at profile ks at opcode end mid.rest ≡ Ok (t, rest)) front.1 (is at)
 
 module _ (A : Ref → Found) (locals : ℕ → Option ValType) (final : List ValType) (profile : Profile) (old new : TokenReading) (from mid to : Span) (b next : Blocks) where
-  pub block_taken : (byte_at from.end from.rest ≡ Ok (0x02, mid.rest)) × (mid.end ≡ from.end) → IsOpened A false openers.Block old new mid to b next → IsTaken A locals final profile old new from to b next
+  pub block_taken : (byte_at from.end from.rest ≡ Ok (0x02, mid.rest)) × (mid.end ≡ from.end) → IsOpened A false openers.Block profile old new mid to b next → IsTaken A locals final profile old new from to b next
   block_taken front o = record {
     token = kept.Block o.block 0;
-    read = record { read = token_is profile old.kinds from mid 0x02 (Open kinds.Block o.block 0) to.rest front (λ at. block_at profile old.kinds at mid.end mid.rest to.rest o.block o.shallow (o.read profile)); same_end = o.same_end ∙ front.1; kinds = rw o.kinds refl; within = tt; stands = tt };
+    read = record { read = token_is profile old.kinds from mid 0x02 (Open kinds.Block o.block 0) to.rest front (λ at. block_at profile old.kinds at mid.end mid.rest to.rest o.block o.shallow o.read); same_end = o.same_end ∙ front.1; kinds = rw o.kinds refl; within = tt; stands = tt };
     typed = o.typed;
   }
 
-  pub loop_taken : (byte_at from.end from.rest ≡ Ok (0x03, mid.rest)) × (mid.end ≡ from.end) → IsOpened A false openers.Loop old new mid to b next → IsTaken A locals final profile old new from to b next
+  pub loop_taken : (byte_at from.end from.rest ≡ Ok (0x03, mid.rest)) × (mid.end ≡ from.end) → IsOpened A false openers.Loop profile old new mid to b next → IsTaken A locals final profile old new from to b next
   loop_taken front o = record {
     token = kept.Loop o.block 0;
-    read = record { read = token_is profile old.kinds from mid 0x03 (Open kinds.Loop o.block 0) to.rest front (λ at. loop_at profile old.kinds at mid.end mid.rest to.rest o.block o.shallow (o.read profile)); same_end = o.same_end ∙ front.1; kinds = rw o.kinds refl; within = tt; stands = tt };
+    read = record { read = token_is profile old.kinds from mid 0x03 (Open kinds.Loop o.block 0) to.rest front (λ at. loop_at profile old.kinds at mid.end mid.rest to.rest o.block o.shallow o.read); same_end = o.same_end ∙ front.1; kinds = rw o.kinds refl; within = tt; stands = tt };
     typed = o.typed;
   }
 
-  pub if_taken : (byte_at from.end from.rest ≡ Ok (0x04, mid.rest)) × (mid.end ≡ from.end) → IsOpened A true openers.If old new mid to b next → IsTaken A locals final profile old new from to b next
+  pub if_taken : (byte_at from.end from.rest ≡ Ok (0x04, mid.rest)) × (mid.end ≡ from.end) → IsOpened A true openers.If profile old new mid to b next → IsTaken A locals final profile old new from to b next
   if_taken front o = record {
     token = kept.If o.block 0;
-    read = record { read = token_is profile old.kinds from mid 0x04 (OpenIf o.block 0) to.rest front (λ at. if_at profile old.kinds at mid.end mid.rest to.rest o.block o.shallow (o.read profile)); same_end = o.same_end ∙ front.1; kinds = rw o.kinds refl; within = tt; stands = tt };
+    read = record { read = token_is profile old.kinds from mid 0x04 (OpenIf o.block 0) to.rest front (λ at. if_at profile old.kinds at mid.end mid.rest to.rest o.block o.shallow o.read); same_end = o.same_end ∙ front.1; kinds = rw o.kinds refl; within = tt; stands = tt };
     typed = o.typed;
   }
 
@@ -283,3 +312,8 @@ module _ (A : Ref → Found) (locals : ℕ → Option ValType) (final : List Val
 pub met_where : {X Y : Type 0} (met : Met) (told : Result Met Stop) → (X → Y) → IfOk told (λ t. t ≡ met → X) → IfOk told (λ t. t ≡ met → Y)
 met_where met (Ok t) f h = λ yes. f (h yes)
 met_where met (Err e) f h = h
+
+-- the same of calls that say whether they took something
+pub true_where : {X Y : Type 0} (told : Result Bool Stop) → (X → Y) → IfOk told (λ t. t ≡ true → X) → IfOk told (λ t. t ≡ true → Y)
+true_where (Ok t) f h = λ yes. f (h yes)
+true_where (Err e) f h = h

@@ -6,6 +6,8 @@ use Rattle.wk_body.specs.declared.types.BlockType.{BlockType}
 use Rattle.wk_check.specs.declared.fault.FaultKind.{FaultKind}
 use Rattle.wk_check.specs.declared.stop.Stop.{Stop}
 use Rattle.wk_check.specs.declared.stop.Stop.TheVariants as stops
+use Rattle.wk_check.specs.declared.stop.Growth.{Growth}
+use Rattle.wk_check.specs.declared.stop.Growth.TheVariants as growths
 use Rattle.wk_check.specs.declared.machine.Opener.{Opener}
 use Rattle.wk_check.specs.declared.machine.Opener.TheVariants as openers
 use Rattle.wk_check.specs.Slots.{Slot}
@@ -76,6 +78,12 @@ abbrev pub Steps : Result Blocks FaultKind → Result (Unit {0}) Stop → Blocks
 Steps o (Ok u) new = o ≡ Ok new
 Steps o (Err (stops.Fault e)) new = o ≡ Err e
 Steps o (Err stops.Memory) new = Unit {0}
+
+-- a move, told in registers, left these blocks where it was made
+abbrev pub MadeBy : Result Blocks FaultKind → Result Growth FaultKind → Blocks → Type 0
+MadeBy o (Ok growths.Made) new = o ≡ Ok new
+MadeBy o (Ok growths.Refused) new = Unit {0}
+MadeBy o (Err e) new = o ≡ Err e
 
 abbrev pub head_in : List Level → ℕ → Option (Opener × BlockType)
 head_in [] n = None

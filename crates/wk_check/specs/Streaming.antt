@@ -1,5 +1,5 @@
 -- What is said of bodies that are typed while they are read.
-use Rattle.std.specs.Prelude.{◌≡◌, ℕ, ◌<◌, Bool, Option, Some, None, true, List, ◌∷◌, length, Ok}
+use Rattle.std.specs.Prelude.{◌≡◌, ℕ, ◌<◌, ◌≤◌, Bool, Option, Some, None, true, List, ◌∷◌, length, Ok}
 use Rattle.wk_bytes.specs.declared.fault.ReadFault.{ReadFault}
 use Rattle.wk_bytes.specs.Span.{Span}
 use Rattle.wk_body.specs.declared.types.Profile.{Profile}
@@ -9,7 +9,9 @@ use Rattle.wk_body.specs.declared.types.BlockType.TheVariants.{Index}
 use Rattle.wk_body.specs.declared.references.Ref.{Ref}
 use Rattle.wk_body.specs.declared.token.Token.{Token}
 use Rattle.wk_body.specs.Bodies.{BodyOf}
-use Rattle.wk_body.specs.Instructions.{Plain}
+use Rattle.wk_body.specs.declared.numeric.NumericOp.{NumericOp}
+use Rattle.wk_body.specs.Numeric.{numeric_of}
+use Rattle.wk_body.specs.Instructions.{Plain, Numeric}
 use Rattle.wk_body.specs.Kept.{told, IsWithin}
 use Rattle.wk_body.specs.Reading.{plain_at, type_at, may_else, after, expr_at, all_body_at}
 use Rattle.wk_body.specs.Shape.{depth_limit}
@@ -60,17 +62,25 @@ pub record IsTakenBehind (A : Ref → Found) (locals : ℕ → Option ValType) (
 abbrev pub TakesBehind : (Ref → Found) → Function → ℕ → Span → Span → Blocks → Blocks → Bool → Type 0
 TakesBehind A f opcode from to b next taken = taken ≡ true → IsTakenBehind A (local_type f.locals.params f.locals.groups) f.results.now opcode from to b next
 
+-- A sign extension was typed, which one profile has.
+pub record IsSigned (A : Ref → Found) (locals : ℕ → Option ValType) (final : List ValType) (opcode : ℕ) (b next : Blocks) : Type 0 where
+  pub op : NumericOp
+  pub low : 0xC0 ≤ opcode
+  pub high : opcode ≤ 0xC4
+  pub is_op : numeric_of opcode ≡ Some op
+  pub typed : step A locals final (Simple (Numeric op)) b ≡ Ok next
+
 -- a block type that is told without an index
 abbrev pub IsShort : BlockType → Type 0
 IsShort (Index x) = ⊥
 IsShort _ = Unit {0}
 
 -- A block was opened behind its opcode, with a test or without one.
-pub record IsOpened (A : Ref → Found) (test : Bool) (opener : Opener) (old new : TokenReading) (from to : Span) (b next : Blocks) : Type 0 where
+pub record IsOpened (A : Ref → Found) (test : Bool) (opener : Opener) (profile : Profile) (old new : TokenReading) (from to : Span) (b next : Blocks) : Type 0 where
   pub block : BlockType
   pub shallow : length old.kinds < depth_limit
   pub kinds : new.kinds ≡ test ∷ old.kinds
-  pub read : (profile : Profile) → type_at profile from.end from.rest ≡ Ok (block, to.rest)
+  pub read : type_at profile from.end from.rest ≡ Ok (block, to.rest)
   pub same_end : to.end ≡ from.end
   pub typed : entering A test opener block b ≡ Ok next
 

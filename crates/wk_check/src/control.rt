@@ -2,7 +2,7 @@
 
 ghost use Rattle.std.specs.Prelude.{◌≡◌, ◌∷◌, [], MatchOption, MatchResult, slice_get, Some, None, Err};
 ghost use Rattle.wk_check.specs.Answers.{IsPresent};
-ghost use Rattle.wk_check.specs.Effects.{Effect, params_of, results_of, known, all_known, all_same, branch_effect, branch_if_effect, table_effect, call_effect, indirect_effect, with_memory};
+ghost use Rattle.wk_check.specs.Effects.{Effect, params_of, results_of, known, all_known, all_same, has_types, branch_effect, branch_if_effect, table_effect, call_effect, indirect_effect, with_memory};
 ghost use Rattle.wk_check.specs.Levels.{level_label, labels_of, entering, halved, left, closed};
 ghost use Rattle.wk_check.specs.Moves.{Steps, Ends, acting};
 ghost use Rattle.wk_body.specs.declared.references.Ref.{Ref};
@@ -10,7 +10,9 @@ ghost use Rattle.wk_body.specs.declared.references.Ref.{Ref};
 use crate::env::{Answer, Env};
 use crate::fault::FaultKind;
 use crate::machine::{Machine, Opener};
-use crate::operands::{are_same, pop_indexed, pop_types, push_types, remove, stop, take};
+use crate::operands::{
+    are_same, pop_indexed, pop_types, push_types, remove, stop, take, take_in_line,
+};
 use crate::stop::Stop;
 use wk_module::{BlockType, Ref, ValType};
 
@@ -104,15 +106,24 @@ fn are_known<E: Env>(env: &E, m: &Machine, labels: &[u32]) -> bool
     true
 }
 
+// Whether a label has these types. Most lead to a block of no types, which is told without looking for any.
+#[inline(always)]
+fn has_types<E: Env>(env: &E, m: &Machine, to: u32, types: &[ValType]) -> bool
+    ensures { result ≡ has_types types.now (slice_get (labels_of (E.answers env.now) m.now) to) }
+{
+    match m.head(to as usize) {
+        Some((_, BlockType::Empty)) => types.is_empty(),
+        Some((opener, block)) => are_same(branch_types(env, opener, block), types),
+        None => false,
+    }
+}
+
 // Whether each label has these types.
 fn are_alike<E: Env>(env: &E, m: &Machine, labels: &[u32], types: &[ValType]) -> bool
     ensures { result ≡ all_same (labels_of (E.answers env.now) m.now) types.now labels.now }
 {
     for each in labels {
-        let Some(found) = label(env, m, *each) else {
-            return false;
-        };
-        if !are_same(found, types) {
+        if !has_types(env, m, *each, types) {
             return false;
         }
     }
@@ -163,14 +174,36 @@ pub(crate) fn branch_table<E: Env>(
     }
 }
 
+/// A `call`, in line.
+#[inline(always)]
+pub(crate) fn call_in_line<E: Env>(env: &E, m: &mut Machine, x: u32) -> Result<(), Stop>
+    ensures { Steps (acting (call_effect (E.answers env.now (Ref.Func x))) m.old) result m.new }
+{
+    match env.answer(Ref::Func(x)) {
+        Answer::Func(ty) => take_in_line(m, false, ty.params.as_slice(), ty.results.as_slice()),
+        Answer::FuncOfNoType => Err(Stop::Fault(FaultKind::UnknownType)),
+        _ => Err(Stop::Fault(FaultKind::UnknownFunc)),
+    }
+}
+
 /// A `call`.
 pub(crate) fn call<E: Env>(env: &E, m: &mut Machine, x: u32) -> Result<(), Stop>
     ensures { Steps (acting (call_effect (E.answers env.now (Ref.Func x))) m.old) result m.new }
 {
-    match env.answer(Ref::Func(x)) {
-        Answer::Func(ty) => take(m, false, ty.params.as_slice(), ty.results.as_slice()),
-        Answer::FuncOfNoType => Err(Stop::Fault(FaultKind::UnknownType)),
-        _ => Err(Stop::Fault(FaultKind::UnknownFunc)),
+    call_in_line(env, m, x)
+}
+
+/// A `call_indirect`, in line.
+#[inline(always)]
+pub(crate) fn call_indirect_in_line<E: Env>(env: &E, m: &mut Machine, x: u32) -> Result<(), Stop>
+    ensures { Steps (acting (indirect_effect (E.answers env.now (Ref.Ty x)) (E.answers env.now Ref.Table)) m.old) result m.new }
+{
+    let Answer::Ty(ty) = env.answer(Ref::Ty(x)) else {
+        return Err(Stop::Fault(FaultKind::UnknownType));
+    };
+    match env.answer(Ref::Table) {
+        Answer::Present => take_in_line(m, true, ty.params.as_slice(), ty.results.as_slice()),
+        _ => Err(Stop::Fault(FaultKind::UnknownTable)),
     }
 }
 
@@ -178,13 +211,7 @@ pub(crate) fn call<E: Env>(env: &E, m: &mut Machine, x: u32) -> Result<(), Stop>
 pub(crate) fn call_indirect<E: Env>(env: &E, m: &mut Machine, x: u32) -> Result<(), Stop>
     ensures { Steps (acting (indirect_effect (E.answers env.now (Ref.Ty x)) (E.answers env.now Ref.Table)) m.old) result m.new }
 {
-    let Answer::Ty(ty) = env.answer(Ref::Ty(x)) else {
-        return Err(Stop::Fault(FaultKind::UnknownType));
-    };
-    match env.answer(Ref::Table) {
-        Answer::Present => take(m, true, ty.params.as_slice(), ty.results.as_slice()),
-        _ => Err(Stop::Fault(FaultKind::UnknownTable)),
-    }
+    call_indirect_in_line(env, m, x)
 }
 
 /// Whether there is a memory.
@@ -216,6 +243,27 @@ pub(crate) fn enter<E: Env>(
     pop_indexed(m, test, params(env, block))?;
     m.enter(opener, block)?;
     push_types(m, params(env, block))?;
+    Ok(())
+}
+
+/// Opens a block of the type of an index, as `enter` does, in line: the type is looked for once.
+#[inline(always)]
+pub(crate) fn enter_indexed<E: Env>(
+    env: &E,
+    m: &mut Machine,
+    test: bool,
+    opener: Opener,
+    x: u32,
+) -> Result<(), Stop>
+    ensures { Steps (entering (E.answers env.now) test opener (BlockType.Index x) m.old) result m.new }
+{
+    let Answer::Ty(ty) = env.answer(Ref::Ty(x)) else {
+        return Err(Stop::Fault(FaultKind::UnknownType));
+    };
+    let params = ty.params.as_slice();
+    pop_indexed(m, test, params)?;
+    m.enter(opener, BlockType::Index(x))?;
+    push_types(m, params)?;
     Ok(())
 }
 
@@ -257,8 +305,9 @@ fn leave<E: Env>(env: &E, m: &mut Machine) -> Result<(), Stop>
     Ok(())
 }
 
-/// Ends the innermost block. The outermost one stays.
-pub(crate) fn close<E: Env>(env: &E, m: &mut Machine) -> Result<(), Stop>
+/// Ends the innermost block, in line. The outermost one stays.
+#[inline(always)]
+pub(crate) fn close_in_line<E: Env>(env: &E, m: &mut Machine) -> Result<(), Stop>
     ensures { Steps (closed (E.answers env.now) m.old.inner.opener m.old) result m.new }
 {
     match m.opener() {
@@ -268,4 +317,11 @@ pub(crate) fn close<E: Env>(env: &E, m: &mut Machine) -> Result<(), Stop>
         Opener::Body | Opener::Block | Opener::Loop | Opener::Else => {}
     }
     leave(env, m)
+}
+
+/// Ends the innermost block. The outermost one stays.
+pub(crate) fn close<E: Env>(env: &E, m: &mut Machine) -> Result<(), Stop>
+    ensures { Steps (closed (E.answers env.now) m.old.inner.opener m.old) result m.new }
+{
+    close_in_line(env, m)
 }

@@ -56,6 +56,7 @@ mod operand;
 mod operands;
 mod quick;
 mod quick_blocks;
+mod quick_extended;
 mod rule;
 mod rules;
 mod spelled;

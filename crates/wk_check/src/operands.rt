@@ -106,8 +106,9 @@ pub(crate) fn push_types(m: &mut Machine, types: &[ValType]) -> Result<(), OutOf
     Ok(())
 }
 
-/// Pops operands, and before them an i32 where there is an index, and pushes results.
-pub(crate) fn take(
+/// Pops operands, and before them an i32 where there is an index, and pushes results, in line.
+#[inline(always)]
+pub(crate) fn take_in_line(
     m: &mut Machine,
     index: bool,
     operands: &[ValType],
@@ -118,6 +119,18 @@ pub(crate) fn take(
     pop_indexed(m, index, operands)?;
     push_types(m, results)?;
     Ok(())
+}
+
+/// Pops operands, and before them an i32 where there is an index, and pushes results.
+pub(crate) fn take(
+    m: &mut Machine,
+    index: bool,
+    operands: &[ValType],
+    results: &[ValType],
+) -> Result<(), Stop>
+    ensures { Steps (on_top (after_effect (Takes (with_index index operands.now) results.now)) m.old) result m.new }
+{
+    take_in_line(m, index, operands, results)
 }
 
 /// Pops operands, and before them an i32 where there is an index, and does not go on.

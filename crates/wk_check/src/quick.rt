@@ -3,17 +3,21 @@
 //! What is told here is what reading the token and typing it do. Any other token, and each whose bytes are refused, is left to them.
 
 ghost use Rattle.std.specs.Prelude.{◌≡◌, ◌≤◌, true, false, IfOk};
+ghost use Rattle.wk_body.specs.declared.references.Ref.{Ref};
+ghost use Rattle.wk_check.specs.Effects.{call_effect, indirect_effect};
+ghost use Rattle.wk_check.specs.Moves.{acting, MadeBy};
 ghost use Rattle.wk_check.specs.Streaming.{TakesBehind};
 
-use crate::control::{branch, branch_if, call, call_indirect};
+use crate::control::{branch, branch_if, call_in_line, call_indirect_in_line};
 use crate::env::Env;
+use crate::fault::FaultKind;
 use crate::machine::Machine;
 use crate::operands::{drop_top, give, remove, select, stop};
 use crate::step::{
     Function, access, get_global, get_local, memory_grow, memory_size, numeric, set_global,
     set_local, tee_local,
 };
-use crate::stop::Stop;
+use crate::stop::{Growth, Stop, in_registers};
 use wk_bytes::Cursor;
 use wk_module::{BlockType, MemoryOp, NumericOp, ValType};
 
@@ -89,6 +93,14 @@ fn quick_const<E: Env>(
     Ok(true)
 }
 
+// A `call`, out of line, whose answer goes in registers.
+#[inline(never)]
+fn call_typed<E: Env>(env: &E, m: &mut Machine, x: u32) -> Result<Growth, FaultKind>
+    ensures { MadeBy (acting (call_effect (E.answers env.now (Ref.Func x))) m.old) result m.new }
+{
+    in_registers(call_in_line(env, m, x))
+}
+
 // A `call` behind its opcode.
 #[inline(always)]
 fn quick_call<E: Env>(
@@ -103,8 +115,10 @@ fn quick_call<E: Env>(
     let Ok(x) = cursor.u32() else {
         return Ok(false);
     };
-    call(env, m, x)?;
-    Ok(true)
+    match call_typed(env, m, x)? {
+        Growth::Made => Ok(true),
+        Growth::Refused => Err(Stop::Memory),
+    }
 }
 
 // A `global.get` behind its opcode.
@@ -358,6 +372,14 @@ fn quick_br_if<E: Env>(
     Ok(true)
 }
 
+// A `call_indirect`, out of line, whose answer goes in registers.
+#[inline(never)]
+fn indirect_typed<E: Env>(env: &E, m: &mut Machine, x: u32) -> Result<Growth, FaultKind>
+    ensures { MadeBy (acting (indirect_effect (E.answers env.now (Ref.Ty x)) (E.answers env.now Ref.Table)) m.old) result m.new }
+{
+    in_registers(call_indirect_in_line(env, m, x))
+}
+
 // A `call_indirect` behind its opcode.
 #[inline(always)]
 fn quick_call_indirect<E: Env>(
@@ -375,8 +397,10 @@ fn quick_call_indirect<E: Env>(
     let Ok(0) = cursor.byte() else {
         return Ok(false);
     };
-    call_indirect(env, m, x)?;
-    Ok(true)
+    match indirect_typed(env, m, x)? {
+        Growth::Made => Ok(true),
+        Growth::Refused => Err(Stop::Memory),
+    }
 }
 
 // A `memory.size` behind its opcode.

@@ -6,16 +6,17 @@ ghost use Rattle.wk_body.specs.Reading.{type_at};
 ghost use Rattle.wk_body.specs.TokenReading.{NextRead};
 ghost use Rattle.wk_check.specs.Effects.{local_type};
 ghost use Rattle.wk_check.specs.Levels.{entering, halved, closed};
-ghost use Rattle.wk_check.specs.Moves.{Steps};
+ghost use Rattle.wk_check.specs.Moves.{Steps, MadeBy};
 ghost use Rattle.wk_check.specs.Streaming.{IsShort, IsTaken, IsOpened, IsParted, IsClosed};
 
-use crate::control::{close, halve};
+use crate::control::{close_in_line, halve};
 use crate::env::Env;
+use crate::fault::FaultKind;
 use crate::machine::{Machine, Opener};
 use crate::operands::remove;
 use crate::quick::behind;
 use crate::step::Function;
-use crate::stop::Stop;
+use crate::stop::{Growth, Stop, in_registers};
 use wk_bytes::Cursor;
 use wk_module::{BlockType, TokenReader, ValType};
 
@@ -90,7 +91,7 @@ fn quick_open<E: Env>(
     m: &mut Machine,
     cursor: &mut Cursor<'_>,
 ) -> Result<Met, Stop>
-    ensures taken { IfOk result (λ met. met ≡ Met.Token → IsOpened (E.answers env.now) test opener reader.old reader.new cursor.old cursor.new m.old m.new) }
+    ensures taken { (profile : Profile) → IfOk result (λ met. met ≡ Met.Token → IsOpened (E.answers env.now) test opener profile reader.old reader.new cursor.old cursor.new m.old m.new) }
     ensures left { IfOk result (λ met. met ≡ Met.Other → (m.new ≡ m.old) × (reader.new ≡ reader.old)) }
     ensures never { IfOk result (λ met. met ≡ Met.Last → ⊥) }
 {
@@ -132,12 +133,12 @@ fn quick_else<E: Env>(env: &E, reader: &mut TokenReader, m: &mut Machine) -> Res
     Ok(Met::Token)
 }
 
-// The end of a block that has a type or operands, out of line.
+// The end of a block that has a type or operands, out of line, whose answer goes in registers.
 #[inline(never)]
-fn close_typed<E: Env>(env: &E, m: &mut Machine) -> Result<(), Stop>
-    ensures { Steps (closed (E.answers env.now) m.old.inner.opener m.old) result m.new }
+fn close_typed<E: Env>(env: &E, m: &mut Machine) -> Result<Growth, FaultKind>
+    ensures { MadeBy (closed (E.answers env.now) m.old.inner.opener m.old) result m.new }
 {
-    close(env, m)
+    in_registers(close_in_line(env, m))
 }
 
 // An `end`. Most close a block of no type in another, and nothing is left of it.
@@ -157,8 +158,10 @@ fn quick_end<E: Env>(env: &E, reader: &mut TokenReader, m: &mut Machine) -> Resu
         m.leave();
         return Ok(Met::Token);
     }
-    close_typed(env, m)?;
-    Ok(Met::Token)
+    match close_typed(env, m)? {
+        Growth::Made => Ok(Met::Token),
+        Growth::Refused => Err(Stop::Memory),
+    }
 }
 
 /// Types the token at the front, if it is one of those that are typed from their bytes. Else the reader and the open blocks are as

@@ -1,5 +1,10 @@
 //! Why typing stops early.
 
+ghost use Rattle.std.specs.Prelude.{Result};
+ghost use Rattle.wk_check.specs.Levels.{Blocks};
+ghost use Rattle.wk_check.specs.Moves.{Steps, MadeBy};
+ghost use Rattle.wk_check.specs.declared.fault.FaultKind.{FaultKind};
+
 use crate::fault::FaultKind;
 use wk_bytes::OutOfMemory;
 
@@ -31,5 +36,26 @@ impl From<OutOfMemory> for Stop {
 
     fn from(_e: OutOfMemory) -> Stop {
         Stop::Memory
+    }
+}
+
+/// Whether there was memory for what an instruction grows. (Beside a kind of fault it goes in a register, where a `Stop` doesn't.)
+#[derive(Clone, Copy, Debug, PartialEq, Eq)]
+pub(crate) enum Growth {
+    /// There was, or nothing grew.
+    Made,
+    /// It was refused.
+    Refused,
+}
+
+/// What an instruction came to, as a call out of line answers it: in registers.
+#[inline(always)]
+pub(crate) fn in_registers(told: Result<(), Stop>) -> Result<Growth, FaultKind>
+    ensures { (o : Result Blocks FaultKind) (new : Blocks) → Steps o told new → MadeBy o result new }
+{
+    match told {
+        Ok(()) => Ok(Growth::Made),
+        Err(Stop::Memory) => Ok(Growth::Refused),
+        Err(Stop::Fault(kind)) => Err(kind),
     }
 }

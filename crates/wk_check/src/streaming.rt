@@ -11,6 +11,7 @@ use crate::env::Env;
 use crate::locals::{Locals, put_ends, put_first};
 use crate::machine::Machine;
 use crate::quick_blocks::{Met, quick};
+use crate::quick_extended::{quick_indexed, quick_signed};
 use crate::step::{Function, type_token};
 use crate::stop::Stop;
 use std::alloc::Global;
@@ -71,9 +72,9 @@ enum Went {
     Memory,
 }
 
-// Types the token at the front, whatever it is. It stands apart, so that the loop over those that `quick` takes is small.
+// Reads the token at the front, whatever it is, and types it.
 #[inline(never)]
-fn go<E: Env>(
+fn read_on<E: Env>(
     env: &E,
     f: &Function<'_>,
     profile: Profile,
@@ -99,6 +100,61 @@ fn go<E: Env>(
             _ => Went::Wrong,
         },
     }
+}
+
+// Types the token at the front, whatever it is, in the extended profile: one that opens a block of a type index from its bytes.
+#[inline(never)]
+fn open_on<E: Env>(
+    env: &E,
+    f: &Function<'_>,
+    profile: Profile,
+    stream: &mut Stream,
+    cursor: &mut Cursor<'_>,
+) -> Went
+    requires { profile ≡ Profile.Extended }
+    ensures { GoesOn (E.answers env.now) (local_type f.now.locals.params f.now.locals.groups) f.now.results.now profile result stream.old.reader stream.new.reader cursor.old cursor.new stream.old.machine stream.new.machine }
+{
+    let Stream { reader, machine } = stream;
+    let mut ahead = cursor.ahead();
+    match quick_indexed(env, f, reader, machine, &mut ahead) {
+        Ok(true) => {
+            *cursor = ahead;
+            return Went::On;
+        }
+        Ok(false) => {}
+        Err(Stop::Fault(_)) => return Went::Wrong,
+        Err(Stop::Memory) => return Went::Memory,
+    }
+    read_on(env, f, profile, stream, cursor)
+}
+
+// Types the token at the front, whatever it is. It stands apart, so that the loop over those that `quick` takes is small. What the
+// extended profile alone has is told from its bytes here, as `quick` tells other tokens, and the rarer one behind another call: so
+// this one holds no room of a result, which would be cleared at each token.
+#[inline(never)]
+fn go<E: Env>(
+    env: &E,
+    f: &Function<'_>,
+    profile: Profile,
+    stream: &mut Stream,
+    cursor: &mut Cursor<'_>,
+) -> Went
+    ensures { GoesOn (E.answers env.now) (local_type f.now.locals.params f.now.locals.groups) f.now.results.now profile result stream.old.reader stream.new.reader cursor.old cursor.new stream.old.machine stream.new.machine }
+{
+    if profile == Profile::Core {
+        return read_on(env, f, profile, stream, cursor);
+    }
+    let mut ahead = cursor.ahead();
+    match quick_signed(env, f, &mut stream.machine, &mut ahead) {
+        Ok(true) => {
+            *cursor = ahead;
+            return Went::On;
+        }
+        Ok(false) => {}
+        Err(Stop::Fault(_)) => return Went::Wrong,
+        Err(Stop::Memory) => return Went::Memory,
+    }
+    open_on(env, f, profile, stream, cursor)
 }
 
 // Whether the instructions at the front, which have this type, go up to their end without a fault. Then the cursor stands behind

@@ -19,7 +19,7 @@ module _ (keep : Bool) where
   replies_push [] e m = refl
   replies_push (d ∷ es) e m = ap (λ rs. reply_of keep d false m ∷ rs) (replies_push es e (after_one keep d false m))
 
-pub alike_push : (rs qs : List (Result Work EditFault)) (r q : Result Work EditFault) → AreAlike rs qs → IsAlike r q → AreAlike (rs ++ r ∷ []) (qs ++ q ∷ [])
+pub alike_push : {A : Type 0} (rs : List (Result A EditFault)) (qs : List (Result Work EditFault)) (r : Result A EditFault) (q : Result Work EditFault) → AreAlike rs qs → IsAlike r q → AreAlike (rs ++ r ∷ []) (qs ++ q ∷ [])
 alike_push [] [] r q all last = (last, tt)
 alike_push [] (p ∷ qs) r q all last = absurd all
 alike_push (s ∷ rs) [] r q all last = absurd all
@@ -29,13 +29,13 @@ module _ (keep : Bool) (es : List Edit) (i : ℕ) (e : Edit) (within : i < lengt
   taken : take (i + 1) es ≡ take i es ++ e ∷ []
   taken = take_more es i e within ∙ ap (λ y. take i es ++ y ∷ []) (sym at)
 
-  pub held_more : (os : List Func) (m : Parts) (reply : Result Work EditFault) (d : Draft) → IsStepped keep e os (after keep (take i es) [] m) reply d → IsHeld os (after keep (take (i + 1) es) [] m) d
+  pub held_more : (os : List Func) (m : Parts) (reply : Result (Unit {0}) EditFault) (d : Draft) → IsStepped keep e os (after keep (take i es) [] m) reply d → IsHeld os (after keep (take (i + 1) es) [] m) d
   held_more os m reply d is =
       subst (λ (n : Parts). IsHeld os n d) (sym (ap (λ (ds : List Edit). after keep ds [] m) taken ∙ after_push keep (take i es) e m)) is.0
 
-  pub alike_more : (os : List Func) (m : Parts) (rs rs' : List (Result Work EditFault)) (reply : Result Work EditFault) (d : Draft) → IsStepped keep e os (after keep (take i es) [] m) reply d
+  pub alike_more : (os : List Func) (m : Parts) (rs rs' : List (Result (Unit {0}) EditFault)) (reply : Result (Unit {0}) EditFault) (d : Draft) → IsStepped keep e os (after keep (take i es) [] m) reply d
       → rs' ≡ rs ++ reply ∷ [] → AreAlike rs (replies_of keep (take i es) [] m) → AreAlike rs' (replies_of keep (take (i + 1) es) [] m)
   alike_more os m rs rs' reply d is pushed sofar =
-      subst (λ (ts : List (Result Work EditFault)). AreAlike ts (replies_of keep (take (i + 1) es) [] m)) (sym pushed)
+      subst (λ (ts : List (Result (Unit {0}) EditFault)). AreAlike ts (replies_of keep (take (i + 1) es) [] m)) (sym pushed)
       (subst (AreAlike (rs ++ reply ∷ [])) (sym (ap (λ (ds : List Edit). replies_of keep ds [] m) taken ∙ replies_push keep (take i es) e m))
       (alike_push rs (replies_of keep (take i es) [] m) reply _ sofar is.1))

@@ -17,10 +17,10 @@ use Rattle.wk_module.specs.Writing.{encoded, Fits}
 use Rattle.wk_check.specs.declared.fault.Verdict.{Verdict}
 use Rattle.wk_check.specs.declared.fault.Verdict.TheVariants.{Valid}
 use Rattle.wk_check.specs.SpacesLaws.{answers_of}
+use Rattle.wk_check.specs.Spelled.{judged}
 use Rattle.wk_check.specs.Verdict.{module_verdict}
 use Rattle.wk_session.specs.declared.edit.Edit.{Edit}
 use Rattle.wk_session.specs.declared.edit.EditFault.{EditFault}
-use Rattle.wk_session.specs.declared.edit.Work.{Work}
 use Rattle.wk_session.specs.Overlays.{with_items}
 use Rattle.wk_session.specs.Pieces.{code_of}
 use Rattle.wk_session.specs.Recoded.{encoded_with}
@@ -28,20 +28,11 @@ use Rattle.wk_session.specs.RecodedLaws.{recoded}
 use Rattle.wk_session.specs.Runs.{after, replies_of}
 use Rattle.wk_draft.specs.declared.draft.Draft.{Draft}
 use Rattle.wk_draft.specs.declared.run.Run.{Run}
-use Rattle.wk_draft.specs.Runs.{AreAlike, IsHeld, IsRun}
+use Rattle.wk_draft.specs.Runs.{AreAlike, IsHeld, IsOutlined, IsRun}
 use Rattle.wk_draft.proofs.SketchTypes.{same_types}
 use Rattle.wk_draft.proofs.Sketches.{same_verdict, shaped_draft}
 
 -- ---- the module that was read
-
--- a valid module, its draft, and the codes that stand aside
-pub record IsOpened (m sketch : Parts) (aside : List (List ℕ)) : Type 0 where
-  pub outline : sketch ≡ outlined m
-  pub codes : aside ≡ map code_of m.funcs
-  pub formed : AllByRecursion (λ (f : Func). IsCode m.profile f.body) m.funcs
-  pub shaped : IsShaped m
-  pub fits : Fits m
-  pub valid : module_verdict m ≡ Valid
 
 codes_formed : (profile : Profile) (fs : List Func) → AllByRecursion (IsCode profile) (map (λ (f : Func). f.body) fs) → AllByRecursion (λ (f : Func). IsCode profile f.body) fs
 codes_formed profile [] all = tt
@@ -51,11 +42,11 @@ codes_formed profile (f ∷ fs) all = (all.0, codes_formed profile fs all.1)
 pub opened_by : (profile : Profile) (b : List ℕ) (outline : Parts) (codes : List (List ℕ)) (read : Result Parts ReadFault)
     → ((n : Parts) × (read ≡ Ok n) × (module_verdict n ≡ Valid)) → IsReading profile b read → IfOk read (λ n. Fits n)
     → ((n : Parts) × (read ≡ Ok n) × (outline ≡ outlined n) × (codes ≡ map (λ (f : Func). written_body f.body) n.funcs))
-    → (m : Parts) → read ≡ Ok m → IsOpened m outline codes
+    → (m : Parts) → read ≡ Ok m → IsOutlined m outline codes
 opened_by profile b outline codes (Ok p) asked reads fits is m at =
     let here : p ≡ m = cc in
-    let there : asked.0 ≡ m = cc (asked.1, at) in
-    let told : is.0 ≡ m = cc (is.1, at) in
+    let there : asked.0 ≡ m = cc in
+    let told : is.0 ≡ m = cc in
     let shaped : IsShaped m = subst IsShaped here reads.3 in
     record {
       outline = is.2 ∙ ap outlined told;
@@ -66,6 +57,11 @@ opened_by profile b outline codes (Ok p) asked reads fits is m at =
       valid = subst (λ (n : Parts). module_verdict n ≡ Valid) there asked.2;
     }
 opened_by profile b outline codes (Err e) asked reads fits is m at = absurd cc
+
+-- the verdict on the module that was read
+pub judged_as : (read : Result Parts ReadFault) (m : Parts) (v : Verdict) → judged read ≡ Ok v → read ≡ Ok m → v ≡ module_verdict m
+judged_as (Ok n) m v is at = cc
+judged_as (Err e) m v is at = absurd cc
 
 -- ---- the module that is written
 
@@ -88,7 +84,7 @@ module _ (os : List Func) (m : Parts) (d : Draft) (held : IsHeld os m d) where
 
 -- ---- the run
 
-pub run_told : {E : Type 0} (keep : Bool) (m : Parts) (edits : List Edit) (replies : Vec (Result Work EditFault) Global) (r : Result (Option Run) E) → Fits (after keep edits [] m) → AreAlike replies.items (replies_of keep edits [] m)
+pub run_told : {E : Type 0} (keep : Bool) (m : Parts) (edits : List Edit) (replies : Vec (Result (Unit {0}) EditFault) Global) (r : Result (Option Run) E) → Fits (after keep edits [] m) → AreAlike replies.items (replies_of keep edits [] m)
     → IfOk r (λ o. IfSome o (λ run. (run.edited ≡ encoded (after keep edits [] m)) × IsShaped (after keep edits [] m) × (run.verdict ≡ module_verdict (after keep edits [] m)) × (run.replies ≡ replies)))
     → IfOk r (λ o. IfSome o (IsRun keep m edits))
 run_told keep m edits replies (Ok None) fits alike told = tt
@@ -97,6 +93,6 @@ run_told keep m edits replies (Ok (Some run)) fits alike told = record {
   shaped = told.1;
   fits = fits;
   verdict = told.2;
-  replies = subst (λ (v : Vec (Result Work EditFault) Global). AreAlike v.items (replies_of keep edits [] m)) (sym told.3) alike;
+  replies = subst (λ (v : Vec (Result (Unit {0}) EditFault) Global). AreAlike v.items (replies_of keep edits [] m)) (sym told.3) alike;
 }
 run_told keep m edits replies (Err e) fits alike told = tt

@@ -4,9 +4,12 @@ use Rattle.wk_bytes.specs.Frames.{limit}
 use Rattle.wk_body.specs.declared.shifts.Shifts.{Shifts}
 use Rattle.wk_module.specs.declared.types.Func.{Func}
 use Rattle.wk_module.specs.declared.types.Parts.{Parts}
+use Rattle.wk_module.specs.declared.types.Kind.TheVariants as kinds
+use Rattle.wk_module.specs.Imports.{import_count}
 use Rattle.wk_module.specs.Shape.{IsShaped, IsInOrderFrom}
 use Rattle.wk_module.specs.Writing.{encoded, Fits}
 use Rattle.wk_session.specs.declared.edit.Edit.{Edit}
+use Rattle.wk_session.specs.declared.edit.Edit.TheVariants as edits
 use Rattle.wk_session.specs.declared.edit.EditFault.{EditFault}
 use Rattle.wk_session.specs.declared.edit.EditFault.TheVariants.{NoSuchFunction, NoSuchExport, NoSuchCustom, IndexOverflow, TooLarge, BadBytes, WouldBreak, Memory}
 use Rattle.wk_session.specs.declared.edit.Work.{Work}
@@ -15,7 +18,7 @@ use Rattle.wk_session.specs.Runs.{after_one, is_memory, left_by, reply_of, reply
 use Rattle.wk_draft.specs.declared.draft.Draft.{Draft}
 use Rattle.wk_draft.specs.Drafts.{IsDraft, aside_room}
 use Rattle.wk_draft.specs.Runs.{IsAlike, IsHeld, IsStepped}
-use Rattle.wk_draft.specs.Steps.{Follows, IsSure, marks_after, shifts_after}
+use Rattle.wk_draft.specs.Steps.{Follows, IsSure, entry_among, marks_after, replaced, shifts_after, unmarked}
 use Rattle.wk_draft.proofs.DraftLengths.{draft_fits}
 
 -- ---- what a reply tells of the outcome
@@ -59,6 +62,22 @@ sure_other e n (BadBytes b) sure = λ same. absurd cc
 sure_other e n (WouldBreak b) sure = λ same. absurd cc
 sure_other e n Memory sure = absurd sure
 
+-- ---- the body that is replaced
+
+-- where a draft's imports are counted, this is the body that an edit replaces
+pub marks_replaced : (e : Edit) (d : Parts) (imported : ℕ) (marks : List Bool) → import_count kinds.Func d.imports ≡ imported
+    → marks_after e d marks ≡ unmarked (replaced e imported (length d.funcs)) marks
+marks_replaced (edits.Ty t) d imported marks counted = refl
+marks_replaced (edits.Import i) d imported marks counted = refl
+marks_replaced (edits.Func t code) d imported marks counted = refl
+marks_replaced (edits.Body x code) d imported marks counted = ap (λ (k : ℕ). unmarked (entry_among x k (length d.funcs)) marks) counted
+marks_replaced (edits.Global t init) d imported marks counted = refl
+marks_replaced (edits.Export x) d imported marks counted = refl
+marks_replaced (edits.Unexport name) d imported marks counted = refl
+marks_replaced (edits.SetCustom name bytes) d imported marks counted = refl
+marks_replaced (edits.StripCustom name) d imported marks counted = refl
+marks_replaced edits.StripAll d imported marks counted = refl
+
 -- ---- the step
 
 module _ (keep : Bool) (e : Edit) (os : List Func) (m : Parts) (old new : Draft) (held : IsHeld os m old)
@@ -67,7 +86,7 @@ module _ (keep : Bool) (e : Edit) (os : List Func) (m : Parts) (old new : Draft)
   pub stepped : (w : Work) → Ok w ≡ reply_of keep e false old.session → new.session ≡ after_one keep e false old.session
       → IsShaped new.session → length (encoded new.session) + aside_room os ≤ limit
       → new.shifts ≡ shifts_after e old.shifts → new.marks.items ≡ marks_after e old.session old.marks.items
-      → IsStepped keep e os m (Ok w) new
+      → IsStepped keep e os m (Ok tt) new
   stepped w replied is shaped room shifts marks =
       let r = made keep e old.session in
       let makes : r ≡ Ok new.session = accepted_by e old.session r w replied ∙ ap (λ (n : Parts). let q : Result Parts EditFault = Ok n in q) (sym is) in
@@ -80,7 +99,7 @@ module _ (keep : Bool) (e : Edit) (os : List Func) (m : Parts) (old new : Draft)
       let same_customs : new.session.customs ≡ p.customs = ap (λ (q : Parts). q.customs) drafted.sketch.rest in
       let fits : Fits p = draft_fits new.shifts os new.marks.items p new.session drafted.sketch (subst (IsInOrderFrom 0) same_customs shaped.formed.order) room in
       let stands : IsHeld os p new = record { draft = drafted; fits = fits } in
-      subst (λ (q : Result Parts EditFault). IsHeld os (left_by m q) new × IsAlike (Ok w) (reply_to e m q)) (sym comes) (stands, tt)
+      subst (λ (q : Result Parts EditFault). IsHeld os (left_by m q) new × IsAlike {A = Unit {0}} (Ok tt) (reply_to e m q)) (sym comes) (stands, tt)
 
   pub refused : (f : EditFault) → f ≢ Memory → Err f ≡ reply_of keep e (is_memory (Err f)) old.session → new.session ≡ after_one keep e (is_memory (Err f)) old.session
       → IsSure e (length (encoded old.session) + aside_room os) f → new.shifts ≡ old.shifts → new.marks.items ≡ old.marks.items
@@ -95,4 +114,4 @@ module _ (keep : Bool) (e : Edit) (os : List Func) (m : Parts) (old new : Draft)
       (subst (λ (ms : List Bool). IsDraft old.shifts os ms m new.session) (sym marks)
       (subst (IsDraft old.shifts os old.marks.items m) (sym same) held.draft)) in
       let stands : IsHeld os m new = record { draft = drafted; fits = held.fits } in
-      subst (λ (q : Result Parts EditFault). IsHeld os (left_by m q) new × IsAlike (Err f) (reply_to e m q)) (sym comes) (stands, refl)
+      subst (λ (q : Result Parts EditFault). IsHeld os (left_by m q) new × IsAlike {A = Unit {0}} (Err f) (reply_to e m q)) (sym comes) (stands, refl)

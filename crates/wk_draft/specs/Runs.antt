@@ -1,5 +1,5 @@
 -- What edits make of a draft, beside what they make of the module.
-use Rattle.std.specs.Prelude.{◌≡◌, ℕ, Bool, true, false, Option, Some, None, List, [], ◌∷◌, map, Result, Ok, Err}
+use Rattle.std.specs.Prelude.{◌≡◌, ℕ, Bool, true, false, Option, Some, None, List, [], ◌∷◌, map, Result, Ok, Err, IfSome}
 use Rattle.std.specs.List.{AllByRecursion}
 use Rattle.wk_body.specs.declared.types.Profile.{Profile}
 use Rattle.wk_body.specs.Shifts.{shifted_body}
@@ -10,8 +10,10 @@ use Rattle.wk_module.specs.declared.types.Kind.TheVariants as kinds
 use Rattle.wk_module.specs.declared.types.Parts.{Parts}
 use Rattle.wk_module.specs.Imports.{import_count}
 use Rattle.wk_module.specs.Items.{IsCode}
+use Rattle.wk_module.specs.Outlines.{outlined}
 use Rattle.wk_module.specs.Shape.{IsShaped}
 use Rattle.wk_module.specs.Writing.{encoded, Fits}
+use Rattle.wk_check.specs.declared.fault.Verdict.TheVariants.{Valid}
 use Rattle.wk_check.specs.Verdict.{module_verdict}
 use Rattle.wk_session.specs.declared.edit.Edit.{Edit}
 use Rattle.wk_session.specs.declared.edit.EditFault.{EditFault}
@@ -19,18 +21,20 @@ use Rattle.wk_session.specs.declared.edit.Work.{Work}
 use Rattle.wk_session.specs.Pieces.{code_of}
 use Rattle.wk_session.specs.Runs.{after, after_one, replies_of, reply_of}
 use Rattle.wk_draft.specs.declared.draft.Draft.{Draft}
+use Rattle.wk_draft.specs.declared.run.Drafted.{Drafted}
+use Rattle.wk_draft.specs.declared.run.Drafted.TheVariants.{Made, Unmade}
 use Rattle.wk_draft.specs.declared.run.Run.{Run}
 use Rattle.wk_draft.specs.Drafts.{IsDraft}
 
--- ---- replies
+-- ---- answers
 
--- the same, but for the work that an accepted edit took
-abbrev pub IsAlike : Result Work EditFault → Result Work EditFault → Type 0
-IsAlike (Ok v) (Ok w) = Unit {0}
+-- what an edit is answered, beside its reply: the same, but for what an accepted edit is told
+abbrev pub IsAlike : {A : Type 0} → Result A EditFault → Result Work EditFault → Type 0
+IsAlike (Ok x) (Ok w) = Unit {0}
 IsAlike (Err f) (Err g) = f ≡ g
 IsAlike _ _ = ⊥
 
-abbrev pub AreAlike : List (Result Work EditFault) → List (Result Work EditFault) → Type 0
+abbrev pub AreAlike : {A : Type 0} → List (Result A EditFault) → List (Result Work EditFault) → Type 0
 AreAlike [] [] = Unit {0}
 AreAlike (r ∷ rs) (q ∷ qs) = IsAlike r q × AreAlike rs qs
 AreAlike _ _ = ⊥
@@ -51,8 +55,8 @@ pub record IsHeld (os : List Func) (m : Parts) (d : Draft) : Type 0 where
   pub fits : Fits m
 
 -- the edit leaves the draft of what it makes of the module, and was answered as the module would answer it
-abbrev pub IsStepped : Bool → Edit → List Func → Parts → Result Work EditFault → Draft → Type 0
-IsStepped keep e os m reply d = IsHeld os (after_one keep e false m) d × IsAlike reply (reply_of keep e false m)
+abbrev pub IsStepped : Bool → Edit → List Func → Parts → Result (Unit {0}) EditFault → Draft → Type 0
+IsStepped keep e os m answer d = IsHeld os (after_one keep e false m) d × IsAlike answer (reply_of keep e false m)
 
 -- ---- the codes of bodies that stand aside, where their references stand now, and nothing in the place of any other
 
@@ -67,6 +71,17 @@ pub record IsReady (profile : Profile) (os : List Func) (m : Parts) (codes : Lis
   pub valid : AllByRecursion (λ o. IsCode profile o.body) os
   pub held : IsHeld os m d
 
+-- ---- the module that was read
+
+-- the outline of a module that is valid, as its parts and its codes
+pub record IsOutlined (m sketch : Parts) (aside : List (List ℕ)) : Type 0 where
+  pub outline : sketch ≡ outlined m
+  pub codes : aside ≡ map code_of m.funcs
+  pub formed : AllByRecursion (λ (f : Func). IsCode m.profile f.body) m.funcs
+  pub shaped : IsShaped m
+  pub fits : Fits m
+  pub valid : module_verdict m ≡ Valid
+
 -- ---- a run
 
 -- what the edits make of m, where none is refused for want of memory
@@ -76,3 +91,8 @@ pub record IsRun (keep : Bool) (m : Parts) (edits : List Edit) (r : Run) : Type 
   pub fits : Fits (after keep edits [] m)
   pub verdict : r.verdict ≡ module_verdict (after keep edits [] m)
   pub replies : AreAlike r.replies.items (replies_of keep edits [] m)
+
+-- the run, or the verdict on m where it was judged
+abbrev pub IsDrafted : Bool → Parts → List Edit → Drafted → Type 0
+IsDrafted keep m edits (Made run) = IsRun keep m edits run
+IsDrafted keep m edits (Unmade verdict) = IfSome verdict (λ v. v ≡ module_verdict m)

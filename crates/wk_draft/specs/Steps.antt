@@ -1,5 +1,5 @@
 -- What an edit makes of a module, by what it makes of its draft.
-use Rattle.std.specs.Prelude.{◌≡◌, ◌≤◌, ℕ, ◌+◌, ◌*◌, Bool, true, false, Option, Some, None, List, length, set, Result, Ok, Err}
+use Rattle.std.specs.Prelude.{◌≡◌, ◌≤◌, nat_le, nat_lt, ℕ, ◌+◌, ◌-◌, ◌*◌, Bool, true, false, ◌&&◌, if◌then◌else◌, Option, Some, None, List, length, set, Result, Ok, Err}
 use Rattle.wk_bytes.specs.Frames.{limit}
 use Rattle.wk_bytes.specs.LebLaws.{IsBytes}
 use Rattle.wk_bytes.specs.Short.{short}
@@ -23,6 +23,15 @@ use Rattle.wk_draft.specs.Drafts.{IsDraft, aside_room}
 abbrev pub unmarked : Option ℕ → List Bool → List Bool
 unmarked None marks = marks
 unmarked (Some entry) marks = set marks entry false
+
+-- which of the functions that a module defines has an index, by how many it imports and how many it defines
+abbrev pub entry_among : ℕ → ℕ → ℕ → Option ℕ
+entry_among x imported defined = if nat_le imported x && nat_lt (x - imported) defined then Some (x - imported) else None
+
+-- ... the one whose body an edit replaces
+abbrev pub replaced : Edit → ℕ → ℕ → Option ℕ
+replaced (edits.Body x code) imported defined = entry_among x imported defined
+replaced _ imported defined = None
 
 -- a body that is replaced stands aside no more
 abbrev pub marks_after : Edit → Parts → List Bool → List Bool

@@ -1,6 +1,6 @@
 //! Imports that would break a module, told before any edit is made.
 
-use wk_module::{ImportDesc, Kind, Limits, Parts, import_count};
+use wk_module::{FuncType, ImportDesc, Kind, Limits, Parts, Profile, import_count};
 use wk_session::Edit;
 
 /// The most pages that a memory may have (2.3.4, 3.2.4).
@@ -14,8 +14,14 @@ fn are_wrong(limits: &Limits, most: u32) -> bool {
     }
 }
 
-/// Whether an import looks as if it would leave an invalid module, by the types, tables and memories that are there when its turn comes. The
-/// draft would give up at it, behind the work of all edits in front of it. What comes of the edits is the same either way.
+// Whether a type may stand in a valid module (3.2.2): in WebAssembly 1.0 it has at most one result.
+fn may_stand(profile: Profile, ty: &FuncType) -> bool {
+    profile == Profile::Extended || ty.results.len() <= 1
+}
+
+/// Whether an import looks as if it would leave an invalid module, by the types, tables and memories that are there when its turn comes, where
+/// each edit has to leave a valid one. The draft would give up at it, behind the work of all edits in front of it. What comes of the
+/// edits is the same either way.
 pub(crate) fn would_break(parts: &Parts, edits: &[Edit]) -> bool {
     let imports = parts.imports.as_slice();
     let mut types = parts.types.len();
@@ -23,7 +29,7 @@ pub(crate) fn would_break(parts: &Parts, edits: &[Edit]) -> bool {
     let mut has_memory = !parts.memories.is_empty() || import_count(imports, Kind::Memory) > 0;
     for edit in edits {
         match edit {
-            Edit::Ty(_) => types = types.saturating_add(1),
+            Edit::Ty(ty) if may_stand(parts.profile, ty) => types = types.saturating_add(1),
             Edit::Import(import) => match &import.desc {
                 ImportDesc::Func(ty) => {
                     if *ty as usize >= types {

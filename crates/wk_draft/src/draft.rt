@@ -1,11 +1,11 @@
 //! A draft of a module, and one edit of it.
 
-ghost use Rattle.std.specs.Prelude.{◌≡◌, Bool, true, false, List, IfOk, IfSome, Some};
+ghost use Rattle.std.specs.Prelude.{◌≡◌, ◌+◌, true, false, List, IfOk, IfSome};
 ghost use Rattle.wk_module.specs.declared.types.Func.{Func as FuncOf};
 ghost use Rattle.wk_module.specs.declared.types.Parts.{Parts as PartsOf};
 ghost use Rattle.wk_session.specs.Runs.{after_one, is_memory, reply_of};
 ghost use Rattle.wk_draft.specs.Drafts.{aside_room};
-ghost use Rattle.wk_draft.specs.Steps.{marks_after, shifts_after, unmarked};
+ghost use Rattle.wk_draft.specs.Steps.{replaced, shifts_after, unmarked};
 ghost use Rattle.wk_draft.specs.Runs.{IsHeld, IsStepped};
 
 use crate::bytes::bytes_of_edit;
@@ -13,10 +13,11 @@ use crate::room::{has_room, is_sure};
 use wk_bytes::OutOfMemory;
 use wk_check::verdicts_that_keep;
 use wk_list::Shape;
-use wk_module::{
-    Kind, Parts, Shifts, import_count, moving_of_module, reading_of_code, written_form_of_code,
-};
+use wk_module::{Kind, Shifts, moving_of_module, reading_of_code, written_form_of_code};
 use wk_session::{Edit, EditFault, Reply, Session};
+
+/// What an edit is answered of which no work is told: whether it was made, or why it was refused.
+pub type Answer = Result<(), EditFault>;
 
 /// A draft of a module, in which a stub stands in the place of each body that stands aside.
 #[derive(Drop)]
@@ -29,16 +30,17 @@ pub(crate) struct Draft {
     pub(crate) shifts: Shifts,
 }
 
-// The function whose body an edit replaces, if it does: which of those that the module defines.
-fn replaced(parts: &Parts, edit: &Edit) -> Option<usize>
-    ensures { (marks : List Bool) → marks_after edit.now parts.now marks ≡ unmarked result marks }
+// The function whose body an edit replaces, if it does: which of so many that the module defines. Where references stand says how many it
+// imports, so that no line of a script counts all imports.
+fn replaced(edit: &Edit, shifts: Shifts, defined: usize) -> Option<usize>
+    ensures { result ≡ replaced edit.now (shifts.funcs_from + shifts.funcs_by) defined }
 {
     let Edit::Body { func, .. } = edit else {
         return None;
     };
-    let imported = import_count(parts.imports.as_slice(), Kind::Func);
+    let imported = shifts.funcs_from as usize + shifts.funcs_by as usize;
     let index = *func as usize;
-    if index < imported || index - imported >= parts.funcs.len() {
+    if index < imported || index - imported >= defined {
         return None;
     }
     Some(index - imported)
@@ -94,9 +96,9 @@ pub(crate) fn step(
     keep: bool,
     edit: &Edit,
     room: usize,
-) -> Result<Option<Reply>, OutOfMemory>
+) -> Result<Option<Answer>, OutOfMemory>
     ensures { (os : List FuncOf) (m : PartsOf) → room ≡ aside_room os → IsHeld os m draft.old
-        → IfOk result (λ r. IfSome r (λ reply. IsStepped keep edit.now os m reply draft.new)) }
+        → IfOk result (λ r. IfSome r (λ answer. IsStepped keep edit.now os m answer draft.new)) }
 {
     // The proof asks what these say: that verdicts are kept, that what has moved is formed, and that no code is shorter than its written
     // form.
@@ -105,10 +107,11 @@ pub(crate) fn step(
     reading_of_code();
     written_form_of_code();
     bytes_of_edit(edit);
-    let entry = replaced(draft.session.parts(), edit);
+    let defined = draft.session.parts().funcs.len();
+    let entry = replaced(edit, draft.shifts, defined);
     let len = draft.session.encoded_len();
     match apply(&mut draft.session, keep, edit) {
-        Ok(work) => {
+        Ok(_) => {
             let Some(shifts) = shifts_after(edit, draft.shifts) else {
                 return Ok(None);
             };
@@ -119,7 +122,7 @@ pub(crate) fn step(
             }
             unmark(&mut draft.marks, entry);
             draft.shifts = shifts;
-            Ok(Some(Ok(work)))
+            Ok(Some(Ok(())))
         }
         Err(EditFault::Memory) => Err(OutOfMemory),
         Err(fault) if is_sure(edit, len, room, fault) => Ok(Some(Err(fault))),

@@ -1,23 +1,24 @@
 //! Edits of a valid module, from its bytes.
 
-ghost use Rattle.std.specs.Prelude.{◌≡◌, ◌↔◌, ◌+◌, ◌≤◌, List, [], Ok, IfOk, IfSome, MatchResult, length, map, replicate, true};
+ghost use Rattle.std.specs.Prelude.{◌≡◌, ◌↔◌, List, [], Ok, IfOk, IfSome, MatchResult, length, map, replicate, true};
 ghost use Rattle.wk_body.specs.declared.types.Profile.{Profile as ProfileOf};
 ghost use Rattle.wk_body.specs.Reads.{FailsAs};
+ghost use Rattle.wk_body.specs.Written.{written_body};
 ghost use Rattle.wk_module.specs.declared.types.Func.{Func as FuncOf};
 ghost use Rattle.wk_module.specs.declared.types.Parts.{Parts as PartsOf};
 ghost use Rattle.wk_module.specs.ListReading.{IsReading};
 ghost use Rattle.wk_module.specs.Reading.{module_at};
 ghost use Rattle.wk_module.specs.Outlines.{outlined};
 ghost use Rattle.wk_module.specs.Shape.{IsShaped};
-ghost use Rattle.wk_module.specs.Writing.{encoded, Fits};
+ghost use Rattle.wk_module.specs.Writing.{encoded};
 ghost use Rattle.wk_check.specs.Verdict.{module_verdict};
 ghost use Rattle.wk_session.specs.Runs.{after, replies_of};
 ghost use Rattle.wk_draft.specs.Drafts.{aside_room};
-ghost use Rattle.wk_draft.specs.Runs.{AreAlike, IsFirst, IsHeld, IsReady, IsRun};
+ghost use Rattle.wk_draft.specs.Runs.{AreAlike, IsDrafted, IsFirst, IsHeld, IsOutlined, IsReady, IsRun};
 
 use crate::aside::codes_now;
 use crate::breaking::would_break;
-use crate::draft::{Draft, step};
+use crate::draft::{Answer, Draft, step};
 use crate::edited::Edited;
 use crate::room::{aside_room, has_room};
 use std::alloc::Global;
@@ -28,7 +29,7 @@ use wk_module::{
     EncodeFault, Kind, Module, Outline, Parts, Profile, Shifts, import_count, read_outline,
     reading_of_module,
 };
-use wk_session::{Edit, Reply, Session};
+use wk_session::{Edit, Session};
 
 /// What edits made of a module.
 #[derive(Debug, Drop)]
@@ -37,8 +38,17 @@ pub struct Run {
     pub edited: Edited,
     /// Its verdict.
     pub verdict: Verdict,
-    /// What each edit was answered. How much work an accepted one took is not told.
-    pub replies: Vec<Reply>,
+    /// What each edit was answered. How much work an accepted one took is not told: a draft takes other work than the module.
+    pub replies: Vec<Answer>,
+}
+
+/// What came of edits of a module of which an outline was read.
+#[derive(Debug, Drop)]
+pub enum Drafted {
+    /// They were made.
+    Made(Run),
+    /// None of them was made. The verdict on the module, where it was judged.
+    Unmade(Option<Verdict>),
 }
 
 // Where references stand at first.
@@ -112,17 +122,17 @@ fn make_edits(
     keep: bool,
     edits: &[Edit],
     room: usize,
-) -> Result<Option<Vec<Reply>>, OutOfMemory>
+) -> Result<Option<Vec<Answer>>, OutOfMemory>
     ensures { (os : List FuncOf) (m : PartsOf) → room ≡ aside_room os → IsHeld os m draft.old
         → IfOk result (λ r. IfSome r (λ replies. IsHeld os (after keep edits.now [] m) draft.new
         × AreAlike replies.items (replies_of keep edits.now [] m))) }
 {
     let mut replies = Vec::with_capacity(alloc, edits.len())?;
     for edit in edits {
-        let Some(reply) = step(draft, keep, edit, room)? else {
+        let Some(answer) = step(draft, keep, edit, room)? else {
             return Ok(None);
         };
-        replies.push_reserved(reply);
+        replies.push_reserved(answer);
     }
     Ok(Some(replies))
 }
@@ -132,7 +142,7 @@ fn run_of(
     alloc: Global,
     draft: Draft,
     codes: Vec<Items<u8>>,
-    replies: Vec<Reply>,
+    replies: Vec<Answer>,
 ) -> Result<Option<Run>, OutOfMemory>
     requires many { length draft.marks.items ≡ length codes.items }
     requires ready { (profile : ProfileOf) × (os : List FuncOf) × (m : PartsOf) × IsReady profile os m codes.items draft }
@@ -152,6 +162,33 @@ fn run_of(
         verdict,
         replies,
     }))
+}
+
+// Makes edits of a valid module, of its outline; or nothing where a draft does not serve.
+fn edit_outlined(
+    alloc: Global,
+    outline: Outline,
+    edits: &[Edit],
+    keep: bool,
+) -> Result<Option<Run>, OutOfMemory>
+    requires { (m : PartsOf) × IsOutlined m outline.«module» outline.codes.items }
+    ensures { (m : PartsOf) → IsOutlined m outline.«module» outline.codes.items
+        → IfOk result (λ r. IfSome r (IsRun keep m edits.now)) }
+{
+    let Outline { module, codes } = outline;
+    let Some(room) = aside_room(&codes) else {
+        return Ok(None);
+    };
+    let Some(mut draft) = draft_of(alloc, module, room)? else {
+        return Ok(None);
+    };
+    let Some(replies) = make_edits(alloc, &mut draft, keep, edits, room)? else {
+        return Ok(None);
+    };
+    if draft.marks.len() != codes.len() {
+        return Ok(None);
+    }
+    run_of(alloc, draft, codes, replies)
 }
 
 /// Whether the module of a profile that bytes spell is valid.
@@ -195,25 +232,62 @@ pub fn edit_valid(
 {
     // The proof asks what this says: the module is shaped and fits.
     reading_of_module(input, profile);
-    let Outline { module, codes } = match read_outline(alloc, input, profile) {
+    let outline = match read_outline(alloc, input, profile) {
         Ok(outline) => outline,
         Err(fault) if fault.kind == ReadKind::Memory => return Err(OutOfMemory),
         Err(_) => return Ok(None),
     };
-    if keep && would_break(module.parts(), edits) {
+    if keep && would_break(outline.module.parts(), edits) {
         return Ok(None);
     }
-    let Some(room) = aside_room(&codes) else {
-        return Ok(None);
-    };
-    let Some(mut draft) = draft_of(alloc, module, room)? else {
-        return Ok(None);
-    };
-    let Some(replies) = make_edits(alloc, &mut draft, keep, edits, room)? else {
-        return Ok(None);
-    };
-    if draft.marks.len() != codes.len() {
-        return Ok(None);
+    edit_outlined(alloc, outline, edits, keep)
+}
+
+// The verdict on the module that bytes spell.
+fn verdict_of(alloc: Global, input: &[u8], profile: Profile) -> Result<Verdict, OutOfMemory>
+    requires { (m : PartsOf) × (module_at profile input.now ≡ Ok m) }
+    ensures { (m : PartsOf) → module_at profile input.now ≡ Ok m → IfOk result (λ v. v ≡ module_verdict m) }
+{
+    match judge_bytes(alloc, input, profile) {
+        Ok(verdict) => Ok(verdict),
+        Err(fault) if fault.kind == ReadKind::Memory => Err(OutOfMemory),
+        // The bytes spell a module.
+        Err(_) => unreachable!(),
     }
-    run_of(alloc, draft, codes, replies)
+}
+
+/// Makes edits in order on the module of a profile that bytes spell, of which an outline was read; `keep` says whether each has to leave a
+/// valid module. The module is judged first, and an invalid one is left as it is.
+///
+/// Where they are not made, nothing is known but the verdict that is answered, if there is one; no clause says when. It is so as for
+/// [`edit_valid`]. An import that looks as if it would break the module is told before it is judged.
+///
+/// # Errors
+///
+/// Want of memory, also where an edit met it.
+pub fn edit_outline(
+    alloc: Global,
+    outline: Outline,
+    input: &[u8],
+    profile: Profile,
+    edits: &[Edit],
+    keep: bool,
+) -> Result<Drafted, OutOfMemory>
+    requires { (m : PartsOf) × (module_at profile input.now ≡ Ok m) × (outline.«module» ≡ outlined m)
+        × (outline.codes.items ≡ map (λ f. written_body f.body) m.funcs) }
+    ensures { (m : PartsOf) → module_at profile input.now ≡ Ok m → IfOk result (IsDrafted keep m edits.now) }
+{
+    // The proof asks what this says: the module is shaped and fits.
+    reading_of_module(input, profile);
+    if keep && would_break(outline.module.parts(), edits) {
+        return Ok(Drafted::Unmade(None));
+    }
+    let verdict = verdict_of(alloc, input, profile)?;
+    let Verdict::Valid = verdict else {
+        return Ok(Drafted::Unmade(Some(verdict)));
+    };
+    match edit_outlined(alloc, outline, edits, keep)? {
+        Some(run) => Ok(Drafted::Made(run)),
+        None => Ok(Drafted::Unmade(Some(Verdict::Valid))),
+    }
 }

@@ -1,23 +1,31 @@
 -- An outcome before it is written.
-use Rattle.std.specs.Prelude.{◌≡◌, ◌↔◌, ℕ, true, List, [], Option, Some, None, Ok, string_bytes}
+use Rattle.std.specs.Prelude.{◌≡◌, ℕ, Bool, true, false, List, [], map, Option, Some, None, Result, Ok, Err, string_bytes}
 use Rattle.wk_body.specs.declared.types.Profile.{Profile}
+use Rattle.wk_body.specs.Written.{written_body}
+use Rattle.wk_module.specs.declared.types.Func.{Func}
 use Rattle.wk_module.specs.declared.types.Parts.{Parts}
 use Rattle.wk_module.specs.Modules.{Spells}
+use Rattle.wk_module.specs.Outlines.{outlined}
 use Rattle.wk_module.specs.Reading.{module_at}
 use Rattle.wk_module.specs.Writing.{encoded}
-use Rattle.wk_check.specs.declared.fault.Verdict.TheVariants.{Valid}
-use Rattle.wk_check.specs.Verdict.{module_verdict}
+use Rattle.wk_session.specs.declared.edit.EditFault.{EditFault}
 use Rattle.wk_edit.specs.declared.prepared.Made.{Made}
 use Rattle.wk_edit.specs.declared.prepared.Made.TheVariants.{Nothing, Session, Edited}
 use Rattle.wk_edit.specs.declared.prepared.Opened.{Opened}
-use Rattle.wk_edit.specs.declared.prepared.Opened.TheVariants.{Whole, Judged}
+use Rattle.wk_edit.specs.declared.prepared.Opened.TheVariants.{Whole, Outlined}
 use Rattle.wk_edit.specs.declared.prepared.Prepared.{Prepared}
 use Rattle.wk_edit.specs.Outcome.{Outcome, out_of}
 
--- the module, or bytes that spell it and whether it is valid
+-- the module, or bytes that spell it and its outline
 abbrev pub IsOpened : Profile → Parts → Opened → Type 0
 IsOpened profile m (Whole s) = s ≡ m
-IsOpened profile m (Judged is_valid input) = (module_at profile input.items ≡ Ok m) × (is_valid ≡ true ↔ module_verdict m ≡ Valid)
+IsOpened profile m (Outlined outline input) =
+    (module_at profile input.items ≡ Ok m) × (outline.module ≡ outlined m) × (outline.codes.items ≡ map (λ (f : Func). written_body f.body) m.funcs)
+
+-- whether an edit was made, whatever it is told
+abbrev pub is_made : {A : Type 0} → Result A EditFault → Bool
+is_made (Ok told) = true
+is_made (Err fault) = false
 
 -- what is written of the module
 abbrev pub made_bytes : Made → List ℕ

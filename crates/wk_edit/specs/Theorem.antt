@@ -1,5 +1,6 @@
--- What the main call does, from bytes to bytes, in the words of the grammars. `edit` and `edit_in` promise `IsReport` of the outcome that
--- they write, wherever they wrote anything; `keep` says whether each edit has to leave a valid module.
+-- What the main call, `edit_owned`, does, from bytes to bytes, in the words of the grammars. It promises `IsReport` of the outcome that it
+-- writes, wherever it wrote anything, and so do `edit_in` and `edit`, which lend it bytes; `keep` says whether each edit has to leave a
+-- valid module.
 use Rattle.std.specs.Prelude.{◌≡◌, ◌≢◌, ◌⊎◌, ℕ, Bool, List, []}
 use Rattle.wk_bytes.specs.declared.fault.ReadFault.{ReadFault}
 use Rattle.wk_bytes.specs.declared.fault.ReadKind.TheVariants as kinds

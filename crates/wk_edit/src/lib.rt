@@ -10,6 +10,12 @@
 //! - After a fault of one output a beginning stands taken there, and nothing in the one behind it; after want of memory nothing in
 //!   either.
 //! - [`malformed_line`] and [`verdict_line`] lend the lines of a report to the program (`specs/ReportText`).
+//!
+//! # How it goes
+//!
+//! The module is read before the script, and both before anything is judged where a draft is worth it: then an outline is read, `wk_draft`
+//! makes the edits of it, and what it leaves a session over the whole module makes. Where the codes do not outweigh the lists, such a
+//! session makes them at once. What is written and answered is the same either way.
 #![tactic(auto)]
 
 mod bytes;
@@ -26,6 +32,7 @@ mod prepared;
 mod script;
 mod types;
 mod verb;
+mod worth;
 
 pub use fault::{RunFault, ScriptFault, Status};
 pub use job::{edit, edit_in, edit_owned};

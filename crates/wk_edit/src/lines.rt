@@ -1,16 +1,26 @@
 //! The lines of a report.
 
-ghost use Rattle.std.specs.Prelude.{◌≡◌, ◌++◌, IfOk, OnOk, string_bytes};
+ghost use Rattle.std.specs.Prelude.{◌≡◌, ◌++◌, List, Result, IfOk, OnOk, string_bytes};
+ghost use Rattle.wk_session.specs.declared.edit.EditFault.{EditFault as EditFaultOf};
+ghost use Rattle.wk_session.specs.declared.edit.Work.{Work as WorkOf};
+ghost use Rattle.wk_draft.specs.Runs.{AreAlike, IsAlike};
 ghost use Rattle.wk_edit.specs.ReportText.{malformed_text, reply_line, report_text, script_text, verdict_line};
 
 use crate::fault::ScriptFault;
 use std::alloc::{AllocError, Global};
 use wk_bytes::ReadFault;
 use wk_check::Verdict;
-use wk_session::Reply;
+use wk_session::EditFault;
 
-fn put_reply(alloc: Global, text: &mut String, number: u64, reply: &Reply) -> Result<(), AllocError>
-    ensures { OnOk result (string_bytes text.new ≡ string_bytes text.old ++ reply_line number reply.now) }
+// The line of an edit. It has no word of what an accepted one is told.
+fn put_reply<T>(
+    alloc: Global,
+    text: &mut String,
+    number: u64,
+    reply: &Result<T, EditFault>,
+) -> Result<(), AllocError>
+    ensures { (told : Result WorkOf EditFaultOf) → IsAlike reply.now told
+        → OnOk result (string_bytes text.new ≡ string_bytes text.old ++ reply_line number told) }
 {
     let line = match reply {
         Ok(_) => format!(in alloc; "{number} ok\n")?,
@@ -46,12 +56,13 @@ pub(crate) fn refused_script(alloc: Global, fault: &ScriptFault) -> Result<Strin
 
 /// The report of a run: for each edit, counted from 1, `1 ok` or `2 refused E3 NoSuchCustom`, and
 /// last `valid`, or `invalid` and the fault. Each line ends with LF.
-pub(crate) fn report(
+pub(crate) fn report<T>(
     alloc: Global,
-    replies: &[Reply],
+    replies: &[Result<T, EditFault>],
     verdict: &Verdict,
 ) -> Result<String, AllocError>
-    ensures { IfOk result (λ text. string_bytes text ≡ report_text 1 replies.now verdict.now) }
+    ensures { (told : List (Result WorkOf EditFaultOf)) → AreAlike replies.now told
+        → IfOk result (λ text. string_bytes text ≡ report_text 1 told verdict.now) }
 {
     let mut text = String::new(alloc);
     let mut number = 0;

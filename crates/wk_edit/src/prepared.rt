@@ -1,35 +1,35 @@
 //! An outcome that is computed whole before any of it is written.
-ghost use Rattle.std.specs.Prelude.{◌≡◌, ◌≢◌, Bool, true, Ok, List, IfOk, IfErr, IfSome, MatchResult, OnOk};
+ghost use Rattle.std.specs.Prelude.{◌≡◌, ◌≢◌, Bool, Ok, List, Result, IfOk, IfErr, IfSome, MatchResult, OnOk};
 ghost use Rattle.std.specs.List.{list_all, list_any};
 ghost use Rattle.wk_module.specs.declared.types.Parts.{Parts as PartsOf};
 ghost use Rattle.wk_body.specs.Reads.{FailsAs};
 ghost use Rattle.wk_module.specs.ListReading.{IsReading};
 ghost use Rattle.wk_module.specs.Reading.{module_at};
-ghost use Rattle.wk_check.specs.Verdict.{module_verdict};
 ghost use Rattle.wk_session.specs.declared.edit.Edit.{Edit as EditOf};
-ghost use Rattle.wk_session.specs.declared.edit.EditFault.{EditFault};
+ghost use Rattle.wk_session.specs.declared.edit.EditFault.{EditFault as EditFaultOf};
+ghost use Rattle.wk_session.specs.declared.edit.Work.{Work as WorkOf};
+ghost use Rattle.wk_check.specs.Verdict.{module_verdict};
+ghost use Rattle.wk_session.specs.Known.{AreFirstValid};
 ghost use Rattle.wk_session.specs.Runs.{is_memory, replies_of, after, refused_for_memory};
-ghost use Rattle.wk_draft.specs.Runs.{IsRun};
-ghost use Rattle.wk_edit.specs.Outcome.{is_accepted, is_valid, malformed_outcome, outcome_of, run_outcome, run_status, script_outcome};
-ghost use Rattle.wk_edit.specs.Prepared.{IsOpened, IsPrepared};
+ghost use Rattle.wk_draft.specs.Runs.{AreAlike, IsRun};
+ghost use Rattle.wk_edit.specs.Outcome.{malformed_outcome, outcome_of, run_outcome, run_status, script_outcome};
+ghost use Rattle.wk_edit.specs.Prepared.{IsOpened, IsPrepared, is_made};
 ghost use Rattle.wk_edit.specs.Theorem.{IsReport};
 
 use crate::fault::{RunFault, ScriptFault, Status};
 use crate::lines::{malformed_line, refused_script, report};
 use crate::script::read_script;
+use crate::worth::is_worth_draft;
 use std::alloc::Global;
-use wk_bytes::{OutOfMemory, RawSection, ReadFault, ReadKind, Sections};
+use wk_bytes::{OutOfMemory, ReadFault, ReadKind};
 use wk_check::Verdict;
-use wk_draft::{Edited, Run, edit_valid, is_valid};
+use wk_draft::{Drafted, Edited, Run, edit_outline};
 use wk_list::Shape;
-use wk_module::{Profile, one_module, reading_of_code, reading_of_module, written_form_of_module};
-use wk_session::{Edit, EditFault, Reply, Session};
-
-/// The id of the code section (5.5.13).
-const CODES: u8 = 10;
-
-/// Codes of fewer bytes on the average, their sizes with them, take no longer than stubs.
-const LEAST: usize = 16;
+use wk_module::{
+    Outline, Profile, one_module, read_outline, reading_of_code, reading_of_module,
+    written_form_of_module,
+};
+use wk_session::{Edit, EditFault, Reply, Session, valid_bodies};
 
 /// The edited module, if there is one.
 #[derive(Drop)]
@@ -95,15 +95,16 @@ fn has_memory(replies: &[Reply]) -> bool
 }
 
 // Whether all edits were accepted.
-fn are_accepted(replies: &[Reply]) -> bool
-    ensures { result ≡ list_all is_accepted replies.now }
+fn are_accepted<T>(replies: &[Result<T, EditFault>]) -> bool
+    ensures { result ≡ list_all is_made replies.now }
 {
     replies.iter().all(|reply| reply.is_ok())
 }
 
 // How a run ends.
-fn status_of(replies: &[Reply], verdict: &Verdict) -> Status
-    ensures { result ≡ run_status replies.now verdict.now }
+#[tactic(auto, using(crate::proofs::DraftOutcomes::all_made))]
+fn status_of<T>(replies: &[Result<T, EditFault>], verdict: &Verdict) -> Status
+    ensures { (told : List (Result WorkOf EditFaultOf)) → AreAlike replies.now told → result ≡ run_status told verdict.now }
 {
     if are_accepted(replies) && matches!(verdict, Verdict::Valid) {
         Status::Accepted
@@ -178,44 +179,34 @@ fn of_draft(alloc: Global, run: Run) -> Result<Prepared, RunFault>
     })
 }
 
-// Makes the edits on a module that was judged, where it is valid, with its untouched bodies as bytes; or does not, and the module is to be
-// held whole.
-fn drafted(
-    alloc: Global,
-    is_valid: bool,
-    input: &[u8],
-    edits: &[Edit],
-    keep_valid: bool,
-    profile: Profile,
-) -> Result<Option<Prepared>, RunFault>
-    requires { is_valid ≡ true → (m : PartsOf) × (module_at profile input.now ≡ Ok m) × (module_verdict m ≡ Verdict.Valid) }
-    ensures ok { (m : PartsOf) → module_at profile input.now ≡ Ok m
-        → IfOk result (λ r. IfSome r (IsPrepared (run_outcome keep_valid m edits.now))) }
-    ensures memory { IfErr result (λ e. e ≡ RunFault.Memory) }
+// How many bodies from the first on are known to be valid, by the verdict on their module, if there is one.
+fn known_bodies(verdict: &Option<Verdict>) -> usize
+    ensures { (m : PartsOf) → IfSome verdict.now (λ v. v ≡ module_verdict m) → AreFirstValid result m }
 {
-    if !is_valid {
-        return Ok(None);
-    }
-    match edit_valid(alloc, input, profile, edits, keep_valid)? {
-        Some(run) => Ok(Some(of_draft(alloc, run)?)),
-        None => Ok(None),
+    match verdict {
+        Some(verdict) => valid_bodies(verdict),
+        None => 0,
     }
 }
 
-// Makes the edits on a module that is held whole. Its bytes are let go once it is read.
+// Makes the edits on a module that is held whole. Its bytes are let go once it is read, and bodies that its verdict tells to be valid are not
+// typed again.
 fn by_session(
     alloc: Global,
     input: Vec<u8>,
+    verdict: Option<Verdict>,
     edits: &[Edit],
     keep_valid: bool,
     profile: Profile,
 ) -> Result<Prepared, RunFault>
-    requires { (m : PartsOf) × (module_at profile input.items ≡ Ok m) }
+    requires spelled { (m : PartsOf) × (module_at profile input.items ≡ Ok m) }
+    requires judged { (m : PartsOf) → module_at profile input.items ≡ Ok m → IfSome verdict (λ v. v ≡ module_verdict m) }
     ensures ok { (m : PartsOf) → module_at profile input.items ≡ Ok m
         → IfOk result (IsPrepared (run_outcome keep_valid m edits.now)) }
     ensures memory { IfErr result (λ e. e ≡ RunFault.Memory) }
 {
-    let opened = Session::open_in(alloc, &input, profile);
+    let known = known_bodies(&verdict);
+    let opened = Session::open_behind(alloc, &input, profile, known);
     drop(input);
     match opened {
         Ok(session) => of_run(alloc, session, edits, keep_valid),
@@ -230,36 +221,17 @@ fn by_session(
 pub(crate) enum Opened {
     /// It is held whole.
     Whole(Session),
-    /// It is judged, and still to be held.
-    Judged {
-        /// Whether it is valid.
-        is_valid: bool,
+    /// It is still to be judged.
+    Outlined {
+        /// Its outline.
+        outline: Outline,
         /// Its bytes.
         input: Vec<u8>,
     },
 }
 
-// Whether codes have more than so many bytes on the average.
-fn are_long(codes: &RawSection<'_>) -> bool {
-    match codes.cursor().u32() {
-        Ok(count) => codes.contents.len() / LEAST > count as usize,
-        Err(_) => false,
-    }
-}
-
-// Whether the bodies are so long that a draft is worth its stubs. What comes of the edits is the same where it is not.
-fn is_worth_draft(input: &[u8]) -> bool {
-    for section in Sections::new(input) {
-        match section {
-            Ok(section) if section.id == CODES => return are_long(&section),
-            Ok(_) => {}
-            Err(_) => return false,
-        }
-    }
-    false
-}
-
-// Reads a module: judges it where a draft may serve, and else holds it whole and lets its bytes go.
+// Reads a module: without its bodies where a draft may serve, and else whole, and lets its bytes go. Nothing is judged before all is read where
+// a draft may serve, so that what is malformed is refused in the time of reading.
 fn open(alloc: Global, input: Vec<u8>, profile: Profile) -> Result<Opened, ReadFault>
     ensures exact { MatchResult result
         (λ opened. (m : PartsOf) × (module_at profile input.items ≡ Ok m) × IsOpened profile m opened)
@@ -269,8 +241,8 @@ fn open(alloc: Global, input: Vec<u8>, profile: Profile) -> Result<Opened, ReadF
     // The proof asks what this says: what is read is what the grammar spells.
     reading_of_module(&input, profile);
     if is_worth_draft(&input) {
-        let is_valid = is_valid(alloc, &input, profile)?;
-        return Ok(Opened::Judged { is_valid, input });
+        let outline = read_outline(alloc, &input, profile)?;
+        return Ok(Opened::Outlined { outline, input });
     }
     Ok(Opened::Whole(Session::open_in(alloc, &input, profile)?))
 }
@@ -287,13 +259,15 @@ fn run_edits(
     ensures ok { (m : PartsOf) → IsOpened profile m opened → IfOk result (IsPrepared (run_outcome keep_valid m edits.now)) }
     ensures memory { IfErr result (λ e. e ≡ RunFault.Memory) }
 {
-    let (is_valid, input) = match opened {
+    let (outline, input) = match opened {
         Opened::Whole(session) => return of_run(alloc, session, edits, keep_valid),
-        Opened::Judged { is_valid, input } => (is_valid, input),
+        Opened::Outlined { outline, input } => (outline, input),
     };
-    match drafted(alloc, is_valid, &input, edits, keep_valid, profile)? {
-        Some(prepared) => Ok(prepared),
-        None => by_session(alloc, input, edits, keep_valid, profile),
+    match edit_outline(alloc, outline, &input, profile, edits, keep_valid)? {
+        Drafted::Made(run) => of_draft(alloc, run),
+        Drafted::Unmade(verdict) => {
+            by_session(alloc, input, verdict, edits, keep_valid, profile)
+        }
     }
 }
 

@@ -1,14 +1,17 @@
 //! Edits of a valid module of which the untouched bodies stay bytes, beside those of a session over the whole module.
 
-use crate::sessions::{run, says};
+use crate::sessions::{open, run, says};
 use crate::walks::{EMPTY, TWO_RESULTS};
 use std::alloc::Global;
 use std::test::Fail;
 use wk_bytes::{ReadFault, ReadKind, Sink};
-use wk_draft::{Edited, Run, edit_valid, is_valid};
+use wk_check::judge_bytes;
+use wk_draft::{Answer, Drafted, Edited, Run, edit_outline, edit_valid, is_valid};
 use wk_edit::read_script;
-use wk_module::Profile;
-use wk_session::{Edit, Reply, Session};
+use wk_module::{Profile, read_outline};
+use wk_samples::moving::MOVING;
+use wk_samples::wide::WIDE;
+use wk_session::{Edit, Reply};
 
 // It imports a function and a global, and defines a global and two functions. The first of these calls both that stand before it, the
 // second itself and, from either branch of an `if`, the same two; its integers are padded.
@@ -17,6 +20,15 @@ const BODIES: &[u8] =
     \x03\x03\x02\0\x01\x06\x06\x01\x7f\x01\x41\x01\x0b\x07\x05\x01\x01x\0\x02\
     \x0a\x32\x02\x11\0\x10\0\x10\x01\x23\0\x24\x01\x23\x01\x1a\x41\xc0\0\x1a\x0b\
     \x1e\0\x20\0\x10\x82\x80\x80\x80\0\x23\x81\x80\x80\x80\0\x6a\x41\0\x04\x40\x10\0\x05\x10\x01\x0b\x41\x03\x1a\x0b\0\x02\x01c";
+
+// It has two types, a function and an export, and nothing that moves.
+const PLAIN: &[u8] =
+    b"\0asm\x01\0\0\0\x01\x08\x02\x60\0\0\x60\x01\x7f\0\x03\x02\x01\0\x07\x05\x01\x01x\0\0\x0a\x09\x01\x07\0\x41\0\x1a\x01\x01\x0b";
+
+const IMPORTS: &[u8] = b"import func m h 0\nimport global m k i32 const\n";
+
+// A module and its profile.
+type Module = (&'static [u8], Profile);
 
 // Scripts, and whether each edit has to leave a valid module.
 static SCRIPTS: [(&[u8], bool); 8] = [
@@ -48,21 +60,21 @@ static SCRIPTS: [(&[u8], bool); 8] = [
     (b"strip\nimport func m h 9\ntype - -\n", false),
 ];
 
-fn is_alike(reply: &Reply, wanted: &Reply) -> bool {
-    match (reply, wanted) {
-        (Ok(_), Ok(_)) => true,
+fn is_alike(answer: &Answer, wanted: &Reply) -> bool {
+    match (answer, wanted) {
+        (Ok(()), Ok(_)) => true,
         (Err(fault), Err(other)) => *fault == *other,
         _ => false,
     }
 }
 
-fn are_alike(replies: &[Reply], wanted: &[Reply]) -> bool {
-    for (reply, other) in replies.iter().zip(wanted) {
-        if !is_alike(reply, other) {
+fn are_alike(answers: &[Answer], wanted: &[Reply]) -> bool {
+    for (answer, other) in answers.iter().zip(wanted) {
+        if !is_alike(answer, other) {
             return false;
         }
     }
-    replies.len() == wanted.len()
+    answers.len() == wanted.len()
 }
 
 fn written(alloc: Global, edited: &Edited) -> Option<Vec<u8>> {
@@ -71,9 +83,17 @@ fn written(alloc: Global, edited: &Edited) -> Option<Vec<u8>> {
     Some(out.into_inner())
 }
 
+// Valid modules of the shapes for which a draft is meant: of few kinds of lists, and of all, in either profile.
+static MODULES: [Module; 4] = [
+    (BODIES, Profile::Core),
+    (PLAIN, Profile::Core),
+    (MOVING, Profile::Core),
+    (WIDE, Profile::Extended),
+];
+
 // Whether a session over the whole module answers the edits so, and leaves the same.
-fn is_of_session(alloc: Global, made: &Run, edits: &[Edit], keep: bool) -> bool {
-    let Ok(mut session) = Session::open(alloc, BODIES) else {
+fn is_of_session(alloc: Global, module: Module, made: &Run, edits: &[Edit], keep: bool) -> bool {
+    let Ok(mut session) = open(alloc, module.1, module.0) else {
         return false;
     };
     let Ok(replies) = run(&mut session, keep, edits) else {
@@ -87,33 +107,62 @@ fn is_of_session(alloc: Global, made: &Run, edits: &[Edit], keep: bool) -> bool 
     }
 }
 
-// What edits make of the module, where it is found valid.
-fn made_of(alloc: Global, edits: &[Edit], keep: bool) -> Option<Run> {
-    let Ok(is_valid) = is_valid(alloc, BODIES, Profile::Core) else {
+// What edits make of a module, where it is found valid.
+fn made_of(alloc: Global, module: Module, edits: &[Edit], keep: bool) -> Option<Run> {
+    let (bytes, profile) = module;
+    let Ok(is_valid) = is_valid(alloc, bytes, profile) else {
         return None;
     };
     if !is_valid {
         return None;
     }
-    edit_valid(alloc, BODIES, Profile::Core, edits, keep).ok()?
+    edit_valid(alloc, bytes, profile, edits, keep).ok()?
 }
 
-// Whether they make what those of a session make.
-fn is_drafted(alloc: Global, script: &[u8], keep: bool) -> bool {
-    let Ok(edits) = read_script(alloc, script) else {
+// What comes of edits of a module of which an outline was read.
+fn drafted_of(alloc: Global, module: Module, edits: &[Edit], keep: bool) -> Option<Drafted> {
+    let (bytes, profile) = module;
+    let Ok(outline) = read_outline(alloc, bytes, profile) else {
+        return None;
+    };
+    edit_outline(alloc, outline, bytes, profile, edits, keep).ok()
+}
+
+// Whether both make what those of a session make.
+fn are_drafted(alloc: Global, module: Module, edits: &[Edit], keep: bool) -> bool {
+    let Some(made) = made_of(alloc, module, edits, keep) else {
         return false;
     };
-    match made_of(alloc, &edits, keep) {
-        Some(made) => is_of_session(alloc, &made, &edits, keep),
-        None => false,
+    let Some(Drafted::Made(other)) = drafted_of(alloc, module, edits, keep) else {
+        return false;
+    };
+    is_of_session(alloc, module, &made, edits, keep)
+        && is_of_session(alloc, module, &other, edits, keep)
+}
+
+fn is_drafted(alloc: Global, module: Module, script: &[u8], keep: bool) -> bool {
+    match read_script(alloc, script) {
+        Ok(edits) => are_drafted(alloc, module, &edits, keep),
+        Err(_) => false,
     }
 }
 
 // The first script whose edits make something else.
 fn wrong_script(alloc: Global) -> Option<&'static [u8]> {
     for (script, keep) in &SCRIPTS {
-        if !is_drafted(alloc, script, *keep) {
+        if !is_drafted(alloc, (BODIES, Profile::Core), script, *keep) {
             return Some(*script);
+        }
+    }
+    None
+}
+
+// The first module of which an import of each kind that moves makes something else.
+fn wrong_module(alloc: Global) -> Option<&'static [u8]> {
+    for (bytes, profile) in &MODULES {
+        let module = (*bytes, *profile);
+        if !is_drafted(alloc, module, b"", true) || !is_drafted(alloc, module, IMPORTS, true) {
+            return Some(*bytes);
         }
     }
     None
@@ -122,15 +171,35 @@ fn wrong_script(alloc: Global) -> Option<&'static [u8]> {
 #[test]
 fn drafts(rt: HostRuntime) -> Result<(), Fail> {
     assert_eq!(rt; wrong_script(rt.alloc()), None);
+    assert_eq!(rt; wrong_module(rt.alloc()), None);
     Ok(())
 }
 
-// An import that would break the module is not answered for it.
-fn gives_up(alloc: Global) -> bool {
-    match read_script(alloc, b"import func m h 9\n") {
-        Ok(edits) => made_of(alloc, &edits, true).is_none(),
-        Err(_) => false,
+// Edits that may be left to a session.
+fn left(alloc: Global, module: Module, script: &[u8]) -> Option<Drafted> {
+    let edits = read_script(alloc, script).ok()?;
+    drafted_of(alloc, module, &edits, true)
+}
+
+// Whether edits of a module are left to a session, with a verdict that is that of the module.
+fn is_left(alloc: Global, module: Module, script: &[u8]) -> bool {
+    match left(alloc, module, script) {
+        Some(Drafted::Unmade(Some(verdict))) => {
+            judge_bytes(alloc, module.0, module.1) == Ok(verdict)
+        }
+        Some(Drafted::Unmade(None)) => true,
+        Some(Drafted::Made(_)) => false,
+        None => false,
     }
+}
+
+// An import that would break the module is not answered for it, nor any edit of an invalid module; an import of a type that is refused in
+// front of it neither.
+fn gives_up(alloc: Global) -> bool {
+    let module = (BODIES, Profile::Core);
+    is_left(alloc, module, b"import func m h 9\n")
+        && is_left(alloc, module, b"type - i32,i32\nimport func m h 2\n")
+        && is_left(alloc, (TWO_RESULTS, Profile::Core), b"")
 }
 
 #[test]

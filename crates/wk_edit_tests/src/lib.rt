@@ -5,6 +5,8 @@
 #![tactic(auto)]
 
 #[cfg(test)]
+mod choices;
+#[cfg(test)]
 mod chopped;
 #[cfg(test)]
 mod drafts;

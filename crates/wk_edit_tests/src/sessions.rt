@@ -6,10 +6,10 @@ use std::alloc::Global;
 use std::collections::BTreeSet;
 use std::test::Fail;
 use wk_bytes::{OutOfMemory, ReadFault, ReadKind, Sink};
-use wk_check::{Fault, FaultKind, Place, Verdict};
+use wk_check::{Fault, FaultKind, Place, Verdict, judge_bytes};
 use wk_edit::read_script;
 use wk_module::{Profile, Ref, read_in};
-use wk_session::{Edit, Reply, Session};
+use wk_session::{Edit, Reply, Session, valid_bodies};
 
 // The bytes that a session writes.
 fn written(alloc: Global, session: &Session) -> Option<Vec<u8>> {
@@ -36,11 +36,23 @@ pub(crate) fn open(alloc: Global, profile: Profile, bytes: &[u8]) -> Result<Sess
     }
 }
 
-// Whether a module is opened with this verdict, and written as these bytes.
+// The same behind the bodies that are known to be valid by the verdict of its bytes.
+fn open_judged(alloc: Global, profile: Profile, bytes: &[u8]) -> Result<Session, ReadFault> {
+    let verdict = judge_bytes(alloc, bytes, profile)?;
+    Session::open_behind(alloc, bytes, profile, valid_bodies(&verdict))
+}
+
+// Whether a module is opened with this verdict, and written as these bytes, whether its bodies are typed or known to be valid.
 fn opens_as(alloc: Global, profile: Profile, bytes: &[u8], whole: &[u8], verdict: Verdict) -> bool {
-    match open(alloc, profile, bytes) {
-        Ok(session) => says(alloc, &session, whole, verdict),
-        Err(_) => false,
+    let opened = (
+        open(alloc, profile, bytes),
+        open_judged(alloc, profile, bytes),
+    );
+    match opened {
+        (Ok(session), Ok(judged)) => {
+            says(alloc, &session, whole, verdict) && says(alloc, &judged, whole, verdict)
+        }
+        _ => false,
     }
 }
 

@@ -1,9 +1,8 @@
 -- Tokens whose immediates are of one byte each.
-use Rattle.std.proofs.Common.{◌≡◌, ℕ, ◌<◌, [], ◌∷◌, ◌⊎◌, inl, inr, length, arith, rules, length-append}
+use Rattle.std.proofs.Common.{◌≡◌, ℕ, ◌<◌, [], ◌∷◌, ◌⊎◌, inl, inr, ap, length, arith, rules, length-append}
 use Rattle.std.specs.Prelude.{ℤ, pos, negsuc, ◌≤ℤ◌, ◌<ℤ◌, IsTrue, nat_lt}
 use Rattle.wk_bytes.specs.Short.{short, short_signed}
-use Rattle.wk_bytes.specs.ShortLaws.{short_signed-few, short_signed-some}
-use Rattle.wk_bytes.proofs.ShortLoop.{len_1}
+use Rattle.wk_bytes.specs.ShortLaws.{short-last, short_signed-few, short_signed-some}
 use Rattle.wk_body.specs.declared.memory.MemoryOp.{MemoryOp}
 use Rattle.wk_body.specs.declared.token.Token.{Token}
 use Rattle.wk_body.specs.declared.token.Token.TheVariants.{Br, BrIf, Call, CallIndirect, LocalGet, LocalSet, LocalTee, GlobalGet, GlobalSet, Access}
@@ -13,6 +12,9 @@ use Rattle.wk_body.specs.Written.{tok_bytes}
 pub one_byte_signed : (z : ℤ) → negsuc 63 ≤ℤ z → z <ℤ pos 64 → length (short_signed z) ≡ 1
 one_byte_signed (pos n) lo hi = let near : n < 64 = search rules in omega (arith, short_signed-few 7 (pos n) (omega arith) near, short_signed-some (pos n))
 one_byte_signed (negsuc n) lo hi = let near : n < 64 = search rules in omega (arith, short_signed-few 7 (negsuc n) (omega arith) near, short_signed-some (negsuc n))
+
+len_1 : (n : ℕ) → n < 128 → length (short n) ≡ 1
+len_1 n small = ap length (short-last n small)
 
 below : (x : ℕ) → IsTrue (nat_lt x 128) → length (short x) ≡ 1
 below x h = let near : x < 128 = search rules in len_1 x near

@@ -49,13 +49,19 @@ stops_here a b all left so_far = (so_far.0, left, so_far.1, so_far.2)
 
 -- ---- two calls, one after the other
 
+pub leaves_more : (a b c : Option (List ℕ)) (x y between new : List ℕ) → Leaves a b x between → Leaves b c (between ++ y) new → Leaves a c (x ++ y) new
+leaves_more a b c x y between new p q =
+    (p.0 ++ q.0, ap (λ (r : List ℕ). r ++ y) p.1 ∙ append_assoc p.0 between y ∙ ap (λ (r : List ℕ). p.0 ++ r) q.1 ∙ sym (append_assoc p.0 q.0 new), Appends-then a b c p.0 q.0 p.2 q.2)
+
+pub stops_more : (a b c : Option (List ℕ)) (x y between : List ℕ) → Leaves a b x between → TakesFront b c (between ++ y) → TakesFront a c (x ++ y)
+stops_more a b c x y between p q =
+    (p.0 ++ q.0, q.1, ap (λ (r : List ℕ). r ++ y) p.1 ∙ append_assoc p.0 between y ∙ ap (λ (r : List ℕ). p.0 ++ r) q.2 ∙ sym (append_assoc p.0 q.0 q.1), Appends-then a b c p.0 q.0 p.2 q.3)
+
 pub leaves_both : (a b c : Option (List ℕ)) (t x y between new : List ℕ) → Leaves a b (t ++ x) between → Leaves b c (between ++ y) new → Leaves a c (t ++ (x ++ y)) new
-leaves_both a b c t x y between new p q =
-    (p.0 ++ q.0, sym (append_assoc t x y) ∙ ap (λ (r : List ℕ). r ++ y) p.1 ∙ append_assoc p.0 between y ∙ ap (λ (r : List ℕ). p.0 ++ r) q.1 ∙ sym (append_assoc p.0 q.0 new), Appends-then a b c p.0 q.0 p.2 q.2)
+leaves_both a b c t x y between new p q = subst (λ (r : List ℕ). Leaves a c r new) (append_assoc t x y) (leaves_more a b c (t ++ x) y between new p q)
 
 pub stops_first : (a b : Option (List ℕ)) (t x y : List ℕ) → TakesFront a b (t ++ x) → TakesFront a b (t ++ (x ++ y))
 stops_first a b t x y p = subst (λ (r : List ℕ). TakesFront a b r) (append_assoc t x y) (TakesFront-first a b (t ++ x) y p)
 
 pub stops_second : (a b c : Option (List ℕ)) (t x y between : List ℕ) → Leaves a b (t ++ x) between → TakesFront b c (between ++ y) → TakesFront a c (t ++ (x ++ y))
-stops_second a b c t x y between p q =
-    (p.0 ++ q.0, q.1, sym (append_assoc t x y) ∙ ap (λ (r : List ℕ). r ++ y) p.1 ∙ append_assoc p.0 between y ∙ ap (λ (r : List ℕ). p.0 ++ r) q.2 ∙ sym (append_assoc p.0 q.0 q.1), Appends-then a b c p.0 q.0 p.2 q.3)
+stops_second a b c t x y between p q = subst (λ (r : List ℕ). TakesFront a c r) (append_assoc t x y) (stops_more a b c (t ++ x) y between p q)

@@ -17,6 +17,9 @@ use wk_module::{BlockType, Token};
 /// The room that a line may take besides its name and the spaces in front of it.
 const MOST: usize = 128;
 
+/// How far the name of a line may reach on a sheet, so that there is room for what stands behind it.
+pub(crate) const NAMED: usize = ROOM - MOST;
+
 /// A line on a sheet: the place behind it, and how many bytes its token is.
 #[derive(Clone, Copy)]
 pub(crate) struct Line {
@@ -174,7 +177,7 @@ fn put_front(sheet: &mut [u8; ROOM], used: usize, at: u32, depth: usize) -> usiz
 }
 
 /// The line of a token at an offset and a depth, behind so many bytes of a sheet, or nothing for a token that has labels in a pool,
-/// and where the sheet might have too little room.
+/// and where its name would reach too far.
 #[inline(always)]
 #[tactic(auto, unfolding(crate::specs::CodeText::code_line))]
 pub(crate) fn put_brief_line(
@@ -183,16 +186,18 @@ pub(crate) fn put_brief_line(
     token: &Token,
     at: u32,
     depth: usize,
+    reach: usize,
 ) -> Option<Line>
     requires shallow { depth < 2 ^ 32 }
     requires inside { used ≤ ROOM }
+    requires reach { reach ≤ NAMED }
     ensures inside { IfSome result (λ line. line.end ≤ ROOM) }
     ensures text { IfSome result (λ line. (pool : List ℕ) → take line.end sheet.new ≡ take used sheet.old ++ code_line at depth (tok_text (told pool token.now))) }
     ensures len { IfSome result (λ line. (pool : List ℕ) → line.len ≡ length (tok_bytes (told pool token.now))) }
     ensures none { IfNone result (take used sheet.new ≡ take used sheet.old) }
 {
     let name = token.name().as_bytes();
-    if used + 2 * depth + name.len() > ROOM - MOST {
+    if used + 2 * depth + name.len() > reach {
         return None;
     }
     let front = put_front(sheet, used, at, depth);

@@ -12,10 +12,10 @@ ghost use Rattle.wk_list.specs.Taken.{Leaves, failed_after};
 ghost use Rattle.wk_list.specs.CodeText.{code_line, group_text, locals_text, entry_head, entry_text, entries_text, expr_text, code_start, code_text};
 ghost use Rattle.wk_list.specs.TokenText.{tok_text, toks_text, toks_length};
 
-use crate::brief::{Line, put_brief_line};
+use crate::brief::{Line, NAMED, put_brief_line};
 use crate::fault::ListFault;
 use crate::headers::{HEADER_LEN, contents_start, section_end};
-use crate::page::spill;
+use crate::page::{spill, wanting};
 use crate::rows::put_field;
 use crate::shape::Shape;
 use crate::sheet::ROOM;
@@ -28,6 +28,28 @@ use wk_module::{Expr, Func, Kind, LocalGroup, Token};
 
 /// The id of the code section (5.5.2).
 const CODES: u8 = 10;
+
+// How far names may reach on a sheet behind this text. Where both are long enough to go out, no name has room: so the text goes out
+// behind the same line, and before the next one asks for memory, as if each line went behind it by itself.
+fn reach_behind(text: &[u8]) -> usize
+    ensures { result ≤ NAMED }
+{
+    NAMED.min(wanting(text))
+}
+
+// The lines on a sheet go behind the text.
+fn put_sheet<W: Out>(sheet: &[u8], text: &mut Vec<u8>, out: &mut W) -> Result<(), ListFault>
+    requires room { W.failed out.old < 2 ^ 64 - 1 }
+    ensures ok { OnOk result (Leaves (W.taken out.old) (W.taken out.new) (text.old.items ++ sheet.now) text.new.items) }
+    ensures err { OnErr result (TakesFront (W.taken out.old) (W.taken out.new) (text.old.items ++ sheet.now)) }
+    ensures failures { W.failed out.new ≡ failed_after (W.failed out.old) result }
+{
+    if sheet.is_empty() {
+        return Ok(());
+    }
+    text.extend_from_slice(sheet)?;
+    spill(text, out)
+}
 
 // The lines on a sheet, and behind them the line of a token that goes to no sheet.
 #[inline(never)]
@@ -47,12 +69,12 @@ fn list_long_line<W: Out>(
     ensures err { OnErr result (TakesFront (W.taken out.old) (W.taken out.new) (text.old.items ++ sheet.now ++ code_line at depth (tok_text (told labels.now token.now)))) }
     ensures failures { W.failed out.new ≡ failed_after (W.failed out.old) result }
 {
-    text.extend_from_slice(sheet)?;
+    put_sheet(sheet, text, out)?;
     put_line(text, labels, token, at, depth)?;
     spill(text, out)
 }
 
-// The line of a token, behind so many bytes of a sheet. Its end is how many stand on it then.
+// The line of a token, behind so many bytes of a sheet, on which names may reach so far. Its end is how many stand on it then.
 #[inline(always)]
 fn list_token<W: Out>(
     labels: &[u32],
@@ -61,6 +83,7 @@ fn list_token<W: Out>(
     depth: usize,
     sheet: &mut [u8; ROOM],
     used: usize,
+    reach: &mut usize,
     text: &mut Vec<u8>,
     out: &mut W,
 ) -> Result<Line, ListFault>
@@ -68,16 +91,19 @@ fn list_token<W: Out>(
     requires within { IsWithin (length labels.now) token.now }
     requires shallow { depth < 2 ^ 32 }
     requires inside { used ≤ ROOM }
+    requires reach { reach.old ≤ NAMED }
+    ensures reach { reach.new ≤ NAMED }
     ensures inside { IfOk result (λ line. line.end ≤ ROOM) }
     ensures ok { IfOk result (λ line. Leaves (W.taken out.old) (W.taken out.new) (text.old.items ++ take used sheet.old ++ code_line at depth (tok_text (told labels.now token.now))) (text.new.items ++ take line.end sheet.new)) }
     ensures len { IfOk result (λ line. line.len ≡ length (tok_bytes (told labels.now token.now))) }
     ensures err { OnErr result (TakesFront (W.taken out.old) (W.taken out.new) (text.old.items ++ take used sheet.old ++ code_line at depth (tok_text (told labels.now token.now)))) }
     ensures failures { W.failed out.new ≡ failed_after (W.failed out.old) result }
 {
-    if let Some(line) = put_brief_line(sheet, used, token, at, depth) {
+    if let Some(line) = put_brief_line(sheet, used, token, at, depth, *reach) {
         return Ok(line);
     }
     list_long_line(&sheet[..used], labels, token, at, depth, text, out)?;
+    *reach = reach_behind(text);
     let len = token.head_len(labels);
     Ok(Line { end: 0, len })
 }
@@ -102,16 +128,16 @@ fn list_tokens<W: Out>(
     let mut at = start;
     let mut depth = 0;
     let mut used = 0;
+    let mut reach = reach_behind(text);
     while let Some((token, after)) = rest.split_first() {
         let (here, behind) = depths(token, depth);
-        let line = list_token(labels, token, at, here, sheet, used, text, out)?;
+        let line = list_token(labels, token, at, here, sheet, used, &mut reach, text, out)?;
         at += line.len as u32;
         used = line.end;
         depth = behind;
         rest = after;
     }
-    text.extend_from_slice(&sheet[..used])?;
-    spill(text, out)
+    put_sheet(&sheet[..used], text, out)
 }
 
 // The lines of an expression whose first instruction stands at `start`.

@@ -11,6 +11,11 @@ use wk_bytes::{Out, put_all};
 /// How many bytes of text are worth a call of the [`Out`].
 const PIECE: usize = 1 << 16;
 
+/// How many bytes are wanting until the text is long enough to go out.
+pub(crate) fn wanting(text: &[u8]) -> usize {
+    PIECE.saturating_sub(text.len())
+}
+
 /// Puts out the text that was gathered, if it is long.
 ///
 /// What is left of it stays. After a fault a beginning of it was taken.

@@ -26,6 +26,9 @@ use wk_bytes::{Items, RawSection, ReadFault, ReadKind, Sections};
 /// A body that traps, without locals.
 const STUB: &[u8] = &[0x00, 0x00, 0x0B];
 
+// For how many codes room is made behind the first. Behind them it grows with the codes that are read.
+const FIRST_ROOM: usize = 64;
+
 /// A module of which each body stands aside, as its written form.
 #[derive(Debug, Drop)]
 pub struct Outline {
@@ -70,8 +73,9 @@ fn next_written(
     Ok(Items::from_vec(Vec::from_slice(alloc, written)?))
 }
 
-// The written form of each code of the code section, where that many functions were declared.
-#[tactic(auto, using(crate::proofs::VectorReading::goes_on, crate::proofs::VectorReading::stops, crate::proofs::VectorReading::is_done))]
+// The written form of each code of the code section, where that many functions were declared. Room for a few is made once the first is
+// read; else it grows with the codes and not with the number.
+#[tactic(auto, using(crate::proofs::VectorReading::goes_on, crate::proofs::VectorReading::stops, crate::proofs::VectorReading::is_done, crate::proofs::Outlining::opened_front))]
 fn read_written(
     alloc: Global,
     scratch: &mut Scratch,
@@ -82,9 +86,13 @@ fn read_written(
     ensures { Reads (λ x. x.items) result (all_at (codes_aside_at profile funcs) (section_end (raw_view section.now)) section.now.contents.now) }
 {
     let mut codes = CodeReader::open(section, funcs)?;
-    let mut written = Vec::with_capacity(alloc, funcs)?;
+    let mut written = Vec::new(alloc);
     for _ in 0..funcs {
-        written.push(next_written(alloc, scratch, profile, &mut codes)?)?;
+        let code = next_written(alloc, scratch, profile, &mut codes)?;
+        if written.is_empty() {
+            written.reserve(funcs.min(FIRST_ROOM))?;
+        }
+        written.push(code)?;
     }
     codes.end()?;
     Ok(written)

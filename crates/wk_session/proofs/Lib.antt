@@ -36,3 +36,5 @@ pub mod CodeLengths
 pub mod ImportPieces
 pub mod Growing
 pub mod Opening
+pub mod KnownBodies
+pub mod Names

@@ -1,6 +1,6 @@
 -- What an import moves of code entries.
-use Rattle.std.proofs.Common.{◌≡◌, ℕ, ◌+◌, ◌<◌, Bool, true, false, cond, ◌||◌, List, [], ◌∷◌, ◌++◌, length, map, take, drop, get_or, count_by, Option, unwrap_or, Global, refl, ap, sym, subst, ◌∙◌, arith, length-append}
-use Rattle.std.specs.Prelude.{option_map}
+use Rattle.std.proofs.Common.{◌≡◌, ℕ, ◌+◌, ◌<◌, Bool, true, false, cond, ◌||◌, List, [], ◌∷◌, ◌++◌, length, map, take, drop, get_or, count_by, Option, Some, unwrap_or, Global, refl, ap, sym, subst, ◌∙◌, arith, length-append}
+use Rattle.std.specs.Prelude.{option_map, is_some, IfOk, Result, Ok, Err}
 use Rattle.std.specs.declared.collections.BTreeSet.{BTreeSet}
 use Rattle.std.specs.List.{list_any}
 use Rattle.std.proofs.lemmas.List.{take_more, drop_more, map_push, length-map, length-take-le, get_or_at}
@@ -60,10 +60,22 @@ module _ {A B C : Type 0} (f : A → C) (g : B → C) (p : C → Bool) (q : B �
       let rest : map f xs ≡ map g ys = cc in
       ap (λ (b : Bool). b || list_any (λ x. p (f x)) xs) (ap p first ∙ same y) ∙ ap (λ (b : Bool). q y || b) (any_told xs ys rest)
 
--- ---- one entry more
+-- ---- one entry
 
 abbrev set_keys : BTreeSet Ref Global → List Ref
 set_keys s = s.keys
+
+-- what is kept of an entry that moves
+pub shifted_is : {E : Type 0} (kind : Kind) (from : ℕ) (f g : Func) (r : Result MovedEntry E) → moved_func kind from f ≡ g → is_code_moving kind from f.body.instrs ≡ true
+    → IfOk r (λ e. option_map set_keys e.refs ≡ Some (uses_of g)) → IfOk r (λ e. e.code ≡ Some (code_of g)) → IfOk r (IsMovedEntry kind from f)
+shifted_is kind from f g (Ok e) is moves refs code = record {
+  refs = ap (λ (o : Option (List Ref)). unwrap_or o (uses_of f)) refs ∙ ap uses_of (sym is);
+  code = ap (λ (o : Option (List ℕ)). unwrap_or o (code_of f)) code ∙ ap code_of (sym is);
+  moves = ap is_some code ∙ sym moves;
+}
+shifted_is kind from f g (Err x) is moves refs code = tt
+
+-- ---- one entry more
 
 one_cond : (b : Bool) → one_if b ≡ cond {A = ℕ} b 1 0
 one_cond true = refl
@@ -106,6 +118,12 @@ module _ (kind : Kind) (from : ℕ) where
     encoded = encoded ∙ ap (λ (k : ℕ). k + one_if (is_moving f)) all.encoded ∙ sym (count_push is_moving xs f);
     ref_count = omega (arith, all.ref_count, ap length refs, length-append e.refs.items (m.refs ∷ []), length-append xs (f ∷ []));
     code_count = omega (arith, all.code_count, ap length codes, length-append e.codes.items (m.code ∷ []), length-append xs (f ∷ []));
+    moves =
+        ap (λ (cs : List (Option (List ℕ))). map is_some cs) codes
+        ∙ map_push is_some e.codes.items m.code
+        ∙ ap (λ (bs : List Bool). bs ++ is_some m.code ∷ []) all.moves
+        ∙ ap (λ (b : Bool). map is_moving xs ++ b ∷ []) is.moves
+        ∙ sym (map_push is_moving xs f);
   }
 
   pub entries_more : (fs : List Func) (i : ℕ) (f : Func) (e n : MovedEntries) (m : MovedEntry) → i < length fs → f ≡ get_or fs i f

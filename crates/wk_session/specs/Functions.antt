@@ -1,5 +1,5 @@
 -- What an edit that gives or replaces a code entry plans before anything is changed.
-use Rattle.std.specs.Prelude.{◌≡◌, ℕ, Bool, Some, List, [], ◌∷◌, ◌++◌, length, map, Result, Ok}
+use Rattle.std.specs.Prelude.{◌≡◌, ℕ, Bool, true, false, Some, List, [], ◌∷◌, ◌++◌, length, map, Result, Ok}
 use Rattle.wk_body.specs.declared.types.Profile.{Profile}
 use Rattle.wk_body.specs.Bodies.{BodyOf}
 use Rattle.wk_body.specs.Lengths.{limited}
@@ -40,6 +40,11 @@ pub record IsKeptWithType (t : ℕ) (m : Parts) (k : Kept) : Type 0 where
 abbrev pub AreVerdicts : ℕ → BodyOf → Parts → List Func → List BodyVerdict → Verdicts → Type 0
 AreVerdicts t b n fs kept (entries.Own v) = (v ≡ body_verdict (answers_of n) t b) × (kept ≡ map (func_verdict (answers_of n)) fs)
 AreVerdicts t b n fs kept (entries.All vs) = vs.items ≡ map (func_verdict (answers_of n)) n.funcs
+
+-- whether the verdict of the entry comes to those that are kept, or changes one of them
+abbrev pub is_own : Verdicts → Bool
+is_own (entries.Own v) = true
+is_own (entries.All vs) = false
 
 -- n may stay, and this is to be kept of it, but for its sections, where a code entry with that type and body comes to fs or changes among
 -- them: so many sections are made anew

@@ -5,6 +5,7 @@ pub mod Runs
 pub mod Told
 pub mod ToldLaws
 pub mod Kept
+pub mod Known
 pub mod Written
 pub mod EditText
 pub mod Overlays

@@ -1,5 +1,5 @@
 -- Code entries of which an import moves references, and what is kept of them.
-use Rattle.std.specs.Prelude.{◌≡◌, ℕ, false, List, length, map, count_by, unwrap_or, option_map}
+use Rattle.std.specs.Prelude.{◌≡◌, ℕ, false, is_some, List, length, map, count_by, unwrap_or, option_map}
 use Rattle.wk_body.specs.declared.moves.Moving.{Moving}
 use Rattle.wk_body.specs.declared.moves.Moving.TheVariants as moving
 use Rattle.wk_body.specs.declared.moves.Movement.{Movement}
@@ -26,10 +26,11 @@ uses_movement _ from keys = record { moves = false; stuck = false }
 abbrev pub shifted_func : Moving → ℕ → FuncOf → FuncOf
 shifted_func kind from f = record f { body = shift_body kind from f.body }
 
--- what is kept of one entry after the import: nothing stands in a place where nothing moves
+-- what is kept of one entry after the import: a code stands there exactly where something in the body moves
 pub record IsMovedEntry (kind : Kind) (from : ℕ) (f : FuncOf) (e : MovedEntry) : Type 0 where
   pub refs : unwrap_or (option_map (λ s. s.keys) e.refs) (uses_of f) ≡ uses_of (moved_func kind from f)
   pub code : unwrap_or e.code (code_of f) ≡ code_of (moved_func kind from f)
+  pub moves : is_some e.code ≡ is_code_moving kind from f.body.instrs
 
 -- what is kept of all
 pub record AreMovedEntries (kind : Kind) (from : ℕ) (fs : List FuncOf) (e : MovedEntries) : Type 0 where
@@ -38,3 +39,4 @@ pub record AreMovedEntries (kind : Kind) (from : ℕ) (fs : List FuncOf) (e : Mo
   pub encoded : e.encoded ≡ count_by (λ f. is_code_moving kind from f.body.instrs) fs
   pub ref_count : length e.refs.items ≡ length fs
   pub code_count : length e.codes.items ≡ length fs
+  pub moves : map is_some e.codes.items ≡ map (λ f. is_code_moving kind from f.body.instrs) fs

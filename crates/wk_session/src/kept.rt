@@ -1,6 +1,7 @@
 //! What a session keeps beside its module, so that an edit computes only what depends on it.
 
-ghost use Rattle.std.specs.Prelude.{◌≡◌, ◌<◌, ◌^◌, length, map, IfOk};
+ghost use Rattle.std.specs.Prelude.{◌≡◌, ◌+◌, ◌<◌, ◌≤◌, ◌^◌, true, length, map, take, IfOk};
+ghost use Rattle.std.specs.List.{AllByRecursion};
 ghost use Rattle.wk_body.specs.Lengths.{limited};
 ghost use Rattle.wk_module.specs.declared.types.Parts.{Parts as PartsOf};
 ghost use Rattle.wk_module.specs.declared.types.Func.{Func as FuncOf};
@@ -10,6 +11,7 @@ ghost use Rattle.wk_module.specs.Writing.{Fits, encoded};
 ghost use Rattle.wk_check.specs.Spaces.{answer_in, spaces_of};
 ghost use Rattle.wk_check.specs.Verdict.{func_verdict};
 ghost use Rattle.wk_session.specs.Kept.{IsKept, uses_of};
+ghost use Rattle.wk_session.specs.Known.{AreFirstValid};
 ghost use Rattle.wk_session.specs.Pieces.{ArePieces, code_of};
 
 use crate::judged::judged;
@@ -71,9 +73,35 @@ pub(crate) fn func_uses(
     uses(alloc, own_type, body)
 }
 
-// What is kept of functions. Each is judged, looked at and written while it is in the processor's caches.
-fn entries_in<E: Env>(alloc: Global, env: &E, funcs: &Items<Func>) -> Result<Entries, OutOfMemory>
-    requires { length funcs.now < 2 ^ 32 }
+// The verdict of a body, which is not typed where it is known to be valid.
+fn verdict_of<E: Env>(
+    env: &E,
+    func: &Func,
+    is_valid: bool,
+    meter: &mut Meter,
+) -> Result<BodyVerdict, OutOfMemory>
+    requires room { meter.old + 1 < 2 ^ 64 }
+    requires known { is_valid ≡ true → func_verdict (E.answers env.now) func.now ≡ BodyVerdict.Valid }
+    ensures verdict { IfOk result (λ v. v ≡ func_verdict (E.answers env.now) func.now) }
+    ensures typed { meter.new ≤ meter.old + 1 }
+{
+    if is_valid {
+        return Ok(BodyVerdict::Valid);
+    }
+    judged(env, func.ty, &func.body, meter)
+}
+
+// What is kept of functions, of which the first so many are known to be valid. Each other one is judged, and each is looked at and
+// written while it is in the processor's caches.
+fn entries_in<E: Env>(
+    alloc: Global,
+    env: &E,
+    funcs: &Items<Func>,
+    valid: usize,
+) -> Result<Entries, OutOfMemory>
+    requires few { length funcs.now < 2 ^ 32 }
+    requires known { let answers = E.answers env.now in
+        AllByRecursion (λ f. func_verdict answers f ≡ BodyVerdict.Valid) (take valid funcs.now) }
     ensures verdicts { IfOk result (λ e. e.verdicts.items ≡ map (func_verdict (E.answers env.now)) funcs.now) }
     ensures refs { IfOk result (λ e. map (λ s. s.keys) e.refs.items ≡ map uses_of funcs.now) }
     ensures codes { IfOk result (λ e. e.codes.items ≡ map code_of funcs.now) }
@@ -84,8 +112,8 @@ fn entries_in<E: Env>(alloc: Global, env: &E, funcs: &Items<Func>) -> Result<Ent
     let mut refs = Vec::with_capacity(alloc, funcs.len())?;
     let mut codes = Vec::with_capacity(alloc, funcs.len())?;
     let mut room = Vec::new(alloc);
-    for func in funcs.as_slice() {
-        let verdict = judged(env, func.ty, &func.body, &mut meter)?;
+    for (i, func) in funcs.as_slice().iter().enumerate() {
+        let verdict = verdict_of(env, func, i < valid, &mut meter)?;
         let found = func_uses(alloc, func.ty, &func.body)?;
         let code = code_in_room(alloc, &mut room, &func.body, &mut encoded)?;
         verdicts.push(verdict)?;
@@ -99,15 +127,22 @@ fn entries_in<E: Env>(alloc: Global, env: &E, funcs: &Items<Func>) -> Result<Ent
     })
 }
 
-// What is kept of functions in a module with these lists.
-fn entries_of(alloc: Global, lists: Lists<'_>, funcs: &Items<Func>) -> Result<Entries, OutOfMemory>
-    requires { length funcs.now < 2 ^ 32 }
+// What is kept of functions in a module with these lists, where the first so many are known to be valid.
+fn entries_of(
+    alloc: Global,
+    lists: Lists<'_>,
+    funcs: &Items<Func>,
+    valid: usize,
+) -> Result<Entries, OutOfMemory>
+    requires few { length funcs.now < 2 ^ 32 }
+    requires known { let answers = answer_in (spaces_of (listed lists)) in
+        AllByRecursion (λ f. func_verdict answers f ≡ BodyVerdict.Valid) (take valid funcs.now) }
     ensures verdicts { IfOk result (λ e. e.verdicts.items ≡ map (func_verdict (answer_in (spaces_of (listed lists.entry)))) funcs.now) }
     ensures refs { IfOk result (λ e. map (λ s. s.keys) e.refs.items ≡ map uses_of funcs.now) }
     ensures codes { IfOk result (λ e. e.codes.items ≡ map code_of funcs.now) }
 {
     let whole = Whole::of(alloc, lists)?;
-    entries_in(alloc, &whole, funcs)
+    entries_in(alloc, &whole, funcs, valid)
 }
 
 // How long the module of these pieces is, or nothing past 2,147,483,647.
@@ -129,15 +164,16 @@ fn pieces_len(alloc: Global, pieces: &Pieces) -> Result<Option<u32>, OutOfMemory
 }
 
 impl Kept {
-    /// What is to be kept of a module that is not too large.
-    pub(crate) fn of(alloc: Global, module: &Module) -> Result<Kept, OutOfMemory>
-        requires { Fits «module».now }
+    /// What is to be kept of a module that is not too large, and of which the first so many bodies are known to be valid.
+    pub(crate) fn of(alloc: Global, module: &Module, valid: usize) -> Result<Kept, OutOfMemory>
+        requires fits { Fits «module».now }
+        requires known { AreFirstValid valid «module».now }
         ensures { IfOk result (IsKept «module».now) }
     {
         let parts = module.parts();
         let types = types_of(alloc, &parts.funcs)?;
         let lists = Lists::of(parts, &types);
-        let entries = entries_of(alloc, lists, &parts.funcs)?;
+        let entries = entries_of(alloc, lists, &parts.funcs, valid)?;
         let Entries {
             verdicts,
             refs,

@@ -3,7 +3,8 @@
 //! # What it promises
 //!
 //! - A [`Session`] is seen as its plain module; no clause names what it keeps. [`Session::open_in`] is the grammar of a profile,
-//!   [`Session::open`] that of 1.0.
+//!   [`Session::open`] that of 1.0, and [`Session::open_behind`] is the same as `open_in` where the first bodies are known to be valid:
+//!   [`valid_bodies`] tells by a verdict how many are.
 //! - [`Session::of`] is over a module that is given, unless its written form would be too long.
 //! - [`Session::apply`] and [`Session::apply_kept`] make of the module what the definition of the edit says, and answer its reply
 //!   (`made` of `specs/Edits`; `reply_of`, `after_one` of `specs/Runs`), for any module and for a valid one. [`Session::run`] and
@@ -29,17 +30,17 @@
 //! the sections that change, and writing puts what is kept in order. All growths come before what is kept changes; what was pushed to
 //! be judged is taken back where the edit is refused.
 //!
-//! Opening goes over the bytes once, and over each body once more: it is typed, looked at and written in turn, into one room that
-//! serves all bodies. What is held then is 16 bytes for each token, each code, the contents of each section beside the lists that are
-//! read of them, and a set of some 200 bytes for each function.
+//! Opening goes over the bytes once, and over each body once more: it is typed, unless it is known to be valid, looked at and written
+//! in turn, into one room that serves all bodies. What is held then is 16 bytes for each token, each code, the contents of each section
+//! beside the lists that are read of them, and a set of some 200 bytes for each function.
 //!
 //! What grows with a session that is kept open is the module, and with it what is kept: an edit leaves nothing behind, but for the room
-//! of a list that got shorter, which later items fill, and room ahead of one that grew, at most as much again. Appending to a list of a valid module costs the bytes of the item, an export also
-//! one look at each name: they come behind those that are kept of the section, where only the count in front is written over. Taking an
-//! export out moves the bytes behind it. A function or another body costs its code and one look at the imports; an import, one look at what
-//! each function refers to, and the bodies that move. An edit of an invalid module judges the sections anew, looks at the verdicts of all
-//! bodies, and types the invalid ones that find another thing. A custom section costs its own bytes, and a verdict, a length and what a
-//! function refers to cost nothing: they are looked up.
+//! of a list that got shorter, which later items fill, and room ahead of one that grew, at most as much again. Appending to a list of a
+//! valid module costs the bytes of the item, an export also one look at each name: they come behind those that are kept of the section,
+//! where only the count in front is written over. Taking an export out moves the bytes behind it. A function or another body costs its
+//! code and one look at the imports; an import, two looks at what each function refers to, and the bodies that move. An edit of an
+//! invalid module judges the sections anew, looks at the verdicts of all bodies, and types the invalid ones that find another thing. A
+//! custom section costs its own bytes, and a verdict, a length and what a function refers to cost nothing: they are looked up.
 #![tactic(auto)]
 
 mod appraisal;
@@ -48,6 +49,7 @@ mod edit;
 mod edits;
 mod judged;
 mod kept;
+mod known;
 mod laws;
 mod lengths;
 mod longer;
@@ -60,6 +62,7 @@ mod write;
 mod written;
 
 pub use edit::{Edit, EditFault, Reply, Work};
+pub use known::valid_bodies;
 pub use laws::work_of_edits;
 pub use session::Session;
 pub use write::WriteFault;

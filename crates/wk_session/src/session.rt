@@ -1,5 +1,5 @@
 //! A session over a module.
-ghost use Rattle.std.specs.Prelude.{◌≡◌, ◌≢◌, ◌<◌, ◌≤◌, ◌-◌, ◌^◌, false, true, IfOk, IfErr, OnOk, OnErr, length, map, option_map, slice_get};
+ghost use Rattle.std.specs.Prelude.{◌≡◌, ◌≢◌, ◌<◌, ◌≤◌, ◌-◌, ◌^◌, false, true, Ok, IfOk, IfErr, OnOk, OnErr, length, map, option_map, slice_get};
 ghost use Rattle.std.specs.Io.KnownBytes.{Appends};
 ghost use Rattle.wk_bytes.specs.Frames.{limit};
 ghost use Rattle.wk_bytes.specs.Stands.{StandsIn};
@@ -15,6 +15,7 @@ ghost use Rattle.wk_list.specs.Listing.{listing};
 ghost use Rattle.wk_list.specs.Taken.{failed_after};
 ghost use Rattle.wk_session.specs.Edits.{is_decided};
 ghost use Rattle.wk_session.specs.Kept.{IsKept, Leads, uses_of};
+ghost use Rattle.wk_session.specs.Known.{AreFirstValid};
 ghost use Rattle.wk_session.specs.Overlays.{with_items};
 ghost use Rattle.wk_session.specs.Pieces.{code_of};
 ghost use Rattle.wk_session.specs.Recoded.{encoded_with};
@@ -113,8 +114,32 @@ impl Session {
         ensures fits { IfOk result (λ m. Fits m) }
         ensures fault { IfErr result (λ e. StandsIn bytes.now e) }
     {
+        Session::open_behind(alloc, bytes, profile, 0)
+    }
+
+    /// The same as [`Session::open_in`], where so many bodies from the first on are known to be valid, as [`valid_bodies`](crate::valid_bodies)
+    /// tells of a verdict: they are not typed again. There may be fewer bodies than that.
+    ///
+    /// # Errors
+    ///
+    /// Those of [`Session::open_in`].
+    pub fn open_behind(
+        alloc: Global,
+        bytes: &[u8],
+        profile: Profile,
+        valid: usize,
+    ) -> Result<Session, ReadFault>
+        requires { (m : PartsOf) → module_at profile bytes.now ≡ Ok m → AreFirstValid valid m }
+        ensures exact { Reads (λ m. m) result (module_at profile bytes.now) }
+        ensures found { IfOk result (λ m. Spells bytes.now m) }
+        ensures profile { IfOk result (λ m. m.profile ≡ profile) }
+        ensures only { IfOk result (λ m. (n : PartsOf) → n.profile ≡ profile → Spells bytes.now n → n ≡ m) }
+        ensures refused { IfErr result (λ e. e.kind ≢ ReadKind.Memory → SpellsNone profile bytes.now) }
+        ensures fits { IfOk result (λ m. Fits m) }
+        ensures fault { IfErr result (λ e. StandsIn bytes.now e) }
+    {
         let module = read_in(alloc, bytes, profile)?;
-        let kept = Kept::of(alloc, &module)?;
+        let kept = Kept::of(alloc, &module, valid)?;
         Ok(Session {
             alloc,
             module,
@@ -148,7 +173,7 @@ impl Session {
         if encoded_len(&module).is_none() {
             return Err(EncodeFault::TooLarge);
         }
-        let kept = Kept::of(alloc, &module)?;
+        let kept = Kept::of(alloc, &module, 0)?;
         Ok(Session {
             alloc,
             module,

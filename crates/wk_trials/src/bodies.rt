@@ -7,9 +7,9 @@ use crate::sinks::{BEFORE, Room, has_appended, vector};
 use std::alloc::{AllocError, Global};
 use std::collections::BTreeSet;
 use wk_body::{
-    Body, EncodeFault, LocalGroup, Moving, Profile, Ref, Scratch, ShiftFault, TokenReader,
-    append_body, append_shifted, code_bytes, encode_body, expr_movement, moving_of_code,
-    next_groups, read_body, read_body_in, refs, shift, shift_uses, uses,
+    Body, EncodeFault, LocalGroup, Moving, Profile, Ref, Scratch, ShiftFault, Shifts, TokenReader,
+    append_body, append_shifted, append_shifts, code_bytes, encode_body, expr_movement,
+    moving_of_code, next_groups, read_body, read_body_in, refs, shift, shift_uses, uses,
 };
 use wk_bytes::{Cursor, LIMIT, OutOfMemory, ReadFault, ReadKind};
 use wk_samples::bodies::{
@@ -137,6 +137,8 @@ pub(crate) enum ReadCode {
     Form,
     /// `code_bytes` of bytes that are not the shortest.
     Shorten,
+    /// `append_shifts` of functions, in the written form.
+    AppendShifts,
     /// `next_groups`, and `TokenReader::next` up to the end.
     Tokens,
 }
@@ -152,6 +154,7 @@ impl ReadCode {
             ReadCode::Again => code.reads_again(alloc),
             ReadCode::Form => code.writes_form(alloc),
             ReadCode::Shorten => code.shortens(alloc),
+            ReadCode::AppendShifts => code.appends_shifts(alloc),
             ReadCode::Tokens => code.reads_tokens(alloc),
         }
     }
@@ -356,6 +359,25 @@ impl Code {
         call_ends(alloc);
         match answer {
             Ok(()) => Outcome::answered(has_appended(&bytes, self.moved)),
+            Err(OutOfMemory) => Outcome::refused(bytes.starts_with(&BEFORE)),
+        }
+    }
+
+    fn appends_shifts(self, alloc: Global) -> Outcome {
+        let Some(mut bytes) = vector(alloc, Room::Full) else {
+            return Outcome::NO_SAMPLE;
+        };
+        let shifts = Shifts {
+            funcs_from: 5,
+            funcs_by: 1,
+            globals_from: 0,
+            globals_by: 0,
+        };
+        call_begins(alloc);
+        let answer = append_shifts(&mut bytes, self.written, shifts);
+        call_ends(alloc);
+        match answer {
+            Ok(done) => Outcome::answered(done && has_appended(&bytes, self.moved)),
             Err(OutOfMemory) => Outcome::refused(bytes.starts_with(&BEFORE)),
         }
     }

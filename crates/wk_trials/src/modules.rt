@@ -3,10 +3,10 @@
 use crate::bodies::{NO_MEMORY, is_length};
 use crate::mark::{call_begins, call_ends};
 use std::alloc::Global;
-use wk_bytes::ReadFault;
+use wk_bytes::{Items, ReadFault};
 use wk_module::{
-    EncodeFault, Kind, Module, MovedLists, Parts, Profile, ShiftFault, encode, encoded_len, read,
-    read_in, shift_lists,
+    EncodeFault, Func, Kind, Module, MovedLists, Outline, Parts, Profile, ShiftFault, encode,
+    encode_body, encoded_len, read, read_in, read_outline, shift_lists,
 };
 use wk_samples::edits::{MODULE, VALID};
 use wk_samples::modules::{ALL_OF_ONE, TWO_CODES, WHOLE};
@@ -67,6 +67,32 @@ pub(crate) fn is_written_as(alloc: Global, module: &Module, bytes: &[u8]) -> boo
     }
 }
 
+// Whether the code is the written form of the body of that function.
+fn is_code_of(alloc: Global, code: &Items<u8>, func: &Func) -> bool {
+    match encode_body(alloc, &func.body) {
+        Ok(written) => written.as_slice() == code.as_slice(),
+        Err(_) => false,
+    }
+}
+
+// Whether it has the code and the type of each function.
+fn is_outline(alloc: Global, outline: &Outline, parts: &Parts) -> bool {
+    let (stubs, funcs) = (&outline.module.parts().funcs, &parts.funcs);
+    if stubs.len() != funcs.len() || outline.codes.len() != funcs.len() {
+        return false;
+    }
+    for (index, func) in funcs.as_slice().iter().enumerate() {
+        let (Some(stub), Some(code)) = (stubs.as_slice().get(index), outline.codes.get(index))
+        else {
+            return false;
+        };
+        if stub.ty != func.ty || !is_code_of(alloc, code, func) {
+            return false;
+        }
+    }
+    true
+}
+
 /// What an encoder answered, where these bytes are right; the module stays the one that the input spells.
 pub(crate) fn was_encoded(
     alloc: Global,
@@ -103,6 +129,24 @@ impl Sample {
         match answer {
             Ok(module) => Outcome::answered(is_written_as(alloc, module, self.bytes)),
             Err(fault) => Outcome::refused(*fault == NO_MEMORY),
+        }
+    }
+
+    /// `read_outline` of the module.
+    pub(crate) fn outlines(self, alloc: Global) -> Outcome {
+        match self.read(alloc) {
+            Ok(module) => self.outlines_module(alloc, &module),
+            Err(_) => Outcome::NO_SAMPLE,
+        }
+    }
+
+    fn outlines_module(self, alloc: Global, module: &Module) -> Outcome {
+        call_begins(alloc);
+        let answer = read_outline(alloc, self.bytes, self.profile);
+        call_ends(alloc);
+        match answer {
+            Ok(outline) => Outcome::answered(is_outline(alloc, &outline, module.parts())),
+            Err(fault) => Outcome::refused(fault == NO_MEMORY),
         }
     }
 

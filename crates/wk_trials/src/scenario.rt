@@ -3,6 +3,7 @@
 use crate::answers::Answer;
 use crate::bodies::{Code, OfBody, ReadCode};
 use crate::bytes::{Holder, Integer, Put};
+use crate::drafts::Draft;
 use crate::edits::{TooLarge, Trial};
 use crate::exprs::{OfExpr, ReadExpr};
 use crate::jobs::Job;
@@ -14,7 +15,7 @@ use crate::sections::{OfWhole, Walk};
 use crate::sinks::Room;
 use crate::strips::Strip;
 use crate::table::tables;
-use crate::{bodies, jobs, judging, listings, many, modules, runs, sessions};
+use crate::{bodies, drafts, jobs, judging, listings, many, modules, recoded, runs, sessions};
 use std::alloc::Global;
 use wk_list::Part;
 use wk_module::Profile;
@@ -43,6 +44,8 @@ pub(crate) enum Scenario {
     OfExpr(OfExpr),
     /// `read` or `read_in`.
     Read(Sample),
+    /// `read_outline`.
+    Outline(Sample),
     /// `encode`.
     Encode(Sample),
     /// `Module::of`, `parts`, `into_parts` and `encoded_len`.
@@ -69,12 +72,16 @@ pub(crate) enum Scenario {
     Strip(Strip),
     /// `Session::open` or `Session::open_in` of a valid module.
     Open(Sample),
+    /// `Session::of` of a valid module.
+    Holding(Sample),
     /// `Session::verdict`, `Session::encoded_len` and `Session::uses`.
     Tell(Sample),
     /// `Session::list` of a part to a `Sink`.
     ListSession(Part, Profile, Room),
     /// `Session::write` to a `Sink`.
     Write(Sample, Room),
+    /// `Session::write_with` to a `Sink`.
+    WriteWith(Room),
     /// `Session::apply` of an edit.
     Apply(Trial),
     /// `Session::apply_kept` of an edit.
@@ -89,6 +96,12 @@ pub(crate) enum Scenario {
     ApplyMany(&'static [u8]),
     /// `Session::run` or `Session::run_kept`.
     Run(Edits),
+    /// `is_valid` of a valid module.
+    IsValid(Sample),
+    /// `edit_valid`.
+    EditValid(Draft),
+    /// `Edited::write` of what edits make of a valid module.
+    WriteEdited(Draft, Room),
     /// `read_script`.
     ReadScript,
     /// A line or a name.
@@ -136,6 +149,7 @@ impl Scenario {
             Scenario::ReadExpr(call, profile) => call.run(alloc, profile),
             Scenario::OfExpr(call) => call.run(alloc),
             Scenario::Read(sample) => sample.reads(alloc),
+            Scenario::Outline(sample) => sample.outlines(alloc),
             Scenario::Encode(sample) => sample.encodes(alloc),
             Scenario::Settle(sample) => sample.settles(alloc),
             Scenario::OfWhole(call, profile) => call.run(alloc, profile),
@@ -156,11 +170,13 @@ impl Scenario {
     fn run_above(self, alloc: Global) -> Outcome {
         match self {
             Scenario::Open(sample) => sessions::opens(alloc, sample),
+            Scenario::Holding(sample) => sessions::holds_module(alloc, sample),
             Scenario::Tell(sample) => sessions::tells(alloc, sample),
             Scenario::ListSession(part, profile, room) => {
                 sessions::lists(alloc, part, profile, room)
             }
             Scenario::Write(sample, room) => sessions::writes(alloc, sample, room),
+            Scenario::WriteWith(room) => recoded::writes_with(alloc, room),
             Scenario::Apply(trial) => trial.run(alloc, false),
             Scenario::ApplyKept(trial) => trial.run(alloc, true),
             Scenario::ApplyLarge(edit) => edit.run(alloc, false),
@@ -168,6 +184,9 @@ impl Scenario {
             Scenario::StepKept(number) => runs::EACH_KIND_WIDE_KEPT.step(alloc, number),
             Scenario::ApplyMany(line) => many::edits(alloc, line),
             Scenario::Run(edits) => edits.run(alloc),
+            Scenario::IsValid(sample) => drafts::judges(alloc, sample),
+            Scenario::EditValid(draft) => draft.run(alloc, None),
+            Scenario::WriteEdited(draft, room) => draft.run(alloc, Some(room)),
             Scenario::ReadScript => jobs::reads_script(alloc),
             Scenario::Line(line) => line.run(alloc),
             Scenario::Edit(job, out, report) => job.run(alloc, out, report),

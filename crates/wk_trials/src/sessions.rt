@@ -12,7 +12,7 @@ use std::alloc::Global;
 use wk_bytes::{Out, ReadFault, Sink};
 use wk_check::Verdict;
 use wk_list::{ListFault, Part};
-use wk_module::{Profile, Ref};
+use wk_module::{EncodeFault, Module, Profile, Ref};
 use wk_samples::outcome::Outcome;
 use wk_session::{Session, WriteFault};
 
@@ -32,6 +32,27 @@ pub(crate) fn opens(alloc: Global, sample: Sample) -> Outcome {
     };
     call_ends(alloc);
     was_opened(alloc, &answer, sample.bytes)
+}
+
+/// `Session::of` of a valid module.
+pub(crate) fn holds_module(alloc: Global, sample: Sample) -> Outcome {
+    match sample.read(alloc) {
+        Ok(module) => holds_given(alloc, module, sample),
+        Err(_) => Outcome::NO_SAMPLE,
+    }
+}
+
+fn holds_given(alloc: Global, module: Module, sample: Sample) -> Outcome {
+    call_begins(alloc);
+    let answer = Session::of(alloc, module);
+    call_ends(alloc);
+    match &answer {
+        Ok(session) => {
+            let Sample { profile, bytes } = sample;
+            Outcome::answered(is_session_of(alloc, session, profile, bytes))
+        }
+        Err(fault) => Outcome::refused(*fault == EncodeFault::Memory),
+    }
 }
 
 // What opening a session answered.

@@ -1,6 +1,6 @@
 //! A function more.
 
-ghost use Rattle.std.specs.Prelude.{◌≡◌, ◌≢◌, ◌+◌, ◌<◌, ◌^◌, ℕ, List, [], ◌∷◌, ◌++◌, if◌then◌else◌, Ok, Err, IfOk, IfErr, OnOk, OnErr, MatchResult, is_ok, count_by, length, map, vec_capacity, vec_len};
+ghost use Rattle.std.specs.Prelude.{◌≡◌, ◌≢◌, ◌+◌, ◌<◌, ◌^◌, ℕ, List, [], ◌∷◌, ◌++◌, if◌then◌else◌, Ok, Err, IfOk, IfErr, OnOk, OnErr, MatchResult, is_ok, true, count_by, length, map, vec_capacity, vec_len};
 ghost use Rattle.wk_bytes.specs.Short.{short};
 ghost use Rattle.wk_body.specs.Lengths.{limited};
 ghost use Rattle.wk_body.specs.Bodies.{BodyOf};
@@ -15,7 +15,7 @@ ghost use Rattle.wk_check.specs.SpacesLaws.{answers_of};
 ghost use Rattle.wk_check.specs.Verdict.{func_verdict};
 ghost use Rattle.wk_session.specs.declared.edit.Edit.{Edit};
 ghost use Rattle.wk_session.specs.Dependents.{is_retyped_in};
-ghost use Rattle.wk_session.specs.Functions.{AreVerdicts, IsKeptWithType, IsPlanned};
+ghost use Rattle.wk_session.specs.Functions.{AreVerdicts, IsKeptWithType, IsPlanned, is_own};
 ghost use Rattle.wk_session.specs.Kept.{IsAppraised, IsKept, Leads, standing};
 ghost use Rattle.wk_session.specs.Longer.{IsNewItem};
 ghost use Rattle.wk_session.specs.Pieces.{IsOverlong, section_pieces};
@@ -119,6 +119,7 @@ fn judged_func(
     requires len { len ≡ limited (length (encoded (with_func ty body.now parts.now))) }
     requires fresh { meter.old ≡ 0 }
     ensures verdicts { IfOk result (λ r. AreVerdicts ty body.now (with_func ty body.now parts.now) parts.now.funcs kept.now.verdicts.items r.0) }
+    ensures own { IfOk result (λ r. is_own r.0 ≡ true → kept.now.verdict ≡ Verdict.Valid) }
     ensures ok { IfOk result (λ r. IsAppraised keep (with_func ty body.now parts.now) (Ok r.1)) }
     ensures err { IfErr result (λ f. IsAppraised keep (with_func ty body.now parts.now) (Err f)) }
     ensures typed { OnOk result (meter.new ≡ 1 + count_by (is_retyped_in (answers_of parts.now) (answers_of (with_func ty body.now parts.now))) parts.now.funcs) }
@@ -165,6 +166,7 @@ fn planned_func(
     requires valid { IsCode parts.now.profile body.now }
     requires fresh { meter.old ≡ 0 }
     ensures ok { IfOk result (IsPlanned keep ty body.now (with_func ty body.now parts.now) parts.now.funcs kept.now.verdicts.items 1) }
+    ensures own { IfOk result (λ p. is_own p.verdicts ≡ true → kept.now.verdict ≡ Verdict.Valid) }
     ensures err { IfErr result (λ f. f ≢ EditFault.Memory → standing keep (with_func ty body.now parts.now) ≡ Err f) }
     ensures typed { OnOk result (meter.new ≡ 1 + count_by (is_retyped_in (answers_of parts.now) (answers_of (with_func ty body.now parts.now))) parts.now.funcs) }
 {
@@ -208,6 +210,7 @@ fn push_planned(
     requires item { IsNewItem 3 (length parts.old.funcs) (list_contents short (ty ∷ [])) item.now }
     requires fresh { meter.old ≡ 0 }
     ensures ok { IfOk result (IsPlanned keep ty body (with_func ty body parts.old) parts.old.funcs kept.old.verdicts.items 1) }
+    ensures own { IfOk result (λ p. is_own p.verdicts ≡ true → kept.old.verdict ≡ Verdict.Valid) }
     ensures pushed { OnOk result (parts.new ≡ with_func ty body parts.old) }
     ensures err { IfErr result (λ f. f ≢ EditFault.Memory → standing keep (with_func ty body parts.old) ≡ Err f) }
     ensures same { OnErr result (parts.new ≡ parts.old) }
@@ -245,6 +248,7 @@ fn push_func(
     requires valid { IsCode parts.old.profile body }
     requires fresh { meter.old ≡ 0 }
     ensures ok { IfOk result (IsPlanned keep ty body (with_func ty body parts.old) parts.old.funcs kept.old.verdicts.items 1) }
+    ensures own { IfOk result (λ p. is_own p.verdicts ≡ true → kept.old.verdict ≡ Verdict.Valid) }
     ensures pushed { OnOk result (parts.new ≡ with_func ty body parts.old) }
     ensures err { IfErr result (λ f. f ≢ EditFault.Memory → standing keep (with_func ty body parts.old) ≡ Err f) }
     ensures same { OnErr result (parts.new ≡ parts.old) }
@@ -266,9 +270,23 @@ fn push_func(
     pushed
 }
 
-// Puts the verdicts that are others in their places. There is room for one more.
+// Asks for room for the verdict of a function more where it comes to those that are kept: in a valid module. In any other a list of all
+// takes their place.
+fn reserve_verdict(kept: &mut Kept) -> Result<(), OutOfMemory>
+    ensures rest { kept.new ≡ record kept.old { verdicts = kept.new.verdicts } }
+    ensures same { kept.new.verdicts.items ≡ kept.old.verdicts.items }
+    ensures room { OnOk result (kept.old.verdict ≡ Verdict.Valid
+        → vec_len kept.new.verdicts < vec_capacity kept.new.verdicts) }
+{
+    if let Verdict::Valid = kept.verdict {
+        kept.verdicts.reserve(1)?;
+    }
+    Ok(())
+}
+
+// Puts the verdicts that are others in their places. There is room for one more where it comes to those that are kept.
 fn put_verdicts(kept: &mut Vec<BodyVerdict>, verdicts: Verdicts)
-    requires { vec_len kept.old < vec_capacity kept.old }
+    requires { is_own verdicts ≡ true → vec_len kept.old < vec_capacity kept.old }
     ensures { (t : ℕ) → (b : BodyOf) → (n : PartsOf) → (fs : List FuncOf) → n.funcs ≡ fs ++ record { ty = t; body = b } ∷ []
         → AreVerdicts t b n fs kept.old.items verdicts
         → kept.new.items ≡ map (func_verdict (answers_of n)) n.funcs }
@@ -295,7 +313,7 @@ pub(crate) fn add_func(
     ensures { Leads keep (Edit.Func ty code.now) parts.old result parts.new kept.new }
 {
     let body = spelled_body(alloc, parts.profile, code)?;
-    kept.verdicts.reserve(1)?;
+    reserve_verdict(kept)?;
     kept.refs.reserve(1)?;
     kept.pieces.codes.reserve(1)?;
     let entry = push_func(alloc, keep, parts, kept, meter, ty, body, code)?;

@@ -1,13 +1,13 @@
 //! An import more.
 
-ghost use Rattle.std.specs.Prelude.{◌≡◌, ◌≢◌, ◌+◌, ◌<◌, ◌≤◌, ◌^◌, ℕ, Err, true, false, length, map, unwrap_or, count_by, set, Some, if◌then◌else◌, IfErr, IfOk, IfNone, IfSome, OnOk, OnErr, MatchResult};
+ghost use Rattle.std.specs.Prelude.{◌≡◌, ◌≢◌, ◌+◌, ◌<◌, ◌≤◌, ◌^◌, ℕ, Err, true, false, length, map, unwrap_or, count_by, is_some, set, Some, if◌then◌else◌, IfErr, IfOk, IfNone, IfSome, OnOk, OnErr, MatchResult};
 ghost use Rattle.std.specs.List.{list_any};
 ghost use Rattle.wk_body.specs.Shape.{IsU32};
 ghost use Rattle.wk_module.specs.Items.{desc_kind, IsImport, IsDesc};
 ghost use Rattle.wk_module.specs.Types.{AreLimits};
 ghost use Rattle.wk_module.specs.Changes.{with_import};
 ghost use Rattle.wk_module.specs.Listed.{IsListId, listed, listed_with};
-ghost use Rattle.wk_module.specs.Moving.{moved_func, moved_lists, is_code_stuck, are_parts_stuck, with_lists};
+ghost use Rattle.wk_module.specs.Moving.{moved_func, moved_lists, is_code_moving, is_code_stuck, are_parts_stuck, with_lists};
 ghost use Rattle.wk_module.specs.Sections.{of_number};
 ghost use Rattle.wk_module.specs.Shape.{IsShaped, IsFormed};
 ghost use Rattle.wk_module.specs.Writing.{contents_by};
@@ -19,7 +19,7 @@ ghost use Rattle.wk_session.specs.declared.edit.Edit.{Edit};
 ghost use Rattle.wk_session.specs.Dependents.{is_retyped_in};
 ghost use Rattle.wk_session.specs.Edits.{import_place};
 ghost use Rattle.wk_session.specs.Imported.{IsRemadeAfter, IsRemadeWhere, after_import, before_import, retyped_by, IsImportPlan, IsUnplanned, IsReady, IsImportJudgement, IsImportRefusal};
-ghost use Rattle.wk_session.specs.Kept.{IsKept, Leads, uses_of};
+ghost use Rattle.wk_session.specs.Kept.{IsKept, Leads};
 ghost use Rattle.wk_session.specs.Overlays.{with_items};
 ghost use Rattle.wk_session.specs.Pieces.{IsUnwritten};
 
@@ -372,7 +372,8 @@ fn put_import(
     plan: ImportPlan,
     judgement: Judgement,
 )
-    requires uses { map (λ s. s.keys) kept.old.refs.items ≡ map uses_of parts.old.funcs }
+    requires moves { map is_some plan.entries.codes.items
+        ≡ map (λ f. is_code_moving kind from f.body.instrs) parts.old.funcs }
     requires free { list_any (λ f. is_code_stuck kind from f.body.instrs) parts.old.funcs ≡ false }
     requires refs { length plan.entries.refs.items ≤ length kept.old.refs.items }
     requires codes { length plan.entries.codes.items ≤ length kept.old.pieces.codes.items }
@@ -400,7 +401,7 @@ fn put_import(
         remade,
         codes_len,
     } = judgement;
-    put_moved(alloc, parts, lists, &kept.refs, kind, from);
+    put_moved(alloc, parts, lists, &codes, kind, from);
     replace_each(&mut kept.refs, refs);
     replace_each(&mut kept.pieces.codes, codes);
     replace_each(&mut kept.pieces.sections, remade.sections);

@@ -1,6 +1,6 @@
 //! What an import moves: the code entries that hold a reference of its kind to what comes behind the imported ones.
 
-ghost use Rattle.std.specs.Prelude.{◌≡◌, ◌||◌, ◌++◌, [], ◌∷◌, OnOk, Some, false, true, length, map, option_map, IfOk, ◌+◌, ◌<◌, ◌^◌};
+ghost use Rattle.std.specs.Prelude.{◌≡◌, ◌||◌, ◌++◌, [], ◌∷◌, OnOk, Some, false, is_some, true, length, map, option_map, IfOk, ◌+◌, ◌<◌, ◌^◌};
 ghost use Rattle.std.specs.List.{list_any};
 ghost use Rattle.wk_body.specs.Moves.{is_moving, movement_of};
 ghost use Rattle.wk_body.specs.References.{is_stuck, any_stuck, refs_of, shift_body};
@@ -243,16 +243,15 @@ fn push_entry(entries: &mut MovedEntries, entry: MovedEntry) -> Result<(), OutOf
     Ok(())
 }
 
-// Moves the body of a function where it stands, by what the function refers to.
-fn move_func(func: &mut Func, refs: &BTreeSet<Ref>, kind: Kind, from: u32)
-    requires refs { refs.now.keys ≡ uses_of func.old }
+// Moves the body of a function where it stands, where something in it moves.
+fn move_func(func: &mut Func, is_moving: bool, kind: Kind, from: u32)
+    requires moves { is_moving ≡ is_code_moving kind from func.old.body.instrs }
     requires free { is_code_stuck kind from func.old.body.instrs ≡ false }
     ensures { func.new ≡ moved_func kind from func.old }
 {
-    // The proof asks what these say: of what a function refers to there moves what moves of its body; where nothing does, it stays.
-    moving_of_code();
+    // The proof asks what this says: a body in which nothing moves stays.
     moving_of_module();
-    if uses_movement(kind, from, refs).moves {
+    if is_moving {
         match kind {
             Kind::Func => shift_in_place(&mut func.body, Moving::Func, from),
             Kind::Global => shift_in_place(&mut func.body, Moving::Global, from),
@@ -261,34 +260,38 @@ fn move_func(func: &mut Func, refs: &BTreeSet<Ref>, kind: Kind, from: u32)
     }
 }
 
-// Moves the bodies of functions where they stand.
-fn move_funcs(funcs: &mut Vec<Func>, refs: &Vec<BTreeSet<Ref>>, kind: Kind, from: u32)
-    requires refs { map (λ s. s.keys) refs.now.items ≡ map uses_of funcs.old.items }
+// Moves the bodies of functions where they stand: those for which a code is planned. What the others refer to is not looked at
+// again: the plan has a code exactly where something moves.
+fn move_funcs(funcs: &mut Vec<Func>, codes: &Vec<Option<Items<u8>>>, kind: Kind, from: u32)
+    requires moves { map is_some codes.now.items
+        ≡ map (λ f. is_code_moving kind from f.body.instrs) funcs.old.items }
     requires free { list_any (λ f. is_code_stuck kind from f.body.instrs) funcs.old.items ≡ false }
     ensures { funcs.new.items ≡ map (moved_func kind from) funcs.old.items }
 {
     for i in 0..funcs.len() {
-        move_func(&mut funcs[i], &refs[i], kind, from);
+        move_func(&mut funcs[i], codes[i].is_some(), kind, from);
     }
 }
 
-/// Puts lists that have moved in their places, and moves functions where they stand, by what each refers to. It takes no memory.
+/// Puts lists that have moved in their places, and moves functions where they stand: those for which a code is planned. It takes no
+/// memory.
 pub(crate) fn put_moved(
     alloc: Global,
     parts: &mut Parts,
     lists: MovedLists,
-    refs: &Vec<BTreeSet<Ref>>,
+    codes: &Vec<Option<Items<u8>>>,
     kind: Kind,
     from: u32,
 )
-    requires refs { map (λ s. s.keys) refs.now.items ≡ map uses_of parts.old.funcs }
+    requires moves { map is_some codes.now.items
+        ≡ map (λ f. is_code_moving kind from f.body.instrs) parts.old.funcs }
     requires free { list_any (λ f. is_code_stuck kind from f.body.instrs) parts.old.funcs ≡ false }
     ensures { parts.new ≡ record (with_lists lists parts.old) { funcs = map (moved_func kind from) parts.old.funcs } }
 {
     let before = mem::replace(parts, Parts::new(alloc, Profile::Core));
     let mut now = lists.put_into(before);
     let mut all = mem::replace(&mut now.funcs, Items::new(alloc)).into_vec();
-    move_funcs(&mut all, refs, kind, from);
+    move_funcs(&mut all, codes, kind, from);
     now.funcs = Items::from_vec(all);
     *parts = now;
 }

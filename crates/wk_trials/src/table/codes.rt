@@ -8,7 +8,7 @@ use crate::sinks::Room::{Ample, Full};
 use wk_module::Profile::{Core, Extended};
 
 /// Calls of `wk_bytes` and `wk_body`.
-pub(crate) static CODES: [Named; 50] = [
+pub(crate) static CODES: [Named; 52] = [
     ("put-u32", Scenario::Put(Integer::U32)),
     ("put-s32", Scenario::Put(Integer::S32)),
     ("put-s33", Scenario::Put(Integer::S33)),
@@ -48,6 +48,10 @@ pub(crate) static CODES: [Named; 50] = [
         "append-shifted",
         Scenario::OfBody(OfBody::AppendShifted, CORE_CODE),
     ),
+    (
+        "append-shifts",
+        Scenario::ReadCode(ReadCode::AppendShifts, CORE_CODE),
+    ),
     ("shift-uses", Scenario::OfBody(OfBody::ShiftUses, CORE_CODE)),
     ("clone-body", Scenario::OfBody(OfBody::Clone, CORE_CODE)),
     ("refs", Scenario::OfBody(OfBody::Refs, CORE_CODE)),
@@ -81,6 +85,10 @@ pub(crate) static CODES: [Named; 50] = [
         Scenario::OfBody(OfBody::Append, WIDE_CODE),
     ),
     ("shift-wide", Scenario::OfBody(OfBody::Shift, WIDE_CODE)),
+    (
+        "append-shifts-wide",
+        Scenario::ReadCode(ReadCode::AppendShifts, WIDE_CODE),
+    ),
     (
         "clone-body-wide",
         Scenario::OfBody(OfBody::Clone, WIDE_CODE),

@@ -10,11 +10,13 @@ use wk_list::Part;
 use wk_module::Profile::{Core, Extended};
 
 /// Calls of `wk_module`, `wk_check`, `wk_list` and `wk_strip`.
-pub(crate) static MODULES: [Named; 64] = [
+pub(crate) static MODULES: [Named; 66] = [
     ("read-types", Scenario::Read(OF_TYPES)),
     ("read-whole", Scenario::Read(OF_ALL)),
     ("read-valid", Scenario::Read(OF_VALID)),
     ("read-wide", Scenario::Read(OF_WIDE)),
+    ("read-outline", Scenario::Outline(OF_MOVING)),
+    ("read-outline-wide", Scenario::Outline(OF_WIDE)),
     ("encode-types", Scenario::Encode(OF_TYPES)),
     ("encode-whole", Scenario::Encode(OF_ALL)),
     ("encode-valid", Scenario::Encode(OF_VALID)),

@@ -9,11 +9,14 @@ use wk_list::Part;
 use wk_module::Profile::{Core, Extended};
 
 /// Calls of sessions.
-pub(crate) static SESSIONS: [Named; 41] = [
+pub(crate) static SESSIONS: [Named; 46] = [
     ("open-types", Open(OF_TYPES)),
     ("open-valid", Open(OF_VALID)),
     ("open-moving", Open(OF_MOVING)),
     ("open-wide", Open(OF_WIDE)),
+    ("hold-types", Scenario::Holding(OF_TYPES)),
+    ("hold-moving", Scenario::Holding(OF_MOVING)),
+    ("hold-wide", Scenario::Holding(OF_WIDE)),
     ("tell-in-room", Scenario::Tell(OF_MOVING)),
     ("tell-wide-in-room", Scenario::Tell(OF_WIDE)),
     ("session-headers", ListSession(Part::Headers, Core, Ample)),
@@ -66,6 +69,8 @@ pub(crate) static SESSIONS: [Named; 41] = [
     ("write-to-full", Scenario::Write(OF_VALID, Full)),
     ("write-wide-in-room", Scenario::Write(OF_WIDE, Ample)),
     ("write-wide-to-full", Scenario::Write(OF_WIDE, Full)),
+    ("write-with-in-room", Scenario::WriteWith(Ample)),
+    ("write-with-to-full", Scenario::WriteWith(Full)),
     ("apply-type", Apply(changes::TYPE)),
     ("apply-type-to-code", Apply(changes::TYPE_TO_CODE)),
     ("apply-strip-in-room", Apply(changes::STRIP_FIRST)),

@@ -3,4 +3,4 @@ use Rattle.wk_body.proofs.RewrittenBody.{GroupsPassed}
 use Rattle.wk_body.proofs.copying.pass_groups.Given as goal
 
 abbrev pub invariant-loop : goal.invariant-loop
-invariant-loop l = GroupsPassed l.count (l.count - l.counter) l.declared l.fn.out.items l.fn.walk l.out.items l.walk
+invariant-loop l = GroupsPassed l.count (l.count - l.counter) l.declared l.fn.out.items l.fn.walk l.out.items l.own

@@ -1,4 +1,6 @@
-use Rattle.std.proofs.Common.{◌≤◌, ◌^◌, ◌∷◌, ◌++◌, [], eqb, refl, ◌∙◌, arith}
+use Rattle.std.proofs.Common.{◌≤◌, ◌^◌, ◌∷◌, ◌++◌, [], eqb, refl, sym, subst, ◌∙◌, arith}
+use Rattle.wk_body.specs.declared.walk.Walk.{Walk}
+use Rattle.wk_body.specs.Walks.{Behind}
 use Rattle.wk_body.specs.Brief.{number_of}
 use Rattle.wk_body.proofs.BriefWalk.{few_blocks}
 use Rattle.wk_body.proofs.Rewriting.{type_above, opener_goes}
@@ -7,7 +9,9 @@ use Rattle.wk_body.proofs.copying.pass_opening.Goals as goal
 
 pub returns-then-after-gt-MOST_BLOCKS-clause-goes :
     goal.returns-then-after-gt-MOST_BLOCKS-clause-goes
-returns-then-after-gt-MOST_BLOCKS-clause-goes c = λ before from token ks is b there g. ([], refl, c.in_ok-open_settled.ensures before from token ks is b there g)
+returns-then-after-gt-MOST_BLOCKS-clause-goes c = λ before from token ks is b there g.
+    let behind = subst (λ (w : Walk). Behind c.args.opcode token w) (sym c.ahead-own.ensures) b in
+    ([], refl, c.in_ok-open_settled.ensures before from token ks is behind there g)
 
 pub returns-clause-goes : goal.returns-clause-goes
 returns-clause-goes c = λ before from token ks is b there g.

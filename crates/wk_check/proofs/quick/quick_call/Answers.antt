@@ -4,8 +4,8 @@ use Rattle.wk_body.specs.Instructions as plain
 use Rattle.wk_check.proofs.Opcodes.{call_at}
 use Rattle.wk_check.proofs.quick.quick_call.Goals as goal
 
-pub returns-clause-taken : goal.returns-clause-taken
-returns-clause-taken g c = λ yes.
+pub returns-in-Made-clause-taken : goal.returns-in-Made-clause-taken
+returns-in-Made-clause-taken g c = λ yes.
     record {
       token = kept.Call c.in-Ok.x;
       plain = plain.Call c.in-Ok.x;
@@ -13,5 +13,5 @@ returns-clause-taken g c = λ yes.
       within = λ n. tt;
       read = λ profile e. call_at profile e c.args.cursor.now.end c.in-Ok.x c.args.cursor.now.rest c.u32.new.self.rest c.in-Ok.ensures.exact.0;
       same_end = c.in-Ok.ensures.exact.1;
-      typed = c.in_ok-call.ensures;
+      typed = rw c.in-Made.is at c.in_ok-call_typed.ensures;
     }

@@ -4,8 +4,8 @@ use Rattle.wk_body.specs.Instructions as plain
 use Rattle.wk_check.proofs.Opcodes.{indirect_at}
 use Rattle.wk_check.proofs.quick.quick_call_indirect.Goals as goal
 
-pub returns-clause-taken : goal.returns-clause-taken
-returns-clause-taken g c = λ yes.
+pub returns-in-Made-clause-taken : goal.returns-in-Made-clause-taken
+returns-in-Made-clause-taken g c = λ yes.
     record {
       token = kept.CallIndirect c.in-Ok.x;
       plain = plain.CallIndirect c.in-Ok.x;
@@ -13,5 +13,5 @@ returns-clause-taken g c = λ yes.
       within = λ n. tt;
       read = λ profile e. indirect_at profile e c.args.cursor.now.end c.in-Ok.x c.args.cursor.now.rest c.u32.new.self.rest c.byte.new.self.rest c.in-Ok.ensures.exact.0 (rw (c.in-Ok-eq0.field-0-test, c.in-Ok.ensures.exact.1) at c.in-Ok-eq0.ensures.exact.0);
       same_end = c.in-Ok-eq0.ensures.exact.1 ∙ c.in-Ok.ensures.exact.1;
-      typed = c.in_ok-call_indirect.ensures;
+      typed = rw c.in-Made.is at c.in_ok-indirect_typed.ensures;
     }

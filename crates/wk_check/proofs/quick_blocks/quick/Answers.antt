@@ -8,21 +8,21 @@ returns-in-2-clause-taken g c = λ profile.
     let f = c.args.f.now in
     met_where Token c.quick_open.result
     (block_taken (g.E.Env.answers c.args.env.now) (local_type f.locals.params f.locals.groups) f.results.now profile c.args.reader.now c.quick_open.new.reader c.args.cursor.now c.byte.new.self c.quick_open.new.cursor c.args.m.now c.quick_open.new.m (rw c.in-2.is at c.in-Ok.ensures.exact))
-    c.quick_open.ensures.taken
+    (c.quick_open.ensures.taken profile)
 
 pub returns-in-3-clause-taken : goal.returns-in-3-clause-taken
 returns-in-3-clause-taken g c = λ profile.
     let f = c.args.f.now in
     met_where Token c.quick_open-in-3.result
     (loop_taken (g.E.Env.answers c.args.env.now) (local_type f.locals.params f.locals.groups) f.results.now profile c.args.reader.now c.quick_open-in-3.new.reader c.args.cursor.now c.byte.new.self c.quick_open-in-3.new.cursor c.args.m.now c.quick_open-in-3.new.m (rw c.in-3.is at c.in-Ok.ensures.exact))
-    c.quick_open-in-3.ensures.taken
+    (c.quick_open-in-3.ensures.taken profile)
 
 pub returns-in-4-clause-taken : goal.returns-in-4-clause-taken
 returns-in-4-clause-taken g c = λ profile.
     let f = c.args.f.now in
     met_where Token c.quick_open-in-4.result
     (if_taken (g.E.Env.answers c.args.env.now) (local_type f.locals.params f.locals.groups) f.results.now profile c.args.reader.now c.quick_open-in-4.new.reader c.args.cursor.now c.byte.new.self c.quick_open-in-4.new.cursor c.args.m.now c.quick_open-in-4.new.m (rw c.in-4.is at c.in-Ok.ensures.exact))
-    c.quick_open-in-4.ensures.taken
+    (c.quick_open-in-4.ensures.taken profile)
 
 pub returns-in-5-clause-taken : goal.returns-in-5-clause-taken
 returns-in-5-clause-taken g c = λ profile.

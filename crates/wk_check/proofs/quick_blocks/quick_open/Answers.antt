@@ -1,14 +1,13 @@
-use Rattle.wk_body.specs.declared.types.Profile.TheVariants.{Core}
 use Rattle.wk_check.proofs.quick_blocks.quick_open.Goals as goal
 
 pub returns-clause-taken : goal.returns-clause-taken
-returns-clause-taken g c = λ yes.
+returns-clause-taken g c = λ profile yes.
     let opened = c.open_block.ensures.opened c.if-not-open_block.false in
     record {
       block = c.in-Some.block;
       shallow = opened.0;
       kinds = opened.1;
-      read = λ profile. (c.in-Some.ensures.read profile).0;
-      same_end = (c.in-Some.ensures.read Core).1;
+      read = (c.in-Some.ensures.read profile).0;
+      same_end = (c.in-Some.ensures.read profile).1;
       typed = c.in_ok-begin.ensures;
     }

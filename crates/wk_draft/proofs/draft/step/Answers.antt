@@ -1,12 +1,14 @@
-use Rattle.std.proofs.Common.{◌≡◌, ◌+◌, ◌≤◌, ℕ, refl, sym, ap, subst, ◌∙◌, length, arith}
+use Rattle.std.proofs.Common.{◌≡◌, ◌+◌, ◌≤◌, ℕ, Option, refl, sym, ap, subst, ◌∙◌, length, arith}
+use Rattle.wk_module.specs.declared.types.Kind.TheVariants as kinds
 use Rattle.wk_module.specs.declared.types.Parts.{Parts}
+use Rattle.wk_module.specs.Imports.{import_count}
 use Rattle.wk_module.specs.Writing.{encoded}
 use Rattle.wk_draft.specs.declared.draft.Draft.{Draft}
 use Rattle.wk_draft.specs.Drafts.{aside_room}
-use Rattle.wk_draft.specs.Steps.{IsSure, marks_after}
+use Rattle.wk_draft.specs.Steps.{IsSure, replaced, unmarked}
 use Rattle.wk_draft.proofs.CodeLengths.{CodeIsLeast}
 use Rattle.wk_draft.proofs.Following.{follows}
-use Rattle.wk_draft.proofs.Stepping.{stepped, refused, sure_other}
+use Rattle.wk_draft.proofs.Stepping.{marks_replaced, stepped, refused, sure_other}
 use Rattle.wk_draft.proofs.draft.step.Goals as goal
 
 pub returns-else-not-has_room : goal.returns-else-not-has_room
@@ -24,8 +26,12 @@ returns-else-not-has_room c = λ os m room held.
     let told = follows laws.frame laws.moved laws.there c.moving_of_module.ensures.formed least c.args.keep old.shifts os old.marks.items m old.session held.draft c.parts.ensures.shaped held.fits e c.bytes_of_edit.ensures in
     let within = c.if-not-has_room.ensures refl in
     let fits : length (encoded c.apply.new.session) + aside_room os ≤ _ = omega (arith, within, c.encoded_len.ensures.value, room) in
-    let marks = c.unmark.ensures ∙ sym (c.replaced-entry.ensures old.marks.items) ∙ ap (λ (d : Parts). marks_after e d old.marks.items) c.parts.ensures.value in
-    stepped c.args.keep e os m old new held told c.in-Ok.work c.in-Ok.ensures.reply c.in-Ok.ensures.module_is c.parts-parts.ensures.shaped fits c.in-Some.ensures marks
+    let imported = old.shifts.funcs_from + old.shifts.funcs_by in
+    let counted = ap (λ (p : Parts). import_count kinds.Func p.imports) held.draft.sketch.rest ∙ held.draft.funcs_from in
+    let defined : c.len-defined.result ≡ length old.session.funcs = c.len-defined.ensures ∙ ap (λ (p : Parts). length p.funcs) c.parts.ensures.value in
+    let entry = c.replaced-entry.ensures ∙ ap (λ (n : ℕ). replaced e imported n) defined in
+    let marks = c.unmark.ensures ∙ ap (λ (r : Option ℕ). unmarked r old.marks.items) entry ∙ sym (marks_replaced e old.session imported old.marks.items counted) in
+    stepped c.args.keep e os m old new held told c.in-Ok.field-0 c.in-Ok.ensures.reply c.in-Ok.ensures.module_is c.parts-parts.ensures.shaped fits c.in-Some.ensures marks
 
 pub returns-in-Err : goal.returns-in-Err
 returns-in-Err c = λ os m room held.

@@ -4,7 +4,6 @@ use Rattle.wk_module.specs.declared.types.Func.{Func}
 use Rattle.wk_module.specs.declared.types.Parts.{Parts}
 use Rattle.wk_session.specs.declared.edit.Edit.{Edit}
 use Rattle.wk_session.specs.declared.edit.EditFault.{EditFault}
-use Rattle.wk_session.specs.declared.edit.Work.{Work}
 use Rattle.wk_session.specs.Runs.{after, replies_of}
 use Rattle.wk_draft.specs.Drafts.{aside_room}
 use Rattle.wk_draft.specs.Runs.{AreAlike, IsHeld, IsStepped}
@@ -14,7 +13,7 @@ use Rattle.wk_draft.proofs.run.make_edits.Goals as goal
 pub loop-edit-init : goal.loop-edit-init
 loop-edit-init c = record {
   held = λ os m room is. is;
-  alike = λ os m room is. subst (λ (rs : List (Result Work EditFault)). AreAlike rs []) (sym c.in_ok-replies.ensures.items) tt;
+  alike = λ os m room is. subst (λ (rs : List (Result (Unit {0}) EditFault)). AreAlike rs []) (sym c.in_ok-replies.ensures.items) tt;
   count = c.in_ok-replies.ensures.len;
   capacity = c.in_ok-replies.ensures.capacity;
 }
@@ -28,12 +27,12 @@ loop-edit-preserved c =
     let i = c.loop-edit.edit-index in
     let inv = c.loop-edit.invariant in
     let stepped : (os : List Func) (m : Parts) → c.args.room ≡ aside_room os → IsHeld os m c.args.draft.now
-    → IsStepped c.args.keep c.edit-item.result os (after c.args.keep (take i es) [] m) c.in-Some.reply c.step.new.draft
-    = λ os m room is. rw c.in-Some.is at (c.in_ok-reply.ensures os (after c.args.keep (take i es) [] m) room (inv.held os m room is)) in
+    → IsStepped c.args.keep c.edit-item.result os (after c.args.keep (take i es) [] m) c.in-Some.answer c.step.new.draft
+    = λ os m room is. rw c.in-Some.is at (c.in_ok-answer.ensures os (after c.args.keep (take i es) [] m) room (inv.held os m room is)) in
     record {
-      held = λ os m room is. held_more c.args.keep es i c.edit-item.result c.loop-edit-test.true c.edit-item.is os m c.in-Some.reply c.step.new.draft (stepped os m room is);
+      held = λ os m room is. held_more c.args.keep es i c.edit-item.result c.loop-edit-test.true c.edit-item.is os m c.in-Some.answer c.step.new.draft (stepped os m room is);
       alike = λ os m room is.
-          alike_more c.args.keep es i c.edit-item.result c.loop-edit-test.true c.edit-item.is os m c.loop-edit.replies.items c.push_reserved.new.self.items c.in-Some.reply c.step.new.draft (stepped os m room is)
+          alike_more c.args.keep es i c.edit-item.result c.loop-edit-test.true c.edit-item.is os m c.loop-edit.replies.items c.push_reserved.new.self.items c.in-Some.answer c.step.new.draft (stepped os m room is)
           c.push_reserved.ensures.items (inv.alike os m room is);
       count = omega (arith, c.push_reserved.ensures.len, inv.count);
       capacity = omega (arith, c.push_reserved.ensures.capacity, inv.capacity);

@@ -1,10 +1,15 @@
-use Rattle.std.proofs.Common.{subst}
+use Rattle.std.proofs.Common.{◌≡◌, ℕ, List, Ok, subst}
 use Rattle.std.specs.Prelude.{IfOk}
 use Rattle.wk_module.specs.declared.types.Parts.{Parts}
+use Rattle.wk_module.specs.Reading.{module_at}
 use Rattle.wk_edit.specs.Outcome.{run_outcome}
 use Rattle.wk_edit.specs.Prepared.{IsPrepared}
 use Rattle.wk_edit.proofs.OutcomeLemmas.{same_module}
 use Rattle.wk_edit.proofs.prepared.by_session.Goals as goal
+
+pub open_behind-opened-requires : goal.open_behind-opened-requires
+open_behind-opened-requires c = λ m at.
+    c.known_bodies-known.ensures m (c.requires.judged m (subst (λ (b : List ℕ). module_at c.args.profile b ≡ Ok m) c.deref.ensures.value at))
 
 pub returns-in-Ok-clause-ok : goal.returns-in-Ok-clause-ok
 returns-in-Ok-clause-ok c = λ m at.

@@ -1,10 +1,10 @@
-use Rattle.std.proofs.Common.{◌≡◌, List, false, Result, ◌∙◌, ap, sym}
+use Rattle.std.proofs.Common.{◌≡◌, List, false, Result, ◌∙◌, ap, subst, sym}
 use Rattle.std.specs.List.{list_any}
 use Rattle.wk_session.specs.declared.edit.Work.{Work}
 use Rattle.wk_session.specs.declared.edit.EditFault.{EditFault}
 use Rattle.wk_session.specs.Runs.{is_memory}
-use Rattle.wk_edit.specs.Outcome.{run_status}
-use Rattle.wk_edit.specs.ReportText.{report_text}
+use Rattle.wk_draft.specs.Runs.{AreAlike}
+use Rattle.wk_edit.proofs.DraftOutcomes.{all_same}
 use Rattle.wk_edit.proofs.OutcomeLemmas.{ran_made, ran_spelled, ran_report, ran_status, spelled_once}
 use Rattle.wk_edit.proofs.prepared.of_run.Goals as goal
 
@@ -19,8 +19,8 @@ returns-clause-ok c =
     let replies = c.in_ok-replies.ensures.replies in
     let module_is = c.in_ok-replies.ensures.module_is in
     let own = spelled_once c.written_form_of_module.ensures.spells c.one_module.ensures.one n c.parts-parts.ensures.shaped c.parts-parts.ensures.fits in
-    let text = c.in_ok-text.ensures ∙ ap (λ (r : List (Result Work EditFault)). report_text 1 r c.verdict.result.now) c.deref-2.ensures.value in
-    let status = c.status_of-status.ensures ∙ ap (λ (r : List (Result Work EditFault)). run_status r c.verdict-2.result.now) c.deref-3.ensures.value in
+    let text = c.in_ok-text.ensures rs (subst (λ (r : List (Result Work EditFault)). AreAlike r rs) (sym c.deref-2.ensures.value) (all_same rs)) in
+    let status = c.status_of-status.ensures rs (subst (λ (r : List (Result Work EditFault)). AreAlike r rs) (sym c.deref-3.ensures.value) (all_same rs)) in
     record {
       made = ran_made keep m n es rs c.verdict.result.now none replies module_is c.verdict.ensures;
       spelled = ran_spelled keep m n es rs c.verdict.result.now none replies module_is c.verdict.ensures own;

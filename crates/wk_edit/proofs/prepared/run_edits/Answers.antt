@@ -11,18 +11,23 @@ returns-in-Whole-clause-ok c = λ m is.
     let same : c.in-Whole.session ≡ m = rw c.in-Whole.is at is in
     subst (λ (p : Parts). IfOk c.of_run.result (IsPrepared (run_outcome c.args.keep_valid p c.args.edits.now))) same c.of_run.ensures.ok
 
-pub drafted-requires : goal.drafted-requires
-drafted-requires c = λ yes.
+pub edit_outline-requires : goal.edit_outline-requires
+edit_outline-requires c =
     let m : Parts = c.requires.0 in
-    let is = rw c.in-Judged.is at c.requires.1 in
+    let is = rw c.in-Outlined.is at c.requires.1 in
     let lent : module_at c.args.profile c.deref.result.now ≡ Ok m = subst (λ (b : List ℕ). module_at c.args.profile b ≡ Ok m) (sym c.deref.ensures.value) is.0 in
-    (m, lent, is.1.0 yes)
+    (m, lent, is.1, is.2)
 
-pub returns-in-Some-clause-ok : goal.returns-in-Some-clause-ok
-returns-in-Some-clause-ok c = λ m opened.
-    let is = rw c.in-Judged.is at opened in
+pub returns-in-Made-clause-ok : goal.returns-in-Made-clause-ok
+returns-in-Made-clause-ok c = λ m opened.
+    let is = rw c.in-Outlined.is at opened in
     let lent : module_at c.args.profile c.deref.result.now ≡ Ok m = subst (λ (b : List ℕ). module_at c.args.profile b ≡ Ok m) (sym c.deref.ensures.value) is.0 in
-    rw c.in-Some.is at (c.in_ok-prepared.ensures.ok m lent)
+    c.of_draft.ensures.ok c.args.keep_valid m c.args.edits.now (rw c.in-Made.is at (c.in_ok-run.ensures m lent))
 
-pub returns-in-None-clause-ok : goal.returns-in-None-clause-ok
-returns-in-None-clause-ok c = λ m opened. c.by_session.ensures.ok m (rw c.in-Judged.is at opened).0
+pub by_session-requires-clause-judged : goal.by_session-requires-clause-judged
+by_session-requires-clause-judged c = λ m at.
+    let lent : module_at c.args.profile c.deref.result.now ≡ Ok m = subst (λ (b : List ℕ). module_at c.args.profile b ≡ Ok m) (sym c.deref.ensures.value) at in
+    rw c.in-Unmade.is at (c.in_ok-run.ensures m lent)
+
+pub returns-in-Unmade-clause-ok : goal.returns-in-Unmade-clause-ok
+returns-in-Unmade-clause-ok c = λ m opened. c.by_session.ensures.ok m (rw c.in-Outlined.is at opened).0

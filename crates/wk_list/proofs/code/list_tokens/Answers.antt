@@ -22,18 +22,16 @@ loop-token-preserved g c =
       place = omega (arith, place, c.in_ok-line.ensures.len);
       deep = omega (arith, c.depths-here.ensures.near, c.in_ok-line.ensures.len, some_token (told c.args.labels.now c.in-Some.token.now), c.loop-token.invariant.deep);
       inside = c.in_ok-line.ensures.inside;
+      reach = c.in_ok-line.ensures.reach;
       within = within.1;
     }
 
-pub returns-in_err-extend_from_slice-clause-err : goal.returns-in_err-extend_from_slice-clause-err
-returns-in_err-extend_from_slice-clause-err g c = on_err_known c.from_residual-in_err-extend_from_slice.result (stops_here _ _ _ _ c.loop-token.invariant.so_far)
-
 pub returns-clause-ok : goal.returns-clause-ok
-returns-clause-ok g c = on_ok_weaker c.spill.result
+returns-clause-ok g c = on_ok_weaker c.put_sheet.result
     (λ p. lines_end c.args.labels.now c.loop-token.rest.now c.loop-token.at c.loop-token.depth _ _ _ _ (c.loop-token.text.items ++ take c.loop-token.used c.loop-token.sheet) _ _
-    c.loop-token.invariant.so_far c.in_default.ensures.cases c.in_ok-extend_from_slice.ensures.items p) c.spill.ensures.ok
+    c.loop-token.invariant.so_far c.in_default.ensures.cases refl p) c.put_sheet.ensures.ok
 
 pub returns-clause-err : goal.returns-clause-err
-returns-clause-err g c = on_err_weaker c.spill.result
+returns-clause-err g c = on_err_weaker c.put_sheet.result
     (λ p. lines_stop c.args.labels.now c.loop-token.rest.now c.loop-token.at c.loop-token.depth _ _ _ _ (c.loop-token.text.items ++ take c.loop-token.used c.loop-token.sheet) _
-    c.loop-token.invariant.so_far c.in_default.ensures.cases c.in_ok-extend_from_slice.ensures.items p) c.spill.ensures.err
+    c.loop-token.invariant.so_far c.in_default.ensures.cases refl p) c.put_sheet.ensures.err

@@ -1,6 +1,7 @@
 use Rattle.std.proofs.Common.{◌≡◌, ◌+◌, ◌≤◌, ◌++◌, length, take}
 use Rattle.std.specs.List.{AllByRecursion}
 use Rattle.wk_body.specs.Kept.{all_told, IsWithin}
+use Rattle.wk_list.specs.declared.brief.TheConstants.{NAMED}
 use Rattle.wk_list.specs.declared.sheet.TheConstants.{ROOM}
 use Rattle.wk_list.specs.Taken.{Leaves}
 use Rattle.wk_list.specs.TokenText.{toks_text, toks_length}
@@ -13,6 +14,7 @@ invariant-loop-token g l = record {
   place : l.at + toks_length (all_told l.labels l.rest) ≡ l.start + toks_length (all_told l.labels l.tokens);
   deep : l.depth ≤ l.at;
   inside : l.used ≤ ROOM;
+  reach : l.reach ≤ NAMED;
   within : AllByRecursion (IsWithin (length l.labels)) l.rest;
 }
 

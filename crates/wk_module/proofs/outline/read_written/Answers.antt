@@ -1,11 +1,10 @@
-use Rattle.std.proofs.Common.{arith}
 use Rattle.std.proofs.lemmas.Result.{err_from_is_err_and}
 use Rattle.wk_bytes.specs.Raw.{raw_view}
 use Rattle.wk_body.specs.ReadsLaws.{fails_on}
 use Rattle.wk_module.specs.Formats.{all_at}
 use Rattle.wk_module.specs.OutlineReading.{code_aside_at, codes_aside_at}
 use Rattle.wk_module.specs.Reading.{section_end}
-use Rattle.wk_module.proofs.Outlining.{opened_front, not_opened}
+use Rattle.wk_module.proofs.Outlining.{not_opened}
 use Rattle.wk_module.proofs.VectorReading.{stops_all, all_fails}
 use Rattle.wk_module.proofs.outline.read_written.Goals as goal
 
@@ -14,20 +13,14 @@ returns-in_err-codes c =
     let p = err_from_is_err_and c.from_residual.result c.from_residual.ensures.1 in
     rw (p.1, p.2) (not_opened c.args.profile c.args.funcs (section_end (raw_view c.args.section.now)) c.args.section.now.contents.now c.in_err-codes.field-0.0 (c.in_err-codes.ensures.read c.args.profile))
 
-pub loop-init : goal.loop-init
-loop-init c = record {
-  reads = opened_front c.args.profile c.args.funcs (section_end (raw_view c.args.section.now)) c.args.section.now.contents.now _ c.in_ok-codes.codes.end c.in_ok-codes.codes.rest c.in_ok-written.written.items (omega arith) c.in_ok-written.ensures.items (c.in_ok-codes.ensures.read c.args.profile);
-  end = c.in_ok-codes.ensures.end;
-}
-
-pub returns-in_err-next_written : goal.returns-in_err-next_written
-returns-in_err-next_written c =
-    let p = err_from_is_err_and c.from_residual-in_err-next_written.result c.from_residual-in_err-next_written.ensures.1 in
-    let e = c.in_err-next_written.field-0.0 in
+pub returns-in_err-code : goal.returns-in_err-code
+returns-in_err-code c =
+    let p = err_from_is_err_and c.from_residual-in_err-code.result c.from_residual-in_err-code.ensures.1 in
+    let e = c.in_err-code.field-0.0 in
     let read = code_aside_at c.args.profile in
     let codes = codes_aside_at c.args.profile c.args.funcs in
     let before = c.loop.codes in
     let end = section_end (raw_view c.args.section.now) in
     let bytes = c.args.section.now.contents.now in
     let stop = stops_all read c.loop.written.items c.args.funcs c.loop.counter before.end before.rest e (codes end bytes) c.loop-test.true c.loop.invariant.reads in
-    rw (p.1, p.2) (fails_on e e.kind (read before.end before.rest) (all_at codes end bytes) (λ bad. all_fails codes end bytes e (stop bad)) c.in_err-next_written.ensures)
+    rw (p.1, p.2) (fails_on e e.kind (read before.end before.rest) (all_at codes end bytes) (λ bad. all_fails codes end bytes e (stop bad)) c.in_err-code.ensures)

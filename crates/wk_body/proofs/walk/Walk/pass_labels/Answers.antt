@@ -1,12 +1,13 @@
-use Rattle.wk_body.proofs.Walking.{labels_begin, labels_one, labels_end}
+use Rattle.std.proofs.Common.{ℕ, List, subst}
+use Rattle.std.specs.List.{flat_map}
+use Rattle.wk_bytes.specs.Short.{short}
+use Rattle.wk_bytes.specs.Span.{u32_at}
+use Rattle.wk_body.specs.Vectors.{items_at}
+use Rattle.wk_body.specs.declared.walk.Walk.{Walk}
+use Rattle.wk_body.specs.Walks.{Passes}
 use Rattle.wk_body.proofs.walk.Walk.pass_labels.Goals as goal
 
-pub loop-init : goal.loop-init
-loop-init c = labels_begin c.args.count c.args.out.now.items c.args.self.now
-
-pub loop-preserved : goal.loop-preserved
-loop-preserved c =
-    labels_one c.args.count c.loop.counter c.in_ok-pass_u32.field-0 c.args.out.now.items c.loop.out.items c.pass_u32.new.out.items c.args.self.now c.loop.self c.pass_u32.new.self c.loop-test.true c.loop.invariant c.in_ok-pass_u32.ensures
-
 pub returns : goal.returns
-returns c = labels_end c.args.count c.loop.counter c.args.out.now.items c.loop.out.items c.args.self.now c.loop.self c.loop-test.false c.loop.invariant
+returns c =
+    subst (λ (w : Walk). (labels : List ℕ) × Passes (items_at u32_at c.args.count) labels (flat_map short labels) c.args.out.now.items w c.labels_apart.new.out.items c.labels_apart.new.self)
+    c.ahead-own.ensures c.in_ok-labels_apart.ensures

@@ -1,7 +1,8 @@
-use Rattle.std.proofs.Common.{◌≡◌, ℕ, ap, sym, subst, ◌∙◌, refl, arith, List, length, Some, Ok}
+use Rattle.std.proofs.Common.{◌≡◌, ℕ, Bool, map, ap, sym, subst, ◌∙◌, refl, arith, List, length, Some, Ok}
 use Rattle.std.proofs.lemmas.List.{length-map}
 use Rattle.std.proofs.lemmas.List.Sums.{count_by-le-length}
 use Rattle.std.proofs.lemmas.Result.{err_from_is_err_and}
+use Rattle.wk_module.specs.declared.types.Func.{Func}
 use Rattle.wk_module.specs.declared.types.Import.{Import}
 use Rattle.wk_module.specs.declared.types.Kind.{Kind}
 use Rattle.wk_module.specs.declared.types.Parts.{Parts}
@@ -9,6 +10,7 @@ use Rattle.wk_module.specs.Imports.{import_count}
 use Rattle.wk_module.specs.ImportLaws.{import_count_le}
 use Rattle.wk_module.specs.Items.{desc_kind}
 use Rattle.wk_module.specs.MovedLaws.{types_stay}
+use Rattle.wk_module.specs.Moving.{is_code_moving}
 use Rattle.wk_module.specs.NumberedLaws.{funcs_numbered, module_numbered}
 use Rattle.wk_module.specs.Shape.{IsFormed, settle}
 use Rattle.wk_session.specs.declared.edit.Edit.TheVariants as edits
@@ -68,6 +70,11 @@ put_import-requires-clause-refs c =
     let sets = c.args.kept.now.refs.items in
     let same = sym (length-map sets (λ s. s.keys)) ∙ ap length c.requires.kept.refs ∙ length-map m.funcs uses_of in
     omega (arith, same, c.in_ok-plan.ensures.entries.ref_count)
+
+pub put_import-requires-clause-moves : goal.put_import-requires-clause-moves
+put_import-requires-clause-moves c =
+    let moving : List Func → List Bool = map (λ f. is_code_moving c.kind-kind.result c.import_count-from.result f.body.instrs) in
+    c.in_ok-plan.ensures.entries.moves ∙ sym (ap (λ (q : Parts). moving q.funcs) c.in_ok-judgement.ensures.ok)
 
 kept_now : (c : After-put_import) → IsImportPlan (desc_kind c.args.import.now.desc) (import_place c.args.import.now c.args.parts.now) c.args.parts.now c.in_ok-plan.plan
     → IsKept (after_import c.args.import.now c.args.parts.now) c.put_import.new.kept

@@ -1,4 +1,5 @@
-use Rattle.std.proofs.Common.{◌≡◌, ◌<◌, ◌^◌, List, ℕ, length, map, refl, sym, ap, subst, ◌∙◌, arith}
+use Rattle.std.proofs.Common.{◌≡◌, ◌<◌, ◌^◌, List, ℕ, length, map, take, refl, sym, ap, subst, ◌∙◌, arith}
+use Rattle.std.specs.List.{AllByRecursion}
 use Rattle.std.proofs.lemmas.List.{length-map}
 use Rattle.wk_body.specs.Lengths.{limited}
 use Rattle.wk_module.specs.declared.types.Func.{Func}
@@ -29,8 +30,15 @@ lent c =
     ∙ ap (λ (ts : List ℕ). listed_with ts c.parts-parts.result.now) (c.deref.ensures.value ∙ c.in_ok-types.ensures)
     ∙ ap (λ (p : Parts). listed_with (map (λ (f : Func). f.ty) p.funcs) p) c.parts-parts.ensures.value
 
-pub entries_of-requires : goal.entries_of-requires
-entries_of-requires c = subst (λ (p : Parts). length p.funcs < 2 ^ 32) (sym c.parts-parts.ensures.value) (funcs_numbered c.args.module.now c.parts-parts.ensures.shaped.formed)
+pub entries_of-requires-clause-few : goal.entries_of-requires-clause-few
+entries_of-requires-clause-few c = subst (λ (p : Parts). length p.funcs < 2 ^ 32) (sym c.parts-parts.ensures.value) (funcs_numbered c.args.module.now c.parts-parts.ensures.shaped.formed)
+
+pub entries_of-requires-clause-known : goal.entries_of-requires-clause-known
+entries_of-requires-clause-known c =
+    let m = c.args.module.now in
+    let lists = lent (goal.at.entries_of-requires-clause-known c).After-of-lists in
+    subst (λ (l : SectionLists). AllByRecursion (λ (f : Func). func_verdict (answer_in (spaces_of l)) f ≡ BodyVerdict.Valid) (take c.args.valid c.parts-parts.result.now.funcs)) (sym lists)
+    (subst (λ (p : Parts). AllByRecursion (λ (f : Func). func_verdict (answers_of m) f ≡ BodyVerdict.Valid) (take c.args.valid p.funcs)) (sym c.parts-parts.ensures.value) c.requires.known)
 
 pub first_code_fault-requires : goal.first_code_fault-requires
 first_code_fault-requires c =
@@ -52,13 +60,13 @@ pub of-requires-clause-order : goal.of-requires-clause-order
 of-requires-clause-order c = subst (λ (p : Parts). IsInOrderFrom 0 p.customs) (sym c.parts-parts.ensures.value) c.parts-parts.ensures.shaped.formed.order
 
 pub of-requires-clause-fits : goal.of-requires-clause-fits
-of-requires-clause-fits c = subst Fits (sym c.parts-parts.ensures.value) c.requires
+of-requires-clause-fits c = subst Fits (sym c.parts-parts.ensures.value) c.requires.fits
 
 pub pieces_len-requires-clause-few : goal.pieces_len-requires-clause-few
 pieces_len-requires-clause-few c =
     let m = c.args.module.now in
     let codes = subst (λ (p : Parts). ArePieces p c.in_ok-pieces.pieces) c.parts-parts.ensures.value c.in_ok-pieces.ensures in
-    omega (arith, codes_length m c.in_ok-pieces.pieces.codes.items codes.codes, room_for_func m c.requires)
+    omega (arith, codes_length m c.in_ok-pieces.pieces.codes.items codes.codes, room_for_func m c.requires.fits)
 
 pub returns : goal.returns
 returns c =
