@@ -215,6 +215,13 @@ nop_step w n m ks below next within is profile before out start g =
     (λ e. omega (arith, e)) (λ e. omega (arith, e)) (λ e. omega (arith, e)) (λ e. omega (arith, e)) (λ e. omega (arith, e))
     refl behind (nothing_passed profile 0x01 layouts.Nothing (in_both profile 0x01 layouts.Nothing refl) out (later w m) refl) g
 
+-- a nop more is passed
+pub nop_on : (w : Walk) (bytes : List ℕ) (n blocks : ℕ) (ks below : List Bool) → bytes ≡ w.cursor.rest → n < length bytes → get_or bytes n 0 ≡ 0x01
+    → BlocksPass w (later w n) blocks ks below → BlocksPass w (later w (n + 1)) blocks ks below
+nop_on w bytes n blocks ks below same within is h =
+    let t = nop_step w n (n + 1) h.0 below refl (omega (arith, within, ap length same)) (ap (λ (bs : List ℕ). get_or bs n 0) (sym same) ∙ is) in
+    (h.0, h.1, λ profile before out first g. t profile before out first (h.2 profile before out first g))
+
 pub nops_on : (w : Walk) (bytes : List ℕ) (count : ℕ) (profile : Profile) (before out : List ℕ) (first : Walk) (ks : List Bool) → bytes ≡ w.cursor.rest → count ≤ length bytes → ((i : ℕ) → i < count → get_or bytes i 0 ≡ 0x01)
     → GoesOn profile before first ks out w → GoesOn profile before first ks out (later w count)
 nops_on w bytes zero profile before out first ks same within all g = g

@@ -197,6 +197,21 @@ pub(crate) fn nops(bytes: &[u8]) -> usize
     count
 }
 
+/// How many integers of one byte are in front, up to so many.
+#[inline(always)]
+pub(crate) fn short_integers(bytes: &[u8], most: usize) -> usize
+    ensures within { result ≤ length bytes.now }
+    ensures most { result ≤ most }
+    ensures short { (i : ℕ) → i < result → get_or bytes.now i 0 < 128 }
+{
+    let end = bytes.len().min(most);
+    let mut count = 0;
+    while count < end && bytes[count] < 0x80 {
+        count += 1;
+    }
+    count
+}
+
 /// Whether an else may come in the innermost of the open blocks that are the bits of a number.
 #[inline(always)]
 pub(crate) fn may_part(blocks: u64) -> bool

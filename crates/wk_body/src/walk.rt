@@ -16,7 +16,9 @@ ghost use Rattle.wk_body.specs.Brief.{number_of};
 ghost use Rattle.wk_body.specs.Shape.{depth_limit};
 ghost use Rattle.wk_body.specs.Walks.{Passes, Keeps, PassesPlain, BlocksPass, GoesOn};
 
-use crate::brief::{begins_nop, blocks_after, brief_len, may_part, nops, passes, wide_len};
+use crate::brief::{
+    begins_nop, blocks_after, brief_len, may_part, nops, passes, short_integers, wide_len,
+};
 use crate::layout::{Layout, layout_of};
 use crate::reading::{are_bytes, reserved};
 use crate::types::Profile;
@@ -165,14 +167,19 @@ impl Walk<'_> {
         Some(zero)
     }
 
-    // So many labels. It stands apart and has a walk of its own: where there are many, no cursor lies in memory.
+    // So many labels. It stands apart and has a walk of its own: where there are many, no cursor lies in memory. Those in front that
+    // have a byte each take a look at that byte.
     #[inline(never)]
     fn labels_apart(&mut self, count: u32, out: &mut Vec<u8>) -> Option<()>
         ensures { IfSome result (λ _. (labels : List ℕ)
             × Passes (items_at u32_at count) labels (flat_map short labels) out.old.items self.old out.new.items self.new) }
     {
         let mut walk = self.ahead();
-        for _ in 0..count {
+        let alone = short_integers(walk.cursor.rest(), count as usize) as u32;
+        let Ok(_) = walk.cursor.take(alone) else {
+            unreachable!()
+        };
+        for _ in alone..count {
             walk.pass_u32(out)?;
         }
         *self = walk;
@@ -229,7 +236,10 @@ impl Walk<'_> {
                 inner = after;
                 at += usize::from(len);
             } else if opcode < 0x05 {
-                break;
+                if opcode != 0x01 || x == 0x01 {
+                    break;
+                }
+                at += 1;
             } else if opcode == 0x05 {
                 if x == 0x0B || !may_part(inner) {
                     break;

@@ -2,7 +2,7 @@ use Rattle.std.proofs.Common.{◌≡◌, ◌+◌, ◌*◌, ◌<◌, ap, get_or, 
 use Rattle.wk_body.specs.declared.walk.Walk.{Walk}
 use Rattle.wk_body.specs.Walks.{BlocksPass}
 use Rattle.wk_bytes.specs.LebLaws.{IsBytes}
-use Rattle.wk_body.proofs.WideWalk.{wide_on, else_on}
+use Rattle.wk_body.proofs.WideWalk.{wide_on, else_on, nop_on}
 use Rattle.wk_body.proofs.BriefWalk.{few_bytes, passed_on, enough, moved}
 use Rattle.wk_body.proofs.walk.Walk.pass_brief.Goals as goal
 
@@ -21,6 +21,16 @@ loop-at-preserved-then-passes c =
       goes = λ ks below is room.
           passed_on c.args.self.now bytes at (get_or bytes at 0) c.brief_len-len.result c.from-at.result c.loop-at.inner c.blocks_after-after.result ks below c.rest-bytes.ensures within c.loop-at.invariant.small room refl
           c.brief_len-len.ensures c.blocks_after-after.ensures (c.passes.ensures.some yes) (c.passes.ensures.brief yes) (c.passes.ensures.ty yes) c.from-at.ensures (c.loop-at.invariant.goes ks below is room);
+    }
+
+pub loop-at-preserved-then-opcode-lt5 : goal.loop-at-preserved-then-opcode-lt5
+loop-at-preserved-then-opcode-lt5 c =
+    let bytes = c.rest-bytes.result.now in
+    let within : c.loop-at.at + 2 < length bytes = omega (arith, c.saturating_sub-last.ensures) in
+    record {
+      within = omega (arith, within);
+      small = c.loop-at.invariant.small;
+      goes = λ ks below is room. nop_on c.args.self.now bytes c.loop-at.at c.loop-at.inner ks below c.rest-bytes.ensures (omega (arith, within)) c.if-opcode-ne1.false (c.loop-at.invariant.goes ks below is room);
     }
 
 pub loop-at-preserved-then-opcode-eq5 : goal.loop-at-preserved-then-opcode-eq5
