@@ -2,14 +2,13 @@
 ghost use Rattle.std.specs.Prelude.{◌≡◌, ◌≢◌, Bool, Ok, List, Result, IfOk, IfErr, IfSome, MatchResult, OnOk};
 ghost use Rattle.std.specs.List.{list_all, list_any};
 ghost use Rattle.wk_module.specs.declared.types.Parts.{Parts as PartsOf};
-ghost use Rattle.wk_body.specs.Reads.{FailsAs};
+ghost use Rattle.wk_body.specs.Reads.{FailsAs, Reads};
 ghost use Rattle.wk_module.specs.ListReading.{IsReading};
 ghost use Rattle.wk_module.specs.Reading.{module_at};
 ghost use Rattle.wk_session.specs.declared.edit.Edit.{Edit as EditOf};
 ghost use Rattle.wk_session.specs.declared.edit.EditFault.{EditFault as EditFaultOf};
 ghost use Rattle.wk_session.specs.declared.edit.Work.{Work as WorkOf};
 ghost use Rattle.wk_check.specs.Verdict.{module_verdict};
-ghost use Rattle.wk_session.specs.Known.{AreFirstValid};
 ghost use Rattle.wk_session.specs.Runs.{is_memory, replies_of, after, refused_for_memory};
 ghost use Rattle.wk_draft.specs.Runs.{AreAlike, IsRun};
 ghost use Rattle.wk_edit.specs.Outcome.{malformed_outcome, outcome_of, run_outcome, run_status, script_outcome};
@@ -29,7 +28,7 @@ use wk_module::{
     Outline, Profile, one_module, read_outline, reading_of_code, reading_of_module,
     written_form_of_module,
 };
-use wk_session::{Edit, EditFault, Reply, Session, valid_bodies};
+use wk_session::{Edit, EditFault, Reply, Session};
 
 /// The edited module, if there is one.
 #[derive(Drop)]
@@ -179,18 +178,23 @@ fn of_draft(alloc: Global, run: Run) -> Result<Prepared, RunFault>
     })
 }
 
-// How many bodies from the first on are known to be valid, by the verdict on their module, if there is one.
-fn known_bodies(verdict: &Option<Verdict>) -> usize
-    ensures { (m : PartsOf) → IfSome verdict.now (λ v. v ≡ module_verdict m) → AreFirstValid result m }
+// A session over a module whose verdict may be known: then it is not judged again.
+fn session_over(
+    alloc: Global,
+    input: &[u8],
+    verdict: Option<Verdict>,
+    profile: Profile,
+) -> Result<Session, ReadFault>
+    requires { (m : PartsOf) → module_at profile input.now ≡ Ok m → IfSome verdict (λ v. v ≡ module_verdict m) }
+    ensures { Reads (λ m. m) result (module_at profile input.now) }
 {
     match verdict {
-        Some(verdict) => valid_bodies(verdict),
-        None => 0,
+        Some(verdict) => Session::open_judged(alloc, input, profile, verdict),
+        None => Session::open_in(alloc, input, profile),
     }
 }
 
-// Makes the edits on a module that is held whole. Its bytes are let go once it is read, and bodies that its verdict tells to be valid are not
-// typed again.
+// Makes the edits on a module that is held whole. Its bytes are let go once it is read.
 fn by_session(
     alloc: Global,
     input: Vec<u8>,
@@ -205,8 +209,7 @@ fn by_session(
         → IfOk result (IsPrepared (run_outcome keep_valid m edits.now)) }
     ensures memory { IfErr result (λ e. e ≡ RunFault.Memory) }
 {
-    let known = known_bodies(&verdict);
-    let opened = Session::open_behind(alloc, &input, profile, known);
+    let opened = session_over(alloc, &input, verdict, profile);
     drop(input);
     match opened {
         Ok(session) => of_run(alloc, session, edits, keep_valid),

@@ -181,25 +181,25 @@ fn left(alloc: Global, module: Module, script: &[u8]) -> Option<Drafted> {
     drafted_of(alloc, module, &edits, true)
 }
 
-// Whether edits of a module are left to a session, with a verdict that is that of the module.
-fn is_left(alloc: Global, module: Module, script: &[u8]) -> bool {
+// Whether edits of a module are left to a session, before it is judged or with its verdict.
+fn is_left(alloc: Global, module: Module, script: &[u8], is_judged: bool) -> bool {
     match left(alloc, module, script) {
         Some(Drafted::Unmade(Some(verdict))) => {
-            judge_bytes(alloc, module.0, module.1) == Ok(verdict)
+            is_judged && judge_bytes(alloc, module.0, module.1) == Ok(verdict)
         }
-        Some(Drafted::Unmade(None)) => true,
+        Some(Drafted::Unmade(None)) => !is_judged,
         Some(Drafted::Made(_)) => false,
         None => false,
     }
 }
 
-// An import that would break the module is not answered for it, nor any edit of an invalid module; an import of a type that is refused in
-// front of it neither.
+// An import that would break the module is not answered for it, and told before the module is judged, also behind a type that is refused. Nor
+// is any edit of an invalid module.
 fn gives_up(alloc: Global) -> bool {
     let module = (BODIES, Profile::Core);
-    is_left(alloc, module, b"import func m h 9\n")
-        && is_left(alloc, module, b"type - i32,i32\nimport func m h 2\n")
-        && is_left(alloc, (TWO_RESULTS, Profile::Core), b"")
+    is_left(alloc, module, b"import func m h 9\n", false)
+        && is_left(alloc, module, b"type - i32,i32\nimport func m h 2\n", false)
+        && is_left(alloc, (TWO_RESULTS, Profile::Core), b"", true)
 }
 
 #[test]

@@ -9,7 +9,7 @@ use wk_bytes::{OutOfMemory, ReadFault, ReadKind, Sink};
 use wk_check::{Fault, FaultKind, Place, Verdict, judge_bytes};
 use wk_edit::read_script;
 use wk_module::{Profile, Ref, read_in};
-use wk_session::{Edit, Reply, Session, valid_bodies};
+use wk_session::{Edit, Reply, Session};
 
 // The bytes that a session writes.
 fn written(alloc: Global, session: &Session) -> Option<Vec<u8>> {
@@ -36,13 +36,13 @@ pub(crate) fn open(alloc: Global, profile: Profile, bytes: &[u8]) -> Result<Sess
     }
 }
 
-// The same behind the bodies that are known to be valid by the verdict of its bytes.
+// The same with the verdict of its bytes.
 fn open_judged(alloc: Global, profile: Profile, bytes: &[u8]) -> Result<Session, ReadFault> {
     let verdict = judge_bytes(alloc, bytes, profile)?;
-    Session::open_behind(alloc, bytes, profile, valid_bodies(&verdict))
+    Session::open_judged(alloc, bytes, profile, verdict)
 }
 
-// Whether a module is opened with this verdict, and written as these bytes, whether its bodies are typed or known to be valid.
+// Whether a module is opened with this verdict, and written as these bytes, whether it is judged or its verdict is known.
 fn opens_as(alloc: Global, profile: Profile, bytes: &[u8], whole: &[u8], verdict: Verdict) -> bool {
     let opened = (
         open(alloc, profile, bytes),

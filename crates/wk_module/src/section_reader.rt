@@ -1,11 +1,11 @@
 //! Reading the lists of a module section by section, where its bodies are the caller's to read and its custom sections are let go.
 
-ghost use Rattle.std.specs.Prelude.{◌≡◌, ◌≢◌, ◌<◌, ◌-◌, ◌^◌, ℕ, List, [], length, Ok, Err, All, IfOk, OnOk, IfErr, OnErr, MatchResult};
+ghost use Rattle.std.specs.Prelude.{◌≡◌, ◌≢◌, ◌<◌, ◌-◌, ◌^◌, ℕ, List, [], length, Ok, Err, All, IfOk, IfSome, OnOk, IfErr, OnErr, MatchResult};
 ghost use Rattle.wk_bytes.specs.Frames.{sections_of};
 ghost use Rattle.wk_bytes.specs.LebLaws.{IsBytes};
 ghost use Rattle.wk_bytes.specs.Raw.{raw_view};
 ghost use Rattle.wk_bytes.specs.Span.{fault};
-ghost use Rattle.wk_bytes.specs.Stands.{ItemStands, Stands, StandsIn, StandsOrMemory, contents_of};
+ghost use Rattle.wk_bytes.specs.Stands.{ItemStands, LiesIn, Stands, StandsIn, StandsOrMemory, contents_of};
 ghost use Rattle.wk_body.specs.Reads.{FailsAs, Parses, Reads};
 ghost use Rattle.wk_body.specs.Vectors.{items_at};
 ghost use Rattle.wk_module.specs.Formats.{bytes_at};
@@ -169,7 +169,7 @@ impl<'a> SectionReader<'a> {
     /// # Errors
     ///
     /// The first fault of the sections in front of it, or `Memory` at 0 where a growth was refused. The fault stands in the input in
-    /// which the sections lie, as [`Sections`] says of them.
+    /// which the sections lie, as [`Sections`] says of them; there the code section and those behind it lie too.
     pub fn up_to_code(
         self,
         alloc: Global,
@@ -177,6 +177,8 @@ impl<'a> SectionReader<'a> {
     ) -> Result<(SectionReader<'a>, Option<RawSection<'a>>), ReadFault>
         ensures exact { Reads (λ r. front_of r.0 r.1) result (front_read self.entry.profile self.entry.lists self.entry.left) }
         ensures goes { MatchResult result (λ r. GoesTo self.entry r.0 r.1) (λ e. FailsAs e e.kind (rest_read self.entry)) }
+        ensures within { (input : List ℕ) → All (ItemStands input) self.entry.left
+            → IfOk result (λ r. All (ItemStands input) r.0.left × IfSome r.1 (λ s. LiesIn input (raw_view s))) }
         ensures fault { (input : List ℕ) → All (ItemStands input) self.entry.left → IfErr result (λ e. StandsIn input e) }
     {
         // The proof asks for what these two say of expressions and bodies.

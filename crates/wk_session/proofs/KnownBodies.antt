@@ -1,5 +1,7 @@
--- Which bodies are valid by the verdict of their module.
-use Rattle.std.proofs.Common.{◌≡◌, ℕ, zero, suc, ◌+◌, ◌<◌, List, [], ◌∷◌, length, map, take, get_or, Option, Some, None, refl, sym, ap, ◌∙◌, arith}
+-- What the verdict of a module tells of its bodies holds.
+use Rattle.std.proofs.Common.{◌≡◌, ℕ, zero, suc, ◌+◌, ◌<◌, ◌≤◌, List, [], ◌∷◌, length, map, take, slice_get, nat_lt, if◌then◌else◌, Bool, true, false, Option, Some, None, refl, sym, ap, ◌∙◌, arith}
+use Rattle.std.specs.Prelude.{IfSome, option_map}
+use Rattle.std.proofs.lemmas.Bool.{ltb-true, ltb-false}
 use Rattle.std.specs.List.{AllByRecursion}
 use Rattle.wk_body.specs.declared.references.Ref.{Ref}
 use Rattle.wk_module.specs.declared.types.Func.{Func}
@@ -8,13 +10,15 @@ use Rattle.wk_module.specs.Shape.{lists_of}
 use Rattle.wk_check.specs.declared.fault.BodyVerdict.{BodyVerdict}
 use Rattle.wk_check.specs.declared.fault.BodyVerdict.TheVariants as bodies
 use Rattle.wk_check.specs.declared.fault.Fault.{Fault}
+use Rattle.wk_check.specs.declared.fault.Verdict.{Verdict}
 use Rattle.wk_check.specs.declared.fault.Verdict.TheVariants.{Valid, Invalid}
 use Rattle.wk_check.specs.Answers.{Found}
+use Rattle.wk_check.specs.declared.fault.Flaw.{Flaw}
 use Rattle.wk_check.specs.Flaws.{fault_at, first_in, first_fault, verdict_by, AreFine}
 use Rattle.wk_check.specs.Items.{body_flaw, earlier}
 use Rattle.wk_check.specs.SpacesLaws.{answers_of}
 use Rattle.wk_check.specs.Verdict.{func_verdict, code_flaws, data_flaws, code_fault, flaws_before_code, front_fault, module_verdict}
-use Rattle.wk_session.specs.Known.{AreFirstValid}
+use Rattle.wk_session.specs.Known.{AreTold, body_told, told_by}
 
 -- ---- lists
 
@@ -23,19 +27,18 @@ all_first P zero xs all = tt
 all_first P (suc n) [] all = tt
 all_first P (suc n) (x ∷ xs) all = (all.0, all_first P n xs all.1)
 
--- an item in front of the first so many
-pub first_at : {A : Type 0} (P : A → Type 0) (n : ℕ) (xs : List A) (i : ℕ) (x : A) → AllByRecursion P (take n xs) → i < n → i < length xs → P (get_or xs i x)
-first_at P n [] i x all few within = absurd (omega (arith, within))
-first_at P zero (y ∷ xs) i x all few within = absurd (omega (arith, few))
-first_at P (suc n) (y ∷ xs) zero x all few within = all.0
-first_at P (suc n) (y ∷ xs) (suc i) x all few within = first_at P n xs i x all.1 (omega (arith, few)) (omega (arith, within))
-
 -- ---- the place of the first flaw of a section
 
 section_of : (section item : ℕ) (ws : List (Option _)) (fault : Fault) → first_in section item ws ≡ Some fault → fault.place.section ≡ section
 section_of section item [] fault e = absurd cc
 section_of section item (None ∷ ws) fault e = section_of section (item + 1) ws fault e
 section_of section item (Some w ∷ ws) fault e = let here : fault ≡ fault_at section item w = cc in ap (λ (f : Fault). f.place.section) here
+
+-- its item is none in front of the first
+item_behind : (section item : ℕ) (ws : List (Option _)) (fault : Fault) → first_in section item ws ≡ Some fault → item ≤ fault.place.item
+item_behind section item [] fault e = absurd cc
+item_behind section item (None ∷ ws) fault e = omega (arith, item_behind section (item + 1) ws fault e)
+item_behind section item (Some w ∷ ws) fault e = let here : fault ≡ fault_at section item w = cc in omega (arith, ap (λ (f : Fault). f.place.item) here)
 
 -- the items in front of it are fine
 fine_before : (section item n : ℕ) (ws : List (Option _)) (fault : Fault) → first_in section item ws ≡ Some fault → fault.place.item ≡ item + n → AreFine (take n ws)
@@ -73,43 +76,116 @@ all_valid A zero fs fine = tt
 all_valid A (suc n) [] fine = tt
 all_valid A (suc n) (f ∷ fs) fine = (fine_valid (func_verdict A f) fine.0, all_valid A n fs fine.1)
 
+-- a body that has the first flaw, with this token
+flawed : (v : BodyVerdict) (section item : ℕ) (fault : Fault) (token : ℕ) (w : Flaw) → body_flaw v ≡ Some w → fault ≡ fault_at section item w → fault.place.token ≡ Some token → v ≡ bodies.Invalid fault.kind token
+flawed bodies.Valid section item fault token w e is at = absurd cc
+flawed (bodies.Invalid kind t) section item fault token w e is at = cc
+
+-- the body that the first flaw names has it
+at_fault : (A : Ref → Found) (item n : ℕ) (fs : List Func) (f : Func) (fault : Fault) (token : ℕ) → first_in 10 item (map body_flaw (map (func_verdict A) fs)) ≡ Some fault
+    → fault.place.item ≡ item + n → slice_get fs n ≡ Some f → fault.place.token ≡ Some token → func_verdict A f ≡ bodies.Invalid fault.kind token
+at_fault A item n [] f fault token first is there at = absurd cc
+at_fault A item n (g ∷ fs) f fault token first is there at = among (body_flaw (func_verdict A g)) refl n is there
+  where
+    among : (flaw : Option Flaw) → body_flaw (func_verdict A g) ≡ flaw → (k : ℕ) → fault.place.item ≡ item + k → slice_get (g ∷ fs) k ≡ Some f → func_verdict A f ≡ bodies.Invalid fault.kind token
+    among None fine zero here there =
+        let later : first_in 10 (item + 1) (map body_flaw (map (func_verdict A) fs)) ≡ Some fault = cc in
+        absurd (omega (arith, here, item_behind 10 (item + 1) _ fault later))
+    among None fine (suc k) here there =
+        let later : first_in 10 (item + 1) (map body_flaw (map (func_verdict A) fs)) ≡ Some fault = cc in
+        at_fault A (item + 1) k fs f fault token later (omega (arith, here)) there at
+    among (Some w) flaw zero here there =
+        let same : fault ≡ fault_at 10 item w = cc in
+        let is_f : g ≡ f = cc in
+        ap (func_verdict A) (sym is_f) ∙ flawed (func_verdict A g) 10 item fault token w flaw same at
+    among (Some w) flaw (suc k) here there =
+        let same : fault ≡ fault_at 10 item w = cc in
+        absurd (omega (arith, here, ap (λ (f : Fault). f.place.item) same))
+
+-- the verdict of a body, where the first so many are valid
+nth_valid : (A : Ref → Found) (n i : ℕ) (fs : List Func) (f : Func) → AllByRecursion (λ g. func_verdict A g ≡ bodies.Valid) (take n fs) → i < n → slice_get fs i ≡ Some f → func_verdict A f ≡ bodies.Valid
+nth_valid A n i [] f all few at = absurd cc
+nth_valid A zero i (g ∷ fs) f all few at = absurd (omega (arith, few))
+nth_valid A (suc n) zero (g ∷ fs) f all few at = let is : g ≡ f = cc in ap (func_verdict A) (sym is) ∙ all.0
+nth_valid A (suc n) (suc i) (g ∷ fs) f all few at = nth_valid A n i fs f all.1 (omega (arith, few)) at
+
 -- ---- the verdict of a module
 
 module _ (m : Parts) where
+  -- the first fault in front of the bodies, and behind them
+  Front Back : Option Fault
+  Front = front_fault m.profile (lists_of m)
+  Back = first_in 11 0 (data_flaws (lists_of m))
+
+  AreValid : ℕ → Type 0
+  AreValid n = AllByRecursion (λ f. func_verdict (answers_of m) f ≡ bodies.Valid) (take n m.funcs)
+
   -- what the verdict tells of the three parts of a module
   no_code : (front code back : Option Fault) → verdict_by (earlier front (earlier code back)) ≡ Valid → code ≡ None
   no_code (Some f) code back e = absurd cc
   no_code None (Some f) back e = absurd cc
   no_code None None back e = refl
 
-  none_known : (n : ℕ) → code_fault m ≡ None → AreFirstValid n m
+  none_known : (n : ℕ) → code_fault m ≡ None → AreValid n
   none_known n e = all_valid (answers_of m) n m.funcs (all_first (λ w. w ≡ None) n _ (all_fine 10 0 _ e))
 
-  pub known_valid : (n : ℕ) → module_verdict m ≡ Valid → AreFirstValid n m
-  known_valid n e = none_known n (no_code (front_fault m.profile (lists_of m)) (code_fault m) (first_in 11 0 (data_flaws (lists_of m))) e)
-
-  pub known_in : (fault : Fault) → module_verdict m ≡ Invalid fault → fault.place.section ≡ 10 → AreFirstValid fault.place.item m
-  known_in fault e here = among (front_fault m.profile (lists_of m)) (code_fault m) refl refl e
+  -- where the first fault stands among the bodies, it is the first one there
+  fault_in : (fault : Fault) → module_verdict m ≡ Invalid fault → fault.place.section ≡ 10 → code_fault m ≡ Some fault
+  fault_in fault e here = among Front (code_fault m) Back refl refl refl e
     where
-      among : (front code : Option Fault) → front_fault m.profile (lists_of m) ≡ front → code_fault m ≡ code
-          → verdict_by (earlier front (earlier code (first_in 11 0 (data_flaws (lists_of m))))) ≡ Invalid fault → AreFirstValid fault.place.item m
-      among (Some f) code is_front is_code all =
+      among : (front code back : Option Fault) → Front ≡ front → code_fault m ≡ code → Back ≡ back → verdict_by (earlier front (earlier code back)) ≡ Invalid fault → code_fault m ≡ Some fault
+      among (Some f) code back is_front is_code is_back all =
           let same : f ≡ fault = cc in
           absurd (omega (arith, here, section_within 1 (flaws_before_code m.profile (lists_of m)) fault (is_front ∙ ap Some same)))
-      among None (Some f) is_front is_code all =
+      among None (Some f) back is_front is_code is_back all = let same : f ≡ fault = cc in is_code ∙ ap Some same
+      among None None (Some f) is_front is_code is_back all =
           let same : f ≡ fault = cc in
-          all_valid (answers_of m) fault.place.item m.funcs (fine_before 10 0 fault.place.item _ fault (is_code ∙ ap Some same) (omega arith))
-      among None None is_front is_code all = none_known fault.place.item is_code
+          absurd (omega (arith, here, section_of 11 0 (data_flaws (lists_of m)) fault (is_back ∙ ap Some same)))
+      among None None None is_front is_code is_back all = absurd cc
 
-  pub known_behind : (n : ℕ) (fault : Fault) → module_verdict m ≡ Invalid fault → 10 < fault.place.section → AreFirstValid n m
-  known_behind n fault e behind = among (front_fault m.profile (lists_of m)) (code_fault m) refl refl e
+  -- where it stands behind them, there is none
+  none_in : (fault : Fault) → module_verdict m ≡ Invalid fault → 10 < fault.place.section → code_fault m ≡ None
+  none_in fault e behind = among Front (code_fault m) refl refl e
     where
-      among : (front code : Option Fault) → front_fault m.profile (lists_of m) ≡ front → code_fault m ≡ code
-          → verdict_by (earlier front (earlier code (first_in 11 0 (data_flaws (lists_of m))))) ≡ Invalid fault → AreFirstValid n m
+      among : (front code : Option Fault) → Front ≡ front → code_fault m ≡ code → verdict_by (earlier front (earlier code Back)) ≡ Invalid fault → code_fault m ≡ None
       among (Some f) code is_front is_code all =
           let same : f ≡ fault = cc in
           absurd (omega (arith, behind, section_within 1 (flaws_before_code m.profile (lists_of m)) fault (is_front ∙ ap Some same)))
       among None (Some f) is_front is_code all =
           let same : f ≡ fault = cc in
           absurd (omega (arith, behind, section_of 10 0 (code_flaws (lists_of m) m.funcs) fault (is_code ∙ ap Some same)))
-      among None None is_front is_code all = none_known n is_code
+      among None None is_front is_code all = is_code
+
+  module _ (i : ℕ) (f : Func) (there : slice_get m.funcs i ≡ Some f) where
+    Holds : Option BodyVerdict → Type 0
+    Holds told = IfSome told (λ v. v ≡ func_verdict (answers_of m) f)
+
+    in_front : (n : ℕ) → AreValid n → i < n → bodies.Valid ≡ func_verdict (answers_of m) f
+    in_front n all few = sym (nth_valid (answers_of m) n i m.funcs f all few there)
+
+    by_fault : (fault : Fault) → module_verdict m ≡ Invalid fault → Holds (told_by fault i)
+    by_fault fault e = go (nat_lt fault.place.section 10) (nat_lt 10 fault.place.section) (nat_lt i fault.place.item) (nat_lt fault.place.item i) fault.place.token refl refl refl refl refl
+      where
+        go : (early late front back : Bool) (token : Option ℕ) → nat_lt fault.place.section 10 ≡ early → nat_lt 10 fault.place.section ≡ late → nat_lt i fault.place.item ≡ front
+            → nat_lt fault.place.item i ≡ back → fault.place.token ≡ token
+            → Holds (if early then None else (if late then Some bodies.Valid else (if front then Some bodies.Valid else (if back then None else option_map (bodies.Invalid fault.kind) token))))
+        go true late front back token is_early is_late is_front is_back at = tt
+        go false true front back token is_early is_late is_front is_back at =
+            in_front (i + 1) (none_known (i + 1) (none_in fault e (ltb-true 10 fault.place.section is_late))) (omega arith)
+        go false false true back token is_early is_late is_front is_back at =
+            let here : fault.place.section ≡ 10 = omega (arith, ltb-false fault.place.section 10 is_early, ltb-false 10 fault.place.section is_late) in
+            in_front fault.place.item (all_valid (answers_of m) fault.place.item m.funcs (fine_before 10 0 fault.place.item _ fault (fault_in fault e here) (omega arith))) (ltb-true i fault.place.item is_front)
+        go false false false true token is_early is_late is_front is_back at = tt
+        go false false false false None is_early is_late is_front is_back at = tt
+        go false false false false (Some token) is_early is_late is_front is_back at =
+            let here : fault.place.section ≡ 10 = omega (arith, ltb-false fault.place.section 10 is_early, ltb-false 10 fault.place.section is_late) in
+            sym (at_fault (answers_of m) 0 i m.funcs f fault token (fault_in fault e here) (omega (arith, ltb-false i fault.place.item is_front, ltb-false fault.place.item i is_back)) there at)
+
+    by_verdict : (v : Verdict) → module_verdict m ≡ v → Holds (body_told (Some v) i)
+    by_verdict Valid e = in_front (i + 1) (none_known (i + 1) (no_code Front (code_fault m) Back e)) (omega arith)
+    by_verdict (Invalid fault) e = by_fault fault e
+
+  -- what the verdict of a module tells of its bodies, holds
+  pub told_bodies : (known : Option Verdict) → IfSome known (λ v. v ≡ module_verdict m) → AreTold known (answers_of m) m.funcs
+  told_bodies None is = λ i f there. tt
+  told_bodies (Some v) is = λ i f there. by_verdict i f there v (sym is)

@@ -1,20 +1,23 @@
 //! What a session keeps beside its module, so that an edit computes only what depends on it.
 
-ghost use Rattle.std.specs.Prelude.{◌≡◌, ◌+◌, ◌<◌, ◌≤◌, ◌^◌, true, length, map, take, IfOk};
-ghost use Rattle.std.specs.List.{AllByRecursion};
+ghost use Rattle.std.specs.Prelude.{◌≡◌, ◌+◌, ◌<◌, ◌≤◌, ◌^◌, length, map, IfOk, IfSome};
 ghost use Rattle.wk_body.specs.Lengths.{limited};
 ghost use Rattle.wk_module.specs.declared.types.Parts.{Parts as PartsOf};
 ghost use Rattle.wk_module.specs.declared.types.Func.{Func as FuncOf};
-ghost use Rattle.wk_module.specs.Listed.{listed};
+ghost use Rattle.wk_module.specs.Listed.{listed, AreNumbered};
 ghost use Rattle.wk_module.specs.Shape.{IsInOrderFrom};
 ghost use Rattle.wk_module.specs.Writing.{Fits, encoded};
 ghost use Rattle.wk_check.specs.Spaces.{answer_in, spaces_of};
-ghost use Rattle.wk_check.specs.Verdict.{func_verdict};
+ghost use Rattle.wk_check.specs.declared.fault.Verdict.{Verdict as VerdictOf};
+ghost use Rattle.wk_check.specs.Flaws.{first_in};
+ghost use Rattle.wk_check.specs.Items.{body_flaw};
+ghost use Rattle.wk_check.specs.Verdict.{func_verdict, module_verdict, verdict_around};
 ghost use Rattle.wk_session.specs.Kept.{IsKept, uses_of};
-ghost use Rattle.wk_session.specs.Known.{AreFirstValid};
+ghost use Rattle.wk_session.specs.Known.{AreTold};
 ghost use Rattle.wk_session.specs.Pieces.{ArePieces, code_of};
 
 use crate::judged::judged;
+use crate::known::told_body;
 use crate::lengths::len_after;
 use crate::pieces::{Pieces, code_in_room, no_news};
 use std::alloc::Global;
@@ -73,35 +76,34 @@ pub(crate) fn func_uses(
     uses(alloc, own_type, body)
 }
 
-// The verdict of a body, which is not typed where it is known to be valid.
+// The verdict of a body, which is not typed where it is told.
 fn verdict_of<E: Env>(
     env: &E,
     func: &Func,
-    is_valid: bool,
+    told: Option<BodyVerdict>,
     meter: &mut Meter,
 ) -> Result<BodyVerdict, OutOfMemory>
     requires room { meter.old + 1 < 2 ^ 64 }
-    requires known { is_valid ≡ true → func_verdict (E.answers env.now) func.now ≡ BodyVerdict.Valid }
+    requires told { IfSome told (λ v. v ≡ func_verdict (E.answers env.now) func.now) }
     ensures verdict { IfOk result (λ v. v ≡ func_verdict (E.answers env.now) func.now) }
     ensures typed { meter.new ≤ meter.old + 1 }
 {
-    if is_valid {
-        return Ok(BodyVerdict::Valid);
+    match told {
+        Some(verdict) => Ok(verdict),
+        None => judged(env, func.ty, &func.body, meter),
     }
-    judged(env, func.ty, &func.body, meter)
 }
 
-// What is kept of functions, of which the first so many are known to be valid. Each other one is judged, and each is looked at and
+// What is kept of functions of a module, whose verdict may be known. Each of which it does not tell is judged, and each is looked at and
 // written while it is in the processor's caches.
 fn entries_in<E: Env>(
     alloc: Global,
     env: &E,
     funcs: &Items<Func>,
-    valid: usize,
+    known: &Option<Verdict>,
 ) -> Result<Entries, OutOfMemory>
     requires few { length funcs.now < 2 ^ 32 }
-    requires known { let answers = E.answers env.now in
-        AllByRecursion (λ f. func_verdict answers f ≡ BodyVerdict.Valid) (take valid funcs.now) }
+    requires told { AreTold known.now (E.answers env.now) funcs.now }
     ensures verdicts { IfOk result (λ e. e.verdicts.items ≡ map (func_verdict (E.answers env.now)) funcs.now) }
     ensures refs { IfOk result (λ e. map (λ s. s.keys) e.refs.items ≡ map uses_of funcs.now) }
     ensures codes { IfOk result (λ e. e.codes.items ≡ map code_of funcs.now) }
@@ -113,7 +115,7 @@ fn entries_in<E: Env>(
     let mut codes = Vec::with_capacity(alloc, funcs.len())?;
     let mut room = Vec::new(alloc);
     for (i, func) in funcs.as_slice().iter().enumerate() {
-        let verdict = verdict_of(env, func, i < valid, &mut meter)?;
+        let verdict = verdict_of(env, func, told_body(known, i), &mut meter)?;
         let found = func_uses(alloc, func.ty, &func.body)?;
         let code = code_in_room(alloc, &mut room, &func.body, &mut encoded)?;
         verdicts.push(verdict)?;
@@ -127,22 +129,40 @@ fn entries_in<E: Env>(
     })
 }
 
-// What is kept of functions in a module with these lists, where the first so many are known to be valid.
+// What is kept of functions in a module with these lists, whose verdict may be known.
 fn entries_of(
     alloc: Global,
     lists: Lists<'_>,
     funcs: &Items<Func>,
-    valid: usize,
+    known: &Option<Verdict>,
 ) -> Result<Entries, OutOfMemory>
     requires few { length funcs.now < 2 ^ 32 }
-    requires known { let answers = answer_in (spaces_of (listed lists)) in
-        AllByRecursion (λ f. func_verdict answers f ≡ BodyVerdict.Valid) (take valid funcs.now) }
+    requires told { AreTold known.now (answer_in (spaces_of (listed lists))) funcs.now }
     ensures verdicts { IfOk result (λ e. e.verdicts.items ≡ map (func_verdict (answer_in (spaces_of (listed lists.entry)))) funcs.now) }
     ensures refs { IfOk result (λ e. map (λ s. s.keys) e.refs.items ≡ map uses_of funcs.now) }
     ensures codes { IfOk result (λ e. e.codes.items ≡ map code_of funcs.now) }
 {
     let whole = Whole::of(alloc, lists)?;
-    entries_in(alloc, &whole, funcs, valid)
+    entries_in(alloc, &whole, funcs, known)
+}
+
+// The verdict of a module with these lists and verdicts of bodies. It is not judged where it is known.
+fn module_verdict_of(
+    alloc: Global,
+    lists: &Lists<'_>,
+    verdicts: &[BodyVerdict],
+    known: &Option<Verdict>,
+) -> Result<Verdict, OutOfMemory>
+    requires few { length verdicts.now < 2 ^ 32 }
+    requires numbered { AreNumbered (listed lists.now) }
+    ensures { (w : VerdictOf)
+        → verdict_around lists.now.profile (listed lists.now) (first_in 10 0 (map body_flaw verdicts.now)) ≡ w
+        → IfSome known.now (λ v. v ≡ w) → IfOk result (λ v. v ≡ w) }
+{
+    match known {
+        Some(verdict) => Ok(*verdict),
+        None => judge_around(alloc, lists, first_code_fault(verdicts)),
+    }
 }
 
 // How long the module of these pieces is, or nothing past 2,147,483,647.
@@ -164,22 +184,26 @@ fn pieces_len(alloc: Global, pieces: &Pieces) -> Result<Option<u32>, OutOfMemory
 }
 
 impl Kept {
-    /// What is to be kept of a module that is not too large, and of which the first so many bodies are known to be valid.
-    pub(crate) fn of(alloc: Global, module: &Module, valid: usize) -> Result<Kept, OutOfMemory>
+    /// What is to be kept of a module that is not too large, and whose verdict may be known.
+    pub(crate) fn of(
+        alloc: Global,
+        module: &Module,
+        known: &Option<Verdict>,
+    ) -> Result<Kept, OutOfMemory>
         requires fits { Fits «module».now }
-        requires known { AreFirstValid valid «module».now }
+        requires known { IfSome known.now (λ v. v ≡ module_verdict «module».now) }
         ensures { IfOk result (IsKept «module».now) }
     {
         let parts = module.parts();
         let types = types_of(alloc, &parts.funcs)?;
         let lists = Lists::of(parts, &types);
-        let entries = entries_of(alloc, lists, &parts.funcs, valid)?;
+        let entries = entries_of(alloc, lists, &parts.funcs, known)?;
         let Entries {
             verdicts,
             refs,
             codes,
         } = entries;
-        let verdict = judge_around(alloc, &lists, first_code_fault(&verdicts))?;
+        let verdict = module_verdict_of(alloc, &lists, &verdicts, known)?;
         let pieces = Pieces::of(alloc, parts, &types, codes)?;
         let Some(len) = pieces_len(alloc, &pieces)? else {
             unreachable!()

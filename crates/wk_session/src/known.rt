@@ -1,28 +1,39 @@
-//! Which bodies of a module are known to be valid.
+//! What the verdict of a module tells of its bodies.
 
 ghost use Rattle.std.specs.Prelude.{◌≡◌};
-ghost use Rattle.wk_module.specs.declared.types.Parts.{Parts as PartsOf};
-ghost use Rattle.wk_check.specs.Verdict.{module_verdict};
-ghost use Rattle.wk_session.specs.Known.{AreFirstValid};
+ghost use Rattle.wk_session.specs.Known.{body_told, told_by};
 
 use crate::lengths::CODES;
-use wk_check::Verdict;
+use wk_check::{BodyVerdict, Fault, Verdict};
 
-/// How many bodies from the first on are valid in a module of this verdict, as far as the verdict tells: those in front of an invalid
-/// one, or all where the fault stands behind the bodies or there is none. It may be more than there are bodies.
-pub fn valid_bodies(verdict: &Verdict) -> usize
-    ensures { (m : PartsOf) → module_verdict m ≡ verdict.now → AreFirstValid result m }
+// What a fault of a module, its first, tells of the body at an index.
+fn told_behind(fault: &Fault, index: usize) -> Option<BodyVerdict>
+    ensures { result ≡ told_by fault.now index }
 {
-    let Verdict::Invalid(fault) = verdict else {
-        return usize::MAX;
-    };
     let place = fault.place;
+    let item = place.item as usize;
     if place.section < CODES {
-        return 0;
+        return None;
     }
-    if place.section == CODES {
-        place.item as usize
-    } else {
-        usize::MAX
+    if CODES < place.section || index < item {
+        return Some(BodyVerdict::Valid);
+    }
+    if item < index {
+        return None;
+    }
+    Some(BodyVerdict::Invalid {
+        kind: fault.kind,
+        token: place.token?,
+    })
+}
+
+/// What the verdict of a module, if there is one, tells of its body at an index, counted from 0.
+pub(crate) fn told_body(verdict: &Option<Verdict>, index: usize) -> Option<BodyVerdict>
+    ensures { result ≡ body_told verdict.now index }
+{
+    match verdict {
+        Some(Verdict::Valid) => Some(BodyVerdict::Valid),
+        Some(Verdict::Invalid(fault)) => told_behind(fault, index),
+        None => None,
     }
 }

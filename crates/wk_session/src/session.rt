@@ -15,7 +15,6 @@ ghost use Rattle.wk_list.specs.Listing.{listing};
 ghost use Rattle.wk_list.specs.Taken.{failed_after};
 ghost use Rattle.wk_session.specs.Edits.{is_decided};
 ghost use Rattle.wk_session.specs.Kept.{IsKept, Leads, uses_of};
-ghost use Rattle.wk_session.specs.Known.{AreFirstValid};
 ghost use Rattle.wk_session.specs.Overlays.{with_items};
 ghost use Rattle.wk_session.specs.Pieces.{code_of};
 ghost use Rattle.wk_session.specs.Recoded.{encoded_with};
@@ -114,22 +113,28 @@ impl Session {
         ensures fits { IfOk result (λ m. Fits m) }
         ensures fault { IfErr result (λ e. StandsIn bytes.now e) }
     {
-        Session::open_behind(alloc, bytes, profile, 0)
+        let module = read_in(alloc, bytes, profile)?;
+        let kept = Kept::of(alloc, &module, &None)?;
+        Ok(Session {
+            alloc,
+            module,
+            kept,
+        })
     }
 
-    /// The same as [`Session::open_in`], where so many bodies from the first on are known to be valid, as [`valid_bodies`](crate::valid_bodies)
-    /// tells of a verdict: they are not typed again. There may be fewer bodies than that.
+    /// The same as [`Session::open_in`] of a module whose verdict is known, as [`judge_bytes`](wk_check::judge_bytes) gives it. It is not judged
+    /// again: only bodies behind the first invalid one are typed, or all where the fault stands in front of the codes.
     ///
     /// # Errors
     ///
     /// Those of [`Session::open_in`].
-    pub fn open_behind(
+    pub fn open_judged(
         alloc: Global,
         bytes: &[u8],
         profile: Profile,
-        valid: usize,
+        verdict: Verdict,
     ) -> Result<Session, ReadFault>
-        requires { (m : PartsOf) → module_at profile bytes.now ≡ Ok m → AreFirstValid valid m }
+        requires { (m : PartsOf) → module_at profile bytes.now ≡ Ok m → verdict ≡ module_verdict m }
         ensures exact { Reads (λ m. m) result (module_at profile bytes.now) }
         ensures found { IfOk result (λ m. Spells bytes.now m) }
         ensures profile { IfOk result (λ m. m.profile ≡ profile) }
@@ -139,7 +144,7 @@ impl Session {
         ensures fault { IfErr result (λ e. StandsIn bytes.now e) }
     {
         let module = read_in(alloc, bytes, profile)?;
-        let kept = Kept::of(alloc, &module, valid)?;
+        let kept = Kept::of(alloc, &module, &Some(verdict))?;
         Ok(Session {
             alloc,
             module,
@@ -173,7 +178,7 @@ impl Session {
         if encoded_len(&module).is_none() {
             return Err(EncodeFault::TooLarge);
         }
-        let kept = Kept::of(alloc, &module, 0)?;
+        let kept = Kept::of(alloc, &module, &None)?;
         Ok(Session {
             alloc,
             module,

@@ -12,8 +12,9 @@ use crate::sinks::{Room, holds, holds_begun, sink};
 use std::alloc::Global;
 use wk_bytes::{Out, OutOfMemory, Sink};
 use wk_check::Verdict;
-use wk_draft::{Edited, Run, edit_valid, is_valid};
+use wk_draft::{Drafted, Edited, Run, edit_outline, edit_valid, is_valid};
 use wk_edit::read_script;
+use wk_module::read_outline;
 use wk_samples::moving::{self, OF_EACH_KIND};
 use wk_samples::outcome::Outcome;
 use wk_samples::wide;
@@ -105,6 +106,29 @@ impl Draft {
         match answer {
             Ok(Some(run)) => Outcome::answered(self.is_made(alloc, &run, edits)),
             Ok(None) => Outcome::Wrong("the draft gave up"),
+            Err(OutOfMemory) => Outcome::refused(true),
+        }
+    }
+
+    /// `edit_outline`.
+    pub(crate) fn run_outlined(self, alloc: Global) -> Outcome {
+        match read_script(alloc, self.script) {
+            Ok(edits) => self.edits_outlined(alloc, &edits),
+            Err(_) => Outcome::NO_SAMPLE,
+        }
+    }
+
+    fn edits_outlined(self, alloc: Global, edits: &[Edit]) -> Outcome {
+        let Sample { profile, bytes } = self.sample;
+        let Ok(outline) = read_outline(alloc, bytes, profile) else {
+            return Outcome::NO_SAMPLE;
+        };
+        call_begins(alloc);
+        let answer = edit_outline(alloc, outline, bytes, profile, edits, self.keep);
+        call_ends(alloc);
+        match answer {
+            Ok(Drafted::Made(run)) => Outcome::answered(self.is_made(alloc, &run, edits)),
+            Ok(Drafted::Unmade(_)) => Outcome::Wrong("the draft gave up"),
             Err(OutOfMemory) => Outcome::refused(true),
         }
     }

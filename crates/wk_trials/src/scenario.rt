@@ -72,6 +72,8 @@ pub(crate) enum Scenario {
     Strip(Strip),
     /// `Session::open` or `Session::open_in` of a valid module.
     Open(Sample),
+    /// `Session::open_judged` of a valid module.
+    OpenJudged(Sample),
     /// `Session::of` of a valid module.
     Holding(Sample),
     /// `Session::verdict`, `Session::encoded_len` and `Session::uses`.
@@ -100,6 +102,8 @@ pub(crate) enum Scenario {
     IsValid(Sample),
     /// `edit_valid`.
     EditValid(Draft),
+    /// `edit_outline` of a valid module.
+    EditOutline(Draft),
     /// `Edited::write` of what edits make of a valid module.
     WriteEdited(Draft, Room),
     /// `read_script`.
@@ -170,6 +174,7 @@ impl Scenario {
     fn run_above(self, alloc: Global) -> Outcome {
         match self {
             Scenario::Open(sample) => sessions::opens(alloc, sample),
+            Scenario::OpenJudged(sample) => sessions::opens_judged(alloc, sample),
             Scenario::Holding(sample) => sessions::holds_module(alloc, sample),
             Scenario::Tell(sample) => sessions::tells(alloc, sample),
             Scenario::ListSession(part, profile, room) => {
@@ -186,6 +191,7 @@ impl Scenario {
             Scenario::Run(edits) => edits.run(alloc),
             Scenario::IsValid(sample) => drafts::judges(alloc, sample),
             Scenario::EditValid(draft) => draft.run(alloc, None),
+            Scenario::EditOutline(draft) => draft.run_outlined(alloc),
             Scenario::WriteEdited(draft, room) => draft.run(alloc, Some(room)),
             Scenario::ReadScript => jobs::reads_script(alloc),
             Scenario::Line(line) => line.run(alloc),

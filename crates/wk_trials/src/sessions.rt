@@ -10,7 +10,7 @@ use crate::same::{is_session_of, is_written};
 use crate::sinks::{Room, holds, holds_begun, sink};
 use std::alloc::Global;
 use wk_bytes::{Out, ReadFault, Sink};
-use wk_check::Verdict;
+use wk_check::{Verdict, judge_bytes};
 use wk_list::{ListFault, Part};
 use wk_module::{EncodeFault, Module, Profile, Ref};
 use wk_samples::outcome::Outcome;
@@ -32,6 +32,18 @@ pub(crate) fn opens(alloc: Global, sample: Sample) -> Outcome {
     };
     call_ends(alloc);
     was_opened(alloc, &answer, sample.bytes)
+}
+
+/// `Session::open_judged` of a valid module in its written form.
+pub(crate) fn opens_judged(alloc: Global, sample: Sample) -> Outcome {
+    let Sample { profile, bytes } = sample;
+    let Ok(verdict) = judge_bytes(alloc, bytes, profile) else {
+        return Outcome::NO_SAMPLE;
+    };
+    call_begins(alloc);
+    let answer = Session::open_judged(alloc, bytes, profile, verdict);
+    call_ends(alloc);
+    was_opened(alloc, &answer, bytes)
 }
 
 /// `Session::of` of a valid module.

@@ -8,7 +8,7 @@ use crate::sinks::Room::{Ample, Full};
 use crate::{drafts, jobs};
 
 /// Calls of `wk_draft`, `wk_edit` and `wk_answers`, and what they are made of.
-pub(crate) static JOBS: [Named; 29] = [
+pub(crate) static JOBS: [Named; 32] = [
     ("is-valid", Scenario::IsValid(OF_MOVING)),
     ("is-valid-wide", Scenario::IsValid(OF_WIDE)),
     ("edit-valid", Scenario::EditValid(drafts::EACH_KIND)),
@@ -19,6 +19,18 @@ pub(crate) static JOBS: [Named; 29] = [
     (
         "edit-valid-wide",
         Scenario::EditValid(drafts::EACH_KIND_WIDE),
+    ),
+    (
+        "edit-outline",
+        Scenario::EditOutline(drafts::EACH_KIND),
+    ),
+    (
+        "edit-outline-kept",
+        Scenario::EditOutline(drafts::EACH_KIND_KEPT),
+    ),
+    (
+        "edit-outline-wide",
+        Scenario::EditOutline(drafts::EACH_KIND_WIDE),
     ),
     (
         "edited-write-in-room",

@@ -9,11 +9,13 @@ use wk_list::Part;
 use wk_module::Profile::{Core, Extended};
 
 /// Calls of sessions.
-pub(crate) static SESSIONS: [Named; 46] = [
+pub(crate) static SESSIONS: [Named; 48] = [
     ("open-types", Open(OF_TYPES)),
     ("open-valid", Open(OF_VALID)),
     ("open-moving", Open(OF_MOVING)),
     ("open-wide", Open(OF_WIDE)),
+    ("open-judged", Scenario::OpenJudged(OF_MOVING)),
+    ("open-judged-wide", Scenario::OpenJudged(OF_WIDE)),
     ("hold-types", Scenario::Holding(OF_TYPES)),
     ("hold-moving", Scenario::Holding(OF_MOVING)),
     ("hold-wide", Scenario::Holding(OF_WIDE)),

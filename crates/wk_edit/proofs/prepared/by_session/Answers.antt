@@ -7,11 +7,11 @@ use Rattle.wk_edit.specs.Prepared.{IsPrepared}
 use Rattle.wk_edit.proofs.OutcomeLemmas.{same_module}
 use Rattle.wk_edit.proofs.prepared.by_session.Goals as goal
 
-pub open_behind-opened-requires : goal.open_behind-opened-requires
-open_behind-opened-requires c = λ m at.
-    c.known_bodies-known.ensures m (c.requires.judged m (subst (λ (b : List ℕ). module_at c.args.profile b ≡ Ok m) c.deref.ensures.value at))
+pub session_over-opened-requires : goal.session_over-opened-requires
+session_over-opened-requires c = λ m at.
+    c.requires.judged m (subst (λ (b : List ℕ). module_at c.args.profile b ≡ Ok m) c.deref.ensures.value at)
 
 pub returns-in-Ok-clause-ok : goal.returns-in-Ok-clause-ok
 returns-in-Ok-clause-ok c = λ m at.
-    let same = same_module c.args.profile c.deref.result.now c.args.input.items c.in-Ok.session m c.deref.ensures.value c.in-Ok.ensures.exact at in
+    let same = same_module c.args.profile c.deref.result.now c.args.input.items c.in-Ok.session m c.deref.ensures.value c.in-Ok.ensures at in
     subst (λ (p : Parts). IfOk c.of_run.result (IsPrepared (run_outcome c.args.keep_valid p c.args.edits.now))) same c.of_run.ensures.ok

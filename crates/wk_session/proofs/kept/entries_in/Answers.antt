@@ -1,6 +1,6 @@
-use Rattle.std.proofs.Common.{◌≡◌, ◌+◌, ◌<◌, refl, List, [], ◌∷◌, length, map, slice_index_or, ap, ◌∙◌, arith}
-use Rattle.std.proofs.lemmas.Bool.{ltb-true}
+use Rattle.std.proofs.Common.{◌≡◌, ◌+◌, ◌<◌, refl, List, [], ◌∷◌, length, map, get_or, slice_index_or, Some, ap, sym, ◌∙◌, arith}
 use Rattle.std.proofs.lemmas.List.{map-append}
+use Rattle.std.proofs.lemmas.Option.{slice_get-get_or}
 use Rattle.std.specs.declared.collections.BTreeSet.{BTreeSet}
 use Rattle.std.proofs.Common.{Global}
 use Rattle.wk_body.specs.declared.references.Ref.{Ref}
@@ -9,18 +9,17 @@ use Rattle.wk_check.specs.declared.fault.BodyVerdict.{BodyVerdict}
 use Rattle.wk_check.specs.Verdict.{func_verdict}
 use Rattle.wk_session.specs.Kept.{uses_of}
 use Rattle.wk_session.specs.Pieces.{code_of}
-use Rattle.wk_session.proofs.KnownBodies.{first_at}
 use Rattle.wk_session.proofs.Opening.{pushed}
 use Rattle.wk_session.proofs.kept.entries_in.Goals as goal
 
-pub verdict_of-requires-clause-known : goal.verdict_of-requires-clause-known
-verdict_of-requires-clause-known g c =
+pub verdict_of-requires-clause-told : goal.verdict_of-requires-clause-told
+verdict_of-requires-clause-told g c =
     let fs = c.args.funcs.now in
     let f = c.func-item.result in
-    let within : c.loop-i.i < length fs = omega (arith, c.loop-i-test.true, ap length c.as_slice-func-items.ensures) in
-    let here : f ≡ slice_index_or fs c.loop-i.i f = rw c.as_slice-func-items.ensures at c.func-item.is in
-    λ few. ap (func_verdict (g.E.Env.answers c.args.env.now)) here
-    ∙ first_at (λ h. func_verdict (g.E.Env.answers c.args.env.now) h ≡ BodyVerdict.Valid) c.args.valid fs c.loop-i.i f c.requires.known (ltb-true _ _ few) within
+    let i = c.loop-i.i in
+    let within : i < length fs = omega (arith, c.loop-i-test.true, ap length c.as_slice-func-items.ensures) in
+    let here : f ≡ get_or fs i f = rw c.as_slice-func-items.ensures at c.func-item.is in
+    rw c.told_body.ensures (c.requires.told i f (slice_get-get_or fs i f within ∙ ap Some (sym here)))
 
 pub loop-i-preserved : goal.loop-i-preserved
 loop-i-preserved g c =

@@ -1,17 +1,14 @@
-use Rattle.std.proofs.Common.{◌≡◌, map, take, ap, sym, subst, ◌∙◌}
-use Rattle.std.specs.List.{AllByRecursion}
+use Rattle.std.proofs.Common.{map, ap, sym, subst, ◌∙◌}
 use Rattle.std.proofs.lemmas.Result.{IfOk-weaker}
-use Rattle.wk_module.specs.declared.types.Func.{Func}
 use Rattle.wk_module.specs.Sections.{SectionLists}
-use Rattle.wk_check.specs.declared.fault.BodyVerdict.{BodyVerdict}
 use Rattle.wk_check.specs.Spaces.{answer_in, spaces_of}
 use Rattle.wk_check.specs.Verdict.{func_verdict}
+use Rattle.wk_session.specs.Known.{AreTold}
 use Rattle.wk_session.proofs.kept.entries_of.Goals as goal
 
-pub entries_in-requires-clause-known : goal.entries_in-requires-clause-known
-entries_in-requires-clause-known c =
-    subst (λ (l : SectionLists). AllByRecursion (λ (f : Func). func_verdict (answer_in (spaces_of l)) f ≡ BodyVerdict.Valid) (take c.args.valid c.args.funcs.now))
-    (sym c.in_ok-whole.ensures) c.requires.known
+pub entries_in-requires-clause-told : goal.entries_in-requires-clause-told
+entries_in-requires-clause-told c =
+    subst (λ (l : SectionLists). AreTold c.args.known.now (answer_in (spaces_of l)) c.args.funcs.now) (sym c.in_ok-whole.ensures) c.requires.told
 
 pub returns-clause-verdicts : goal.returns-clause-verdicts
 returns-clause-verdicts c =

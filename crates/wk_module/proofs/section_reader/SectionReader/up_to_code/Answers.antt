@@ -1,4 +1,5 @@
 use Rattle.wk_module.specs.ListReading.{rest_read}
+use Rattle.wk_module.proofs.FrontStands.{answer_lies}
 use Rattle.wk_module.proofs.Laws.{SectionLaws, code_laws}
 use Rattle.wk_module.proofs.SectionFormats.{section_laws}
 use Rattle.wk_module.proofs.Standing.{lists_stand, match_stands}
@@ -12,3 +13,6 @@ laws_of c =
 
 pub returns-clause-fault : goal.returns-clause-fault
 returns-clause-fault c = λ input lie. match_stands _ input c.read_front.result (rest_read c.args.self) (λ e. lists_stand c.args.self.profile (laws_of c) input c.args.self.lists c.args.self.left e lie) c.read_front.ensures.goes
+
+pub returns-clause-within : goal.returns-clause-within
+returns-clause-within c = λ input lie. answer_lies input c.args.self c.read_front.result lie c.read_front.ensures.exact

@@ -1,5 +1,4 @@
-use Rattle.std.proofs.Common.{◌≡◌, ◌<◌, ◌^◌, List, ℕ, length, map, take, refl, sym, ap, subst, ◌∙◌, arith}
-use Rattle.std.specs.List.{AllByRecursion}
+use Rattle.std.proofs.Common.{◌≡◌, ◌<◌, ◌^◌, List, ℕ, length, map, refl, sym, ap, subst, ◌∙◌, arith}
 use Rattle.std.proofs.lemmas.List.{length-map}
 use Rattle.wk_body.specs.Lengths.{limited}
 use Rattle.wk_module.specs.declared.types.Func.{Func}
@@ -14,9 +13,11 @@ use Rattle.wk_check.specs.Flaws.{first_in}
 use Rattle.wk_check.specs.Items.{body_flaw}
 use Rattle.wk_check.specs.Spaces.{answer_in, spaces_of}
 use Rattle.wk_check.specs.SpacesLaws.{answers_of}
-use Rattle.wk_check.specs.Verdict.{func_verdict, verdict_around}
+use Rattle.wk_check.specs.Verdict.{func_verdict, module_verdict, verdict_around}
 use Rattle.wk_session.specs.Kept.{IsPending, uses_of}
+use Rattle.wk_session.specs.Known.{AreTold}
 use Rattle.wk_session.specs.Pieces.{ArePieces}
+use Rattle.wk_session.proofs.KnownBodies.{told_bodies}
 use Rattle.wk_session.proofs.Putting.{codes_length}
 use Rattle.wk_module.specs.WritingLaws.{room_for_func}
 use Rattle.wk_session.proofs.Appraising.{verdict_lent}
@@ -33,25 +34,25 @@ lent c =
 pub entries_of-requires-clause-few : goal.entries_of-requires-clause-few
 entries_of-requires-clause-few c = subst (λ (p : Parts). length p.funcs < 2 ^ 32) (sym c.parts-parts.ensures.value) (funcs_numbered c.args.module.now c.parts-parts.ensures.shaped.formed)
 
-pub entries_of-requires-clause-known : goal.entries_of-requires-clause-known
-entries_of-requires-clause-known c =
+pub entries_of-requires-clause-told : goal.entries_of-requires-clause-told
+entries_of-requires-clause-told c =
     let m = c.args.module.now in
-    let lists = lent (goal.at.entries_of-requires-clause-known c).After-of-lists in
-    subst (λ (l : SectionLists). AllByRecursion (λ (f : Func). func_verdict (answer_in (spaces_of l)) f ≡ BodyVerdict.Valid) (take c.args.valid c.parts-parts.result.now.funcs)) (sym lists)
-    (subst (λ (p : Parts). AllByRecursion (λ (f : Func). func_verdict (answers_of m) f ≡ BodyVerdict.Valid) (take c.args.valid p.funcs)) (sym c.parts-parts.ensures.value) c.requires.known)
+    let lists = lent (goal.at.entries_of-requires-clause-told c).After-of-lists in
+    subst (λ (l : SectionLists). AreTold c.args.known.now (answer_in (spaces_of l)) c.parts-parts.result.now.funcs) (sym lists)
+    (subst (λ (p : Parts). AreTold c.args.known.now (answers_of m) p.funcs) (sym c.parts-parts.ensures.value) (told_bodies m c.args.known.now c.requires.known))
 
-pub first_code_fault-requires : goal.first_code_fault-requires
-first_code_fault-requires c =
+pub module_verdict_of-requires-clause-few : goal.module_verdict_of-requires-clause-few
+module_verdict_of-requires-clause-few c =
     let few : length c.parts-parts.result.now.funcs < 2 ^ 32 = subst (λ (p : Parts). length p.funcs < 2 ^ 32) (sym c.parts-parts.ensures.value) (funcs_numbered c.args.module.now c.parts-parts.ensures.shaped.formed) in
     let count = ap length (c.deref-2.ensures.value ∙ c.in_ok-entries.ensures.verdicts) ∙ length-map c.parts-parts.result.now.funcs _ in
     omega (arith, few, count)
 
-pub judge_around-requires : goal.judge_around-requires
-judge_around-requires c =
+pub module_verdict_of-requires-clause-numbered : goal.module_verdict_of-requires-clause-numbered
+module_verdict_of-requires-clause-numbered c =
     let m = c.args.module.now in
     let formed = c.parts-parts.ensures.shaped.formed in
     let types = map (λ (f : Func). f.ty) m.funcs in
-    subst AreNumbered (sym (lent (goal.at.judge_around-requires c).After-of-lists)) (module_numbered_with types m (omega (arith, funcs_numbered m formed, length-map m.funcs (λ (f : Func). f.ty))) formed)
+    subst AreNumbered (sym (lent (goal.at.module_verdict_of-requires-clause-numbered c).After-of-lists)) (module_numbered_with types m (omega (arith, funcs_numbered m formed, length-map m.funcs (λ (f : Func). f.ty))) formed)
 
 pub of-requires-clause-types : goal.of-requires-clause-types
 of-requires-clause-types c = c.deref-3.ensures.value ∙ c.in_ok-types.ensures
@@ -85,9 +86,10 @@ returns c =
       len = refl;
     } in
     let pieces = subst (λ (p : Parts). ArePieces p c.in_ok-pieces.pieces) value c.in_ok-pieces.ensures in
-    let code = c.first_code_fault.ensures ∙ ap (λ (vs : List BodyVerdict). first_in 10 0 (map body_flaw vs)) c.deref-2.ensures.value in
+    let code = ap (λ (vs : List BodyVerdict). first_in 10 0 (map body_flaw vs)) c.deref-2.ensures.value in
+    let told = ap (verdict_around c.of-lists.result.profile (listed c.of-lists.result)) code ∙ verdict_lent c.of-lists.result _ _ m pending in
     record {
-      verdict = c.in_ok-verdict.ensures ∙ ap (verdict_around c.of-lists.result.profile (listed c.of-lists.result)) code ∙ verdict_lent c.of-lists.result _ _ m pending;
+      verdict = c.in_ok-verdict.ensures (module_verdict m) told c.requires.known;
       len = sym (c.in_ok-len.ensures m c.parts-parts.ensures.shaped.formed.order pieces) ∙ c.in-Some.is;
       types = c.in_ok-types.ensures ∙ ap (λ (p : Parts). map (λ (f : Func). f.ty) p.funcs) value;
       verdicts = verdicts;
