@@ -1,5 +1,5 @@
 //! A session over a module.
-ghost use Rattle.std.specs.Prelude.{◌≡◌, ◌≢◌, ◌<◌, ◌≤◌, ◌-◌, ◌^◌, false, true, Ok, IfOk, IfErr, OnOk, OnErr, length, map, option_map, slice_get};
+ghost use Rattle.std.specs.Prelude.{◌≡◌, ◌≢◌, ◌<◌, ◌≤◌, ◌-◌, ◌^◌, false, true, Ok, IfOk, IfErr, IfSome, OnOk, OnErr, length, map, option_map, slice_get};
 ghost use Rattle.std.specs.Io.KnownBytes.{Appends};
 ghost use Rattle.wk_bytes.specs.Frames.{limit};
 ghost use Rattle.wk_bytes.specs.Stands.{StandsIn};
@@ -98,6 +98,24 @@ fn edit_parts(alloc: Global, keep: bool, parts: &mut Parts, kept: &mut Kept, edi
 }
 
 impl Session {
+    // A session over a module that is not too large, and whose verdict may be known.
+    fn over(
+        alloc: Global,
+        module: Module,
+        known: &Option<Verdict>,
+    ) -> Result<Session, OutOfMemory>
+        requires fits { Fits «module» }
+        requires known { IfSome known.now (λ v. v ≡ module_verdict «module») }
+        ensures { IfOk result (λ m. m ≡ «module») }
+    {
+        let kept = Kept::of(alloc, &module, known)?;
+        Ok(Session {
+            alloc,
+            module,
+            kept,
+        })
+    }
+
     /// A session over the one module of a profile that the bytes spell.
     ///
     /// # Errors
@@ -114,12 +132,7 @@ impl Session {
         ensures fault { IfErr result (λ e. StandsIn bytes.now e) }
     {
         let module = read_in(alloc, bytes, profile)?;
-        let kept = Kept::of(alloc, &module, &None)?;
-        Ok(Session {
-            alloc,
-            module,
-            kept,
-        })
+        Ok(Session::over(alloc, module, &None)?)
     }
 
     /// The same as [`Session::open_in`] of a module whose verdict is known, as [`judge_bytes`](wk_check::judge_bytes) gives it. It is not judged
@@ -143,13 +156,8 @@ impl Session {
         ensures fits { IfOk result (λ m. Fits m) }
         ensures fault { IfErr result (λ e. StandsIn bytes.now e) }
     {
-        let module = read_in(alloc, bytes, profile)?;
-        let kept = Kept::of(alloc, &module, &Some(verdict))?;
-        Ok(Session {
-            alloc,
-            module,
-            kept,
-        })
+        let judged = read_in(alloc, bytes, profile)?;
+        Ok(Session::over(alloc, judged, &Some(verdict))?)
     }
 
     /// A session over the one module of WebAssembly 1.0 that the bytes spell, as [`Session::open_in`].
@@ -178,12 +186,7 @@ impl Session {
         if encoded_len(&module).is_none() {
             return Err(EncodeFault::TooLarge);
         }
-        let kept = Kept::of(alloc, &module, &None)?;
-        Ok(Session {
-            alloc,
-            module,
-            kept,
-        })
+        Ok(Session::over(alloc, module, &None)?)
     }
 
     /// The verdict of the module.
