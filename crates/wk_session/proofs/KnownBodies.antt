@@ -1,5 +1,5 @@
 -- What the verdict of a module tells of its bodies holds.
-use Rattle.std.proofs.Common.{◌≡◌, ℕ, zero, suc, ◌+◌, ◌<◌, ◌≤◌, List, [], ◌∷◌, length, map, take, slice_get, nat_lt, if◌then◌else◌, Bool, true, false, Option, Some, None, refl, sym, ap, ◌∙◌, arith}
+use Rattle.std.proofs.Common.{◌≡◌, ℕ, zero, suc, ◌+◌, ◌<◌, ◌≤◌, List, [], ◌∷◌, length, map, take, slice_get, nat_lt, if◌then◌else◌, Bool, true, false, Option, Some, None, refl, sym, ap, subst, ◌∙◌, arith}
 use Rattle.std.specs.Prelude.{IfSome, option_map}
 use Rattle.std.proofs.lemmas.Bool.{ltb-true, ltb-false}
 use Rattle.std.specs.List.{AllByRecursion}
@@ -10,10 +10,10 @@ use Rattle.wk_module.specs.Shape.{lists_of}
 use Rattle.wk_check.specs.declared.fault.BodyVerdict.{BodyVerdict}
 use Rattle.wk_check.specs.declared.fault.BodyVerdict.TheVariants as bodies
 use Rattle.wk_check.specs.declared.fault.Fault.{Fault}
+use Rattle.wk_check.specs.declared.fault.FaultKind.{FaultKind}
 use Rattle.wk_check.specs.declared.fault.Verdict.{Verdict}
 use Rattle.wk_check.specs.declared.fault.Verdict.TheVariants.{Valid, Invalid}
 use Rattle.wk_check.specs.Answers.{Found}
-use Rattle.wk_check.specs.declared.fault.Flaw.{Flaw}
 use Rattle.wk_check.specs.Flaws.{fault_at, first_in, first_fault, verdict_by, AreFine}
 use Rattle.wk_check.specs.Items.{body_flaw, earlier}
 use Rattle.wk_check.specs.SpacesLaws.{answers_of}
@@ -76,31 +76,33 @@ all_valid A zero fs fine = tt
 all_valid A (suc n) [] fine = tt
 all_valid A (suc n) (f ∷ fs) fine = (fine_valid (func_verdict A f) fine.0, all_valid A n fs fine.1)
 
--- a body that has the first flaw, with this token
-flawed : (v : BodyVerdict) (section item : ℕ) (fault : Fault) (token : ℕ) (w : Flaw) → body_flaw v ≡ Some w → fault ≡ fault_at section item w → fault.place.token ≡ Some token → v ≡ bodies.Invalid fault.kind token
-flawed bodies.Valid section item fault token w e is at = absurd cc
-flawed (bodies.Invalid kind t) section item fault token w e is at = cc
+-- the first fault, where it is that of a body
+own_kind : (kind : FaultKind) (t item : ℕ) (fault : Fault) (token : ℕ) → first_in 10 item (body_flaw (bodies.Invalid kind t) ∷ []) ≡ Some fault → fault.place.token ≡ Some token
+    → bodies.Invalid kind t ≡ bodies.Invalid fault.kind token
+own_kind kind t item fault token first at =
+    let same : record { kind = kind; place = record { section = 10; item = item; token = Some t } } ≡ fault = cc in
+    subst (λ (f : Fault). f.place.token ≡ Some token → bodies.Invalid kind t ≡ bodies.Invalid f.kind token) same (λ here. let is : t ≡ token = cc in ap (bodies.Invalid kind) is) at
 
--- the body that the first flaw names has it
+own_item : (kind : FaultKind) (t item : ℕ) (fault : Fault) → first_in 10 item (body_flaw (bodies.Invalid kind t) ∷ []) ≡ Some fault → item ≡ fault.place.item
+own_item kind t item fault first =
+    let same : record { kind = kind; place = record { section = 10; item = item; token = Some t } } ≡ fault = cc in
+    ap (λ (f : Fault). f.place.item) same
+
+-- the body that the first fault names has it: of the first of some, and of those behind it
+at_first : (A : Ref → Found) (item n : ℕ) (v : BodyVerdict) (g : Func) (fs : List Func) (f : Func) (fault : Fault) (token : ℕ) → func_verdict A g ≡ v
+    → ((k : ℕ) → fault.place.item ≡ item + 1 + k → slice_get fs k ≡ Some f → first_in 10 (item + 1) (map body_flaw (map (func_verdict A) fs)) ≡ Some fault → func_verdict A f ≡ bodies.Invalid fault.kind token)
+    → first_in 10 item (body_flaw v ∷ map body_flaw (map (func_verdict A) fs)) ≡ Some fault
+    → fault.place.item ≡ item + n → slice_get (g ∷ fs) n ≡ Some f → fault.place.token ≡ Some token → func_verdict A f ≡ bodies.Invalid fault.kind token
+at_first A item zero bodies.Valid g fs f fault token v_is more first is there at = absurd (omega (arith, is, item_behind 10 (item + 1) (map body_flaw (map (func_verdict A) fs)) fault first))
+at_first A item (suc k) bodies.Valid g fs f fault token v_is more first is there at = more k (omega (arith, is)) there first
+at_first A item zero (bodies.Invalid kind t) g fs f fault token v_is more first is there at = let same : g ≡ f = cc in ap (func_verdict A) (sym same) ∙ v_is ∙ own_kind kind t item fault token first at
+at_first A item (suc k) (bodies.Invalid kind t) g fs f fault token v_is more first is there at = absurd (omega (arith, is, own_item kind t item fault first))
+
 at_fault : (A : Ref → Found) (item n : ℕ) (fs : List Func) (f : Func) (fault : Fault) (token : ℕ) → first_in 10 item (map body_flaw (map (func_verdict A) fs)) ≡ Some fault
     → fault.place.item ≡ item + n → slice_get fs n ≡ Some f → fault.place.token ≡ Some token → func_verdict A f ≡ bodies.Invalid fault.kind token
 at_fault A item n [] f fault token first is there at = absurd cc
-at_fault A item n (g ∷ fs) f fault token first is there at = among (body_flaw (func_verdict A g)) refl n is there
-  where
-    among : (flaw : Option Flaw) → body_flaw (func_verdict A g) ≡ flaw → (k : ℕ) → fault.place.item ≡ item + k → slice_get (g ∷ fs) k ≡ Some f → func_verdict A f ≡ bodies.Invalid fault.kind token
-    among None fine zero here there =
-        let later : first_in 10 (item + 1) (map body_flaw (map (func_verdict A) fs)) ≡ Some fault = cc in
-        absurd (omega (arith, here, item_behind 10 (item + 1) _ fault later))
-    among None fine (suc k) here there =
-        let later : first_in 10 (item + 1) (map body_flaw (map (func_verdict A) fs)) ≡ Some fault = cc in
-        at_fault A (item + 1) k fs f fault token later (omega (arith, here)) there at
-    among (Some w) flaw zero here there =
-        let same : fault ≡ fault_at 10 item w = cc in
-        let is_f : g ≡ f = cc in
-        ap (func_verdict A) (sym is_f) ∙ flawed (func_verdict A g) 10 item fault token w flaw same at
-    among (Some w) flaw (suc k) here there =
-        let same : fault ≡ fault_at 10 item w = cc in
-        absurd (omega (arith, here, ap (λ (f : Fault). f.place.item) same))
+at_fault A item n (g ∷ fs) f fault token first is there at =
+    at_first A item n (func_verdict A g) g fs f fault token refl (λ k later has behind. at_fault A (item + 1) k fs f fault token behind later has at) first is there at
 
 -- the verdict of a body, where the first so many are valid
 nth_valid : (A : Ref → Found) (n i : ℕ) (fs : List Func) (f : Func) → AllByRecursion (λ g. func_verdict A g ≡ bodies.Valid) (take n fs) → i < n → slice_get fs i ≡ Some f → func_verdict A f ≡ bodies.Valid
@@ -113,11 +115,13 @@ nth_valid A (suc n) (suc i) (g ∷ fs) f all few at = nth_valid A n i fs f all.1
 
 module _ (m : Parts) where
   -- the first fault in front of the bodies, and behind them
-  Front Back : Option Fault
+  abbrev Front : Option Fault
   Front = front_fault m.profile (lists_of m)
+
+  abbrev Back : Option Fault
   Back = first_in 11 0 (data_flaws (lists_of m))
 
-  AreValid : ℕ → Type 0
+  abbrev AreValid : ℕ → Type 0
   AreValid n = AllByRecursion (λ f. func_verdict (answers_of m) f ≡ bodies.Valid) (take n m.funcs)
 
   -- what the verdict tells of the three parts of a module
@@ -157,7 +161,7 @@ module _ (m : Parts) where
       among None None is_front is_code all = is_code
 
   module _ (i : ℕ) (f : Func) (there : slice_get m.funcs i ≡ Some f) where
-    Holds : Option BodyVerdict → Type 0
+    abbrev Holds : Option BodyVerdict → Type 0
     Holds told = IfSome told (λ v. v ≡ func_verdict (answers_of m) f)
 
     in_front : (n : ℕ) → AreValid n → i < n → bodies.Valid ≡ func_verdict (answers_of m) f

@@ -7,8 +7,8 @@ use crate::lengths::CODES;
 use wk_check::{BodyVerdict, Fault, Verdict};
 
 // What a fault of a module, its first, tells of the body at an index.
-fn told_behind(fault: &Fault, index: usize) -> Option<BodyVerdict>
-    ensures { result ≡ told_by fault.now index }
+fn told_behind(fault: Fault, index: usize) -> Option<BodyVerdict>
+    ensures { result ≡ told_by fault index }
 {
     let place = fault.place;
     let item = place.item as usize;
@@ -33,7 +33,7 @@ pub(crate) fn told_body(verdict: &Option<Verdict>, index: usize) -> Option<BodyV
 {
     match verdict {
         Some(Verdict::Valid) => Some(BodyVerdict::Valid),
-        Some(Verdict::Invalid(fault)) => told_behind(fault, index),
+        Some(Verdict::Invalid(fault)) => told_behind(*fault, index),
         None => None,
     }
 }
