@@ -279,6 +279,12 @@ passed_on w bytes n opcode len size blocks number ks below same within small roo
     let all : BlocksPass w (later w (n + len)) number ks below = (t.0, t.1, λ profile before out first g. t.2 profile before out first (h.2 profile before out first g)) in
     subst (λ (k : ℕ). BlocksPass w (later w (n + k)) number ks below) (sym sized) all
 
+-- so many bytes, and these blocks
+pub counted_on : (w : Walk) (n size number step blocks : ℕ) (ks below : List Bool) → step ≡ size → blocks ≡ number
+    → BlocksPass w (later w (n + size)) number ks below → BlocksPass w (later w (n + step)) blocks ks below
+counted_on w n size number step blocks ks below sized numbered h =
+    subst (λ (k : ℕ). BlocksPass w (later w (n + k)) blocks ks below) (sym sized) (subst (λ (b : ℕ). BlocksPass w (later w (n + size)) b ks below) (sym numbered) h)
+
 -- ---- the bytes that are taken
 
 pub enough : (n end : ℕ) (bytes : List ℕ) (e : ReadFault) → n ≤ length bytes → piece_at n end bytes ≡ Err e → ⊥

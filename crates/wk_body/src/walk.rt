@@ -232,28 +232,29 @@ impl Walk<'_> {
             let len = brief_len(opcode);
             let after = blocks_after(inner, opcode);
             let (x, y) = (bytes[at + 1], bytes[at + 2]);
-            if passes(opcode, len, x, y, after) {
+            let size = if passes(opcode, len, x, y, after) {
                 inner = after;
-                at += usize::from(len);
+                usize::from(len)
             } else if opcode < 0x05 {
                 if opcode != 0x01 || x == 0x01 {
                     break;
                 }
-                at += 1;
+                1
             } else if opcode == 0x05 {
                 if x == 0x0B || !may_part(inner) {
                     break;
                 }
                 inner -= 1;
-                at += 1;
+                1
             } else {
                 let both = u16::from_le_bytes([x, y]);
                 let size = wide_len(opcode, both, byte_or_0(bytes, at + 3));
                 if size == 0 || bytes.len() - at < size {
                     break;
                 }
-                at += size;
-            }
+                size
+            };
+            at += size;
         }
         let Ok(_) = self.cursor.take(at as u32) else {
             unreachable!()
