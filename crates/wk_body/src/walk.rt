@@ -3,7 +3,7 @@
 //! What stands there as it is written stays in a run of bytes that is copied at once. A call that answers nothing met something
 //! unclear, or a growth was refused: then nothing is said of what it wrote.
 
-ghost use Rattle.std.specs.Prelude.{◌≡◌, ℕ, ◌+◌, ◌≤◌, ◌^◌, Bool, ◌∷◌, [], List, ◌++◌, ◌-◌, ◌<◌, length, take, get_or, IfSome};
+ghost use Rattle.std.specs.Prelude.{◌≡◌, ℕ, ◌+◌, ◌≤◌, ◌^◌, Bool, ◌∷◌, [], List, ◌++◌, ◌-◌, ◌<◌, length, take, IfSome};
 ghost use Rattle.std.specs.List.{flat_map};
 ghost use Rattle.byteorder.specs.Endian.{little_bytes};
 ghost use Rattle.wk_bytes.specs.Short.{short, short_signed};
@@ -16,9 +16,7 @@ ghost use Rattle.wk_body.specs.Brief.{number_of};
 ghost use Rattle.wk_body.specs.Shape.{depth_limit};
 ghost use Rattle.wk_body.specs.Walks.{Passes, Keeps, PassesPlain, BlocksPass, GoesOn};
 
-use crate::brief::{
-    begins_nop, blocks_after, brief_len, may_part, nops, passes, short_integers, wide_len,
-};
+use crate::brief::{begins_nop, blocks_after, brief_len, may_part, nops, other_len, passes};
 use crate::layout::{Layout, layout_of};
 use crate::reading::{are_bytes, reserved};
 use crate::types::Profile;
@@ -55,14 +53,6 @@ fn respell_signed(out: &mut Vec<u8>, run: &[u8], left: usize, n: i64) -> Option<
 {
     write_run(out, run, left)?;
     put_s64(out, n).ok()
-}
-
-// The byte that stands there, or 0 behind the end.
-#[inline(always)]
-fn byte_or_0(bytes: &[u8], at: usize) -> u8
-    ensures { at < length bytes.now → result ≡ get_or bytes.now at 0 }
-{
-    if at < bytes.len() { bytes[at] } else { 0 }
 }
 
 impl<'a> Walk<'a> {
@@ -167,19 +157,14 @@ impl Walk<'_> {
         Some(zero)
     }
 
-    // So many labels. It stands apart and has a walk of its own: where there are many, no cursor lies in memory. Those in front that
-    // have a byte each take a look at that byte.
+    // So many labels. It stands apart and has a walk of its own: where there are many, no cursor lies in memory.
     #[inline(never)]
     fn labels_apart(&mut self, count: u32, out: &mut Vec<u8>) -> Option<()>
         ensures { IfSome result (λ _. (labels : List ℕ)
             × Passes (items_at u32_at count) labels (flat_map short labels) out.old.items self.old out.new.items self.new) }
     {
         let mut walk = self.ahead();
-        let alone = short_integers(walk.cursor.rest(), count as usize) as u32;
-        let Ok(_) = walk.cursor.take(alone) else {
-            unreachable!()
-        };
-        for _ in alone..count {
+        for _ in 0..count {
             walk.pass_u32(out)?;
         }
         *self = walk;
@@ -247,8 +232,7 @@ impl Walk<'_> {
                 inner -= 1;
                 1
             } else {
-                let both = u16::from_le_bytes([x, y]);
-                let size = wide_len(opcode, both, byte_or_0(bytes, at + 3));
+                let size = other_len(bytes, at);
                 if size == 0 || bytes.len() - at < size {
                     break;
                 }

@@ -1,23 +1,13 @@
-use Rattle.std.proofs.Common.{◌-◌, ap, length, subst, arith}
+use Rattle.std.proofs.Common.{◌-◌, subst, sym}
 use Rattle.wk_body.specs.declared.walk.Walk.{Walk}
-use Rattle.wk_body.proofs.Walking.{LabelsPassed, labels_one, labels_end}
-use Rattle.wk_body.proofs.BriefWalk.{labels_alone, enough, moved}
+use Rattle.wk_body.proofs.Walking.{LabelsPassed, labels_begin, labels_one, labels_end}
 use Rattle.wk_body.proofs.walk.Walk.labels_apart.Goals as goal
 
 pub loop-init : goal.loop-init
 loop-init c =
-    let count = c.args.count in
-    let alone = c.short_integers-alone.result in
+    let n = c.args.count in
     let out = c.args.out.now.items in
-    let walk = c.ahead-walk.result in
-    let to : Walk = record { cursor = c.take.new.self; run = walk.run } in
-    let looked = labels_alone count alone out walk c.rest.result.now c.rest.ensures c.short_integers-alone.ensures.most c.short_integers-alone.ensures.within c.short_integers-alone.ensures.short in
-    let taken = subst (λ (w : Walk). LabelsPassed count (count - alone) out walk out w) (moved walk c.take.new.self alone c.in-Ok.field-0.now c.in-Ok.ensures.exact) looked in
-    subst (λ (w : Walk). LabelsPassed count (count - alone) out w out to) c.ahead-walk.ensures taken
-
-pub unreachable-requires : goal.unreachable-requires
-unreachable-requires c =
-    enough c.short_integers-alone.result c.ahead-walk.result.cursor.end c.ahead-walk.result.cursor.rest c.in_default.field-0 (omega (arith, ap length c.rest.ensures, c.short_integers-alone.ensures.within)) c.in_default.ensures.exact.0
+    subst (λ (w : Walk). LabelsPassed n (n - 0) out c.args.self.now out w) (sym c.ahead-walk.ensures) (labels_begin n out c.args.self.now)
 
 pub loop-preserved : goal.loop-preserved
 loop-preserved c =
