@@ -57,7 +57,7 @@ IsWide _ len x y z = ⊥
 abbrev pub IsShortTable : List ℕ → ℕ → ℕ → Type 0
 IsShortTable bytes at len = (len ≡ get_or bytes (at + 1) 0 + 3) × (at + len ≤ length bytes) × ((i : ℕ) → at < i → i < at + len → get_or bytes i 0 < 128)
 
--- an instruction at an offset is such a `br_table`, or one of those before that
+-- an instruction at an offset is such a `br_table`, or one of those for which the bytes behind its opcode tell its length, as above
 abbrev pub IsOther : List ℕ → ℕ → ℕ → Type 0
 IsOther bytes at len =
     ((get_or bytes at 0 ≡ 0x0E) × IsShortTable bytes at len)
