@@ -14,7 +14,7 @@ use Rattle.wk_body.proofs.BriefWalk.{later, unsigned_passed, in_both, Steps}
 use Rattle.wk_body.proofs.WideWalk.{wide_on}
 
 -- of so many labels at an offset the first ones
-short_labels : (count start n : ℕ) (out : List ℕ) (w : Walk) → n ≤ count → start + n ≤ length w.cursor.rest → ((i : ℕ) → start ≤ i → i < start + n → get_or w.cursor.rest i 0 < 128)
+pub short_labels : (count start n : ℕ) (out : List ℕ) (w : Walk) → n ≤ count → start + n ≤ length w.cursor.rest → ((i : ℕ) → start ≤ i → i < start + n → get_or w.cursor.rest i 0 < 128)
     → LabelsPassed count (count - n) out (later w start) out (later w (start + n))
 short_labels count start zero out w most within low =
     let none : start ≡ start + 0 = omega arith in

@@ -183,6 +183,22 @@ fn byte_or_0(bytes: &[u8], at: usize) -> u8
     if at < bytes.len() { bytes[at] } else { 0 }
 }
 
+/// The offset behind the integers of one byte that stand from an offset on, up to another.
+#[inline(always)]
+pub(crate) fn behind_short(bytes: &[u8], from: usize, end: usize) -> usize
+    requires order { from ≤ end }
+    requires inside { end ≤ length bytes.now }
+    ensures from { from ≤ result }
+    ensures within { result ≤ end }
+    ensures short { (i : ℕ) → from ≤ i → i < result → get_or bytes.now i 0 < 128 }
+{
+    let mut at = from;
+    while at < end && bytes[at] < 0x80 {
+        at += 1;
+    }
+    at
+}
+
 // How many bytes the `br_table` at an offset has, where each of its integers has one. It is 0 where one has more. It stands apart, so
 // that the loop over other tokens has its registers.
 #[inline(never)]
@@ -195,12 +211,8 @@ fn table_len(bytes: &[u8], at: usize) -> usize
         return 0;
     }
     let end = at + len;
-    let mut place = at + 1;
-    while place < end {
-        if bytes[place] >= 0x80 {
-            return 0;
-        }
-        place += 1;
+    if behind_short(bytes, at + 1, end) < end {
+        return 0;
     }
     len
 }

@@ -16,7 +16,9 @@ ghost use Rattle.wk_body.specs.Brief.{number_of};
 ghost use Rattle.wk_body.specs.Shape.{depth_limit};
 ghost use Rattle.wk_body.specs.Walks.{Passes, Keeps, PassesPlain, BlocksPass, GoesOn};
 
-use crate::brief::{begins_nop, blocks_after, brief_len, may_part, nops, other_len, passes};
+use crate::brief::{
+    begins_nop, behind_short, blocks_after, brief_len, may_part, nops, other_len, passes,
+};
 use crate::layout::{Layout, layout_of};
 use crate::reading::{are_bytes, reserved};
 use crate::types::Profile;
@@ -157,14 +159,20 @@ impl Walk<'_> {
         Some(zero)
     }
 
-    // So many labels. It stands apart and has a walk of its own: where there are many, no cursor lies in memory.
+    // So many labels. It stands apart and has a walk of its own: where there are many, no cursor lies in memory. Those in front that
+    // have a byte each take a look at that byte.
     #[inline(never)]
     fn labels_apart(&mut self, count: u32, out: &mut Vec<u8>) -> Option<()>
         ensures { IfSome result (λ _. (labels : List ℕ)
             × Passes (items_at u32_at count) labels (flat_map short labels) out.old.items self.old out.new.items self.new) }
     {
         let mut walk = self.ahead();
-        for _ in 0..count {
+        let rest = walk.cursor.rest();
+        let alone = behind_short(rest, 0, rest.len().min(count as usize)) as u32;
+        let Ok(_) = walk.cursor.take(alone) else {
+            unreachable!()
+        };
+        for _ in alone..count {
             walk.pass_u32(out)?;
         }
         *self = walk;
