@@ -1,5 +1,5 @@
 -- A walk that passes over tokens that are as short as they may be.
-use Rattle.std.proofs.Common.{◌≡◌, ℕ, zero, suc, ◌+◌, ◌-◌, ◌^◌, ◌<◌, ◌≤◌, Bool, true, ltb, ℤ, pos, ◌-ℤ◌, inl, inr, List, [], ◌∷◌, length, get_or, drop, Option, Some, Ok, Err, refl, sym, ap, subst, ◌∙◌, arith, cond, ◌++◌, false, ◌/◌, ◌*◌, ◌⊎◌, eqb, length-append}
+use Rattle.std.proofs.Common.{◌≡◌, ℕ, ◌+◌, ◌-◌, ◌^◌, ◌<◌, ◌≤◌, Bool, true, ltb, ℤ, pos, ◌-ℤ◌, inl, inr, List, [], ◌∷◌, length, get_or, drop, Option, Some, Ok, Err, refl, sym, ap, subst, ◌∙◌, arith, cond, ◌++◌, false, ◌/◌, ◌*◌, ◌⊎◌, eqb, length-append}
 use Rattle.std.proofs.lemmas.Bool.{cases_lt, cases_eq, ne_eqb, le-leb, lt-ltb, le-ltb}
 use Rattle.std.proofs.lemmas.List.{drop_more, drop_at}
 use Rattle.wk_bytes.specs.declared.fault.ReadKind.TheVariants.{TooDeep}
@@ -30,7 +30,7 @@ use Rattle.wk_body.specs.Brief.{plain_len, brief_len, IsBrief, IsShortType, bit_
 use Rattle.wk_body.specs.Walks.{Passes, PassesPlain, Behind, GoesOn, BlocksPass}
 use Rattle.wk_body.proofs.Immediates.{nothing_passed, index_passed, memarg_passed, signed32_passed, signed64_passed}
 use Rattle.wk_body.proofs.Rewriting.{plain_goes, block_goes, loop_goes, if_goes, close_goes}
-use Rattle.wk_body.proofs.Walking.{passed, LabelsPassed, labels_begin, labels_one}
+use Rattle.wk_body.proofs.Walking.{passed}
 
 -- a walk so many bytes on
 abbrev pub later : Walk → ℕ → Walk
@@ -45,18 +45,6 @@ unsigned_passed out w n m next within low =
     let parts : drop n w.cursor.rest ≡ x ∷ drop m w.cursor.rest = drop_more w.cursor.rest n 0 within ∙ ap (λ (k : ℕ). x ∷ drop k w.cursor.rest) (sym next) in
     let read : u32_at w.cursor.end (drop n w.cursor.rest) ≡ Ok (x, drop m w.cursor.rest) = ap (u32_at w.cursor.end) parts ∙ u32_at-again w.cursor.end (x ∷ []) x (drop m w.cursor.rest) (low, omega arith, refl) in
     passed u32_at x (short x) (x ∷ []) out (later w n) (later w m) (read, refl) parts refl (sym (short-last x low))
-
--- of so many labels the first are
-pub labels_alone : (count n : ℕ) (out : List ℕ) (w : Walk) (bytes : List ℕ) → bytes ≡ w.cursor.rest → n ≤ count → n ≤ length bytes → ((i : ℕ) → i < n → get_or bytes i 0 < 128)
-    → LabelsPassed count (count - n) out w out (later w n)
-labels_alone count zero out w bytes same most within low = labels_begin count out w
-labels_alone count (suc n) out w bytes same most within low =
-    let x = get_or w.cursor.rest n 0 in
-    let before = labels_alone count n out w bytes same (omega (arith, most)) (omega (arith, within)) (λ i lt. low i (omega (arith, lt))) in
-    let here : x < 128 = subst (λ (bs : List ℕ). get_or bs n 0 < 128) same (low n (omega arith)) in
-    let one = unsigned_passed out w n (suc n) (omega arith) (omega (arith, within, ap length same)) here in
-    let next : count - (n + 1) ≡ count - suc n = omega arith in
-    subst (λ (left : ℕ). LabelsPassed count left out w out (later w (suc n))) next (labels_one count n x out out out w (later w n) (later w (suc n)) (omega (arith, most)) before one)
 
 spelled : (N x : ℕ) → 64 ≤ 2 ^ (N - 1) → x < 128 → (z : ℤ) × SpellsS N (x ∷ []) z
 spelled N x wide low =

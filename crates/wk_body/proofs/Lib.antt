@@ -35,6 +35,7 @@ pub mod ElseBranch
 pub mod CopyingLoop
 pub mod Walking
 pub mod WideWalk
+pub mod TableWalk
 pub mod Immediates
 pub mod BriefTable
 pub mod BriefWalk

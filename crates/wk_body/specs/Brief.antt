@@ -1,6 +1,6 @@
 -- Tokens that are as short as they may be: instructions that have a byte for each of their integers, ends, and openers of blocks whose
 -- type has one byte.
-use Rattle.std.specs.Prelude.{◌≡◌, ℕ, ◌+◌, ◌*◌, ◌/◌, ◌<◌, ◌≤◌, ◌⊎◌, ◌==◌, if◌then◌else◌, Bool, true, false, List, [], ◌∷◌, Option, Some}
+use Rattle.std.specs.Prelude.{◌≡◌, ℕ, ◌+◌, ◌*◌, ◌/◌, ◌<◌, ◌≤◌, ◌⊎◌, ◌==◌, if◌then◌else◌, Bool, true, false, List, [], ◌∷◌, Option, Some, length, get_or}
 use Rattle.wk_body.specs.declared.types.Profile.TheVariants.{Core}
 use Rattle.wk_body.specs.declared.types.ValType.{ValType}
 use Rattle.wk_body.specs.declared.layout.Layout.{Layout}
@@ -52,6 +52,16 @@ IsWide (Some layouts.Signed64) len x y z = (len ≡ 3) × IsWideNumber x y
 IsWide (Some layouts.Word32) len x y z = len ≡ 5
 IsWide (Some layouts.Word64) len x y z = len ≡ 9
 IsWide _ len x y z = ⊥
+
+-- a `br_table` at an offset has that many bytes, and each of its integers has one
+abbrev pub IsShortTable : List ℕ → ℕ → ℕ → Type 0
+IsShortTable bytes at len = (len ≡ get_or bytes (at + 1) 0 + 3) × (at + len ≤ length bytes) × ((i : ℕ) → at < i → i < at + len → get_or bytes i 0 < 128)
+
+-- an instruction at an offset is such a `br_table`, or one of those for which the bytes behind its opcode tell its length, as above
+abbrev pub IsOther : List ℕ → ℕ → ℕ → Type 0
+IsOther bytes at len =
+    ((get_or bytes at 0 ≡ 0x0E) × IsShortTable bytes at len)
+    ⊎ IsWide (layout_in (form_of Core (get_or bytes at 0))) len (get_or bytes (at + 1) 0) (get_or bytes (at + 2) 0) (get_or bytes (at + 3) 0)
 
 -- a block type of one byte: none, or a value type
 abbrev pub IsShortType : ℕ → Type 0

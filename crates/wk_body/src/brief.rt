@@ -5,7 +5,7 @@ ghost use Rattle.std.specs.Prelude.{ℕ, ◌+◌, ◌*◌, ◌≡◌, ◌<◌, �
 ghost use Rattle.wk_body.specs.declared.types.Profile.TheVariants.{Core};
 ghost use Rattle.wk_body.specs.Instructions.{form_of};
 ghost use Rattle.wk_body.specs.Layouts.{layout_in};
-ghost use Rattle.wk_body.specs.Brief.{brief_len, number_of, blocks_after, IsBrief, IsShortType, IsWideIndex, IsWideNumber, IsWide};
+ghost use Rattle.wk_body.specs.Brief.{brief_len, number_of, blocks_after, IsBrief, IsShortType, IsWideIndex, IsWideNumber, IsWide, IsShortTable, IsOther};
 
 use crate::layout::{Layout, layout_of};
 use crate::types::Profile;
@@ -154,10 +154,10 @@ fn is_wide_second(both: u16, z: u8) -> bool
     both & 0x8080 == 0x8000 && 0 < z && z < 0x80
 }
 
-/// How many bytes an instruction has that the table has no length for, or that has an integer of two bytes, where two bytes, the
-/// first lowest, and a third stand behind its opcode and leave it as short as it may be. It is 0 where they don't tell.
+// How many bytes an instruction has that the table has no length for, or that has an integer of two bytes, where two bytes, the
+// first lowest, and a third stand behind its opcode and leave it as short as it may be. It is 0 where they don't tell.
 #[inline(always)]
-pub(crate) fn wide_len(opcode: u8, both: u16, z: u8) -> usize
+fn wide_len(opcode: u8, both: u16, z: u8) -> usize
     ensures { 0 < result → (x y : ℕ) → x < 256 → y < 256 → both ≡ x + y * 256 → IsWide (layout_in (form_of Core opcode)) result x y z }
 {
     let Some(layout) = layout_of(Profile::Core, opcode) else {
@@ -173,6 +173,63 @@ pub(crate) fn wide_len(opcode: u8, both: u16, z: u8) -> usize
         Layout::Word64 => 9,
         _ => 0,
     }
+}
+
+// The byte that stands there, or 0 behind the end.
+#[inline(always)]
+fn byte_or_0(bytes: &[u8], at: usize) -> u8
+    ensures { result ≡ get_or bytes.now at 0 }
+{
+    if at < bytes.len() { bytes[at] } else { 0 }
+}
+
+/// The offset behind the integers of one byte that stand from an offset on, up to another.
+#[inline(always)]
+pub(crate) fn behind_short(bytes: &[u8], from: usize, end: usize) -> usize
+    requires order { from ≤ end }
+    requires inside { end ≤ length bytes.now }
+    ensures from { from ≤ result }
+    ensures within { result ≤ end }
+    ensures short { (i : ℕ) → from ≤ i → i < result → get_or bytes.now i 0 < 128 }
+{
+    let mut at = from;
+    while at < end && bytes[at] < 0x80 {
+        at += 1;
+    }
+    at
+}
+
+// How many bytes the `br_table` at an offset has, where each of its integers has one. It is 0 where one has more. It stands apart, so
+// that the loop over other tokens has its registers.
+#[inline(never)]
+fn table_len(bytes: &[u8], at: usize) -> usize
+    requires { at + 1 < length bytes.now }
+    ensures { 0 < result → IsShortTable bytes.now at result }
+{
+    let len = usize::from(bytes[at + 1]) + 3;
+    if bytes.len() - at < len {
+        return 0;
+    }
+    let end = at + len;
+    if behind_short(bytes, at + 1, end) < end {
+        return 0;
+    }
+    len
+}
+
+/// How many bytes the instruction at an offset has that the table has no length for, or that has longer integers, where it is as short
+/// as it may be if it ends within these bytes. It is 0 where it isn't told.
+#[inline(always)]
+pub(crate) fn other_len(bytes: &[u8], at: usize) -> usize
+    requires { at + 2 < length bytes.now }
+    ensures { 0 < result → IsOther bytes.now at result }
+{
+    let opcode = bytes[at];
+    if opcode == 0x0E {
+        return table_len(bytes, at);
+    }
+    let both = u16::from_le_bytes([bytes[at + 1], bytes[at + 2]]);
+    wide_len(opcode, both, byte_or_0(bytes, at + 3))
 }
 
 /// Whether a nop is in front.
@@ -192,21 +249,6 @@ pub(crate) fn nops(bytes: &[u8]) -> usize
 {
     let mut count = 0;
     while count < bytes.len() && bytes[count] == 0x01 {
-        count += 1;
-    }
-    count
-}
-
-/// How many integers of one byte are in front, up to so many.
-#[inline(always)]
-pub(crate) fn short_integers(bytes: &[u8], most: usize) -> usize
-    ensures within { result ≤ length bytes.now }
-    ensures most { result ≤ most }
-    ensures short { (i : ℕ) → i < result → get_or bytes.now i 0 < 128 }
-{
-    let end = bytes.len().min(most);
-    let mut count = 0;
-    while count < end && bytes[count] < 0x80 {
         count += 1;
     }
     count

@@ -3,7 +3,7 @@
 //! What stands there as it is written stays in a run of bytes that is copied at once. A call that answers nothing met something
 //! unclear, or a growth was refused: then nothing is said of what it wrote.
 
-ghost use Rattle.std.specs.Prelude.{◌≡◌, ℕ, ◌+◌, ◌≤◌, ◌^◌, Bool, ◌∷◌, [], List, ◌++◌, ◌-◌, ◌<◌, length, take, get_or, IfSome};
+ghost use Rattle.std.specs.Prelude.{◌≡◌, ℕ, ◌+◌, ◌≤◌, ◌^◌, Bool, ◌∷◌, [], List, ◌++◌, ◌-◌, ◌<◌, length, take, IfSome};
 ghost use Rattle.std.specs.List.{flat_map};
 ghost use Rattle.byteorder.specs.Endian.{little_bytes};
 ghost use Rattle.wk_bytes.specs.Short.{short, short_signed};
@@ -17,7 +17,7 @@ ghost use Rattle.wk_body.specs.Shape.{depth_limit};
 ghost use Rattle.wk_body.specs.Walks.{Passes, Keeps, PassesPlain, BlocksPass, GoesOn};
 
 use crate::brief::{
-    begins_nop, blocks_after, brief_len, may_part, nops, passes, short_integers, wide_len,
+    begins_nop, behind_short, blocks_after, brief_len, may_part, nops, other_len, passes,
 };
 use crate::layout::{Layout, layout_of};
 use crate::reading::{are_bytes, reserved};
@@ -55,14 +55,6 @@ fn respell_signed(out: &mut Vec<u8>, run: &[u8], left: usize, n: i64) -> Option<
 {
     write_run(out, run, left)?;
     put_s64(out, n).ok()
-}
-
-// The byte that stands there, or 0 behind the end.
-#[inline(always)]
-fn byte_or_0(bytes: &[u8], at: usize) -> u8
-    ensures { at < length bytes.now → result ≡ get_or bytes.now at 0 }
-{
-    if at < bytes.len() { bytes[at] } else { 0 }
 }
 
 impl<'a> Walk<'a> {
@@ -175,7 +167,8 @@ impl Walk<'_> {
             × Passes (items_at u32_at count) labels (flat_map short labels) out.old.items self.old out.new.items self.new) }
     {
         let mut walk = self.ahead();
-        let alone = short_integers(walk.cursor.rest(), count as usize) as u32;
+        let rest = walk.cursor.rest();
+        let alone = behind_short(rest, 0, rest.len().min(count as usize)) as u32;
         let Ok(_) = walk.cursor.take(alone) else {
             unreachable!()
         };
@@ -247,8 +240,7 @@ impl Walk<'_> {
                 inner -= 1;
                 1
             } else {
-                let both = u16::from_le_bytes([x, y]);
-                let size = wide_len(opcode, both, byte_or_0(bytes, at + 3));
+                let size = other_len(bytes, at);
                 if size == 0 || bytes.len() - at < size {
                     break;
                 }

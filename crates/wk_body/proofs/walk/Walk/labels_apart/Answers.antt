@@ -1,23 +1,30 @@
-use Rattle.std.proofs.Common.{◌-◌, ap, length, subst, arith}
+use Rattle.std.proofs.Common.{◌≡◌, ℕ, ◌+◌, ◌-◌, ◌<◌, ◌≤◌, List, ap, get_or, length, subst, arith}
 use Rattle.wk_body.specs.declared.walk.Walk.{Walk}
 use Rattle.wk_body.proofs.Walking.{LabelsPassed, labels_one, labels_end}
-use Rattle.wk_body.proofs.BriefWalk.{labels_alone, enough, moved}
+use Rattle.wk_body.proofs.BriefWalk.{later, enough, moved}
+use Rattle.wk_body.proofs.TableWalk.{short_labels}
 use Rattle.wk_body.proofs.walk.Walk.labels_apart.Goals as goal
 
 pub loop-init : goal.loop-init
 loop-init c =
     let count = c.args.count in
-    let alone = c.short_integers-alone.result in
+    let alone = c.behind_short-alone.result in
     let out = c.args.out.now.items in
     let walk = c.ahead-walk.result in
     let to : Walk = record { cursor = c.take.new.self; run = walk.run } in
-    let looked = labels_alone count alone out walk c.rest.result.now c.rest.ensures c.short_integers-alone.ensures.most c.short_integers-alone.ensures.within c.short_integers-alone.ensures.short in
-    let taken = subst (λ (w : Walk). LabelsPassed count (count - alone) out walk out w) (moved walk c.take.new.self alone c.in-Ok.field-0.now c.in-Ok.ensures.exact) looked in
+    let within : 0 + alone ≤ length walk.cursor.rest = omega (arith, ap length c.rest-rest.ensures, c.min.ensures, c.behind_short-alone.ensures.within) in
+    let most : alone ≤ count = omega (arith, c.min.ensures, c.behind_short-alone.ensures.within) in
+    let low : (i : ℕ) → 0 ≤ i → i < 0 + alone → get_or walk.cursor.rest i 0 < 128 =
+    λ i from lt. subst (λ (bs : List ℕ). get_or bs i 0 < 128) c.rest-rest.ensures (c.behind_short-alone.ensures.short i from (omega (arith, lt))) in
+    let looked = short_labels count 0 alone out walk most within low in
+    let none : 0 + alone ≡ alone = omega arith in
+    let here = subst (λ (n : ℕ). LabelsPassed count (count - alone) out walk out (later walk n)) none looked in
+    let taken = subst (λ (w : Walk). LabelsPassed count (count - alone) out walk out w) (moved walk c.take.new.self alone c.in-Ok.field-0.now c.in-Ok.ensures.exact) here in
     subst (λ (w : Walk). LabelsPassed count (count - alone) out w out to) c.ahead-walk.ensures taken
 
 pub unreachable-requires : goal.unreachable-requires
 unreachable-requires c =
-    enough c.short_integers-alone.result c.ahead-walk.result.cursor.end c.ahead-walk.result.cursor.rest c.in_default.field-0 (omega (arith, ap length c.rest.ensures, c.short_integers-alone.ensures.within)) c.in_default.ensures.exact.0
+    enough c.behind_short-alone.result c.ahead-walk.result.cursor.end c.ahead-walk.result.cursor.rest c.in_default.field-0 (omega (arith, ap length c.rest-rest.ensures, c.min.ensures, c.behind_short-alone.ensures.within)) c.in_default.ensures.exact.0
 
 pub loop-preserved : goal.loop-preserved
 loop-preserved c =

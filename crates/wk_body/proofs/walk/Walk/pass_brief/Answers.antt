@@ -1,8 +1,9 @@
-use Rattle.std.proofs.Common.{◌≡◌, ℕ, sym, ◌+◌, ◌*◌, ◌<◌, ap, ◌∙◌, ◌≤◌, ◌-◌, get_or, length, subst, refl, arith}
+use Rattle.std.proofs.Common.{◌≡◌, ◌+◌, ◌<◌, ap, ◌∙◌, ◌≤◌, ◌-◌, get_or, length, subst, refl, arith}
 use Rattle.wk_body.specs.declared.walk.Walk.{Walk}
 use Rattle.wk_body.specs.Walks.{BlocksPass}
 use Rattle.wk_bytes.specs.LebLaws.{IsBytes}
-use Rattle.wk_body.proofs.WideWalk.{wide_on, else_on, nop_on}
+use Rattle.wk_body.proofs.TableWalk.{other_on}
+use Rattle.wk_body.proofs.WideWalk.{else_on, nop_on}
 use Rattle.wk_body.proofs.BriefWalk.{few_bytes, counted_on, passed_on, enough, moved}
 use Rattle.wk_body.proofs.walk.Walk.pass_brief.Goals.{then-passes, else-passes+then-opcode-lt5+else-opcode-ne1+else-x-eq1, else-passes+else-opcode-lt5+then-opcode-eq5+else-x-eq11+else-not-may_part, else-passes+else-opcode-lt5+else-opcode-eq5+else-size-eq0+else-bytes-at}
 use Rattle.wk_body.proofs.walk.Walk.pass_brief.Goals as goal
@@ -44,19 +45,14 @@ loop-at-preserved c =
       }
       | else-passes+else-opcode-lt5+else-opcode-eq5+else-size-eq0+else-bytes-at w ↦
           let fits : IsBytes from.cursor.rest = subst IsBytes same c.are_bytes.ensures in
-          let size = w.wide_len-size.result in
-          let x = get_or bytes (at + 1) 0 in
-          let y = get_or bytes (at + 2) 0 in
-          let both : w.from_le_bytes-both.result ≡ x + y * 256 = omega (arith, w.from_le_bytes-both.ensures) in
+          let size = w.other_len-size.result in
           let enough : at + size ≤ length bytes = omega (arith, w.if-bytes-at.false, within) in
           record {
             within = omega (arith, enough, w.size-is);
             small = omega (arith, c.loop-at.invariant.small, w.inner-is);
             goes = λ ks below is room.
                 counted_on from at size blocks step c.if-passes.inner ks below w.size-is w.inner-is
-                (wide_on from bytes at (get_or bytes at 0) size blocks x y w.byte_or_0.result ks below same fits within enough
-                refl refl refl w.byte_or_0.ensures
-                (w.wide_len-size.ensures (omega (arith, w.if-size-eq0.false)) x y (c.are_bytes.ensures (at + 1)) (c.are_bytes.ensures (at + 2)) both) (c.loop-at.invariant.goes ks below is room));
+                (other_on from bytes at size blocks ks below same fits within enough (w.other_len-size.ensures (omega (arith, w.if-size-eq0.false))) (c.loop-at.invariant.goes ks below is room));
           }
     ]
 
