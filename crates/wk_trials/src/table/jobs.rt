@@ -1,45 +1,13 @@
-//! Calls of `wk_draft`, `wk_edit` and `wk_answers`.
+//! Calls of `wk_edit` and `wk_answers`.
 
 use crate::answers::Answer;
+use crate::jobs;
 use crate::lines::Line;
-use crate::modules::{OF_MOVING, OF_WIDE};
 use crate::scenario::{Named, Scenario};
 use crate::sinks::Room::{Ample, Full};
-use crate::{drafts, jobs};
 
-/// Calls of `wk_draft`, `wk_edit` and `wk_answers`, and what they are made of.
-pub(crate) static JOBS: [Named; 32] = [
-    ("is-valid", Scenario::IsValid(OF_MOVING)),
-    ("is-valid-wide", Scenario::IsValid(OF_WIDE)),
-    ("edit-valid", Scenario::EditValid(drafts::EACH_KIND)),
-    (
-        "edit-valid-kept",
-        Scenario::EditValid(drafts::EACH_KIND_KEPT),
-    ),
-    (
-        "edit-valid-wide",
-        Scenario::EditValid(drafts::EACH_KIND_WIDE),
-    ),
-    (
-        "edit-outline",
-        Scenario::EditOutline(drafts::EACH_KIND),
-    ),
-    (
-        "edit-outline-kept",
-        Scenario::EditOutline(drafts::EACH_KIND_KEPT),
-    ),
-    (
-        "edit-outline-wide",
-        Scenario::EditOutline(drafts::EACH_KIND_WIDE),
-    ),
-    (
-        "edited-write-in-room",
-        Scenario::WriteEdited(drafts::EACH_KIND, Ample),
-    ),
-    (
-        "edited-write-to-full",
-        Scenario::WriteEdited(drafts::EACH_KIND, Full),
-    ),
+/// Calls of `wk_edit` and `wk_answers`, and what they are made of.
+pub(crate) static JOBS: [Named; 22] = [
     ("read-script", Scenario::ReadScript),
     ("malformed-line", Scenario::Line(Line::Malformed)),
     ("verdict-line", Scenario::Line(Line::Valid)),
