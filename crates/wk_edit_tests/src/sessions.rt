@@ -44,16 +44,13 @@ fn open_judged(alloc: Global, profile: Profile, bytes: &[u8]) -> Result<Session,
 
 // Whether a module is opened with this verdict, and written as these bytes, whether it is judged or its verdict is known.
 fn opens_as(alloc: Global, profile: Profile, bytes: &[u8], whole: &[u8], verdict: Verdict) -> bool {
-    let opened = (
-        open(alloc, profile, bytes),
-        open_judged(alloc, profile, bytes),
-    );
-    match opened {
-        (Ok(session), Ok(judged)) => {
-            says(alloc, &session, whole, verdict) && says(alloc, &judged, whole, verdict)
-        }
-        _ => false,
-    }
+    let Ok(session) = open(alloc, profile, bytes) else {
+        return false;
+    };
+    let Ok(judged) = open_judged(alloc, profile, bytes) else {
+        return false;
+    };
+    says(alloc, &session, whole, verdict) && says(alloc, &judged, whole, verdict)
 }
 
 // Whether a session over the module that was read says the same.
