@@ -99,11 +99,7 @@ fn edit_parts(alloc: Global, keep: bool, parts: &mut Parts, kept: &mut Kept, edi
 
 impl Session {
     // A session over a module that is not too large, and whose verdict may be known.
-    fn over(
-        alloc: Global,
-        module: Module,
-        known: &Option<Verdict>,
-    ) -> Result<Session, OutOfMemory>
+    fn over(alloc: Global, module: Module, known: &Option<Verdict>) -> Result<Session, OutOfMemory>
         requires fits { Fits «module» }
         requires known { IfSome known.now (λ v. v ≡ module_verdict «module») }
         ensures { IfOk result (λ m. m ≡ «module») }
