@@ -1,5 +1,5 @@
-//! Tokens that are as short as they may be, told by a table: instructions that have a byte for each of their integers, ends, and
-//! openers of blocks whose type has one byte.
+//! Tokens that are as short as they may be. A table tells instructions that have a byte for each of their integers, ends, and openers of
+//! blocks whose type has one byte; those with integers of two bytes or with words are told by their layout, and `br_table` by its labels.
 
 ghost use Rattle.std.specs.Prelude.{ℕ, ◌+◌, ◌*◌, ◌≡◌, ◌<◌, ◌≤◌, ◌^◌, ◌%◌, true, false, ◌⊎◌, length, reverse, get_or};
 ghost use Rattle.wk_body.specs.declared.types.Profile.TheVariants.{Core};
@@ -41,16 +41,6 @@ pub(crate) fn brief_len(opcode: u8) -> u8
     LENGTHS[usize::from(opcode)]
 }
 
-/// Whether the first of these bytes is an opcode that the table has a length for. Where it isn't, the token's own way is shorter than
-/// to try.
-#[inline(always)]
-pub(crate) fn begins_brief(bytes: &[u8]) -> bool {
-    match bytes.first() {
-        Some(&opcode) => brief_len(opcode) > 0,
-        None => false,
-    }
-}
-
 /// Of two bytes behind an opcode, the bits that are set where an integer has more bytes, by how many bytes the token has else.
 static MORE: [u32; 4] = [0, 0, 0x0080, 0x8080];
 
@@ -80,6 +70,16 @@ fn has_type(opcode: u8, x: u8) -> bool
     ensures { result ≡ true → (opcode ≡ 0x02) ⊎ ((opcode ≡ 0x03) ⊎ (opcode ≡ 0x04)) → IsShortType x }
 {
     !opens(opcode) || x == 0x40 || (0x7C <= x && x <= 0x7F)
+}
+
+/// Whether these bytes begin with an opcode that the table has a length for and, where it opens a block, a type of one byte that is no
+/// index. Where they don't, the token's own way is shorter than to try.
+#[inline(always)]
+pub(crate) fn begins_brief(bytes: &[u8]) -> bool {
+    match bytes {
+        [opcode, x, ..] => brief_len(*opcode) > 0 && has_type(*opcode, *x),
+        _ => false,
+    }
 }
 
 /// The open blocks behind a token, as the bits of a number.

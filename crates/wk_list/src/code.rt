@@ -1,6 +1,6 @@
 //! The code listing.
 
-ghost use Rattle.std.specs.Prelude.{◌≡◌, ◌<◌, ◌≤◌, ◌+◌, ◌-◌, ◌^◌, ◌++◌, length, take, IfOk, OnOk, OnErr};
+ghost use Rattle.std.specs.Prelude.{◌≡◌, ◌<◌, ◌≤◌, ◌+◌, ◌-◌, ◌^◌, ◌++◌, length, min, take, IfOk, OnOk, OnErr};
 ghost use Rattle.std.specs.List.{AllByRecursion, flat_map};
 ghost use Rattle.wk_bytes.specs.Frames.{limit};
 ghost use Rattle.wk_bytes.specs.Taken.{TakesFront};
@@ -15,7 +15,7 @@ ghost use Rattle.wk_list.specs.TokenText.{tok_text, toks_text, toks_length};
 use crate::brief::{Line, NAMED, put_brief_line};
 use crate::fault::ListFault;
 use crate::headers::{HEADER_LEN, contents_start, section_end};
-use crate::page::{spill, wanting};
+use crate::page::{PIECE, spill, wanting};
 use crate::rows::put_field;
 use crate::shape::Shape;
 use crate::sheet::ROOM;
@@ -32,7 +32,8 @@ const CODES: u8 = 10;
 // How far names may reach on a sheet behind this text. Where both are long enough to go out, no name has room: so the text goes out
 // behind the same line, and before the next one asks for memory, as if each line went behind it by itself.
 fn reach_behind(text: &[u8]) -> usize
-    ensures { result ≤ NAMED }
+    ensures near { result ≤ NAMED }
+    ensures exact { result ≡ min NAMED (PIECE - length text.now) }
 {
     NAMED.min(wanting(text))
 }

@@ -1,6 +1,6 @@
 //! Text on its way out: it is gathered, and goes in large pieces.
 
-ghost use Rattle.std.specs.Prelude.{◌≡◌, ◌<◌, ◌-◌, ◌^◌, OnOk, OnErr};
+ghost use Rattle.std.specs.Prelude.{◌≡◌, ◌<◌, ◌-◌, ◌^◌, length, OnOk, OnErr};
 ghost use Rattle.std.specs.Io.KnownBytes.{Appends};
 ghost use Rattle.wk_bytes.specs.Taken.{TakesFront};
 ghost use Rattle.wk_list.specs.Taken.{Leaves, failed_after};
@@ -9,10 +9,12 @@ use crate::fault::ListFault;
 use wk_bytes::{Out, put_all};
 
 /// How many bytes of text are worth a call of the [`Out`].
-const PIECE: usize = 1 << 16;
+pub(crate) const PIECE: usize = 1 << 16;
 
 /// How many bytes are wanting until the text is long enough to go out.
-pub(crate) fn wanting(text: &[u8]) -> usize {
+pub(crate) fn wanting(text: &[u8]) -> usize
+    ensures { result ≡ PIECE - length text.now }
+{
     PIECE.saturating_sub(text.len())
 }
 
