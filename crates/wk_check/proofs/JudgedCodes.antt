@@ -1,6 +1,7 @@
 -- The verdict of a module whose bodies are judged while they are read.
-use Rattle.std.proofs.Common.{◌≡◌, ℕ, suc, ◌+◌, ◌<◌, ◌≤◌, ◌-◌, List, [], ◌∷◌, length, map, drop, get_or, add-one, Result, Ok, Err, IfOk, Option, Some, None, ◌≢◌, refl, sym, ap, subst, ◌∙◌, arith}
+use Rattle.std.proofs.Common.{◌≡◌, ℕ, suc, ◌+◌, ◌<◌, ◌≤◌, ◌-◌, List, [], ◌∷◌, length, map, drop, get_or, add-one, Result, Ok, Err, IfOk, Option, Some, None, true, ◌≢◌, refl, sym, ap, subst, ◌∙◌, arith}
 use Rattle.std.proofs.Math.Seq.{drop-cons}
+use Rattle.std.specs.Option.{is_some}
 use Rattle.wk_bytes.specs.declared.fault.ReadKind.TheVariants.{FuncCodeCount, SectionSize}
 use Rattle.wk_bytes.specs.declared.fault.ReadFault.{ReadFault}
 use Rattle.wk_bytes.specs.Leb.{◌>>=◌}
@@ -154,6 +155,25 @@ section_goes_on profile l types s before item end bytes le some same so_far =
     let count : length types - item ≡ 0 = omega arith in
     rw same (left_over profile l types (section_end s) before bytes (codes_at profile (length types) (section_end s) s.contents) (rw (count, zipped_none, earlier_none) at so_far) some)
 
+read_whole : (profile : Profile) (l : SectionLists) (types left : List ℕ) (before : Option Fault) (item end : ℕ) (r whole : Result (List BodyOf × List ℕ) ReadFault) (o : Option Fault) → is_some before ≡ true
+    → (r >>= λ bodies. answered (earlier before (first_of l item (zipped left bodies.0))) bodies.1) ≡ all_judged profile l types whole
+    → (whole >>= taking_all end >>= λ bodies. Ok (earlier (front_fault profile l) (first_of l 0 (zipped types bodies)))) ≡ Ok o
+    → o ≡ before
+read_whole profile l types left None item end r whole o known h read = absurd cc
+read_whole profile l types left (Some f) item end (Ok x) (Ok (bodies, [])) o known h read = sym (ok_is _ _ read) ∙ sym (ap (λ (y : Option Fault × List ℕ). y.0) (ok_is _ _ h))
+read_whole profile l types left (Some f) item end (Err e) (Ok (bodies, [])) o known h read = absurd cc
+read_whole profile l types left (Some f) item end r (Ok (bodies, x ∷ rest)) o known h read = absurd cc
+read_whole profile l types left (Some f) item end r (Err e) o known h read = absurd cc
+
+-- behind a fault nothing is judged, so where the section can be read that fault is all
+pub fault_stays : (profile : Profile) (l : SectionLists) (types : List ℕ) (s : Section) (before : Option Fault) (item end : ℕ) (bytes : List ℕ) (o : Option Fault) → is_some before ≡ true
+    → rest_judged profile l (drop item types) before item (length types - item) end bytes ≡ all_judged profile l types (codes_at profile (length types) (section_end s) s.contents)
+    → codes_judged profile l types s ≡ Ok o → codes_judged profile l types s ≡ Ok before
+fault_stays profile l types s before item end bytes o known so_far read =
+    let same = read_whole profile l types (drop item types) before item (section_end s) (items_at (code_at profile) (length types - item) end bytes) (codes_at profile (length types) (section_end s) s.contents) o
+    known so_far read in
+    read ∙ ap (λ (x : Option Fault). Ok x) same
+
 -- ---- the verdict by lists
 
 abbrev lists_verdict : Profile → SectionLists → Verdict
@@ -204,6 +224,18 @@ module _ (profile : Profile) (b : List ℕ) (is : IsReading profile b (module_at
     pub codes_fail : (e : ReadFault) → codes_judged profile (record l { codes = [] }) l.funcs s ≡ Err e → judged (module_at profile b) ≡ Err e
     codes_fail e bad = ap judged (apart.codes_fail profile b lists l s behind code_is none rise read e (unbound (all_at (codes_at profile (length l.funcs)) (section_end s) s.contents) e bad))
 
+    no_fault : (v : Verdict) (e : ReadFault) → done v ≡ Err e → ⊥
+    no_fault v e h = absurd cc
+
+    read_by : (m : Parts) (r : Result (Option Fault) ReadFault) → module_at profile b ≡ Ok m → codes_judged profile (record l { codes = [] }) l.funcs s ≡ r
+        → (o : Option Fault) × (codes_judged profile (record l { codes = [] }) l.funcs s ≡ Ok o)
+    read_by m (Ok o) spelled is = (o, is)
+    read_by m (Err e) spelled is = absurd (no_fault (module_verdict m) e (sym (ap judged spelled) ∙ codes_fail e is))
+
+    -- the codes of a module can be read
+    pub codes_read : (m : Parts) → module_at profile b ≡ Ok m → (o : Option Fault) × (codes_judged profile (record l { codes = [] }) l.funcs s ≡ Ok o)
+    codes_read m spelled = read_by m (codes_judged profile (record l { codes = [] }) l.funcs s) spelled refl
+
     -- the bodies that were read
     bodies_of : (code : Option Fault) → codes_judged profile (record l { codes = [] }) l.funcs s ≡ Ok code
         → (bodies : List BodyOf) × (all_at (codes_at profile (length l.funcs)) (section_end s) s.contents ≡ Ok bodies) × (earlier (front_fault profile (record l { codes = [] })) (first_of (record l { codes = [] }) 0 (zipped l.funcs bodies)) ≡ code)
@@ -248,3 +280,8 @@ pub told_meaning : (read : Result Parts ReadFault) (answer : Result Verdict Read
 told_meaning (Ok m) (Ok v) reads = subst (IsVerdict m) (ok_is (module_verdict m) v reads) (module_verdict_told m)
 told_meaning (Err e) (Ok v) reads = absurd cc
 told_meaning read (Err e) reads = tt
+
+-- the verdict on a module that was read
+pub judged_as : (read : Result Parts ReadFault) (m : Parts) (v : Verdict) → judged read ≡ Ok v → read ≡ Ok m → v ≡ module_verdict m
+judged_as (Ok n) m v is at = cc
+judged_as (Err e) m v is at = absurd cc

@@ -1,17 +1,20 @@
 //! Judging the module that bytes spell: each body is judged when it is read, and not kept.
 
-ghost use Rattle.std.specs.Prelude.{◌≡◌, ◌↔◌, [], ◌∷◌, Ok, IfOk};
+ghost use Rattle.std.specs.Prelude.{◌≡◌, ◌↔◌, [], ◌∷◌, true, Ok, Option, IfOk};
 ghost use Rattle.wk_bytes.specs.Frames.{sections_of};
 ghost use Rattle.wk_bytes.specs.Raw.{raw_view};
 ghost use Rattle.wk_body.specs.Reads.{Reads};
+ghost use Rattle.wk_module.specs.declared.types.Parts.{Parts as PartsOf};
 ghost use Rattle.wk_module.specs.Listed.{listed, AreNumbered};
 ghost use Rattle.wk_module.specs.ListReading.{IsReading, Rise, lists_read};
 ghost use Rattle.wk_module.specs.Reading.{module_at};
 ghost use Rattle.wk_module.specs.Sections.{no_lists};
+ghost use Rattle.wk_check.specs.declared.fault.Fault.{Fault as FaultOf};
 ghost use Rattle.wk_check.specs.declared.fault.Verdict.{Verdict};
 ghost use Rattle.wk_check.specs.Items.{earlier};
 ghost use Rattle.wk_check.specs.Spelled.{judged, IsVerdictOf, first_of, fault_read, codes_judged};
 ghost use Rattle.wk_check.specs.Valid.{IsValidRead};
+ghost use Rattle.wk_check.specs.Verdict.{module_verdict};
 
 use crate::fault::{Fault, Verdict};
 use crate::judging::{fault_before_code, judge_around, judge_behind};
@@ -86,13 +89,16 @@ fn fault_up_to(
 }
 
 // The first fault of the sections up to a code section in a module with these lists, each body judged when it is read. Behind a
-// fault bodies are only read.
+// fault bodies are only read, and where it is known that the section can be read they aren't.
 fn fault_of_section(
     alloc: Global,
     lists: &Lists<'_>,
     section: &RawSection<'_>,
+    is_spelled: bool,
 ) -> Result<Option<Fault>, ReadFault>
-    requires { AreNumbered (listed lists.now) }
+    requires numbered { AreNumbered (listed lists.now) }
+    requires spelled { is_spelled ≡ true → (o : Option FaultOf)
+        × (codes_judged lists.now.profile (listed lists.now) lists.now.funcs.now (raw_view section.now) ≡ Ok o) }
     ensures { Reads (λ r. r) result (codes_judged lists.now.profile (listed lists.now) lists.now.funcs.now (raw_view section.now)) }
 {
     let mut codes = CodeReader::open(section, lists.funcs.len())?;
@@ -106,6 +112,9 @@ fn fault_of_section(
     let known = fault_before_code(alloc, lists, &whole, &mut rooms.room)?;
     let mut fault = known;
     for (index, ty) in lists.funcs.iter().enumerate() {
+        if is_spelled && fault.is_some() {
+            return Ok(fault);
+        }
         let func = Unread {
             index: index as u32,
             ty: *ty,
@@ -118,14 +127,17 @@ fn fault_of_section(
     Ok(fault)
 }
 
-// Judges the module of these bytes, of which the sections in front of the code section are read.
+// Judges the module of these bytes, of which the sections in front of the code section are read, and of which may be known that they
+// spell one.
 fn judge_from_code(
     alloc: Global,
     scratch: &mut Scratch,
     bytes: &[u8],
     reader: SectionReader<'_>,
     section: &RawSection<'_>,
+    is_spelled: bool,
 ) -> Result<Verdict, ReadFault>
+    requires spelled { is_spelled ≡ true → (m : PartsOf) × (module_at reader.profile bytes.now ≡ Ok m) }
     requires code { section.now.id ≡ 10 }
     requires none { reader.lists.codes ≡ [] }
     requires rise { Rise 10 reader.left }
@@ -134,7 +146,7 @@ fn judge_from_code(
 {
     reading_of_module(bytes, reader.lists().profile);
     let lists = reader.lists();
-    let fault = fault_of_section(alloc, &lists, section)?;
+    let fault = fault_of_section(alloc, &lists, section, is_spelled)?;
     let reader = reader.to_end(alloc, scratch)?;
     Ok(judge_behind(alloc, &reader.lists(), fault)?)
 }
@@ -158,6 +170,28 @@ fn judge_without_code(
         });
     }
     Ok(judge_around(alloc, &lists, None)?)
+}
+
+// Judges the module that these bytes spell. Where it is known that they spell one, no body behind the first fault is read.
+fn judge_spelling(
+    alloc: Global,
+    bytes: &[u8],
+    profile: Profile,
+    is_spelled: bool,
+) -> Result<Verdict, ReadFault>
+    requires { is_spelled ≡ true → (m : PartsOf) × (module_at profile bytes.now ≡ Ok m) }
+    ensures { Reads (λ v. v) result (judged (module_at profile bytes.now)) }
+{
+    reading_of_module(bytes, profile);
+    let mut scratch = Scratch::new(alloc);
+    let (reader, section) = SectionReader::new(alloc, bytes, profile).up_to_code(
+        alloc,
+        &mut scratch,
+    )?;
+    match section {
+        Some(section) => judge_from_code(alloc, &mut scratch, bytes, reader, &section, is_spelled),
+        None => judge_without_code(alloc, bytes, &reader),
+    }
 }
 
 /// Judges the module of a profile that bytes spell (5.5.15, 3.4.10): valid, or the first fault by section, item, and what is
@@ -197,13 +231,23 @@ pub fn judge_bytes(alloc: Global, bytes: &[u8], profile: Profile) -> Result<Verd
     ensures is { IsReading profile bytes.now (module_at profile bytes.now) }
 {
     reading_of_module(bytes, profile);
-    let mut scratch = Scratch::new(alloc);
-    let (reader, section) = SectionReader::new(alloc, bytes, profile).up_to_code(
-        alloc,
-        &mut scratch,
-    )?;
-    match section {
-        Some(section) => judge_from_code(alloc, &mut scratch, bytes, reader, &section),
-        None => judge_without_code(alloc, bytes, &reader),
+    judge_spelling(alloc, bytes, profile, false)
+}
+
+/// Judges the module of a profile that bytes are known to spell, as [`judge_bytes`] does. Behind its first fault no body is read, so that
+/// one that is invalid in front costs no more than its lists.
+///
+/// # Errors
+///
+/// [`OutOfMemory`] where a growth is refused.
+pub fn judge_spelled(alloc: Global, bytes: &[u8], profile: Profile) -> Result<Verdict, OutOfMemory>
+    requires { (m : PartsOf) × (module_at profile bytes.now ≡ Ok m) }
+    ensures { (m : PartsOf) → module_at profile bytes.now ≡ Ok m → IfOk result (λ v. v ≡ module_verdict m) }
+{
+    match judge_spelling(alloc, bytes, profile, true) {
+        Ok(verdict) => Ok(verdict),
+        Err(fault) if fault.kind == ReadKind::Memory => Err(OutOfMemory),
+        // The bytes spell a module.
+        Err(_) => unreachable!(),
     }
 }

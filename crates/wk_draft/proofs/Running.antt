@@ -17,7 +17,6 @@ use Rattle.wk_module.specs.Writing.{encoded, Fits}
 use Rattle.wk_check.specs.declared.fault.Verdict.{Verdict}
 use Rattle.wk_check.specs.declared.fault.Verdict.TheVariants.{Valid}
 use Rattle.wk_check.specs.SpacesLaws.{answers_of}
-use Rattle.wk_check.specs.Spelled.{judged}
 use Rattle.wk_check.specs.Verdict.{module_verdict}
 use Rattle.wk_session.specs.declared.edit.Edit.{Edit}
 use Rattle.wk_session.specs.declared.edit.EditFault.{EditFault}
@@ -57,11 +56,6 @@ opened_by profile b outline codes (Ok p) asked reads fits is m at =
       valid = subst (λ (n : Parts). module_verdict n ≡ Valid) there asked.2;
     }
 opened_by profile b outline codes (Err e) asked reads fits is m at = absurd cc
-
--- the verdict on the module that was read
-pub judged_as : (read : Result Parts ReadFault) (m : Parts) (v : Verdict) → judged read ≡ Ok v → read ≡ Ok m → v ≡ module_verdict m
-judged_as (Ok n) m v is at = cc
-judged_as (Err e) m v is at = absurd cc
 
 -- ---- the module that is written
 

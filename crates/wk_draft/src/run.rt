@@ -23,7 +23,7 @@ use crate::edited::Edited;
 use crate::room::{aside_room, has_room};
 use std::alloc::Global;
 use wk_bytes::{Items, OutOfMemory, ReadFault, ReadKind};
-use wk_check::{Verdict, judge_bytes, laws_of_valid_modules};
+use wk_check::{Verdict, judge_bytes, judge_spelled, laws_of_valid_modules};
 use wk_list::Shape;
 use wk_module::{
     EncodeFault, Kind, Module, Outline, Parts, Profile, Shifts, import_count, read_outline,
@@ -243,19 +243,6 @@ pub fn edit_valid(
     edit_outlined(alloc, outline, edits, keep)
 }
 
-// The verdict on the module that bytes spell.
-fn verdict_of(alloc: Global, input: &[u8], profile: Profile) -> Result<Verdict, OutOfMemory>
-    requires { (m : PartsOf) × (module_at profile input.now ≡ Ok m) }
-    ensures { (m : PartsOf) → module_at profile input.now ≡ Ok m → IfOk result (λ v. v ≡ module_verdict m) }
-{
-    match judge_bytes(alloc, input, profile) {
-        Ok(verdict) => Ok(verdict),
-        Err(fault) if fault.kind == ReadKind::Memory => Err(OutOfMemory),
-        // The bytes spell a module.
-        Err(_) => unreachable!(),
-    }
-}
-
 /// Makes edits in order on the module of a profile that bytes spell, of which an outline was read; `keep` says whether each has to leave a
 /// valid module. The module is judged first, and an invalid one is left as it is.
 ///
@@ -282,7 +269,7 @@ pub fn edit_outline(
     if keep && would_break(outline.module.parts(), edits) {
         return Ok(Drafted::Unmade(None));
     }
-    let verdict = verdict_of(alloc, input, profile)?;
+    let verdict = judge_spelled(alloc, input, profile)?;
     let Verdict::Valid = verdict else {
         return Ok(Drafted::Unmade(Some(verdict)));
     };

@@ -7,7 +7,7 @@ use Rattle.wk_module.specs.Formats.{bytes_at}
 use Rattle.wk_module.specs.Listed.{listed}
 use Rattle.wk_module.proofs.CodesApart.{code_not_taken}
 use Rattle.wk_check.specs.Spelled.{fault_read, codes_judged}
-use Rattle.wk_check.proofs.JudgedCodes.{section_begins, body_step, body_stops, section_stops, section_judged, section_goes_on, code_is_read, code_not_read}
+use Rattle.wk_check.proofs.JudgedCodes.{section_begins, fault_stays, body_step, body_stops, section_stops, section_judged, section_goes_on, code_is_read, code_not_read}
 use Rattle.wk_check.proofs.spelled.fault_of_section.Goals as goal
 
 pub returns-in_err-next_code : goal.returns-in_err-next_code
@@ -61,6 +61,13 @@ loop-index-preserved c =
       end = c.in_ok-next_code.ensures.end ∙ c.loop-index.invariant.end;
       reads = body_step lists.profile (listed lists) c.in_ok-whole.whole lists.funcs.now c.loop-index.fault c.in_ok-fault.fault c.loop-index.index _ codes.end _ codes.rest _ read.0 _ c.loop-index-test.true refl read.1 c.in_ok-next_code.ensures.end c.in_ok-whole.ensures read.2 c.loop-index.invariant.reads;
     }
+
+pub returns-then-is_some : goal.returns-then-is_some
+returns-then-is_some c =
+    let lists = c.args.lists.now in
+    let known = c.requires.spelled c.if-is_spelled.true in
+    fault_stays lists.profile (listed lists) lists.funcs.now (raw_view c.args.section.now) c.loop-index.fault c.loop-index.index c.loop-index.codes.end c.loop-index.codes.rest known.0
+    (sym c.is_some.ensures ∙ c.if-is_some.true) c.loop-index.invariant.reads known.1
 
 pub returns : goal.returns
 returns c =

@@ -3,8 +3,5 @@ use Rattle.wk_module.specs.Reading.{module_at}
 use Rattle.wk_check.proofs.Valid.{read_exactly}
 use Rattle.wk_check.proofs.spelled.judge_bytes.Goals as goal
 
-pub returns-in-Some-clause-valid : goal.returns-in-Some-clause-valid
-returns-in-Some-clause-valid c = read_exactly (module_at c.args.profile c.args.bytes.now) c.judge_from_code.result (search rules)
-
 pub returns-clause-valid : goal.returns-clause-valid
-returns-clause-valid c = read_exactly (module_at c.args.profile c.args.bytes.now) c.judge_without_code.result (search rules)
+returns-clause-valid c = read_exactly (module_at c.args.profile c.args.bytes.now) c.judge_spelling.result (search rules)

@@ -8,8 +8,21 @@ use Rattle.wk_module.specs.ListReading.{IsReading, AreListsOfModule, lists_read}
 use Rattle.wk_module.specs.Reading.{module_at}
 use Rattle.wk_check.specs.declared.fault.Verdict.{Verdict}
 use Rattle.wk_check.specs.Spelled.{judged, codes_judged}
-use Rattle.wk_check.proofs.JudgedCodes.{codes_fail, behind_fails, judged_in_parts, told_codes, told_verdict}
+use Rattle.wk_check.proofs.JudgedCodes.{codes_fail, codes_read, behind_fails, judged_in_parts, told_codes, told_verdict}
 use Rattle.wk_check.proofs.spelled.judge_from_code.Goals as goal
+
+pub fault_of_section-requires-clause-spelled : goal.fault_of_section-requires-clause-spelled
+fault_of_section-requires-clause-spelled c = λ known.
+    let r = c.args.reader in
+    let b = c.args.bytes.now in
+    let s = raw_view c.args.section.now in
+    let lent = c.lists-lists.result in
+    let is : IsReading r.profile b (module_at r.profile b) = rw c.lists.ensures.profile at c.reading_of_module.ensures.is in
+    let lists : AreListsOfModule r.profile b = rw c.lists.ensures.profile at c.reading_of_module.ensures.lists in
+    let told = told_codes r.profile lent.profile r.lists (listed lent) s c.lists-lists.ensures.profile c.lists-lists.ensures.lists in
+    let spelled = c.requires.spelled known in
+    let codes = codes_read r.profile b is lists r.lists s r.left c.requires.code c.requires.none c.requires.rise c.requires.read spelled.0 spelled.1 in
+    (codes.0, told ∙ codes.1)
 
 pub returns-in_err-fault : goal.returns-in_err-fault
 returns-in_err-fault c =
