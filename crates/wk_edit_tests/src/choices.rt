@@ -1,4 +1,5 @@
-//! What `edit` gives, beside a session over the whole module, on both sides of where it begins to hold bodies as bytes.
+//! What `edit` gives, beside a session over the whole module, on both sides of where it begins to hold bodies as bytes: the same, whichever
+//! way it goes. `tests/growth` tells the ways apart.
 
 ghost use Rattle.std.specs.Prelude.{◌<◌};
 
@@ -178,7 +179,7 @@ impl Shape {
         Ok(code)
     }
 
-    // The module. Where it has more than one export they have one name, and it is invalid.
+    // The module.
     fn module(&self, alloc: Global) -> Result<Vec<u8>, OutOfMemory> {
         let mut out = Vec::from_slice(alloc, b"\0asm\x01\0\0\0")?;
         push_all(&mut out, b"\0\x02\x01c", self.customs)?;

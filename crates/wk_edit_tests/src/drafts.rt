@@ -193,12 +193,24 @@ fn is_left(alloc: Global, module: Module, script: &[u8], is_judged: bool) -> boo
     }
 }
 
-// An import that would break the module is not answered for it, and told before the module is judged, also behind a type that is refused. Nor
-// is any edit of an invalid module.
+// Scripts with an import that would leave an invalid module: of no type, also behind a type that is refused, of a second table or memory, and
+// of sizes that are out of order or too large.
+static BREAKING: [&[u8]; 7] = [
+    b"import func m h 9\n",
+    b"type - i32,i32\nimport func m h 2\n",
+    b"import table m t 1\nimport table m u 1\n",
+    b"import memory m n 1\nimport memory m o 1\n",
+    b"import table m t 2 1\n",
+    b"import memory m n 65537\n",
+    b"import memory m n 1 65537\n",
+];
+
+// Such an import is not answered for, and told before the module is judged. Nor is any edit of an invalid module made.
 fn gives_up(alloc: Global) -> bool {
     let module = (BODIES, Profile::Core);
-    is_left(alloc, module, b"import func m h 9\n", false)
-        && is_left(alloc, module, b"type - i32,i32\nimport func m h 2\n", false)
+    BREAKING
+        .iter()
+        .all(|script| is_left(alloc, module, *script, false))
         && is_left(alloc, (TWO_RESULTS, Profile::Core), b"", true)
 }
 

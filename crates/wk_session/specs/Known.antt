@@ -1,5 +1,5 @@
 -- What the verdict of a module tells of its bodies.
-use Rattle.std.specs.Prelude.{◌≡◌, ℕ, Option, None, Some, IfSome, nat_lt, option_map, slice_get, if◌then◌else◌}
+use Rattle.std.specs.Prelude.{◌≡◌, ℕ, List, Option, None, Some, IfSome, nat_lt, option_map, slice_get, if◌then◌else◌}
 use Rattle.wk_module.specs.declared.types.Func.{Func}
 use Rattle.wk_check.specs.declared.fault.BodyVerdict.{BodyVerdict}
 use Rattle.wk_check.specs.declared.fault.BodyVerdict.TheVariants as bodies
@@ -9,7 +9,6 @@ use Rattle.wk_check.specs.declared.fault.Verdict.TheVariants.{Valid, Invalid}
 use Rattle.wk_check.specs.Answers.{Found}
 use Rattle.wk_check.specs.Verdict.{func_verdict}
 use Rattle.wk_body.specs.declared.references.Ref.{Ref}
-use Rattle.std.specs.Prelude.{List}
 
 -- a body in front of the first fault is valid, and the one that has it is invalid by it; of those behind it nothing is told
 abbrev pub told_by : Fault → ℕ → Option BodyVerdict

@@ -4,10 +4,10 @@ use std::alloc::Global;
 use std::process::Abort;
 use std::test::Fail;
 use wk_bytes::ReadKind;
-use wk_check::{Fault, FaultKind, Place, Verdict, judge_bytes};
-use wk_module::Profile;
+use wk_check::{Fault, FaultKind, Place, Verdict, judge_bytes, judge_spelled};
+use wk_module::{Profile, read_outline};
 
-/// The verdict on these bytes, which spell a module, is valid, or this first fault.
+/// The verdict on these bytes, which spell a module, is valid, or this first fault, also where it is known that they spell one.
 pub(crate) fn tells(
     rt: &impl Abort,
     alloc: Global,
@@ -21,6 +21,9 @@ pub(crate) fn tells(
     };
     let verdict = judge_bytes(alloc, bytes, profile)?;
     assert_eq!(rt; verdict, wanted, "{bytes:?}");
+    read_outline(alloc, bytes, profile)?;
+    let verdict = judge_spelled(alloc, bytes, profile)?;
+    assert_eq!(rt; verdict, wanted, "{bytes:?}, which spell a module");
     Ok(())
 }
 
