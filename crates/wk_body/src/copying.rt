@@ -18,13 +18,13 @@ ghost use Rattle.wk_body.specs.Shape.{depth_limit};
 
 use crate::brief::{MOST_BLOCKS, begins_brief, blocks_after, number_of};
 use crate::length::type_len;
-use crate::reader::{at_end, local_type};
+use crate::reader::{at_end, local_type, reading_of_code};
 use crate::reading::{MAX_DEPTH, are_bytes};
 use crate::scratch::Scratch;
 use crate::token_reader::TokenReader;
 use crate::types::{BlockType, Profile, ValType};
 use crate::walk::{Walk, write_run};
-use crate::writing::{append_body, put_type};
+use crate::writing::{append_body, put_type, written_form_of_code};
 use std::alloc::Global;
 use wk_bytes::{Cursor, ReadFault};
 
@@ -352,6 +352,30 @@ fn pass_locals(walk: &mut Walk<'_>, out: &mut Vec<u8>) -> Option<()>
     Some(())
 }
 
+// Walks over the body that all that the cursor has left spells, and writes it to an empty room but for the run that it answers; or
+// answers nothing where anything is unclear.
+fn walk_body<'a>(
+    profile: Profile,
+    reader: &mut TokenReader,
+    cursor: &Cursor<'a>,
+    out: &mut Vec<u8>,
+) -> Option<&'a [u8]>
+    requires { out.old.items ≡ [] }
+    ensures { IfSome result (λ run. (b : BodyOf)
+        × (all_body_at profile cursor.now.end cursor.now.rest ≡ Ok b) × (out.new.items ++ run.now ≡ written_body b)) }
+{
+    let mut walk = Walk {
+        cursor: cursor.ahead(),
+        run: cursor.rest(),
+    };
+    pass_locals(&mut walk, out)?;
+    pass_expr(profile, reader, &mut walk, out)?;
+    let Ok(()) = at_end(&walk.cursor) else {
+        return None;
+    };
+    Some(walk.run)
+}
+
 // Writes the body that all that the cursor has left spells to an empty room, or answers nothing where anything is unclear.
 fn rewrite(
     profile: Profile,
@@ -364,16 +388,8 @@ fn rewrite(
 {
     out.clear();
     out.reserve(cursor.rest().len()).ok()?;
-    let mut walk = Walk {
-        cursor: cursor.ahead(),
-        run: cursor.rest(),
-    };
-    pass_locals(&mut walk, out)?;
-    pass_expr(profile, reader, &mut walk, out)?;
-    let Ok(()) = at_end(&walk.cursor) else {
-        return None;
-    };
-    write_run(out, walk.run, 0)?;
+    let run = walk_body(profile, reader, cursor, out)?;
+    write_run(out, run, 0)?;
     Some(())
 }
 
@@ -423,5 +439,38 @@ impl Scratch {
             return Ok(&self.written);
         }
         self.read_and_write(alloc, cursor, profile)
+    }
+
+    /// How many bytes the written form has of the one body that all that the cursor has left spells (5.5.13), without its size. The
+    /// body is read once and not kept; one that is refused is read again for its fault.
+    ///
+    /// Of a code that is its own written form nothing is copied. Of another one the room holds what is written up to its last integer
+    /// or empty else that is spelled longer than need be.
+    ///
+    /// # Errors
+    /// The first fault from left to right, which says that the bytes spell no body of the profile, or `Memory` at 0 where a growth
+    /// was refused.
+    pub fn written_len(
+        &mut self,
+        alloc: Global,
+        cursor: &Cursor<'_>,
+        profile: Profile,
+    ) -> Result<u32, ReadFault>
+        ensures exact { MatchResult result
+            (λ len. (b : BodyOf) × (all_body_at profile cursor.now.end cursor.now.rest ≡ Ok b) × (len ≡ length (written_body b)))
+            (λ e. FailsAs e e.kind (all_body_at profile cursor.now.end cursor.now.rest)) }
+        ensures fault { IfErr result (λ e. StandsOrMemory cursor.now e) }
+    {
+        // The proof asks what these say: no written form is longer than a code, and a code is no longer than a module may be.
+        reading_of_code();
+        written_form_of_code();
+        are_bytes(cursor.rest());
+        let _at = cursor.at();
+        self.written.clear();
+        if let Some(run) = walk_body(profile, &mut self.reader, cursor, &mut self.written) {
+            return Ok((self.written.len() + run.len()) as u32);
+        }
+        let written = self.read_and_write(alloc, cursor, profile)?;
+        Ok(written.len() as u32)
     }
 }
