@@ -36,6 +36,7 @@ mod plain;
 mod rows;
 mod shape;
 mod sheet;
+mod sketch;
 mod spaces;
 mod text;
 mod token;

@@ -12,6 +12,7 @@ use crate::fault::ListFault;
 use crate::headers::list_headers;
 use crate::page::flush;
 use crate::shape::Shape;
+use crate::sketch::Whole;
 use crate::uses::list_uses;
 use std::alloc::Global;
 use wk_bytes::Out;
@@ -43,8 +44,8 @@ fn list_part<S: Shape, W: Out>(
     ensures failures { W.failed out.new ≡ failed_after (W.failed out.old) result }
 {
     match part {
-        Part::Headers => list_headers(shape, text, out),
-        Part::Details => list_details(alloc, shape, text, out),
+        Part::Headers => list_headers(&Whole { shape }, text, out),
+        Part::Details => list_details(alloc, &Whole { shape }, text, out),
         Part::Code => list_code(shape, text, out),
         Part::Uses => list_uses(alloc, shape, text, out),
     }
