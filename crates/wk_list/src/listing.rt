@@ -4,7 +4,7 @@ ghost use Rattle.std.specs.Prelude.{◌≡◌, ◌<◌, ◌-◌, ◌^◌, ◌++�
 ghost use Rattle.std.specs.Io.KnownBytes.{Appends};
 ghost use Rattle.wk_bytes.specs.Taken.{TakesFront};
 ghost use Rattle.wk_list.specs.Taken.{Leaves, failed_after};
-ghost use Rattle.wk_list.specs.Listing.{listing};
+ghost use Rattle.wk_list.specs.Listing.{listing, lists_bodies};
 
 use crate::code::list_code;
 use crate::details::list_details;
@@ -28,6 +28,15 @@ pub enum Part {
     Code,
     /// What each function that the module defines refers to, with its own type.
     Uses,
+}
+
+impl Part {
+    /// Whether the part tells what stands in bodies: then the module has to be read with them.
+    pub fn lists_bodies(self) -> bool
+        ensures { result ≡ lists_bodies self }
+    {
+        matches!(self, Part::Code | Part::Uses)
+    }
 }
 
 // Gathers the lines of a part, and puts out those that are many.
