@@ -1,6 +1,7 @@
 //! Writes a code again while it is read once.
 
-ghost use Rattle.std.specs.Prelude.{◌≡◌, ◌+◌, ◌≤◌, ◌^◌, Bool, true, false, ◌++◌, ◌-◌, ◌∷◌, [], ℕ, List, length, take, Ok, IfErr, IfSome, MatchResult};
+ghost use Rattle.std.specs.Prelude.{◌≡◌, ◌+◌, ◌≤◌, ◌^◌, Bool, true, false, ◌++◌, ◌-◌, ◌∷◌, [], ℕ, List, length, take, Ok, IfErr, IfSome, MatchResult, OnOk};
+ghost use Rattle.wk_bytes.specs.Fault.{no_memory};
 ghost use Rattle.wk_bytes.specs.Stands.{StandsOrMemory};
 ghost use Rattle.wk_body.specs.declared.types.LocalGroup.{LocalGroup};
 ghost use Rattle.wk_body.specs.declared.walk.Walk.{Walk};
@@ -394,6 +395,18 @@ fn rewrite(
 }
 
 impl Scratch {
+    // Forgets what was written, and makes room to walk over a code of that length. The walk then wants no memory: what is written is no
+    // longer than the code, and opens no more blocks than it has bytes.
+    fn make_room(&mut self, len: usize) -> Result<(), ReadFault>
+        ensures empty { OnOk result (self.new.written.items ≡ []) }
+        ensures fault { IfErr result (λ e. e ≡ no_memory) }
+    {
+        self.written.clear();
+        self.written.reserve(len)?;
+        self.reader.make_room(len.min(MAX_DEPTH))?;
+        Ok(())
+    }
+
     // The written form of a body that is read whole first, in a room of its own: the first fault of reading is answered where there
     // is one.
     fn read_and_write(
@@ -430,11 +443,7 @@ impl Scratch {
             (λ e. FailsAs e e.kind (all_body_at profile cursor.now.end cursor.now.rest)) }
         ensures fault { IfErr result (λ e. StandsOrMemory cursor.now e) }
     {
-        // The walk then wants no memory: what is written is no longer than the code, and opens no more blocks than it has bytes.
-        let len = cursor.rest().len();
-        self.written.clear();
-        self.written.reserve(len)?;
-        self.reader.make_room(len.min(MAX_DEPTH))?;
+        self.make_room(cursor.rest().len())?;
         if rewrite(profile, &mut self.reader, cursor, &mut self.written).is_some() {
             return Ok(&self.written);
         }
@@ -444,8 +453,8 @@ impl Scratch {
     /// How many bytes the written form has of the one body that all that the cursor has left spells (5.5.13), without its size. The
     /// body is read once and not kept; one that is refused is read again for its fault.
     ///
-    /// Of a code that is its own written form nothing is copied. Of another one the room holds what is written up to its last integer
-    /// or empty else that is spelled longer than need be.
+    /// Of a code that is its own written form nothing is copied; of another one what stands up to its last integer or empty else that is
+    /// spelled longer than need be. There is room for all of it before it is read.
     ///
     /// # Errors
     /// The first fault from left to right, which says that the bytes spell no body of the profile, or `Memory` at 0 where a growth
@@ -466,7 +475,8 @@ impl Scratch {
         written_form_of_code();
         are_bytes(cursor.rest());
         let _at = cursor.at();
-        self.written.clear();
+        // As in `written_form`, the walk then wants no memory, so that one that is refused is told.
+        self.make_room(cursor.rest().len())?;
         if let Some(run) = walk_body(profile, &mut self.reader, cursor, &mut self.written) {
             return Ok((self.written.len() + run.len()) as u32);
         }

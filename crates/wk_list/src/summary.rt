@@ -53,8 +53,7 @@ impl<'a> Model for Summary<'a> {
 impl<'a> Summary<'a> {
     /// Reads the module of a profile that the bytes spell (5.5.15), as `read_in` of `wk_module` does, and keeps no body.
     ///
-    /// Each code is read once. The memory taken is that of the lists, of some 150 bytes for each body, and of the longest code that is
-    /// spelled longer than need be.
+    /// Each code is read once. The memory taken is that of the lists, of a stub and a number for each body, and room for the longest code.
     ///
     /// # Errors
     ///
