@@ -5,7 +5,8 @@ use Rattle.std.proofs.lemmas.List.{append-nil, take_all}
 use Rattle.std.proofs.lemmas.List.Concat.{flat_map-append}
 use Rattle.wk_bytes.specs.LebLaws.{IsBytes}
 use Rattle.wk_bytes.specs.Short.{short}
-use Rattle.wk_bytes.specs.Span.{u32_at}
+use Rattle.wk_bytes.specs.Frames.{limit}
+use Rattle.wk_bytes.specs.Span.{Span, u32_at}
 use Rattle.wk_body.specs.declared.types.Profile.{Profile}
 use Rattle.wk_body.specs.declared.types.LocalGroup.{LocalGroup}
 use Rattle.wk_body.specs.declared.types.ValType.{ValType}
@@ -14,6 +15,8 @@ use Rattle.wk_body.specs.ValTypes.{valtype_byte, valtype_at}
 use Rattle.wk_body.specs.Vectors.{written_vector}
 use Rattle.wk_body.specs.Bodies.{BodyOf}
 use Rattle.wk_body.specs.Tree.{Instrs}
+use Rattle.wk_body.specs.Meaning.{IsAllReadAs}
+use Rattle.wk_body.specs.Spelling.{SpellsBody}
 use Rattle.wk_body.specs.Written.{written_expr, written_group, written_body}
 use Rattle.wk_body.specs.Reading.{groups_at, expr_at, all_body_at}
 use Rattle.wk_body.specs.TokenReading.{local_groups_at}
@@ -80,12 +83,19 @@ locals_passed count groups out between after from mid to long p q =
       adds = subst (λ (n : ℕ). Adds (short n ++ flat_map written_group groups) out from after to) (sym long) (adds_then (short count) (flat_map written_group groups) out between after from mid to p.adds q.adds);
     }
 
-pub body_written : (profile : Profile) (groups : List LocalGroup) (t : Instrs) (empty between after out : List ℕ) (from mid to : Walk) → empty ≡ [] → from.run.now ≡ from.cursor.rest → Passes local_groups_at groups (written_vector written_group groups) empty from between mid
-    → Passes (expr_at profile) t (written_expr t) between mid after to → to.cursor.rest ≡ [] → out ≡ after ++ take (length to.run.now - 0) to.run.now → (b : BodyOf) × (all_body_at profile from.cursor.end from.cursor.rest ≡ Ok b) × (out ≡ written_body b)
-body_written profile groups t empty between after out from mid to none whole p q all is =
+pub body_walked : (profile : Profile) (groups : List LocalGroup) (t : Instrs) (empty between after : List ℕ) (from mid to : Walk) → empty ≡ [] → from.run.now ≡ from.cursor.rest → Passes local_groups_at groups (written_vector written_group groups) empty from between mid
+    → Passes (expr_at profile) t (written_expr t) between mid after to → to.cursor.rest ≡ [] → (b : BodyOf) × (all_body_at profile from.cursor.end from.cursor.rest ≡ Ok b) × (after ++ to.run.now ≡ written_body b)
+body_walked profile groups t empty between after from mid to none whole p q all =
     let there : expr_at profile from.cursor.end mid.cursor.rest ≡ Ok (t, []) = ap (λ (end : ℕ). expr_at profile end mid.cursor.rest) (sym p.same_end) ∙ q.is ∙ ap (λ (r : List ℕ). Ok (t, r)) all in
-    let bytes = written_vector written_group groups ++ written_expr t in
     let h = adds_then (written_vector written_group groups) (written_expr t) empty between after from mid to p.adds q.adds [] ([], whole, sym none ∙ sym (append-nil empty)) in
-    let taken : take (length to.run.now - 0) to.run.now ≡ to.run.now = take_all (length to.run.now - 0) to.run.now (omega arith) in
     let said : to.run.now ≡ h.0 = h.1 ∙ ap (λ (r : List ℕ). h.0 ++ r) all ∙ append-nil h.0 in
-    (record { groups = groups; instrs = t }, body_read profile from.cursor.end from.cursor.rest mid.cursor.rest groups t p.is there, is ∙ ap (λ (r : List ℕ). after ++ r) (taken ∙ said) ∙ sym h.2)
+    (record { groups = groups; instrs = t }, body_read profile from.cursor.end from.cursor.rest mid.cursor.rest groups t p.is there, ap (λ (r : List ℕ). after ++ r) said ∙ sym h.2)
+
+-- ... and the run behind what is written
+pub run_written : (run out after written : List ℕ) → out ++ run ≡ written → after ≡ out ++ take (length run - 0) run → after ≡ written
+run_written run out after written is more = more ∙ ap (λ (r : List ℕ). out ++ r) (take_all (length run - 0) run (omega arith)) ∙ is
+
+-- a written form is no longer than a code that spells it
+pub no_longer : (profile : Profile) (b : BodyOf) (code : Span) → IsBytes code.rest → code.end ≤ limit → length code.rest ≤ code.end → IsAllReadAs (SpellsBody profile) (all_body_at profile)
+    → ((bytes : List ℕ) → SpellsBody profile b bytes → length (written_body b) ≤ length bytes) → all_body_at profile code.end code.rest ≡ Ok b → length (written_body b) ≤ limit
+no_longer profile b code fits small within reading least is = omega (arith, least code.rest (reading.takes code.end code.rest b fits is), small, within)

@@ -1,6 +1,7 @@
 //! Writes a code again while it is read once.
 
-ghost use Rattle.std.specs.Prelude.{◌≡◌, ◌+◌, ◌≤◌, ◌^◌, Bool, true, false, ◌++◌, ◌-◌, ◌∷◌, [], ℕ, List, length, take, Ok, IfErr, IfSome, MatchResult};
+ghost use Rattle.std.specs.Prelude.{◌≡◌, ◌+◌, ◌≤◌, ◌^◌, Bool, true, false, ◌++◌, ◌-◌, ◌∷◌, [], ℕ, List, length, take, Ok, IfErr, IfSome, MatchResult, OnOk};
+ghost use Rattle.wk_bytes.specs.Fault.{no_memory};
 ghost use Rattle.wk_bytes.specs.Stands.{StandsOrMemory};
 ghost use Rattle.wk_body.specs.declared.types.LocalGroup.{LocalGroup};
 ghost use Rattle.wk_body.specs.declared.walk.Walk.{Walk};
@@ -18,13 +19,13 @@ ghost use Rattle.wk_body.specs.Shape.{depth_limit};
 
 use crate::brief::{MOST_BLOCKS, begins_brief, blocks_after, number_of};
 use crate::length::type_len;
-use crate::reader::{at_end, local_type};
+use crate::reader::{at_end, local_type, reading_of_code};
 use crate::reading::{MAX_DEPTH, are_bytes};
 use crate::scratch::Scratch;
 use crate::token_reader::TokenReader;
 use crate::types::{BlockType, Profile, ValType};
 use crate::walk::{Walk, write_run};
-use crate::writing::{append_body, put_type};
+use crate::writing::{append_body, put_type, written_form_of_code};
 use std::alloc::Global;
 use wk_bytes::{Cursor, ReadFault};
 
@@ -352,6 +353,30 @@ fn pass_locals(walk: &mut Walk<'_>, out: &mut Vec<u8>) -> Option<()>
     Some(())
 }
 
+// Walks over the body that all that the cursor has left spells, and writes it to an empty room but for the run that it answers; or
+// answers nothing where anything is unclear.
+fn walk_body<'a>(
+    profile: Profile,
+    reader: &mut TokenReader,
+    cursor: &Cursor<'a>,
+    out: &mut Vec<u8>,
+) -> Option<&'a [u8]>
+    requires { out.old.items ≡ [] }
+    ensures { IfSome result (λ run. (b : BodyOf)
+        × (all_body_at profile cursor.now.end cursor.now.rest ≡ Ok b) × (out.new.items ++ run.now ≡ written_body b)) }
+{
+    let mut walk = Walk {
+        cursor: cursor.ahead(),
+        run: cursor.rest(),
+    };
+    pass_locals(&mut walk, out)?;
+    pass_expr(profile, reader, &mut walk, out)?;
+    let Ok(()) = at_end(&walk.cursor) else {
+        return None;
+    };
+    Some(walk.run)
+}
+
 // Writes the body that all that the cursor has left spells to an empty room, or answers nothing where anything is unclear.
 fn rewrite(
     profile: Profile,
@@ -364,20 +389,24 @@ fn rewrite(
 {
     out.clear();
     out.reserve(cursor.rest().len()).ok()?;
-    let mut walk = Walk {
-        cursor: cursor.ahead(),
-        run: cursor.rest(),
-    };
-    pass_locals(&mut walk, out)?;
-    pass_expr(profile, reader, &mut walk, out)?;
-    let Ok(()) = at_end(&walk.cursor) else {
-        return None;
-    };
-    write_run(out, walk.run, 0)?;
+    let run = walk_body(profile, reader, cursor, out)?;
+    write_run(out, run, 0)?;
     Some(())
 }
 
 impl Scratch {
+    // Forgets what was written, and makes room to walk over a code of that length. The walk then wants no memory: what is written is no
+    // longer than the code, and opens no more blocks than it has bytes.
+    fn make_room(&mut self, len: usize) -> Result<(), ReadFault>
+        ensures empty { OnOk result (self.new.written.items ≡ []) }
+        ensures fault { IfErr result (λ e. e ≡ no_memory) }
+    {
+        self.written.clear();
+        self.written.reserve(len)?;
+        self.reader.make_room(len.min(MAX_DEPTH))?;
+        Ok(())
+    }
+
     // The written form of a body that is read whole first, in a room of its own: the first fault of reading is answered where there
     // is one.
     fn read_and_write(
@@ -414,14 +443,44 @@ impl Scratch {
             (λ e. FailsAs e e.kind (all_body_at profile cursor.now.end cursor.now.rest)) }
         ensures fault { IfErr result (λ e. StandsOrMemory cursor.now e) }
     {
-        // The walk then wants no memory: what is written is no longer than the code, and opens no more blocks than it has bytes.
-        let len = cursor.rest().len();
-        self.written.clear();
-        self.written.reserve(len)?;
-        self.reader.make_room(len.min(MAX_DEPTH))?;
+        self.make_room(cursor.rest().len())?;
         if rewrite(profile, &mut self.reader, cursor, &mut self.written).is_some() {
             return Ok(&self.written);
         }
         self.read_and_write(alloc, cursor, profile)
+    }
+
+    /// How many bytes the written form has of the one body that all that the cursor has left spells (5.5.13), without its size. The
+    /// body is read once and not kept; one that is refused is read again for its fault.
+    ///
+    /// Of a code that is its own written form nothing is copied; of another one what stands up to its last integer or empty else that is
+    /// spelled longer than need be. There is room for all of it before it is read.
+    ///
+    /// # Errors
+    /// The first fault from left to right, which says that the bytes spell no body of the profile, or `Memory` at 0 where a growth
+    /// was refused.
+    pub fn written_len(
+        &mut self,
+        alloc: Global,
+        cursor: &Cursor<'_>,
+        profile: Profile,
+    ) -> Result<u32, ReadFault>
+        ensures exact { MatchResult result
+            (λ len. (b : BodyOf) × (all_body_at profile cursor.now.end cursor.now.rest ≡ Ok b) × (len ≡ length (written_body b)))
+            (λ e. FailsAs e e.kind (all_body_at profile cursor.now.end cursor.now.rest)) }
+        ensures fault { IfErr result (λ e. StandsOrMemory cursor.now e) }
+    {
+        // The proof asks what these say: no written form is longer than a code, and a code is no longer than a module may be.
+        reading_of_code();
+        written_form_of_code();
+        are_bytes(cursor.rest());
+        let _at = cursor.at();
+        // As in `written_form`, the walk then wants no memory, so that one that is refused is told.
+        self.make_room(cursor.rest().len())?;
+        if let Some(run) = walk_body(profile, &mut self.reader, cursor, &mut self.written) {
+            return Ok((self.written.len() + run.len()) as u32);
+        }
+        let written = self.read_and_write(alloc, cursor, profile)?;
+        Ok(written.len() as u32)
     }
 }

@@ -9,7 +9,8 @@
 //! - [`read_body`], [`read_expr`], [`next_expr`] and their `_in` forms are the grammar of a profile (`SpellsBody`, `SpellsExpr` of
 //!   `specs/Spelling`), both ways, with the exact first fault of a reader on lists (`specs/Reading`), which stands. What is read
 //!   belongs to the profile (`IsOf`). [`Scratch`] does the same for one body after another in one room, and
-//!   [`Scratch::written_form`] lends the written form of the body that a code spells, without keeping it.
+//!   [`Scratch::written_form`] lends the written form of the body that a code spells, without keeping it; [`Scratch::written_len`] tells how
+//!   long it is, and copies nothing of a code that is its own written form.
 //! - [`TokenReader`] hands out the tokens of an expression one by one, and is seen as which blocks are open and the labels of the last
 //!   `br_table` (`specs/TokenReading`): `next` gives the token that stands at the front, or none at the end that closes no block, or
 //!   the token's fault. `open_block`, `close_block` and `part_block` tell it of a block whose opener, whose end or whose `else` the

@@ -1,5 +1,5 @@
 -- One line more of the code listing.
-use Rattle.std.proofs.Common.{◌≡◌, ℕ, ◌+◌, List, [], ◌∷◌, ◌++◌, length, Option, refl, ap, sym, subst, ◌∙◌, append-nil, arith}
+use Rattle.std.proofs.Common.{◌≡◌, ℕ, ◌+◌, List, [], ◌∷◌, ◌++◌, length, Option, ap, sym, subst, ◌∙◌, append-nil}
 use Rattle.std.proofs.lemmas.List.{nil_from_length}
 use Rattle.wk_bytes.specs.Taken.{TakesFront}
 use Rattle.wk_body.specs.declared.token.Token.{Token}

@@ -68,36 +68,32 @@ section_put m at id a b all t between lt so_far put =
     leaves_put a b all t (header_by m at (of_number id)) (behind m at id ++ later m (at + length (section_and_customs m id)) (id + 1)) between
     (subst (λ (r : List ℕ). Leaves a b all (t ++ r)) (later_is m at id lt) so_far) put
 
-pub section_taken : (p m : Parts) (at id middle after : ℕ) (a b c : Option (List ℕ)) (all t between new : List ℕ) → p ≡ m → id < 12
-    → Leaves a b all (t ++ later m at id) → between ≡ t ++ header_by p at (of_number id) → middle ≡ at + length (section_of p id)
+pub section_taken : (m : Parts) (at id middle after : ℕ) (a b c : Option (List ℕ)) (all t between new : List ℕ) → id < 12
+    → Leaves a b all (t ++ later m at id) → between ≡ t ++ header_by m at (of_number id) → middle ≡ at + length (section_of m id)
     → Leaves b c (between ++ placed custom_frame custom_header middle (customs_of id m.customs)) new → after ≡ middle + length (customs_at id m.customs)
     → Leaves a c all (new ++ later m after (id + 1))
-section_taken p m at id middle after a b c all t between new same lt so_far put ends listed end =
-    let put_m : between ≡ t ++ header_by m at (of_number id) = rw same at put in
-    let ends_m : middle ≡ at + length (section_of m id) = rw same at ends in
-    let end_m : after ≡ at + length (section_and_customs m id) = omega (arith, end, ends_m, length-append (section_of m id) (customs_at id m.customs)) in
-    let listed_m = subst (λ (n : ℕ). Leaves b c (between ++ placed custom_frame custom_header n (customs_of id m.customs)) new) ends_m listed in
+section_taken m at id middle after a b c all t between new lt so_far put ends listed end =
+    let end_m : after ≡ at + length (section_and_customs m id) = omega (arith, end, ends, length-append (section_of m id) (customs_at id m.customs)) in
+    let listed_m = subst (λ (n : ℕ). Leaves b c (between ++ placed custom_frame custom_header n (customs_of id m.customs)) new) ends listed in
     subst (λ (n : ℕ). Leaves a c all (new ++ later m n (id + 1))) (sym end_m)
-    (leaves_then a b c all between (behind m at id) (later m (at + length (section_and_customs m id)) (id + 1)) new (section_put m at id a b all t between lt so_far put_m) listed_m)
+    (leaves_then a b c all between (behind m at id) (later m (at + length (section_and_customs m id)) (id + 1)) new (section_put m at id a b all t between lt so_far put) listed_m)
 
-pub section_stopped : (p m : Parts) (at id middle : ℕ) (a b c : Option (List ℕ)) (all t between : List ℕ) → p ≡ m → id < 12
-    → Leaves a b all (t ++ later m at id) → between ≡ t ++ header_by p at (of_number id) → middle ≡ at + length (section_of p id)
+pub section_stopped : (m : Parts) (at id middle : ℕ) (a b c : Option (List ℕ)) (all t between : List ℕ) → id < 12
+    → Leaves a b all (t ++ later m at id) → between ≡ t ++ header_by m at (of_number id) → middle ≡ at + length (section_of m id)
     → TakesFront b c (between ++ placed custom_frame custom_header middle (customs_of id m.customs)) → TakesFront a c all
-section_stopped p m at id middle a b c all t between same lt so_far put ends stopped =
-    let put_m : between ≡ t ++ header_by m at (of_number id) = rw same at put in
-    let ends_m : middle ≡ at + length (section_of m id) = rw same at ends in
-    let stopped_m = subst (λ (n : ℕ). TakesFront b c (between ++ placed custom_frame custom_header n (customs_of id m.customs))) ends_m stopped in
-    stops_then a b c all between (behind m at id) (later m (at + length (section_and_customs m id)) (id + 1)) (section_put m at id a b all t between lt so_far put_m) stopped_m
+section_stopped m at id middle a b c all t between lt so_far put ends stopped =
+    let stopped_m = subst (λ (n : ℕ). TakesFront b c (between ++ placed custom_frame custom_header n (customs_of id m.customs))) ends stopped in
+    stops_then a b c all between (behind m at id) (later m (at + length (section_and_customs m id)) (id + 1)) (section_put m at id a b all t between lt so_far put) stopped_m
 
 -- ---- they stay within the limit
 
-pub section_fits : (p m : Parts) (at id : ℕ) → p ≡ m → id < 12 → at + length (flat_map (section_and_customs m) (drop id ids)) ≡ length (encoded m) → Fits m → at + length (section_of p id) ≤ limit
-section_fits p m at id same lt place fits = omega (arith, ap (λ (n : Parts). length (section_of n id)) same, length-ids m id lt, place, fits)
+pub section_fits : (m : Parts) (at id : ℕ) → id < 12 → at + length (flat_map (section_and_customs m) (drop id ids)) ≡ length (encoded m) → Fits m → at + length (section_of m id) ≤ limit
+section_fits m at id lt place fits = omega (arith, length-ids m id lt, place, fits)
 
-pub customs_fit : (p m : Parts) (at id middle : ℕ) → p ≡ m → id < 12 → at + length (flat_map (section_and_customs m) (drop id ids)) ≡ length (encoded m) → Fits m
-    → middle ≡ at + length (section_of p id) → middle + length (customs_at id m.customs) ≤ limit
-customs_fit p m at id middle same lt place fits ends = omega (arith, ap (λ (n : Parts). length (section_of n id)) same, length-ids m id lt, place, fits, ends)
+pub customs_fit : (m : Parts) (at id middle : ℕ) → id < 12 → at + length (flat_map (section_and_customs m) (drop id ids)) ≡ length (encoded m) → Fits m
+    → middle ≡ at + length (section_of m id) → middle + length (customs_at id m.customs) ≤ limit
+customs_fit m at id middle lt place fits ends = omega (arith, length-ids m id lt, place, fits, ends)
 
-pub place_after : (p m : Parts) (at id middle after : ℕ) → p ≡ m → id < 12 → at + length (flat_map (section_and_customs m) (drop id ids)) ≡ length (encoded m)
-    → middle ≡ at + length (section_of p id) → after ≡ middle + length (customs_at id m.customs) → after + length (flat_map (section_and_customs m) (drop (id + 1) ids)) ≡ length (encoded m)
-place_after p m at id middle after same lt place ends end = omega (arith, ap (λ (n : Parts). length (section_of n id)) same, length-ids m id lt, place, ends, end)
+pub place_after : (m : Parts) (at id middle after : ℕ) → id < 12 → at + length (flat_map (section_and_customs m) (drop id ids)) ≡ length (encoded m)
+    → middle ≡ at + length (section_of m id) → after ≡ middle + length (customs_at id m.customs) → after + length (flat_map (section_and_customs m) (drop (id + 1) ids)) ≡ length (encoded m)
+place_after m at id middle after lt place ends end = omega (arith, length-ids m id lt, place, ends, end)

@@ -2,9 +2,11 @@
 use Rattle.std.proofs.Common.{◌≡◌, ℕ, ◌+◌, ◌<◌, List, ◌++◌, Option, drop, ap, subst}
 use Rattle.std.specs.List.{flat_map}
 use Rattle.wk_bytes.specs.Taken.{TakesFront}
+use Rattle.wk_module.specs.declared.types.Custom.{Custom}
 use Rattle.wk_module.specs.declared.types.Parts.{Parts}
 use Rattle.wk_module.specs.Sections.{of_number}
 use Rattle.wk_module.specs.Writing.{ids}
+use Rattle.wk_list.specs.Sketches.{IsSketch}
 use Rattle.wk_list.specs.Taken.{Leaves}
 use Rattle.wk_list.specs.Headers.{customs_of}
 use Rattle.wk_list.specs.Details.{custom_details, details_by, details_of}
@@ -26,10 +28,10 @@ here : (m : Parts) (id : ℕ) (a b : Option (List ℕ)) (all t : List ℕ) → i
 here m id a b all t lt so_far = subst (λ (r : List ℕ). Leaves a b all (t ++ r)) (next m id lt) so_far
 
 -- one more section, and the customs behind it
-pub section_listed : (m p : Parts) (id : ℕ) (a b c d : Option (List ℕ)) (all t between new : List ℕ) → id < 12 → p ≡ m → Leaves a b all (t ++ details_from m id)
+pub section_listed : (m p : Parts) (id : ℕ) (a b c d : Option (List ℕ)) (all t between new : List ℕ) → id < 12 → IsSketch m p → Leaves a b all (t ++ details_from m id)
     → Leaves b c (t ++ details_by m (of_number id)) between → Leaves c d (between ++ customs_text p id) new → Leaves a d all (new ++ details_from m (id + 1))
 section_listed m p id a b c d all t between new lt same so_far section customs =
-    let behind : Leaves c d (between ++ customs_text m id) new = subst (λ (q : Parts). Leaves c d (between ++ customs_text q id) new) same customs in
+    let behind : Leaves c d (between ++ customs_text m id) new = subst (λ (cs : List Custom). Leaves c d (between ++ flat_map custom_details (customs_of id cs)) new) (ap (λ (q : Parts). q.customs) same.rest) customs in
     leaves_then a b d all t (details_of m id) (details_from m (id + 1)) new (here m id a b all t lt so_far)
     (leaves_both b c d t (details_by m (of_number id)) (customs_text m id) between new section behind)
 
@@ -39,9 +41,9 @@ section_stopped m id a b c all t lt so_far section =
     stops_then a b c all t (details_of m id) (details_from m (id + 1)) (here m id a b all t lt so_far) (stops_first b c t (details_by m (of_number id)) (customs_text m id) section)
 
 -- a fault in the customs behind it
-pub customs_stopped : (m p : Parts) (id : ℕ) (a b c d : Option (List ℕ)) (all t between : List ℕ) → id < 12 → p ≡ m → Leaves a b all (t ++ details_from m id)
+pub customs_stopped : (m p : Parts) (id : ℕ) (a b c d : Option (List ℕ)) (all t between : List ℕ) → id < 12 → IsSketch m p → Leaves a b all (t ++ details_from m id)
     → Leaves b c (t ++ details_by m (of_number id)) between → TakesFront c d (between ++ customs_text p id) → TakesFront a d all
 customs_stopped m p id a b c d all t between lt same so_far section customs =
-    let behind : TakesFront c d (between ++ customs_text m id) = subst (λ (q : Parts). TakesFront c d (between ++ customs_text q id)) same customs in
+    let behind : TakesFront c d (between ++ customs_text m id) = subst (λ (cs : List Custom). TakesFront c d (between ++ flat_map custom_details (customs_of id cs))) (ap (λ (q : Parts). q.customs) same.rest) customs in
     stops_then a b d all t (details_of m id) (details_from m (id + 1)) (here m id a b all t lt so_far)
     (stops_second b c d t (details_by m (of_number id)) (customs_text m id) between section behind)

@@ -17,6 +17,7 @@ pub mod SectionTexts
 pub mod Sections
 pub mod ShortTokens
 pub mod SizeSteps
+pub mod Summaries
 pub mod TakenLemmas
 pub mod Told
 pub mod Trees

@@ -1,9 +1,11 @@
 -- Sections as they stand in the written form and in the listing of headers: none without contents, and else one with its own id.
 use Rattle.std.proofs.Common.{◌≡◌, ℕ, ◌<◌, ◌==◌, Bool, true, false, if◌then◌else◌, Option, Some, None, List, [], ◌++◌, length, refl, sym, ap, ◌∙◌, arith, inl, inr, append_assoc, append-nil}
 use Rattle.std.specs.Prelude.{codes}
+use Rattle.std.proofs.lemmas.List.{length-map}
 use Rattle.std.proofs.lemmas.Bool.{cases_Bool, cond-true, cond-false, eqb-true}
 use Rattle.wk_bytes.specs.Short.{short}
 use Rattle.wk_bytes.specs.ShortLaws.{short-some}
+use Rattle.wk_module.specs.declared.types.Func.{Func}
 use Rattle.wk_module.specs.declared.types.Parts.{Parts}
 use Rattle.wk_module.specs.Sections.{SectionId, TypeSection, ImportSection, FunctionSection, TableSection, MemorySection, GlobalSection, ExportSection, StartSection, ElementSection, CodeSection, DataSection, number, of_number, ContentsOf, contents, is_full, written_contents}
 use Rattle.wk_module.specs.Shape.{lists_of}
@@ -11,7 +13,8 @@ use Rattle.wk_module.specs.Types.{written_functype, written_tabletype, written_l
 use Rattle.wk_module.specs.Items.{written_import, written_global, written_export, written_elem, written_code, written_data}
 use Rattle.wk_module.specs.Writing.{section_contents, section_by, contents_by}
 use Rattle.wk_module.specs.WritingLaws.{some_vector}
-use Rattle.wk_list.specs.Headers.{header_text, header_line, header_tail, header_by, tail_by, contents_start}
+use Rattle.wk_list.specs.Sketches.{IsSketch}
+use Rattle.wk_list.specs.Headers.{count_text, header_text, header_line, header_tail, header_by, tail_by, contents_start}
 
 -- no section that is written has empty contents
 some_contents : (k : SectionId) (x : ContentsOf k) → is_full k x ≡ true → 0 < length (written_contents k x)
@@ -92,3 +95,22 @@ section_line m id at size start t a b c long some is head behind end =
     line id at size start t (tail_by m (of_number id)) a b c is head behind end
     ∙ ap (λ (n : ℕ). t ++ header_line id at n (tail_by m (of_number id))) long
     ∙ ap (λ (x : List ℕ). t ++ x) (sym (header_some m at id (of_number id) refl (omega (arith, long, some))))
+
+-- ---- what stands behind the size tells nothing of bodies
+
+pub many_funcs : (m d : Parts) → IsSketch m d → length d.funcs ≡ length m.funcs
+many_funcs m d is = omega (arith, length-map d.funcs (λ (f : Func). f.ty), length-map m.funcs (λ (f : Func). f.ty), ap length is.types)
+
+pub tail_same : (m d : Parts) → IsSketch m d → (k : Option SectionId) → tail_by d k ≡ tail_by m k
+tail_same m d is None = refl
+tail_same m d is (Some FunctionSection) = ap count_text (many_funcs m d is)
+tail_same m d is (Some CodeSection) = ap count_text (many_funcs m d is)
+tail_same m d is (Some TypeSection) = ap (λ (p : Parts). header_tail p TypeSection) is.rest
+tail_same m d is (Some ImportSection) = ap (λ (p : Parts). header_tail p ImportSection) is.rest
+tail_same m d is (Some TableSection) = ap (λ (p : Parts). header_tail p TableSection) is.rest
+tail_same m d is (Some MemorySection) = ap (λ (p : Parts). header_tail p MemorySection) is.rest
+tail_same m d is (Some GlobalSection) = ap (λ (p : Parts). header_tail p GlobalSection) is.rest
+tail_same m d is (Some ExportSection) = ap (λ (p : Parts). header_tail p ExportSection) is.rest
+tail_same m d is (Some StartSection) = ap (λ (p : Parts). header_tail p StartSection) is.rest
+tail_same m d is (Some ElementSection) = ap (λ (p : Parts). header_tail p ElementSection) is.rest
+tail_same m d is (Some DataSection) = ap (λ (p : Parts). header_tail p DataSection) is.rest

@@ -3,6 +3,7 @@ pub mod Details
 pub mod FaultText
 pub mod Headers
 pub mod Listing
+pub mod Sketches
 pub mod Spaces
 pub mod Taken
 pub mod Text

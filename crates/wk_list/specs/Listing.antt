@@ -1,5 +1,5 @@
 -- The listings of a module.
-use Rattle.std.specs.Prelude.{ℕ, List}
+use Rattle.std.specs.Prelude.{ℕ, Bool, true, false, List}
 use Rattle.wk_module.specs.declared.types.Parts.{Parts}
 use Rattle.wk_list.specs.declared.listing.Part.{Part}
 use Rattle.wk_list.specs.declared.listing.Part.TheVariants.{Headers, Details, Code, Uses}
@@ -14,3 +14,10 @@ listing m Headers = headers_text m
 listing m Details = details_text m
 listing m Code = code_text m
 listing m Uses = uses_text m
+
+-- whether it tells what stands in bodies
+abbrev pub lists_bodies : Part → Bool
+lists_bodies Headers = false
+lists_bodies Details = false
+lists_bodies Code = true
+lists_bodies Uses = true

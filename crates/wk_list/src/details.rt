@@ -21,7 +21,7 @@ use crate::rows::{
     DataRows, ElemRows, ExportRows, FuncRows, GlobalRows, MemoryRows, TableRows, TypeRows,
     put_field, put_item,
 };
-use crate::shape::Shape;
+use crate::sketch::Sketch;
 use crate::spaces::count_of;
 use crate::text::{put_hex, put_indexed, put_name, put_number};
 use std::alloc::Global;
@@ -90,24 +90,24 @@ fn put_size(text: &mut Vec<u8>, index: u64, size: u32) -> Result<(), OutOfMemory
 }
 
 // The length of each code, of functions behind so many imported ones.
-fn list_sizes<S: Shape, W: Out>(
-    shape: &S,
+fn list_sizes<S: Sketch, W: Out>(
+    sketch: &S,
     imported: u32,
     text: &mut Vec<u8>,
     out: &mut W,
 ) -> Result<(), ListFault>
     requires room { W.failed out.old < 2 ^ 64 - 1 }
-    requires few { length (S.seen shape.now).funcs < 2 ^ 32 }
-    ensures ok { OnOk result (Leaves (W.taken out.old) (W.taken out.new) (text.old.items ++ numbered (λ n. code_size_line (imported + n)) 0 (S.seen shape.now).funcs) text.new.items) }
-    ensures err { OnErr result (TakesFront (W.taken out.old) (W.taken out.new) (text.old.items ++ numbered (λ n. code_size_line (imported + n)) 0 (S.seen shape.now).funcs)) }
+    requires few { length (S.seen sketch.now).funcs < 2 ^ 32 }
+    ensures ok { OnOk result (Leaves (W.taken out.old) (W.taken out.new) (text.old.items ++ numbered (λ n. code_size_line (imported + n)) 0 (S.seen sketch.now).funcs) text.new.items) }
+    ensures err { OnErr result (TakesFront (W.taken out.old) (W.taken out.new) (text.old.items ++ numbered (λ n. code_size_line (imported + n)) 0 (S.seen sketch.now).funcs)) }
     ensures failures { W.failed out.new ≡ failed_after (W.failed out.old) result }
 {
-    let count = shape.parts().funcs.len();
+    let count = sketch.parts().funcs.len();
     for index in 0..count {
         put_size(
             text,
             u64::from(imported) + index as u64,
-            shape.body_len(index),
+            sketch.body_len(index),
         )?;
         spill(text, out)?;
     }
@@ -115,25 +115,25 @@ fn list_sizes<S: Shape, W: Out>(
 }
 
 // The code section.
-fn list_code_group<S: Shape, W: Out>(
+fn list_code_group<S: Sketch, W: Out>(
     id: u8,
-    shape: &S,
+    sketch: &S,
     imported: u32,
     text: &mut Vec<u8>,
     out: &mut W,
 ) -> Result<(), ListFault>
     requires room { W.failed out.old < 2 ^ 64 - 1 }
-    requires few { length (S.seen shape.now).funcs < 2 ^ 32 }
-    ensures ok { OnOk result (Leaves (W.taken out.old) (W.taken out.new) (text.old.items ++ group id (λ n. code_size_line (imported + n)) (S.seen shape.now).funcs) text.new.items) }
-    ensures err { OnErr result (TakesFront (W.taken out.old) (W.taken out.new) (text.old.items ++ group id (λ n. code_size_line (imported + n)) (S.seen shape.now).funcs)) }
+    requires few { length (S.seen sketch.now).funcs < 2 ^ 32 }
+    ensures ok { OnOk result (Leaves (W.taken out.old) (W.taken out.new) (text.old.items ++ group id (λ n. code_size_line (imported + n)) (S.seen sketch.now).funcs) text.new.items) }
+    ensures err { OnErr result (TakesFront (W.taken out.old) (W.taken out.new) (text.old.items ++ group id (λ n. code_size_line (imported + n)) (S.seen sketch.now).funcs)) }
     ensures failures { W.failed out.new ≡ failed_after (W.failed out.old) result }
 {
-    let funcs = shape.parts().funcs.as_slice();
+    let funcs = sketch.parts().funcs.as_slice();
     if funcs.is_empty() {
         return Ok(());
     }
     put_heading(text, id, funcs.len())?;
-    list_sizes(shape, imported, text, out)
+    list_sizes(sketch, imported, text, out)
 }
 
 // The start section.
@@ -150,19 +150,19 @@ fn put_start(text: &mut Vec<u8>, start: Option<u32>) -> Result<(), OutOfMemory>
 }
 
 // The section of an id.
-fn list_section<S: Shape, W: Out>(
+fn list_section<S: Sketch, W: Out>(
     alloc: Global,
-    shape: &S,
+    sketch: &S,
     id: u8,
     text: &mut Vec<u8>,
     out: &mut W,
 ) -> Result<(), ListFault>
     requires room { W.failed out.old < 2 ^ 64 - 1 }
-    ensures ok { OnOk result (Leaves (W.taken out.old) (W.taken out.new) (text.old.items ++ details_by (S.seen shape.now) (of_number id)) text.new.items) }
-    ensures err { OnErr result (TakesFront (W.taken out.old) (W.taken out.new) (text.old.items ++ details_by (S.seen shape.now) (of_number id))) }
+    ensures ok { OnOk result (Leaves (W.taken out.old) (W.taken out.new) (text.old.items ++ details_by (S.seen sketch.now) (of_number id)) text.new.items) }
+    ensures err { OnErr result (TakesFront (W.taken out.old) (W.taken out.new) (text.old.items ++ details_by (S.seen sketch.now) (of_number id))) }
     ensures failures { W.failed out.new ≡ failed_after (W.failed out.old) result }
 {
-    let parts = shape.parts();
+    let parts = sketch.parts();
     let imports = parts.imports.as_slice();
     match id {
         1 => list_group(alloc, id, &TypeRows, parts.types.as_slice(), text, out),
@@ -214,7 +214,7 @@ fn list_section<S: Shape, W: Out>(
         7 => list_group(alloc, id, &ExportRows, parts.exports.as_slice(), text, out),
         8 => Ok(put_start(text, parts.start)?),
         9 => list_group(alloc, id, &ElemRows, parts.elems.as_slice(), text, out),
-        10 => list_code_group(id, shape, count_of(Kind::Func, imports), text, out),
+        10 => list_code_group(id, sketch, count_of(Kind::Func, imports), text, out),
         11 => list_group(alloc, id, &DataRows, parts.datas.as_slice(), text, out),
         _ => Ok(()),
     }
@@ -254,20 +254,20 @@ fn list_customs<W: Out>(
 }
 
 /// All sections, each with its items.
-pub(crate) fn list_details<S: Shape, W: Out>(
+pub(crate) fn list_details<S: Sketch, W: Out>(
     alloc: Global,
-    shape: &S,
+    sketch: &S,
     text: &mut Vec<u8>,
     out: &mut W,
 ) -> Result<(), ListFault>
     requires room { W.failed out.old < 2 ^ 64 - 1 }
-    ensures ok { OnOk result (Leaves (W.taken out.old) (W.taken out.new) (text.old.items ++ details_text (S.seen shape.now)) text.new.items) }
-    ensures err { OnErr result (TakesFront (W.taken out.old) (W.taken out.new) (text.old.items ++ details_text (S.seen shape.now))) }
+    ensures ok { OnOk result (Leaves (W.taken out.old) (W.taken out.new) (text.old.items ++ details_text (S.seen sketch.now)) text.new.items) }
+    ensures err { OnErr result (TakesFront (W.taken out.old) (W.taken out.new) (text.old.items ++ details_text (S.seen sketch.now))) }
     ensures failures { W.failed out.new ≡ failed_after (W.failed out.old) result }
 {
-    let parts = shape.parts();
+    let parts = sketch.parts();
     for id in 0..=LAST {
-        list_section(alloc, shape, id, text, out)?;
+        list_section(alloc, sketch, id, text, out)?;
         list_customs(&parts.customs, id, text, out)?;
     }
     Ok(())

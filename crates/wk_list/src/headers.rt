@@ -7,13 +7,15 @@ ghost use Rattle.wk_module.specs.Customs.{written_custom};
 ghost use Rattle.wk_module.specs.Sections.{of_number};
 ghost use Rattle.wk_module.specs.Shape.{lists_of};
 ghost use Rattle.wk_module.specs.Writing.{contents_by, section_of, customs_at};
+ghost use Rattle.wk_module.specs.declared.types.Parts.{Parts as Seen};
+ghost use Rattle.wk_list.specs.Sketches.{IsSketch};
 ghost use Rattle.wk_list.specs.Taken.{Leaves, failed_after};
 ghost use Rattle.wk_list.specs.Headers.{count_text, start_text, tail_by, header_by, custom_header, custom_frame, customs_of, placed, headers_text, contents_start};
 
 use crate::fault::ListFault;
 use crate::header::put_header;
 use crate::page::spill;
-use crate::shape::Shape;
+use crate::sketch::Sketch;
 use crate::text::{put_name, put_number};
 use wk_bytes::{Out, OutOfMemory, leb_len_u32};
 use wk_module::{Custom, Parts};
@@ -81,9 +83,9 @@ fn put_section(
     at: u32,
     size: u32,
 ) -> Result<(), OutOfMemory>
-    requires fits { at + length (section_of parts.now id) ≤ limit }
-    requires size { size ≡ length (contents_by (lists_of parts.now) (of_number id)) }
-    ensures { OnOk result (text.new.items ≡ text.old.items ++ header_by parts.now at (of_number id)) }
+    requires { (m : Seen) × (size ≡ length (contents_by (lists_of m) (of_number id))) × (at + length (section_of m id) ≤ limit) }
+    ensures { (m : Seen) → IsSketch m parts.now → size ≡ length (contents_by (lists_of m) (of_number id))
+        → OnOk result (text.new.items ≡ text.old.items ++ header_by m at (of_number id)) }
 {
     if size == 0 {
         return Ok(());
@@ -95,10 +97,9 @@ fn put_section(
 }
 
 /// Where the section of an id ends, which begins at an offset and has contents of that length.
-pub(crate) fn section_end(parts: &Parts, id: u8, at: u32, size: u32) -> u32
-    requires fits { at + length (section_of parts.now id) ≤ limit }
-    requires size { size ≡ length (contents_by (lists_of parts.now) (of_number id)) }
-    ensures { result ≡ at + length (section_of parts.now id) }
+pub(crate) fn section_end(id: u8, at: u32, size: u32) -> u32
+    requires { (m : Seen) × (size ≡ length (contents_by (lists_of m) (of_number id))) × (at + length (section_of m id) ≤ limit) }
+    ensures { (m : Seen) → size ≡ length (contents_by (lists_of m) (of_number id)) → result ≡ at + length (section_of m id) }
 {
     if size == 0 {
         return at;
@@ -120,24 +121,24 @@ fn put_custom(text: &mut Vec<u8>, custom: &Custom, at: u32, size: u32) -> Result
 }
 
 // The lines of the custom sections of a place, the first of which begins at an offset. Answers where they end.
-fn list_customs<S: Shape, W: Out>(
-    shape: &S,
+fn list_customs<S: Sketch, W: Out>(
+    sketch: &S,
     place: u8,
     at: u32,
     text: &mut Vec<u8>,
     out: &mut W,
 ) -> Result<u32, ListFault>
     requires room { W.failed out.old < 2 ^ 64 - 1 }
-    requires fits { at + length (customs_at place (S.seen shape.now).customs) ≤ limit }
-    ensures end { IfOk result (λ end. end ≡ at + length (customs_at place (S.seen shape.now).customs)) }
-    ensures ok { OnOk result (Leaves (W.taken out.old) (W.taken out.new) (text.old.items ++ placed custom_frame custom_header at (customs_of place (S.seen shape.now).customs)) text.new.items) }
-    ensures err { OnErr result (TakesFront (W.taken out.old) (W.taken out.new) (text.old.items ++ placed custom_frame custom_header at (customs_of place (S.seen shape.now).customs))) }
+    requires fits { at + length (customs_at place (S.seen sketch.now).customs) ≤ limit }
+    ensures end { IfOk result (λ end. end ≡ at + length (customs_at place (S.seen sketch.now).customs)) }
+    ensures ok { OnOk result (Leaves (W.taken out.old) (W.taken out.new) (text.old.items ++ placed custom_frame custom_header at (customs_of place (S.seen sketch.now).customs)) text.new.items) }
+    ensures err { OnErr result (TakesFront (W.taken out.old) (W.taken out.new) (text.old.items ++ placed custom_frame custom_header at (customs_of place (S.seen sketch.now).customs))) }
     ensures failures { W.failed out.new ≡ failed_after (W.failed out.old) result }
 {
     let mut next = at;
-    for (index, custom) in shape.parts().customs.as_slice().iter().enumerate() {
+    for (index, custom) in sketch.parts().customs.as_slice().iter().enumerate() {
         if custom.place == place {
-            let size = shape.custom_len(index);
+            let size = sketch.custom_len(index);
             put_custom(text, custom, next, size)?;
             spill(text, out)?;
             next = contents_start(next, size) + size;
@@ -147,23 +148,23 @@ fn list_customs<S: Shape, W: Out>(
 }
 
 /// The lines of all sections.
-pub(crate) fn list_headers<S: Shape, W: Out>(
-    shape: &S,
+pub(crate) fn list_headers<S: Sketch, W: Out>(
+    sketch: &S,
     text: &mut Vec<u8>,
     out: &mut W,
 ) -> Result<(), ListFault>
     requires room { W.failed out.old < 2 ^ 64 - 1 }
-    ensures ok { OnOk result (Leaves (W.taken out.old) (W.taken out.new) (text.old.items ++ headers_text (S.seen shape.now)) text.new.items) }
-    ensures err { OnErr result (TakesFront (W.taken out.old) (W.taken out.new) (text.old.items ++ headers_text (S.seen shape.now))) }
+    ensures ok { OnOk result (Leaves (W.taken out.old) (W.taken out.new) (text.old.items ++ headers_text (S.seen sketch.now)) text.new.items) }
+    ensures err { OnErr result (TakesFront (W.taken out.old) (W.taken out.new) (text.old.items ++ headers_text (S.seen sketch.now))) }
     ensures failures { W.failed out.new ≡ failed_after (W.failed out.old) result }
 {
-    let parts = shape.parts();
+    let parts = sketch.parts();
     let mut at = HEADER_LEN;
     for id in 0..=LAST {
-        let size = shape.section_len(id);
+        let size = sketch.section_len(id);
         put_section(text, parts, id, at, size)?;
-        at = section_end(parts, id, at, size);
-        at = list_customs(shape, id, at, text, out)?;
+        at = section_end(id, at, size);
+        at = list_customs(sketch, id, at, text, out)?;
     }
     Ok(())
 }

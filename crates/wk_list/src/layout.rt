@@ -11,7 +11,7 @@ use std::marker::Model;
 use wk_module::{EncodeFault, Measures, Module, Parts, measure};
 
 /// The id of the code section (5.5.2).
-const CODES: u8 = 10;
+pub(crate) const CODES: u8 = 10;
 
 /// A module that fits, with the lengths that a walk over its bodies tells. It is seen as the module.
 #[derive(Debug, Drop)]

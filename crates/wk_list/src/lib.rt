@@ -6,12 +6,14 @@
 //!   sections and codes, each tied to the written form. [`list`] is proved for every `Shape`. [`Plain`] is the one that counts lengths
 //!   from a module when they are asked for, without memory; [`Plain::of`] is nothing exactly where the module does not fit.
 //!   [`Layout`] measures each body once and keeps the sizes; [`Layout::of`] is refused where the module does not fit, or memory.
+//! - A [`Summary`] is a module that was read without its bodies, which were measured: [`Summary::read`] gives the module that the bytes
+//!   spell, or its first fault, as `read_in` of `wk_module` does. [`list_summary`] lists its headers and its details.
 //! - The text of a part (`listing` of `specs/Listing`) is a function of the module alone: `headers_text` (`specs/Headers`),
 //!   `details_text` (`specs/Details`), `code_text` (`specs/CodeText`) and `uses_text` (`specs/Uses`). Where a section begins in it is
 //!   said by the lengths of the written bytes in front. The code is said on the instruction tree, by recursion, with the depth and the
 //!   offset handed down; what stands in front of an instruction is counted by its written bytes.
-//! - [`list`] makes the `Out` take that text, or after a fault a beginning of it; it counts one failure more exactly where it answers
-//!   `Write`.
+//! - [`list`] and [`list_summary`] make the `Out` take that text, or after a fault a beginning of it; they count one failure more
+//!   exactly where they answer `Write`.
 //! - [`put_header`] appends the line of a section as far as its size (`header_text`), which `sections` of the program prints too.
 //!
 //! Nothing recurses over nested blocks: tokens are listed as they are kept. Text goes out in pieces, so that no part is held whole:
@@ -36,7 +38,9 @@ mod plain;
 mod rows;
 mod shape;
 mod sheet;
+mod sketch;
 mod spaces;
+mod summary;
 mod text;
 mod token;
 mod typetext;
@@ -48,3 +52,4 @@ pub use layout::Layout;
 pub use listing::{Part, list};
 pub use plain::Plain;
 pub use shape::Shape;
+pub use summary::{Summary, list_summary};

@@ -4,7 +4,7 @@ ghost use Rattle.std.specs.Prelude.{◌≡◌, ◌<◌, ◌-◌, ◌^◌, ◌++�
 ghost use Rattle.std.specs.Io.KnownBytes.{Appends};
 ghost use Rattle.wk_bytes.specs.Taken.{TakesFront};
 ghost use Rattle.wk_list.specs.Taken.{Leaves, failed_after};
-ghost use Rattle.wk_list.specs.Listing.{listing};
+ghost use Rattle.wk_list.specs.Listing.{listing, lists_bodies};
 
 use crate::code::list_code;
 use crate::details::list_details;
@@ -12,6 +12,7 @@ use crate::fault::ListFault;
 use crate::headers::list_headers;
 use crate::page::flush;
 use crate::shape::Shape;
+use crate::sketch::Whole;
 use crate::uses::list_uses;
 use std::alloc::Global;
 use wk_bytes::Out;
@@ -29,6 +30,15 @@ pub enum Part {
     Uses,
 }
 
+impl Part {
+    /// Whether the part tells what stands in bodies: then the module has to be read with them.
+    pub fn lists_bodies(self) -> bool
+        ensures { result ≡ lists_bodies self }
+    {
+        matches!(self, Part::Code | Part::Uses)
+    }
+}
+
 // Gathers the lines of a part, and puts out those that are many.
 fn list_part<S: Shape, W: Out>(
     alloc: Global,
@@ -43,8 +53,8 @@ fn list_part<S: Shape, W: Out>(
     ensures failures { W.failed out.new ≡ failed_after (W.failed out.old) result }
 {
     match part {
-        Part::Headers => list_headers(shape, text, out),
-        Part::Details => list_details(alloc, shape, text, out),
+        Part::Headers => list_headers(&Whole { shape }, text, out),
+        Part::Details => list_details(alloc, &Whole { shape }, text, out),
         Part::Code => list_code(shape, text, out),
         Part::Uses => list_uses(alloc, shape, text, out),
     }

@@ -140,3 +140,8 @@ codes_sized sizes bodies some is =
 pub sizes_of : (fs : List Func) → body_sizes fs ≡ map body_size (map (λ (f : Func). f.body) fs)
 sizes_of [] = refl
 sizes_of (f ∷ fs) = ap (λ (ns : List ℕ). body_size f.body ∷ ns) (sizes_of fs)
+
+-- the length of the code section by the sizes of bodies
+pub codes_len : (funcs : List Func) (lent sizes : List ℕ) (len : Option ℕ) → lent ≡ sizes → sizes ≡ body_sizes funcs
+    → ((bodies : List BodyOf) → lent ≡ map body_size bodies → len ≡ limited (length (section_contents CodeSection bodies))) → len ≡ limited (length (code_contents funcs))
+codes_len funcs lent sizes len same are told = told (map (λ (f : Func). f.body) funcs) (same ∙ (are ∙ sizes_of funcs))

@@ -1,4 +1,4 @@
--- What is read where each code stands aside, as the written form of its body.
+-- What is read where each code stands aside, as what is kept of its body.
 use Rattle.std.proofs.Common.{◌≡◌, ◌≢◌, ℕ, zero, suc, Bool, false, not, eqb, cond, List, [], ◌∷◌, length, map, max, Option, Some, None, Result, Ok, Err, refl, sym, ap, subst, ◌∙◌, inl, inr, slice_index_or, arith}
 use Rattle.std.proofs.lemmas.Bool.{ne_eqb}
 use Rattle.std.proofs.lemmas.List.{length-map}
@@ -23,7 +23,6 @@ use Rattle.wk_body.specs.ReadsLaws.{fails_on}
 use Rattle.wk_body.specs.Shape.{IsU32}
 use Rattle.wk_body.specs.Spelling.{SpellsBody}
 use Rattle.wk_body.specs.Vectors.{items_at}
-use Rattle.wk_body.specs.Written.{written_body}
 use Rattle.wk_module.specs.declared.types.Custom.{Custom}
 use Rattle.wk_module.specs.declared.types.Func.{Func}
 use Rattle.wk_module.specs.declared.types.Parts.{Parts}
@@ -91,19 +90,19 @@ nothing_before (Ok x) = refl
 nothing_before (Err e) = refl
 
 -- where the codes begin, they are read aside too
-opened_aside : (profile : Profile) (funcs end : ℕ) (bytes : List ℕ) (last : ℕ) (rest : List ℕ) → codes_at profile funcs end bytes ≡ items_at (code_at profile) funcs last rest → codes_aside_at profile funcs end bytes ≡ items_at (code_aside_at profile) funcs last rest
+opened_aside : {K : Type 0} (make : BodyOf → K) (profile : Profile) (funcs end : ℕ) (bytes : List ℕ) (last : ℕ) (rest : List ℕ) → codes_at profile funcs end bytes ≡ items_at (code_at profile) funcs last rest → codes_aside_at make profile funcs end bytes ≡ items_at (code_aside_at make profile) funcs last rest
 unfolding made_at
-opened_aside profile funcs end bytes last rest opened = rw opened (sym (made_items written_body (code_at profile) funcs last rest))
+opened_aside make profile funcs end bytes last rest opened = rw opened (sym (made_items make (code_at profile) funcs last rest))
 
 -- ... as a loop begins to read them
-pub opened_front : (profile : Profile) (funcs end : ℕ) (bytes : List ℕ) (count last : ℕ) (rest : List ℕ) (front : List (List ℕ)) → count ≡ funcs → front ≡ [] → codes_at profile funcs end bytes ≡ items_at (code_at profile) funcs last rest
-    → with_front front (items_at (code_aside_at profile) count last rest) ≡ codes_aside_at profile funcs end bytes
-opened_front profile funcs end bytes count last rest front all none opened =
-    rw (none, all) (nothing_before (items_at (code_aside_at profile) funcs last rest)) ∙ sym (opened_aside profile funcs end bytes last rest opened)
+pub opened_front : {K : Type 0} (make : BodyOf → K) (profile : Profile) (funcs end : ℕ) (bytes : List ℕ) (count last : ℕ) (rest : List ℕ) (front : List K) → count ≡ funcs → front ≡ [] → codes_at profile funcs end bytes ≡ items_at (code_at profile) funcs last rest
+    → with_front front (items_at (code_aside_at make profile) count last rest) ≡ codes_aside_at make profile funcs end bytes
+opened_front make profile funcs end bytes count last rest front all none opened =
+    rw (none, all) (nothing_before (items_at (code_aside_at make profile) funcs last rest)) ∙ sym (opened_aside make profile funcs end bytes last rest opened)
 
-pub not_opened : (profile : Profile) (funcs end : ℕ) (bytes : List ℕ) (e : ReadFault) → FailsAs e e.kind (codes_at profile funcs end bytes) → FailsAs e e.kind (all_at (codes_aside_at profile funcs) end bytes)
+pub not_opened : {K : Type 0} (make : BodyOf → K) (profile : Profile) (funcs end : ℕ) (bytes : List ℕ) (e : ReadFault) → FailsAs e e.kind (codes_at profile funcs end bytes) → FailsAs e e.kind (all_at (codes_aside_at make profile funcs) end bytes)
 unfolding made_at
-not_opened profile funcs end bytes e = fails_on e e.kind (codes_at profile funcs end bytes) (all_at (codes_aside_at profile funcs) end bytes) (λ bad. rw bad refl)
+not_opened make profile funcs end bytes e = fails_on e e.kind (codes_at profile funcs end bytes) (all_at (codes_aside_at make profile funcs) end bytes) (λ bad. rw bad refl)
 
 -- ---- one more section
 
@@ -115,24 +114,24 @@ fails_under : {A B : Type 0} (r : Result A ReadFault) (f : A → B) (e : ReadFau
 fails_under (Ok x) f e h = absurd cc
 fails_under (Err d) f e h = cc
 
-module _ (profile : Profile) (p : Progress) (s : Section) where
+module _ {K : Type 0} (make : BodyOf → K) (profile : Profile) (p : Progress) (s : Section) where
   -- what was read of all but the codes, with the codes that stand aside
-  abbrev beside : Progress → Underway
-  beside q = record { rest = q; codes = map written_body p.lists.codes }
+  abbrev beside : Progress → Underway K
+  beside q = record { rest = q; codes = map make p.lists.codes }
 
   abbrev StepsAside : Option SectionId → Type 0
-  StepsAside k = read_aside (section_by profile p s k) ≡ (section_by profile (without_codes p) s k >>= λ q. Ok (beside q))
+  StepsAside k = read_aside make (section_by profile p s k) ≡ (section_by profile (without_codes p) s k >>= λ q. Ok (beside q))
 
-  custom_aside : (r : Result Custom ReadFault) → ((r >>= λ c. Ok (with_custom p c)) >>= λ q. Ok (aside q)) ≡ ((r >>= λ c. Ok (with_custom (without_codes p) c)) >>= λ q. Ok (beside q))
+  custom_aside : (r : Result Custom ReadFault) → ((r >>= λ c. Ok (with_custom p c)) >>= λ q. Ok (aside make q)) ≡ ((r >>= λ c. Ok (with_custom (without_codes p) c)) >>= λ q. Ok (beside q))
   custom_aside (Ok c) = refl
   custom_aside (Err e) = refl
 
-  contents_aside : (k : SectionId) → ((x : ContentsOf k) → aside (with_lists k p x) ≡ beside (with_lists k (without_codes p) x)) → (r : Result (ContentsOf k) ReadFault)
-      → ((r >>= λ x. Ok (with_lists k p x)) >>= λ q. Ok (aside q)) ≡ ((r >>= λ x. Ok (with_lists k (without_codes p) x)) >>= λ q. Ok (beside q))
-  contents_aside k same (Ok x) = ap (λ (u : Underway). done u) (same x)
+  contents_aside : (k : SectionId) → ((x : ContentsOf k) → aside make (with_lists k p x) ≡ beside (with_lists k (without_codes p) x)) → (r : Result (ContentsOf k) ReadFault)
+      → ((r >>= λ x. Ok (with_lists k p x)) >>= λ q. Ok (aside make q)) ≡ ((r >>= λ x. Ok (with_lists k (without_codes p) x)) >>= λ q. Ok (beside q))
+  contents_aside k same (Ok x) = ap (λ (u : Underway K). done u) (same x)
   contents_aside k same (Err e) = refl
 
-  by_contents : (k : SectionId) → ((x : ContentsOf k) → aside (with_lists k p x) ≡ beside (with_lists k (without_codes p) x)) → StepsAside (Some k)
+  by_contents : (k : SectionId) → ((x : ContentsOf k) → aside make (with_lists k p x) ≡ beside (with_lists k (without_codes p) x)) → StepsAside (Some k)
   unfolding section_by
   by_contents k same = contents_aside k same (all_at (contents_at profile (length p.lists.funcs) k) (section_end s) s.contents)
 
@@ -155,13 +154,13 @@ module _ (profile : Profile) (p : Progress) (s : Section) where
   by_id (Some DataSection) other = by_contents DataSection (λ x. refl)
 
   -- a section that is not that of the codes, where the codes stand aside
-  pub steps_aside : s.id ≢ 10 → read_aside (with_section profile p s) ≡ (with_section profile (without_codes p) s >>= λ q. Ok (beside q))
+  pub steps_aside : s.id ≢ 10 → read_aside make (with_section profile p s) ≡ (with_section profile (without_codes p) s >>= λ q. Ok (beside q))
   steps_aside other = by_id (of_number s.id) (λ is. other (number-of_number s.id CodeSection is))
 
   -- a call that reads one so far as all but the codes go
-  pub reads_aside : {X : Type 0} (view : X → Progress) (r : Result X ReadFault) → s.id ≢ 10 → Reads view r (with_section profile (without_codes p) s) → Reads (λ x. beside (view x)) r (read_aside (with_section profile p s))
+  pub reads_aside : {X : Type 0} (view : X → Progress) (r : Result X ReadFault) → s.id ≢ 10 → Reads view r (with_section profile (without_codes p) s) → Reads (λ x. beside (view x)) r (read_aside make (with_section profile p s))
   reads_aside view (Ok x) other reads = steps_aside other ∙ rw reads refl
-  reads_aside view (Err e) other reads = fails_on e e.kind (with_section profile (without_codes p) s) (read_aside (with_section profile p s)) (λ bad. steps_aside other ∙ rw bad refl) reads
+  reads_aside view (Err e) other reads = fails_on e e.kind (with_section profile (without_codes p) s) (read_aside make (with_section profile p s)) (λ bad. steps_aside other ∙ rw bad refl) reads
 
   -- ---- the codes
 
@@ -172,80 +171,80 @@ module _ (profile : Profile) (p : Progress) (s : Section) where
   unfolding section_by
   codes_step r is codes = rw (is, codes) refl
 
-  some_made : (bodies : List BodyOf) → is_empty bodies ≡ is_empty (map written_body bodies)
+  some_made : (bodies : List BodyOf) → is_empty bodies ≡ is_empty (map make bodies)
   some_made [] = refl
   some_made (b ∷ bodies) = refl
 
   -- what was read, with those codes
-  abbrev pub with_written : List (List ℕ) → Underway
+  abbrev pub with_written : List K → Underway K
   with_written codes = record { rest = record (without_codes p) { place = cond (not (is_empty codes)) 10 p.place }; codes = codes }
 
-  pub codes_aside : (codes : List (List ℕ)) → s.id ≡ 10 → all_at (codes_aside_at profile (length p.lists.funcs)) (section_end s) s.contents ≡ Ok codes → read_aside (with_section profile p s) ≡ Ok (with_written codes)
+  pub codes_aside : (codes : List K) → s.id ≡ 10 → all_at (codes_aside_at make profile (length p.lists.funcs)) (section_end s) s.contents ≡ Ok codes → read_aside make (with_section profile p s) ≡ Ok (with_written codes)
   codes_aside codes is read =
-      let a = bound codes_read (map written_body) codes (sym (made_all (map written_body) (codes_at profile (length p.lists.funcs)) (section_end s) s.contents) ∙ read) in
-      let step : read_aside (with_section profile p s) ≡ Ok (aside (with_lists CodeSection p a.0)) = rw (codes_step (Ok a.0) is a.1) refl in
-      let place : aside (with_lists CodeSection p a.0) ≡ with_written (map written_body a.0) = ap (λ (none : Bool). record { rest = record (without_codes p) { place = cond (not none) 10 p.place }; codes = map written_body a.0 }) (some_made a.0) in
-      step ∙ ap (λ (u : Underway). done u) (place ∙ ap with_written a.2)
+      let a = bound codes_read (map make) codes (sym (made_all (map make) (codes_at profile (length p.lists.funcs)) (section_end s) s.contents) ∙ read) in
+      let step : read_aside make (with_section profile p s) ≡ Ok (aside make (with_lists CodeSection p a.0)) = rw (codes_step (Ok a.0) is a.1) refl in
+      let place : aside make (with_lists CodeSection p a.0) ≡ with_written (map make a.0) = ap (λ (none : Bool). record { rest = record (without_codes p) { place = cond (not none) 10 p.place }; codes = map make a.0 }) (some_made a.0) in
+      step ∙ ap (λ (u : Underway K). done u) (place ∙ ap with_written a.2)
 
-  pub codes_aside_fail : (e : ReadFault) → s.id ≡ 10 → FailsAs e e.kind (all_at (codes_aside_at profile (length p.lists.funcs)) (section_end s) s.contents) → FailsAs e e.kind (read_aside (with_section profile p s))
-  codes_aside_fail e is = fails_on e e.kind (all_at (codes_aside_at profile (length p.lists.funcs)) (section_end s) s.contents) (read_aside (with_section profile p s))
-      (λ bad. rw (codes_step (Err e) is (fails_under codes_read (map written_body) e (sym (made_all (map written_body) (codes_at profile (length p.lists.funcs)) (section_end s) s.contents) ∙ bad))) refl)
+  pub codes_aside_fail : (e : ReadFault) → s.id ≡ 10 → FailsAs e e.kind (all_at (codes_aside_at make profile (length p.lists.funcs)) (section_end s) s.contents) → FailsAs e e.kind (read_aside make (with_section profile p s))
+  codes_aside_fail e is = fails_on e e.kind (all_at (codes_aside_at make profile (length p.lists.funcs)) (section_end s) s.contents) (read_aside make (with_section profile p s))
+      (λ bad. rw (codes_step (Err e) is (fails_under codes_read (map make) e (sym (made_all (map make) (codes_at profile (length p.lists.funcs)) (section_end s) s.contents) ∙ bad))) refl)
 
   -- ... as a call answers it
-  pub section_beside : {X : Type 0} (view : X → Progress) (r : Result X ReadFault) (u : Underway) → u ≡ aside p → s.id ≢ 10 → Reads view r (with_section profile u.rest s) → Reads (λ x. record { rest = view x; codes = u.codes }) r (read_aside (with_section profile p s))
+  pub section_beside : {X : Type 0} (view : X → Progress) (r : Result X ReadFault) (u : Underway K) → u ≡ aside make p → s.id ≢ 10 → Reads view r (with_section profile u.rest s) → Reads (λ x. record { rest = view x; codes = u.codes }) r (read_aside make (with_section profile p s))
   section_beside view r u is other =
-      subst (λ (w : Underway). Reads view r (with_section profile w.rest s) → Reads (λ x. record { rest = view x; codes = w.codes }) r (read_aside (with_section profile p s))) (sym is) (reads_aside view r other)
+      subst (λ (w : Underway K). Reads view r (with_section profile w.rest s) → Reads (λ x. record { rest = view x; codes = w.codes }) r (read_aside make (with_section profile p s))) (sym is) (reads_aside view r other)
 
-  empty_by : (codes : List (List ℕ)) (n : ℕ) → n ≡ length codes → eqb n 0 ≡ is_empty codes
+  empty_by : (codes : List K) (n : ℕ) → n ≡ length codes → eqb n 0 ≡ is_empty codes
   empty_by [] n many = rw many refl
   empty_by (c ∷ codes) n many = rw many (ne_eqb (suc (length codes)) 0 (omega arith))
 
-  module _ (u : Underway) (q : Progress) (funcs : ℕ) (is : u ≡ aside p) (rest_is : q ≡ u.rest) (code : s.id ≡ 10) (funcs_are : funcs ≡ length q.lists.funcs) where
+  module _ (u : Underway K) (q : Progress) (funcs : ℕ) (is : u ≡ aside make p) (rest_is : q ≡ u.rest) (code : s.id ≡ 10) (funcs_are : funcs ≡ length q.lists.funcs) where
     same_rest : q ≡ without_codes p
-    same_rest = rest_is ∙ ap (λ (w : Underway). w.rest) is
+    same_rest = rest_is ∙ ap (λ (w : Underway K). w.rest) is
 
     same_funcs : funcs ≡ length p.lists.funcs
     same_funcs = funcs_are ∙ ap (λ (x : Progress). length x.lists.funcs) same_rest
 
-    pub section_made : (place n : ℕ) (none : Bool) (codes : List (List ℕ)) → place ≡ cond (not none) 10 q.place → none ≡ eqb n 0 → n ≡ length codes → all_at (codes_aside_at profile funcs) (section_end s) s.contents ≡ Ok codes
-        → read_aside (with_section profile p s) ≡ Ok (record { rest = record q { place = place }; codes = codes })
+    pub section_made : (place n : ℕ) (none : Bool) (codes : List K) → place ≡ cond (not none) 10 q.place → none ≡ eqb n 0 → n ≡ length codes → all_at (codes_aside_at make profile funcs) (section_end s) s.contents ≡ Ok codes
+        → read_aside make (with_section profile p s) ≡ Ok (record { rest = record q { place = place }; codes = codes })
     section_made place n none codes place_is none_is many read =
-        let read_it : all_at (codes_aside_at profile (length p.lists.funcs)) (section_end s) s.contents ≡ Ok codes = subst (λ (k : ℕ). all_at (codes_aside_at profile k) (section_end s) s.contents ≡ Ok codes) same_funcs read in
+        let read_it : all_at (codes_aside_at make profile (length p.lists.funcs)) (section_end s) s.contents ≡ Ok codes = subst (λ (k : ℕ). all_at (codes_aside_at make profile k) (section_end s) s.contents ≡ Ok codes) same_funcs read in
         let empty : is_empty codes ≡ none = sym (none_is ∙ empty_by codes n many) in
         let by_test : with_written codes ≡ record { rest = record (without_codes p) { place = cond (not none) 10 p.place }; codes = codes } = ap (λ (b : Bool). record { rest = record (without_codes p) { place = cond (not b) 10 p.place }; codes = codes }) empty in
         let by_rest : record { rest = record (without_codes p) { place = cond (not none) 10 p.place }; codes = codes } ≡ record { rest = record q { place = cond (not none) 10 q.place }; codes = codes } = ap (λ (x : Progress). record { rest = record x { place = cond (not none) 10 x.place }; codes = codes }) (sym same_rest) in
         let by_place : record { rest = record q { place = cond (not none) 10 q.place }; codes = codes } ≡ record { rest = record q { place = place }; codes = codes } = ap (λ (k : ℕ). record { rest = record q { place = k }; codes = codes }) (sym place_is) in
-        codes_aside codes code read_it ∙ ap (λ (w : Underway). done w) (by_test ∙ by_rest ∙ by_place)
+        codes_aside codes code read_it ∙ ap (λ (w : Underway K). done w) (by_test ∙ by_rest ∙ by_place)
 
-    pub section_fails : (e : ReadFault) → FailsAs e e.kind (all_at (codes_aside_at profile funcs) (section_end s) s.contents) → FailsAs e e.kind (read_aside (with_section profile p s))
-    section_fails e fails = codes_aside_fail e code (subst (λ (k : ℕ). FailsAs e e.kind (all_at (codes_aside_at profile k) (section_end s) s.contents)) same_funcs fails)
+    pub section_fails : (e : ReadFault) → FailsAs e e.kind (all_at (codes_aside_at make profile funcs) (section_end s) s.contents) → FailsAs e e.kind (read_aside make (with_section profile p s))
+    section_fails e fails = codes_aside_fail e code (subst (λ (k : ℕ). FailsAs e e.kind (all_at (codes_aside_at make profile k) (section_end s) s.contents)) same_funcs fails)
 
 -- ---- section after section
 
 -- Of the sections, some are read and the rest come next.
-pub record IsReadSo (profile : Profile) (left all : List (Result Section ReadFault)) (u : Underway) : Type 0 where
+pub record IsReadSo {K : Type 0} (make : BodyOf → K) (profile : Profile) (left all : List (Result Section ReadFault)) (u : Underway K) : Type 0 where
   pub so_far : Progress
-  pub is_aside : u ≡ aside so_far
+  pub is_aside : u ≡ aside make so_far
   pub reads : sections_read profile so_far left ≡ sections_read profile at_start all
   pub rise : (last : ℕ) × Rise last left
 
-pub begun : (profile : Profile) (b : List ℕ) (items : List (Result Section ReadFault)) (p : Progress) (codes : List (List ℕ)) → items ≡ sections_of b → p ≡ at_start → codes ≡ [] → IsReadSo profile items (sections_of b) (record { rest = p; codes = codes })
-begun profile b items p codes first new none = record {
+pub begun : {K : Type 0} (make : BodyOf → K) (profile : Profile) (b : List ℕ) (items : List (Result Section ReadFault)) (p : Progress) (codes : List K) → items ≡ sections_of b → p ≡ at_start → codes ≡ [] → IsReadSo make profile items (sections_of b) (record { rest = p; codes = codes })
+begun {K = K} make profile b items p codes first new none = record {
   so_far = at_start;
-  is_aside = ap (λ (q : Progress). record { rest = q; codes = codes }) new ∙ ap (λ (w : List (List ℕ)). record { rest = at_start; codes = w }) none;
+  is_aside = ap (λ (q : Progress). record { rest = q; codes = codes }) new ∙ ap (λ (w : List K). record { rest = at_start; codes = w }) none;
   reads = ap (λ (is : List (Result Section ReadFault)). sections_read profile at_start is) first;
   rise = subst (λ (is : List (Result Section ReadFault)). (last : ℕ) × Rise last is) (sym first) (some_rise b);
 }
 
-module _ (profile : Profile) (all : List (Result Section ReadFault)) where
+module _ {K : Type 0} (make : BodyOf → K) (profile : Profile) (all : List (Result Section ReadFault)) where
   abbrev whole : Result Progress ReadFault
   whole = sections_read profile at_start all
 
-  module _ (items left : List (Result Section ReadFault)) (u : Underway) (so : IsReadSo profile items all u) where
-    pub one_more : (s : Section) (v : Underway) → items ≡ Ok s ∷ left → read_aside (with_section profile so.so_far s) ≡ Ok v → IsReadSo profile left all v
+  module _ (items left : List (Result Section ReadFault)) (u : Underway K) (so : IsReadSo make profile items all u) where
+    pub one_more : (s : Section) (v : Underway K) → items ≡ Ok s ∷ left → read_aside make (with_section profile so.so_far s) ≡ Ok v → IsReadSo make profile left all v
     unfolding sections_read
     one_more s v first step =
-        let a = bound (with_section profile so.so_far s) aside v step in
+        let a = bound (with_section profile so.so_far s) (aside make) v step in
         let next : sections_read profile so.so_far items ≡ (with_section profile so.so_far s >>= λ q. sections_read profile q left) = ap (λ (is : List (Result Section ReadFault)). sections_read profile so.so_far is) first in
         record {
           so_far = a.0;
@@ -254,26 +253,26 @@ module _ (profile : Profile) (all : List (Result Section ReadFault)) where
           rise = let rise = subst (λ (is : List (Result Section ReadFault)). (last : ℕ) × Rise last is) first so.rise in (max rise.0 s.id, rise.1.1);
         }
 
-    stops_at : (e : ReadFault) → sections_read profile so.so_far items ≡ Err e → read_aside whole ≡ Err e
+    stops_at : (e : ReadFault) → sections_read profile so.so_far items ≡ Err e → read_aside make whole ≡ Err e
     stops_at e stop = rw (sym so.reads ∙ stop) refl
 
-    pub stopped : (s : Section) (e : ReadFault) → items ≡ Ok s ∷ left → FailsAs e e.kind (read_aside (with_section profile so.so_far s)) → FailsAs e e.kind (read_aside whole)
+    pub stopped : (s : Section) (e : ReadFault) → items ≡ Ok s ∷ left → FailsAs e e.kind (read_aside make (with_section profile so.so_far s)) → FailsAs e e.kind (read_aside make whole)
     unfolding sections_read
     stopped s e first =
-        fails_on e e.kind (read_aside (with_section profile so.so_far s)) (read_aside whole)
-        (λ bad. stops_at e (ap (λ (is : List (Result Section ReadFault)). sections_read profile so.so_far is) first ∙ ap (λ (r : Result Progress ReadFault). r >>= λ q. sections_read profile q left) (fails_under (with_section profile so.so_far s) aside e bad)))
+        fails_on e e.kind (read_aside make (with_section profile so.so_far s)) (read_aside make whole)
+        (λ bad. stops_at e (ap (λ (is : List (Result Section ReadFault)). sections_read profile so.so_far is) first ∙ ap (λ (r : Result Progress ReadFault). r >>= λ q. sections_read profile q left) (fails_under (with_section profile so.so_far s) (aside make) e bad)))
 
-    pub broken : (e : ReadFault) → items ≡ Err e ∷ left → FailsAs e e.kind (read_aside whole)
+    pub broken : (e : ReadFault) → items ≡ Err e ∷ left → FailsAs e e.kind (read_aside make whole)
     unfolding sections_read
     broken e first =
         let rise = subst (λ (is : List (Result Section ReadFault)). (last : ℕ) × Rise last is) first so.rise in
-        fair_fails e e.kind (read_aside whole) rise.1 (stops_at e (ap (λ (is : List (Result Section ReadFault)). sections_read profile so.so_far is) first))
+        fair_fails e e.kind (read_aside make whole) rise.1 (stops_at e (ap (λ (is : List (Result Section ReadFault)). sections_read profile so.so_far is) first))
 
-    pub finished : items ≡ [] → read_aside whole ≡ Ok u
+    pub finished : items ≡ [] → read_aside make whole ≡ Ok u
     unfolding sections_read
     finished first =
         let end : sections_read profile so.so_far items ≡ Ok so.so_far = ap (λ (is : List (Result Section ReadFault)). sections_read profile so.so_far is) first in
-        rw (sym so.reads ∙ end) (ap (λ (v : Underway). done v) (sym so.is_aside))
+        rw (sym so.reads ∙ end) (ap (λ (v : Underway K). done v) (sym so.is_aside))
 
 -- ---- the module
 
@@ -282,11 +281,11 @@ stubs_zipped [] bs e = refl
 stubs_zipped (t ∷ ts) [] e = absurd (omega arith)
 stubs_zipped (t ∷ ts) (b ∷ bs) e = ap (λ (rest : List Func). stub_of t ∷ rest) (stubs_zipped ts bs (omega arith))
 
-written_zipped : (ts : List ℕ) (bs : List BodyOf) → length ts ≡ length bs → map (λ f. written_body f.body) (zipped ts bs) ≡ map written_body bs
-written_zipped [] [] e = refl
-written_zipped [] (b ∷ bs) e = absurd (omega arith)
-written_zipped (t ∷ ts) [] e = absurd (omega arith)
-written_zipped (t ∷ ts) (b ∷ bs) e = ap (λ (rest : List (List ℕ)). written_body b ∷ rest) (written_zipped ts bs (omega arith))
+kept_zipped : {K : Type 0} (make : BodyOf → K) (ts : List ℕ) (bs : List BodyOf) → length ts ≡ length bs → map (λ f. make f.body) (zipped ts bs) ≡ map make bs
+kept_zipped make [] [] e = refl
+kept_zipped make [] (b ∷ bs) e = absurd (omega arith)
+kept_zipped make (t ∷ ts) [] e = absurd (omega arith)
+kept_zipped {K = K} make (t ∷ ts) (b ∷ bs) e = ap (λ (rest : List K). make b ∷ rest) (kept_zipped make ts bs (omega arith))
 
 module _ (profile : Profile) (end : ℕ) (p : Progress) where
   pub outline_made : (q r : Progress) (n : ℕ) (fs : List Func) → r ≡ q → q ≡ without_codes p → n ≡ length p.lists.codes → length r.lists.funcs ≡ n → fs ≡ map stub_of r.lists.funcs
@@ -378,32 +377,32 @@ module _ (profile : Profile) (b : List ℕ) (is : IsReading profile b (module_at
 
 -- ---- the whole of it
 
-module _ (profile : Profile) (b : List ℕ) where
+module _ {K : Type 0} (make : BodyOf → K) (profile : Profile) (b : List ℕ) where
   abbrev progress : Result Progress ReadFault
   progress = sections_read profile at_start (sections_of b)
 
-  pub sections_fail : (e : ReadFault) → FailsAs e e.kind (read_aside progress) → FailsAs e e.kind (module_at profile b)
+  pub sections_fail : (e : ReadFault) → FailsAs e e.kind (read_aside make progress) → FailsAs e e.kind (module_at profile b)
   unfolding module_at
-  sections_fail e = fails_on e e.kind (read_aside progress) (module_at profile b) (λ bad. rw (fails_under progress aside e bad) refl)
+  sections_fail e = fails_on e e.kind (read_aside make progress) (module_at profile b) (λ bad. rw (fails_under progress (aside make) e bad) refl)
 
   -- all that was read, where each code stands aside
-  pub record AreRead (u : Underway) : Type 0 where
+  pub record AreRead (u : Underway K) : Type 0 where
     pub so_far : Progress
     pub read : progress ≡ Ok so_far
     pub rest : u.rest ≡ without_codes so_far
-    pub codes : u.codes ≡ map written_body so_far.lists.codes
+    pub codes : u.codes ≡ map make so_far.lists.codes
     pub many : length u.codes ≡ length so_far.lists.codes
 
-  pub are_read : (u v : Underway) → v ≡ u → read_aside progress ≡ Ok u → AreRead v
+  pub are_read : (u v : Underway K) → v ≡ u → read_aside make progress ≡ Ok u → AreRead v
   are_read u v same e =
-      let a = bound progress aside u e in
-      let is : v ≡ aside a.0 = same ∙ sym a.2 in
+      let a = bound progress (aside make) u e in
+      let is : v ≡ aside make a.0 = same ∙ sym a.2 in
       record {
         so_far = a.0;
         read = a.1;
-        rest = ap (λ (w : Underway). w.rest) is;
-        codes = ap (λ (w : Underway). w.codes) is;
-        many = ap (λ (w : Underway). length w.codes) is ∙ length-map a.0.lists.codes written_body;
+        rest = ap (λ (w : Underway K). w.rest) is;
+        codes = ap (λ (w : Underway K). w.codes) is;
+        many = ap (λ (w : Underway K). length w.codes) is ∙ length-map a.0.lists.codes make;
       }
 
   together_is : (p : Progress) → progress ≡ Ok p → module_at profile b ≡ joined profile (length b) p
@@ -414,7 +413,7 @@ module _ (profile : Profile) (b : List ℕ) where
   abbrev IsTogether : Progress → ℕ → Result Parts ReadFault → Type 0
   IsTogether q n r = (p : Progress) → q ≡ without_codes p → n ≡ length p.lists.codes → Reads (λ d. d) r (read_outlined (joined profile (length b) p))
 
-  module _ (u : Underway) (r : AreRead u) (n : ℕ) (many : n ≡ length u.codes) where
+  module _ (u : Underway K) (r : AreRead u) (n : ℕ) (many : n ≡ length u.codes) where
     joined_by : (x : Result Parts ReadFault) → IsTogether u.rest n x → Reads (λ d. d) x (read_outlined (joined profile (length b) r.so_far))
     joined_by x together = together r.so_far r.rest (many ∙ r.many)
 
@@ -425,11 +424,11 @@ module _ (profile : Profile) (b : List ℕ) where
     pub joined_outlined : (d : Parts) → IsTogether u.rest n (Ok d) → read_outlined (module_at profile b) ≡ Ok d
     joined_outlined d together = rw (together_is r.so_far r.read) (joined_by (Ok d) together)
 
-    pub outline_is : (d m : Parts) → IsTogether u.rest n (Ok d) → m ≡ d → (o : Parts) × (module_at profile b ≡ Ok o) × (m ≡ outlined o) × (u.codes ≡ map (λ f. written_body f.body) o.funcs)
+    pub outline_is : (d m : Parts) → IsTogether u.rest n (Ok d) → m ≡ d → (o : Parts) × (module_at profile b ≡ Ok o) × (m ≡ outlined o) × (u.codes ≡ map (λ f. make f.body) o.funcs)
     outline_is d m together same =
         let a = bound (joined profile (length b) r.so_far) outlined d (joined_by (Ok d) together) in
         let j = joined_is profile (length b) r.so_far a.0 a.1 in
-        let codes : map (λ f. written_body f.body) a.0.funcs ≡ map written_body r.so_far.lists.codes = ap (λ (o : Parts). map (λ f. written_body f.body) o.funcs) (sym j.1) ∙ written_zipped r.so_far.lists.funcs r.so_far.lists.codes j.0 in
+        let codes : map (λ f. make f.body) a.0.funcs ≡ map make r.so_far.lists.codes = ap (λ (o : Parts). map (λ f. make f.body) o.funcs) (sym j.1) ∙ kept_zipped make r.so_far.lists.funcs r.so_far.lists.codes j.0 in
         (a.0, together_is r.so_far r.read ∙ a.1, same ∙ sym a.2, r.codes ∙ sym codes)
 
 -- ---- the stub

@@ -1,9 +1,9 @@
--- A module as it is read where each code stands aside, as the written form of its body.
+-- A module as it is read where each code stands aside, as what is kept of its body.
 use Rattle.std.specs.Prelude.{ℕ, List, [], map, Result, Ok}
 use Rattle.wk_bytes.specs.declared.fault.ReadFault.{ReadFault}
 use Rattle.wk_bytes.specs.Leb.{◌>>=◌}
 use Rattle.wk_body.specs.declared.types.Profile.{Profile}
-use Rattle.wk_body.specs.Written.{written_body}
+use Rattle.wk_body.specs.Bodies.{BodyOf}
 use Rattle.wk_module.specs.declared.types.Func.{Func}
 use Rattle.wk_module.specs.declared.types.Parts.{Parts}
 use Rattle.wk_module.specs.Formats.{Reader, made_at}
@@ -12,29 +12,32 @@ use Rattle.wk_module.specs.Outlines.{outlined, stub}
 use Rattle.wk_module.specs.Reading.{Progress}
 use Rattle.wk_module.specs.Sections.{codes_at}
 
--- what was read so far: all but the codes, and the written form of each code
-pub record Underway : Type 0 where
+-- what was read so far: all but the codes, and what is kept of each code
+pub record Underway (K : Type 0) : Type 0 where
   pub rest : Progress
-  pub codes : List (List ℕ)
+  pub codes : List K
+
+abbrev pub underway : {K : Type 0} → Progress → List K → Underway K
+underway rest codes = record { rest = rest; codes = codes }
 
 abbrev pub without_codes : Progress → Progress
 without_codes p = record p { lists = record p.lists { codes = [] } }
 
--- what was read so far, where each code stands aside
-abbrev pub aside : Progress → Underway
-aside p = record { rest = without_codes p; codes = map written_body p.lists.codes }
+-- what was read so far, where each code stands aside, as what is made of its body
+abbrev pub aside : {K : Type 0} → (BodyOf → K) → Progress → Underway K
+aside make p = record { rest = without_codes p; codes = map make p.lists.codes }
 
 -- ... or the first fault
-abbrev pub read_aside : Result Progress ReadFault → Result Underway ReadFault
-read_aside read = read >>= λ p. Ok (aside p)
+abbrev pub read_aside : {K : Type 0} → (BodyOf → K) → Result Progress ReadFault → Result (Underway K) ReadFault
+read_aside make read = read >>= λ p. Ok (aside make p)
 
--- a code, as the written form of its body
-abbrev pub code_aside_at : Profile → Reader (List ℕ)
-code_aside_at profile = made_at written_body (code_at profile)
+-- a code, as what is made of its body
+abbrev pub code_aside_at : {K : Type 0} → (BodyOf → K) → Profile → Reader K
+code_aside_at make profile = made_at make (code_at profile)
 
 -- the codes of a section, where that many functions were declared
-abbrev pub codes_aside_at : Profile → ℕ → Reader (List (List ℕ))
-codes_aside_at profile funcs = made_at (map written_body) (codes_at profile funcs)
+abbrev pub codes_aside_at : {K : Type 0} → (BodyOf → K) → Profile → ℕ → Reader (List K)
+codes_aside_at make profile funcs = made_at (map make) (codes_at profile funcs)
 
 -- a function of a type, with a stub in the place of its body
 abbrev pub stub_of : ℕ → Func

@@ -10,7 +10,7 @@ ghost use Rattle.wk_body.specs.Written.{written_body};
 ghost use Rattle.wk_module.specs.declared.types.Parts.{Parts as PartsOf};
 ghost use Rattle.wk_module.specs.Formats.{all_at};
 ghost use Rattle.wk_module.specs.Modules.{SpellsNone};
-ghost use Rattle.wk_module.specs.OutlineReading.{aside, code_aside_at, codes_aside_at, read_aside, read_outlined, stub_of, without_codes};
+ghost use Rattle.wk_module.specs.OutlineReading.{aside, code_aside_at, codes_aside_at, read_aside, read_outlined, stub_of, underway, without_codes};
 ghost use Rattle.wk_module.specs.Outlines.{outlined, stub};
 ghost use Rattle.wk_module.specs.Reading.{Progress, at_start, joined, module_at, section_end, sections_read, with_section};
 
@@ -19,9 +19,8 @@ use crate::reader::{SoFar, place_behind, reading_of_module};
 use crate::section_reader::{CODE, CodeReader};
 use crate::types::{Func, Parts};
 use std::alloc::Global;
-use std::marker::Model;
 use wk_body::{Body, Profile, Scratch, read_body_in};
-use wk_bytes::{Items, RawSection, ReadFault, ReadKind, Sections};
+use wk_bytes::{Cursor, Items, RawSection, ReadFault, ReadKind, Sections};
 
 /// A body that traps, without locals.
 const STUB: &[u8] = &[0x00, 0x00, 0x0B];
@@ -38,101 +37,134 @@ pub struct Outline {
     pub codes: Vec<Items<u8>>,
 }
 
-// What was read so far: all but the codes, and the written form of each.
-#[derive(Debug, Drop)]
-struct Underway {
-    so_far: SoFar,
-    written: Vec<Items<u8>>,
+/// What is kept of a body that is read, in the place of its tokens.
+pub(crate) trait Kept {
+    /// What that is.
+    type Item: Drop;
+
+    ghost use Rattle.std.specs.Prelude.{◌≡◌, Ok, MatchResult};
+    ghost use Rattle.wk_body.specs.Bodies.{BodyOf};
+    ghost use Rattle.wk_body.specs.Reading.{all_body_at};
+    ghost use Rattle.wk_body.specs.Reads.{FailsAs};
+
+    // What that is of a body.
+    ghost kept: { BodyOf → Self.Item };
+
+    /// What is kept of the body that all that the cursor has left spells.
+    fn read(
+        alloc: Global,
+        scratch: &mut Scratch,
+        profile: Profile,
+        code: &Cursor<'_>,
+    ) -> Result<Self::Item, ReadFault>
+        ensures { MatchResult result
+            (λ x. (b : BodyOf) × (all_body_at profile code.now.end code.now.rest ≡ Ok b) × (x ≡ kept b))
+            (λ e. FailsAs e e.kind (all_body_at profile code.now.end code.now.rest)) };
 }
 
-impl Model for Underway {
-    ghost use Rattle.std.specs.Coded.{codes};
-    ghost use Rattle.wk_body.specs.Bodies.{coded_body};
-    ghost use Rattle.wk_body.specs.TreeCode.{coded_instrs};
-    ghost use Rattle.wk_module.specs.OutlineReading.{Underway as Seen};
+// The written form.
+struct WrittenForm;
 
-    ghost Value = { Seen };
+impl Kept for WrittenForm {
+    type Item = Items<u8>;
 
-    ghost coded = { Prim.hlevel (codes, coded_instrs, coded_body) };
+    ghost use Rattle.wk_body.specs.Written.{written_body};
 
-    ghost view = { λ u. record { rest = u.so_far; codes = u.written.items } };
+    ghost kept = { written_body };
+
+    fn read(
+        alloc: Global,
+        scratch: &mut Scratch,
+        profile: Profile,
+        code: &Cursor<'_>,
+    ) -> Result<Items<u8>, ReadFault> {
+        let written = scratch.written_form(alloc, code, profile)?;
+        Ok(Items::from_vec(Vec::from_slice(alloc, written)?))
+    }
 }
 
-// The written form of the next code's body.
+// What is kept of the next code.
 #[tactic(auto, unfolding(crate::specs::Formats::made_at, crate::specs::Items::code_at))]
-fn next_written(
+fn next_kept<K: Kept>(
     alloc: Global,
     scratch: &mut Scratch,
     profile: Profile,
     codes: &mut CodeReader<'_>,
-) -> Result<Items<u8>, ReadFault>
-    ensures { Parses (λ x. x) (code_aside_at profile) codes.old result codes.new }
+) -> Result<K::Item, ReadFault>
+    ensures { Parses (λ x. x) (code_aside_at K.kept profile) codes.old result codes.new }
 {
     let code = codes.next_code()?;
-    let written = scratch.written_form(alloc, &code, profile)?;
-    Ok(Items::from_vec(Vec::from_slice(alloc, written)?))
+    K::read(alloc, scratch, profile, &code)
 }
 
-// The written form of each code of the code section, where that many functions were declared. Room for a few is made once the first is
+// What is kept of each code of the code section, where that many functions were declared. Room for a few is made once the first is
 // read; else it grows with the codes and not with the number.
 #[tactic(auto, using(crate::proofs::VectorReading::goes_on, crate::proofs::VectorReading::stops, crate::proofs::VectorReading::is_done, crate::proofs::Outlining::opened_front))]
-fn read_written(
+fn read_codes<K: Kept>(
     alloc: Global,
     scratch: &mut Scratch,
     profile: Profile,
     funcs: usize,
     section: &RawSection<'_>,
-) -> Result<Vec<Items<u8>>, ReadFault>
-    ensures { Reads (λ x. x.items) result (all_at (codes_aside_at profile funcs) (section_end (raw_view section.now)) section.now.contents.now) }
+) -> Result<Vec<K::Item>, ReadFault>
+    ensures { Reads (λ x. x.items) result (all_at (codes_aside_at K.kept profile funcs) (section_end (raw_view section.now)) section.now.contents.now) }
 {
     let mut codes = CodeReader::open(section, funcs)?;
-    let mut written = Vec::new(alloc);
+    let mut kept = Vec::new(alloc);
     for _ in 0..funcs {
-        let code = next_written(alloc, scratch, profile, &mut codes)?;
-        if written.is_empty() {
-            written.reserve(funcs.min(FIRST_ROOM))?;
+        let code = next_kept::<K>(alloc, scratch, profile, &mut codes)?;
+        if kept.is_empty() {
+            kept.reserve(funcs.min(FIRST_ROOM))?;
         }
-        written.push(code)?;
+        kept.push(code)?;
     }
     codes.end()?;
-    Ok(written)
+    Ok(kept)
 }
 
-// Of what was read so far nothing is said after a refusal.
-impl Underway {
-    // Reads one more section.
-    fn read_section(
-        &mut self,
-        alloc: Global,
-        scratch: &mut Scratch,
-        profile: Profile,
-        section: &RawSection<'_>,
-    ) -> Result<(), ReadFault>
-        ensures { (p : Progress) → self.old ≡ aside p → Reads (λ u. self.new) result (read_aside (with_section profile p (raw_view section.now))) }
-    {
-        if section.id != CODE {
-            return self.so_far.read_section(alloc, scratch, profile, section);
-        }
-        let funcs = self.so_far.indices.len();
-        self.written = read_written(alloc, scratch, profile, funcs, section)?;
-        self.so_far.place = place_behind(self.so_far.place, CODE, !self.written.is_empty());
-        Ok(())
+// Reads one more section. Of what was read so far nothing is said after a refusal.
+fn read_section<K: Kept>(
+    alloc: Global,
+    scratch: &mut Scratch,
+    profile: Profile,
+    section: &RawSection<'_>,
+    so_far: &mut SoFar,
+    kept: &mut Vec<K::Item>,
+) -> Result<(), ReadFault>
+    ensures { (p : Progress) → underway so_far.old kept.old.items ≡ aside K.kept p
+        → Reads (λ u. underway so_far.new kept.new.items) result (read_aside K.kept (with_section profile p (raw_view section.now))) }
+{
+    if section.id != CODE {
+        return so_far.read_section(alloc, scratch, profile, section);
     }
+    let funcs = so_far.indices.len();
+    *kept = read_codes::<K>(alloc, scratch, profile, funcs, section)?;
+    so_far.place = place_behind(so_far.place, CODE, !kept.is_empty());
+    Ok(())
 }
 
-// Section after section.
-fn read_sections(alloc: Global, bytes: &[u8], profile: Profile) -> Result<Underway, ReadFault>
-    ensures { Reads (λ u. u) result (read_aside (sections_read profile at_start (sections_of bytes.now))) }
+// Section after section: all but the codes, and what is kept of each.
+fn read_sections<K: Kept>(
+    alloc: Global,
+    bytes: &[u8],
+    profile: Profile,
+) -> Result<(SoFar, Vec<K::Item>), ReadFault>
+    ensures { Reads (λ u. underway u.0 u.1.items) result (read_aside K.kept (sections_read profile at_start (sections_of bytes.now))) }
 {
     let mut scratch = Scratch::new(alloc);
-    let mut underway = Underway {
-        so_far: SoFar::new(alloc, profile),
-        written: Vec::new(alloc),
-    };
+    let mut so_far = SoFar::new(alloc, profile);
+    let mut kept = Vec::new(alloc);
     for section in Sections::new(bytes) {
-        underway.read_section(alloc, &mut scratch, profile, &section?)?;
+        read_section::<K>(
+            alloc,
+            &mut scratch,
+            profile,
+            &section?,
+            &mut so_far,
+            &mut kept,
+        )?;
     }
-    Ok(underway)
+    Ok((so_far, kept))
 }
 
 // The body that stands in the place of each. Only memory may be wanting.
@@ -182,6 +214,29 @@ fn together(
     })
 }
 
+/// Reads a module of a profile without its bodies: a stub stands in the place of each, and something is kept of it.
+///
+/// # Errors
+///
+/// As [`read_outline`] says.
+pub(crate) fn read_apart<K: Kept>(
+    alloc: Global,
+    bytes: &[u8],
+    profile: Profile,
+) -> Result<(Module, Vec<K::Item>), ReadFault>
+    ensures exact { MatchResult result
+        (λ r. (m : PartsOf) × (module_at profile bytes.now ≡ Ok m) × (r.0 ≡ outlined m) × (r.1.items ≡ map (λ f. K.kept f.body) m.funcs))
+        (λ e. FailsAs e e.kind (module_at profile bytes.now)) }
+    ensures refused { IfErr result (λ e. e.kind ≢ ReadKind.Memory → SpellsNone profile bytes.now) }
+    ensures fault { IfErr result (λ e. StandsIn bytes.now e) }
+{
+    // The proof asks for what this says of modules.
+    reading_of_module(bytes, profile);
+    let (so_far, kept) = read_sections::<K>(alloc, bytes, profile)?;
+    let parts = together(alloc, profile, so_far, kept.len(), bytes.len() as u32)?;
+    Ok((Module::of(parts), kept))
+}
+
 /// Reads a module of a profile, as [`read_in`](crate::read_in) does, without keeping its bodies: each stands aside, as its written
 /// form, and a stub in its place.
 ///
@@ -198,12 +253,6 @@ pub fn read_outline(alloc: Global, bytes: &[u8], profile: Profile) -> Result<Out
     ensures refused { IfErr result (λ e. e.kind ≢ ReadKind.Memory → SpellsNone profile bytes.now) }
     ensures fault { IfErr result (λ e. StandsIn bytes.now e) }
 {
-    // The proof asks for what this says of modules.
-    reading_of_module(bytes, profile);
-    let Underway { so_far, written } = read_sections(alloc, bytes, profile)?;
-    let parts = together(alloc, profile, so_far, written.len(), bytes.len() as u32)?;
-    Ok(Outline {
-        module: Module::of(parts),
-        codes: written,
-    })
+    let (module, codes) = read_apart::<WrittenForm>(alloc, bytes, profile)?;
+    Ok(Outline { module, codes })
 }

@@ -1,16 +1,7 @@
-use Rattle.std.proofs.Common.{◌≡◌, [], ◌∙◌, sym, ap}
-use Rattle.wk_bytes.specs.Span.{Span}
-use Rattle.wk_body.specs.declared.walk.Walk.{Walk}
-use Rattle.wk_body.proofs.RewrittenBody.{body_written}
+use Rattle.wk_body.proofs.RewrittenBody.{run_written}
 use Rattle.wk_body.proofs.copying.rewrite.Goals as goal
 
 pub returns : goal.returns
 returns c =
-    let from : Walk = record { cursor = c.ahead.result; run = c.rest-2.result } in
-    let locals = c.in_ok-pass_locals.ensures in
-    let expr = c.in_ok-pass_expr.ensures in
-    let whole : c.rest-2.result.now ≡ c.ahead.result.rest = c.rest-2.ensures ∙ ap (λ (s : Span). s.rest) (sym c.ahead.ensures.same) in
-    let all : c.pass_expr.new.walk.cursor.rest ≡ [] = c.in-Ok.ensures in
-    rw (← c.ahead.ensures.same)
-    (body_written c.args.profile locals.0 expr.0 c.reserve.new.self.items c.pass_locals.new.out.items c.pass_expr.new.out.items c.write_run.new.out.items from c.pass_locals.new.walk c.pass_expr.new.walk
-    (c.reserve.ensures.items ∙ c.clear.ensures.items) whole locals.1 expr.1 all c.in_ok-write_run.ensures)
+    let walked = c.in_ok-run.ensures in
+    (walked.0, walked.1, run_written c.in_ok-run.run'.now c.walk_body.new.out.items _ _ walked.2 c.in_ok-write_run.ensures)

@@ -4,17 +4,17 @@ use Rattle.wk_bytes.specs.Taken.{TakesFront}
 use Rattle.wk_module.specs.declared.types.Parts.{Parts}
 use Rattle.wk_list.specs.Taken.{Leaves}
 use Rattle.wk_list.proofs.Offsets.{sections_fit, first_is, codes_fit, text_is}
-use Rattle.wk_list.proofs.SectionTexts.{few_imports, few_funcs}
+use Rattle.wk_list.proofs.SectionTexts.{few_imports, few_funcs, sketch_same}
 use Rattle.wk_list.proofs.code.list_code.Goals as goal
 
 pub count_of-imported-requires : goal.count_of-imported-requires
-count_of-imported-requires g c = few_imports (g.S.Shape.seen c.args.shape.now) c.parts-parts.result.now c.as_slice.result.now c.parts-parts.ensures.shaped c.parts-parts.ensures.value c.as_slice.ensures
+count_of-imported-requires g c = few_imports (g.S.Shape.seen c.args.shape.now) c.parts-parts.result.now c.as_slice.result.now c.parts-parts.ensures.shaped (sketch_same _ _ c.parts-parts.ensures.value) c.as_slice.ensures
 
 pub contents_start-contents-requires : goal.contents_start-contents-requires
 contents_start-contents-requires g c = omega (arith, c.code_start.ensures, sections_fit (g.S.Shape.seen c.args.shape.now) 10 (omega arith) c.parts-parts.ensures.fits)
 
 pub overflow_cast-len : goal.overflow_cast-len
-overflow_cast-len g c = omega (arith, few_funcs (g.S.Shape.seen c.args.shape.now) (g.S.Shape.seen c.args.shape.now) (g.S.Shape.seen c.args.shape.now).funcs c.parts-parts.ensures.shaped refl refl, c.len.ensures, ap (λ (m : Parts). length m.funcs) c.parts-parts.ensures.value)
+overflow_cast-len g c = omega (arith, few_funcs (g.S.Shape.seen c.args.shape.now) (g.S.Shape.seen c.args.shape.now) (g.S.Shape.seen c.args.shape.now).funcs c.parts-parts.ensures.shaped (sketch_same _ _ refl) refl, c.len.ensures, ap (λ (m : Parts). length m.funcs) c.parts-parts.ensures.value)
 
 pub overflow_add-first : goal.overflow_add-first
 overflow_add-first g c =
@@ -25,7 +25,7 @@ overflow_add-first g c =
     )
 
 pub list_entries-requires-clause-few : goal.list_entries-requires-clause-few
-list_entries-requires-clause-few g c = few_funcs (g.S.Shape.seen c.args.shape.now) (g.S.Shape.seen c.args.shape.now) (g.S.Shape.seen c.args.shape.now).funcs c.parts-parts.ensures.shaped refl refl
+list_entries-requires-clause-few g c = few_funcs (g.S.Shape.seen c.args.shape.now) (g.S.Shape.seen c.args.shape.now) (g.S.Shape.seen c.args.shape.now).funcs c.parts-parts.ensures.shaped (sketch_same _ _ refl) refl
 
 pub list_entries-requires-clause-fits : goal.list_entries-requires-clause-fits
 list_entries-requires-clause-fits g c =

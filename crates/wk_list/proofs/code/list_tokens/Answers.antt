@@ -2,7 +2,7 @@ use Rattle.std.proofs.Common.{◌++◌, ◌∙◌, refl, take, arith}
 use Rattle.std.proofs.lemmas.Result.{on_ok_weaker, on_err_weaker}
 use Rattle.wk_body.specs.Kept.{told}
 use Rattle.wk_list.proofs.CodeLoop.{line_more, line_stops, lines_end, lines_stop}
-use Rattle.wk_list.proofs.TakenLemmas.{on_err_known, stops_here}
+use Rattle.wk_list.proofs.TakenLemmas.{on_err_known}
 use Rattle.wk_list.proofs.Trees.{some_token}
 use Rattle.wk_list.proofs.code.list_tokens.Goals as goal
 

@@ -7,20 +7,20 @@ pub returns-in_err-list_section-clause-err : goal.returns-in_err-list_section-cl
 returns-in_err-list_section-clause-err g c =
     let lt : c.loop-id.id < 12 = omega arith in
     on_err_known c.from_residual.result (
-    section_stopped (g.S.Shape.seen c.args.shape.now) c.loop-id.id _ _ _ _ c.loop-id.text.items lt c.loop-id.invariant.so_far c.in_err-list_section.ensures.err)
+    section_stopped (g.S.Sketch.seen c.args.sketch.now) c.loop-id.id _ _ _ _ c.loop-id.text.items lt c.loop-id.invariant.so_far c.in_err-list_section.ensures.err)
 
 pub returns-in_err-list_customs-clause-err : goal.returns-in_err-list_customs-clause-err
 returns-in_err-list_customs-clause-err g c =
     let lt : c.loop-id.id < 12 = omega arith in
     on_err_known c.from_residual-in_err-list_customs.result (
-    customs_stopped (g.S.Shape.seen c.args.shape.now) c.parts-parts.result.now c.loop-id.id _ _ _ _ _ c.loop-id.text.items c.list_section.new.text.items lt c.parts-parts.ensures.value
+    customs_stopped (g.S.Sketch.seen c.args.sketch.now) c.parts-parts.result.now c.loop-id.id _ _ _ _ _ c.loop-id.text.items c.list_section.new.text.items lt c.parts-parts.ensures.value
     c.loop-id.invariant.so_far c.in_ok-list_section.ensures.ok c.in_err-list_customs.ensures.err)
 
 pub loop-id-preserved : goal.loop-id-preserved
 loop-id-preserved g c =
     let lt : c.loop-id.id < 12 = omega arith in
     record {
-      so_far = section_listed (g.S.Shape.seen c.args.shape.now) c.parts-parts.result.now c.loop-id.id _ _ _ _ _ c.loop-id.text.items c.list_section.new.text.items c.list_customs.new.text.items lt c.parts-parts.ensures.value
+      so_far = section_listed (g.S.Sketch.seen c.args.sketch.now) c.parts-parts.result.now c.loop-id.id _ _ _ _ _ c.loop-id.text.items c.list_section.new.text.items c.list_customs.new.text.items lt c.parts-parts.ensures.value
           c.loop-id.invariant.so_far c.in_ok-list_section.ensures.ok c.in_ok-list_customs.ensures.ok;
       failures = c.in_ok-list_customs.ensures.failures ∙ (c.in_ok-list_section.ensures.failures ∙ c.loop-id.invariant.failures);
     }

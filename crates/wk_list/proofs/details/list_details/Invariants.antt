@@ -7,6 +7,6 @@ use Rattle.wk_list.proofs.details.list_details.Given as goal
 
 abbrev pub invariant-loop-id : goal.invariant-loop-id
 invariant-loop-id g l = record {
-  so_far : Leaves (g.W.Out.taken l.fn.out) (g.W.Out.taken l.out) (l.fn.text.items ++ details_text (g.S.Shape.seen l.shape)) (l.text.items ++ flat_map (details_of (g.S.Shape.seen l.shape)) (drop l.id ids));
+  so_far : Leaves (g.W.Out.taken l.fn.out) (g.W.Out.taken l.out) (l.fn.text.items ++ details_text (g.S.Sketch.seen l.sketch)) (l.text.items ++ flat_map (details_of (g.S.Sketch.seen l.sketch)) (drop l.id ids));
   failures : g.W.Out.failed l.out ≡ g.W.Out.failed l.fn.out;
 }

@@ -15,8 +15,8 @@ returns-in_err-put_custom-clause-err g c =
 
 pub returns-in_err-spill-clause-err : goal.returns-in_err-spill-clause-err
 returns-in_err-spill-clause-err g c =
-    let cs = (g.S.Shape.seen c.args.shape.now).customs in
-    let items = c.as_slice-custom-items.ensures ∙ ap (λ (m : Parts). m.customs) c.parts.ensures.value in
+    let cs = (g.S.Sketch.seen c.args.sketch.now).customs in
+    let items = c.as_slice-custom-items.ensures ∙ ap (λ (m : Parts). m.customs) c.parts.ensures.value.rest in
     let within : c.loop-index.index < length cs = omega (arith, c.loop-index-test.true, ap length items) in
     let is : c.custom-item.result ≡ get_or cs c.loop-index.index c.custom-item.result = rw items at c.custom-item.is in
     on_err_known c.from_residual-in_err-spill.result
@@ -24,8 +24,8 @@ returns-in_err-spill-clause-err g c =
 
 pub loop-index-preserved : goal.loop-index-preserved
 loop-index-preserved g c =
-    let cs = (g.S.Shape.seen c.args.shape.now).customs in
-    let items = c.as_slice-custom-items.ensures ∙ ap (λ (m : Parts). m.customs) c.parts.ensures.value in
+    let cs = (g.S.Sketch.seen c.args.sketch.now).customs in
+    let items = c.as_slice-custom-items.ensures ∙ ap (λ (m : Parts). m.customs) c.parts.ensures.value.rest in
     let within : c.loop-index.index < length cs = omega (arith, c.loop-index-test.true, ap length items) in
     let is : c.custom-item.result ≡ get_or cs c.loop-index.index c.custom-item.result = rw items at c.custom-item.is in
     let custom = c.custom-item.result in

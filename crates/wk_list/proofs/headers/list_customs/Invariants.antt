@@ -7,8 +7,8 @@ use Rattle.wk_list.proofs.headers.list_customs.Given as goal
 abbrev pub invariant-loop-index : goal.invariant-loop-index
 invariant-loop-index g l = record {
   so_far : Leaves (g.W.Out.taken l.fn.out) (g.W.Out.taken l.out)
-      (l.fn.text.items ++ placed custom_frame custom_header l.fn.at (customs_of l.fn.place (g.S.Shape.seen l.fn.shape).customs))
-      (l.text.items ++ placed custom_frame custom_header l.next (customs_of l.fn.place (drop l.index (g.S.Shape.seen l.fn.shape).customs)));
+      (l.fn.text.items ++ placed custom_frame custom_header l.fn.at (customs_of l.fn.place (g.S.Sketch.seen l.fn.sketch).customs))
+      (l.text.items ++ placed custom_frame custom_header l.next (customs_of l.fn.place (drop l.index (g.S.Sketch.seen l.fn.sketch).customs)));
   failures : g.W.Out.failed l.out ≡ g.W.Out.failed l.fn.out;
-  place : l.next + length (customs_at l.fn.place (drop l.index (g.S.Shape.seen l.fn.shape).customs)) ≡ l.fn.at + length (customs_at l.fn.place (g.S.Shape.seen l.fn.shape).customs);
+  place : l.next + length (customs_at l.fn.place (drop l.index (g.S.Sketch.seen l.fn.sketch).customs)) ≡ l.fn.at + length (customs_at l.fn.place (g.S.Sketch.seen l.fn.sketch).customs);
 }

@@ -4,6 +4,6 @@ use Rattle.wk_list.proofs.Sections.{section_none}
 use Rattle.wk_list.proofs.headers.section_end.Goals as goal
 
 pub returns-then-size-eq0 : goal.returns-then-size-eq0
-returns-then-size-eq0 c =
-    let none = section_none c.args.parts.now (of_number c.args.id) (omega (arith, c.requires.size, c.if-size-eq0.true)) in
+returns-then-size-eq0 c = λ m long.
+    let none = section_none m (of_number c.args.id) (omega (arith, long, c.if-size-eq0.true)) in
     omega (arith, ap length none)

@@ -4,38 +4,39 @@ use Rattle.wk_bytes.specs.declared.fault.ReadFault.{ReadFault}
 use Rattle.wk_bytes.specs.declared.raw.RawSection.{RawSection}
 use Rattle.wk_bytes.specs.Frames.{sections_of}
 use Rattle.wk_bytes.specs.Raw.{raw_view, item_view}
+use Rattle.wk_module.specs.OutlineReading.{underway}
 use Rattle.wk_module.proofs.Outlining.{begun, one_more, stopped, broken, finished}
 use Rattle.wk_module.proofs.outline.read_sections.Goals as goal
 
 pub loop-section-init : goal.loop-section-init
-loop-section-init c = record {
+loop-section-init g c = record {
   can = tt;
   ends = tt;
-  so = begun c.args.profile c.args.bytes.now _ c.new.result c.new-2.result.items (c.into_iter-section-iterator.ensures.into_iter_gives ∙ c.new-section-items.ensures.items) c.new.ensures c.new-2.ensures.items;
+  so = begun g.K.Kept.kept c.args.profile c.args.bytes.now _ c.new-so_far.result c.new-kept.result.items (c.into_iter-section-iterator.ensures.into_iter_gives ∙ c.new-section-items.ensures.items) c.new-so_far.ensures c.new-kept.ensures.items;
 }
 
 pub returns-in_err-section : goal.returns-in_err-section
-returns-in_err-section c =
+returns-in_err-section g c =
     let p = err_from_is_err_and c.from_residual.result c.from_residual.ensures.1 in
     let first = c.in-Some.ensures.steps ∙ ap (λ (r : Result RawSection ReadFault). item_view r ∷ c.next.new.self) c.in_err-section.was in
-    rw (p.1, p.2) (broken c.args.profile (sections_of c.args.bytes.now) _ _ _ c.loop-section.invariant.so c.in_err-section.field-0.0 first)
+    rw (p.1, p.2) (broken g.K.Kept.kept c.args.profile (sections_of c.args.bytes.now) _ _ _ c.loop-section.invariant.so c.in_err-section.field-0.0 first)
 
 pub loop-section-preserved : goal.loop-section-preserved
-loop-section-preserved c =
+loop-section-preserved g c =
     let so = c.loop-section.invariant.so in
     let first = c.in-Some.ensures.steps ∙ ap (λ (r : Result RawSection ReadFault). item_view r ∷ c.next.new.self) c.in_ok-section.was in
     record {
       can = tt;
       ends = tt;
-      so = one_more c.args.profile (sections_of c.args.bytes.now) _ _ _ so (raw_view c.in_ok-section.field-0) c.read_section.new.self first (c.in_ok-read_section.ensures so.so_far so.is_aside);
+      so = one_more g.K.Kept.kept c.args.profile (sections_of c.args.bytes.now) _ _ _ so (raw_view c.in_ok-section.field-0) (underway c.read_section.new.so_far c.read_section.new.kept.items) first (c.in_ok-read_section.ensures so.so_far so.is_aside);
     }
 
 pub returns-in_err-read_section : goal.returns-in_err-read_section
-returns-in_err-read_section c =
+returns-in_err-read_section g c =
     let p = err_from_is_err_and c.from_residual-in_err-read_section.result c.from_residual-in_err-read_section.ensures.1 in
     let so = c.loop-section.invariant.so in
     let first = c.in-Some.ensures.steps ∙ ap (λ (r : Result RawSection ReadFault). item_view r ∷ c.next.new.self) c.in_ok-section.was in
-    rw (p.1, p.2) (stopped c.args.profile (sections_of c.args.bytes.now) _ _ _ so (raw_view c.in_ok-section.field-0) c.in_err-read_section.field-0.0 first (c.in_err-read_section.ensures so.so_far so.is_aside))
+    rw (p.1, p.2) (stopped g.K.Kept.kept c.args.profile (sections_of c.args.bytes.now) _ _ _ so (raw_view c.in_ok-section.field-0) c.in_err-read_section.field-0.0 first (c.in_err-read_section.ensures so.so_far so.is_aside))
 
 pub returns : goal.returns
-returns c = finished c.args.profile (sections_of c.args.bytes.now) _ [] _ c.loop-section.invariant.so c.in-None.ensures.steps.0
+returns g c = finished g.K.Kept.kept c.args.profile (sections_of c.args.bytes.now) _ [] _ c.loop-section.invariant.so c.in-None.ensures.steps.0

@@ -1,10 +1,11 @@
 use Rattle.wk_bytes.specs.Frames.{sections_of}
+use Rattle.wk_module.specs.OutlineReading.{underway}
 use Rattle.wk_module.proofs.Outlining.{IsReadSo}
 use Rattle.wk_module.proofs.outline.read_sections.Given as goal
 
 abbrev pub invariant-loop-section : goal.invariant-loop-section
-invariant-loop-section l = record {
-  can : (goal.iterator-loop-section).can_next l.section-iterator;
-  ends : (goal.iterator-loop-section).is_finite l.section-iterator;
-  so : IsReadSo l.profile l.section-iterator (sections_of l.bytes) l.underway;
+invariant-loop-section g l = record {
+  can : (goal.iterator-loop-section g).can_next l.section-iterator;
+  ends : (goal.iterator-loop-section g).is_finite l.section-iterator;
+  so : IsReadSo g.K.Kept.kept l.profile l.section-iterator (sections_of l.bytes) (underway l.so_far l.kept.items);
 }

@@ -1,0 +1,5 @@
+use Rattle.wk_list.proofs.Summaries.{is_sketch}
+use Rattle.wk_list.proofs.summary.SummarySketch.parts.Goals as goal
+
+pub returns-clause-value : goal.returns-clause-value
+returns-clause-value c = rw (← c.self.view_is) (is_sketch _ c.self.inside.skeleton.«module» _ c.parts.ensures.value c.self.invariant.lists)
