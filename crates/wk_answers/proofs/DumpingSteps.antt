@@ -1,11 +1,15 @@
 -- Listings, one behind the other.
-use Rattle.std.proofs.Common.{ℕ, ◌+◌, ◌<◌, Option, List, ◌++◌, length, get_or, drop, sym, ap, ◌∙◌, append_assoc}
+use Rattle.std.proofs.Common.{◌≡◌, ℕ, ◌+◌, ◌<◌, true, false, Option, List, ◌++◌, length, get_or, drop, sym, ap, ◌∙◌, inl, inr, append_assoc}
+use Rattle.std.proofs.lemmas.Bool.{cases_Bool}
 use Rattle.std.proofs.lemmas.List.{at_drop_more}
 use Rattle.std.specs.Prelude.{Result, Ok, Err, OnErr}
-use Rattle.std.specs.List.{flat_map}
+use Rattle.std.proofs.lemmas.List.Folds.{list_any_at}
+use Rattle.std.specs.List.{flat_map, list_any}
 use Rattle.std.specs.Io.KnownBytes.{Appends}
 use Rattle.wk_bytes.specs.Taken.{TakesFront}
 use Rattle.wk_bytes.specs.TakenLaws.{Appends-then}
+use Rattle.wk_list.specs.declared.listing.Part.{Part}
+use Rattle.wk_list.specs.Listing.{lists_bodies}
 use Rattle.wk_list.specs.Taken.{Leaves}
 
 pub on_err_known : {T E P : Type 0} (r : Result T E) → P → OnErr r P
@@ -34,3 +38,11 @@ some_taken text items i other a b c all within so_far p =
           ∙ sym (append_assoc so_far.0 p.0 (p.1 ++ later)),
       Appends-then a b c so_far.0 p.0 so_far.2 p.3,
     )
+
+-- each part tells nothing of bodies where none of them does
+pub no_bodies : (parts : List Part) (i : ℕ) (other : Part) → i < length parts → list_any lists_bodies parts ≡ false → lists_bodies (get_or parts i other) ≡ false
+no_bodies parts i other within none =
+    elim (cases_Bool (lists_bodies (get_or parts i other))) [
+      | inl t ↦ absurd (let some : true ≡ false = sym (list_any_at lists_bodies parts i other within t) ∙ none in cc)
+      | inr f ↦ f
+    ]

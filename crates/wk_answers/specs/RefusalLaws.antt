@@ -1,5 +1,5 @@
 -- What a refused reading says of what bytes spell.
-use Rattle.std.proofs.Common.{◌≡◌, ◌≢◌, Result, Ok, Err, refl}
+use Rattle.std.proofs.Common.{◌≡◌, ◌≢◌, Result, Err, refl}
 use Rattle.wk_bytes.specs.declared.fault.ReadKind.{ReadKind}
 use Rattle.wk_bytes.specs.declared.fault.ReadKind.TheVariants as kinds
 use Rattle.wk_bytes.specs.declared.fault.ReadFault.{ReadFault}
