@@ -82,12 +82,21 @@ pub on_read : (name : List ℕ) (answer : Parts → Answer) (read x : Result Par
     → read ≡ x → Goes (Gives name (on_module answer x)) old new p r → Goes (Gives name (on_module answer read)) old new p r
 on_read name answer read x old new p r is g = subst (λ (y : Result Parts ReadFault). Goes (Gives name (on_module answer y)) old new p r) (sym is) g
 
+-- ... where nothing more is asked
+pub gives_read : (name : List ℕ) (answer : Parts → Answer) (read x : Result Parts ReadFault) (p : Printing) (r : Result ℕ ProgramFault)
+    → read ≡ x → Gives name (on_module answer x) [] p r → Gives name (on_module answer read) [] p r
+gives_read name answer read x p r is gives = subst (λ (y : Result Parts ReadFault). Gives name (on_module answer y) [] p r) (sym is) gives
+
 -- the answer where none was read
+pub gives_refused : (name : List ℕ) (answer : Parts → Answer) (read : Result Parts ReadFault) (fault : ReadFault) (p : Printing) (r : Result ℕ ProgramFault)
+    → FailsAs fault fault.kind read → Refuses fault p r → Gives name (on_module answer read) [] p r
+gives_refused name answer read fault p r fails (inl full) = inr (inl full)
+gives_refused name answer read fault p r fails (inr (other, printed)) =
+    gives_read name answer read (Err fault) p r (other_fault fault fault.kind read other fails) (inl printed)
+
 pub on_refused : (name : List ℕ) (answer : Parts → Answer) (read : Result Parts ReadFault) (fault : ReadFault) (log : Option (List Event)) (p : Printing) (r : Result ℕ ProgramFault)
     → FailsAs fault fault.kind read → Refuses fault p r → Goes (Gives name (on_module answer read)) log log p r
-on_refused name answer read fault log p r fails (inl full) = ends (inr (inl full))
-on_refused name answer read fault log p r fails (inr (other, printed)) =
-    on_read name answer read (Err fault) log log p r (other_fault fault fault.kind read other fails) (ends (inl printed))
+on_refused name answer read fault log p r fails refuses = ends (gives_refused name answer read fault p r fails refuses)
 
 -- an edited module, its report and how the edits ended
 pub given_edited : (name : List ℕ) (o : Outcome) (out : Option (List ℕ)) (status : Status) (code : ℕ) (written report text : List ℕ) (old new : Option (List Event)) (p : Printing) (r : Result ℕ ProgramFault)

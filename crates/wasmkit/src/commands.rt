@@ -2,13 +2,16 @@
 //!
 //! `specs/Answers` says what each command makes of the files that it reads, and `specs/Runs` in which order they are read, what is
 //! saved, what is printed, and how it ends.
-ghost use Rattle.std.specs.Prelude.{◌≡◌, ◌⊎◌, ℕ, ◌-◌, ◌<◌, ◌^◌, if◌then◌else◌, [], option_map, Result, Ok, Err, IfOk, MatchResult};
+ghost use Rattle.std.specs.Prelude.{◌≡◌, ◌⊎◌, ℕ, ◌-◌, ◌<◌, ◌^◌, false, if◌then◌else◌, [], option_map, Result, Ok, Err, IfOk, MatchResult};
+ghost use Rattle.std.specs.List.{list_any};
+ghost use Rattle.wk_module.specs.Reading.{module_at};
 ghost use Rattle.wk_module.specs.Writing.{Fits};
+ghost use Rattle.wk_list.specs.Listing.{lists_bodies};
 ghost use Rattle.wk_edit.specs.Outcome.{outcome_of};
 ghost use Rattle.wasmkit.specs.declared.command.Asked.TheVariants as asks;
 ghost use Rattle.wasmkit.specs.declared.fault.ProgramFault.{ProgramFault as Fault};
 ghost use Rattle.wasmkit.specs.declared.store.StoreFault.{StoreFault as Why};
-ghost use Rattle.wasmkit.specs.Answers.{listed, saved_of, AreOf};
+ghost use Rattle.wasmkit.specs.Answers.{listed, on_module, saved_of, AreOf};
 ghost use Rattle.wasmkit.specs.Events.{Loaded, Saved, then_asked};
 ghost use Rattle.wasmkit.specs.Faults.{fault_status, IsOfLoad, IsOfSave};
 ghost use Rattle.wasmkit.specs.Runs.{printing, Carries, Exits, Gives, Goes, IsAnswered, Prints, Refuses, Saves};
@@ -19,10 +22,12 @@ use crate::command::{
 use crate::fault::ProgramFault;
 use crate::store::Store;
 use std::alloc::Global;
-use wk_answers::{Listing, Validation, list_parts, list_sections, validate};
+use wk_answers::{
+    Listing, Validation, list_bodies, list_parts, list_sections, list_summary_parts, validate,
+};
 use wk_bytes::{Out, OutOfMemory, ReadFault, ReadKind, Sink, put_all};
 use wk_edit::{Status, edit_owned, malformed_line};
-use wk_list::{Layout, Part};
+use wk_list::{Layout, Part, Summary};
 use wk_module::{EncodeFault, Module, Profile, read_in};
 use wk_strip::strip_bytes;
 
@@ -199,6 +204,59 @@ fn list_module<'a, X: Out>(
     Ok(0)
 }
 
+// Lists parts of a module whose bodies were not kept: they go out as they are worked out.
+fn list_summary<'a, X: Out>(
+    alloc: Global,
+    summary: &Summary<'_>,
+    parts: &[Part],
+    out: &mut X,
+) -> Result<u8, ProgramFault<'a>>
+    requires room { X.failed out.old < 2 ^ 64 - 1 }
+    requires parts { list_any lists_bodies parts.now ≡ false }
+    ensures { Gives [] (listed parts.now summary.now) []
+        (printing (X.taken out.old) (X.taken out.new) (X.failed out.old) (X.failed out.new)) result }
+{
+    list_summary_parts(alloc, summary, parts, out)?;
+    Ok(0)
+}
+
+// Lists parts of the module that the bytes spell, which is read with its bodies.
+fn list_whole<'a, X: Out>(
+    alloc: Global,
+    input: &[u8],
+    profile: Profile,
+    parts: &[Part],
+    out: &mut X,
+) -> Result<u8, ProgramFault<'a>>
+    requires { X.failed out.old < 2 ^ 64 - 1 }
+    ensures { Gives [] (on_module (listed parts.now) (module_at profile input.now)) []
+        (printing (X.taken out.old) (X.taken out.new) (X.failed out.old) (X.failed out.new)) result }
+{
+    match read_in(alloc, input, profile) {
+        Ok(module) => list_module(alloc, &module, parts, out),
+        Err(fault) => refuse_module(alloc, &fault, out),
+    }
+}
+
+// Lists parts of the module that the bytes spell, which tell nothing of what stands in its bodies: none of them is kept.
+fn list_without_bodies<'a, X: Out>(
+    alloc: Global,
+    input: &[u8],
+    profile: Profile,
+    parts: &[Part],
+    out: &mut X,
+) -> Result<u8, ProgramFault<'a>>
+    requires room { X.failed out.old < 2 ^ 64 - 1 }
+    requires parts { list_any lists_bodies parts.now ≡ false }
+    ensures { Gives [] (on_module (listed parts.now) (module_at profile input.now)) []
+        (printing (X.taken out.old) (X.taken out.new) (X.failed out.old) (X.failed out.new)) result }
+{
+    match Summary::read(alloc, input, profile) {
+        Ok(summary) => list_summary(alloc, &summary, parts, out),
+        Err(fault) => refuse_module(alloc, &fault, out),
+    }
+}
+
 // Lists parts of the module of a file.
 fn run_objdump<'a, S: Store, X: Out>(
     alloc: Global,
@@ -216,9 +274,10 @@ fn run_objdump<'a, S: Store, X: Out>(
         file,
     } = command;
     let input = load(store, file)?;
-    match read_in(alloc, &input, profile) {
-        Ok(module) => list_module(alloc, &module, &parts, out),
-        Err(fault) => refuse_module(alloc, &fault, out),
+    if list_bodies(&parts) {
+        list_whole(alloc, &input, profile, &parts, out)
+    } else {
+        list_without_bodies(alloc, &input, profile, &parts, out)
     }
 }
 
