@@ -53,7 +53,10 @@ def try_written(commands, data, line):
     same("strip what was written", commands.strip(written), (0, "", bare))
     same("strip by a script", edit(commands, data, ["strip"])[2], bare)
     same("no edits of what was stripped", edit(commands, bare, []), ([], line, bare))
-    same("objdump", commands.objdump(data, PARTS), commands.objdump(written, PARTS))
+    listed = commands.objdump(data, PARTS)
+    same("objdump", listed, commands.objdump(written, PARTS))
+    status, text = commands.objdump(data, PARTS[:2])
+    same("headers and details alone", (status, text), (listed[0], listed[1][: len(text)]))
     headers = HEADER.findall(commands.objdump(data, PARTS[:1])[1])
     same("headers", headers, HEADER.findall(commands.sections(written)[1]))
 

@@ -31,6 +31,9 @@ from samples import (
     OF_MOST_KINDS,
     OF_TWO_RESULTS,
     ONE_TYPE,
+    PADDED,
+    PADDED_DETAILS,
+    PADDED_HEADERS,
     SCRIPT,
     UNKNOWN_LAST,
     UNREAD,
@@ -86,6 +89,7 @@ WIDE_REPORT = ALL_OK + b"invalid " + WIDE_TABLES
 WIDE_KEPT_REPORT = KEPT_REPORT.replace(TABLES, WIDE_TABLES).replace(MEMORIES, WIDE_MEMORIES)
 INVALID = b"1 ok\ninvalid V1 TypeArity at section 1 item 3\n"
 MALFORMED = b"malformed R6 UnknownSection at 0x00000008\n"
+BAD_CODE = b"malformed R11 UnknownOpcode at 0x00000028\n"
 BAD_SCRIPT = b"script S1 BadWord line 2\n"
 OF_CUSTOMS = b"custom set second 00ff\ncustom set new -\nstrip\ncustom set x:c3a9 07\n"
 CUSTOMS_REPORT = b"1 ok\n2 ok\n3 ok\n4 ok\nvalid\n"
@@ -146,6 +150,15 @@ COMMANDS = [
         HEADERS + USES,
         pieces=(HEADERS,),
     ),
+    Command(
+        "objdump of headers and details of padded codes",
+        [*OBJDUMP, "--headers", "--details"],
+        {"in.wasm": PADDED},
+        0,
+        PADDED_HEADERS + PADDED_DETAILS,
+        pieces=(PADDED_HEADERS,),
+    ),
+    Command("objdump of a malformed code behind a padded one", OBJDUMP, {"in.wasm": PADDED[:-1] + b"\x06"}, 2, BAD_CODE),
     Command(
         "objdump in the other profile",
         [*OBJDUMP, "--code", "--uses", "--extended"],

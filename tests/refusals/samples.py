@@ -143,6 +143,25 @@ EXTENDED_CODE = b"""func[0] type=0:
  00000023: end
 """
 EXTENDED_USES = b"func[0]: type[0] type[1]\n"
+# A module of two codes: the first spells its size, its counts, an integer and an empty else longer than need be. What is listed of it.
+PADDED = HEADER + (
+    b"\x01\x04\x01\x60\x00\x00"
+    b"\x03\x03\x02\x00\x00"
+    b"\x0a\x14\x02\x8e\x00\x81\x00\x82\x80\x00\x7f\x41\x80\x00\x04\x40\x05\x0b\x0b\x02\x00\x0b"
+)
+PADDED_HEADERS = b"""    Type start=0x0000000a end=0x0000000e size=0x00000004 count=1
+Function start=0x00000010 end=0x00000013 size=0x00000003 count=2
+    Code start=0x00000015 end=0x00000023 size=0x0000000e count=2
+"""
+PADDED_DETAILS = b"""Type[1]:
+ - type[0] ()->()
+Function[2]:
+ - func[0] type=0
+ - func[1] type=0
+Code[2]:
+ - func[0] size=9
+ - func[1] size=2
+"""
 UNKNOWN_LAST = b"malformed R6 UnknownSection at 0x00000042\n"
 UNREAD = b"cannot read in.wasm\n"
 BAD_WORDS = b"bad command line\n"

@@ -22,11 +22,14 @@ const ITEM_WEIGHT: usize = 64;
 /// For how many bytes of codes a byte of a list stands, most of all in an element segment, where it is an index.
 const BYTE_WEIGHT: usize = 3;
 
+/// How many bytes of data segments stand for a byte of codes: they are copied once more.
+const DATA_BYTES: usize = 4;
+
 /// At how many sections is looked: all kinds of them, and some custom ones.
 const LOOKED_AT: usize = 32;
 
 // What a draft of a section takes more than a session over it, as so many bytes of codes, of which a draft spares as much. It is told by the
-// length and the count. A data segment's bytes are only copied.
+// length and the count.
 fn weight_of(section: &RawSection<'_>) -> usize {
     let count = match section.cursor().u32() {
         Ok(count) => count as usize,
@@ -38,7 +41,7 @@ fn weight_of(section: &RawSection<'_>) -> usize {
         CUSTOM | START => 0,
         FUNCS => bytes,
         CODES => count.saturating_mul(CODE_WEIGHT),
-        DATAS => items,
+        DATAS => items.saturating_add(section.contents.len() / DATA_BYTES),
         _ => items.saturating_add(bytes),
     }
 }

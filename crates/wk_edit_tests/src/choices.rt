@@ -72,14 +72,14 @@ static SHAPES: [Shape; 14] = [
         is_invalid: false,
     },
     Shape {
-        nops: ENOUGH + 136,
+        nops: ENOUGH + 137,
         exports: 0,
         datas: 1,
         customs: 0,
         is_invalid: false,
     },
     Shape {
-        nops: ENOUGH + 137,
+        nops: ENOUGH + 138,
         exports: 0,
         datas: 1,
         customs: 0,
@@ -100,14 +100,14 @@ static SHAPES: [Shape; 14] = [
         is_invalid: false,
     },
     Shape {
-        nops: ENOUGH + 137,
+        nops: ENOUGH + 138,
         exports: 0,
         datas: 1,
         customs: 27,
         is_invalid: false,
     },
     Shape {
-        nops: ENOUGH + 137,
+        nops: ENOUGH + 138,
         exports: 0,
         datas: 1,
         customs: 28,

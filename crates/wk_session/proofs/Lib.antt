@@ -37,4 +37,3 @@ pub mod ImportPieces
 pub mod Growing
 pub mod Opening
 pub mod KnownBodies
-pub mod Names

@@ -168,23 +168,6 @@ pub(crate) fn add_export(
     })
 }
 
-// Whether two names are the same. Out of line, so that the loop over names of other lengths is short.
-#[inline(never)]
-fn is_same(name: &Text, other: &Text) -> bool
-    ensures { result ≡ bytes_eq name.now other.now }
-{
-    name.as_str() == other.as_str()
-}
-
-// Whether an export has a name. One of another length is not looked at.
-#[tactic(auto, using(crate::proofs::Names::other_length))]
-#[inline(always)]
-fn has_name(export: &Export, name: &Text) -> bool
-    ensures { result ≡ bytes_eq export.now.name name.now }
-{
-    export.name.as_str().len() == name.as_str().len() && is_same(&export.name, name)
-}
-
 // Where the first export of a name stands. Out of line, so that its loop has the registers for itself.
 #[inline(never)]
 fn place_of(exports: &Items<Export>, name: &Text) -> Option<usize>
@@ -193,7 +176,7 @@ fn place_of(exports: &Items<Export>, name: &Text) -> Option<usize>
     exports
         .as_slice()
         .iter()
-        .position(|export| has_name(export, name))
+        .position(|export| export.name.as_str() == name.as_str())
 }
 
 // Puts an export in its place again. There is room for it.
