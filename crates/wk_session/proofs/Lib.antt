@@ -37,3 +37,4 @@ pub mod ImportPieces
 pub mod Growing
 pub mod Opening
 pub mod KnownBodies
+pub mod Names

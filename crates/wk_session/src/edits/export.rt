@@ -1,6 +1,6 @@
 //! Exports: one more, or one less.
 
-ghost use Rattle.std.specs.Prelude.{◌≡◌, ◌≢◌, ◌+◌, ◌<◌, ◌≤◌, ◌^◌, ℕ, Bool, [], ◌∷◌, drop, get_or, insert, length, remove, set, take, vec_capacity, vec_len, IfNone, IfSome, MatchResult, OnOk, OnErr};
+ghost use Rattle.std.specs.Prelude.{◌≡◌, ◌≢◌, ◌+◌, ◌-◌, ◌<◌, ◌≤◌, ◌^◌, ℕ, Bool, [], ◌∷◌, drop, get_or, insert, length, remove, set, take, vec_capacity, vec_len, IfNone, IfSome, MatchResult, OnOk, OnErr};
 ghost use Rattle.std.specs.List.{flat_map, position_from};
 ghost use Rattle.std.specs.Str.{bytes_eq};
 ghost use Rattle.wk_bytes.specs.Frames.{limit};
@@ -168,6 +168,38 @@ pub(crate) fn add_export(
     })
 }
 
+// The last byte of a name, or 0 where it has none.
+#[inline(always)]
+fn last_of(name: &Text) -> u8
+    ensures { result ≡ get_or name.now (length name.now - 1) 0 }
+{
+    let bytes = name.as_str().as_bytes();
+    if bytes.is_empty() {
+        return 0;
+    }
+    bytes[bytes.len() - 1]
+}
+
+// Whether two names are the same. Out of line, so that the loop over other names is short.
+#[inline(never)]
+fn is_same(name: &Text, other: &Text) -> bool
+    ensures { result ≡ bytes_eq name.now other.now }
+{
+    name.as_str() == other.as_str()
+}
+
+// Whether an export has a name. One of another length is not looked at, and of one that ends otherwise its last byte alone, in which names
+// of one length mostly differ.
+#[tactic(auto, using(crate::proofs::Names::other_length, crate::proofs::Names::other_end))]
+#[inline(always)]
+fn has_name(export: &Export, name: &Text) -> bool
+    ensures { result ≡ bytes_eq export.now.name name.now }
+{
+    export.name.as_str().len() == name.as_str().len()
+        && last_of(&export.name) == last_of(name)
+        && is_same(&export.name, name)
+}
+
 // Where the first export of a name stands. Out of line, so that its loop has the registers for itself.
 #[inline(never)]
 fn place_of(exports: &Items<Export>, name: &Text) -> Option<usize>
@@ -176,7 +208,7 @@ fn place_of(exports: &Items<Export>, name: &Text) -> Option<usize>
     exports
         .as_slice()
         .iter()
-        .position(|export| export.name.as_str() == name.as_str())
+        .position(|export| has_name(export, name))
 }
 
 // Puts an export in its place again. There is room for it.
