@@ -77,7 +77,21 @@ fn is_written_alike(alloc: Global, scratch: &mut Scratch, bytes: &[u8]) -> bool 
     }
 }
 
-// The first of these depths at which a nest is not written alike.
+// Whether the length of the written form is told as it is written, or refused alike.
+fn is_measured_alike(alloc: Global, scratch: &mut Scratch, bytes: &[u8]) -> bool {
+    if bytes.len() > 1_000_000 {
+        return false;
+    }
+    let len = scratch.written_len(alloc, &Cursor::new(bytes), Profile::Extended);
+    let written = scratch.written_form(alloc, &Cursor::new(bytes), Profile::Extended);
+    match (len, written) {
+        (Ok(len), Ok(written)) => len as usize == written.len(),
+        (Err(fault), Err(other)) => fault == other,
+        _ => false,
+    }
+}
+
+// The first of these depths at which a nest is not written or measured alike.
 fn wrong_depth(
     alloc: Global,
     nests: &[Nest],
@@ -89,7 +103,9 @@ fn wrong_depth(
         for &depth in depths {
             for &again in times {
                 let bytes = nested(alloc, nest, depth, again)?;
-                if !is_written_alike(alloc, &mut scratch, &bytes) {
+                if !is_written_alike(alloc, &mut scratch, &bytes)
+                    || !is_measured_alike(alloc, &mut scratch, &bytes)
+                {
                     return Ok(Some(depth));
                 }
             }

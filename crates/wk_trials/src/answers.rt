@@ -2,16 +2,17 @@
 
 ghost use Rattle.std.specs.Prelude.{◌≡◌};
 
+use crate::listings::was_listed;
 use crate::mark::{call_begins, call_ends};
 use crate::modules::{OF_ALL, OF_WIDE, Sample};
-use crate::sinks::{Room, holds, holds_begun, sink};
+use crate::sinks::{Room, sink};
 use std::alloc::{AllocError, Global};
-use wk_answers::{list_parts, list_sections, validate};
+use wk_answers::{list_bodies, list_parts, list_sections, list_summary_parts, validate};
 use wk_bytes::{Out, OutOfMemory, Sink};
-use wk_list::{ListFault, Part, Plain};
+use wk_list::{Part, Plain, Summary};
 use wk_module::Module;
 use wk_samples::outcome::Outcome;
-use wk_samples::wide::{CODE, HEADERS};
+use wk_samples::wide::{CODE, DETAILS, HEADERS};
 
 /// A call of `wk_answers`.
 #[derive(Clone, Copy)]
@@ -22,6 +23,8 @@ pub(crate) enum Answer {
     ListSections,
     /// `list_parts` of two parts.
     ListParts,
+    /// `list_summary_parts` of two parts.
+    ListSummaryParts,
 }
 
 const INVALID: &str = "invalid V5 TooManyTables at section 4 item 0\n";
@@ -67,6 +70,7 @@ impl Answer {
                 was_answered(answer)
             }
             Answer::ListParts => lists_parts(alloc),
+            Answer::ListSummaryParts => lists_summary_parts(alloc),
         }
     }
 }
@@ -86,7 +90,7 @@ fn lists_parts(alloc: Global) -> Outcome {
 }
 
 fn lists_parts_of(alloc: Global, module: &Module) -> Outcome {
-    match both(alloc) {
+    match both(alloc, CODE) {
         Ok(text) => lists_parts_as(alloc, module, &text),
         Err(AllocError) => Outcome::NO_SAMPLE,
     }
@@ -99,10 +103,10 @@ fn lists_parts_as(alloc: Global, module: &Module, text: &[u8]) -> Outcome {
     }
 }
 
-// The lines of both parts.
-fn both(alloc: Global) -> Result<Vec<u8>, AllocError> {
+// The lines of both parts, the first of which is headers.
+fn both(alloc: Global, second: &[u8]) -> Result<Vec<u8>, AllocError> {
     let mut text = Vec::from_slice(alloc, HEADERS)?;
-    text.extend_from_slice(CODE)?;
+    text.extend_from_slice(second)?;
     Ok(text)
 }
 
@@ -115,9 +119,38 @@ fn lists_parts_to(alloc: Global, module: &Module, text: &[u8], mut sink: Sink) -
     call_begins(alloc);
     let answer = list_parts(alloc, &plain, &[Part::Headers, Part::Code], &mut sink);
     call_ends(alloc);
-    match answer {
-        Ok(()) => Outcome::answered(holds(sink, 0, text)),
-        Err(ListFault::Write) => Outcome::refused(holds_begun(sink, 1, text)),
-        Err(ListFault::Memory) => Outcome::refused(holds_begun(sink, 0, text)),
+    was_listed(answer, sink, text)
+}
+
+fn lists_summary_parts(alloc: Global) -> Outcome {
+    let Sample { profile, bytes } = OF_WIDE;
+    match Summary::read(alloc, bytes, profile) {
+        Ok(summary) => lists_summary_parts_of(alloc, &summary),
+        Err(_) => Outcome::NO_SAMPLE,
     }
+}
+
+fn lists_summary_parts_of(alloc: Global, summary: &Summary<'_>) -> Outcome {
+    match (both(alloc, DETAILS), sink(alloc, Room::Full)) {
+        (Ok(text), Some(sink)) => lists_summary_parts_to(alloc, summary, &text, sink),
+        _ => Outcome::NO_SAMPLE,
+    }
+}
+
+fn lists_summary_parts_to(
+    alloc: Global,
+    summary: &Summary<'_>,
+    text: &[u8],
+    mut sink: Sink,
+) -> Outcome
+    requires { ⟦<Sink as Out>⟧.failed sink ≡ 0 }
+{
+    let parts = [Part::Headers, Part::Details];
+    if list_bodies(&parts) {
+        return Outcome::NO_SAMPLE;
+    }
+    call_begins(alloc);
+    let answer = list_summary_parts(alloc, summary, &parts, &mut sink);
+    call_ends(alloc);
+    was_listed(answer, sink, text)
 }

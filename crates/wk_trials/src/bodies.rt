@@ -135,6 +135,8 @@ pub(crate) enum ReadCode {
     Again,
     /// `Scratch::written_form`.
     Form,
+    /// `Scratch::written_len`.
+    Len,
     /// `code_bytes` of bytes that are not the shortest.
     Shorten,
     /// `append_shifts` of functions, in the written form.
@@ -153,6 +155,7 @@ impl ReadCode {
             ReadCode::Body => code.reads(alloc),
             ReadCode::Again => code.reads_again(alloc),
             ReadCode::Form => code.writes_form(alloc),
+            ReadCode::Len => code.measures_form(alloc),
             ReadCode::Shorten => code.shortens(alloc),
             ReadCode::AppendShifts => code.appends_shifts(alloc),
             ReadCode::Tokens => code.reads_tokens(alloc),
@@ -224,6 +227,20 @@ impl Code {
         call_ends(alloc);
         match answer {
             Ok(written) => Outcome::answered(written == self.written),
+            Err(fault) => Outcome::refused(fault == NO_MEMORY),
+        }
+    }
+
+    fn measures_form(self, alloc: Global) -> Outcome
+        requires { length self.padded.now ≤ LIMIT }
+    {
+        let mut scratch = Scratch::new(alloc);
+        let cursor = Cursor::new(self.padded);
+        call_begins(alloc);
+        let answer = scratch.written_len(alloc, &cursor, self.profile);
+        call_ends(alloc);
+        match answer {
+            Ok(len) => Outcome::answered(is_length(Some(len), self.written)),
             Err(fault) => Outcome::refused(fault == NO_MEMORY),
         }
     }

@@ -1,13 +1,15 @@
 //! Calls of `wk_list`.
 
-ghost use Rattle.std.specs.Prelude.{◌≡◌};
+ghost use Rattle.std.specs.Prelude.{◌≡◌, false};
+ghost use Rattle.wk_list.specs.Listing.{lists_bodies};
 
+use crate::bodies::NO_MEMORY;
 use crate::mark::{call_begins, call_ends};
 use crate::modules::Sample;
 use crate::sinks::{Room, holds, holds_begun, sink};
 use std::alloc::Global;
 use wk_bytes::{Out, Sink};
-use wk_list::{Layout, ListFault, Part, Plain, Shape, list};
+use wk_list::{Layout, ListFault, Part, Plain, Shape, Summary, list, list_summary};
 use wk_module::{EncodeFault, Module, Profile};
 use wk_samples::listings::{CALLING, CODE, DETAILS, HEADERS, USES};
 use wk_samples::modules::WHOLE;
@@ -63,6 +65,11 @@ fn lists_to(alloc: Global, plain: &Plain<'_>, part: Part, text: &[u8], mut sink:
     call_begins(alloc);
     let answer = list(alloc, plain, part, &mut sink);
     call_ends(alloc);
+    was_listed(answer, sink, text)
+}
+
+/// What a call that lists answered.
+pub(crate) fn was_listed(answer: Result<(), ListFault>, sink: Sink, text: &[u8]) -> Outcome {
     match answer {
         Ok(()) => Outcome::answered(holds(sink, 0, text)),
         Err(ListFault::Write) => Outcome::refused(holds_begun(sink, 1, text)),
@@ -112,4 +119,45 @@ fn lays_out_of(alloc: Global, module: &Module) -> Outcome {
         ),
         Err(fault) => Outcome::refused(fault == EncodeFault::Memory),
     }
+}
+
+/// `Summary::read` of a module.
+pub(crate) fn summarizes(alloc: Global, sample: Sample) -> Outcome {
+    call_begins(alloc);
+    let answer = Summary::read(alloc, sample.bytes, sample.profile);
+    call_ends(alloc);
+    match answer {
+        Ok(_) => Outcome::answered(true),
+        Err(fault) => Outcome::refused(fault == NO_MEMORY),
+    }
+}
+
+/// `list_summary` of a part of a module of a profile, to a sink with that much room.
+pub(crate) fn lists_summary(alloc: Global, part: Part, profile: Profile, room: Room) -> Outcome {
+    let (sample, text) = sample(part, profile);
+    match (
+        Summary::read(alloc, sample.bytes, profile),
+        sink(alloc, room),
+    ) {
+        (Ok(summary), Some(sink)) if !part.lists_bodies() => {
+            lists_summary_to(alloc, &summary, part, text, sink)
+        }
+        _ => Outcome::NO_SAMPLE,
+    }
+}
+
+fn lists_summary_to(
+    alloc: Global,
+    summary: &Summary<'_>,
+    part: Part,
+    text: &[u8],
+    mut sink: Sink,
+) -> Outcome
+    requires failed { ⟦<Sink as Out>⟧.failed sink ≡ 0 }
+    requires part { lists_bodies part ≡ false }
+{
+    call_begins(alloc);
+    let answer = list_summary(alloc, summary, part, &mut sink);
+    call_ends(alloc);
+    was_listed(answer, sink, text)
 }

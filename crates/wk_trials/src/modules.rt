@@ -5,8 +5,9 @@ use crate::mark::{call_begins, call_ends};
 use std::alloc::Global;
 use wk_bytes::{Items, ReadFault};
 use wk_module::{
-    EncodeFault, Func, Kind, Module, MovedLists, Outline, Parts, Profile, ShiftFault, encode,
-    encode_body, encoded_len, read, read_in, read_outline, shift_lists,
+    EncodeFault, Func, Kind, Module, MovedLists, Outline, Parts, Profile, ShiftFault, Skeleton,
+    body_len, encode, encode_body, encoded_len, read, read_in, read_outline, read_skeleton,
+    section_len, shift_lists,
 };
 use wk_samples::edits::{MODULE, VALID};
 use wk_samples::modules::{ALL_OF_ONE, TWO_CODES, WHOLE};
@@ -93,6 +94,20 @@ fn is_outline(alloc: Global, outline: &Outline, parts: &Parts) -> bool {
     true
 }
 
+// Whether it has the length of each body, and that of the code section.
+fn is_skeleton(skeleton: &Skeleton, module: &Module) -> bool {
+    let funcs = module.parts().funcs.as_slice();
+    if skeleton.module.parts().funcs.len() != funcs.len() || skeleton.bodies.len() != funcs.len() {
+        return false;
+    }
+    for (len, func) in skeleton.bodies.iter().zip(funcs) {
+        if body_len(&func.body) != Some(*len) {
+            return false;
+        }
+    }
+    section_len(module, 10) == Some(skeleton.codes)
+}
+
 /// What an encoder answered, where these bytes are right; the module stays the one that the input spells.
 pub(crate) fn was_encoded(
     alloc: Global,
@@ -146,6 +161,24 @@ impl Sample {
         call_ends(alloc);
         match answer {
             Ok(outline) => Outcome::answered(is_outline(alloc, &outline, module.parts())),
+            Err(fault) => Outcome::refused(fault == NO_MEMORY),
+        }
+    }
+
+    /// `read_skeleton` of the module.
+    pub(crate) fn measures(self, alloc: Global) -> Outcome {
+        match self.read(alloc) {
+            Ok(module) => self.measures_module(alloc, &module),
+            Err(_) => Outcome::NO_SAMPLE,
+        }
+    }
+
+    fn measures_module(self, alloc: Global, module: &Module) -> Outcome {
+        call_begins(alloc);
+        let answer = read_skeleton(alloc, self.bytes, self.profile);
+        call_ends(alloc);
+        match answer {
+            Ok(skeleton) => Outcome::answered(is_skeleton(&skeleton, module)),
             Err(fault) => Outcome::refused(fault == NO_MEMORY),
         }
     }

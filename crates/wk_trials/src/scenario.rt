@@ -46,6 +46,8 @@ pub(crate) enum Scenario {
     Read(Sample),
     /// `read_outline`.
     Outline(Sample),
+    /// `read_skeleton`.
+    Skeleton(Sample),
     /// `encode`.
     Encode(Sample),
     /// `Module::of`, `parts`, `into_parts` and `encoded_len`.
@@ -68,6 +70,10 @@ pub(crate) enum Scenario {
     Layout(Sample),
     /// `list` of a part to a `Sink`.
     List(Part, Profile, Room),
+    /// `Summary::read`.
+    Summarize(Sample),
+    /// `list_summary` of a part to a `Sink`.
+    ListSummary(Part, Profile, Room),
     /// `strip_bytes`.
     Strip(Strip),
     /// `Session::open` or `Session::open_in` of a valid module.
@@ -154,6 +160,7 @@ impl Scenario {
             Scenario::OfExpr(call) => call.run(alloc),
             Scenario::Read(sample) => sample.reads(alloc),
             Scenario::Outline(sample) => sample.outlines(alloc),
+            Scenario::Skeleton(sample) => sample.measures(alloc),
             Scenario::Encode(sample) => sample.encodes(alloc),
             Scenario::Settle(sample) => sample.settles(alloc),
             Scenario::OfWhole(call, profile) => call.run(alloc, profile),
@@ -165,6 +172,10 @@ impl Scenario {
             Scenario::Plain(sample) => listings::sees_plain(alloc, sample),
             Scenario::Layout(sample) => listings::lays_out(alloc, sample),
             Scenario::List(part, profile, room) => listings::lists(alloc, part, profile, room),
+            Scenario::Summarize(sample) => listings::summarizes(alloc, sample),
+            Scenario::ListSummary(part, profile, room) => {
+                listings::lists_summary(alloc, part, profile, room)
+            }
             Scenario::Strip(strip) => strip.run(alloc),
             _ => self.run_above(alloc),
         }

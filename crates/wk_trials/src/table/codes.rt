@@ -8,7 +8,7 @@ use crate::sinks::Room::{Ample, Full};
 use wk_module::Profile::{Core, Extended};
 
 /// Calls of `wk_bytes` and `wk_body`.
-pub(crate) static CODES: [Named; 52] = [
+pub(crate) static CODES: [Named; 54] = [
     ("put-u32", Scenario::Put(Integer::U32)),
     ("put-s32", Scenario::Put(Integer::S32)),
     ("put-s33", Scenario::Put(Integer::S33)),
@@ -33,6 +33,7 @@ pub(crate) static CODES: [Named; 52] = [
         "append-spelled",
         Scenario::ReadCode(ReadCode::Form, CORE_CODE),
     ),
+    ("written-len", Scenario::ReadCode(ReadCode::Len, CORE_CODE)),
     (
         "read-tokens",
         Scenario::ReadCode(ReadCode::Tokens, CORE_CODE),
@@ -67,6 +68,10 @@ pub(crate) static CODES: [Named; 52] = [
     (
         "append-spelled-wide",
         Scenario::ReadCode(ReadCode::Form, WIDE_CODE),
+    ),
+    (
+        "written-len-wide",
+        Scenario::ReadCode(ReadCode::Len, WIDE_CODE),
     ),
     (
         "read-tokens-wide",

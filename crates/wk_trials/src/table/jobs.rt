@@ -7,7 +7,7 @@ use crate::scenario::{Named, Scenario};
 use crate::sinks::Room::{Ample, Full};
 
 /// Calls of `wk_edit` and `wk_answers`, and what they are made of.
-pub(crate) static JOBS: [Named; 22] = [
+pub(crate) static JOBS: [Named; 23] = [
     ("read-script", Scenario::ReadScript),
     ("malformed-line", Scenario::Line(Line::Malformed)),
     ("verdict-line", Scenario::Line(Line::Valid)),
@@ -54,4 +54,8 @@ pub(crate) static JOBS: [Named; 22] = [
     ("validate", Scenario::Answer(Answer::Validate)),
     ("list-sections", Scenario::Answer(Answer::ListSections)),
     ("list-parts", Scenario::Answer(Answer::ListParts)),
+    (
+        "list-summary-parts",
+        Scenario::Answer(Answer::ListSummaryParts),
+    ),
 ];

@@ -10,13 +10,15 @@ use wk_list::Part;
 use wk_module::Profile::{Core, Extended};
 
 /// Calls of `wk_module`, `wk_check`, `wk_list` and `wk_strip`.
-pub(crate) static MODULES: [Named; 66] = [
+pub(crate) static MODULES: [Named; 74] = [
     ("read-types", Scenario::Read(OF_TYPES)),
     ("read-whole", Scenario::Read(OF_ALL)),
     ("read-valid", Scenario::Read(OF_VALID)),
     ("read-wide", Scenario::Read(OF_WIDE)),
     ("read-outline", Scenario::Outline(OF_MOVING)),
     ("read-outline-wide", Scenario::Outline(OF_WIDE)),
+    ("read-skeleton", Scenario::Skeleton(OF_MOVING)),
+    ("read-skeleton-wide", Scenario::Skeleton(OF_WIDE)),
     ("encode-types", Scenario::Encode(OF_TYPES)),
     ("encode-whole", Scenario::Encode(OF_ALL)),
     ("encode-valid", Scenario::Encode(OF_VALID)),
@@ -87,6 +89,24 @@ pub(crate) static MODULES: [Named; 66] = [
     ("plain-wide-in-room", Scenario::Plain(OF_WIDE)),
     ("layout", Scenario::Layout(OF_ALL)),
     ("layout-wide", Scenario::Layout(OF_WIDE)),
+    ("read-summary", Scenario::Summarize(OF_MOVING)),
+    ("read-summary-wide", Scenario::Summarize(OF_WIDE)),
+    (
+        "list-summary-headers",
+        Scenario::ListSummary(Part::Headers, Core, Ample),
+    ),
+    (
+        "list-summary-details",
+        Scenario::ListSummary(Part::Details, Extended, Ample),
+    ),
+    (
+        "list-summary-headers-to-full",
+        Scenario::ListSummary(Part::Headers, Extended, Full),
+    ),
+    (
+        "list-summary-details-to-full",
+        Scenario::ListSummary(Part::Details, Core, Full),
+    ),
     ("list-headers", Scenario::List(Part::Headers, Core, Ample)),
     ("list-details", Scenario::List(Part::Details, Core, Ample)),
     ("list-code", Scenario::List(Part::Code, Core, Ample)),
