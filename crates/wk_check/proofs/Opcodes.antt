@@ -1,155 +1,92 @@
 -- Tokens that are typed from their bytes: what stands behind their opcodes.
 use Rattle.std.proofs.Common.{◌≡◌, ℕ, ◌<◌, ◌≤◌, ◌-◌, List, [], ◌∷◌, length, Bool, true, false, Option, Some, None, Result, Ok, Err, refl, sym, ap, subst, ◌∙◌, arith}
 use Rattle.std.proofs.lemmas.Bool.{le-ltb, lt-ltb}
-use Rattle.std.specs.Prelude.{ℤ, IfOk}
+use Rattle.std.specs.Prelude.{IfOk}
 use Rattle.wk_bytes.specs.declared.fault.ReadKind.TheVariants.{UnknownOpcode}
 use Rattle.wk_bytes.specs.declared.fault.ReadFault.{ReadFault}
-use Rattle.wk_bytes.specs.Span.{Span, byte_at, u32_at, signed_at, word_at}
+use Rattle.wk_bytes.specs.Leb.{◌>>=◌}
+use Rattle.wk_bytes.specs.Span.{Span, byte_at}
 use Rattle.wk_bytes.specs.SpanLaws.{byte_at-takes}
 use Rattle.wk_body.specs.declared.types.Profile.{Profile}
 use Rattle.wk_body.specs.declared.types.Profile.TheVariants.{Core, Extended}
 use Rattle.wk_body.specs.declared.types.BlockKind.TheVariants as kinds
 use Rattle.wk_body.specs.declared.types.BlockType.{BlockType}
 use Rattle.wk_body.specs.declared.types.ValType.{ValType}
-use Rattle.wk_body.specs.declared.memory.MemoryOp.{MemoryOp}
 use Rattle.wk_body.specs.declared.numeric.NumericOp.{NumericOp}
 use Rattle.wk_body.specs.declared.references.Ref.{Ref}
+use Rattle.wk_body.specs.declared.token.Token.{Token}
 use Rattle.wk_body.specs.declared.token.Token.TheVariants as kept
-use Rattle.wk_body.specs.MemoryOps.{memory_of}
 use Rattle.wk_body.specs.Numeric.{numeric_of}
-use Rattle.wk_body.specs.Instructions.{Plain, Unreachable, Nop, Return, Select, F32Const, F64Const, Br, BrIf, Call, Drop, LocalGet, LocalSet, LocalTee, GlobalGet, GlobalSet, Access, CallIndirect, MemorySize, MemoryGrow, I32Const, I64Const, Numeric, Form, Alone, WithMemarg, any_form, form_of}
-use Rattle.wk_body.specs.OpcodeLaws.{any_form-memory, any_form-numeric}
-use Rattle.wk_body.specs.Kept.{told}
-use Rattle.wk_body.specs.Reading.{reserved_at, type_at, type_here, may_else, plain_at, behind_form, tok_at, token_at, behind_at}
+use Rattle.wk_body.specs.Instructions as plain
+use Rattle.wk_body.specs.Instructions.{Plain, Numeric, Alone, any_form, form_of}
+use Rattle.wk_body.specs.OpcodeLaws.{any_form-numeric}
+use Rattle.wk_body.specs.Kept.{told, IsWithin}
+use Rattle.wk_body.specs.Reading.{type_at, type_here, may_else, plain_at, behind_form, token_at, behind_at}
 use Rattle.wk_body.specs.Shape.{depth_limit}
 use Rattle.wk_body.specs.TokenReading.{TokenReading, NextRead, MayStand}
-use Rattle.wk_body.specs.Tree.{Tok, Open, OpenIf, Otherwise, Close}
-use Rattle.wk_body.proofs.Table.{memory_of-opcode, numeric_of-opcode}
+use Rattle.wk_body.specs.Tree.{Tok, Simple, Open, OpenIf, Otherwise, Close}
+use Rattle.wk_body.proofs.Table.{numeric_of-opcode}
 use Rattle.wk_body.proofs.TokenSteps.{plain_token}
 use Rattle.wk_check.specs.declared.machine.Opener.TheVariants as openers
-use Rattle.wk_check.specs.declared.quick_blocks.Met.{Met}
+use Rattle.wk_check.specs.declared.fast_blocks.Met.{Met}
+use Rattle.wk_check.specs.declared.step.Function.{Function}
 use Rattle.wk_check.specs.declared.stop.Stop.{Stop}
 use Rattle.wk_check.specs.Answers.{Found}
-use Rattle.wk_check.specs.Levels.{Blocks}
-use Rattle.wk_check.specs.Streaming.{IsTaken, IsTakenBehind, IsSigned, IsOpened, IsParted, IsClosed}
+use Rattle.wk_check.specs.Effects.{local_type}
+use Rattle.wk_check.specs.Levels.{Blocks, step}
+use Rattle.wk_check.specs.Streaming.{HasNoLabels, TypesRead, IsTaken, IsTakenBehind, IsSigned, IsOpened, IsParted, IsClosed}
 
-pub br_at : (profile : Profile) (e : ReadFault) (end x : ℕ) (bytes rest : List ℕ) → u32_at end bytes ≡ Ok (x, rest) → plain_at profile e 0x0C end bytes ≡ Ok (Br x, rest)
-unfolding plain_at behind_form form_of
-br_at Core e end x bytes rest h = rw h refl
-br_at Extended e end x bytes rest h = rw h refl
+-- ---- the token of an instruction
 
-pub br_if_at : (profile : Profile) (e : ReadFault) (end x : ℕ) (bytes rest : List ℕ) → u32_at end bytes ≡ Ok (x, rest) → plain_at profile e 0x0D end bytes ≡ Ok (BrIf x, rest)
-unfolding plain_at behind_form form_of
-br_if_at Core e end x bytes rest h = rw h refl
-br_if_at Extended e end x bytes rest h = rw h refl
+-- a token without labels, which stands for the instruction
+record KeptAs (p : Plain) : Type 0 where
+  token : Token
+  is_plain : (labels : List ℕ) → told labels token ≡ Simple p
+  within : (n : ℕ) → IsWithin n token
 
-pub get_at : (profile : Profile) (e : ReadFault) (end x : ℕ) (bytes rest : List ℕ) → u32_at end bytes ≡ Ok (x, rest) → plain_at profile e 0x20 end bytes ≡ Ok (LocalGet x, rest)
-unfolding plain_at behind_form form_of
-get_at Core e end x bytes rest h = rw h refl
-get_at Extended e end x bytes rest h = rw h refl
+kept_as : (p : Plain) → HasNoLabels p → KeptAs p
+kept_as plain.Unreachable h = record { token = kept.Unreachable; is_plain = λ labels. refl; within = λ n. tt }
+kept_as plain.Nop h = record { token = kept.Nop; is_plain = λ labels. refl; within = λ n. tt }
+kept_as (plain.Br x) h = record { token = kept.Br x; is_plain = λ labels. refl; within = λ n. tt }
+kept_as (plain.BrIf x) h = record { token = kept.BrIf x; is_plain = λ labels. refl; within = λ n. tt }
+kept_as (plain.BrTable labels other) h = absurd h
+kept_as plain.Return h = record { token = kept.Return; is_plain = λ labels. refl; within = λ n. tt }
+kept_as (plain.Call x) h = record { token = kept.Call x; is_plain = λ labels. refl; within = λ n. tt }
+kept_as (plain.CallIndirect x) h = record { token = kept.CallIndirect x; is_plain = λ labels. refl; within = λ n. tt }
+kept_as plain.Drop h = record { token = kept.Drop; is_plain = λ labels. refl; within = λ n. tt }
+kept_as plain.Select h = record { token = kept.Select; is_plain = λ labels. refl; within = λ n. tt }
+kept_as (plain.LocalGet x) h = record { token = kept.LocalGet x; is_plain = λ labels. refl; within = λ n. tt }
+kept_as (plain.LocalSet x) h = record { token = kept.LocalSet x; is_plain = λ labels. refl; within = λ n. tt }
+kept_as (plain.LocalTee x) h = record { token = kept.LocalTee x; is_plain = λ labels. refl; within = λ n. tt }
+kept_as (plain.GlobalGet x) h = record { token = kept.GlobalGet x; is_plain = λ labels. refl; within = λ n. tt }
+kept_as (plain.GlobalSet x) h = record { token = kept.GlobalSet x; is_plain = λ labels. refl; within = λ n. tt }
+kept_as (plain.Access op align offset) h = record { token = kept.Access op align offset; is_plain = λ labels. refl; within = λ n. tt }
+kept_as plain.MemorySize h = record { token = kept.MemorySize; is_plain = λ labels. refl; within = λ n. tt }
+kept_as plain.MemoryGrow h = record { token = kept.MemoryGrow; is_plain = λ labels. refl; within = λ n. tt }
+kept_as (plain.I32Const z) h = record { token = kept.I32Const z; is_plain = λ labels. refl; within = λ n. tt }
+kept_as (plain.I64Const z) h = record { token = kept.I64Const z; is_plain = λ labels. refl; within = λ n. tt }
+kept_as (plain.F32Const word) h = record { token = kept.F32Const word; is_plain = λ labels. refl; within = λ n. tt }
+kept_as (plain.F64Const word) h = record { token = kept.F64Const word; is_plain = λ labels. refl; within = λ n. tt }
+kept_as (plain.Numeric op) h = record { token = kept.Numeric op; is_plain = λ labels. refl; within = λ n. tt }
 
-pub set_at : (profile : Profile) (e : ReadFault) (end x : ℕ) (bytes rest : List ℕ) → u32_at end bytes ≡ Ok (x, rest) → plain_at profile e 0x21 end bytes ≡ Ok (LocalSet x, rest)
-unfolding plain_at behind_form form_of
-set_at Core e end x bytes rest h = rw h refl
-set_at Extended e end x bytes rest h = rw h refl
+abbrev as_tok : Result (Plain × List ℕ) ReadFault → Result (Tok × List ℕ) ReadFault
+as_tok was = was >>= λ p. Ok (Simple p.0, p.1)
 
-pub tee_at : (profile : Profile) (e : ReadFault) (end x : ℕ) (bytes rest : List ℕ) → u32_at end bytes ≡ Ok (x, rest) → plain_at profile e 0x22 end bytes ≡ Ok (LocalTee x, rest)
-unfolding plain_at behind_form form_of
-tee_at Core e end x bytes rest h = rw h refl
-tee_at Extended e end x bytes rest h = rw h refl
+-- the token of an instruction that was read and typed
+record TokenTyped (A : Ref → Found) (locals : ℕ → Option ValType) (final : List ValType) (labels : List ℕ) (was : Result (Plain × List ℕ) ReadFault) (rest : List ℕ) (b next : Blocks) : Type 0 where
+  token : Token
+  plain : Plain × List ℕ
+  is_read : was ≡ Ok plain
+  read : as_tok was ≡ Ok (told labels token, rest)
+  within : IsWithin (length labels) token
+  typed : step A locals final (told labels token) b ≡ Ok next
 
-pub const_at : (profile : Profile) (e : ReadFault) (end : ℕ) (z : ℤ) (bytes rest : List ℕ) → signed_at 32 end bytes ≡ Ok (z, rest) → plain_at profile e 0x41 end bytes ≡ Ok (I32Const z, rest)
-unfolding plain_at behind_form form_of
-const_at Core e end z bytes rest h = rw h refl
-const_at Extended e end z bytes rest h = rw h refl
-
-pub call_at : (profile : Profile) (e : ReadFault) (end x : ℕ) (bytes rest : List ℕ) → u32_at end bytes ≡ Ok (x, rest) → plain_at profile e 0x10 end bytes ≡ Ok (Call x, rest)
-unfolding plain_at behind_form form_of
-call_at Core e end x bytes rest h = rw h refl
-call_at Extended e end x bytes rest h = rw h refl
-
-pub get_global_at : (profile : Profile) (e : ReadFault) (end x : ℕ) (bytes rest : List ℕ) → u32_at end bytes ≡ Ok (x, rest) → plain_at profile e 0x23 end bytes ≡ Ok (GlobalGet x, rest)
-unfolding plain_at behind_form form_of
-get_global_at Core e end x bytes rest h = rw h refl
-get_global_at Extended e end x bytes rest h = rw h refl
-
-pub set_global_at : (profile : Profile) (e : ReadFault) (end x : ℕ) (bytes rest : List ℕ) → u32_at end bytes ≡ Ok (x, rest) → plain_at profile e 0x24 end bytes ≡ Ok (GlobalSet x, rest)
-unfolding plain_at behind_form form_of
-set_global_at Core e end x bytes rest h = rw h refl
-set_global_at Extended e end x bytes rest h = rw h refl
-
-pub long_at : (profile : Profile) (e : ReadFault) (end : ℕ) (z : ℤ) (bytes rest : List ℕ) → signed_at 64 end bytes ≡ Ok (z, rest) → plain_at profile e 0x42 end bytes ≡ Ok (I64Const z, rest)
-unfolding plain_at behind_form form_of
-long_at Core e end z bytes rest h = rw h refl
-long_at Extended e end z bytes rest h = rw h refl
-
-pub drop_at : (profile : Profile) (e : ReadFault) (end : ℕ) (bytes : List ℕ) → plain_at profile e 0x1A end bytes ≡ Ok (Drop, bytes)
-unfolding plain_at behind_form form_of
-drop_at Core e end bytes = refl
-drop_at Extended e end bytes = refl
-
-pub nop_at : (profile : Profile) (e : ReadFault) (end : ℕ) (bytes : List ℕ) → plain_at profile e 0x01 end bytes ≡ Ok (Nop, bytes)
-unfolding plain_at behind_form form_of
-nop_at Core e end bytes = refl
-nop_at Extended e end bytes = refl
-
-pub unreachable_at : (profile : Profile) (e : ReadFault) (end : ℕ) (bytes : List ℕ) → plain_at profile e 0x00 end bytes ≡ Ok (Unreachable, bytes)
-unfolding plain_at behind_form form_of
-unreachable_at Core e end bytes = refl
-unreachable_at Extended e end bytes = refl
-
-pub return_at : (profile : Profile) (e : ReadFault) (end : ℕ) (bytes : List ℕ) → plain_at profile e 0x0F end bytes ≡ Ok (Return, bytes)
-unfolding plain_at behind_form form_of
-return_at Core e end bytes = refl
-return_at Extended e end bytes = refl
-
-pub select_at : (profile : Profile) (e : ReadFault) (end : ℕ) (bytes : List ℕ) → plain_at profile e 0x1B end bytes ≡ Ok (Select, bytes)
-unfolding plain_at behind_form form_of
-select_at Core e end bytes = refl
-select_at Extended e end bytes = refl
-
-pub single_at : (profile : Profile) (e : ReadFault) (end word : ℕ) (bytes rest : List ℕ) → word_at 4 end bytes ≡ Ok (word, rest) → plain_at profile e 0x43 end bytes ≡ Ok (F32Const word, rest)
-unfolding plain_at behind_form form_of
-single_at Core e end word bytes rest h = rw h refl
-single_at Extended e end word bytes rest h = rw h refl
-
-pub double_at : (profile : Profile) (e : ReadFault) (end word : ℕ) (bytes rest : List ℕ) → word_at 8 end bytes ≡ Ok (word, rest) → plain_at profile e 0x44 end bytes ≡ Ok (F64Const word, rest)
-unfolding plain_at behind_form form_of
-double_at Core e end word bytes rest h = rw h refl
-double_at Extended e end word bytes rest h = rw h refl
-
-pub indirect_at : (profile : Profile) (e : ReadFault) (end x : ℕ) (bytes mid rest : List ℕ) → u32_at end bytes ≡ Ok (x, mid) → byte_at end mid ≡ Ok (0, rest) → plain_at profile e 0x11 end bytes ≡ Ok (CallIndirect x, rest)
-unfolding plain_at behind_form form_of reserved_at
-indirect_at Core e end x bytes mid rest h k = rw (h, k) refl
-indirect_at Extended e end x bytes mid rest h k = rw (h, k) refl
-
-pub size_at : (profile : Profile) (e : ReadFault) (end : ℕ) (bytes rest : List ℕ) → byte_at end bytes ≡ Ok (0, rest) → plain_at profile e 0x3F end bytes ≡ Ok (MemorySize, rest)
-unfolding plain_at behind_form form_of reserved_at
-size_at Core e end bytes rest h = rw h refl
-size_at Extended e end bytes rest h = rw h refl
-
-pub grow_at : (profile : Profile) (e : ReadFault) (end : ℕ) (bytes rest : List ℕ) → byte_at end bytes ≡ Ok (0, rest) → plain_at profile e 0x40 end bytes ≡ Ok (MemoryGrow, rest)
-unfolding plain_at behind_form form_of reserved_at
-grow_at Core e end bytes rest h = rw h refl
-grow_at Extended e end bytes rest h = rw h refl
-
-form_below : (profile : Profile) (x : ℕ) (f : Form) → x ≤ 0xBF → any_form x ≡ Some f → form_of profile x ≡ Some f
-unfolding form_of
-form_below Core x f le e = rw (le-ltb 0xBF x le, e) refl
-form_below Extended x f le e = rw (le-ltb 0xC4 x (omega (arith, le)), e) refl
-
-pub access_at : (profile : Profile) (e : ReadFault) (end opcode align offset : ℕ) (op : MemoryOp) (bytes mid rest : List ℕ) → opcode ≤ 0x3E → memory_of opcode ≡ Some op → u32_at end bytes ≡ Ok (align, mid) → u32_at end mid ≡ Ok (offset, rest)
-    → plain_at profile e opcode end bytes ≡ Ok (Access op align offset, rest)
-unfolding plain_at behind_form
-access_at profile e end opcode align offset op bytes mid rest le is h k =
-    let form : any_form opcode ≡ Some (WithMemarg (Access op)) = ap any_form (sym (memory_of-opcode opcode op is)) ∙ any_form-memory op in
-    rw (form_below profile opcode (WithMemarg (Access op)) (omega (arith, le)) form, h, k) refl
-
-pub numeric_at : (profile : Profile) (e : ReadFault) (end opcode : ℕ) (op : NumericOp) (bytes : List ℕ) → opcode ≤ 0xBF → numeric_of opcode ≡ Some op → plain_at profile e opcode end bytes ≡ Ok (Numeric op, bytes)
-unfolding plain_at behind_form
-numeric_at profile e end opcode op bytes le is =
-    let form : any_form opcode ≡ Some (Alone (Numeric op)) = ap any_form (sym (numeric_of-opcode opcode op is)) ∙ any_form-numeric op in
-    rw (form_below profile opcode (Alone (Numeric op)) le form) refl
+token_typed : (A : Ref → Found) (locals : ℕ → Option ValType) (final : List ValType) (labels : List ℕ) (was : Result (Plain × List ℕ) ReadFault) (rest : List ℕ) (b next : Blocks)
+    → TypesRead A locals final was rest b (Ok tt) next → TokenTyped A locals final labels was rest b next
+token_typed A locals final labels (Ok p) rest b next h =
+    let k = kept_as p.0 h.0 in
+    record { token = k.token; plain = p; is_read = refl; read = rw (k.is_plain labels, h.1) refl; within = k.within (length labels); typed = rw (k.is_plain labels) h.2 }
+token_typed A locals final labels (Err e) rest b next h = absurd h
 
 sign_at : (e : ReadFault) (end opcode : ℕ) (op : NumericOp) (bytes : List ℕ) → opcode ≤ 0xC4 → numeric_of opcode ≡ Some op → plain_at Extended e opcode end bytes ≡ Ok (Numeric op, bytes)
 unfolding plain_at behind_form form_of
@@ -186,27 +123,27 @@ apart_if = λ e end bytes x h. absurd cc
 differs : (k opcode : ℕ) (e : ReadFault) (end : ℕ) (bytes : List ℕ) (x : Plain × List ℕ) → IsApart k → plain_at Core e opcode end bytes ≡ Ok x → opcode ≡ k → ⊥
 differs k opcode e end bytes x apart h is = apart e end bytes x (subst (λ (o : ℕ). plain_at Core e o end bytes ≡ Ok x) is h)
 
-pub taken : (A : Ref → Found) (locals : ℕ → Option ValType) (final : List ValType) (profile : Profile) (r : TokenReading) (from mid to : Span) (opcode : ℕ) (b next : Blocks)
-    → (byte_at from.end from.rest ≡ Ok (opcode, mid.rest)) × (mid.end ≡ from.end) → IsTakenBehind A locals final opcode mid to b next → IsTaken A locals final profile r r from to b next
-taken A locals final profile r from mid to opcode b next front t =
+pub taken : (A : Ref → Found) (f : Function) (profile : Profile) (r : TokenReading) (from mid to : Span) (opcode : ℕ) (b next : Blocks) → (byte_at from.end from.rest ≡ Ok (opcode, mid.rest)) × (mid.end ≡ from.end)
+    → IsTakenBehind A f opcode mid to b next → IsTaken A (local_type f.locals.params f.locals.groups) f.results.now profile r r from to b next
+taken A f profile r from mid to opcode b next front t =
+    let locals = local_type f.locals.params f.locals.groups in
     let at = from.end - length (opcode ∷ mid.rest) in
     let e : ReadFault = record { kind = UnknownOpcode; at = at } in
-    let core = t.read Core e in
-    let x : Plain × List ℕ = (t.plain, to.rest) in
-    let read : tok_at (plain_at profile e opcode) mid.end mid.rest ≡ Ok (told r.labels t.token, to.rest) = rw (t.read profile e, t.is_plain r.labels) refl in
-    let is = plain_token profile r r opcode at mid to t.token (differs 0x0B opcode e mid.end mid.rest x apart_end core) (differs 0x05 opcode e mid.end mid.rest x apart_else core) (differs 0x02 opcode e mid.end mid.rest x apart_block core) (differs 0x03 opcode e mid.end mid.rest x apart_loop core) (differs 0x04 opcode e mid.end mid.rest x apart_if core)
-    (read, t.same_end) (t.within (length r.labels)) refl in
+    let x = token_typed A locals f.results.now r.labels (plain_at profile e opcode mid.end mid.rest) to.rest b next (t.typed profile e) in
+    let core = token_typed A locals f.results.now r.labels (plain_at Core e opcode mid.end mid.rest) to.rest b next (t.typed Core e) in
+    let not = λ (k : ℕ) (apart : IsApart k). differs k opcode e mid.end mid.rest core.plain apart core.is_read in
+    let is = plain_token profile r r opcode at mid to x.token (not 0x0B apart_end) (not 0x05 apart_else) (not 0x02 apart_block) (not 0x03 apart_loop) (not 0x04 apart_if) (x.read, t.same_end) x.within refl in
     let takes : from.rest ≡ opcode ∷ mid.rest = byte_at-takes from.end from.rest opcode mid.rest front.0 in
     record {
-      token = t.token;
+      token = x.token;
       read = record {
-        read = ap (token_at profile r.kinds from.end) takes ∙ subst (λ (end : ℕ). behind_at profile r.kinds at opcode end mid.rest ≡ Ok (told r.labels t.token, to.rest)) front.1 is.is;
+        read = ap (token_at profile r.kinds from.end) takes ∙ subst (λ (end : ℕ). behind_at profile r.kinds at opcode end mid.rest ≡ Ok (told r.labels x.token, to.rest)) front.1 is.is;
         same_end = t.same_end ∙ front.1;
         kinds = is.kinds;
         within = is.within;
         stands = is.stands;
       };
-      typed = rw (t.is_plain r.labels) t.typed;
+      typed = x.typed;
     }
 
 -- the same of a sign extension

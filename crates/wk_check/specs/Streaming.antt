@@ -1,5 +1,5 @@
 -- What is said of bodies that are typed while they are read.
-use Rattle.std.specs.Prelude.{◌≡◌, ℕ, ◌<◌, ◌≤◌, Bool, Option, Some, None, true, List, ◌∷◌, length, Ok}
+use Rattle.std.specs.Prelude.{◌≡◌, ℕ, ◌<◌, ◌≤◌, Bool, Option, Some, None, false, true, List, [], ◌∷◌, length, Result, Ok, Err, ◌==◌, if◌then◌else◌}
 use Rattle.wk_bytes.specs.declared.fault.ReadFault.{ReadFault}
 use Rattle.wk_bytes.specs.Span.{Span}
 use Rattle.wk_body.specs.declared.types.Profile.{Profile}
@@ -11,8 +11,8 @@ use Rattle.wk_body.specs.declared.token.Token.{Token}
 use Rattle.wk_body.specs.Bodies.{BodyOf}
 use Rattle.wk_body.specs.declared.numeric.NumericOp.{NumericOp}
 use Rattle.wk_body.specs.Numeric.{numeric_of}
-use Rattle.wk_body.specs.Instructions.{Plain, Numeric}
-use Rattle.wk_body.specs.Kept.{told, IsWithin}
+use Rattle.wk_body.specs.Instructions.{Plain, BrTable, Numeric}
+use Rattle.wk_body.specs.Kept.{told}
 use Rattle.wk_body.specs.Reading.{plain_at, type_at, may_else, after, expr_at, all_body_at}
 use Rattle.wk_body.specs.Shape.{depth_limit}
 use Rattle.wk_body.specs.TokenReading.{TokenReading, NextToken, NextRead}
@@ -20,11 +20,13 @@ use Rattle.wk_body.specs.Tree.{Instrs, Simple, Otherwise, Close}
 use Rattle.wk_check.specs.declared.fault.BodyVerdict.TheVariants.{Valid}
 use Rattle.wk_check.specs.declared.machine.Opener.{Opener}
 use Rattle.wk_check.specs.declared.step.Function.{Function}
+use Rattle.wk_check.specs.declared.stop.Stop.{Stop}
 use Rattle.wk_check.specs.declared.streaming.Went.{Went}
 use Rattle.wk_check.specs.declared.streaming.Went.TheVariants as went
 use Rattle.wk_check.specs.Answers.{Found}
 use Rattle.wk_check.specs.Effects.{local_type}
 use Rattle.wk_check.specs.Levels.{Blocks, entering, halved, closed, step}
+use Rattle.wk_check.specs.Moves.{Steps}
 use Rattle.wk_check.specs.Typing.{code_result, body_verdict}
 
 -- the instructions from one place to another are typed without a fault
@@ -48,19 +50,46 @@ pub record IsTaken (A : Ref → Found) (locals : ℕ → Option ValType) (final 
   pub read : NextToken profile old new from to token
   pub typed : step A locals final (told new.labels token) b ≡ Ok next
 
--- The same of what stands behind an opcode, for a token that opens and closes nothing and has no labels: whatever the profile.
-pub record IsTakenBehind (A : Ref → Found) (locals : ℕ → Option ValType) (final : List ValType) (opcode : ℕ) (from to : Span) (b next : Blocks) : Type 0 where
-  pub token : Token
-  pub plain : Plain
-  pub is_plain : (labels : List ℕ) → told labels token ≡ Simple plain
-  pub within : (n : ℕ) → IsWithin n token
-  pub read : (profile : Profile) (e : ReadFault) → plain_at profile e opcode from.end from.rest ≡ Ok (plain, to.rest)
-  pub same_end : to.end ≡ from.end
-  pub typed : step A locals final (Simple plain) b ≡ Ok next
+-- no labels of its own stand in an instruction
+abbrev pub HasNoLabels : Plain → Type 0
+HasNoLabels (BrTable labels other) = ⊥
+HasNoLabels p = Unit {0}
 
--- that, in a function, where the token is taken
+-- An instruction without labels was read, with the bytes `rest` behind it, and typing it gave this answer.
+abbrev pub TypesRead : (Ref → Found) → (ℕ → Option ValType) → List ValType → Result (Plain × List ℕ) ReadFault → List ℕ → Blocks → Result (Unit {0}) Stop → Blocks → Type 0
+TypesRead A locals final (Ok p) rest b told next = HasNoLabels p.0 × (p.1 ≡ rest) × Steps (step A locals final (Simple p.0) b) told next
+TypesRead A locals final (Err e) rest b told next = ⊥
+
+-- that, in a function, of what stands behind an opcode from some bytes on, whatever the profile
+abbrev pub TypesBehind : (Ref → Found) → Function → ℕ → ℕ → List ℕ → List ℕ → Blocks → Result (Unit {0}) Stop → Blocks → Type 0
+TypesBehind A f opcode end from rest b told next =
+    (profile : Profile) (e : ReadFault) → TypesRead A (local_type f.locals.params f.locals.groups) f.results.now (plain_at profile e opcode end from) rest b told next
+
+-- The same of what stands behind an opcode, for a token that opens and closes nothing and has no labels: whatever the profile.
+pub record IsTakenBehind (A : Ref → Found) (f : Function) (opcode : ℕ) (from to : Span) (b next : Blocks) : Type 0 where
+  pub typed : TypesBehind A f opcode from.end from.rest to.rest b (Ok tt) next
+  pub same_end : to.end ≡ from.end
+
+-- that, where the token is taken
 abbrev pub TakesBehind : (Ref → Found) → Function → ℕ → Span → Span → Blocks → Blocks → Bool → Type 0
-TakesBehind A f opcode from to b next taken = taken ≡ true → IsTakenBehind A (local_type f.locals.params f.locals.groups) f.results.now opcode from to b next
+TakesBehind A f opcode from to b next taken = taken ≡ true → IsTakenBehind A f opcode from to b next
+
+-- the opcodes that are typed from their bytes, by what stands behind them, but for loads, stores and numeric instructions
+abbrev pub is_among : List ℕ → ℕ → Bool
+is_among [] x = false
+is_among (y ∷ ys) x = if x == y then true else is_among ys x
+
+abbrev pub IsAlone : ℕ → Type 0
+IsAlone opcode = is_among (0x00 ∷ 0x01 ∷ 0x0F ∷ 0x1A ∷ 0x1B ∷ []) opcode ≡ true
+
+abbrev pub HasIndex : ℕ → Type 0
+HasIndex opcode = is_among (0x0C ∷ 0x0D ∷ 0x10 ∷ 0x20 ∷ 0x21 ∷ 0x22 ∷ 0x23 ∷ 0x24 ∷ []) opcode ≡ true
+
+abbrev pub HasReserved : ℕ → Type 0
+HasReserved opcode = is_among (0x3F ∷ 0x40 ∷ []) opcode ≡ true
+
+abbrev pub HasConstant : ℕ → Type 0
+HasConstant opcode = is_among (0x41 ∷ 0x42 ∷ 0x43 ∷ 0x44 ∷ []) opcode ≡ true
 
 -- A sign extension was typed, which one profile has.
 pub record IsSigned (A : Ref → Found) (locals : ℕ → Option ValType) (final : List ValType) (opcode : ℕ) (b next : Blocks) : Type 0 where

@@ -1,6 +1,6 @@
 //! Tokens that one profile alone has, typed from their bytes: sign extensions, and blocks of a type index.
 //!
-//! They stand apart from `quick`, so that the loop over the tokens of both profiles is as small as it can be.
+//! They stand apart from `fast_path`, so that the loop over the tokens of both profiles is as small as it can be.
 
 ghost use Rattle.std.specs.Prelude.{◌≡◌, ◌≤◌, false, true, Some, Ok, IfOk, IfSome};
 ghost use Rattle.wk_body.specs.declared.types.BlockType.{BlockType};

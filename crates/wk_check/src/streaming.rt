@@ -8,9 +8,10 @@ ghost use Rattle.wk_check.specs.Streaming.{IsTyped, IsValidBody, GoesOn};
 
 use crate::control::{check_end, check_known, params, results};
 use crate::env::Env;
+use crate::fast_blocks::Met;
+use crate::fast_path::quick;
 use crate::locals::{Locals, put_ends, put_first};
 use crate::machine::Machine;
-use crate::quick_blocks::{Met, quick};
 use crate::quick_extended::{quick_indexed, quick_signed};
 use crate::step::{Function, type_token};
 use crate::stop::Stop;

@@ -1,21 +1,17 @@
-//! Tokens at the front, typed from their bytes: openers, `else` and `end` here, and what stands behind the other opcodes in `quick`.
+//! Openers, `else` and `end` on the fast path (`fast_path`): each is typed behind its opcode, and no token is put together.
 
-ghost use Rattle.std.specs.Prelude.{◌≡◌, [], false, true, None, Ok, IfOk, IfSome};
+ghost use Rattle.std.specs.Prelude.{◌≡◌, [], Ok, IfOk, IfSome};
 ghost use Rattle.wk_body.specs.declared.types.Profile.{Profile};
 ghost use Rattle.wk_body.specs.Reading.{type_at};
-ghost use Rattle.wk_body.specs.TokenReading.{NextRead};
-ghost use Rattle.wk_check.specs.Effects.{local_type};
 ghost use Rattle.wk_check.specs.Levels.{entering, halved, closed};
 ghost use Rattle.wk_check.specs.Moves.{Steps, MadeBy};
-ghost use Rattle.wk_check.specs.Streaming.{IsShort, IsTaken, IsOpened, IsParted, IsClosed};
+ghost use Rattle.wk_check.specs.Streaming.{IsShort, IsOpened, IsParted, IsClosed};
 
 use crate::control::{close_in_line, halve};
 use crate::env::Env;
 use crate::fault::FaultKind;
 use crate::machine::{Machine, Opener};
 use crate::operands::remove;
-use crate::quick::behind;
-use crate::step::Function;
 use crate::stop::{Growth, Stop, in_registers};
 use wk_bytes::Cursor;
 use wk_module::{BlockType, TokenReader, ValType};
@@ -29,16 +25,6 @@ pub(crate) enum Met {
     Last,
     /// A token that is left to others, and nothing was done.
     Other,
-}
-
-// What was met where a token was typed, or is left to others.
-#[inline(always)]
-fn token_if(taken: bool) -> Met
-    ensures yes { result ≡ Met.Token → taken ≡ true }
-    ensures no { result ≡ Met.Other → taken ≡ false }
-    ensures never { result ≡ Met.Last → ⊥ }
-{
-    if taken { Met::Token } else { Met::Other }
 }
 
 // A block type of one byte that names no other type.
@@ -81,9 +67,9 @@ fn begin<E: Env>(
     Ok(())
 }
 
-// What opens a block, behind its opcode, with a test or without one.
+/// What opens a block, behind its opcode, with a test or without one.
 #[inline(always)]
-fn quick_open<E: Env>(
+pub(crate) fn fast_open<E: Env>(
     env: &E,
     test: bool,
     opener: Opener,
@@ -113,9 +99,13 @@ fn part_typed<E: Env>(env: &E, m: &mut Machine) -> Result<(), Stop>
     halve(env, m)
 }
 
-// An `else`. Most have no type, and nothing is left of the branch before.
+/// An `else`. Most have no type, and nothing is left of the branch before.
 #[inline(always)]
-fn quick_else<E: Env>(env: &E, reader: &mut TokenReader, m: &mut Machine) -> Result<Met, Stop>
+pub(crate) fn fast_else<E: Env>(
+    env: &E,
+    reader: &mut TokenReader,
+    m: &mut Machine,
+) -> Result<Met, Stop>
     ensures taken { IfOk result (λ met. met ≡ Met.Token → IsParted (E.answers env.now) reader.old reader.new m.old m.new) }
     ensures left { IfOk result (λ met. met ≡ Met.Other → (m.new ≡ m.old) × (reader.new ≡ reader.old)) }
     ensures never { IfOk result (λ met. met ≡ Met.Last → ⊥) }
@@ -141,9 +131,13 @@ fn close_typed<E: Env>(env: &E, m: &mut Machine) -> Result<Growth, FaultKind>
     in_registers(close_in_line(env, m))
 }
 
-// An `end`. Most close a block of no type in another, and nothing is left of it.
+/// An `end`. Most close a block of no type in another, and nothing is left of it.
 #[inline(always)]
-fn quick_end<E: Env>(env: &E, reader: &mut TokenReader, m: &mut Machine) -> Result<Met, Stop>
+pub(crate) fn fast_end<E: Env>(
+    env: &E,
+    reader: &mut TokenReader,
+    m: &mut Machine,
+) -> Result<Met, Stop>
     ensures taken { IfOk result (λ met. met ≡ Met.Token → IsClosed (E.answers env.now) reader.old reader.new m.old m.new) }
     ensures last { IfOk result (λ met. met ≡ Met.Last → (reader.old.kinds ≡ []) × (m.new ≡ m.old)) }
     ensures never { IfOk result (λ met. met ≡ Met.Other → ⊥) }
@@ -161,32 +155,5 @@ fn quick_end<E: Env>(env: &E, reader: &mut TokenReader, m: &mut Machine) -> Resu
     match close_typed(env, m)? {
         Growth::Made => Ok(Met::Token),
         Growth::Refused => Err(Stop::Memory),
-    }
-}
-
-/// Types the token at the front, if it is one of those that are typed from their bytes. Else the reader and the open blocks are as
-/// they were, and the cursor stands anywhere.
-#[inline(always)]
-pub(crate) fn quick<E: Env>(
-    env: &E,
-    f: &Function<'_>,
-    reader: &mut TokenReader,
-    m: &mut Machine,
-    cursor: &mut Cursor<'_>,
-) -> Result<Met, Stop>
-    ensures taken { (profile : Profile) → IfOk result (λ met. met ≡ Met.Token → IsTaken (E.answers env.now) (local_type f.now.locals.params f.now.locals.groups) f.now.results.now profile reader.old reader.new cursor.old cursor.new m.old m.new) }
-    ensures last { (profile : Profile) → IfOk result (λ met. met ≡ Met.Last → NextRead profile reader.old reader.new cursor.old cursor.new None × (m.new ≡ m.old)) }
-    ensures left { IfOk result (λ met. met ≡ Met.Other → (m.new ≡ m.old) × (reader.new ≡ reader.old)) }
-{
-    let Ok(opcode) = cursor.byte() else {
-        return Ok(Met::Other);
-    };
-    match opcode {
-        0x02 => quick_open(env, false, Opener::Block, reader, m, cursor),
-        0x03 => quick_open(env, false, Opener::Loop, reader, m, cursor),
-        0x04 => quick_open(env, true, Opener::If, reader, m, cursor),
-        0x05 => quick_else(env, reader, m),
-        0x0B => quick_end(env, reader, m),
-        _ => Ok(token_if(behind(env, f, opcode, m, cursor)?)),
     }
 }

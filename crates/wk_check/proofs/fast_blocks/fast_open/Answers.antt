@@ -1,4 +1,4 @@
-use Rattle.wk_check.proofs.quick_blocks.quick_open.Goals as goal
+use Rattle.wk_check.proofs.fast_blocks.fast_open.Goals as goal
 
 pub returns-clause-taken : goal.returns-clause-taken
 returns-clause-taken g c = λ profile yes.
