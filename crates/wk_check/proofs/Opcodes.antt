@@ -73,20 +73,27 @@ abbrev as_tok : Result (Plain × List ℕ) ReadFault → Result (Tok × List ℕ
 as_tok was = was >>= λ p. Ok (Simple p.0, p.1)
 
 -- the token of an instruction that was read and typed
-record TokenTyped (A : Ref → Found) (locals : ℕ → Option ValType) (final : List ValType) (labels : List ℕ) (was : Result (Plain × List ℕ) ReadFault) (rest : List ℕ) (b next : Blocks) : Type 0 where
-  token : Token
-  plain : Plain × List ℕ
-  is_read : was ≡ Ok plain
-  read : as_tok was ≡ Ok (told labels token, rest)
-  within : IsWithin (length labels) token
-  typed : step A locals final (told labels token) b ≡ Ok next
+module _ (A : Ref → Found) (locals : ℕ → Option ValType) (final : List ValType) (labels : List ℕ) (rest : List ℕ) (b next : Blocks) where
+  record TokenTyped (was : Result (Plain × List ℕ) ReadFault) : Type 0 where
+    token : Token
+    plain : Plain × List ℕ
+    is_read : was ≡ Ok plain
+    read : as_tok was ≡ Ok (told labels token, rest)
+    within : IsWithin (length labels) token
+    typed : step A locals final (told labels token) b ≡ Ok next
 
-token_typed : (A : Ref → Found) (locals : ℕ → Option ValType) (final : List ValType) (labels : List ℕ) (was : Result (Plain × List ℕ) ReadFault) (rest : List ℕ) (b next : Blocks)
-    → TypesRead A locals final was rest b (Ok tt) next → TokenTyped A locals final labels was rest b next
-token_typed A locals final labels (Ok p) rest b next h =
-    let k = kept_as p.0 h.0 in
-    record { token = k.token; plain = p; is_read = refl; read = rw (k.is_plain labels, h.1) refl; within = k.within (length labels); typed = rw (k.is_plain labels) h.2 }
-token_typed A locals final labels (Err e) rest b next h = absurd h
+  token_typed : (was : Result (Plain × List ℕ) ReadFault) → TypesRead A locals final was rest b (Ok tt) next → TokenTyped was
+  token_typed (Ok p) h =
+      let k = kept_as p.0 h.0 in
+      record {
+        token = k.token;
+        plain = p;
+        is_read = refl;
+        read = rw (k.is_plain labels, h.1) refl;
+        within = k.within (length labels);
+        typed = rw (k.is_plain labels) h.2;
+      }
+  token_typed (Err e) h = absurd h
 
 sign_at : (e : ReadFault) (end opcode : ℕ) (op : NumericOp) (bytes : List ℕ) → opcode ≤ 0xC4 → numeric_of opcode ≡ Some op → plain_at Extended e opcode end bytes ≡ Ok (Numeric op, bytes)
 unfolding plain_at behind_form form_of
@@ -123,21 +130,24 @@ apart_if = λ e end bytes x h. absurd cc
 differs : (k opcode : ℕ) (e : ReadFault) (end : ℕ) (bytes : List ℕ) (x : Plain × List ℕ) → IsApart k → plain_at Core e opcode end bytes ≡ Ok x → opcode ≡ k → ⊥
 differs k opcode e end bytes x apart h is = apart e end bytes x (subst (λ (o : ℕ). plain_at Core e o end bytes ≡ Ok x) is h)
 
-pub taken : (A : Ref → Found) (f : Function) (profile : Profile) (r : TokenReading) (from mid to : Span) (opcode : ℕ) (b next : Blocks) → (byte_at from.end from.rest ≡ Ok (opcode, mid.rest)) × (mid.end ≡ from.end)
-    → IsTakenBehind A f opcode mid to b next → IsTaken A (local_type f.locals.params f.locals.groups) f.results.now profile r r from to b next
+pub taken : (A : Ref → Found) (f : Function) (profile : Profile) (r : TokenReading) (from mid to : Span) (opcode : ℕ) (b next : Blocks)
+    → (byte_at from.end from.rest ≡ Ok (opcode, mid.rest)) × (mid.end ≡ from.end) → IsTakenBehind A f opcode mid to b next
+    → IsTaken A (local_type f.locals.params f.locals.groups) f.results.now profile r r from to b next
 taken A f profile r from mid to opcode b next front t =
     let locals = local_type f.locals.params f.locals.groups in
     let at = from.end - length (opcode ∷ mid.rest) in
     let e : ReadFault = record { kind = UnknownOpcode; at = at } in
-    let x = token_typed A locals f.results.now r.labels (plain_at profile e opcode mid.end mid.rest) to.rest b next (t.typed profile e) in
-    let core = token_typed A locals f.results.now r.labels (plain_at Core e opcode mid.end mid.rest) to.rest b next (t.typed Core e) in
+    let x = token_typed A locals f.results.now r.labels to.rest b next (plain_at profile e opcode mid.end mid.rest) (t.typed profile e) in
+    let core = token_typed A locals f.results.now r.labels to.rest b next (plain_at Core e opcode mid.end mid.rest) (t.typed Core e) in
     let not = λ (k : ℕ) (apart : IsApart k). differs k opcode e mid.end mid.rest core.plain apart core.is_read in
-    let is = plain_token profile r r opcode at mid to x.token (not 0x0B apart_end) (not 0x05 apart_else) (not 0x02 apart_block) (not 0x03 apart_loop) (not 0x04 apart_if) (x.read, t.same_end) x.within refl in
+    let is = plain_token profile r r opcode at mid to x.token (not 0x0B apart_end) (not 0x05 apart_else) (not 0x02 apart_block) (not 0x03 apart_loop)
+    (not 0x04 apart_if) (x.read, t.same_end) x.within refl in
     let takes : from.rest ≡ opcode ∷ mid.rest = byte_at-takes from.end from.rest opcode mid.rest front.0 in
+    let Reads = λ (end : ℕ). behind_at profile r.kinds at opcode end mid.rest ≡ Ok (told r.labels x.token, to.rest) in
     record {
       token = x.token;
       read = record {
-        read = ap (token_at profile r.kinds from.end) takes ∙ subst (λ (end : ℕ). behind_at profile r.kinds at opcode end mid.rest ≡ Ok (told r.labels x.token, to.rest)) front.1 is.is;
+        read = ap (token_at profile r.kinds from.end) takes ∙ subst Reads front.1 is.is;
         same_end = t.same_end ∙ front.1;
         kinds = is.kinds;
         within = is.within;

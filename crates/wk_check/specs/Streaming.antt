@@ -56,14 +56,16 @@ HasNoLabels (BrTable labels other) = ⊥
 HasNoLabels p = Unit {0}
 
 -- An instruction without labels was read, with the bytes `rest` behind it, and typing it gave this answer.
-abbrev pub TypesRead : (Ref → Found) → (ℕ → Option ValType) → List ValType → Result (Plain × List ℕ) ReadFault → List ℕ → Blocks → Result (Unit {0}) Stop → Blocks → Type 0
+abbrev pub TypesRead : (Ref → Found) → (ℕ → Option ValType) → List ValType → Result (Plain × List ℕ) ReadFault → List ℕ → Blocks
+    → Result (Unit {0}) Stop → Blocks → Type 0
 TypesRead A locals final (Ok p) rest b told next = HasNoLabels p.0 × (p.1 ≡ rest) × Steps (step A locals final (Simple p.0) b) told next
 TypesRead A locals final (Err e) rest b told next = ⊥
 
 -- that, in a function, of what stands behind an opcode from some bytes on, whatever the profile
 abbrev pub TypesBehind : (Ref → Found) → Function → ℕ → ℕ → List ℕ → List ℕ → Blocks → Result (Unit {0}) Stop → Blocks → Type 0
 TypesBehind A f opcode end from rest b told next =
-    (profile : Profile) (e : ReadFault) → TypesRead A (local_type f.locals.params f.locals.groups) f.results.now (plain_at profile e opcode end from) rest b told next
+    (profile : Profile) (e : ReadFault)
+    → TypesRead A (local_type f.locals.params f.locals.groups) f.results.now (plain_at profile e opcode end from) rest b told next
 
 -- The same of what stands behind an opcode, for a token that opens and closes nothing and has no labels: whatever the profile.
 pub record IsTakenBehind (A : Ref → Found) (f : Function) (opcode : ℕ) (from to : Span) (b next : Blocks) : Type 0 where

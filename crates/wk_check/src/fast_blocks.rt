@@ -1,4 +1,4 @@
-//! Openers, `else` and `end` on the fast path (`fast_path`): each is typed behind its opcode, and no token is put together.
+//! Openers, `else` and `end` on the fast path: each is typed behind its opcode, as `fast_path` has it.
 
 ghost use Rattle.std.specs.Prelude.{◌≡◌, [], Ok, IfOk, IfSome};
 ghost use Rattle.wk_body.specs.declared.types.Profile.{Profile};

@@ -1,16 +1,19 @@
-//! The fast path of typing a body while it is read: tokens at the front that are typed where their opcode is looked at.
+//! The fast path of typing a body while it is read: a token is typed where its opcode is looked at.
 //!
-//! The model is reading a token (`TokenReader::next`) and typing it (`type_token`), which put a token together and look at it
-//! twice. Each function here is proved to do what these two do. For the commonest instructions alone `validate` takes 0.83 of
-//! the instructions, and the jobs `judge` and `plugins` are 1.09 and 1.07 times as fast (`docs/PERF.md`).
+//! The model is reading a token (`TokenReader::next`) and typing it (`type_token`), which put it
+//! together and look at it twice. Each function here is proved to do what these two do. With the
+//! commonest instructions alone `validate` takes 0.83 of the instructions, and the jobs `judge` and
+//! `plugins` gain 1.09 and 1.07 in time (`docs/PERF.md`).
 //!
-//! Left to the model, by way of `go` and `read_on` in `streaming`, are
-//! - a `br_table` (0x0E) and each opcode that is unknown in 1.0; of these the sign extensions (0xC0 to 0xC4) are typed from their
-//!   bytes on that way, by `quick_extended`, as are blocks of a type index, in the profile that has them;
+//! Left to the model, by way of `go` and `read_on` of `streaming`, are
+//! - a `br_table` (0x0E), and each opcode that 1.0 does not have;
+//! - in the profile that has them sign extensions (0xC0 to 0xC4) and blocks of a type index, which
+//!   `quick_extended` types from their bytes on that way;
 //! - a token whose bytes are refused, and a block for which there is no room yet.
 //!
-//! There is a function for each form of immediates, in line and with an opcode that is known where it is called: so what it does
-//! for other opcodes is not there when it runs. Openers, `else` and `end` are in `fast_blocks`.
+//! There is a function for each form of immediates. It is in line, and its opcode is a constant at
+//! each call, so that what it does for other opcodes is gone where it runs: an opcode is looked at
+//! once, in `type_operator`. Openers, `else` and `end` are in `fast_blocks`.
 
 ghost use Rattle.std.specs.Prelude.{◌≡◌, ◌≤◌, ℕ, List, None, Ok, Result, false, slice_get, true, IfOk};
 ghost use Rattle.wk_bytes.specs.Span.{byte_at, u32_at};
@@ -39,7 +42,7 @@ use wk_module::{BlockType, MemoryOp, NumericOp, TokenReader, ValType};
 // What a call out of line came to, whose answer went in registers.
 #[inline(always)]
 fn from_registers(told: Result<Growth, FaultKind>) -> Result<(), Stop>
-    ensures { (o : Result Blocks FaultKind) (new : Blocks) → MadeBy o told new → Steps o result new }
+    ensures { (o : Result Blocks FaultKind) (b : Blocks) → MadeBy o told b → Steps o result b }
 {
     match told? {
         Growth::Made => Ok(()),
@@ -66,7 +69,10 @@ fn indirect_typed<E: Env>(env: &E, m: &mut Machine, x: u32) -> Result<Growth, Fa
 // A `br`. Most lead to a block of no types.
 #[inline(always)]
 fn br<E: Env>(env: &E, m: &mut Machine, x: u32) -> Result<(), Stop>
-    ensures { Steps (acting (branch_effect (slice_get (labels_of (E.answers env.now) m.old) x)) m.old) result m.new }
+    ensures { Steps
+        (acting (branch_effect (slice_get (labels_of (E.answers env.now) m.old) x)) m.old)
+        result
+        m.new }
 {
     let Some((_, BlockType::Empty)) = m.head(x as usize) else {
         branch(env, m, x)?;
@@ -79,7 +85,10 @@ fn br<E: Env>(env: &E, m: &mut Machine, x: u32) -> Result<(), Stop>
 // A `br_if`. Most lead to a block of no types.
 #[inline(always)]
 fn br_if<E: Env>(env: &E, m: &mut Machine, x: u32) -> Result<(), Stop>
-    ensures { Steps (acting (branch_if_effect (slice_get (labels_of (E.answers env.now) m.old) x)) m.old) result m.new }
+    ensures { Steps
+        (acting (branch_if_effect (slice_get (labels_of (E.answers env.now) m.old) x)) m.old)
+        result
+        m.new }
 {
     let Some((_, BlockType::Empty)) = m.head(x as usize) else {
         branch_if(env, m, x)?;
@@ -335,8 +344,9 @@ fn numeric_alone<E: Env>(
     Ok(true)
 }
 
-// What stands behind an opcode that opens and closes nothing. Where it isn't taken the open blocks are as they were, and the cursor
-// stands anywhere. (Each opcode has an arm of its own, so that it is looked at once.)
+// What stands behind an opcode that opens and closes nothing. Where it isn't taken the open blocks
+// are as they were, and the cursor stands anywhere. (Arms of one form that were joined, with the
+// opcode handed on, would look at it again.)
 #[inline(always)]
 fn type_operator<E: Env>(
     env: &E,

@@ -6,6 +6,8 @@ use Rattle.wk_check.proofs.fast_path.br_if.Goals as goal
 
 pub returns : goal.returns
 returns g c =
-    let head = rw c.in-Some-default-Empty.field-0-1-is at (sym c.in-Some-default-Empty.is ∙ c.head.ensures) in
-    let label : slice_get (labels_of (g.E.Env.answers c.args.env.now) c.args.m.now) c.args.x ≡ Some [] = label_none (g.E.Env.answers c.args.env.now) c.args.m.now c.args.x c.in-Some-default-Empty.field-0-0 head in
+    let A = g.E.Env.answers c.args.env.now in
+    let empty = c.in-Some-default-Empty in
+    let head = rw empty.field-0-1-is at (sym empty.is ∙ c.head.ensures) in
+    let label : slice_get (labels_of A c.args.m.now) c.args.x ≡ Some [] = label_none A c.args.m.now c.args.x empty.field-0-0 head in
     rw label c.remove.ensures

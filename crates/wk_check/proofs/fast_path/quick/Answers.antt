@@ -6,46 +6,58 @@ use Rattle.wk_check.proofs.fast_path.quick.Goals as goal
 pub returns-in-2-clause-taken : goal.returns-in-2-clause-taken
 returns-in-2-clause-taken g c = λ profile.
     let f = c.args.f.now in
-    met_where Token c.fast_open.result
-    (block_taken (g.E.Env.answers c.args.env.now) (local_type f.locals.params f.locals.groups) f.results.now profile c.args.reader.now c.fast_open.new.reader c.args.cursor.now c.byte.new.self c.fast_open.new.cursor c.args.m.now c.fast_open.new.m (rw c.in-2.is at c.in-Ok.ensures.exact))
-    (c.fast_open.ensures.taken profile)
+    let o = c.fast_open in
+    met_where Token o.result
+    (block_taken (g.E.Env.answers c.args.env.now) (local_type f.locals.params f.locals.groups) f.results.now profile c.args.reader.now o.new.reader
+    c.args.cursor.now c.byte.new.self o.new.cursor c.args.m.now o.new.m (rw c.in-2.is at c.in-Ok.ensures.exact))
+    (o.ensures.taken profile)
 
 pub returns-in-3-clause-taken : goal.returns-in-3-clause-taken
 returns-in-3-clause-taken g c = λ profile.
     let f = c.args.f.now in
-    met_where Token c.fast_open-in-3.result
-    (loop_taken (g.E.Env.answers c.args.env.now) (local_type f.locals.params f.locals.groups) f.results.now profile c.args.reader.now c.fast_open-in-3.new.reader c.args.cursor.now c.byte.new.self c.fast_open-in-3.new.cursor c.args.m.now c.fast_open-in-3.new.m (rw c.in-3.is at c.in-Ok.ensures.exact))
-    (c.fast_open-in-3.ensures.taken profile)
+    let o = c.fast_open-in-3 in
+    met_where Token o.result
+    (loop_taken (g.E.Env.answers c.args.env.now) (local_type f.locals.params f.locals.groups) f.results.now profile c.args.reader.now o.new.reader
+    c.args.cursor.now c.byte.new.self o.new.cursor c.args.m.now o.new.m (rw c.in-3.is at c.in-Ok.ensures.exact))
+    (o.ensures.taken profile)
 
 pub returns-in-4-clause-taken : goal.returns-in-4-clause-taken
 returns-in-4-clause-taken g c = λ profile.
     let f = c.args.f.now in
-    met_where Token c.fast_open-in-4.result
-    (if_taken (g.E.Env.answers c.args.env.now) (local_type f.locals.params f.locals.groups) f.results.now profile c.args.reader.now c.fast_open-in-4.new.reader c.args.cursor.now c.byte.new.self c.fast_open-in-4.new.cursor c.args.m.now c.fast_open-in-4.new.m (rw c.in-4.is at c.in-Ok.ensures.exact))
-    (c.fast_open-in-4.ensures.taken profile)
+    let o = c.fast_open-in-4 in
+    met_where Token o.result
+    (if_taken (g.E.Env.answers c.args.env.now) (local_type f.locals.params f.locals.groups) f.results.now profile c.args.reader.now o.new.reader
+    c.args.cursor.now c.byte.new.self o.new.cursor c.args.m.now o.new.m (rw c.in-4.is at c.in-Ok.ensures.exact))
+    (o.ensures.taken profile)
 
 pub returns-in-5-clause-taken : goal.returns-in-5-clause-taken
 returns-in-5-clause-taken g c = λ profile.
     let f = c.args.f.now in
-    met_where Token c.fast_else.result
-    (else_taken (g.E.Env.answers c.args.env.now) (local_type f.locals.params f.locals.groups) f.results.now profile c.args.reader.now c.fast_else.new.reader c.args.cursor.now c.byte.new.self c.byte.new.self c.args.m.now c.fast_else.new.m (rw c.in-5.is at c.in-Ok.ensures.exact))
-    c.fast_else.ensures.taken
+    let o = c.fast_else in
+    met_where Token o.result
+    (else_taken (g.E.Env.answers c.args.env.now) (local_type f.locals.params f.locals.groups) f.results.now profile c.args.reader.now o.new.reader
+    c.args.cursor.now c.byte.new.self c.byte.new.self c.args.m.now o.new.m (rw c.in-5.is at c.in-Ok.ensures.exact))
+    o.ensures.taken
 
 pub returns-in-11-clause-taken : goal.returns-in-11-clause-taken
 returns-in-11-clause-taken g c = λ profile.
     let f = c.args.f.now in
-    met_where Token c.fast_end.result
-    (end_taken (g.E.Env.answers c.args.env.now) (local_type f.locals.params f.locals.groups) f.results.now profile c.args.reader.now c.fast_end.new.reader c.args.cursor.now c.byte.new.self c.byte.new.self c.args.m.now c.fast_end.new.m (rw c.in-11.is at c.in-Ok.ensures.exact))
-    c.fast_end.ensures.taken
+    let o = c.fast_end in
+    met_where Token o.result
+    (end_taken (g.E.Env.answers c.args.env.now) (local_type f.locals.params f.locals.groups) f.results.now profile c.args.reader.now o.new.reader
+    c.args.cursor.now c.byte.new.self c.byte.new.self c.args.m.now o.new.m (rw c.in-11.is at c.in-Ok.ensures.exact))
+    o.ensures.taken
 
 pub returns-in-11-clause-last : goal.returns-in-11-clause-last
 returns-in-11-clause-last g c = λ profile.
     let f = c.args.f.now in
-    met_where Last c.fast_end.result
-    (λ none. (last_end (g.E.Env.answers c.args.env.now) (local_type f.locals.params f.locals.groups) f.results.now profile c.args.reader.now c.fast_end.new.reader c.args.cursor.now c.byte.new.self c.byte.new.self c.args.m.now c.fast_end.new.m (rw c.in-11.is at c.in-Ok.ensures.exact) none.0, none.1))
-    c.fast_end.ensures.last
+    let o = c.fast_end in
+    met_where Last o.result
+    (λ none. (last_end (g.E.Env.answers c.args.env.now) (local_type f.locals.params f.locals.groups) f.results.now profile c.args.reader.now o.new.reader
+    c.args.cursor.now c.byte.new.self c.byte.new.self c.args.m.now o.new.m (rw c.in-11.is at c.in-Ok.ensures.exact) none.0, none.1))
+    o.ensures.last
 
 pub returns-in_ok-type_operator-in_default-opcode-clause-taken : goal.returns-in_ok-type_operator-in_default-opcode-clause-taken
 returns-in_ok-type_operator-in_default-opcode-clause-taken g c = λ profile yes.
-    taken (g.E.Env.answers c.args.env.now) c.args.f.now profile c.args.reader.now c.args.cursor.now c.byte.new.self c.type_operator.new.cursor c.in-Ok.opcode c.args.m.now c.type_operator.new.m c.in-Ok.ensures.exact
-    (c.in_ok-type_operator-in_default-opcode.ensures.taken (c.token_if.ensures.yes yes))
+    taken (g.E.Env.answers c.args.env.now) c.args.f.now profile c.args.reader.now c.args.cursor.now c.byte.new.self c.type_operator.new.cursor
+    c.in-Ok.opcode c.args.m.now c.type_operator.new.m c.in-Ok.ensures.exact (c.in_ok-type_operator-in_default-opcode.ensures.taken (c.token_if.ensures.yes yes))
