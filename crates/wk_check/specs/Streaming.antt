@@ -90,8 +90,11 @@ HasIndex opcode = is_among (0x0C ∷ 0x0D ∷ 0x10 ∷ 0x20 ∷ 0x21 ∷ 0x22 �
 abbrev pub HasReserved : ℕ → Type 0
 HasReserved opcode = is_among (0x3F ∷ 0x40 ∷ []) opcode ≡ true
 
-abbrev pub HasConstant : ℕ → Type 0
-HasConstant opcode = is_among (0x41 ∷ 0x42 ∷ 0x43 ∷ 0x44 ∷ []) opcode ≡ true
+abbrev pub HasSigned : ℕ → Type 0
+HasSigned opcode = is_among (0x41 ∷ 0x42 ∷ []) opcode ≡ true
+
+abbrev pub HasWord : ℕ → Type 0
+HasWord opcode = is_among (0x43 ∷ 0x44 ∷ []) opcode ≡ true
 
 -- A sign extension was typed, which one profile has.
 pub record IsSigned (A : Ref → Found) (locals : ℕ → Option ValType) (final : List ValType) (opcode : ℕ) (b next : Blocks) : Type 0 where

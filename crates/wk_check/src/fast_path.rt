@@ -23,7 +23,7 @@ ghost use Rattle.wk_body.specs.TokenReading.{NextRead};
 ghost use Rattle.wk_check.specs.Effects.{branch_effect, branch_if_effect, call_effect, indirect_effect, local_type};
 ghost use Rattle.wk_check.specs.Levels.{Blocks, labels_of};
 ghost use Rattle.wk_check.specs.Moves.{acting, MadeBy, Steps};
-ghost use Rattle.wk_check.specs.Streaming.{IsAlone, HasIndex, HasReserved, HasConstant, TypesBehind, TakesBehind, IsTaken};
+ghost use Rattle.wk_check.specs.Streaming.{IsAlone, HasIndex, HasReserved, HasSigned, HasWord, TypesBehind, TakesBehind, IsTaken};
 
 use crate::control::{branch, branch_if, call_in_line, call_indirect_in_line};
 use crate::env::Env;
@@ -240,17 +240,17 @@ fn reserved<E: Env>(
     Ok(true)
 }
 
-// A constant.
+// One with a signed integer: a constant.
 #[tactic(auto, unfolding(wk_body::specs::Reading::plain_at, wk_body::specs::Reading::behind_form, wk_body::specs::Instructions::form_of))]
 #[inline(always)]
-fn constant<E: Env>(
+fn signed<E: Env>(
     env: &E,
     f: &Function<'_>,
     opcode: u8,
     m: &mut Machine,
     cursor: &mut Cursor<'_>,
 ) -> Result<bool, Stop>
-    requires { HasConstant opcode }
+    requires { HasSigned opcode }
     ensures taken { IfOk result
         (TakesBehind (E.answers env.now) f.now opcode cursor.old cursor.new m.old m.new) }
     ensures left { IfOk result (λ t. t ≡ false → m.new ≡ m.old) }
@@ -272,6 +272,26 @@ fn constant<E: Env>(
             give(m, ValType::I64)?;
             Ok(true)
         }
+        _ => unreachable!(),
+    }
+}
+
+// One with a word: a constant of a float.
+#[tactic(auto, unfolding(wk_body::specs::Reading::plain_at, wk_body::specs::Reading::behind_form, wk_body::specs::Instructions::form_of))]
+#[inline(always)]
+fn word<E: Env>(
+    env: &E,
+    f: &Function<'_>,
+    opcode: u8,
+    m: &mut Machine,
+    cursor: &mut Cursor<'_>,
+) -> Result<bool, Stop>
+    requires { HasWord opcode }
+    ensures taken { IfOk result
+        (TakesBehind (E.answers env.now) f.now opcode cursor.old cursor.new m.old m.new) }
+    ensures left { IfOk result (λ t. t ≡ false → m.new ≡ m.old) }
+{
+    match opcode {
         // f32.const
         0x43 => {
             let Ok(_) = cursor.word32() else {
@@ -292,7 +312,7 @@ fn constant<E: Env>(
     }
 }
 
-// A load or a store.
+// One with an alignment and an offset: a load or a store.
 #[tactic(auto, unfolding(wk_body::specs::Reading::plain_at, wk_body::specs::Reading::behind_form, wk_body::specs::Instructions::form_of))]
 #[inline(always)]
 fn memarg<E: Env>(
@@ -321,7 +341,7 @@ fn memarg<E: Env>(
     Ok(true)
 }
 
-// A numeric instruction of both profiles.
+// A numeric instruction of both profiles, which has no immediates.
 #[tactic(auto, unfolding(wk_body::specs::Reading::plain_at, wk_body::specs::Reading::behind_form, wk_body::specs::Instructions::form_of))]
 #[inline(always)]
 fn numeric_alone<E: Env>(
@@ -377,10 +397,10 @@ fn type_operator<E: Env>(
         0x28..=0x3E => memarg(env, f, opcode, m, cursor),
         0x3F => reserved(env, f, 0x3F, m, cursor), // memory.size
         0x40 => reserved(env, f, 0x40, m, cursor), // memory.grow
-        0x41 => constant(env, f, 0x41, m, cursor), // i32.const
-        0x42 => constant(env, f, 0x42, m, cursor), // i64.const
-        0x43 => constant(env, f, 0x43, m, cursor), // f32.const
-        0x44 => constant(env, f, 0x44, m, cursor), // f64.const
+        0x41 => signed(env, f, 0x41, m, cursor), // i32.const
+        0x42 => signed(env, f, 0x42, m, cursor), // i64.const
+        0x43 => word(env, f, 0x43, m, cursor), // f32.const
+        0x44 => word(env, f, 0x44, m, cursor), // f64.const
         0x45..=0xBF => numeric_alone(env, f, opcode, m, cursor),
         _ => Ok(false),
     }

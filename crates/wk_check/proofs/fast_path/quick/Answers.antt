@@ -53,8 +53,11 @@ returns-in-11-clause-last g c = λ profile.
     let f = c.args.f.now in
     let o = c.fast_end in
     met_where Last o.result
-    (λ none. (last_end (g.E.Env.answers c.args.env.now) (local_type f.locals.params f.locals.groups) f.results.now profile c.args.reader.now o.new.reader
-    c.args.cursor.now c.byte.new.self c.byte.new.self c.args.m.now o.new.m (rw c.in-11.is at c.in-Ok.ensures.exact) none.0, none.1))
+    (λ none. (
+      last_end (g.E.Env.answers c.args.env.now) (local_type f.locals.params f.locals.groups) f.results.now profile c.args.reader.now o.new.reader
+          c.args.cursor.now c.byte.new.self c.byte.new.self c.args.m.now o.new.m (rw c.in-11.is at c.in-Ok.ensures.exact) none.0,
+      none.1,
+    ))
     o.ensures.last
 
 pub returns-in_ok-type_operator-in_default-opcode-clause-taken : goal.returns-in_ok-type_operator-in_default-opcode-clause-taken
