@@ -40,7 +40,8 @@ pub fn list_bodies(parts: &[Part]) -> bool
     parts.iter().any(|part| part.lists_bodies())
 }
 
-/// Lists these parts of a module whose bodies were not kept, one behind the other, as [`list_parts`] does of the whole module.
+/// Lists these parts of a module whose bodies were not kept, one behind the other, as [`list_parts`] does of the whole module. None
+/// of them is [`Code`](Part::Code) or [`Uses`](Part::Uses), which tell of bodies.
 ///
 /// # Errors
 ///

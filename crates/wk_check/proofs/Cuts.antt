@@ -1,18 +1,21 @@
 -- How the machine's moves cut the operand stack.
-use Rattle.std.proofs.Common.{◌≡◌, ℕ, zero, suc, ◌-◌, ◌<◌, ◌≤◌, true, false, List, [], ◌∷◌, ◌++◌, length, take, drop, reverse, get_or, Ok, Err, Option, Some, None, IsTrue, nat_eq, refl, sym, ap, ◌∙◌, subst, arith, length-append}
-use Rattle.std.specs.Prelude.{slice_get}
-use Rattle.std.proofs.lemmas.List.{reverse-append, length-reverse, take-append-drop, drop_at, length-take, length-drop, get_or-reverse}
+use Rattle.std.proofs.Common.{◌≡◌, ℕ, zero, suc, ◌+◌, ◌-◌, ◌<◌, ◌≤◌, true, false, List, [], ◌∷◌, ◌++◌, length, take, drop, reverse, get_or, Ok, Err, Option, Some, None, IsTrue, nat_eq, refl, sym, ap, ◌∙◌, subst, arith, length-append}
+use Rattle.std.specs.Prelude.{slice_get, set, Result}
+use Rattle.wk_bytes.specs.Leb.{◌>>=◌}
+use Rattle.wk_bytes.specs.LebLaws.{ok_is}
+use Rattle.wk_check.specs.declared.fault.FaultKind.{FaultKind}
+use Rattle.std.proofs.lemmas.List.{reverse-append, length-reverse, take-append-drop, drop_at, length-take, length-drop, length-set, take_all, take_more, take_more_set, get_or-take, get_or-reverse}
 use Rattle.std.proofs.lemmas.Option.{slice_get_past, slice_get-get_or}
-use Rattle.wk_check.specs.Slots.{Slot, AnyType}
+use Rattle.wk_check.specs.Slots.{Slot, AnyType, fits}
 use Rattle.wk_check.specs.declared.fault.FaultKind.TheVariants.{StackUnderflow}
 use Rattle.wk_check.specs.declared.machine.Opener.{Opener}
 use Rattle.wk_body.specs.declared.types.BlockType.{BlockType}
 use Rattle.wk_check.specs.declared.machine.Frame.{Frame}
-use Rattle.wk_check.specs.Own.{stopped, is_empty, popped_any, top_of}
+use Rattle.wk_check.specs.Own.{Own, stopped, is_empty, popped_any, checked, top_of}
 use Rattle.std.proofs.lemmas.Bool.Decides.{nat_tests}
 use Rattle.wk_check.specs.Levels.{Blocks, blocks, with_top}
 use Rattle.wk_check.specs.Cuts.{level_of, levels_of, blocks_of, Cuts}
-use Rattle.wk_check.specs.Moves.{pushed_on, left_by, stopped_on, Pops, popped_on, popped_by, own_is_empty, head_in, head_at}
+use Rattle.wk_check.specs.Moves.{pushed_on, left_by, stopped_on, Pops, popped_on, popped_by, turned_on, joined_on, own_is_empty, head_in, head_at}
 
 pub reverse_push : {A : Type 0} (xs : List A) (x : A) → reverse (xs ++ x ∷ []) ≡ x ∷ reverse xs
 reverse_push xs x = reverse-append xs (x ∷ [])
@@ -56,6 +59,66 @@ module _ (f : Frame) (fs : List Frame) (xs ys : List Slot) (x : Slot) (st : Bloc
       let was : pushed_on x new ≡ st = sym (ap (blocks_of f fs) (ap reverse e ∙ reverse_push ys x) ∙ levels_pushed f fs (reverse ys) x (pop_height e lt)) ∙ is in
       let P : Blocks → Type 0 = λ s. Pops (popped_on popped_any s) (Ok x) new in
       subst P was refl
+
+-- what is popped, where it fits what is wanted
+popped_fits : (want x : Slot) (st mid : Blocks) (m : Result (Slot × Own) FaultKind) → popped_by m st ≡ Ok (x, mid) → fits want x ≡ true → popped_by (m >>= λ p. checked (fits want p.0) p) st ≡ Ok (x, mid)
+popped_fits want x st mid (Ok p) e fit =
+    let top : p.0 ≡ x = ap (λ (q : Slot × Blocks). q.0) (ok_is {E = FaultKind} _ _ e) in
+    rw (ap (fits want) top ∙ fit) e
+popped_fits want x st mid (Err k) e fit = absurd cc
+
+-- another operand in the place of the last one
+module _ (f : Frame) (fs : List Frame) (xs zs : List Slot) (n : ℕ) (x g : Slot) (st : Blocks) (is : blocks_of f fs (reverse xs) ≡ st) (cuts : Cuts (f ∷ fs) (reverse xs))
+    (lt : f.height < length xs) (last : n + 1 ≡ length xs) (at : x ≡ get_or xs n x) (put : zs ≡ set xs n g) where
+  abbrev beneath : List Slot
+  beneath = take n xs
+
+  was : xs ≡ beneath ++ x ∷ []
+  was = sym (take_all (n + 1) xs (omega (arith, last))) ∙ take_more xs n x (omega (arith, last)) ∙ ap (λ y. beneath ++ y ∷ []) (sym at)
+
+  becomes : zs ≡ beneath ++ g ∷ []
+  becomes = put ∙ sym (take_all (n + 1) (set xs n g) (omega (arith, last, length-set xs n g))) ∙ take_more_set xs n g (omega (arith, last))
+
+  beneath_cuts : Cuts (f ∷ fs) (reverse beneath)
+  beneath_cuts = pop_cuts f fs xs beneath x st is cuts was lt
+
+  pub turn_cuts : Cuts (f ∷ fs) (reverse zs)
+  turn_cuts = push_cuts f fs beneath zs g (blocks_of f fs (reverse beneath)) refl beneath_cuts becomes
+
+  -- which fits
+  pub turn_levels : (want : Slot) → fits want x ≡ true → turned_on want g st ≡ Ok (blocks_of f fs (reverse zs))
+  turn_levels want fit =
+      let mid = blocks_of f fs (reverse beneath) in
+      ap (λ r. r >>= λ p. Ok (pushed_on g (p.1))) (popped_fits want x st mid (popped_any st.inner.own) (pop_levels f fs xs beneath x st is cuts was lt) fit)
+      ∙ ap Ok (sym (push_levels f fs beneath zs g mid refl beneath_cuts becomes))
+
+-- another operand in the place of the last two
+module _ (f : Frame) (fs : List Frame) (xs ys zs : List Slot) (n : ℕ) (x y g : Slot) (st : Blocks) (is : blocks_of f fs (reverse xs) ≡ st) (cuts : Cuts (f ∷ fs) (reverse xs))
+    (le : f.height + 2 ≤ length xs) (last : n + 2 ≡ length xs) (at : x ≡ get_or xs (n + 1) x) (below : y ≡ get_or xs n y) (cut : ys ≡ take (n + 1) xs) (put : zs ≡ set ys n g) where
+  parted : xs ≡ ys ++ x ∷ []
+  parted =
+      sym (take_all (n + 1 + 1) xs (omega (arith, last))) ∙ take_more xs (n + 1) x (omega (arith, last)) ∙ ap (λ z. take (n + 1) xs ++ z ∷ []) (sym at) ∙ ap (λ w. w ++ x ∷ []) (sym cut)
+
+  one_less : n + 1 ≡ length ys
+  one_less = omega (arith, last, ap length cut, length-take (n + 1) xs)
+
+  still : y ≡ get_or ys n y
+  still = below ∙ sym (get_or-take (n + 1) xs n y (omega arith)) ∙ ap (λ w. get_or w n y) (sym cut)
+
+  shorter_cuts : Cuts (f ∷ fs) (reverse ys)
+  shorter_cuts = pop_cuts f fs xs ys x st is cuts parted (omega (arith, le))
+
+  higher : f.height < length ys
+  higher = omega (arith, le, last, one_less)
+
+  pub join_cuts : Cuts (f ∷ fs) (reverse zs)
+  join_cuts = turn_cuts f fs ys zs n y g (blocks_of f fs (reverse ys)) refl shorter_cuts higher one_less still put
+
+  pub join_levels : (want : Slot) → fits want x ≡ true → fits want y ≡ true → joined_on want g st ≡ Ok (blocks_of f fs (reverse zs))
+  join_levels want fit fit' =
+      let mid = blocks_of f fs (reverse ys) in
+      ap (λ r. r >>= λ p. turned_on want g (p.1)) (popped_fits want x st mid (popped_any st.inner.own) (pop_levels f fs xs ys x st is cuts parted (omega (arith, le))) fit)
+      ∙ turn_levels f fs ys zs n y g mid refl shorter_cuts higher one_less still put want fit'
 
 module _ (f : Frame) (fs : List Frame) (xs : List Slot) (st : Blocks) (is : blocks_of f fs (reverse xs) ≡ st) (le : length xs ≤ f.height) where
   no_gap_left : length (reverse xs) - f.height ≡ 0

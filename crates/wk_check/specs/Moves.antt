@@ -11,7 +11,7 @@ use Rattle.wk_check.specs.declared.stop.Growth.TheVariants as growths
 use Rattle.wk_check.specs.declared.machine.Opener.{Opener}
 use Rattle.wk_check.specs.declared.machine.Opener.TheVariants as openers
 use Rattle.wk_check.specs.Slots.{Slot}
-use Rattle.wk_check.specs.Own.{Own, TokenFault, ended, pushed_one, stopped, fresh, is_empty}
+use Rattle.wk_check.specs.Own.{Own, TokenFault, ended, popped_one, pushed_one, stopped, fresh, is_empty}
 use Rattle.wk_check.specs.Effects.{Effect}
 use Rattle.wk_check.specs.Typing.{after_effect}
 use Rattle.wk_check.specs.Levels.{Level, Blocks, blocks, with_top}
@@ -54,6 +54,14 @@ popped_by (Err e) b = Err e
 
 abbrev pub popped_on : (Own → Result (Slot × Own) FaultKind) → Blocks → Result (Slot × Blocks) FaultKind
 popped_on f b = popped_by (f b.inner.own) b
+
+-- an operand that fits is popped from the innermost block's own stack, and another pushed
+abbrev pub turned_on : Slot → Slot → Blocks → Result Blocks FaultKind
+turned_on want x b = popped_on (popped_one want) b >>= λ p. Ok (pushed_on x (p.1))
+
+-- two that fit are popped, and another pushed
+abbrev pub joined_on : Slot → Slot → Blocks → Result Blocks FaultKind
+joined_on want x b = popped_on (popped_one want) b >>= λ p. turned_on want x (p.1)
 
 -- a change of the innermost block's own stack
 abbrev pub on_top : (Own → Result Own FaultKind) → Blocks → Result Blocks FaultKind

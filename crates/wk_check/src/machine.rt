@@ -1,8 +1,8 @@
 //! The operand stack and the control frames.
 
-ghost use Rattle.std.specs.Prelude.{◌≡◌, OnOk, IsTrue};
+ghost use Rattle.std.specs.Prelude.{◌≡◌, true, false, Ok, OnOk, IsTrue};
 ghost use Rattle.wk_check.specs.Own.{popped_any, is_empty};
-ghost use Rattle.wk_check.specs.Moves.{pushed_on, entered_by, left_by, stopped_on, restarted_on, Pops, popped_on, body_of, own_is_empty, own_is_spent, head_at};
+ghost use Rattle.wk_check.specs.Moves.{pushed_on, entered_by, left_by, stopped_on, restarted_on, Pops, popped_on, body_of, own_is_empty, own_is_spent, turned_on, joined_on, head_at};
 
 use crate::fault::FaultKind;
 use crate::operand::Operand;
@@ -127,6 +127,39 @@ impl Machine {
         } else {
             Err(FaultKind::StackUnderflow)
         }
+    }
+
+    /// Puts an operand in the place of the innermost block's last one, where there is one that fits: a pop and a push, without a
+    /// look for room between them. Else nothing is done.
+    #[inline(always)]
+    pub(crate) fn turn_top(&mut self, want: Operand, given: Operand) -> bool
+        ensures turned { result ≡ true → turned_on want given self.old ≡ Ok self.new }
+        ensures left { result ≡ false → self.new ≡ self.old }
+    {
+        let len = self.operands.len();
+        if self.inner.height >= len || !want.fits(self.operands[len - 1]) {
+            return false;
+        }
+        self.operands[len - 1] = given;
+        true
+    }
+
+    /// Puts an operand in the place of the innermost block's last two, where there are two that fit. Else nothing is done.
+    #[inline(always)]
+    pub(crate) fn join_top(&mut self, want: Operand, given: Operand) -> bool
+        ensures joined { result ≡ true → joined_on want given self.old ≡ Ok self.new }
+        ensures left { result ≡ false → self.new ≡ self.old }
+    {
+        let len = self.operands.len();
+        if len - self.inner.height < 2
+            || !want.fits(self.operands[len - 1])
+            || !want.fits(self.operands[len - 2])
+        {
+            return false;
+        }
+        self.operands.truncate(len - 1);
+        self.operands[len - 2] = given;
+        true
     }
 
     /// Whether the innermost block's own stack is empty.

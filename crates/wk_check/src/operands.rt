@@ -6,13 +6,13 @@ ghost use Rattle.wk_check.specs.Own.{popped_one, popped, popped_any, pushed};
 ghost use Rattle.wk_check.specs.Effects.{same_types, Takes, Stops, Drops, Selects};
 ghost use Rattle.wk_check.specs.Typing.{after_effect, with_index};
 ghost use Rattle.wk_check.specs.Levels.{with_top};
-ghost use Rattle.wk_check.specs.Moves.{Pops, popped_on, pushed_on, Does, Steps, on_top};
+ghost use Rattle.wk_check.specs.Moves.{Pops, popped_on, pushed_on, Does, Steps, MadeBy, on_top};
 ghost use Rattle.wk_body.specs.declared.types.ValType.TheVariants.{I32};
 
 use crate::fault::FaultKind;
 use crate::machine::Machine;
 use crate::operand::Operand;
-use crate::stop::Stop;
+use crate::stop::{Growth, Stop, in_registers};
 use wk_bytes::OutOfMemory;
 use wk_module::ValType;
 
@@ -160,15 +160,6 @@ pub(crate) fn remove(m: &mut Machine, ty: ValType) -> Result<(), Stop>
     Ok(())
 }
 
-/// Pops an operand and pushes a result.
-#[inline(always)]
-pub(crate) fn turn(m: &mut Machine, operand: ValType, given: ValType) -> Result<(), Stop>
-    ensures { Steps (on_top (after_effect (Takes (operand ∷ []) (given ∷ []))) m.old) result m.new }
-{
-    pop_type(m, operand)?;
-    give(m, given)
-}
-
 /// Pops two operands, the second first.
 #[inline(always)]
 pub(crate) fn remove_two(m: &mut Machine, first: ValType, second: ValType) -> Result<(), Stop>
@@ -178,13 +169,69 @@ pub(crate) fn remove_two(m: &mut Machine, first: ValType, second: ValType) -> Re
     remove(m, first)
 }
 
-/// Pops two operands of one type and pushes a result.
+// Pops an operand and pushes a result, one after the other.
+#[inline(always)]
+fn turn_in_steps(m: &mut Machine, operand: ValType, given: ValType) -> Result<(), Stop>
+    ensures { Steps (on_top (after_effect (Takes (operand ∷ []) (given ∷ []))) m.old) result m.new }
+{
+    pop_type(m, operand)?;
+    give(m, given)
+}
+
+// The same out of line, for what `turn` finds no operand of.
+#[cold]
+#[inline(never)]
+fn turn_apart(m: &mut Machine, operand: ValType, given: ValType) -> Result<Growth, FaultKind>
+    ensures { MadeBy (on_top (after_effect (Takes (operand ∷ []) (given ∷ []))) m.old) result m.new }
+{
+    in_registers(turn_in_steps(m, operand, given))
+}
+
+/// Pops an operand and pushes a result. Where the operand is there, the result takes its place: that is a pop and a push without
+/// a look for room.
+#[inline(always)]
+pub(crate) fn turn(m: &mut Machine, operand: ValType, given: ValType) -> Result<(), Stop>
+    ensures { Steps (on_top (after_effect (Takes (operand ∷ []) (given ∷ []))) m.old) result m.new }
+{
+    if m.turn_top(Operand::known(operand), Operand::known(given)) {
+        return Ok(());
+    }
+    match turn_apart(m, operand, given)? {
+        Growth::Made => Ok(()),
+        Growth::Refused => Err(Stop::Memory),
+    }
+}
+
+// Pops two operands of one type and pushes a result, one after the other.
+#[inline(always)]
+fn join_in_steps(m: &mut Machine, operand: ValType, given: ValType) -> Result<(), Stop>
+    ensures { Steps (on_top (after_effect (Takes (operand ∷ operand ∷ []) (given ∷ []))) m.old) result m.new }
+{
+    pop_type(m, operand)?;
+    turn_in_steps(m, operand, given)
+}
+
+// The same out of line, for what `join` finds no operands of.
+#[cold]
+#[inline(never)]
+fn join_apart(m: &mut Machine, operand: ValType, given: ValType) -> Result<Growth, FaultKind>
+    ensures { MadeBy (on_top (after_effect (Takes (operand ∷ operand ∷ []) (given ∷ []))) m.old) result m.new }
+{
+    in_registers(join_in_steps(m, operand, given))
+}
+
+/// Pops two operands of one type and pushes a result. Where both are there, the result takes the place of the first.
 #[inline(always)]
 pub(crate) fn join(m: &mut Machine, operand: ValType, given: ValType) -> Result<(), Stop>
     ensures { Steps (on_top (after_effect (Takes (operand ∷ operand ∷ []) (given ∷ []))) m.old) result m.new }
 {
-    pop_type(m, operand)?;
-    turn(m, operand, given)
+    if m.join_top(Operand::known(operand), Operand::known(given)) {
+        return Ok(());
+    }
+    match join_apart(m, operand, given)? {
+        Growth::Made => Ok(()),
+        Growth::Refused => Err(Stop::Memory),
+    }
 }
 
 /// Pops any operand.

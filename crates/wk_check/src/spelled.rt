@@ -234,15 +234,17 @@ pub fn judge_bytes(alloc: Global, bytes: &[u8], profile: Profile) -> Result<Verd
     judge_spelling(alloc, bytes, profile, false)
 }
 
-/// Judges the module of a profile that bytes are known to spell, as [`judge_bytes`] does. Behind its first fault no body is read, so that
-/// one that is invalid in front costs no more than its lists.
+/// Judges the module of a profile that bytes are known to spell (5.5.15, 3.4.10), as [`judge_bytes`] does. Behind its first fault no
+/// body is read, so that one that is invalid in front costs no more than its lists.
 ///
 /// # Errors
 ///
 /// [`OutOfMemory`] where a growth is refused.
 pub fn judge_spelled(alloc: Global, bytes: &[u8], profile: Profile) -> Result<Verdict, OutOfMemory>
     requires { (m : PartsOf) × (module_at profile bytes.now ≡ Ok m) }
-    ensures { (m : PartsOf) → module_at profile bytes.now ≡ Ok m → IfOk result (λ v. v ≡ module_verdict m) }
+    ensures exact { (m : PartsOf) → module_at profile bytes.now ≡ Ok m → IfOk result (λ v. v ≡ module_verdict m) }
+    ensures meaning { IfOk result (λ verdict. IsVerdictOf (module_at profile bytes.now) verdict) }
+    ensures valid { IfOk result (λ verdict. verdict ≡ Verdict.Valid ↔ IsValidRead (module_at profile bytes.now)) }
 {
     match judge_spelling(alloc, bytes, profile, true) {
         Ok(verdict) => Ok(verdict),

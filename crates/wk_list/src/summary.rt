@@ -5,6 +5,8 @@ ghost use Rattle.std.specs.Io.KnownBytes.{Appends};
 ghost use Rattle.wk_bytes.specs.Stands.{StandsIn};
 ghost use Rattle.wk_bytes.specs.Taken.{TakesFront};
 ghost use Rattle.wk_body.specs.Reads.{Reads};
+ghost use Rattle.wk_module.specs.declared.types.Parts.{Parts as PartsOf};
+ghost use Rattle.wk_module.specs.Writing.{Fits};
 ghost use Rattle.wk_module.specs.Modules.{Spells, SpellsNone};
 ghost use Rattle.wk_module.specs.Reading.{module_at};
 ghost use Rattle.wk_list.specs.Listing.{listing, lists_bodies};
@@ -53,7 +55,7 @@ impl<'a> Model for Summary<'a> {
 impl<'a> Summary<'a> {
     /// Reads the module of a profile that the bytes spell (5.5.15), as `read_in` of `wk_module` does, and keeps no body.
     ///
-    /// Each code is read once. The memory taken is that of the lists, of a stub and a number for each body, and room for the longest code.
+    /// Each code is read once, but for one that is refused. The memory taken is that of the lists, of a stub and a number for each body, and room for the longest code.
     ///
     /// # Errors
     ///
@@ -62,6 +64,9 @@ impl<'a> Summary<'a> {
     pub fn read(alloc: Global, bytes: &'a [u8], profile: Profile) -> Result<Summary<'a>, ReadFault>
         ensures exact { Reads (λ m. m) result (module_at profile bytes.now) }
         ensures found { IfOk result (λ m. Spells bytes.now m) }
+        ensures profile { IfOk result (λ m. m.profile ≡ profile) }
+        ensures only { IfOk result (λ m. (n : PartsOf) → n.profile ≡ profile → Spells bytes.now n → n ≡ m) }
+        ensures fits { IfOk result (λ m. Fits m) }
         ensures refused { IfErr result (λ e. e.kind ≢ ReadKind.Memory → SpellsNone profile bytes.now) }
         ensures fault { IfErr result (λ e. StandsIn bytes.now e) }
     {
@@ -122,7 +127,8 @@ fn list_summary_part<W: Out>(
     }
 }
 
-/// Writes the headers or the details of a module whose bodies were not kept, as [`list`](crate::list) does of the whole module.
+/// Writes the headers or the details of a module whose bodies were not kept, as [`list`](crate::list) does of the whole module. The
+/// parts [`Code`](Part::Code) and [`Uses`](Part::Uses) tell of bodies, and are not among those that it lists.
 ///
 /// # Errors
 ///

@@ -1,9 +1,8 @@
-use Rattle.std.proofs.Common.{[], ◌∷◌}
-use Rattle.std.proofs.lemmas.Result.{err_from_is_err_and}
-use Rattle.wk_check.proofs.Popping.{takes_then, fails_first}
+use Rattle.std.proofs.Common.{◌∙◌}
+use Rattle.wk_check.proofs.Popping.{turns}
 use Rattle.wk_check.proofs.operands.turn.Goals as goal
 
-pub returns-in_err-pop_type : goal.returns-in_err-pop_type
-returns-in_err-pop_type c =
-    let p = err_from_is_err_and c.from_residual.result c.from_residual.ensures.1 in
-    rw (p.1, p.2) (fails_first _ _ _ _ (takes_then (c.args.operand ∷ []) (c.args.given ∷ []) c.args.m.now) c.in_err-pop_type.ensures)
+pub returns-then-turn_top : goal.returns-then-turn_top
+returns-then-turn_top c =
+    let done = c.turn_top.ensures.turned c.if-turn_top.true in
+    turns c.args.operand c.args.given c.args.m.now ∙ rw (c.known.ensures, c.known-2.ensures) at done

@@ -1,0 +1,18 @@
+use Rattle.std.proofs.Common.{◌<◌, ◌+◌, ◌-◌, ◌≡◌, length, arith, refl, sym, ◌∙◌}
+use Rattle.wk_check.proofs.Cuts.{turn_cuts, turn_levels}
+use Rattle.wk_check.proofs.machine.Machine.turn_top.Goals as goal
+
+pub invariant_of-self : goal.invariant_of-self
+invariant_of-self c =
+    let xs = c.self.inside.operands.items in
+    let lt : c.self.inside.inner.height < length xs = omega (arith, c.self.inside.operands.ok.0) in
+    let last : c.len-len.result - 1 + 1 ≡ length xs = omega (arith, c.self.inside.operands.ok.0) in
+    turn_cuts c.self.inside.inner _ xs _ (c.len-len.result - 1) c.index.result.now c.args.given _ c.self.view_is c.self.invariant lt last c.index.ensures refl
+
+pub returns-clause-turned : goal.returns-clause-turned
+returns-clause-turned c = λ yes.
+    let xs = c.self.inside.operands.items in
+    let lt : c.self.inside.inner.height < length xs = omega (arith, c.self.inside.operands.ok.0) in
+    let last : c.len-len.result - 1 + 1 ≡ length xs = omega (arith, c.self.inside.operands.ok.0) in
+    let fit = sym c.fits.ensures ∙ c.if-not-fits.false in
+    turn_levels c.self.inside.inner _ xs _ (c.len-len.result - 1) c.index.result.now c.args.given _ c.self.view_is c.self.invariant lt last c.index.ensures refl c.args.want fit
