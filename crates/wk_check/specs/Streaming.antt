@@ -50,12 +50,12 @@ pub record IsTaken (A : Ref → Found) (locals : ℕ → Option ValType) (final 
   pub read : NextToken profile old new from to token
   pub typed : step A locals final (told new.labels token) b ≡ Ok next
 
--- no labels of its own stand in an instruction
+-- an instruction holds no list of labels: it is no `br_table`
 abbrev pub HasNoLabels : Plain → Type 0
 HasNoLabels (BrTable labels other) = ⊥
 HasNoLabels p = Unit {0}
 
--- An instruction without labels was read, with the bytes `rest` behind it, and typing it gave this answer.
+-- An instruction without a list of labels was read, with the bytes `rest` behind it, and typing it gave this answer.
 abbrev pub TypesRead : (Ref → Found) → (ℕ → Option ValType) → List ValType → Result (Plain × List ℕ) ReadFault → List ℕ → Blocks
     → Result (Unit {0}) Stop → Blocks → Type 0
 TypesRead A locals final (Ok p) rest b told next = HasNoLabels p.0 × (p.1 ≡ rest) × Steps (step A locals final (Simple p.0) b) told next
@@ -67,7 +67,7 @@ TypesBehind A f opcode end from rest b told next =
     (profile : Profile) (e : ReadFault)
     → TypesRead A (local_type f.locals.params f.locals.groups) f.results.now (plain_at profile e opcode end from) rest b told next
 
--- The same of what stands behind an opcode, for a token that opens and closes nothing and has no labels: whatever the profile.
+-- The same of what stands behind an opcode, for a token that opens and closes nothing and has no list of labels: whatever the profile.
 pub record IsTakenBehind (A : Ref → Found) (f : Function) (opcode : ℕ) (from to : Span) (b next : Blocks) : Type 0 where
   pub typed : TypesBehind A f opcode from.end from.rest to.rest b (Ok tt) next
   pub same_end : to.end ≡ from.end
@@ -76,7 +76,7 @@ pub record IsTakenBehind (A : Ref → Found) (f : Function) (opcode : ℕ) (from
 abbrev pub TakesBehind : (Ref → Found) → Function → ℕ → Span → Span → Blocks → Blocks → Bool → Type 0
 TakesBehind A f opcode from to b next taken = taken ≡ true → IsTakenBehind A f opcode from to b next
 
--- the opcodes that are typed from their bytes, by what stands behind them, but for loads, stores and numeric instructions
+-- the opcodes that are typed from their bytes, by what stands behind them, but for loads, stores, numeric instructions and `call_indirect`
 abbrev pub is_among : List ℕ → ℕ → Bool
 is_among [] x = false
 is_among (y ∷ ys) x = if x == y then true else is_among ys x

@@ -13,7 +13,9 @@
 //!
 //! There is a function for each form of immediates. It is in line, and its opcode is a constant at
 //! each call, so that what it does for other opcodes is gone where it runs: an opcode is looked at
-//! once, in `type_operator`. Openers, `else` and `end` are in `fast_blocks`.
+//! once, in `quick` and `type_operator`. Loads, stores and numeric instructions alone take theirs
+//! as it was read, and find their row of a table by it. Openers, `else` and `end` are in
+//! `fast_blocks`.
 
 ghost use Rattle.std.specs.Prelude.{◌≡◌, ◌≤◌, ℕ, List, None, Ok, Result, false, slice_get, true, IfOk};
 ghost use Rattle.wk_bytes.specs.Span.{byte_at, u32_at};

@@ -178,7 +178,7 @@ fn turn_in_steps(m: &mut Machine, operand: ValType, given: ValType) -> Result<()
     give(m, given)
 }
 
-// The same out of line, for what `turn` finds no operand of.
+// The same out of line, where `turn` finds no operand that fits.
 #[cold]
 #[inline(never)]
 fn turn_apart(m: &mut Machine, operand: ValType, given: ValType) -> Result<Growth, FaultKind>
@@ -187,8 +187,8 @@ fn turn_apart(m: &mut Machine, operand: ValType, given: ValType) -> Result<Growt
     in_registers(turn_in_steps(m, operand, given))
 }
 
-/// Pops an operand and pushes a result. Where the operand is there, the result takes its place: that is a pop and a push without
-/// a look for room.
+/// Pops an operand and pushes a result. Where an operand that fits is there, the result takes its place: that is a pop and a push
+/// without a look for room.
 #[inline(always)]
 pub(crate) fn turn(m: &mut Machine, operand: ValType, given: ValType) -> Result<(), Stop>
     ensures { Steps (on_top (after_effect (Takes (operand ∷ []) (given ∷ []))) m.old) result m.new }
@@ -211,7 +211,7 @@ fn join_in_steps(m: &mut Machine, operand: ValType, given: ValType) -> Result<()
     turn_in_steps(m, operand, given)
 }
 
-// The same out of line, for what `join` finds no operands of.
+// The same out of line, where `join` does not find two operands that fit.
 #[cold]
 #[inline(never)]
 fn join_apart(m: &mut Machine, operand: ValType, given: ValType) -> Result<Growth, FaultKind>
@@ -220,7 +220,7 @@ fn join_apart(m: &mut Machine, operand: ValType, given: ValType) -> Result<Growt
     in_registers(join_in_steps(m, operand, given))
 }
 
-/// Pops two operands of one type and pushes a result. Where both are there, the result takes the place of the first.
+/// Pops two operands of one type and pushes a result. Where two that fit are there, the result takes the place of the first.
 #[inline(always)]
 pub(crate) fn join(m: &mut Machine, operand: ValType, given: ValType) -> Result<(), Stop>
     ensures { Steps (on_top (after_effect (Takes (operand ∷ operand ∷ []) (given ∷ []))) m.old) result m.new }

@@ -55,7 +55,8 @@ impl<'a> Model for Summary<'a> {
 impl<'a> Summary<'a> {
     /// Reads the module of a profile that the bytes spell (5.5.15), as `read_in` of `wk_module` does, and keeps no body.
     ///
-    /// Each code is read once, but for one that is refused. The memory taken is that of the lists, of a stub and a number for each body, and room for the longest code.
+    /// Each code is read once, but one that is refused twice. The memory taken is that of the lists, of a stub and a number for each
+    /// body, and room for the longest code.
     ///
     /// # Errors
     ///
