@@ -61,14 +61,16 @@ module _ (f : Frame) (fs : List Frame) (xs ys : List Slot) (x : Slot) (st : Bloc
       subst P was refl
 
 -- what is popped, where it fits what is wanted
-popped_fits : (want x : Slot) (st mid : Blocks) (m : Result (Slot × Own) FaultKind) → popped_by m st ≡ Ok (x, mid) → fits want x ≡ true → popped_by (m >>= λ p. checked (fits want p.0) p) st ≡ Ok (x, mid)
+popped_fits : (want x : Slot) (st mid : Blocks) (m : Result (Slot × Own) FaultKind) → popped_by m st ≡ Ok (x, mid) → fits want x ≡ true
+    → popped_by (m >>= λ p. checked (fits want p.0) p) st ≡ Ok (x, mid)
 popped_fits want x st mid (Ok p) e fit =
     let top : p.0 ≡ x = ap (λ (q : Slot × Blocks). q.0) (ok_is {E = FaultKind} _ _ e) in
     rw (ap (fits want) top ∙ fit) e
 popped_fits want x st mid (Err k) e fit = absurd cc
 
 -- another operand in the place of the last one
-module _ (f : Frame) (fs : List Frame) (xs zs : List Slot) (n : ℕ) (x g : Slot) (st : Blocks) (is : blocks_of f fs (reverse xs) ≡ st) (cuts : Cuts (f ∷ fs) (reverse xs))
+module _ (f : Frame) (fs : List Frame) (xs zs : List Slot) (n : ℕ) (x g : Slot) (st : Blocks)
+    (is : blocks_of f fs (reverse xs) ≡ st) (cuts : Cuts (f ∷ fs) (reverse xs))
     (lt : f.height < length xs) (last : n + 1 ≡ length xs) (at : x ≡ get_or xs n x) (put : zs ≡ set xs n g) where
   abbrev beneath : List Slot
   beneath = take n xs
@@ -93,11 +95,15 @@ module _ (f : Frame) (fs : List Frame) (xs zs : List Slot) (n : ℕ) (x g : Slot
       ∙ ap Ok (sym (push_levels f fs beneath zs g mid refl beneath_cuts becomes))
 
 -- another operand in the place of the last two
-module _ (f : Frame) (fs : List Frame) (xs ys zs : List Slot) (n : ℕ) (x y g : Slot) (st : Blocks) (is : blocks_of f fs (reverse xs) ≡ st) (cuts : Cuts (f ∷ fs) (reverse xs))
-    (le : f.height + 2 ≤ length xs) (last : n + 2 ≡ length xs) (at : x ≡ get_or xs (n + 1) x) (below : y ≡ get_or xs n y) (cut : ys ≡ take (n + 1) xs) (put : zs ≡ set ys n g) where
+module _ (f : Frame) (fs : List Frame) (xs ys zs : List Slot) (n : ℕ) (x y g : Slot) (st : Blocks)
+    (is : blocks_of f fs (reverse xs) ≡ st) (cuts : Cuts (f ∷ fs) (reverse xs))
+    (le : f.height + 2 ≤ length xs) (last : n + 2 ≡ length xs) (at : x ≡ get_or xs (n + 1) x) (below : y ≡ get_or xs n y)
+    (cut : ys ≡ take (n + 1) xs) (put : zs ≡ set ys n g) where
   parted : xs ≡ ys ++ x ∷ []
   parted =
-      sym (take_all (n + 1 + 1) xs (omega (arith, last))) ∙ take_more xs (n + 1) x (omega (arith, last)) ∙ ap (λ z. take (n + 1) xs ++ z ∷ []) (sym at) ∙ ap (λ w. w ++ x ∷ []) (sym cut)
+      sym (take_all (n + 1 + 1) xs (omega (arith, last))) ∙ take_more xs (n + 1) x (omega (arith, last))
+      ∙ ap (λ z. take (n + 1) xs ++ z ∷ []) (sym at)
+      ∙ ap (λ w. w ++ x ∷ []) (sym cut)
 
   one_less : n + 1 ≡ length ys
   one_less = omega (arith, last, ap length cut, length-take (n + 1) xs)
@@ -117,7 +123,8 @@ module _ (f : Frame) (fs : List Frame) (xs ys zs : List Slot) (n : ℕ) (x y g :
   pub join_levels : (want : Slot) → fits want x ≡ true → fits want y ≡ true → joined_on want g st ≡ Ok (blocks_of f fs (reverse zs))
   join_levels want fit fit' =
       let mid = blocks_of f fs (reverse ys) in
-      ap (λ r. r >>= λ p. turned_on want g (p.1)) (popped_fits want x st mid (popped_any st.inner.own) (pop_levels f fs xs ys x st is cuts parted (omega (arith, le))) fit)
+      let popped = pop_levels f fs xs ys x st is cuts parted (omega (arith, le)) in
+      ap (λ r. r >>= λ p. turned_on want g (p.1)) (popped_fits want x st mid (popped_any st.inner.own) popped fit)
       ∙ turn_levels f fs ys zs n y g mid refl shorter_cuts higher one_less still put want fit'
 
 module _ (f : Frame) (fs : List Frame) (xs : List Slot) (st : Blocks) (is : blocks_of f fs (reverse xs) ≡ st) (le : length xs ≤ f.height) where

@@ -138,7 +138,8 @@ last_step t us b (Err e) = refl
 pub takes_last : (t : ValType) (ts us : List ValType) (b : Blocks) → on_top (after_effect (Takes (t ∷ ts) us)) b ≡ (on_top (popped ts) b >>= λ b1. on_top (after_effect (Takes (t ∷ []) us)) b1)
 takes_last t ts us b = last_step t us b (popped ts b.inner.own)
 
-turns_at : (u : ValType) (b : Blocks) (m : Result (Slot × Own) FaultKind) → (popped_by m b >>= λ p. Ok (pushed_on (Known u) (p.1))) ≡ (((m >>= λ p. Ok (p.1)) >>= λ s. Ok (pushed (u ∷ []) s)) >>= λ s. Ok (with_top s b))
+turns_at : (u : ValType) (b : Blocks) (m : Result (Slot × Own) FaultKind)
+    → (popped_by m b >>= λ p. Ok (pushed_on (Known u) (p.1))) ≡ (((m >>= λ p. Ok (p.1)) >>= λ s. Ok (pushed (u ∷ []) s)) >>= λ s. Ok (with_top s b))
 turns_at u b (Ok p) = refl
 turns_at u b (Err e) = refl
 
@@ -146,7 +147,9 @@ turns_at u b (Err e) = refl
 pub turns : (t u : ValType) (b : Blocks) → on_top (after_effect (Takes (t ∷ []) (u ∷ []))) b ≡ turned_on (Known t) (Known u) b
 turns t u b = sym (turns_at u b (popped_one (Known t) b.inner.own))
 
-joins_at : (t u : ValType) (b : Blocks) (m : Result (Slot × Own) FaultKind) → (((m >>= λ p. Ok (p.1)) >>= λ s. Ok (with_top s b)) >>= λ b1. on_top (after_effect (Takes (t ∷ []) (u ∷ []))) b1) ≡ (popped_by m b >>= λ p. turned_on (Known t) (Known u) (p.1))
+joins_at : (t u : ValType) (b : Blocks) (m : Result (Slot × Own) FaultKind)
+    → (((m >>= λ p. Ok (p.1)) >>= λ s. Ok (with_top s b)) >>= λ b1. on_top (after_effect (Takes (t ∷ []) (u ∷ []))) b1)
+    ≡ (popped_by m b >>= λ p. turned_on (Known t) (Known u) (p.1))
 joins_at t u b (Ok p) = turns t u (with_top (p.1) b)
 joins_at t u b (Err e) = refl
 

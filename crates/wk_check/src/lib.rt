@@ -19,7 +19,7 @@
 //! - [`judge_bytes`] is `module_verdict` of the module that bytes spell in a profile, or the fault of reading it (`judged` of
 //!   `specs/Spelled`), or `Memory` at 0. Its clauses `meaning` and `valid` tell the verdict in words, and `is` says what that module
 //!   and that fault are. So it answers what [`judge`] does of what `read_in` gives; that it keeps no body is no clause.
-//!   [`judge_spelled`] is `module_verdict` of the module that bytes are known to spell.
+//!   [`judge_spelled`] is `module_verdict` of the module that bytes are known to spell, with the same clauses.
 //! - [`carry`] and [`carry_moved`] take no memory and give the verdict that they were given: that of the same body, or of the body
 //!   moved, where its own type and what its references find is the same (`Agree`, `AgreeMoved` of `specs/Carried`).
 //!   [`verdicts_that_keep`] has these laws for all bodies at once, and that all that a valid body refers to is there.

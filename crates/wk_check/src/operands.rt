@@ -182,7 +182,10 @@ fn turn_in_steps(m: &mut Machine, operand: ValType, given: ValType) -> Result<()
 #[cold]
 #[inline(never)]
 fn turn_apart(m: &mut Machine, operand: ValType, given: ValType) -> Result<Growth, FaultKind>
-    ensures { MadeBy (on_top (after_effect (Takes (operand ∷ []) (given ∷ []))) m.old) result m.new }
+    ensures { MadeBy
+        (on_top (after_effect (Takes (operand ∷ []) (given ∷ []))) m.old)
+        result
+        m.new }
 {
     in_registers(turn_in_steps(m, operand, given))
 }
@@ -205,7 +208,10 @@ pub(crate) fn turn(m: &mut Machine, operand: ValType, given: ValType) -> Result<
 // Pops two operands of one type and pushes a result, one after the other.
 #[inline(always)]
 fn join_in_steps(m: &mut Machine, operand: ValType, given: ValType) -> Result<(), Stop>
-    ensures { Steps (on_top (after_effect (Takes (operand ∷ operand ∷ []) (given ∷ []))) m.old) result m.new }
+    ensures { Steps
+        (on_top (after_effect (Takes (operand ∷ operand ∷ []) (given ∷ []))) m.old)
+        result
+        m.new }
 {
     pop_type(m, operand)?;
     turn_in_steps(m, operand, given)
@@ -215,7 +221,10 @@ fn join_in_steps(m: &mut Machine, operand: ValType, given: ValType) -> Result<()
 #[cold]
 #[inline(never)]
 fn join_apart(m: &mut Machine, operand: ValType, given: ValType) -> Result<Growth, FaultKind>
-    ensures { MadeBy (on_top (after_effect (Takes (operand ∷ operand ∷ []) (given ∷ []))) m.old) result m.new }
+    ensures { MadeBy
+        (on_top (after_effect (Takes (operand ∷ operand ∷ []) (given ∷ []))) m.old)
+        result
+        m.new }
 {
     in_registers(join_in_steps(m, operand, given))
 }
@@ -223,7 +232,10 @@ fn join_apart(m: &mut Machine, operand: ValType, given: ValType) -> Result<Growt
 /// Pops two operands of one type and pushes a result. Where two that fit are there, the result takes the place of the first.
 #[inline(always)]
 pub(crate) fn join(m: &mut Machine, operand: ValType, given: ValType) -> Result<(), Stop>
-    ensures { Steps (on_top (after_effect (Takes (operand ∷ operand ∷ []) (given ∷ []))) m.old) result m.new }
+    ensures { Steps
+        (on_top (after_effect (Takes (operand ∷ operand ∷ []) (given ∷ []))) m.old)
+        result
+        m.new }
 {
     if m.join_top(Operand::known(operand), Operand::known(given)) {
         return Ok(());

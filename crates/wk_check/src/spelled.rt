@@ -242,10 +242,14 @@ pub fn judge_bytes(alloc: Global, bytes: &[u8], profile: Profile) -> Result<Verd
 /// [`OutOfMemory`] where a growth is refused.
 pub fn judge_spelled(alloc: Global, bytes: &[u8], profile: Profile) -> Result<Verdict, OutOfMemory>
     requires { (m : PartsOf) × (module_at profile bytes.now ≡ Ok m) }
-    ensures exact { (m : PartsOf) → module_at profile bytes.now ≡ Ok m → IfOk result (λ v. v ≡ module_verdict m) }
+    ensures exact { (m : PartsOf) → module_at profile bytes.now ≡ Ok m →
+        IfOk result (λ v. v ≡ module_verdict m) }
     ensures meaning { IfOk result (λ verdict. IsVerdictOf (module_at profile bytes.now) verdict) }
-    ensures valid { IfOk result (λ verdict. verdict ≡ Verdict.Valid ↔ IsValidRead (module_at profile bytes.now)) }
+    ensures valid { IfOk result
+        (λ verdict. verdict ≡ Verdict.Valid ↔ IsValidRead (module_at profile bytes.now)) }
+    ensures is { IsReading profile bytes.now (module_at profile bytes.now) }
 {
+    reading_of_module(bytes, profile);
     match judge_spelling(alloc, bytes, profile, true) {
         Ok(verdict) => Ok(verdict),
         Err(fault) if fault.kind == ReadKind::Memory => Err(OutOfMemory),

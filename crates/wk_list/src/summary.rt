@@ -66,7 +66,8 @@ impl<'a> Summary<'a> {
         ensures exact { Reads (λ m. m) result (module_at profile bytes.now) }
         ensures found { IfOk result (λ m. Spells bytes.now m) }
         ensures profile { IfOk result (λ m. m.profile ≡ profile) }
-        ensures only { IfOk result (λ m. (n : PartsOf) → n.profile ≡ profile → Spells bytes.now n → n ≡ m) }
+        ensures only { IfOk result
+            (λ m. (n : PartsOf) → n.profile ≡ profile → Spells bytes.now n → n ≡ m) }
         ensures fits { IfOk result (λ m. Fits m) }
         ensures refused { IfErr result (λ e. e.kind ≢ ReadKind.Memory → SpellsNone profile bytes.now) }
         ensures fault { IfErr result (λ e. StandsIn bytes.now e) }

@@ -51,7 +51,8 @@ impl Kept for WrittenLen {
 /// Reads a module of a profile, as [`read_in`](crate::read_in) does, and keeps of each body the length of its written form alone: a
 /// stub stands in its place.
 ///
-/// Each code is read once. The memory taken is that of the lists, of a stub and a number for each body, and room for the longest code.
+/// Each code is read once, but for one that is refused. The memory taken is that of the lists, of a stub and a number for each body,
+/// and room for the longest code.
 ///
 /// # Errors
 ///

@@ -10,13 +10,14 @@ use wk_module::Profile::Core;
 
 #[test]
 fn takes_plain_instructions(rt: HostRuntime) -> Result<(), Fail> {
-    let rows: [&[u8]; 10] = [
+    let rows: [&[u8]; 11] = [
         // nothing, and an early return
         b"\0\x0b",
         b"\0\x0f\x0b",
         // operands of any type, where code is not reached
         b"\0\0\x1b\x1a\x0b",
         b"\0\0\x6a\x1a\x0b",
+        b"\0\0\x41\0\x6a\x1a\x0b",
         b"\0\0\x0f\x42\0\x1a\x0b",
         b"\0\0\x41\0\x1b\x45\x1a\x0b",
         b"\0\0\x1a\x1a\x1a\x0b",
@@ -31,10 +32,13 @@ fn takes_plain_instructions(rt: HostRuntime) -> Result<(), Fail> {
 
 #[test]
 fn refuses_operands(rt: HostRuntime) -> Result<(), Fail> {
-    let rows: [(&[u8], FaultKind, u32); 10] = [
+    let rows: [(&[u8], FaultKind, u32); 12] = [
         // operands that are missing
         (b"\0\x1a\x0b", StackUnderflow, 0),
         (b"\0\x41\0\x6a\x0b", StackUnderflow, 1),
+        // or stand outside of the block
+        (b"\0\x41\0\x02\x40\x41\0\x6a\x1a\x0b\x1a\x0b", StackUnderflow, 3),
+        (b"\0\x41\0\x02\x40\x45\x1a\x0b\x1a\x0b", StackUnderflow, 2),
         (b"\0\x41\0\x41\0\x1b\x1a\x0b", StackUnderflow, 2),
         // the operand on top comes first
         (b"\0\x42\0\x6a\x1a\x0b", TypeMismatch, 1),

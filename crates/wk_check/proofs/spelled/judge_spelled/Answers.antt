@@ -12,3 +12,6 @@ returns-in-Ok-clause-meaning c = told_meaning (module_at c.args.profile c.args.b
 
 pub returns-in-Ok-clause-valid : goal.returns-in-Ok-clause-valid
 returns-in-Ok-clause-valid c = read_exactly (module_at c.args.profile c.args.bytes.now) (Ok c.in-Ok.verdict) c.in-Ok.ensures
+
+pub returns-in-Ok-clause-is : goal.returns-in-Ok-clause-is
+returns-in-Ok-clause-is c = c.reading_of_module.ensures.is

@@ -10,7 +10,10 @@ invariant_of-self c =
     let n : c.len-len.result - 1 ≡ c.len-len.result - 2 + 1 = omega (arith, c.self.inside.operands.ok.0) in
     let at = rw n at c.index.ensures in
     let cut = rw n at c.truncate.ensures.items in
-    join_cuts c.self.inside.inner _ xs c.truncate.new.self.items _ (c.len-len.result - 2) c.index.result.now c.index-else-not-fits.result.now c.args.given _ c.self.view_is c.self.invariant le last at c.index-else-not-fits.ensures cut refl
+    let x = c.index.result.now in
+    let y = c.index-else-not-fits.result.now in
+    join_cuts c.self.inside.inner _ xs c.truncate.new.self.items _ (c.len-len.result - 2) x y c.args.given _ c.self.view_is c.self.invariant le last
+    at c.index-else-not-fits.ensures cut refl
 
 pub returns-clause-joined : goal.returns-clause-joined
 returns-clause-joined c = λ yes.
@@ -22,4 +25,7 @@ returns-clause-joined c = λ yes.
     let cut = rw n at c.truncate.ensures.items in
     let fit = sym c.fits.ensures ∙ c.if-not-fits.false in
     let fit' = sym c.fits-else-not-fits.ensures ∙ c.if-not-fits-2.false in
-    join_levels c.self.inside.inner _ xs c.truncate.new.self.items _ (c.len-len.result - 2) c.index.result.now c.index-else-not-fits.result.now c.args.given _ c.self.view_is c.self.invariant le last at c.index-else-not-fits.ensures cut refl c.args.want fit fit'
+    let x = c.index.result.now in
+    let y = c.index-else-not-fits.result.now in
+    join_levels c.self.inside.inner _ xs c.truncate.new.self.items _ (c.len-len.result - 2) x y c.args.given _ c.self.view_is c.self.invariant le last
+    at c.index-else-not-fits.ensures cut refl c.args.want fit fit'

@@ -15,4 +15,5 @@ returns-clause-turned c = λ yes.
     let lt : c.self.inside.inner.height < length xs = omega (arith, c.self.inside.operands.ok.0) in
     let last : c.len-len.result - 1 + 1 ≡ length xs = omega (arith, c.self.inside.operands.ok.0) in
     let fit = sym c.fits.ensures ∙ c.if-not-fits.false in
-    turn_levels c.self.inside.inner _ xs _ (c.len-len.result - 1) c.index.result.now c.args.given _ c.self.view_is c.self.invariant lt last c.index.ensures refl c.args.want fit
+    let x = c.index.result.now in
+    turn_levels c.self.inside.inner _ xs _ (c.len-len.result - 1) x c.args.given _ c.self.view_is c.self.invariant lt last c.index.ensures refl c.args.want fit
