@@ -37,7 +37,11 @@ fn refuses_operands(rt: HostRuntime) -> Result<(), Fail> {
         (b"\0\x1a\x0b", StackUnderflow, 0),
         (b"\0\x41\0\x6a\x0b", StackUnderflow, 1),
         // or stand outside of the block
-        (b"\0\x41\0\x02\x40\x41\0\x6a\x1a\x0b\x1a\x0b", StackUnderflow, 3),
+        (
+            b"\0\x41\0\x02\x40\x41\0\x6a\x1a\x0b\x1a\x0b",
+            StackUnderflow,
+            3,
+        ),
         (b"\0\x41\0\x02\x40\x45\x1a\x0b\x1a\x0b", StackUnderflow, 2),
         (b"\0\x41\0\x41\0\x1b\x1a\x0b", StackUnderflow, 2),
         // the operand on top comes first
