@@ -1,5 +1,5 @@
 -- The listing of headers step by step: a custom section, or a section and the custom sections behind it, and what comes behind them.
-use Rattle.std.proofs.Common.{◌≡◌, ℕ, ◌+◌, ◌<◌, ◌≤◌, ◌==◌, Option, false, List, ◌++◌, length, drop, get_or, sym, ap, ◌∙◌, subst, arith, append_assoc, length-append}
+use Rattle.std.proofs.Common.{◌≡◌, ℕ, ◌+◌, ◌<◌, ◌≤◌, ◌==◌, Option, false, List, ◌++◌, length, drop, get_or, slice_index_or, sym, ap, ◌∙◌, subst, arith, append_assoc, length-append}
 use Rattle.std.specs.List.{flat_map}
 use Rattle.wk_bytes.specs.Short.{short}
 use Rattle.wk_bytes.specs.Frames.{limit}
@@ -12,7 +12,7 @@ use Rattle.wk_module.specs.Writing.{section_of, customs_at, section_and_customs,
 use Rattle.wk_list.specs.Taken.{Leaves}
 use Rattle.wk_list.specs.Headers.{placed, custom_frame, custom_header, customs_of, contents_start, header_by, headers_of}
 use Rattle.wk_list.proofs.TakenLemmas.{leaves_put, leaves_then, stops_then, leaves_spilled, stops_spilled}
-use Rattle.wk_list.proofs.Walk.{drop-ids, length-ids, drop-of, drop-others, length-framed}
+use Rattle.wk_list.proofs.Walk.{drop-ids, length-ids, drop-of, drop-others, length-of, length-framed}
 
 -- ---- a custom section of the place
 
@@ -40,6 +40,18 @@ custom_stopped a b c all t between place next i custom cs within is same so_far 
 pub custom_end : (next start size after : ℕ) (custom : Custom) → start ≡ contents_start next size → size ≡ length (written_custom custom) → after ≡ start + size → after ≡ next + length (custom_frame custom)
 custom_end next start size after custom is long sum =
     omega (arith, is, long, sum, ap (λ (n : ℕ). length (short n)) long, length-framed 0 (written_custom custom))
+
+-- how long it is
+pub custom_long : (i size : ℕ) (custom : Custom) (cs items : List Custom) → items ≡ cs → custom ≡ get_or items i custom → ((other : Custom) → size ≡ length (written_custom (slice_index_or cs i other)))
+    → size ≡ length (written_custom custom)
+custom_long i size custom cs items same is long = long custom ∙ ap (λ (d : Custom). length (written_custom d)) (sym (is ∙ ap (λ (ds : List Custom). get_or ds i custom) same))
+
+-- it stays within the limit
+pub custom_fits : (place next i whole : ℕ) (custom : Custom) (cs items : List Custom) → items ≡ cs → i < length items → custom ≡ get_or items i custom → custom.place ≡ place
+    → next + length (customs_at place (drop i cs)) ≡ whole → whole ≤ limit → next + length (custom_frame custom) ≤ limit
+custom_fits place next i whole custom cs items same within is here sum fits =
+    let within_cs : i < length cs = omega (arith, within, ap length same) in
+    omega (arith, length-of place i custom cs within_cs (is ∙ ap (λ (ds : List Custom). get_or ds i custom) same) here, sum, fits)
 
 -- ---- a custom section of another place
 

@@ -1,11 +1,11 @@
-use Rattle.std.proofs.Common.{◌≡◌, ◌<◌, ◌∙◌, length, get_or, sym, ap, arith}
+use Rattle.std.proofs.Common.{◌≡◌, ◌+◌, ◌<◌, ◌∙◌, length, get_or, refl, sym, ap, arith}
 use Rattle.std.proofs.lemmas.Bool.{ne_eqb}
 use Rattle.wk_module.specs.Customs.{written_custom}
 use Rattle.wk_module.specs.declared.types.Parts.{Parts}
 use Rattle.wk_module.specs.declared.types.Custom.{Custom}
 use Rattle.wk_list.proofs.TakenLemmas.{on_err_known, stops_here}
 use Rattle.wk_list.proofs.Walk.{length-of, length-others}
-use Rattle.wk_list.proofs.HeaderSteps.{custom_taken, custom_stopped, custom_end, custom_passed}
+use Rattle.wk_list.proofs.HeaderSteps.{custom_taken, custom_stopped, custom_long, custom_end, custom_fits, custom_passed}
 use Rattle.wk_list.proofs.headers.list_customs.Goals.{then-custom-place+in_ok-put_custom+in_ok-spill, else-custom-place}
 use Rattle.wk_list.proofs.headers.list_customs.Goals as goal
 
@@ -46,3 +46,33 @@ loop-index-preserved g c =
             place = omega (arith, w.next-is, length-others c.args.place c.loop-index.index custom cs within is other, c.loop-index.invariant.place);
           }
     ]
+
+pub custom_len-size-requires : goal.custom_len-size-requires
+custom_len-size-requires g c =
+    let items = c.as_slice-custom-items.ensures ∙ ap (λ (m : Parts). m.customs) c.parts.ensures.value.rest in
+    omega (arith, c.loop-index-test.true, ap length items)
+
+pub put_custom-requires-clause-fits : goal.put_custom-requires-clause-fits
+put_custom-requires-clause-fits g c =
+    let items = c.as_slice-custom-items.ensures ∙ ap (λ (m : Parts). m.customs) c.parts.ensures.value.rest in
+    custom_fits c.args.place c.loop-index.next c.loop-index.index _ c.custom-item.result (g.S.Sketch.seen c.args.sketch.now).customs _ items c.loop-index-test.true c.custom-item.is c.if-custom-place.true c.loop-index.invariant.place c.requires.fits
+
+pub put_custom-requires-clause-size : goal.put_custom-requires-clause-size
+put_custom-requires-clause-size g c =
+    let items = c.as_slice-custom-items.ensures ∙ ap (λ (m : Parts). m.customs) c.parts.ensures.value.rest in
+    custom_long c.loop-index.index c.custom_len-size.result c.custom-item.result (g.S.Sketch.seen c.args.sketch.now).customs _ items c.custom-item.is c.custom_len-size.ensures
+
+pub spill-requires : goal.spill-requires
+spill-requires g c = rw c.loop-index.invariant.failures c.requires.room
+
+pub contents_start-requires : goal.contents_start-requires
+contents_start-requires g c = omega (arith, c.loop-index.invariant.place, c.requires.fits)
+
+pub overflow_add-next : goal.overflow_add-next
+overflow_add-next g c =
+    let items = c.as_slice-custom-items.ensures ∙ ap (λ (m : Parts). m.customs) c.parts.ensures.value.rest in
+    let customs = (g.S.Sketch.seen c.args.sketch.now).customs in
+    let long = custom_long c.loop-index.index c.custom_len-size.result c.custom-item.result customs _ items c.custom-item.is c.custom_len-size.ensures in
+    let end = custom_end c.loop-index.next c.contents_start.result c.custom_len-size.result (c.contents_start.result + c.custom_len-size.result) c.custom-item.result c.contents_start.ensures long refl in
+    let fits = custom_fits c.args.place c.loop-index.next c.loop-index.index _ c.custom-item.result customs _ items c.loop-index-test.true c.custom-item.is c.if-custom-place.true c.loop-index.invariant.place c.requires.fits in
+    omega (arith, end, fits)
