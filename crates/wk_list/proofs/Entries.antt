@@ -1,7 +1,8 @@
 -- One function more of the code listing.
-use Rattle.std.proofs.Common.{◌≡◌, ℕ, ◌+◌, ◌<◌, List, ◌∷◌, ◌++◌, length, drop, get_or, slice_index_or, Option, ap, subst, ◌∙◌, sym, append_assoc, arith, length-append}
+use Rattle.std.proofs.Common.{◌≡◌, ℕ, ◌+◌, ◌<◌, ◌≤◌, List, ◌∷◌, ◌++◌, length, drop, get_or, slice_index_or, Option, ap, subst, ◌∙◌, sym, append_assoc, arith, length-append}
 use Rattle.std.specs.List.{flat_map}
 use Rattle.std.proofs.lemmas.List.{drop_more}
+use Rattle.wk_bytes.specs.Frames.{limit}
 use Rattle.wk_bytes.specs.Taken.{TakesFront}
 use Rattle.wk_bytes.specs.Short.{short}
 use Rattle.wk_body.specs.Tree.{Instrs}
@@ -41,10 +42,14 @@ length_from : (funcs items : List Func) (i : ℕ) (f : Func) → items ≡ funcs
 length_from funcs items i f same is within =
     ap (λ (fs : List Func). length (codes_of fs)) (from_one funcs items i f same is within) ∙ length-append (written_code f.body) (codes_of (drop (i + 1) funcs))
 
-size_is : (funcs items : List Func) (i size : ℕ) (f : Func) → items ≡ funcs → f ≡ get_or items i f → ((other : Func) → size ≡ length (written_body (slice_index_or funcs i other).body)) → size ≡ length (written_body f.body)
+pub size_is : (funcs items : List Func) (i size : ℕ) (f : Func) → items ≡ funcs → f ≡ get_or items i f → ((other : Func) → size ≡ length (written_body (slice_index_or funcs i other).body)) → size ≡ length (written_body f.body)
 size_is funcs items i size f same is len = len f ∙ ap (λ (e : Func). length (written_body e.body)) (sym (item_is funcs items i f same is))
 
-code_is : (size n : ℕ) (f : Func) → size ≡ length (written_body f.body) → n ≡ length (short size) → n + size ≡ length (written_code f.body)
+pub entry_fits : (funcs items : List Func) (i at whole : ℕ) (f : Func) → items ≡ funcs → f ≡ get_or items i f → i < length items
+    → at + length (codes_of (drop i funcs)) ≡ whole → whole ≤ limit → at + length (written_code f.body) ≤ limit
+entry_fits funcs items i at whole f same is within place fits = omega (arith, length_from funcs items i f same is within, place, fits)
+
+pub code_is : (size n : ℕ) (f : Func) → size ≡ length (written_body f.body) → n ≡ length (short size) → n + size ≡ length (written_code f.body)
 code_is size n f e count =
     omega (arith, e, count, ap (λ (k : ℕ). length (short k)) e, length-append (short (length (written_body f.body))) (written_body f.body))
 
