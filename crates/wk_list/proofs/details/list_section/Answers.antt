@@ -53,8 +53,20 @@ list_group-requires-in-11-clause-few g c = few_datas (g.S.Sketch.seen c.args.ske
 pub returns-in-1-clause-err : goal.returns-in-1-clause-err
 returns-in-1-clause-err g c = stopped_in c.list_group.result _ _ c.args.text.now.items _ _ (types_section (g.S.Sketch.seen c.args.sketch.now) c.parts-parts.result.now c.args.id c.as_slice.result.now c.parts-parts.ensures.value c.as_slice.ensures c.in-1.is) c.list_group.ensures.err
 
+pub returns-in-1-clause-ok : goal.returns-in-1-clause-ok
+returns-in-1-clause-ok g c = listed_in c.list_group.result _ _ c.args.text.now.items _ _ _ (types_section (g.S.Sketch.seen c.args.sketch.now) c.parts-parts.result.now c.args.id c.as_slice.result.now c.parts-parts.ensures.value c.as_slice.ensures c.in-1.is) c.list_group.ensures.ok
+
+pub returns-in-1-clause-failures : goal.returns-in-1-clause-failures
+returns-in-1-clause-failures g c = c.list_group.ensures.failures
+
 pub returns-in-2-clause-err : goal.returns-in-2-clause-err
 returns-in-2-clause-err g c = stopped_in c.list_import_group.result _ _ c.args.text.now.items _ _ (imports_section (g.S.Sketch.seen c.args.sketch.now) c.parts-parts.result.now c.args.id c.as_slice-imports.result.now c.parts-parts.ensures.value c.as_slice-imports.ensures c.in-2.is) c.list_import_group.ensures.err
+
+pub returns-in-2-clause-ok : goal.returns-in-2-clause-ok
+returns-in-2-clause-ok g c = listed_in c.list_import_group.result _ _ c.args.text.now.items _ _ _ (imports_section (g.S.Sketch.seen c.args.sketch.now) c.parts-parts.result.now c.args.id c.as_slice-imports.result.now c.parts-parts.ensures.value c.as_slice-imports.ensures c.in-2.is) c.list_import_group.ensures.ok
+
+pub returns-in-2-clause-failures : goal.returns-in-2-clause-failures
+returns-in-2-clause-failures g c = c.list_import_group.ensures.failures
 
 pub returns-in-3-clause-err : goal.returns-in-3-clause-err
 returns-in-3-clause-err g c = stopped_in c.list_group-in-3.result _ _ c.args.text.now.items _ _ (funcs_section (g.S.Sketch.seen c.args.sketch.now) c.parts-parts.result.now c.args.id c.count_of-imported.result c.as_slice-in-3.result.now c.as_slice-imports.result.now c.parts-parts.ensures.value c.as_slice-in-3.ensures c.as_slice-imports.ensures c.count_of-imported.ensures c.in-3.is) c.list_group-in-3.ensures.err
@@ -62,26 +74,71 @@ returns-in-3-clause-err g c = stopped_in c.list_group-in-3.result _ _ c.args.tex
 pub returns-in-3-clause-ok : goal.returns-in-3-clause-ok
 returns-in-3-clause-ok g c = listed_in c.list_group-in-3.result _ _ c.args.text.now.items _ _ _ (funcs_section (g.S.Sketch.seen c.args.sketch.now) c.parts-parts.result.now c.args.id c.count_of-imported.result c.as_slice-in-3.result.now c.as_slice-imports.result.now c.parts-parts.ensures.value c.as_slice-in-3.ensures c.as_slice-imports.ensures c.count_of-imported.ensures c.in-3.is) c.list_group-in-3.ensures.ok
 
+pub returns-in-3-clause-failures : goal.returns-in-3-clause-failures
+returns-in-3-clause-failures g c = c.list_group-in-3.ensures.failures
+
 pub returns-in-4-clause-err : goal.returns-in-4-clause-err
 returns-in-4-clause-err g c = stopped_in c.list_group-in-4.result _ _ c.args.text.now.items _ _ (tables_section (g.S.Sketch.seen c.args.sketch.now) c.parts-parts.result.now c.args.id c.count_of-imported-in-4.result c.as_slice-in-4.result.now c.as_slice-imports.result.now c.parts-parts.ensures.value c.as_slice-in-4.ensures c.as_slice-imports.ensures c.count_of-imported-in-4.ensures c.in-4.is) c.list_group-in-4.ensures.err
+
+pub returns-in-4-clause-ok : goal.returns-in-4-clause-ok
+returns-in-4-clause-ok g c = listed_in c.list_group-in-4.result _ _ c.args.text.now.items _ _ _ (tables_section (g.S.Sketch.seen c.args.sketch.now) c.parts-parts.result.now c.args.id c.count_of-imported-in-4.result c.as_slice-in-4.result.now c.as_slice-imports.result.now c.parts-parts.ensures.value c.as_slice-in-4.ensures c.as_slice-imports.ensures c.count_of-imported-in-4.ensures c.in-4.is) c.list_group-in-4.ensures.ok
+
+pub returns-in-4-clause-failures : goal.returns-in-4-clause-failures
+returns-in-4-clause-failures g c = c.list_group-in-4.ensures.failures
 
 pub returns-in-5-clause-err : goal.returns-in-5-clause-err
 returns-in-5-clause-err g c = stopped_in c.list_group-in-5.result _ _ c.args.text.now.items _ _ (memories_section (g.S.Sketch.seen c.args.sketch.now) c.parts-parts.result.now c.args.id c.count_of-imported-in-5.result c.as_slice-in-5.result.now c.as_slice-imports.result.now c.parts-parts.ensures.value c.as_slice-in-5.ensures c.as_slice-imports.ensures c.count_of-imported-in-5.ensures c.in-5.is) c.list_group-in-5.ensures.err
 
+pub returns-in-5-clause-ok : goal.returns-in-5-clause-ok
+returns-in-5-clause-ok g c = listed_in c.list_group-in-5.result _ _ c.args.text.now.items _ _ _ (memories_section (g.S.Sketch.seen c.args.sketch.now) c.parts-parts.result.now c.args.id c.count_of-imported-in-5.result c.as_slice-in-5.result.now c.as_slice-imports.result.now c.parts-parts.ensures.value c.as_slice-in-5.ensures c.as_slice-imports.ensures c.count_of-imported-in-5.ensures c.in-5.is) c.list_group-in-5.ensures.ok
+
+pub returns-in-5-clause-failures : goal.returns-in-5-clause-failures
+returns-in-5-clause-failures g c = c.list_group-in-5.ensures.failures
+
 pub returns-in-6-clause-err : goal.returns-in-6-clause-err
 returns-in-6-clause-err g c = stopped_in c.list_group-in-6.result _ _ c.args.text.now.items _ _ (globals_section (g.S.Sketch.seen c.args.sketch.now) c.parts-parts.result.now c.args.id c.count_of-imported-in-6.result c.as_slice-in-6.result.now c.as_slice-imports.result.now c.parts-parts.ensures.value c.as_slice-in-6.ensures c.as_slice-imports.ensures c.count_of-imported-in-6.ensures c.in-6.is) c.list_group-in-6.ensures.err
+
+pub returns-in-6-clause-ok : goal.returns-in-6-clause-ok
+returns-in-6-clause-ok g c = listed_in c.list_group-in-6.result _ _ c.args.text.now.items _ _ _ (globals_section (g.S.Sketch.seen c.args.sketch.now) c.parts-parts.result.now c.args.id c.count_of-imported-in-6.result c.as_slice-in-6.result.now c.as_slice-imports.result.now c.parts-parts.ensures.value c.as_slice-in-6.ensures c.as_slice-imports.ensures c.count_of-imported-in-6.ensures c.in-6.is) c.list_group-in-6.ensures.ok
+
+pub returns-in-6-clause-failures : goal.returns-in-6-clause-failures
+returns-in-6-clause-failures g c = c.list_group-in-6.ensures.failures
 
 pub returns-in-7-clause-err : goal.returns-in-7-clause-err
 returns-in-7-clause-err g c = stopped_in c.list_group-in-7.result _ _ c.args.text.now.items _ _ (exports_section (g.S.Sketch.seen c.args.sketch.now) c.parts-parts.result.now c.args.id c.as_slice-in-7.result.now c.parts-parts.ensures.value c.as_slice-in-7.ensures c.in-7.is) c.list_group-in-7.ensures.err
 
+pub returns-in-7-clause-ok : goal.returns-in-7-clause-ok
+returns-in-7-clause-ok g c = listed_in c.list_group-in-7.result _ _ c.args.text.now.items _ _ _ (exports_section (g.S.Sketch.seen c.args.sketch.now) c.parts-parts.result.now c.args.id c.as_slice-in-7.result.now c.parts-parts.ensures.value c.as_slice-in-7.ensures c.in-7.is) c.list_group-in-7.ensures.ok
+
+pub returns-in-7-clause-failures : goal.returns-in-7-clause-failures
+returns-in-7-clause-failures g c = c.list_group-in-7.ensures.failures
+
 pub returns-in-9-clause-err : goal.returns-in-9-clause-err
 returns-in-9-clause-err g c = stopped_in c.list_group-in-9.result _ _ c.args.text.now.items _ _ (elems_section (g.S.Sketch.seen c.args.sketch.now) c.parts-parts.result.now c.args.id c.as_slice-in-9.result.now c.parts-parts.ensures.value c.as_slice-in-9.ensures c.in-9.is) c.list_group-in-9.ensures.err
+
+pub returns-in-9-clause-ok : goal.returns-in-9-clause-ok
+returns-in-9-clause-ok g c = listed_in c.list_group-in-9.result _ _ c.args.text.now.items _ _ _ (elems_section (g.S.Sketch.seen c.args.sketch.now) c.parts-parts.result.now c.args.id c.as_slice-in-9.result.now c.parts-parts.ensures.value c.as_slice-in-9.ensures c.in-9.is) c.list_group-in-9.ensures.ok
+
+pub returns-in-9-clause-failures : goal.returns-in-9-clause-failures
+returns-in-9-clause-failures g c = c.list_group-in-9.ensures.failures
 
 pub returns-in-10-clause-err : goal.returns-in-10-clause-err
 returns-in-10-clause-err g c = stopped_in c.list_code_group.result _ _ c.args.text.now.items _ _ (codes_section (g.S.Sketch.seen c.args.sketch.now) c.parts-parts.result.now c.args.id c.count_of.result c.as_slice-imports.result.now c.parts-parts.ensures.value c.as_slice-imports.ensures c.count_of.ensures c.in-10.is) c.list_code_group.ensures.err
 
+pub returns-in-10-clause-ok : goal.returns-in-10-clause-ok
+returns-in-10-clause-ok g c = listed_in c.list_code_group.result _ _ c.args.text.now.items _ _ _ (codes_section (g.S.Sketch.seen c.args.sketch.now) c.parts-parts.result.now c.args.id c.count_of.result c.as_slice-imports.result.now c.parts-parts.ensures.value c.as_slice-imports.ensures c.count_of.ensures c.in-10.is) c.list_code_group.ensures.ok
+
+pub returns-in-10-clause-failures : goal.returns-in-10-clause-failures
+returns-in-10-clause-failures g c = c.list_code_group.ensures.failures
+
 pub returns-in-11-clause-err : goal.returns-in-11-clause-err
 returns-in-11-clause-err g c = stopped_in c.list_group-in-11.result _ _ c.args.text.now.items _ _ (datas_section (g.S.Sketch.seen c.args.sketch.now) c.parts-parts.result.now c.args.id c.as_slice-in-11.result.now c.parts-parts.ensures.value c.as_slice-in-11.ensures c.in-11.is) c.list_group-in-11.ensures.err
+
+pub returns-in-11-clause-ok : goal.returns-in-11-clause-ok
+returns-in-11-clause-ok g c = listed_in c.list_group-in-11.result _ _ c.args.text.now.items _ _ _ (datas_section (g.S.Sketch.seen c.args.sketch.now) c.parts-parts.result.now c.args.id c.as_slice-in-11.result.now c.parts-parts.ensures.value c.as_slice-in-11.ensures c.in-11.is) c.list_group-in-11.ensures.ok
+
+pub returns-in-11-clause-failures : goal.returns-in-11-clause-failures
+returns-in-11-clause-failures g c = c.list_group-in-11.ensures.failures
 
 pub returns-in_default-clause-ok : goal.returns-in_default-clause-ok
 returns-in_default-clause-ok g c =
