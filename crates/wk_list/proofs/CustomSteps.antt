@@ -1,9 +1,10 @@
 -- Custom sections of a place, one after the other.
-use Rattle.std.proofs.Common.{◌≡◌, ◌≢◌, ℕ, ◌+◌, ◌<◌, List, ◌∷◌, ◌++◌, length, get_or, drop, refl, sym, ap, ◌∙◌}
+use Rattle.std.proofs.Common.{◌≡◌, ◌≢◌, ℕ, ◌+◌, ◌<◌, ◌≤◌, Option, List, ◌∷◌, ◌++◌, length, get_or, drop, refl, sym, ap, ◌∙◌, subst, append-nil}
 use Rattle.std.proofs.lemmas.Bool.{eq-eqb, ne_eqb}
-use Rattle.std.proofs.lemmas.List.{at_drop_more}
+use Rattle.std.proofs.lemmas.List.{at_drop_more, drop_all}
 use Rattle.std.specs.List.{flat_map}
 use Rattle.wk_module.specs.declared.types.Custom.{Custom}
+use Rattle.wk_list.specs.Taken.{Leaves}
 use Rattle.wk_list.specs.Headers.{customs_of}
 use Rattle.wk_list.specs.Details.{custom_details}
 
@@ -29,3 +30,8 @@ custom_here cs i place c within is here = from_here cs i place c within is ∙ k
 pub custom_elsewhere : (cs : List Custom) (i place : ℕ) (c : Custom) → i < length cs → c ≡ get_or cs i c → c.place ≢ place
     → details_at place (drop i cs) ≡ details_at place (drop (i + 1) cs)
 custom_elsewhere cs i place c within is there = from_here cs i place c within is ∙ left_out c (drop (i + 1) cs) place there
+
+-- there is no next one
+pub none_left : (a b : Option (List ℕ)) (all t : List ℕ) (cs : List Custom) (i place : ℕ) → length cs ≤ i → Leaves a b all (t ++ details_at place (drop i cs)) → Leaves a b all t
+none_left a b all t cs i place done so_far =
+    subst (λ (r : List ℕ). Leaves a b all r) (ap (λ (ds : List Custom). t ++ details_at place ds) (drop_all i cs done) ∙ append-nil t) so_far

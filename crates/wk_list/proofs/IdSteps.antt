@@ -1,5 +1,6 @@
 -- The sections of the details listing, one id after the other.
-use Rattle.std.proofs.Common.{◌≡◌, ℕ, ◌+◌, ◌<◌, List, ◌++◌, Option, drop, ap, subst}
+use Rattle.std.proofs.Common.{◌≡◌, ℕ, ◌+◌, ◌<◌, ◌≤◌, List, ◌++◌, Option, drop, ap, ◌∙◌, subst, append-nil}
+use Rattle.std.proofs.lemmas.List.{drop_all}
 use Rattle.std.specs.List.{flat_map}
 use Rattle.wk_bytes.specs.Taken.{TakesFront}
 use Rattle.wk_module.specs.declared.types.Custom.{Custom}
@@ -47,3 +48,8 @@ customs_stopped m p id a b c d all t between lt same so_far section customs =
     let behind : TakesFront c d (between ++ customs_text m id) = subst (λ (cs : List Custom). TakesFront c d (between ++ flat_map custom_details (customs_of id cs))) (ap (λ (q : Parts). q.customs) same.rest) customs in
     stops_then a b d all t (details_of m id) (details_from m (id + 1)) (here m id a b all t lt so_far)
     (stops_second b c d t (details_by m (of_number id)) (customs_text m id) between section behind)
+
+-- all ids are behind
+pub all_listed : (m : Parts) (id : ℕ) (a b : Option (List ℕ)) (all t : List ℕ) → 12 ≤ id → Leaves a b all (t ++ details_from m id) → Leaves a b all t
+all_listed m id a b all t done so_far =
+    subst (λ (r : List ℕ). Leaves a b all r) (ap (λ (rest : List ℕ). t ++ flat_map (details_of m) rest) (drop_all id ids done) ∙ append-nil t) so_far

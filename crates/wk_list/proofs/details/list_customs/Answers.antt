@@ -1,9 +1,9 @@
-use Rattle.std.proofs.Common.{ℕ, ◌+◌, ◌<◌, List, ◌++◌, length, drop, ap, ◌∙◌, subst, arith}
+use Rattle.std.proofs.Common.{ℕ, ◌+◌, ◌<◌, ◌≤◌, List, ◌++◌, length, drop, refl, ap, ◌∙◌, subst, arith}
 use Rattle.wk_list.specs.Taken.{Leaves}
 use Rattle.wk_list.specs.Details.{custom_details}
-use Rattle.wk_list.proofs.TakenLemmas.{on_err_known, stops_here}
+use Rattle.wk_list.proofs.TakenLemmas.{on_err_known, leaves_same, stops_here}
 use Rattle.wk_list.proofs.LineSteps.{step_spilled, step_stopped}
-use Rattle.wk_list.proofs.CustomSteps.{details_at, custom_here, custom_elsewhere}
+use Rattle.wk_list.proofs.CustomSteps.{details_at, custom_here, custom_elsewhere, none_left}
 use Rattle.wk_list.proofs.details.list_customs.Goals as goal
 use Rattle.wk_list.proofs.details.list_customs.Goals.{then-custom-place+in_ok-put_custom+in_ok-spill, else-custom-place}
 
@@ -40,3 +40,17 @@ loop-custom-preserved g c =
         failures = c.loop-custom.invariant.failures;
       })
     ]
+
+pub spill-requires : goal.spill-requires
+spill-requires g c = rw c.loop-custom.invariant.failures c.requires.room
+
+pub returns-clause-ok : goal.returns-clause-ok
+returns-clause-ok g c =
+    let done : length c.args.customs.now ≤ c.loop-custom.custom-index = omega (arith, c.loop-custom-test.false, ap length c.as_slice-custom-items.ensures) in
+    none_left _ _ _ c.loop-custom.text.items c.args.customs.now c.loop-custom.custom-index c.args.place done c.loop-custom.invariant.so_far
+
+pub returns-clause-failures : goal.returns-clause-failures
+returns-clause-failures g c = c.loop-custom.invariant.failures
+
+pub loop-custom-init : goal.loop-custom-init
+loop-custom-init g c = record { so_far = leaves_same _ _ _ refl; failures = refl }
