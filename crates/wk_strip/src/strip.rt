@@ -60,13 +60,13 @@ fn strip_codes(
     profile: Profile,
     bytes: Vec<u8>,
     codes: Codes,
-    others: Result<OwnedLists, ReadFault>,
+    others: &Result<OwnedLists, ReadFault>,
     kept: &[KeptCustom],
 ) -> Result<Stripped, ReadFault>
     requires order { codes.first ≤ codes.end }
     requires within { codes.end ≤ length bytes.items }
     requires few { codes.end ≤ limit }
-    requires apart { IsApart profile bytes.items (codes_in profile bytes.items codes) others }
+    requires apart { IsApart profile bytes.items (codes_in profile bytes.items codes) others.now }
     requires fits { (m : Parts) → module_at profile bytes.items ≡ Ok m → Fits (record m { customs = kept.now }) }
     ensures { MatchResult result
         (λ s. (m : Parts) × (module_at profile bytes.items ≡ Ok m) × (s ≡ encoded (record m { customs = kept.now })))
@@ -74,7 +74,10 @@ fn strip_codes(
 {
     let mut rewritten = bytes;
     let end = rewrite_codes(alloc, scratch, profile, &mut rewritten, codes)?;
-    let others = others?;
+    let others = match others {
+        Ok(lists) => lists,
+        Err(fault) => return Err(*fault),
+    };
     rewritten.truncate(end);
     Ok(assemble(alloc, codes.first, rewritten, &others.lists(), kept)?)
 }
@@ -117,9 +120,10 @@ fn lists_alone(read: Result<SectionReader<'_>, ReadFault>) -> Result<OwnedLists,
     }
 }
 
-// The written form of the module of these bytes with these custom sections in the place of its own.
-fn strip_with(
+// The written form of the module of these bytes with these custom sections in the place of its own, read with scratch room.
+fn strip_read(
     alloc: Global,
+    scratch: &mut Scratch,
     bytes: Vec<u8>,
     profile: Profile,
     kept: &[KeptCustom],
@@ -132,18 +136,30 @@ fn strip_with(
     let input: &[u8] = &bytes;
     // The proof asks for what this says of modules.
     reading_of_module(input, profile);
-    let mut scratch = Scratch::new(alloc);
-    let (reader, section) = SectionReader::new(alloc, input, profile).up_to_code(
-        alloc,
-        &mut scratch,
-    )?;
+    let (reader, section) = SectionReader::new(alloc, input, profile).up_to_code(alloc, scratch)?;
     let Some(section) = section else {
         return strip_without_code(alloc, input, &reader, kept);
     };
     let codes = Codes::of(&section, reader.lists().funcs.len())?;
     // Their fault comes behind those of the codes, but they are read before any code is written over.
-    let others = lists_alone(reader.to_end(alloc, &mut scratch));
-    strip_codes(alloc, &mut scratch, profile, bytes, codes, others, kept)
+    let others = lists_alone(reader.to_end(alloc, scratch));
+    strip_codes(alloc, scratch, profile, bytes, codes, &others, kept)
+}
+
+// The same, where the scratch room is made.
+fn strip_with(
+    alloc: Global,
+    bytes: Vec<u8>,
+    profile: Profile,
+    kept: &[KeptCustom],
+) -> Result<Stripped, ReadFault>
+    requires { (m : Parts) → module_at profile bytes.items ≡ Ok m → Fits (record m { customs = kept.now }) }
+    ensures { MatchResult result
+        (λ s. (m : Parts) × (module_at profile bytes.items ≡ Ok m) × (s ≡ encoded (record m { customs = kept.now })))
+        (λ e. FailsAs e e.kind (module_at profile bytes.items)) }
+{
+    let mut scratch = Scratch::new(alloc);
+    strip_read(alloc, &mut scratch, bytes, profile, kept)
 }
 
 /// Strips the module of a profile that bytes spell of its custom sections (5.5.3), or of all but those of a name.

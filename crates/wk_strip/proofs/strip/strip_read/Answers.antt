@@ -9,13 +9,13 @@ use Rattle.wk_module.specs.Sections.{SectionLists}
 use Rattle.wk_module.proofs.CodesApart.{codes_fail}
 use Rattle.wk_strip.specs.Rewritten.{codes_in}
 use Rattle.wk_strip.proofs.Parting.{IsFront, is_front, alone_told, codes_are, ends_within, parted}
-use Rattle.wk_strip.proofs.strip.strip_with.Goals as goal
-use Rattle.wk_strip.proofs.strip.strip_with.Goals.{In-Some, After-lists}
+use Rattle.wk_strip.proofs.strip.strip_read.Goals as goal
+use Rattle.wk_strip.proofs.strip.strip_read.Goals.{In-Some, After-lists}
 
 pub returns-in_default : goal.returns-in_default
 returns-in_default c =
     let same : c.in_ok-reader.reader.profile ≡ c.args.profile = search rules in
-    rw (c.deref-input.ensures.value, same) at c.strip_without_code.ensures
+    rw (c.deref-input.ensures.value, same) at c.strip_readout_code.ensures
 
 front : (c : In-Some) → IsFront c.args.profile c.args.bytes.items c.in_ok-reader.reader (raw_view c.in-Some.section)
 front c =
