@@ -20,7 +20,7 @@ use Rattle.wk_module.specs.Reading.{module_at, section_end}
 use Rattle.wk_module.specs.Sections.{SectionLists, no_lists}
 use Rattle.wk_module.proofs.CodesApart.{read_lists, codes_fail, behind_fails, codes_many, front_stays, read_with_code}
 use Rattle.wk_strip.specs.declared.codes.Codes.{Codes}
-use Rattle.wk_strip.specs.Apart.{IsApart, IsReadWith}
+use Rattle.wk_strip.specs.Apart.{IsApart, IsFront, IsReadWith}
 use Rattle.wk_strip.specs.Rewritten.{BeginsCodes, codes_in}
 
 -- ---- the code section lies in the input
@@ -107,15 +107,6 @@ module _ (profile : Profile) (b : List ℕ) (lists : AreListsOfModule profile b)
   }
 
 -- ---- what reading up to the codes says
-
--- what was read up to the section of codes, that section, and what is left
-pub record IsFront (profile : Profile) (b : List ℕ) (r : PartlyRead) (s : Section) : Type 0 where
-  pub profile_is : r.profile ≡ profile
-  pub code_is : s.id ≡ 10
-  pub none : r.lists.codes ≡ []
-  pub rise : Rise 10 r.left
-  pub read : read_lists profile b ≡ lists_read profile r.lists (Ok s ∷ r.left)
-  pub lies : LiesIn b s
 
 pub is_front : (profile : Profile) (b : List ℕ) (old new : PartlyRead) (found : Option RawSection) (s : RawSection) → old ≡ record { profile = profile; lists = no_lists; left = sections_of b } → found ≡ Some s → GoesTo old new found
     → front_read old.profile old.lists old.left ≡ Ok (front_of new found) → IsFront profile b new (raw_view s)

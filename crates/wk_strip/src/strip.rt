@@ -13,7 +13,8 @@ ghost use Rattle.wk_module.specs.Reading.{module_at};
 ghost use Rattle.wk_module.specs.Sections.{no_lists};
 ghost use Rattle.wk_module.specs.Shape.{settle};
 ghost use Rattle.wk_module.specs.Writing.{encoded, Fits};
-ghost use Rattle.wk_strip.specs.Apart.{IsApart};
+ghost use Rattle.wk_bytes.specs.Raw.{raw_view};
+ghost use Rattle.wk_strip.specs.Apart.{IsApart, IsFront, IsReadApart};
 ghost use Rattle.wk_strip.specs.Rewritten.{codes_in};
 ghost use Rattle.wk_strip.specs.Stripped.{IsStripped, with_kept};
 ghost use Rattle.wk_strip.specs.Written.{code_front, sections_from, IsTooLong};
@@ -23,11 +24,20 @@ use crate::customs::{KeptCustom, kept_customs};
 use crate::sections::{CODES, END, append_sections, begin, written};
 use crate::stripped::Stripped;
 use std::alloc::Global;
-use wk_bytes::{OutOfMemory, ReadFault, ReadKind, Text};
+use wk_bytes::{OutOfMemory, RawSection, ReadFault, ReadKind, Text};
 use wk_module::{
     Lists, OwnedLists, Profile, Scratch, SectionReader, one_module, reading_of_module,
     written_form_of_module,
 };
+
+// What the sections of a module but that of the codes were read as.
+#[derive(Drop)]
+pub(crate) enum Apart {
+    // Where the codes stand that are still to be read, and the lists of the other sections, or their fault.
+    WithCodes(Codes, Result<OwnedLists, ReadFault>),
+    // There is no code section.
+    WithoutCode(OwnedLists),
+}
 
 // Puts a module together: its codes, which stand behind a gap, what stands in front of them, and the sections behind them.
 fn assemble(
@@ -85,19 +95,21 @@ fn strip_codes(
 // Strips the module of these bytes, which are read and hold no code section.
 fn strip_without_code(
     alloc: Global,
+    profile: Profile,
     bytes: &[u8],
-    reader: &SectionReader<'_>,
+    all: &OwnedLists,
     kept: &[KeptCustom],
 ) -> Result<Stripped, ReadFault>
-    requires none { reader.now.lists.codes ≡ [] }
-    requires read { lists_read reader.now.profile no_lists (sections_of bytes.now) ≡ Ok reader.now.lists }
-    requires fits { (m : Parts) → module_at reader.now.profile bytes.now ≡ Ok m → Fits (record m { customs = kept.now }) }
+    requires none { all.now.lists.codes ≡ [] }
+    requires read { lists_read profile no_lists (sections_of bytes.now) ≡ Ok all.now.lists }
+    requires fits { (m : Parts) → module_at profile bytes.now ≡ Ok m → Fits (record m { customs = kept.now }) }
     ensures { MatchResult result
-        (λ s. (m : Parts) × (module_at reader.now.profile bytes.now ≡ Ok m) × (s ≡ encoded (record m { customs = kept.now })))
-        (λ e. FailsAs e e.kind (module_at reader.now.profile bytes.now)) }
+        (λ s. (m : Parts) × (module_at profile bytes.now ≡ Ok m) × (s ≡ encoded (record m { customs = kept.now })))
+        (λ e. FailsAs e e.kind (module_at profile bytes.now)) }
 {
-    let lists = reader.lists();
-    reading_of_module(bytes, lists.profile);
+    let lists = all.lists();
+    // The proof asks for what this says of modules.
+    reading_of_module(bytes, profile);
     if !lists.funcs.is_empty() {
         return Err(ReadFault {
             kind: ReadKind::FuncCodeCount,
@@ -120,12 +132,53 @@ fn lists_alone(read: Result<SectionReader<'_>, ReadFault>) -> Result<OwnedLists,
     }
 }
 
-// The written form of the module of these bytes with these custom sections in the place of its own, read with scratch room.
-fn strip_read(
+// Reads the number of codes of a section, and the sections behind it. What stands in front of it is read.
+fn read_beside_codes(
     alloc: Global,
     scratch: &mut Scratch,
-    bytes: Vec<u8>,
     profile: Profile,
+    bytes: &[u8],
+    section: &RawSection<'_>,
+    front: SectionReader<'_>,
+) -> Result<Apart, ReadFault>
+    requires { IsFront profile bytes.now front (raw_view section.now) }
+    ensures { MatchResult result
+        (IsReadApart profile bytes.now)
+        (λ e. FailsAs e e.kind (module_at profile bytes.now)) }
+{
+    // The proof asks for what this says of modules.
+    reading_of_module(bytes, profile);
+    let codes = Codes::of(section, front.lists().funcs.len())?;
+    // Their fault comes behind those of the codes, but they are read before any code is written over.
+    Ok(Apart::WithCodes(codes, lists_alone(front.to_end(alloc, scratch))))
+}
+
+// Reads all sections of a module but that of the codes.
+fn read_apart(
+    alloc: Global,
+    scratch: &mut Scratch,
+    profile: Profile,
+    bytes: &[u8],
+) -> Result<Apart, ReadFault>
+    ensures { MatchResult result
+        (IsReadApart profile bytes.now)
+        (λ e. FailsAs e e.kind (module_at profile bytes.now)) }
+{
+    // The proof asks for what this says of modules.
+    reading_of_module(bytes, profile);
+    let (reader, section) = SectionReader::new(alloc, bytes, profile).up_to_code(alloc, scratch)?;
+    match section {
+        Some(section) => read_beside_codes(alloc, scratch, profile, bytes, &section, reader),
+        None => Ok(Apart::WithoutCode(reader.into_lists())),
+    }
+}
+
+// The written form of the module of these bytes with these custom sections in the place of its own, by a scratch room.
+fn strip_within(
+    alloc: Global,
+    scratch: &mut Scratch,
+    profile: Profile,
+    bytes: Vec<u8>,
     kept: &[KeptCustom],
 ) -> Result<Stripped, ReadFault>
     requires { (m : Parts) → module_at profile bytes.items ≡ Ok m → Fits (record m { customs = kept.now }) }
@@ -133,20 +186,15 @@ fn strip_read(
         (λ s. (m : Parts) × (module_at profile bytes.items ≡ Ok m) × (s ≡ encoded (record m { customs = kept.now })))
         (λ e. FailsAs e e.kind (module_at profile bytes.items)) }
 {
-    let input: &[u8] = &bytes;
-    // The proof asks for what this says of modules.
-    reading_of_module(input, profile);
-    let (reader, section) = SectionReader::new(alloc, input, profile).up_to_code(alloc, scratch)?;
-    let Some(section) = section else {
-        return strip_without_code(alloc, input, &reader, kept);
-    };
-    let codes = Codes::of(&section, reader.lists().funcs.len())?;
-    // Their fault comes behind those of the codes, but they are read before any code is written over.
-    let others = lists_alone(reader.to_end(alloc, scratch));
-    strip_codes(alloc, scratch, profile, bytes, codes, &others, kept)
+    match read_apart(alloc, scratch, profile, &bytes)? {
+        Apart::WithCodes(codes, others) => {
+            strip_codes(alloc, scratch, profile, bytes, codes, &others, kept)
+        }
+        Apart::WithoutCode(all) => strip_without_code(alloc, profile, &bytes, &all, kept),
+    }
 }
 
-// The same, where the scratch room is made.
+// The same, which takes a room of its own.
 fn strip_with(
     alloc: Global,
     bytes: Vec<u8>,
@@ -159,7 +207,7 @@ fn strip_with(
         (λ e. FailsAs e e.kind (module_at profile bytes.items)) }
 {
     let mut scratch = Scratch::new(alloc);
-    strip_read(alloc, &mut scratch, bytes, profile, kept)
+    strip_within(alloc, &mut scratch, profile, bytes, kept)
 }
 
 /// Strips the module of a profile that bytes spell of its custom sections (5.5.3), or of all but those of a name.

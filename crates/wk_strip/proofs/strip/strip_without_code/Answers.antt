@@ -9,21 +9,21 @@ use Rattle.wk_strip.proofs.Joined.{all_fit, written_alone}
 use Rattle.wk_strip.proofs.strip.strip_without_code.Goals as goal
 
 pub overflow_cast-result : goal.overflow_cast-result
-overflow_cast-result c = omega (arith, lists_few c.args.reader.now.profile no_lists c.args.reader.now.lists c.args.bytes.now c.requires.read)
+overflow_cast-result c = omega (arith, lists_few c.args.profile no_lists c.args.all.now.lists c.args.bytes.now c.requires.read)
 
 pub written-requires : goal.written-requires
 written-requires c =
-    let r = c.args.reader.now in
+    let all = c.args.all.now.lists in
     let lent = c.lists-lists.result in
-    let lists = rw c.lists-lists.ensures.profile at c.reading_of_module.ensures.lists in
+    let lists = c.reading_of_module.ensures.lists in
     let none = no_items lent.funcs.now (sym c.if-not-is_empty.ensures) in
-    not_too_large c.begin.result (λ f. f.items ≡ (magic ++ version) ++ sections_from (listed lent) c.args.kept.now 0 12) (IsTooLong (listed lent) 0 12) c.begin.ensures (all_fit r.profile c.args.bytes.now lists r.lists (listed lent) c.requires.none c.lists-lists.ensures.lists none c.requires.read c.args.kept.now c.requires.fits)
+    not_too_large c.begin.result (λ f. f.items ≡ (magic ++ version) ++ sections_from (listed lent) c.args.kept.now 0 12) (IsTooLong (listed lent) 0 12) c.begin.ensures (all_fit c.args.profile c.args.bytes.now lists all (listed lent) c.requires.none c.lists-lists.ensures.lists none c.requires.read c.args.kept.now c.requires.fits)
 
 pub returns : goal.returns
 returns c =
-    let r = c.args.reader.now in
+    let all = c.args.all.now.lists in
     let lent = c.lists-lists.result in
-    let lists = rw c.lists-lists.ensures.profile at c.reading_of_module.ensures.lists in
+    let lists = c.reading_of_module.ensures.lists in
     let none = no_items lent.funcs.now (sym c.if-not-is_empty.ensures) in
     let bytes = rw c.in_ok-bytes.ensures at c.begin.ensures in
-    written_alone r.profile c.args.bytes.now lists r.lists (listed lent) c.requires.none c.lists-lists.ensures.lists none c.requires.read c.args.kept.now c.requires.fits c.whole.result (c.whole.ensures ∙ bytes)
+    written_alone c.args.profile c.args.bytes.now lists all (listed lent) c.requires.none c.lists-lists.ensures.lists none c.requires.read c.args.kept.now c.requires.fits c.whole.result (c.whole.ensures ∙ bytes)
