@@ -1,5 +1,6 @@
 //! A module without its custom sections.
 
+ghost use Rattle.std.specs.Result.{result_map_both};
 ghost use Rattle.std.specs.Prelude.{◌≡◌, ◌≢◌, ◌+◌, ◌-◌, ◌<◌, ◌≤◌, ◌++◌, ◌^◌, [], Ok, Err, IfOk, IfErr, MatchResult, drop, length, option_map};
 ghost use Rattle.wk_bytes.specs.Frames.{limit, magic, version, sections_of};
 ghost use Rattle.wk_bytes.specs.Short.{short};
@@ -14,7 +15,7 @@ ghost use Rattle.wk_module.specs.Sections.{no_lists};
 ghost use Rattle.wk_module.specs.Shape.{settle};
 ghost use Rattle.wk_module.specs.Writing.{encoded, Fits};
 ghost use Rattle.wk_bytes.specs.Raw.{raw_view};
-ghost use Rattle.wk_strip.specs.Apart.{IsApart, IsFront, IsReadApart};
+ghost use Rattle.wk_strip.specs.Apart.{HasCodes, HasNoCodes, IsApart, IsFront, IsReadApart};
 ghost use Rattle.wk_strip.specs.Rewritten.{codes_in};
 ghost use Rattle.wk_strip.specs.Stripped.{IsStripped, with_kept};
 ghost use Rattle.wk_strip.specs.Written.{code_front, sections_from, IsTooLong};
@@ -70,13 +71,13 @@ fn strip_codes(
     profile: Profile,
     bytes: Vec<u8>,
     codes: Codes,
-    others: &Result<OwnedLists, ReadFault>,
+    others: Result<&OwnedLists, ReadFault>,
     kept: &[KeptCustom],
 ) -> Result<Stripped, ReadFault>
     requires order { codes.first ≤ codes.end }
     requires within { codes.end ≤ length bytes.items }
     requires few { codes.end ≤ limit }
-    requires apart { IsApart profile bytes.items (codes_in profile bytes.items codes) others.now }
+    requires apart { IsApart profile bytes.items (codes_in profile bytes.items codes) (result_map_both (λ l. l.now) (λ e. e) others) }
     requires fits { (m : Parts) → module_at profile bytes.items ≡ Ok m → Fits (record m { customs = kept.now }) }
     ensures { MatchResult result
         (λ s. (m : Parts) × (module_at profile bytes.items ≡ Ok m) × (s ≡ encoded (record m { customs = kept.now })))
@@ -84,12 +85,28 @@ fn strip_codes(
 {
     let mut rewritten = bytes;
     let end = rewrite_codes(alloc, scratch, profile, &mut rewritten, codes)?;
-    let others = match others {
-        Ok(lists) => lists,
-        Err(fault) => return Err(*fault),
-    };
+    let others = others?;
     rewritten.truncate(end);
     Ok(assemble(alloc, codes.first, rewritten, &others.lists(), kept)?)
+}
+
+// The same where the other sections are read to their end, and frees their lists.
+fn strip_by_lists(
+    alloc: Global,
+    scratch: &mut Scratch,
+    profile: Profile,
+    bytes: Vec<u8>,
+    codes: Codes,
+    others: OwnedLists,
+    kept: &[KeptCustom],
+) -> Result<Stripped, ReadFault>
+    requires read { HasCodes profile bytes.items codes (Ok others) }
+    requires fits { (m : Parts) → module_at profile bytes.items ≡ Ok m → Fits (record m { customs = kept.now }) }
+    ensures { MatchResult result
+        (λ s. (m : Parts) × (module_at profile bytes.items ≡ Ok m) × (s ≡ encoded (record m { customs = kept.now })))
+        (λ e. FailsAs e e.kind (module_at profile bytes.items)) }
+{
+    strip_codes(alloc, scratch, profile, bytes, codes, Ok(&others), kept)
 }
 
 // Strips the module of these bytes, which are read and hold no code section.
@@ -118,6 +135,23 @@ fn strip_without_code(
     }
     let bytes = written(begin(alloc, &lists, kept, END))?;
     Ok(Stripped::whole(bytes))
+}
+
+// The same, and frees the lists.
+fn strip_whole(
+    alloc: Global,
+    profile: Profile,
+    bytes: &[u8],
+    all: OwnedLists,
+    kept: &[KeptCustom],
+) -> Result<Stripped, ReadFault>
+    requires read { HasNoCodes profile bytes.now all }
+    requires fits { (m : Parts) → module_at profile bytes.now ≡ Ok m → Fits (record m { customs = kept.now }) }
+    ensures { MatchResult result
+        (λ s. (m : Parts) × (module_at profile bytes.now ≡ Ok m) × (s ≡ encoded (record m { customs = kept.now })))
+        (λ e. FailsAs e e.kind (module_at profile bytes.now)) }
+{
+    strip_without_code(alloc, profile, bytes, &all, kept)
 }
 
 // The lists that were read, or the fault.
@@ -187,10 +221,13 @@ fn strip_within(
         (λ e. FailsAs e e.kind (module_at profile bytes.items)) }
 {
     match read_apart(alloc, scratch, profile, &bytes)? {
-        Apart::WithCodes(codes, others) => {
-            strip_codes(alloc, scratch, profile, bytes, codes, &others, kept)
+        Apart::WithCodes(codes, Ok(others)) => {
+            strip_by_lists(alloc, scratch, profile, bytes, codes, others, kept)
         }
-        Apart::WithoutCode(all) => strip_without_code(alloc, profile, &bytes, &all, kept),
+        Apart::WithCodes(codes, Err(fault)) => {
+            strip_codes(alloc, scratch, profile, bytes, codes, Err(fault), kept)
+        }
+        Apart::WithoutCode(all) => strip_whole(alloc, profile, &bytes, all, kept),
     }
 }
 

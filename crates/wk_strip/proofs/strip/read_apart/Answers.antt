@@ -1,4 +1,3 @@
-use Rattle.wk_bytes.specs.Raw.{raw_view}
 use Rattle.wk_strip.proofs.Parting.{is_front}
 use Rattle.wk_strip.proofs.strip.read_apart.Goals as goal
 

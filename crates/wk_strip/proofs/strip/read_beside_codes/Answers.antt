@@ -39,8 +39,8 @@ returns c =
     let are = funcs_are at.After-lists ∙ codes_are b s n c.in_ok-codes.codes f.lies c.in_ok-codes.ensures c.args.profile in
     let told : Reads (λ q. q.lists) c.lists_alone.result (lists_read c.args.profile r.lists r.left) = alone_told c.to_end.result c.lists_alone.result (lists_read c.args.profile r.lists r.left) (rw f.profile_is at c.to_end.ensures.read) c.lists_alone.ensures in
     record {
-        order = begins_first b s n c.in_ok-codes.codes f.lies c.in_ok-codes.ensures;
-        within = ends_within b s n c.in_ok-codes.codes f.lies c.in_ok-codes.ensures;
-        few = omega (arith, c.args.section.now.fits, c.in_ok-codes.ensures.end);
-        apart = parted c.args.profile b c.reading_of_module.ensures.lists r.lists s r.left f.code_is f.none f.rise f.read codes c.lists_alone.result are told;
+      order = begins_first b s n c.in_ok-codes.codes f.lies c.in_ok-codes.ensures;
+      within = ends_within b s n c.in_ok-codes.codes f.lies c.in_ok-codes.ensures;
+      few = omega (arith, c.args.section.now.fits, c.in_ok-codes.ensures.end);
+      apart = parted c.args.profile b c.reading_of_module.ensures.lists r.lists s r.left f.code_is f.none f.rise f.read codes c.lists_alone.result are told;
     }
