@@ -1,5 +1,5 @@
 -- Modules without their customs.
-use Rattle.std.specs.Prelude.{◌≡◌, ℕ, Bool, false, Option, Some, None, List, filter}
+use Rattle.std.specs.Prelude.{◌≡◌, ℕ, Bool, false, Option, Some, None, List, Ok, filter}
 use Rattle.std.specs.Str.{bytes_eq}
 use Rattle.wk_bytes.specs.Frames.{Frame, SpellsFraming}
 use Rattle.wk_body.specs.declared.types.Profile.{Profile}
@@ -7,6 +7,7 @@ use Rattle.wk_module.specs.declared.types.Custom.{Custom}
 use Rattle.wk_module.specs.declared.types.Parts.{Parts}
 use Rattle.wk_module.specs.Customs.{SpellsCustoms}
 use Rattle.wk_module.specs.Modules.{Spells}
+use Rattle.wk_module.specs.Reading.{module_at}
 use Rattle.wk_module.specs.Shape.{settle}
 use Rattle.wk_module.specs.Writing.{encoded, Fits}
 
@@ -18,6 +19,14 @@ is_kept (Some name) c = bytes_eq c.name name
 -- the module with those customs alone
 abbrev pub with_kept : Option (List ℕ) → Parts → Parts
 with_kept keep m = record m { customs = filter (is_kept keep) m.customs }
+
+-- the module that the bytes spell fits with these customs in the place of its own
+abbrev pub FitsWith : Profile → List ℕ → List Custom → Type 0
+FitsWith profile b kept = (m : Parts) → module_at profile b ≡ Ok m → Fits (record m { customs = kept })
+
+-- this is the written form of that module
+abbrev pub IsWrittenWith : Profile → List ℕ → List Custom → List ℕ → Type 0
+IsWrittenWith profile b kept s = (m : Parts) × (module_at profile b ≡ Ok m) × (s ≡ encoded (record m { customs = kept }))
 
 -- these customs are those that stay of the ones that the bytes spell
 abbrev pub AreKept : Option (List ℕ) → List ℕ → List Custom → Type 0

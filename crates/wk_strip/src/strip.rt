@@ -1,8 +1,9 @@
 //! A module without its custom sections.
 
-ghost use Rattle.std.specs.Result.{result_map_both};
 ghost use Rattle.std.specs.Prelude.{◌≡◌, ◌≢◌, ◌+◌, ◌-◌, ◌<◌, ◌≤◌, ◌++◌, ◌^◌, [], Ok, Err, IfOk, IfErr, MatchResult, drop, length, option_map};
+ghost use Rattle.std.specs.Result.{result_map_both};
 ghost use Rattle.wk_bytes.specs.Frames.{limit, magic, version, sections_of};
+ghost use Rattle.wk_bytes.specs.Raw.{raw_view};
 ghost use Rattle.wk_bytes.specs.Short.{short};
 ghost use Rattle.wk_bytes.specs.Stands.{StandsIn};
 ghost use Rattle.wk_body.specs.Reads.{FailsAs};
@@ -13,11 +14,10 @@ ghost use Rattle.wk_module.specs.Modules.{SpellsNone};
 ghost use Rattle.wk_module.specs.Reading.{module_at};
 ghost use Rattle.wk_module.specs.Sections.{no_lists};
 ghost use Rattle.wk_module.specs.Shape.{settle};
-ghost use Rattle.wk_module.specs.Writing.{encoded, Fits};
-ghost use Rattle.wk_bytes.specs.Raw.{raw_view};
+ghost use Rattle.wk_module.specs.Writing.{encoded};
 ghost use Rattle.wk_strip.specs.Apart.{HasCodes, HasNoCodes, IsApart, IsFront, IsReadApart};
 ghost use Rattle.wk_strip.specs.Rewritten.{codes_in};
-ghost use Rattle.wk_strip.specs.Stripped.{IsStripped, with_kept};
+ghost use Rattle.wk_strip.specs.Stripped.{FitsWith, IsStripped, IsWrittenWith, with_kept};
 ghost use Rattle.wk_strip.specs.Written.{code_front, sections_from, IsTooLong};
 
 use crate::codes::{Codes, append_code_front, rewrite_codes};
@@ -77,10 +77,11 @@ fn strip_codes(
     requires order { codes.first ≤ codes.end }
     requires within { codes.end ≤ length bytes.items }
     requires few { codes.end ≤ limit }
-    requires apart { IsApart profile bytes.items (codes_in profile bytes.items codes) (result_map_both (λ l. l.now) (λ e. e) others) }
-    requires fits { (m : Parts) → module_at profile bytes.items ≡ Ok m → Fits (record m { customs = kept.now }) }
+    requires apart { IsApart profile bytes.items (codes_in profile bytes.items codes)
+        (result_map_both (λ l. l.now) (λ e. e) others) }
+    requires fits { FitsWith profile bytes.items kept.now }
     ensures { MatchResult result
-        (λ s. (m : Parts) × (module_at profile bytes.items ≡ Ok m) × (s ≡ encoded (record m { customs = kept.now })))
+        (IsWrittenWith profile bytes.items kept.now)
         (λ e. FailsAs e e.kind (module_at profile bytes.items)) }
 {
     let mut rewritten = bytes;
@@ -90,8 +91,8 @@ fn strip_codes(
     Ok(assemble(alloc, codes.first, rewritten, &others.lists(), kept)?)
 }
 
-// The same where the other sections are read to their end, and frees their lists.
-fn strip_by_lists(
+// Does so where the other sections spell lists, which it frees.
+fn strip_with_code(
     alloc: Global,
     scratch: &mut Scratch,
     profile: Profile,
@@ -101,16 +102,16 @@ fn strip_by_lists(
     kept: &[KeptCustom],
 ) -> Result<Stripped, ReadFault>
     requires read { HasCodes profile bytes.items codes (Ok others) }
-    requires fits { (m : Parts) → module_at profile bytes.items ≡ Ok m → Fits (record m { customs = kept.now }) }
+    requires fits { FitsWith profile bytes.items kept.now }
     ensures { MatchResult result
-        (λ s. (m : Parts) × (module_at profile bytes.items ≡ Ok m) × (s ≡ encoded (record m { customs = kept.now })))
+        (IsWrittenWith profile bytes.items kept.now)
         (λ e. FailsAs e e.kind (module_at profile bytes.items)) }
 {
     strip_codes(alloc, scratch, profile, bytes, codes, Ok(&others), kept)
 }
 
 // Strips the module of these bytes, which are read and hold no code section.
-fn strip_without_code(
+fn strip_lists(
     alloc: Global,
     profile: Profile,
     bytes: &[u8],
@@ -119,9 +120,9 @@ fn strip_without_code(
 ) -> Result<Stripped, ReadFault>
     requires none { all.now.lists.codes ≡ [] }
     requires read { lists_read profile no_lists (sections_of bytes.now) ≡ Ok all.now.lists }
-    requires fits { (m : Parts) → module_at profile bytes.now ≡ Ok m → Fits (record m { customs = kept.now }) }
+    requires fits { FitsWith profile bytes.now kept.now }
     ensures { MatchResult result
-        (λ s. (m : Parts) × (module_at profile bytes.now ≡ Ok m) × (s ≡ encoded (record m { customs = kept.now })))
+        (IsWrittenWith profile bytes.now kept.now)
         (λ e. FailsAs e e.kind (module_at profile bytes.now)) }
 {
     let lists = all.lists();
@@ -137,8 +138,8 @@ fn strip_without_code(
     Ok(Stripped::whole(bytes))
 }
 
-// The same, and frees the lists.
-fn strip_whole(
+// Does so by lists that it frees.
+fn strip_without_code(
     alloc: Global,
     profile: Profile,
     bytes: &[u8],
@@ -146,12 +147,12 @@ fn strip_whole(
     kept: &[KeptCustom],
 ) -> Result<Stripped, ReadFault>
     requires read { HasNoCodes profile bytes.now all }
-    requires fits { (m : Parts) → module_at profile bytes.now ≡ Ok m → Fits (record m { customs = kept.now }) }
+    requires fits { FitsWith profile bytes.now kept.now }
     ensures { MatchResult result
-        (λ s. (m : Parts) × (module_at profile bytes.now ≡ Ok m) × (s ≡ encoded (record m { customs = kept.now })))
+        (IsWrittenWith profile bytes.now kept.now)
         (λ e. FailsAs e e.kind (module_at profile bytes.now)) }
 {
-    strip_without_code(alloc, profile, bytes, &all, kept)
+    strip_lists(alloc, profile, bytes, &all, kept)
 }
 
 // The lists that were read, or the fault.
@@ -207,44 +208,44 @@ fn read_apart(
     }
 }
 
-// The written form of the module of these bytes with these custom sections in the place of its own, by a scratch room.
-fn strip_within(
+// The written form of the module of these bytes with these custom sections in the place of its own, by a scratch room that is lent.
+fn strip_by_scratch(
     alloc: Global,
     scratch: &mut Scratch,
     profile: Profile,
     bytes: Vec<u8>,
     kept: &[KeptCustom],
 ) -> Result<Stripped, ReadFault>
-    requires { (m : Parts) → module_at profile bytes.items ≡ Ok m → Fits (record m { customs = kept.now }) }
+    requires { FitsWith profile bytes.items kept.now }
     ensures { MatchResult result
-        (λ s. (m : Parts) × (module_at profile bytes.items ≡ Ok m) × (s ≡ encoded (record m { customs = kept.now })))
+        (IsWrittenWith profile bytes.items kept.now)
         (λ e. FailsAs e e.kind (module_at profile bytes.items)) }
 {
     match read_apart(alloc, scratch, profile, &bytes)? {
         Apart::WithCodes(codes, Ok(others)) => {
-            strip_by_lists(alloc, scratch, profile, bytes, codes, others, kept)
+            strip_with_code(alloc, scratch, profile, bytes, codes, others, kept)
         }
         Apart::WithCodes(codes, Err(fault)) => {
             strip_codes(alloc, scratch, profile, bytes, codes, Err(fault), kept)
         }
-        Apart::WithoutCode(all) => strip_whole(alloc, profile, &bytes, all, kept),
+        Apart::WithoutCode(all) => strip_without_code(alloc, profile, &bytes, all, kept),
     }
 }
 
-// The same, which takes a room of its own.
+// The same by a scratch room of its own.
 fn strip_with(
     alloc: Global,
     bytes: Vec<u8>,
     profile: Profile,
     kept: &[KeptCustom],
 ) -> Result<Stripped, ReadFault>
-    requires { (m : Parts) → module_at profile bytes.items ≡ Ok m → Fits (record m { customs = kept.now }) }
+    requires { FitsWith profile bytes.items kept.now }
     ensures { MatchResult result
-        (λ s. (m : Parts) × (module_at profile bytes.items ≡ Ok m) × (s ≡ encoded (record m { customs = kept.now })))
+        (IsWrittenWith profile bytes.items kept.now)
         (λ e. FailsAs e e.kind (module_at profile bytes.items)) }
 {
     let mut scratch = Scratch::new(alloc);
-    strip_within(alloc, &mut scratch, profile, bytes, kept)
+    strip_by_scratch(alloc, &mut scratch, profile, bytes, kept)
 }
 
 /// Strips the module of a profile that bytes spell of its custom sections (5.5.3), or of all but those of a name.

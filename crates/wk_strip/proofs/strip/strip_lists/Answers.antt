@@ -6,7 +6,7 @@ use Rattle.wk_module.proofs.CodesApart.{lists_few, no_items}
 use Rattle.wk_strip.specs.Written.{sections_from, IsTooLong}
 use Rattle.wk_strip.proofs.Assembled.{not_too_large}
 use Rattle.wk_strip.proofs.Joined.{all_fit, written_alone}
-use Rattle.wk_strip.proofs.strip.strip_without_code.Goals as goal
+use Rattle.wk_strip.proofs.strip.strip_lists.Goals as goal
 
 pub overflow_cast-result : goal.overflow_cast-result
 overflow_cast-result c = omega (arith, lists_few c.args.profile no_lists c.args.all.now.lists c.args.bytes.now c.requires.read)
