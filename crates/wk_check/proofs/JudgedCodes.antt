@@ -33,7 +33,7 @@ use Rattle.wk_check.specs.declared.fault.Verdict.{Verdict}
 use Rattle.wk_check.specs.Flaws.{verdict_by}
 use Rattle.wk_check.specs.Items.{earlier, body_flaw}
 use Rattle.wk_check.specs.Spaces.{answer_in, spaces_of}
-use Rattle.wk_check.specs.Spelled.{judged, IsVerdictOf, first_of, fault_read, codes_judged}
+use Rattle.wk_check.specs.Spelled.{judged, IsVerdictOf, first_of, fault_read, codes_judged, opened_judged}
 use Rattle.wk_check.specs.Verdict.{func_verdict, front_fault, verdict_from, verdict_around, module_verdict, IsVerdict}
 use Rattle.wk_check.proofs.Flaws.{earlier_none, earlier_assoc, module_verdict_told}
 
@@ -88,9 +88,9 @@ body_step profile l w types before next item t end end_now bytes after body whol
     rw (end_is, next_is, lists_are) (sym (body_judged profile l types before item t end bytes after body here is read) ∙ so_far)
 
 -- before the first
-pub section_begins : (profile : Profile) (l : SectionLists) (types : List ℕ) (s : Section) (before : Option Fault) (end : ℕ) (bytes : List ℕ) → codes_at profile (length types) (section_end s) s.contents ≡ items_at (code_at profile) (length types) end bytes → before ≡ front_fault profile l
-    → rest_judged profile l (drop 0 types) before 0 (length types - 0) end bytes ≡ all_judged profile l types (codes_at profile (length types) (section_end s) s.contents)
-section_begins profile l types s before end bytes opened is = let k : length types - 0 ≡ length types = omega arith in rw (k, opened, is) refl
+pub section_begins : (profile : Profile) (l : SectionLists) (types : List ℕ) (left : Span) (before : Option Fault) → before ≡ front_fault profile l
+    → rest_judged profile l (drop 0 types) before 0 (length types - 0) left.end left.rest ≡ all_judged profile l types (items_at (code_at profile) (length types) left.end left.rest)
+section_begins profile l types left before is = let k : length types - 0 ≡ length types = omega arith in rw (k, is) refl
 
 -- a code that is taken by its size and read, to the next fault or none
 pub code_is_read : (profile : Profile) (l : SectionLists) (before next : Option Fault) (item ty end : ℕ) (bytes after : List ℕ) (code : Span) → bytes_at end bytes ≡ Ok (code.rest, after) → code.end ≡ end - length after
@@ -120,8 +120,8 @@ body_stops profile l types before item end bytes e whole here so_far bad =
     stopped profile l types whole e (rw (count, bad) at so_far)
 
 -- and where the codes cannot, the section cannot
-pub section_stops : (profile : Profile) (l : SectionLists) (types : List ℕ) (s : Section) (e : ReadFault) → codes_at profile (length types) (section_end s) s.contents ≡ Err e → codes_judged profile l types s ≡ Err e
-section_stops profile l types s e bad = rw bad refl
+pub section_stops : (profile : Profile) (l : SectionLists) (types : List ℕ) (left : Span) (e : ReadFault) → items_at (code_at profile) (length types) left.end left.rest ≡ Err e → opened_judged profile l types left ≡ Err e
+section_stops profile l types left e bad = rw bad refl
 
 zipped_none : (types : List ℕ) → zipped types [] ≡ []
 zipped_none [] = refl
@@ -136,11 +136,11 @@ finished profile l types end before (Ok (bodies, x ∷ rest)) h = absurd (nil_co
 finished profile l types end before (Err e) h = absurd cc
 
 -- all bodies are read and judged
-pub section_judged : (profile : Profile) (l : SectionLists) (types : List ℕ) (s : Section) (before : Option Fault) (item end : ℕ) (bytes : List ℕ) → length types ≤ item → bytes ≡ []
-    → rest_judged profile l (drop item types) before item (length types - item) end bytes ≡ all_judged profile l types (codes_at profile (length types) (section_end s) s.contents) → codes_judged profile l types s ≡ Ok before
-section_judged profile l types s before item end bytes le none so_far =
+pub section_judged : (profile : Profile) (l : SectionLists) (types : List ℕ) (left : Span) (before : Option Fault) (item end : ℕ) (bytes : List ℕ) → length types ≤ item → bytes ≡ []
+    → rest_judged profile l (drop item types) before item (length types - item) end bytes ≡ all_judged profile l types (items_at (code_at profile) (length types) left.end left.rest) → opened_judged profile l types left ≡ Ok before
+section_judged profile l types left before item end bytes le none so_far =
     let count : length types - item ≡ 0 = omega arith in
-    finished profile l types (section_end s) before (codes_at profile (length types) (section_end s) s.contents) (rw (count, none, zipped_none, earlier_none) at so_far)
+    finished profile l types left.end before (items_at (code_at profile) (length types) left.end left.rest) (rw (count, none, zipped_none, earlier_none) at so_far)
 
 left_over : (profile : Profile) (l : SectionLists) (types : List ℕ) (end : ℕ) (before : Option Fault) (rest : List ℕ) (whole : Result (List BodyOf × List ℕ) ReadFault) → answered before rest ≡ all_judged profile l types whole → rest ≢ []
     → (whole >>= taking_all end >>= λ bodies. Ok (earlier (front_fault profile l) (first_of l 0 (zipped types bodies)))) ≡ Err (fault SectionSize end rest)
@@ -149,11 +149,11 @@ left_over profile l types end before rest (Ok (bodies, x ∷ more)) h some = ap 
 left_over profile l types end before rest (Err e) h some = absurd cc
 
 -- or the section goes on behind them
-pub section_goes_on : (profile : Profile) (l : SectionLists) (types : List ℕ) (s : Section) (before : Option Fault) (item end : ℕ) (bytes : List ℕ) → length types ≤ item → bytes ≢ [] → end ≡ section_end s
-    → rest_judged profile l (drop item types) before item (length types - item) end bytes ≡ all_judged profile l types (codes_at profile (length types) (section_end s) s.contents) → codes_judged profile l types s ≡ Err (fault SectionSize end bytes)
-section_goes_on profile l types s before item end bytes le some same so_far =
+pub section_goes_on : (profile : Profile) (l : SectionLists) (types : List ℕ) (left : Span) (before : Option Fault) (item end : ℕ) (bytes : List ℕ) → length types ≤ item → bytes ≢ [] → end ≡ left.end
+    → rest_judged profile l (drop item types) before item (length types - item) end bytes ≡ all_judged profile l types (items_at (code_at profile) (length types) left.end left.rest) → opened_judged profile l types left ≡ Err (fault SectionSize end bytes)
+section_goes_on profile l types left before item end bytes le some same so_far =
     let count : length types - item ≡ 0 = omega arith in
-    rw same (left_over profile l types (section_end s) before bytes (codes_at profile (length types) (section_end s) s.contents) (rw (count, zipped_none, earlier_none) at so_far) some)
+    rw same (left_over profile l types left.end before bytes (items_at (code_at profile) (length types) left.end left.rest) (rw (count, zipped_none, earlier_none) at so_far) some)
 
 read_whole : (profile : Profile) (l : SectionLists) (types left : List ℕ) (before : Option Fault) (item end : ℕ) (r whole : Result (List BodyOf × List ℕ) ReadFault) (o : Option Fault) → is_some before ≡ true
     → (r >>= λ bodies. answered (earlier before (first_of l item (zipped left bodies.0))) bodies.1) ≡ all_judged profile l types whole
@@ -166,13 +166,18 @@ read_whole profile l types left (Some f) item end r (Ok (bodies, x ∷ rest)) o 
 read_whole profile l types left (Some f) item end r (Err e) o known h read = absurd cc
 
 -- behind a fault nothing is judged, so where the section can be read that fault is all
-pub fault_stays : (profile : Profile) (l : SectionLists) (types : List ℕ) (s : Section) (before : Option Fault) (item end : ℕ) (bytes : List ℕ) (o : Option Fault) → is_some before ≡ true
-    → rest_judged profile l (drop item types) before item (length types - item) end bytes ≡ all_judged profile l types (codes_at profile (length types) (section_end s) s.contents)
-    → codes_judged profile l types s ≡ Ok o → codes_judged profile l types s ≡ Ok before
-fault_stays profile l types s before item end bytes o known so_far read =
-    let same = read_whole profile l types (drop item types) before item (section_end s) (items_at (code_at profile) (length types - item) end bytes) (codes_at profile (length types) (section_end s) s.contents) o
+pub fault_stays : (profile : Profile) (l : SectionLists) (types : List ℕ) (left : Span) (before : Option Fault) (item end : ℕ) (bytes : List ℕ) (o : Option Fault) → is_some before ≡ true
+    → rest_judged profile l (drop item types) before item (length types - item) end bytes ≡ all_judged profile l types (items_at (code_at profile) (length types) left.end left.rest)
+    → opened_judged profile l types left ≡ Ok o → opened_judged profile l types left ≡ Ok before
+fault_stays profile l types left before item end bytes o known so_far read =
+    let same = read_whole profile l types (drop item types) before item left.end (items_at (code_at profile) (length types - item) end bytes) (items_at (code_at profile) (length types) left.end left.rest) o
     known so_far read in
     read ∙ ap (λ (x : Option Fault). Ok x) same
+
+-- what a section that was opened comes to is what the section does
+pub judged_as_opened : (profile : Profile) (l : SectionLists) (types : List ℕ) (s : Section) (left : Span) → codes_at profile (length types) (section_end s) s.contents ≡ items_at (code_at profile) (length types) left.end left.rest → left.end ≡ section_end s
+    → codes_judged profile l types s ≡ opened_judged profile l types left
+judged_as_opened profile l types s left opened same = rw (opened, same) refl
 
 -- ---- the verdict by lists
 

@@ -8,7 +8,9 @@ use Rattle.wk_body.specs.declared.types.Profile.{Profile}
 use Rattle.wk_body.specs.Reading.{all_body_at}
 use Rattle.wk_module.specs.declared.types.Func.{Func}
 use Rattle.wk_module.specs.declared.types.Parts.{Parts}
+use Rattle.wk_body.specs.Vectors.{items_at}
 use Rattle.wk_module.specs.Formats.{all_at}
+use Rattle.wk_module.specs.Items.{code_at}
 use Rattle.wk_module.specs.Reading.{section_end, zipped}
 use Rattle.wk_module.specs.Sections.{SectionLists, codes_at}
 use Rattle.wk_check.specs.declared.fault.Fault.{Fault}
@@ -41,3 +43,8 @@ fault_read profile l before item ty code =
 abbrev pub codes_judged : Profile → SectionLists → List ℕ → Section → Result (Option Fault) ReadFault
 codes_judged profile l types s =
     all_at (codes_at profile (length types)) (section_end s) s.contents >>= λ bodies. Ok (earlier (front_fault profile l) (first_of l 0 (zipped types bodies)))
+
+-- the same, where the code section was opened and its codes are still to be read
+abbrev pub opened_judged : Profile → SectionLists → List ℕ → Span → Result (Option Fault) ReadFault
+opened_judged profile l types left =
+    all_at (items_at (code_at profile) (length types)) left.end left.rest >>= λ bodies. Ok (earlier (front_fault profile l) (first_of l 0 (zipped types bodies)))

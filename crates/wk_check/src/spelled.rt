@@ -12,7 +12,7 @@ ghost use Rattle.wk_module.specs.Sections.{no_lists};
 ghost use Rattle.wk_check.specs.declared.fault.Fault.{Fault as FaultOf};
 ghost use Rattle.wk_check.specs.declared.fault.Verdict.{Verdict};
 ghost use Rattle.wk_check.specs.Items.{earlier};
-ghost use Rattle.wk_check.specs.Spelled.{judged, IsVerdictOf, first_of, fault_read, codes_judged};
+ghost use Rattle.wk_check.specs.Spelled.{judged, IsVerdictOf, first_of, fault_read, codes_judged, opened_judged};
 ghost use Rattle.wk_check.specs.Valid.{IsValidRead};
 ghost use Rattle.wk_check.specs.Verdict.{module_verdict};
 
@@ -88,8 +88,43 @@ fn fault_up_to(
     Ok(fault_behind(rule, fault, *index, &read, &mut rooms.room)?)
 }
 
-// The first fault of the sections up to a code section in a module with these lists, each body judged when it is read. Behind a
-// fault bodies are only read, and where it is known that the section can be read they aren't.
+// The first fault of the sections up to a code section that was opened, in a module with these lists, each body judged when it is
+// read. Behind a fault bodies are only read, and where it is known that the section can be read they aren't.
+fn fault_of_codes(
+    alloc: Global,
+    lists: &Lists<'_>,
+    whole: &Whole<'_>,
+    codes: &mut CodeReader<'_>,
+    rooms: &mut Rooms,
+    is_spelled: bool,
+) -> Result<Option<Fault>, ReadFault>
+    requires numbered { AreNumbered (listed lists.now) }
+    requires same { whole.now ≡ listed lists.now }
+    requires spelled { is_spelled ≡ true → (o : Option FaultOf)
+        × (opened_judged lists.now.profile (listed lists.now) lists.now.funcs.now codes.old ≡ Ok o) }
+    ensures { Reads (λ r. r) result
+        (opened_judged lists.now.profile (listed lists.now) lists.now.funcs.now codes.old) }
+{
+    let rule = CodeRule { whole };
+    let known = fault_before_code(alloc, lists, whole, &mut rooms.room)?;
+    let mut fault = known;
+    for (index, ty) in lists.funcs.iter().enumerate() {
+        if is_spelled && fault.is_some() {
+            return Ok(fault);
+        }
+        let func = Unread {
+            index: index as u32,
+            ty: *ty,
+            profile: lists.profile,
+            code: codes.next_code()?,
+        };
+        fault = fault_up_to(alloc, &rule, fault, &func, rooms)?;
+    }
+    codes.end()?;
+    Ok(fault)
+}
+
+// The same of a code section that is still to be opened.
 fn fault_of_section(
     alloc: Global,
     lists: &Lists<'_>,
@@ -103,28 +138,12 @@ fn fault_of_section(
 {
     let mut codes = CodeReader::open(section, lists.funcs.len())?;
     let whole = Whole::of(alloc, *lists)?;
-    let rule = CodeRule { whole: &whole };
     let mut rooms = Rooms {
         stream: StreamRoom::new(alloc),
         scratch: Scratch::new(alloc),
         room: Room::new(alloc),
     };
-    let known = fault_before_code(alloc, lists, &whole, &mut rooms.room)?;
-    let mut fault = known;
-    for (index, ty) in lists.funcs.iter().enumerate() {
-        if is_spelled && fault.is_some() {
-            return Ok(fault);
-        }
-        let func = Unread {
-            index: index as u32,
-            ty: *ty,
-            profile: lists.profile,
-            code: codes.next_code()?,
-        };
-        fault = fault_up_to(alloc, &rule, fault, &func, &mut rooms)?;
-    }
-    codes.end()?;
-    Ok(fault)
+    fault_of_codes(alloc, lists, &whole, &mut codes, &mut rooms, is_spelled)
 }
 
 // Judges the module of these bytes, of which the sections in front of the code section are read, and of which may be known that they
