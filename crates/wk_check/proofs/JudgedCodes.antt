@@ -1,5 +1,5 @@
 -- The verdict of a module whose bodies are judged while they are read.
-use Rattle.std.proofs.Common.{◌≡◌, ℕ, suc, ◌+◌, ◌<◌, ◌≤◌, ◌-◌, List, [], ◌∷◌, length, map, drop, get_or, add-one, Result, Ok, Err, IfOk, Option, Some, None, true, ◌≢◌, refl, sym, ap, subst, ◌∙◌, arith}
+use Rattle.std.proofs.Common.{◌≡◌, ℕ, suc, ◌+◌, ◌<◌, ◌≤◌, ◌-◌, List, [], ◌∷◌, length, map, drop, get_or, add-one, Result, Ok, Err, IfOk, MatchResult, Option, Some, None, true, ◌≢◌, refl, sym, ap, subst, ◌∙◌, arith}
 use Rattle.std.proofs.Math.Seq.{drop-cons}
 use Rattle.std.specs.Option.{is_some}
 use Rattle.wk_bytes.specs.declared.fault.ReadKind.TheVariants.{FuncCodeCount, SectionSize}
@@ -13,6 +13,7 @@ use Rattle.wk_body.specs.declared.types.Profile.{Profile}
 use Rattle.wk_body.specs.Bodies.{BodyOf}
 use Rattle.wk_body.specs.Reading.{all_body_at}
 use Rattle.wk_body.specs.Reads.{Reads}
+use Rattle.wk_body.specs.ReadsLaws.{fails_on}
 use Rattle.wk_body.specs.Vectors.{items_at}
 use Rattle.wk_module.specs.declared.types.DataSeg.{DataSeg}
 use Rattle.wk_module.specs.declared.types.Func.{Func}
@@ -33,7 +34,7 @@ use Rattle.wk_check.specs.declared.fault.Verdict.{Verdict}
 use Rattle.wk_check.specs.Flaws.{verdict_by}
 use Rattle.wk_check.specs.Items.{earlier, body_flaw}
 use Rattle.wk_check.specs.Spaces.{answer_in, spaces_of}
-use Rattle.wk_check.specs.Spelled.{judged, IsVerdictOf, first_of, fault_read, codes_judged, opened_judged}
+use Rattle.wk_check.specs.Spelled.{judged, IsVerdictOf, first_of, fault_read, codes_judged, opened_judged, left_judged}
 use Rattle.wk_check.specs.Verdict.{func_verdict, front_fault, verdict_from, verdict_around, module_verdict, IsVerdict}
 use Rattle.wk_check.proofs.Flaws.{earlier_none, earlier_assoc, module_verdict_told}
 
@@ -264,21 +265,31 @@ module _ (profile : Profile) (b : List ℕ) (is : IsReading profile b (module_at
         let has = apart.read_with_code profile b lists l s behind code_is none rise read q a.0 a.1 ends in
         judged_by (with_codes a.0 q) has ∙ ap (λ (v : Verdict). done v) (same_verdict front.0 q a.0 code front.1 a.2)
 
+    -- the sections behind the codes are read, or can't be
+    pub judged_with_left : (rest : Result SectionLists ReadFault) (code : Option Fault) → codes_judged profile (record l { codes = [] }) l.funcs s ≡ Ok code → lists_read profile l behind ≡ rest
+        → judged (module_at profile b) ≡ (rest >>= λ q. Ok (verdict_from (record q { codes = [] }) code))
+    judged_with_left (Ok q) code codes ends = judged_with_code q code codes ends
+    judged_with_left (Err e) code codes bad = behind_fails code e codes bad
+
 -- ---- by the lists that a reader lends
 
 pub told_codes : (profile lent : Profile) (l w : SectionLists) (s : Section) → lent ≡ profile → w ≡ record l { codes = [] } → codes_judged lent w w.funcs s ≡ codes_judged profile (record l { codes = [] }) l.funcs s
 told_codes profile lent l w s profile_is lists_are = rw (profile_is, lists_are) refl
 
-pub told_verdict : (l w : SectionLists) (before : Option Fault) (v : Verdict) → w ≡ record l { codes = [] } → v ≡ verdict_from w before → verdict_from (record l { codes = [] }) before ≡ v
-told_verdict l w before v lists_are is = sym (is ∙ ap (λ (x : SectionLists). verdict_from x before) lists_are)
-
--- the verdict of a module of which the front, the codes and what is behind them were read
-pub judged_in_parts : (r : PartlyRead) (b : List ℕ) (s : Section) (lent : Lists) (law : Profile) (q : SectionLists) (code : Option Fault) → law ≡ r.profile → IsReading law b (module_at law b) → AreListsOfModule law b
+-- the verdict of a module of which the front and the codes were read
+pub judged_in_parts : (r : PartlyRead) (b : List ℕ) (s : Section) (lent : Lists) (law : Profile) (code : Option Fault) → law ≡ r.profile → IsReading law b (module_at law b) → AreListsOfModule law b
     → lent.profile ≡ r.profile → listed lent ≡ record r.lists { codes = [] } → s.id ≡ 10 → r.lists.codes ≡ [] → Rise 10 r.left → read_lists r.profile b ≡ lists_read r.profile r.lists (Ok s ∷ r.left)
-    → codes_judged lent.profile (listed lent) lent.funcs.now s ≡ Ok code → lists_read r.profile r.lists r.left ≡ Ok q → IsJudgedFrom r.profile b q code
-judged_in_parts r b s lent law q code law_is is lists profile_is lent_is code_is none rise read codes ends =
+    → codes_judged lent.profile (listed lent) lent.funcs.now s ≡ Ok code → judged (module_at r.profile b) ≡ left_judged r code
+judged_in_parts r b s lent law code law_is is lists profile_is lent_is code_is none rise read codes =
     let told = told_codes r.profile lent.profile r.lists (listed lent) s profile_is lent_is in
-    judged_with_code r.profile b (rw law_is at is) (rw law_is at lists) r.lists s r.left code_is none rise read q code (sym told ∙ codes) ends
+    judged_with_left r.profile b (rw law_is at is) (rw law_is at lists) r.lists s r.left code_is none rise read (lists_read r.profile r.lists r.left) code (sym told ∙ codes) refl
+
+-- what is left is read to its end, or to a fault
+pub judged_to_end : {X : Type 0} (view : X → SectionLists) (lists : Result SectionLists ReadFault) (before : Option Fault) (read : Result X ReadFault) (answer : Result Verdict ReadFault) → Reads view read lists
+    → MatchResult read (λ r. Reads (λ v. v) answer (Ok (verdict_from (record (view r) { codes = [] }) before))) (λ e. answer ≡ Err e)
+    → Reads (λ v. v) answer (lists >>= λ l. Ok (verdict_from (record l { codes = [] }) before))
+judged_to_end view lists before (Ok r) answer reads is = rw reads is
+judged_to_end view lists before (Err e) answer reads is = rw is (fails_on e e.kind lists (lists >>= λ l. Ok (verdict_from (record l { codes = [] }) before)) (λ bad. rw bad refl) reads)
 
 -- a verdict that is answered is the one that words tell
 pub told_meaning : (read : Result Parts ReadFault) (answer : Result Verdict ReadFault) → Reads (λ v. v) answer (judged read) → IfOk answer (λ v. IsVerdictOf read v)

@@ -6,18 +6,19 @@ use Rattle.wk_bytes.specs.Span.{Span}
 use Rattle.wk_bytes.specs.Frames.{Section}
 use Rattle.wk_body.specs.declared.types.Profile.{Profile}
 use Rattle.wk_body.specs.Reading.{all_body_at}
+use Rattle.wk_body.specs.Vectors.{items_at}
 use Rattle.wk_module.specs.declared.types.Func.{Func}
 use Rattle.wk_module.specs.declared.types.Parts.{Parts}
-use Rattle.wk_body.specs.Vectors.{items_at}
 use Rattle.wk_module.specs.Formats.{all_at}
 use Rattle.wk_module.specs.Items.{code_at}
+use Rattle.wk_module.specs.ListReading.{PartlyRead, lists_read}
 use Rattle.wk_module.specs.Reading.{section_end, zipped}
 use Rattle.wk_module.specs.Sections.{SectionLists, codes_at}
 use Rattle.wk_check.specs.declared.fault.Fault.{Fault}
 use Rattle.wk_check.specs.declared.fault.Verdict.{Verdict}
 use Rattle.wk_check.specs.Flaws.{first_in}
 use Rattle.wk_check.specs.Items.{earlier}
-use Rattle.wk_check.specs.Verdict.{code_flaws, front_fault, module_verdict, IsVerdict}
+use Rattle.wk_check.specs.Verdict.{code_flaws, front_fault, verdict_from, module_verdict, IsVerdict}
 
 -- the verdict of what reading gives, or its fault
 abbrev pub judged : Result Parts ReadFault → Result Verdict ReadFault
@@ -48,3 +49,9 @@ codes_judged profile l types s =
 abbrev pub opened_judged : Profile → SectionLists → List ℕ → Span → Result (Option Fault) ReadFault
 opened_judged profile l types left =
     all_at (items_at (code_at profile) (length types)) left.end left.rest >>= λ bodies. Ok (earlier (front_fault profile l) (first_of l 0 (zipped types bodies)))
+
+-- the verdict where this is the first fault of the sections up to the code section, and those behind it are still to be read; or
+-- the fault of reading them
+abbrev pub left_judged : PartlyRead → Option Fault → Result Verdict ReadFault
+left_judged r before =
+    lists_read r.profile r.lists r.left >>= λ lists. Ok (verdict_from (record lists { codes = [] }) before)

@@ -1,6 +1,6 @@
 //! Judging the module that bytes spell: each body is judged when it is read, and not kept.
 
-ghost use Rattle.std.specs.Prelude.{◌≡◌, ◌↔◌, [], ◌∷◌, true, Ok, Option, IfOk};
+ghost use Rattle.std.specs.Prelude.{◌≡◌, ◌↔◌, [], ◌∷◌, true, Ok, Err, Option, IfOk, MatchResult};
 ghost use Rattle.wk_bytes.specs.Frames.{sections_of};
 ghost use Rattle.wk_bytes.specs.Raw.{raw_view};
 ghost use Rattle.wk_body.specs.Reads.{Reads};
@@ -12,9 +12,9 @@ ghost use Rattle.wk_module.specs.Sections.{no_lists};
 ghost use Rattle.wk_check.specs.declared.fault.Fault.{Fault as FaultOf};
 ghost use Rattle.wk_check.specs.declared.fault.Verdict.{Verdict};
 ghost use Rattle.wk_check.specs.Items.{earlier};
-ghost use Rattle.wk_check.specs.Spelled.{judged, IsVerdictOf, first_of, fault_read, codes_judged, opened_judged};
+ghost use Rattle.wk_check.specs.Spelled.{judged, IsVerdictOf, first_of, fault_read, codes_judged, opened_judged, left_judged};
 ghost use Rattle.wk_check.specs.Valid.{IsValidRead};
-ghost use Rattle.wk_check.specs.Verdict.{module_verdict};
+ghost use Rattle.wk_check.specs.Verdict.{verdict_from, module_verdict};
 
 use crate::fault::{Fault, Verdict};
 use crate::judging::{fault_before_code, judge_around, judge_behind};
@@ -42,6 +42,17 @@ struct Rooms {
     stream: StreamRoom,
     scratch: Scratch,
     room: Room,
+}
+
+impl Rooms {
+    // Rooms that are still to grow.
+    fn new(alloc: Global) -> Rooms {
+        Rooms {
+            stream: StreamRoom::new(alloc),
+            scratch: Scratch::new(alloc),
+            room: Room::new(alloc),
+        }
+    }
 }
 
 // The first fault of the functions up to this one, where that of those before it is given.
@@ -85,7 +96,9 @@ fn fault_up_to(
     }
     let body = rooms.scratch.read_body(alloc, code, *profile)?;
     let read = Func { ty: *ty, body };
-    Ok(fault_behind(rule, fault, *index, &read, &mut rooms.room)?)
+    let found = fault_behind(rule, fault, *index, &read, &mut rooms.room);
+    drop(read);
+    Ok(found?)
 }
 
 // The first fault of the sections up to a code section that was opened, in a module with these lists, each body judged when it is
@@ -138,12 +151,43 @@ fn fault_of_section(
 {
     let mut codes = CodeReader::open(section, lists.funcs.len())?;
     let whole = Whole::of(alloc, *lists)?;
-    let mut rooms = Rooms {
-        stream: StreamRoom::new(alloc),
-        scratch: Scratch::new(alloc),
-        room: Room::new(alloc),
-    };
-    fault_of_codes(alloc, lists, &whole, &mut codes, &mut rooms, is_spelled)
+    let mut rooms = Rooms::new(alloc);
+    let fault = fault_of_codes(alloc, lists, &whole, &mut codes, &mut rooms, is_spelled);
+    drop(rooms);
+    drop(whole);
+    fault
+}
+
+// Judges a module of which all but the bodies was read, if it could be, and whose first fault in the sections up to the code section
+// is `fault`.
+fn judge_read(
+    alloc: Global,
+    read: &Result<SectionReader<'_>, ReadFault>,
+    fault: Option<Fault>,
+) -> Result<Verdict, ReadFault>
+    ensures { MatchResult read.now
+        (λ r. Reads (λ v. v) result (Ok (verdict_from (record r.lists { codes = [] }) fault)))
+        (λ e. result ≡ Err e) }
+{
+    match read {
+        Ok(reader) => Ok(judge_behind(alloc, &reader.lists(), fault)?),
+        Err(fault) => Err(*fault),
+    }
+}
+
+// Judges a module of which this reader has the sections left, and whose first fault in those up to the code section is `fault`.
+fn judge_to_end(
+    alloc: Global,
+    scratch: &mut Scratch,
+    reader: SectionReader<'_>,
+    fault: Option<Fault>,
+) -> Result<Verdict, ReadFault>
+    ensures { Reads (λ v. v) result (left_judged reader.entry fault) }
+{
+    let read = reader.to_end(alloc, scratch);
+    let verdict = judge_read(alloc, &read, fault);
+    drop(read);
+    verdict
 }
 
 // Judges the module of these bytes, of which the sections in front of the code section are read, and of which may be known that they
@@ -165,9 +209,13 @@ fn judge_from_code(
 {
     reading_of_module(bytes, reader.lists().profile);
     let lists = reader.lists();
-    let fault = fault_of_section(alloc, &lists, section, is_spelled)?;
-    let reader = reader.to_end(alloc, scratch)?;
-    Ok(judge_behind(alloc, &reader.lists(), fault)?)
+    match fault_of_section(alloc, &lists, section, is_spelled) {
+        Ok(fault) => judge_to_end(alloc, scratch, reader, fault),
+        Err(fault) => {
+            drop(reader);
+            Err(fault)
+        }
+    }
 }
 
 // Judges the module of these bytes, which are read and hold no code section.
@@ -192,6 +240,29 @@ fn judge_without_code(
 }
 
 // Judges the module that these bytes spell. Where it is known that they spell one, no body behind the first fault is read.
+fn judge_sections(
+    alloc: Global,
+    scratch: &mut Scratch,
+    bytes: &[u8],
+    profile: Profile,
+    is_spelled: bool,
+) -> Result<Verdict, ReadFault>
+    requires { is_spelled ≡ true → (m : PartsOf) × (module_at profile bytes.now ≡ Ok m) }
+    ensures { Reads (λ v. v) result (judged (module_at profile bytes.now)) }
+{
+    reading_of_module(bytes, profile);
+    let (reader, section) = SectionReader::new(alloc, bytes, profile).up_to_code(alloc, scratch)?;
+    match section {
+        Some(section) => judge_from_code(alloc, scratch, bytes, reader, &section, is_spelled),
+        None => {
+            let verdict = judge_without_code(alloc, bytes, &reader);
+            drop(reader);
+            verdict
+        }
+    }
+}
+
+// The same in a room of its own for what is read.
 fn judge_spelling(
     alloc: Global,
     bytes: &[u8],
@@ -201,16 +272,7 @@ fn judge_spelling(
     requires { is_spelled ≡ true → (m : PartsOf) × (module_at profile bytes.now ≡ Ok m) }
     ensures { Reads (λ v. v) result (judged (module_at profile bytes.now)) }
 {
-    reading_of_module(bytes, profile);
-    let mut scratch = Scratch::new(alloc);
-    let (reader, section) = SectionReader::new(alloc, bytes, profile).up_to_code(
-        alloc,
-        &mut scratch,
-    )?;
-    match section {
-        Some(section) => judge_from_code(alloc, &mut scratch, bytes, reader, &section, is_spelled),
-        None => judge_without_code(alloc, bytes, &reader),
-    }
+    judge_sections(alloc, &mut Scratch::new(alloc), bytes, profile, is_spelled)
 }
 
 /// Judges the module of a profile that bytes spell (5.5.15, 3.4.10): valid, or the first fault by section, item, and what is

@@ -4,8 +4,8 @@ use Rattle.wk_module.specs.Listed.{listed}
 use Rattle.wk_check.proofs.JudgedCodes.{judged_as_opened}
 use Rattle.wk_check.proofs.spelled.fault_of_section.Goals as goal
 
-pub fault_of_codes-requires-clause-spelled : goal.fault_of_codes-requires-clause-spelled
-fault_of_codes-requires-clause-spelled c = λ known.
+pub fault_of_codes-fault-requires-clause-spelled : goal.fault_of_codes-fault-requires-clause-spelled
+fault_of_codes-fault-requires-clause-spelled c = λ known.
     let lists = c.args.lists.now in
     let codes = c.in_ok-codes.codes in
     let same = judged_as_opened lists.profile (listed lists) lists.funcs.now (raw_view c.args.section.now) codes (c.in_ok-codes.ensures.read lists.profile) c.in_ok-codes.ensures.end in
@@ -17,4 +17,4 @@ returns c =
     let lists = c.args.lists.now in
     let codes = c.in_ok-codes.codes in
     let same = judged_as_opened lists.profile (listed lists) lists.funcs.now (raw_view c.args.section.now) codes (c.in_ok-codes.ensures.read lists.profile) c.in_ok-codes.ensures.end in
-    rw same c.fault_of_codes.ensures
+    rw same c.fault_of_codes-fault.ensures
