@@ -1,5 +1,5 @@
 -- The verdict of a module whose bodies are judged while they are read.
-use Rattle.std.proofs.Common.{◌≡◌, ℕ, suc, ◌+◌, ◌<◌, ◌≤◌, ◌-◌, List, [], ◌∷◌, length, map, drop, get_or, add-one, Result, Ok, Err, IfOk, MatchResult, Option, Some, None, true, ◌≢◌, refl, sym, ap, subst, ◌∙◌, arith}
+use Rattle.std.proofs.Common.{◌≡◌, ℕ, suc, ◌+◌, ◌<◌, ◌≤◌, ◌-◌, List, [], ◌∷◌, length, map, drop, get_or, add-one, Result, Ok, Err, IfOk, Option, Some, None, true, ◌≢◌, refl, sym, ap, subst, ◌∙◌, arith}
 use Rattle.std.proofs.Math.Seq.{drop-cons}
 use Rattle.std.specs.Option.{is_some}
 use Rattle.wk_bytes.specs.declared.fault.ReadKind.TheVariants.{FuncCodeCount, SectionSize}
@@ -13,7 +13,6 @@ use Rattle.wk_body.specs.declared.types.Profile.{Profile}
 use Rattle.wk_body.specs.Bodies.{BodyOf}
 use Rattle.wk_body.specs.Reading.{all_body_at}
 use Rattle.wk_body.specs.Reads.{Reads}
-use Rattle.wk_body.specs.ReadsLaws.{fails_on}
 use Rattle.wk_body.specs.Vectors.{items_at}
 use Rattle.wk_module.specs.declared.types.DataSeg.{DataSeg}
 use Rattle.wk_module.specs.declared.types.Func.{Func}
@@ -283,13 +282,6 @@ pub judged_in_parts : (r : PartlyRead) (b : List ℕ) (s : Section) (lent : List
 judged_in_parts r b s lent law code law_is is lists profile_is lent_is code_is none rise read codes =
     let told = told_codes r.profile lent.profile r.lists (listed lent) s profile_is lent_is in
     judged_with_left r.profile b (rw law_is at is) (rw law_is at lists) r.lists s r.left code_is none rise read (lists_read r.profile r.lists r.left) code (sym told ∙ codes) refl
-
--- what is left is read to its end, or to a fault
-pub judged_to_end : {X : Type 0} (view : X → SectionLists) (lists : Result SectionLists ReadFault) (before : Option Fault) (read : Result X ReadFault) (answer : Result Verdict ReadFault) → Reads view read lists
-    → MatchResult read (λ r. Reads (λ v. v) answer (Ok (verdict_from (record (view r) { codes = [] }) before))) (λ e. answer ≡ Err e)
-    → Reads (λ v. v) answer (lists >>= λ l. Ok (verdict_from (record l { codes = [] }) before))
-judged_to_end view lists before (Ok r) answer reads is = rw reads is
-judged_to_end view lists before (Err e) answer reads is = rw is (fails_on e e.kind lists (lists >>= λ l. Ok (verdict_from (record l { codes = [] }) before)) (λ bad. rw bad refl) reads)
 
 -- a verdict that is answered is the one that words tell
 pub told_meaning : (read : Result Parts ReadFault) (answer : Result Verdict ReadFault) → Reads (λ v. v) answer (judged read) → IfOk answer (λ v. IsVerdictOf read v)

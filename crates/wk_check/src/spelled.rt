@@ -1,6 +1,6 @@
 //! Judging the module that bytes spell: each body is judged when it is read, and not kept.
 
-ghost use Rattle.std.specs.Prelude.{◌≡◌, ◌↔◌, [], ◌∷◌, true, Ok, Err, Option, IfOk, MatchResult};
+ghost use Rattle.std.specs.Prelude.{◌≡◌, ◌↔◌, [], ◌∷◌, true, Ok, Option, IfOk};
 ghost use Rattle.wk_bytes.specs.Frames.{sections_of};
 ghost use Rattle.wk_bytes.specs.Raw.{raw_view};
 ghost use Rattle.wk_body.specs.Reads.{Reads};
@@ -14,7 +14,7 @@ ghost use Rattle.wk_check.specs.declared.fault.Verdict.{Verdict};
 ghost use Rattle.wk_check.specs.Items.{earlier};
 ghost use Rattle.wk_check.specs.Spelled.{judged, IsVerdictOf, first_of, fault_read, codes_judged, opened_judged, left_judged};
 ghost use Rattle.wk_check.specs.Valid.{IsValidRead};
-ghost use Rattle.wk_check.specs.Verdict.{verdict_from, module_verdict};
+ghost use Rattle.wk_check.specs.Verdict.{module_verdict};
 
 use crate::fault::{Fault, Verdict};
 use crate::judging::{fault_before_code, judge_around, judge_behind};
@@ -158,23 +158,6 @@ fn fault_of_section(
     fault
 }
 
-// Judges a module of which all but the bodies was read, if it could be, and whose first fault in the sections up to the code section
-// is `fault`.
-fn judge_read(
-    alloc: Global,
-    read: &Result<SectionReader<'_>, ReadFault>,
-    fault: Option<Fault>,
-) -> Result<Verdict, ReadFault>
-    ensures { MatchResult read.now
-        (λ r. Reads (λ v. v) result (Ok (verdict_from (record r.lists { codes = [] }) fault)))
-        (λ e. result ≡ Err e) }
-{
-    match read {
-        Ok(reader) => Ok(judge_behind(alloc, &reader.lists(), fault)?),
-        Err(fault) => Err(*fault),
-    }
-}
-
 // Judges a module of which this reader has the sections left, and whose first fault in those up to the code section is `fault`.
 fn judge_to_end(
     alloc: Global,
@@ -184,10 +167,10 @@ fn judge_to_end(
 ) -> Result<Verdict, ReadFault>
     ensures { Reads (λ v. v) result (left_judged reader.entry fault) }
 {
-    let read = reader.to_end(alloc, scratch);
-    let verdict = judge_read(alloc, &read, fault);
-    drop(read);
-    verdict
+    let reader = reader.to_end(alloc, scratch)?;
+    let verdict = judge_behind(alloc, &reader.lists(), fault);
+    drop(reader);
+    Ok(verdict?)
 }
 
 // Judges the module of these bytes, of which the sections in front of the code section are read, and of which may be known that they
