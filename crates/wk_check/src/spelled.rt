@@ -97,6 +97,7 @@ fn fault_up_to(
     let body = rooms.scratch.read_body(alloc, code, *profile)?;
     let read = Func { ty: *ty, body };
     let found = fault_behind(rule, fault, *index, &read, &mut rooms.room);
+    // (Here and below, what is owned is freed by a call, which is proved apart.)
     drop(read);
     Ok(found?)
 }
