@@ -238,17 +238,36 @@ impl SoFar {
             }
         }
     }
+
+    // Reads each section of an input.
+    #[tactic(auto, unfolding(crate::specs::Reading::sections_read))]
+    fn read_sections(
+        &mut self,
+        alloc: Global,
+        scratch: &mut Scratch,
+        profile: Profile,
+        bytes: &[u8],
+    ) -> Result<(), ReadFault>
+        ensures { Reads (λ u. self.new) result (sections_read profile self.old (sections_of bytes.now)) }
+    {
+        for section in Sections::new(bytes) {
+            self.read_section(alloc, scratch, profile, &section?)?;
+        }
+        Ok(())
+    }
 }
 
 // Section after section.
-#[tactic(auto, unfolding(crate::specs::Reading::sections_read))]
 fn read_sections(alloc: Global, bytes: &[u8], profile: Profile) -> Result<SoFar, ReadFault>
     ensures { Reads (λ p. p) result (sections_read profile at_start (sections_of bytes.now)) }
 {
     let mut scratch = Scratch::new(alloc);
     let mut so_far = SoFar::new(alloc, profile);
-    for section in Sections::new(bytes) {
-        so_far.read_section(alloc, &mut scratch, profile, &section?)?;
+    let read = so_far.read_sections(alloc, &mut scratch, profile, bytes);
+    drop(scratch);
+    if let Err(fault) = read {
+        drop(so_far);
+        return Err(fault);
     }
     Ok(so_far)
 }
