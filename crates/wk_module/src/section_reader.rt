@@ -11,7 +11,7 @@ ghost use Rattle.wk_body.specs.Vectors.{items_at};
 ghost use Rattle.wk_module.specs.Formats.{bytes_at};
 ghost use Rattle.wk_module.specs.Items.{code_at};
 ghost use Rattle.wk_module.specs.Listed.{listed, AreNumbered};
-ghost use Rattle.wk_module.specs.ListReading.{GoesTo, front_of, front_read, opened_at, rest_read, with_listed};
+ghost use Rattle.wk_module.specs.ListReading.{GoesTo, IsUnderway, front_of, front_read, lists_read, opened_at, rest_read, with_listed};
 ghost use Rattle.wk_module.specs.Reading.{section_end};
 ghost use Rattle.wk_module.specs.Sections.{codes_at, no_lists};
 
@@ -82,6 +82,53 @@ impl SoFar {
         }
     }
 
+    // Takes sections of those that are left, and reads them, up to the code section, which it gives unread, or to the end.
+    #[tactic(auto, unfolding(crate::specs::ListReading::lists_read, crate::specs::ListReading::front_read))]
+    fn read_up_to_code<'a>(
+        &mut self,
+        alloc: Global,
+        scratch: &mut Scratch,
+        profile: Profile,
+        left: &mut Sections<'a>,
+    ) -> Result<Option<RawSection<'a>>, ReadFault>
+        requires { IsUnderway self.old.lists left.old }
+        ensures exact { Reads (λ code. front_of (record { profile = profile; lists = self.new.lists; left = left.new }) code) result
+            (front_read profile self.old.lists left.old) }
+        ensures goes { MatchResult result
+            (λ code. GoesTo (record { profile = profile; lists = self.old.lists; left = left.old }) (record { profile = profile; lists = self.new.lists; left = left.new }) code)
+            (λ e. FailsAs e e.kind (lists_read profile self.old.lists left.old)) }
+        ensures underway { OnOk result (IsUnderway self.new.lists left.new) }
+    {
+        while let Some(section) = left.next() {
+            let section = section?;
+            if section.id == CODE {
+                return Ok(Some(section));
+            }
+            self.read_listed(alloc, scratch, profile, &section)?;
+        }
+        Ok(None)
+    }
+
+    // Takes each section that is left, and reads it.
+    #[tactic(auto, unfolding(crate::specs::ListReading::lists_read))]
+    fn read_left(
+        &mut self,
+        alloc: Global,
+        scratch: &mut Scratch,
+        profile: Profile,
+        left: &mut Sections<'_>,
+    ) -> Result<(), ReadFault>
+        requires { IsUnderway self.old.lists left.old }
+        ensures read { Reads (λ u. self.new.lists) result (lists_read profile self.old.lists left.old) }
+        ensures underway { OnOk result (IsUnderway self.new.lists left.new) }
+        ensures left { OnOk result (left.new ≡ []) }
+    {
+        while let Some(section) = left.next() {
+            self.read_listed(alloc, scratch, profile, &section?)?;
+        }
+        Ok(())
+    }
+
     // The lists that are read, but for codes.
     fn lists(&self, profile: Profile) -> Lists<'_>
         ensures lists { listed result ≡ record self.now.lists { codes = [] } }
@@ -107,7 +154,6 @@ impl<'a> SectionReader<'a> {
     }
 
     // Reads up to the code section, or to the end where there is none.
-    #[tactic(auto, unfolding(crate::specs::ListReading::lists_read, crate::specs::ListReading::front_read))]
     fn read_front(
         self,
         alloc: Global,
@@ -121,28 +167,23 @@ impl<'a> SectionReader<'a> {
             mut left,
             profile,
         } = self;
-        while let Some(section) = left.next() {
-            let section = section?;
-            if section.id == CODE {
+        match so_far.read_up_to_code(alloc, scratch, profile, &mut left) {
+            Ok(code) => {
                 let reader = SectionReader {
                     so_far,
                     left,
                     profile,
                 };
-                return Ok((reader, Some(section)));
+                Ok((reader, code))
             }
-            so_far.read_listed(alloc, scratch, profile, &section)?;
+            Err(fault) => {
+                drop(so_far);
+                Err(fault)
+            }
         }
-        let reader = SectionReader {
-            so_far,
-            left,
-            profile,
-        };
-        Ok((reader, None))
     }
 
     // Reads all sections that are left.
-    #[tactic(auto, unfolding(crate::specs::ListReading::lists_read))]
     fn read_rest(self, alloc: Global, scratch: &mut Scratch) -> Result<SectionReader<'a>, ReadFault>
         ensures read { Reads (λ r. r.lists) result (rest_read self.entry) }
         ensures profile { IfOk result (λ r. r.profile ≡ self.entry.profile) }
@@ -153,8 +194,9 @@ impl<'a> SectionReader<'a> {
             mut left,
             profile,
         } = self;
-        while let Some(section) = left.next() {
-            so_far.read_listed(alloc, scratch, profile, &section?)?;
+        if let Err(fault) = so_far.read_left(alloc, scratch, profile, &mut left) {
+            drop(so_far);
+            return Err(fault);
         }
         Ok(SectionReader {
             so_far,

@@ -1,14 +1,13 @@
 use Rattle.std.proofs.Common.{◌≡◌, ℕ}
 use Rattle.wk_module.specs.Listed.{AreNumbered}
-use Rattle.wk_module.specs.ListReading.{lists_read, rest_read, Rise}
-use Rattle.wk_module.proofs.section_reader.SectionReader.read_rest.Given as goal
+use Rattle.wk_module.specs.ListReading.{lists_read, Rise}
+use Rattle.wk_module.proofs.reader.SoFar.read_left.Given as goal
 
 abbrev pub invariant-loop-section : goal.invariant-loop-section
 invariant-loop-section l = record {
   can : (goal.iterator-loop-section).can_next l.left;
   ends : (goal.iterator-loop-section).is_finite l.left;
-  reads : lists_read l.profile l.so_far.lists l.left ≡ rest_read l.fn.self;
+  reads : lists_read l.profile l.self.lists l.left ≡ lists_read l.profile l.initial.self.lists l.initial.left;
   rise : (last : ℕ) × Rise last l.left;
-  few : AreNumbered l.so_far.lists;
-  same : l.profile ≡ l.fn.self.profile;
+  few : AreNumbered l.self.lists;
 }
