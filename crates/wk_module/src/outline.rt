@@ -1,6 +1,6 @@
 //! Reading a module of which no body is kept (5.5.15).
 
-ghost use Rattle.std.specs.Prelude.{◌≡◌, ◌≢◌, Ok, IfOk, IfErr, MatchResult, length, map};
+ghost use Rattle.std.specs.Prelude.{◌≡◌, ◌≢◌, [], Ok, IfOk, IfErr, MatchResult, length, map};
 ghost use Rattle.wk_bytes.specs.Fault.{no_memory};
 ghost use Rattle.wk_bytes.specs.Frames.{sections_of};
 ghost use Rattle.wk_bytes.specs.Raw.{raw_view};
@@ -143,6 +143,25 @@ fn read_section<K: Kept>(
     Ok(())
 }
 
+// Reads each section of an input, from the first on.
+fn read_each_section<K: Kept>(
+    alloc: Global,
+    scratch: &mut Scratch,
+    bytes: &[u8],
+    profile: Profile,
+    so_far: &mut SoFar,
+    kept: &mut Vec<K::Item>,
+) -> Result<(), ReadFault>
+    requires first { so_far.old ≡ at_start }
+    requires none { kept.old.items ≡ [] }
+    ensures { Reads (λ u. underway so_far.new kept.new.items) result (read_aside K.kept (sections_read profile at_start (sections_of bytes.now))) }
+{
+    for section in Sections::new(bytes) {
+        read_section::<K>(alloc, scratch, profile, &section?, so_far, kept)?;
+    }
+    Ok(())
+}
+
 // Section after section: all but the codes, and what is kept of each.
 fn read_sections<K: Kept>(
     alloc: Global,
@@ -154,15 +173,11 @@ fn read_sections<K: Kept>(
     let mut scratch = Scratch::new(alloc);
     let mut so_far = SoFar::new(alloc, profile);
     let mut kept = Vec::new(alloc);
-    for section in Sections::new(bytes) {
-        read_section::<K>(
-            alloc,
-            &mut scratch,
-            profile,
-            &section?,
-            &mut so_far,
-            &mut kept,
-        )?;
+    let read = read_each_section::<K>(alloc, &mut scratch, bytes, profile, &mut so_far, &mut kept);
+    drop(scratch);
+    if let Err(fault) = read {
+        drop(so_far);
+        return Err(fault);
     }
     Ok((so_far, kept))
 }

@@ -6,13 +6,13 @@ use Rattle.wk_bytes.specs.Frames.{sections_of}
 use Rattle.wk_bytes.specs.Raw.{raw_view, item_view}
 use Rattle.wk_module.specs.OutlineReading.{underway}
 use Rattle.wk_module.proofs.Outlining.{begun, one_more, stopped, broken, finished}
-use Rattle.wk_module.proofs.outline.read_sections.Goals as goal
+use Rattle.wk_module.proofs.outline.read_each_section.Goals as goal
 
 pub loop-section-init : goal.loop-section-init
 loop-section-init g c = record {
   can = tt;
   ends = tt;
-  so = begun g.K.Kept.kept c.args.profile c.args.bytes.now _ c.new-so_far.result c.new-kept.result.items (c.into_iter-section-iterator.ensures.into_iter_gives ∙ c.new-section-items.ensures.items) c.new-so_far.ensures c.new-kept.ensures.items;
+  so = begun g.K.Kept.kept c.args.profile c.args.bytes.now _ c.args.so_far.now c.args.kept.now.items (c.into_iter-section-iterator.ensures.into_iter_gives ∙ c.new-section-items.ensures.items) c.requires.first c.requires.none;
 }
 
 pub returns-in_err-section : goal.returns-in_err-section

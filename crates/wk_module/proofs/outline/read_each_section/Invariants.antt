@@ -1,7 +1,7 @@
 use Rattle.wk_bytes.specs.Frames.{sections_of}
 use Rattle.wk_module.specs.OutlineReading.{underway}
 use Rattle.wk_module.proofs.Outlining.{IsReadSo}
-use Rattle.wk_module.proofs.outline.read_sections.Given as goal
+use Rattle.wk_module.proofs.outline.read_each_section.Given as goal
 
 abbrev pub invariant-loop-section : goal.invariant-loop-section
 invariant-loop-section g l = record {
