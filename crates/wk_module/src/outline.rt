@@ -214,19 +214,20 @@ fn together(
 ) -> Result<Parts, ReadFault>
     ensures { (p : Progress) → so_far ≡ without_codes p → codes ≡ length p.lists.codes → Reads (λ d. d) result (read_outlined (joined profile len p)) }
 {
-    let SoFar { parts, indices, .. } = so_far;
-    if indices.len() != codes {
+    if so_far.indices.len() != codes {
+        drop(so_far);
         return Err(ReadFault {
             kind: ReadKind::FuncCodeCount,
             at: len,
         });
     }
-    let funcs = stubs(alloc, profile, indices.as_slice())?;
-    Ok(Parts {
-        profile,
-        funcs,
-        ..parts
-    })
+    match stubs(alloc, profile, so_far.indices.as_slice()) {
+        Ok(funcs) => Ok(so_far.parts.with_funcs(profile, funcs)),
+        Err(fault) => {
+            drop(so_far);
+            Err(fault)
+        }
+    }
 }
 
 /// Reads a module of a profile without its bodies: a stub stands in the place of each, and something is kept of it.

@@ -294,24 +294,26 @@ fn functions(
 fn together(alloc: Global, profile: Profile, so_far: SoFar, len: u32) -> Result<Parts, ReadFault>
     ensures { Reads (λ m. m) result (joined profile len so_far) }
 {
+    if so_far.indices.len() != so_far.bodies.len() {
+        drop(so_far);
+        return Err(ReadFault {
+            kind: ReadKind::FuncCodeCount,
+            at: len,
+        });
+    }
     let SoFar {
         parts,
         indices,
         bodies,
         ..
     } = so_far;
-    if indices.len() != bodies.len() {
-        return Err(ReadFault {
-            kind: ReadKind::FuncCodeCount,
-            at: len,
-        });
+    match functions(alloc, &indices, bodies) {
+        Ok(funcs) => Ok(parts.with_funcs(profile, funcs)),
+        Err(full) => {
+            drop(parts);
+            Err(ReadFault::from(full))
+        }
     }
-    let funcs = functions(alloc, &indices, bodies)?;
-    Ok(Parts {
-        profile,
-        funcs,
-        ..parts
-    })
 }
 
 // The lists of a module, as they are spelled.
