@@ -154,7 +154,8 @@ fn read_each_section<K: Kept>(
 ) -> Result<(), ReadFault>
     requires first { so_far.old ≡ at_start }
     requires none { kept.old.items ≡ [] }
-    ensures { Reads (λ u. underway so_far.new kept.new.items) result (read_aside K.kept (sections_read profile at_start (sections_of bytes.now))) }
+    ensures { Reads (λ u. underway so_far.new kept.new.items) result
+        (read_aside K.kept (sections_read profile at_start (sections_of bytes.now))) }
 {
     for section in Sections::new(bytes) {
         read_section::<K>(alloc, scratch, profile, &section?, so_far, kept)?;

@@ -31,6 +31,7 @@ use wk_bytes::{Items, OutOfMemory, RawSection, ReadFault, ReadKind, Sections};
 
 // What was read so far: the lists, where the functions are parted into their types and their bodies, and the id of the last
 // section that is not empty.
+// A reader that gives up drops it by a call: where the drops of all its lists stand in the reader, the proof takes many times as long.
 #[derive(Debug, Drop)]
 pub(crate) struct SoFar {
     pub(crate) parts: Parts,
@@ -248,7 +249,8 @@ impl SoFar {
         profile: Profile,
         bytes: &[u8],
     ) -> Result<(), ReadFault>
-        ensures { Reads (λ u. self.new) result (sections_read profile self.old (sections_of bytes.now)) }
+        ensures { Reads (λ u. self.new) result
+            (sections_read profile self.old (sections_of bytes.now)) }
     {
         for section in Sections::new(bytes) {
             self.read_section(alloc, scratch, profile, &section?)?;
@@ -309,9 +311,9 @@ fn together(alloc: Global, profile: Profile, so_far: SoFar, len: u32) -> Result<
     } = so_far;
     match functions(alloc, &indices, bodies) {
         Ok(funcs) => Ok(parts.with_funcs(profile, funcs)),
-        Err(full) => {
+        Err(refused) => {
             drop(parts);
-            Err(ReadFault::from(full))
+            Err(ReadFault::from(refused))
         }
     }
 }

@@ -92,10 +92,13 @@ impl SoFar {
         left: &mut Sections<'a>,
     ) -> Result<Option<RawSection<'a>>, ReadFault>
         requires { IsUnderway self.old.lists left.old }
-        ensures exact { Reads (λ code. front_of (record { profile = profile; lists = self.new.lists; left = left.new }) code) result
-            (front_read profile self.old.lists left.old) }
+        ensures exact { Reads
+            (λ code. front_of
+            (record { profile = profile; lists = self.new.lists; left = left.new }) code)
+            result (front_read profile self.old.lists left.old) }
         ensures goes { MatchResult result
-            (λ code. GoesTo (record { profile = profile; lists = self.old.lists; left = left.old }) (record { profile = profile; lists = self.new.lists; left = left.new }) code)
+            (λ code. GoesTo (record { profile = profile; lists = self.old.lists; left = left.old })
+            (record { profile = profile; lists = self.new.lists; left = left.new }) code)
             (λ e. FailsAs e e.kind (lists_read profile self.old.lists left.old)) }
         ensures underway { OnOk result (IsUnderway self.new.lists left.new) }
     {
@@ -119,7 +122,8 @@ impl SoFar {
         left: &mut Sections<'_>,
     ) -> Result<(), ReadFault>
         requires { IsUnderway self.old.lists left.old }
-        ensures read { Reads (λ u. self.new.lists) result (lists_read profile self.old.lists left.old) }
+        ensures read { Reads (λ u. self.new.lists) result
+            (lists_read profile self.old.lists left.old) }
         ensures underway { OnOk result (IsUnderway self.new.lists left.new) }
         ensures left { OnOk result (left.new ≡ []) }
     {
