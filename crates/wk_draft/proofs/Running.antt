@@ -1,6 +1,6 @@
 -- What a run of a draft comes to.
-use Rattle.std.proofs.Common.{◌≡◌, ℕ, ◌≤◌, Bool, List, [], ◌∷◌, length, map, Option, Some, None, Result, Ok, Err, Vec, Global, sym, ap, subst, ◌∙◌}
-use Rattle.std.specs.Prelude.{IfOk, IfSome}
+use Rattle.std.proofs.Common.{◌≡◌, ℕ, ◌≤◌, List, [], ◌∷◌, length, map, Option, Result, Ok, Err, sym, ap, subst, ◌∙◌}
+use Rattle.std.specs.Prelude.{IfOk}
 use Rattle.std.specs.List.{AllByRecursion}
 use Rattle.wk_bytes.specs.Frames.{limit}
 use Rattle.wk_bytes.specs.declared.fault.ReadFault.{ReadFault}
@@ -18,16 +18,12 @@ use Rattle.wk_check.specs.declared.fault.Verdict.{Verdict}
 use Rattle.wk_check.specs.declared.fault.Verdict.TheVariants.{Valid}
 use Rattle.wk_check.specs.SpacesLaws.{answers_of}
 use Rattle.wk_check.specs.Verdict.{module_verdict}
-use Rattle.wk_session.specs.declared.edit.Edit.{Edit}
-use Rattle.wk_session.specs.declared.edit.EditFault.{EditFault}
 use Rattle.wk_session.specs.Overlays.{with_items}
 use Rattle.wk_session.specs.Pieces.{code_of}
 use Rattle.wk_session.specs.Recoded.{encoded_with}
 use Rattle.wk_session.specs.RecodedLaws.{recoded}
-use Rattle.wk_session.specs.Runs.{after, replies_of}
 use Rattle.wk_draft.specs.declared.draft.Draft.{Draft}
-use Rattle.wk_draft.specs.declared.run.Run.{Run}
-use Rattle.wk_draft.specs.Runs.{AreAlike, IsHeld, IsOutlined, IsRun}
+use Rattle.wk_draft.specs.Runs.{IsHeld, IsOutlined}
 use Rattle.wk_draft.proofs.SketchTypes.{same_types}
 use Rattle.wk_draft.proofs.Sketches.{same_verdict, shaped_draft}
 
@@ -75,18 +71,3 @@ module _ (os : List Func) (m : Parts) (d : Draft) (held : IsHeld os m d) where
 
   pub shaped_is : IsShaped d.session → IsShaped m
   shaped_is shaped = shaped_draft d.shifts os d.marks.items m d.session held.draft.sketch shaped
-
--- ---- the run
-
-pub run_told : {E : Type 0} (keep : Bool) (m : Parts) (edits : List Edit) (replies : Vec (Result (Unit {0}) EditFault) Global) (r : Result (Option Run) E) → Fits (after keep edits [] m) → AreAlike replies.items (replies_of keep edits [] m)
-    → IfOk r (λ o. IfSome o (λ run. (run.edited ≡ encoded (after keep edits [] m)) × IsShaped (after keep edits [] m) × (run.verdict ≡ module_verdict (after keep edits [] m)) × (run.replies ≡ replies)))
-    → IfOk r (λ o. IfSome o (IsRun keep m edits))
-run_told keep m edits replies (Ok None) fits alike told = tt
-run_told keep m edits replies (Ok (Some run)) fits alike told = record {
-  edited = told.0;
-  shaped = told.1;
-  fits = fits;
-  verdict = told.2;
-  replies = subst (λ (v : Vec (Result (Unit {0}) EditFault) Global). AreAlike v.items (replies_of keep edits [] m)) (sym told.3) alike;
-}
-run_told keep m edits replies (Err e) fits alike told = tt

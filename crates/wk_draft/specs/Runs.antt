@@ -1,7 +1,6 @@
 -- What edits make of a draft, beside what they make of the module.
-use Rattle.std.specs.Prelude.{◌≡◌, ℕ, Bool, true, false, Option, Some, None, List, [], ◌∷◌, map, Result, Ok, Err, IfSome}
+use Rattle.std.specs.Prelude.{◌≡◌, ℕ, Bool, true, false, Option, Some, None, List, [], ◌∷◌, length, map, Result, Ok, Err, IfSome}
 use Rattle.std.specs.List.{AllByRecursion}
-use Rattle.wk_body.specs.declared.types.Profile.{Profile}
 use Rattle.wk_body.specs.Shifts.{shifted_body}
 use Rattle.wk_body.specs.declared.shifts.Shifts.{Shifts}
 use Rattle.wk_body.specs.Written.{written_body}
@@ -18,6 +17,7 @@ use Rattle.wk_check.specs.Verdict.{module_verdict}
 use Rattle.wk_session.specs.declared.edit.Edit.{Edit}
 use Rattle.wk_session.specs.declared.edit.EditFault.{EditFault}
 use Rattle.wk_session.specs.declared.edit.Work.{Work}
+use Rattle.wk_session.specs.Overlays.{with_items}
 use Rattle.wk_session.specs.Pieces.{code_of}
 use Rattle.wk_session.specs.Runs.{after, after_one, replies_of, reply_of}
 use Rattle.wk_draft.specs.declared.draft.Draft.{Draft}
@@ -65,12 +65,6 @@ aside_codes s (o ∷ os) (true ∷ marks) = Some (written_body (shifted_body s o
 aside_codes s (o ∷ os) (false ∷ marks) = None ∷ aside_codes s os marks
 aside_codes s _ _ = []
 
--- the bodies of os, which stand aside in d, have these codes
-pub record IsReady (profile : Profile) (os : List Func) (m : Parts) (codes : List (List ℕ)) (d : Draft) : Type 0 where
-  pub codes_are : codes ≡ map code_of os
-  pub valid : AllByRecursion (λ o. IsCode profile o.body) os
-  pub held : IsHeld os m d
-
 -- ---- the module that was read
 
 -- the outline of a module that is valid, as its parts and its codes
@@ -81,6 +75,17 @@ pub record IsOutlined (m sketch : Parts) (aside : List (List ℕ)) : Type 0 wher
   pub shaped : IsShaped m
   pub fits : Fits m
   pub valid : module_verdict m ≡ Valid
+
+-- ---- a draft of which edits were made
+
+-- d is the draft of what the edits make of m, whose bodies stood aside at first; these codes come in the place of stubs, and the edits were
+-- answered so
+pub record IsMade (keep : Bool) (m : Parts) (edits : List Edit) (d : Draft) (news : List (Option (List ℕ)))
+    (replies : List (Result (Unit {0}) EditFault)) : Type 0 where
+  pub held : IsHeld m.funcs (after keep edits [] m) d
+  pub many : length news ≡ length d.session.funcs
+  pub codes : with_items (map code_of d.session.funcs) news ≡ map code_of (after keep edits [] m).funcs
+  pub alike : AreAlike replies (replies_of keep edits [] m)
 
 -- ---- a run
 

@@ -1,7 +1,8 @@
 //! Edits of a valid module, from its bytes.
+//!
+//! Where edits are not made, an outline or a draft is let go by `drop`: how its lists are freed is then proved once, and not at each exit.
 
-ghost use Rattle.std.specs.Prelude.{◌≡◌, ◌↔◌, List, [], Ok, IfOk, IfSome, MatchResult, length, map, replicate, true};
-ghost use Rattle.wk_body.specs.declared.types.Profile.{Profile as ProfileOf};
+ghost use Rattle.std.specs.Prelude.{◌≡◌, ◌↔◌, Bool, List, [], Ok, IfOk, IfSome, MatchResult, map, replicate, true};
 ghost use Rattle.wk_body.specs.Reads.{FailsAs};
 ghost use Rattle.wk_body.specs.Written.{written_body};
 ghost use Rattle.wk_module.specs.declared.types.Func.{Func as FuncOf};
@@ -10,11 +11,11 @@ ghost use Rattle.wk_module.specs.ListReading.{IsReading};
 ghost use Rattle.wk_module.specs.Reading.{module_at};
 ghost use Rattle.wk_module.specs.Outlines.{outlined};
 ghost use Rattle.wk_module.specs.Shape.{IsShaped};
-ghost use Rattle.wk_module.specs.Writing.{encoded};
 ghost use Rattle.wk_check.specs.Verdict.{module_verdict};
+ghost use Rattle.wk_session.specs.declared.edit.Edit.{Edit as EditOf};
 ghost use Rattle.wk_session.specs.Runs.{after, replies_of};
 ghost use Rattle.wk_draft.specs.Drafts.{aside_room};
-ghost use Rattle.wk_draft.specs.Runs.{AreAlike, IsDrafted, IsFirst, IsHeld, IsOutlined, IsReady, IsRun};
+ghost use Rattle.wk_draft.specs.Runs.{AreAlike, IsDrafted, IsFirst, IsHeld, IsMade, IsOutlined, IsRun};
 
 use crate::aside::codes_now;
 use crate::breaking::would_break;
@@ -87,32 +88,28 @@ fn session_of(alloc: Global, module: Module) -> Result<Option<Session>, OutOfMem
     }
 }
 
-// The draft of a module, each of whose bodies stands aside; or nothing where it is not valid, has no such room, or imports too many.
-fn draft_of(alloc: Global, module: Module, room: usize) -> Result<Option<Draft>, OutOfMemory>
-    ensures { (m : PartsOf) → «module» ≡ outlined m → IsShaped m → module_verdict m ≡ Verdict.Valid
-        → room ≡ aside_room m.funcs → IfOk result (λ r. IfSome r (IsHeld m.funcs m)) }
+// Has each body of a draft stand aside, or answers `false` where the draft is not valid, has no such room, or imports too many.
+fn begin_draft(alloc: Global, draft: &mut Draft, room: usize) -> Result<bool, OutOfMemory>
+    ensures { (m : PartsOf) → draft.old.session ≡ outlined m → IsShaped m
+        → module_verdict m ≡ Verdict.Valid → room ≡ aside_room m.funcs
+        → IfOk result (λ begun. begun ≡ true → IsHeld m.funcs m draft.new) }
 {
     // The proof asks what this says: bodies of a valid module are valid.
     laws_of_valid_modules();
-    let Some(session) = session_of(alloc, module)? else {
-        return Ok(None);
-    };
-    let parts = session.parts();
+    let parts = draft.session.parts();
     let Some(shifts) = shifts_of(parts) else {
-        return Ok(None);
+        return Ok(false);
     };
     let marks = all_marked(alloc, parts.funcs.len())?;
-    let Verdict::Valid = session.verdict() else {
-        return Ok(None);
+    let Verdict::Valid = draft.session.verdict() else {
+        return Ok(false);
     };
-    if !has_room(session.encoded_len(), room) {
-        return Ok(None);
+    if !has_room(draft.session.encoded_len(), room) {
+        return Ok(false);
     }
-    Ok(Some(Draft {
-        session,
-        marks,
-        shifts,
-    }))
+    draft.marks = marks;
+    draft.shifts = shifts;
+    Ok(true)
 }
 
 // Makes edits of a draft, and answers each as the module would. Nothing is answered where the module may be too large.
@@ -137,31 +134,52 @@ fn make_edits(
     Ok(Some(replies))
 }
 
-// The run of a draft whose edits are made and answered so: its bodies that stand aside, which have these codes, are put back.
-fn run_of(
+// Edits a draft whose bodies have these codes: the codes in the place of its stubs, and the answers; or nothing where it does not serve.
+fn edit_draft(
     alloc: Global,
-    draft: Draft,
+    draft: &mut Draft,
     codes: Vec<Items<u8>>,
-    replies: Vec<Answer>,
-) -> Result<Option<Run>, OutOfMemory>
-    requires many { length draft.marks.items ≡ length codes.items }
-    requires ready { (profile : ProfileOf) × (os : List FuncOf) × (m : PartsOf) × IsReady profile os m codes.items draft }
-    ensures { (profile : ProfileOf) (os : List FuncOf) (m : PartsOf) → IsReady profile os m codes.items draft
-        → IfOk result (λ r. IfSome r (λ run. (run.edited ≡ encoded m) × IsShaped m × (run.verdict ≡ module_verdict m)
-        × (run.replies ≡ replies))) }
+    edits: &[Edit],
+    keep: bool,
+) -> Result<Option<(Vec<Option<Items<u8>>>, Vec<Answer>)>, OutOfMemory>
+    ensures { (m : PartsOf) → IsOutlined m draft.old.session codes.items
+        → IfOk result (λ r. IfSome r (λ made.
+        IsMade keep m edits.now draft.new made.0.items made.1.items)) }
 {
-    let Some(codes) = codes_now(alloc, &draft, codes)? else {
+    let Some(room) = aside_room(&codes) else {
         return Ok(None);
     };
+    if !begin_draft(alloc, draft, room)? {
+        return Ok(None);
+    }
+    let Some(replies) = make_edits(alloc, draft, keep, edits, room)? else {
+        return Ok(None);
+    };
+    if draft.marks.len() != codes.len() {
+        return Ok(None);
+    }
+    let Some(codes) = codes_now(alloc, draft, codes)? else {
+        return Ok(None);
+    };
+    Ok(Some((codes, replies)))
+}
+
+// The run of a draft whose edits are made and answered so, where these codes come in the place of its stubs.
+fn run_of(draft: Draft, codes: Vec<Option<Items<u8>>>, replies: Vec<Answer>) -> Run
+    requires { (keep : Bool) × (m : PartsOf) × (edits : List EditOf)
+        × IsMade keep m edits draft codes.items replies.items }
+    ensures { (keep : Bool) (m : PartsOf) (edits : List EditOf)
+        → IsMade keep m edits draft codes.items replies.items → IsRun keep m edits result }
+{
     let Draft { session, .. } = draft;
     // The proof asks what this says: the draft is shaped.
     let _parts = session.parts();
     let verdict = *session.verdict();
-    Ok(Some(Run {
+    Run {
         edited: Edited { session, codes },
         verdict,
         replies,
-    }))
+    }
 }
 
 // Makes edits of a valid module, of its outline; or nothing where a draft does not serve.
@@ -176,19 +194,27 @@ fn edit_outlined(
         → IfOk result (λ r. IfSome r (IsRun keep m edits.now)) }
 {
     let Outline { module, codes } = outline;
-    let Some(room) = aside_room(&codes) else {
+    let Some(session) = session_of(alloc, module)? else {
         return Ok(None);
     };
-    let Some(mut draft) = draft_of(alloc, module, room)? else {
-        return Ok(None);
+    // No body stands aside yet.
+    let mut draft = Draft {
+        session,
+        marks: Vec::new(alloc),
+        shifts: Shifts {
+            funcs_from: 0,
+            funcs_by: 0,
+            globals_from: 0,
+            globals_by: 0,
+        },
     };
-    let Some(replies) = make_edits(alloc, &mut draft, keep, edits, room)? else {
-        return Ok(None);
-    };
-    if draft.marks.len() != codes.len() {
-        return Ok(None);
+    match edit_draft(alloc, &mut draft, codes, edits, keep) {
+        Ok(Some((codes, replies))) => Ok(Some(run_of(draft, codes, replies))),
+        unmade => {
+            drop(draft);
+            unmade.and(Ok(None))
+        }
     }
-    run_of(alloc, draft, codes, replies)
 }
 
 /// Whether the module of a profile that bytes spell is valid.
@@ -238,6 +264,7 @@ pub fn edit_valid(
         Err(_) => return Ok(None),
     };
     if keep && would_break(outline.module.parts(), edits) {
+        drop(outline);
         return Ok(None);
     }
     edit_outlined(alloc, outline, edits, keep)
@@ -267,10 +294,18 @@ pub fn edit_outline(
     // The proof asks what this says: the module is shaped and fits.
     reading_of_module(input, profile);
     if keep && would_break(outline.module.parts(), edits) {
+        drop(outline);
         return Ok(Drafted::Unmade(None));
     }
-    let verdict = judge_spelled(alloc, input, profile)?;
+    let verdict = match judge_spelled(alloc, input, profile) {
+        Ok(verdict) => verdict,
+        Err(fault) => {
+            drop(outline);
+            return Err(fault);
+        }
+    };
     let Verdict::Valid = verdict else {
+        drop(outline);
         return Ok(Drafted::Unmade(Some(verdict)));
     };
     match edit_outlined(alloc, outline, edits, keep)? {

@@ -1,4 +1,4 @@
-use Rattle.std.proofs.Common.{◌≡◌, Result, sym, ◌∙◌}
+use Rattle.std.proofs.Common.{◌≡◌, sym, ◌∙◌}
 use Rattle.wk_module.specs.declared.types.Parts.{Parts}
 use Rattle.wk_module.specs.Reading.{module_at}
 use Rattle.wk_check.specs.declared.fault.Verdict.TheVariants.{Valid}
@@ -10,7 +10,7 @@ pub edit_outlined-requires : goal.edit_outlined-requires
 edit_outlined-requires c =
     let m : Parts = c.requires.0 in
     let read = module_at c.args.profile c.args.input.now in
-    let valid : module_verdict m ≡ Valid = sym (c.in_ok-verdict.ensures.exact m c.requires.1) ∙ c.in-Valid.is in (
+    let valid : module_verdict m ≡ Valid = sym (c.in-Ok.ensures.exact m c.requires.1) ∙ c.in-Valid.is in (
       m,
       opened_by c.args.profile c.args.input.now c.args.outline.module c.args.outline.codes.items read (m, c.requires.1, valid) c.reading_of_module.ensures.is c.reading_of_module.ensures.fits
           (m, c.requires.1, c.requires.2, c.requires.3) m c.requires.1,
@@ -20,10 +20,10 @@ pub returns-in-Some : goal.returns-in-Some
 returns-in-Some c = λ m at.
     let read = module_at c.args.profile c.args.input.now in
     let n : Parts = c.requires.0 in
-    let valid : module_verdict n ≡ Valid = sym (c.in_ok-verdict.ensures.exact n c.requires.1) ∙ c.in-Valid.is in
+    let valid : module_verdict n ≡ Valid = sym (c.in-Ok.ensures.exact n c.requires.1) ∙ c.in-Valid.is in
     let outlined = opened_by c.args.profile c.args.input.now c.args.outline.module c.args.outline.codes.items read (n, c.requires.1, valid) c.reading_of_module.ensures.is c.reading_of_module.ensures.fits
     (n, c.requires.1, c.requires.2, c.requires.3) m at in
     rw c.in-Some.is at (c.in_ok-run.ensures m outlined)
 
 pub returns-in-None : goal.returns-in-None
-returns-in-None c = λ m at. sym c.in-Valid.is ∙ c.in_ok-verdict.ensures.exact m at
+returns-in-None c = λ m at. sym c.in-Valid.is ∙ c.in-Ok.ensures.exact m at
