@@ -78,8 +78,14 @@ pub fn edit_owned<W: Out, X: Out>(
     // The outcome is what the grammar, the edits and the verdict say, and what is written spells the edited module and no other.
     ensures means { OnRun result (IsReport keep_valid profile input.items script.now (outcome_of keep_valid profile input.items script.now)) }
 {
-    let prepared = prepare(alloc, input, script, keep_valid, profile)?;
-    put_prepared(&prepared, out, report)
+    let prepared = prepare(alloc, input, script, keep_valid, profile);
+    let status = match &prepared {
+        Ok(prepared) => put_prepared(prepared, out, report),
+        Err(fault) => Err(*fault),
+    };
+    // By a call: the proof is checked in a fraction of the time so.
+    drop(prepared);
+    status
 }
 
 /// Edits a module whose bytes are lent, as [`edit_owned`] does: they are copied.

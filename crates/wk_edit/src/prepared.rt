@@ -1,5 +1,5 @@
 //! An outcome that is computed whole before any of it is written.
-ghost use Rattle.std.specs.Prelude.{◌≡◌, ◌≢◌, Bool, Ok, List, Result, IfOk, IfErr, IfSome, MatchResult, OnOk};
+ghost use Rattle.std.specs.Prelude.{◌≡◌, ◌≢◌, ℕ, Bool, Ok, List, Result, IfOk, IfErr, IfSome, MatchResult, OnOk};
 ghost use Rattle.std.specs.List.{list_all, list_any};
 ghost use Rattle.wk_module.specs.declared.types.Parts.{Parts as PartsOf};
 ghost use Rattle.wk_body.specs.Reads.{FailsAs, Reads};
@@ -61,9 +61,10 @@ fn of_malformed(alloc: Global, fault: &ReadFault) -> Result<Prepared, RunFault>
     if let ReadKind::Memory = fault.kind {
         return Err(RunFault::Memory);
     }
+    let text = malformed_line(alloc, fault)?;
     Ok(Prepared {
         made: Made::Nothing,
-        text: malformed_line(alloc, fault)?,
+        text,
         status: Status::Malformed,
     })
 }
@@ -77,9 +78,10 @@ fn of_script(alloc: Global, fault: &ScriptFault) -> Result<Prepared, RunFault>
     if let ScriptFault::Memory = fault {
         return Err(RunFault::Memory);
     }
+    let text = refused_script(alloc, fault)?;
     Ok(Prepared {
         made: Made::Nothing,
-        text: refused_script(alloc, fault)?,
+        text,
         status: Status::BadScript,
     })
 }
@@ -128,6 +130,31 @@ fn make_edits(
     }
 }
 
+// Makes edits in a session, and gives the report of the run and how it ends.
+fn run_session(
+    alloc: Global,
+    session: &mut Session,
+    edits: &[Edit],
+    keep_valid: bool,
+) -> Result<(String, Status), RunFault>
+    ensures ok { IfOk result (λ told. IsPrepared (run_outcome keep_valid session.old edits.now)
+        (record { made = Made.Session session.new; text = told.0; status = told.1 })) }
+    ensures memory { IfErr result (λ e. e ≡ RunFault.Memory) }
+{
+    // The proof asks what these say: the written form of a module spells it, and no other.
+    written_form_of_module();
+    one_module();
+    let replies = make_edits(session, edits, keep_valid)?;
+    if has_memory(&replies) {
+        return Err(RunFault::Memory);
+    }
+    // The proof asks what this says: the module is shaped and fits.
+    let _parts = session.parts();
+    let text = report(alloc, &replies, session.verdict())?;
+    let status = status_of(&replies, session.verdict());
+    Ok((text, status))
+}
+
 // Of a run of edits.
 fn of_run(
     alloc: Global,
@@ -138,23 +165,19 @@ fn of_run(
     ensures ok { IfOk result (IsPrepared (run_outcome keep_valid session edits.now)) }
     ensures memory { IfErr result (λ e. e ≡ RunFault.Memory) }
 {
-    // The proof asks what these say: the written form of a module spells it, and no other.
-    written_form_of_module();
-    one_module();
     let mut session = session;
-    let replies = make_edits(&mut session, edits, keep_valid)?;
-    if has_memory(&replies) {
-        return Err(RunFault::Memory);
+    match run_session(alloc, &mut session, edits, keep_valid) {
+        Ok((text, status)) => Ok(Prepared {
+            made: Made::Session(session),
+            text,
+            status,
+        }),
+        // Values are let go by a call: proofs are checked in a fraction of the time so.
+        Err(fault) => {
+            drop(session);
+            Err(fault)
+        }
     }
-    // The proof asks what this says: the module is shaped and fits.
-    let _parts = session.parts();
-    let text = report(alloc, &replies, session.verdict())?;
-    let status = status_of(&replies, session.verdict());
-    Ok(Prepared {
-        made: Made::Session(session),
-        text,
-        status,
-    })
 }
 
 // Of a run of edits of which the untouched bodies stayed bytes.
@@ -171,11 +194,18 @@ fn of_draft(alloc: Global, run: Run) -> Result<Prepared, RunFault>
         verdict,
         replies,
     } = run;
-    Ok(Prepared {
-        made: Made::Edited(edited),
-        text: report(alloc, &replies, &verdict)?,
-        status: status_of(&replies, &verdict),
-    })
+    let status = status_of(&replies, &verdict);
+    match report(alloc, &replies, &verdict) {
+        Ok(text) => Ok(Prepared {
+            made: Made::Edited(edited),
+            text,
+            status,
+        }),
+        Err(fault) => {
+            drop(edited);
+            Err(fault.into())
+        }
+    }
 }
 
 // A session over a module whose verdict may be known: then it is not judged again.
@@ -274,6 +304,35 @@ fn run_edits(
     }
 }
 
+// Reads the script, and makes its edits on a module that was read.
+fn run_script(
+    alloc: Global,
+    opened: Opened,
+    script: &[u8],
+    keep_valid: bool,
+    profile: Profile,
+) -> Result<Prepared, RunFault>
+    requires { (m : PartsOf) × IsOpened profile m opened }
+    ensures ok { (m : PartsOf) (input : List ℕ) → IsOpened profile m opened
+        → module_at profile input ≡ Ok m
+        → IfOk result (IsPrepared (outcome_of keep_valid profile input script.now)) }
+    ensures means { (m : PartsOf) (input : List ℕ) → IsOpened profile m opened
+        → module_at profile input ≡ Ok m → IsReading profile input (module_at profile input)
+        → OnOk result (IsReport keep_valid profile input script.now
+        (outcome_of keep_valid profile input script.now)) }
+    ensures memory { IfErr result (λ e. e ≡ RunFault.Memory) }
+{
+    // The proof asks what this says: what code that is refused spells, and where its fault stands.
+    reading_of_code();
+    match read_script(alloc, script) {
+        Ok(edits) => run_edits(alloc, opened, &edits, keep_valid, profile),
+        Err(fault) => {
+            drop(opened);
+            of_script(alloc, &fault)
+        }
+    }
+}
+
 /// Reads the module, then the script, makes the edits, and puts the report together. The bytes of the module are let go before
 /// anything is written.
 pub(crate) fn prepare(
@@ -288,14 +347,8 @@ pub(crate) fn prepare(
         (outcome_of keep_valid profile input.items script.now)) }
     ensures memory { IfErr result (λ e. e ≡ RunFault.Memory) }
 {
-    // The proof asks what this says: what code that is refused spells, and where its fault stands.
-    reading_of_code();
-    let opened = match open(alloc, input, profile) {
-        Ok(opened) => opened,
-        Err(fault) => return of_malformed(alloc, &fault),
-    };
-    match read_script(alloc, script) {
-        Ok(edits) => run_edits(alloc, opened, &edits, keep_valid, profile),
-        Err(fault) => of_script(alloc, &fault),
+    match open(alloc, input, profile) {
+        Ok(opened) => run_script(alloc, opened, script, keep_valid, profile),
+        Err(fault) => of_malformed(alloc, &fault),
     }
 }

@@ -7,14 +7,14 @@ use Rattle.wk_edit.specs.ReportText.{report_text}
 use Rattle.wk_edit.proofs.OutcomeLemmas.{spelled_once}
 use Rattle.wk_edit.proofs.prepared.of_draft.Goals as goal
 
-pub returns-clause-ok : goal.returns-clause-ok
-returns-clause-ok c = λ keep m edits is.
+pub returns-in-Ok-clause-ok : goal.returns-in-Ok-clause-ok
+returns-in-Ok-clause-ok c = λ keep m edits is.
     let qs = replies_of keep edits [] m in
-    let lent : AreAlike c.deref.result.now qs = subst (λ (rs : List (Result (Unit {0}) EditFault)). AreAlike rs qs) (sym c.deref.ensures.value) is.replies in
-    let lent_again : AreAlike c.deref-2.result.now qs = subst (λ (rs : List (Result (Unit {0}) EditFault)). AreAlike rs qs) (sym c.deref-2.ensures.value) is.replies in
+    let lent : AreAlike c.deref-2.result.now qs = subst (λ (rs : List (Result (Unit {0}) EditFault)). AreAlike rs qs) (sym c.deref-2.ensures.value) is.replies in
+    let lent_again : AreAlike c.deref.result.now qs = subst (λ (rs : List (Result (Unit {0}) EditFault)). AreAlike rs qs) (sym c.deref.ensures.value) is.replies in
     record {
       made = is.edited;
       spelled = spelled_once c.written_form_of_module.ensures.spells c.one_module.ensures.one (after keep edits [] m) is.shaped is.fits;
-      report = c.in_ok-report.ensures qs lent ∙ ap (report_text 1 qs) is.verdict;
-      status = c.status_of.ensures qs lent_again ∙ ap (run_status qs) is.verdict;
+      report = c.in-Ok.ensures qs lent ∙ ap (report_text 1 qs) is.verdict;
+      status = c.status_of-status.ensures qs lent_again ∙ ap (run_status qs) is.verdict;
     }

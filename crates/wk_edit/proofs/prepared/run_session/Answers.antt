@@ -6,12 +6,12 @@ use Rattle.wk_session.specs.Runs.{is_memory}
 use Rattle.wk_draft.specs.Runs.{AreAlike}
 use Rattle.wk_edit.proofs.DraftOutcomes.{all_same}
 use Rattle.wk_edit.proofs.OutcomeLemmas.{ran_made, ran_spelled, ran_report, ran_status, spelled_once}
-use Rattle.wk_edit.proofs.prepared.of_run.Goals as goal
+use Rattle.wk_edit.proofs.prepared.run_session.Goals as goal
 
 pub returns-clause-ok : goal.returns-clause-ok
 returns-clause-ok c =
     let keep = c.args.keep_valid in
-    let m = c.args.session in
+    let m = c.args.session.now in
     let n = c.make_edits.new.session in
     let es = c.args.edits.now in
     let rs = c.in_ok-replies.replies.items in

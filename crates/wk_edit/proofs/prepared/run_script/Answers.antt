@@ -1,0 +1,44 @@
+use Rattle.std.proofs.Common.{List, Result, Ok, subst}
+use Rattle.std.specs.Prelude.{IfOk}
+use Rattle.wk_session.specs.declared.edit.Edit.{Edit}
+use Rattle.wk_session.specs.ToldLaws.{ReadsCode}
+use Rattle.wk_edit.specs.declared.fault.RunFault.{RunFault}
+use Rattle.wk_edit.specs.declared.prepared.Prepared.{Prepared}
+use Rattle.wk_edit.specs.Outcome.{outcome_of, run_outcome}
+use Rattle.wk_edit.specs.Prepared.{IsPrepared}
+use Rattle.wk_edit.proofs.OutcomeLemmas.{ran_ok, ran_means, script_ok, script_means}
+use Rattle.wk_edit.proofs.prepared.run_script.Goals as goal
+
+pub returns-in-Err-clause-ok : goal.returns-in-Err-clause-ok
+returns-in-Err-clause-ok c = λ m input opened read.
+    script_ok c.args.keep_valid c.args.profile input c.args.script.now _ m c.in-Err.fault c.of_script.ensures.ok c.of_script.ensures.other read c.in-Err.ensures.exact
+
+pub returns-in-Err-clause-means : goal.returns-in-Err-clause-means
+returns-in-Err-clause-means c = λ m input opened read is.
+    script_means c.args.keep_valid c.args.profile input c.args.script.now _ m c.in-Err.fault c.of_script.ensures.other is
+    read c.in-Err.ensures.exact c.in-Err.ensures.refused c.in-Err.ensures.fault
+
+pub returns-in-Ok-clause-ok : goal.returns-in-Ok-clause-ok
+returns-in-Ok-clause-ok c = λ m input opened read.
+    let keep = c.args.keep_valid in
+    let r : Result Prepared RunFault = c.run_edits.result in
+    let ran : IfOk r (IsPrepared (run_outcome keep m c.in-Ok.edits.items)) =
+    subst (λ (es : List Edit). IfOk r (IsPrepared (run_outcome keep m es))) c.deref.ensures.value (c.run_edits.ensures.ok m opened) in
+    ran_ok keep c.args.profile input c.args.script.now r m (Ok c.in-Ok.edits.items) ran read c.in-Ok.ensures.exact
+
+pub returns-in-Ok-clause-means : goal.returns-in-Ok-clause-means
+returns-in-Ok-clause-means c = λ m input opened read is.
+    let keep = c.args.keep_valid in
+    let script = c.args.script.now in
+    let edits = c.in-Ok.edits.items in
+    let r : Result Prepared RunFault = c.run_edits.result in
+    let ran : IfOk r (IsPrepared (run_outcome keep m edits)) =
+    subst (λ (es : List Edit). IfOk r (IsPrepared (run_outcome keep m es))) c.deref.ensures.value (c.run_edits.ensures.ok m opened) in
+    let reads : ReadsCode = record {
+      body = c.reading_of_code.ensures.body;
+      expr = c.reading_of_code.ensures.all_expr;
+      body_never = c.reading_of_code.ensures.never_memory_body;
+      expr_never = c.reading_of_code.ensures.never_memory_expr;
+    } in
+    let prepared : IfOk r (IsPrepared (outcome_of keep c.args.profile input script)) = ran_ok keep c.args.profile input script r m (Ok edits) ran read c.in-Ok.ensures.exact in
+    ran_means keep c.args.profile input script reads r m edits is read c.in-Ok.ensures.found c.in-Ok.ensures.only c.in-Ok.ensures.exact prepared
