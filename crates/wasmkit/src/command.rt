@@ -165,34 +165,40 @@ fn profile_of(found: &ArgMatches<'_>) -> Profile {
 }
 
 fn edit_command<'a>(alloc: Global) -> Result<Command<'a>, AllocError> {
+    let args = vec![in alloc;
+        flag(
+            alloc,
+            "keep-valid",
+            "refuses an edit that would leave an invalid module"
+        ),
+        extended(alloc),
+        word(alloc, "FILE", "the module"),
+        word(alloc, "SCRIPT", "the edits, one a line"),
+        word(alloc, "OUT", "where the edited module goes"),
+    ]?;
     Command::new(alloc, "edit")
         .about("Makes the edits of a script on a module")
         .after_help(EDIT_EXAMPLE)
-        .arg(flag(
-            alloc,
-            "keep-valid",
-            "refuses an edit that would leave an invalid module",
-        ))?
-        .arg(extended(alloc))?
-        .arg(word(alloc, "FILE", "the module"))?
-        .arg(word(alloc, "SCRIPT", "the edits, one a line"))?
-        .arg(word(alloc, "OUT", "where the edited module goes"))
+        .args(args)
 }
 
 fn objdump_command<'a>(alloc: Global) -> Result<Command<'a>, AllocError> {
+    let args = vec![in alloc;
+        flag(
+            alloc,
+            "headers",
+            "lists the sections; so it is without any of these options"
+        ),
+        flag(alloc, "details", "lists the items of each section"),
+        flag(alloc, "code", "lists the instructions of each function"),
+        flag(alloc, "uses", "lists what each function refers to"),
+        extended(alloc),
+        word(alloc, "FILE", "the module"),
+    ]?;
     Command::new(alloc, "objdump")
         .about("Lists parts of a module, by its written form")
         .after_help(OBJDUMP_EXAMPLE)
-        .arg(flag(
-            alloc,
-            "headers",
-            "lists the sections; so it is without any of these options",
-        ))?
-        .arg(flag(alloc, "details", "lists the items of each section"))?
-        .arg(flag(alloc, "code", "lists the instructions of each function"))?
-        .arg(flag(alloc, "uses", "lists what each function refers to"))?
-        .arg(extended(alloc))?
-        .arg(word(alloc, "FILE", "the module"))
+        .args(args)
 }
 
 fn sections_command<'a>(alloc: Global) -> Result<Command<'a>, AllocError> {
@@ -208,36 +214,53 @@ fn strip_command<'a>(alloc: Global) -> Result<Command<'a>, AllocError> {
         .value_name("NAME")
         .action(ArgAction::Set)
         .help("keeps the custom sections of this name");
+    let args = vec![in alloc;
+        keep,
+        extended(alloc),
+        word(alloc, "FILE", "the module"),
+        word(alloc, "OUT", "where the stripped module goes"),
+    ]?;
     Command::new(alloc, "strip")
         .about("Removes the custom sections of a module")
         .after_help(STRIP_EXAMPLE)
-        .arg(keep)?
-        .arg(extended(alloc))?
-        .arg(word(alloc, "FILE", "the module"))?
-        .arg(word(alloc, "OUT", "where the stripped module goes"))
+        .args(args)
 }
 
 fn validate_command<'a>(alloc: Global) -> Result<Command<'a>, AllocError> {
+    let args = vec![in alloc; extended(alloc), word(alloc, "FILE", "the module")]?;
     Command::new(alloc, "validate")
         .about("Says whether a module is valid, or its first fault")
         .after_help(VALIDATE_EXAMPLE)
-        .arg(extended(alloc))?
-        .arg(word(alloc, "FILE", "the module"))
+        .args(args)
+}
+
+// The command with another below it, if that could be made.
+fn with_subcommand<'a>(
+    command: Command<'a>,
+    made: Result<Command<'a>, AllocError>,
+) -> Result<Command<'a>, AllocError> {
+    match made {
+        Ok(subcommand) => command.subcommand(subcommand),
+        Err(fault) => {
+            drop(command);
+            Err(fault)
+        }
+    }
 }
 
 fn command<'a>(alloc: Global) -> Result<Command<'a>, AllocError> {
-    Command::new(alloc, "wasmkit")
+    let command = Command::new(alloc, "wasmkit")
         .bin_name("wasmkit")?
         .about("Reads, judges, lists and edits WebAssembly 1.0 binary modules")
         .version(VERSION)
         .after_help(EXAMPLE)
         .no_binary_name(true)
-        .subcommand_required(true)
-        .subcommand(edit_command(alloc)?)?
-        .subcommand(objdump_command(alloc)?)?
-        .subcommand(sections_command(alloc)?)?
-        .subcommand(strip_command(alloc)?)?
-        .subcommand(validate_command(alloc)?)
+        .subcommand_required(true);
+    let command = with_subcommand(command, edit_command(alloc))?;
+    let command = with_subcommand(command, objdump_command(alloc))?;
+    let command = with_subcommand(command, sections_command(alloc))?;
+    let command = with_subcommand(command, strip_command(alloc))?;
+    with_subcommand(command, validate_command(alloc))
 }
 
 fn read_edit<'a>(found: &ArgMatches<'a>) -> Result<EditCommand<'a>, ProgramFault<'a>>
@@ -339,16 +362,11 @@ fn read_validate<'a>(found: &ArgMatches<'a>) -> Result<ValidateCommand<'a>, Prog
     })
 }
 
-/// Reads the words after the program's name.
-///
-/// # Errors
-///
-/// What `clap` says of words that are no command, and `BadWords` where OUT is spelled as FILE or SCRIPT, or NAME is no name.
-pub fn read_words<'a>(alloc: Global, words: &'a [String]) -> Result<Asked<'a>, ProgramFault<'a>>
+// What was found in the words asks for.
+fn asked_of<'a>(alloc: Global, matches: &ArgMatches<'a>) -> Result<Asked<'a>, ProgramFault<'a>>
     ensures sound { IfOk result IsSound }
     ensures fault { IfErr result IsOfWords }
 {
-    let matches = command(alloc)?.try_get_matches_from(words)?;
     match matches.subcommand() {
         Some(("edit", found)) => Ok(Asked::Edit(read_edit(found)?)),
         Some(("objdump", found)) => Ok(Asked::Objdump(read_objdump(alloc, found)?)),
@@ -360,4 +378,19 @@ pub fn read_words<'a>(alloc: Global, words: &'a [String]) -> Result<Asked<'a>, P
         Some(("validate", found)) => Ok(Asked::Validate(read_validate(found)?)),
         _ => Err(ProgramFault::BadWords),
     }
+}
+
+/// Reads the words after the program's name.
+///
+/// # Errors
+///
+/// What `clap` says of words that are no command, and `BadWords` where OUT is spelled as FILE or SCRIPT, or NAME is no name.
+pub fn read_words<'a>(alloc: Global, words: &'a [String]) -> Result<Asked<'a>, ProgramFault<'a>>
+    ensures sound { IfOk result IsSound }
+    ensures fault { IfErr result IsOfWords }
+{
+    let matches = command(alloc)?.try_get_matches_from(words)?;
+    let asked = asked_of(alloc, &matches);
+    drop(matches);
+    asked
 }

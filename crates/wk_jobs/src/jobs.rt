@@ -12,7 +12,7 @@ use wk_answers::{list_parts, validate};
 use wk_bytes::{Out, OutOfMemory, Sink, Text};
 use wk_edit::edit;
 use wk_list::{Layout, Part};
-use wk_module::{Profile, read_in};
+use wk_module::{Module, Profile, read_in};
 use wk_strip::strip_bytes;
 
 /// What users wait for.
@@ -407,7 +407,13 @@ impl Bench {
         let Ok(module) = read_in(self.alloc, &self.workshop.bytes, Profile::Core) else {
             return Err(OutOfMemory);
         };
-        let Ok(layout) = Layout::of(self.alloc, &module) else {
+        let listed = self.list_module(&module, parts);
+        drop(module);
+        listed
+    }
+
+    fn list_module(&mut self, module: &Module, parts: &[Part]) -> Result<(), OutOfMemory> {
+        let Ok(layout) = Layout::of(self.alloc, module) else {
             return Err(OutOfMemory);
         };
         let mut out = sink(self.alloc);

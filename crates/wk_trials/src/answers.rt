@@ -5,6 +5,7 @@ ghost use Rattle.std.specs.Prelude.{◌≡◌};
 use crate::listings::was_listed;
 use crate::mark::{call_begins, call_ends};
 use crate::modules::{OF_ALL, OF_WIDE, Sample};
+use crate::scenario::and_drop;
 use crate::sinks::{Room, sink};
 use std::alloc::{AllocError, Global};
 use wk_answers::{list_bodies, list_parts, list_sections, list_summary_parts, validate};
@@ -84,7 +85,7 @@ fn was_answered(answer: Result<bool, OutOfMemory>) -> Outcome {
 
 fn lists_parts(alloc: Global) -> Outcome {
     match OF_WIDE.read(alloc) {
-        Ok(module) => lists_parts_of(alloc, &module),
+        Ok(module) => and_drop(lists_parts_of(alloc, &module), module),
         Err(_) => Outcome::NO_SAMPLE,
     }
 }
@@ -125,7 +126,7 @@ fn lists_parts_to(alloc: Global, module: &Module, text: &[u8], mut sink: Sink) -
 fn lists_summary_parts(alloc: Global) -> Outcome {
     let Sample { profile, bytes } = OF_WIDE;
     match Summary::read(alloc, bytes, profile) {
-        Ok(summary) => lists_summary_parts_of(alloc, &summary),
+        Ok(summary) => and_drop(lists_summary_parts_of(alloc, &summary), summary),
         Err(_) => Outcome::NO_SAMPLE,
     }
 }

@@ -3,6 +3,7 @@
 ghost use Rattle.std.specs.Prelude.{◌≤◌, length};
 
 use crate::mark::{call_begins, call_ends};
+use crate::scenario::and_drop;
 use crate::sinks::{BEFORE, Room, has_appended, vector};
 use std::alloc::{AllocError, Global};
 use std::collections::BTreeSet;
@@ -200,7 +201,7 @@ impl Code {
         call_begins(alloc);
         let answer = self.read(alloc);
         call_ends(alloc);
-        self.was_read(alloc, &answer)
+        and_drop(self.was_read(alloc, &answer), answer)
     }
 
     fn reads_again(self, alloc: Global) -> Outcome
@@ -214,7 +215,7 @@ impl Code {
         call_begins(alloc);
         let answer = scratch.read_body(alloc, &cursor, self.profile);
         call_ends(alloc);
-        self.was_read(alloc, &answer)
+        and_drop(self.was_read(alloc, &answer), answer)
     }
 
     fn writes_form(self, alloc: Global) -> Outcome
@@ -325,7 +326,7 @@ impl Code {
         call_begins(alloc);
         let answer = encode_body(alloc, body);
         call_ends(alloc);
-        self.was_encoded(alloc, &answer, body)
+        and_drop(self.was_encoded(alloc, &answer, body), answer)
     }
 
     fn shortens(self, alloc: Global) -> Outcome {
@@ -335,7 +336,7 @@ impl Code {
         call_begins(alloc);
         let answer = code_bytes(alloc, &body, self.padded);
         call_ends(alloc);
-        self.was_encoded(alloc, &answer, &body)
+        and_drop(self.was_encoded(alloc, &answer, &body), answer)
     }
 
     fn appends(self, alloc: Global, body: &Body) -> Outcome {
@@ -454,14 +455,14 @@ impl Code {
         call_begins(alloc);
         let answer = refs(alloc, body);
         call_ends(alloc);
-        self.was_found(alloc, &answer, self.refs, body)
+        and_drop(self.was_found(alloc, &answer, self.refs, body), answer)
     }
 
     fn finds_uses(self, alloc: Global, body: &Body) -> Outcome {
         call_begins(alloc);
         let answer = uses(alloc, OWN_TYPE, body);
         call_ends(alloc);
-        self.was_found(alloc, &answer, self.uses, body)
+        and_drop(self.was_found(alloc, &answer, self.uses, body), answer)
     }
 }
 

@@ -2,6 +2,7 @@
 
 use crate::mark::{call_begins, call_ends};
 use crate::same::is_session_of;
+use crate::scenario::and_drop;
 use std::alloc::{AllocError, Global};
 use std::fmt;
 use wk_bytes::{Items, Text};
@@ -69,7 +70,7 @@ impl Trial {
 
     fn run_by(&self, alloc: Global, keep: bool, edit: &Edit) -> Outcome {
         match Session::open_in(alloc, self.input, self.profile) {
-            Ok(mut session) => self.run_on(alloc, keep, &mut session, edit),
+            Ok(mut session) => and_drop(self.run_on(alloc, keep, &mut session, edit), session),
             Err(_) => Outcome::NO_SAMPLE,
         }
     }

@@ -5,6 +5,7 @@ ghost use Rattle.wk_module.specs.Listed.{AreNumbered, listed};
 use crate::bodies::NO_MEMORY;
 use crate::mark::{call_begins, call_ends};
 use crate::modules::Sample;
+use crate::scenario::and_drop;
 use std::alloc::Global;
 use wk_bytes::OutOfMemory;
 use wk_check::{
@@ -28,7 +29,7 @@ fn judged(answer: Result<Verdict, OutOfMemory>) -> Outcome {
 /// `judge` of a valid module.
 pub(crate) fn judges(alloc: Global, sample: Sample) -> Outcome {
     match sample.read(alloc) {
-        Ok(module) => judges_valid(alloc, &module),
+        Ok(module) => and_drop(judges_valid(alloc, &module), module),
         Err(_) => Outcome::NO_SAMPLE,
     }
 }
@@ -77,7 +78,7 @@ impl OfValid {
     /// The call.
     pub(crate) fn run(self, alloc: Global, sample: Sample) -> Outcome {
         match sample.read(alloc) {
-            Ok(module) => self.run_on(alloc, &module),
+            Ok(module) => and_drop(self.run_on(alloc, &module), module),
             Err(_) => Outcome::NO_SAMPLE,
         }
     }

@@ -6,6 +6,7 @@ ghost use Rattle.wk_list.specs.Listing.{lists_bodies};
 use crate::bodies::NO_MEMORY;
 use crate::mark::{call_begins, call_ends};
 use crate::modules::Sample;
+use crate::scenario::and_drop;
 use crate::sinks::{Room, holds, holds_begun, sink};
 use std::alloc::Global;
 use wk_bytes::{Out, Sink};
@@ -47,7 +48,7 @@ pub(crate) fn sample(part: Part, profile: Profile) -> (Sample, &'static [u8]) {
 pub(crate) fn lists(alloc: Global, part: Part, profile: Profile, room: Room) -> Outcome {
     let (sample, text) = sample(part, profile);
     match sample.read(alloc) {
-        Ok(module) => lists_of(alloc, &module, part, text, room),
+        Ok(module) => and_drop(lists_of(alloc, &module, part, text, room), module),
         Err(_) => Outcome::NO_SAMPLE,
     }
 }
@@ -80,7 +81,7 @@ pub(crate) fn was_listed(answer: Result<(), ListFault>, sink: Sink, text: &[u8])
 /// `Plain::of`, and the lengths that it tells as a `Shape`.
 pub(crate) fn sees_plain(alloc: Global, sample: Sample) -> Outcome {
     match sample.read(alloc) {
-        Ok(module) => sees_plain_of(alloc, &module),
+        Ok(module) => and_drop(sees_plain_of(alloc, &module), module),
         Err(_) => Outcome::NO_SAMPLE,
     }
 }
@@ -100,7 +101,7 @@ fn sees_plain_of(alloc: Global, module: &Module) -> Outcome {
 /// `Layout::of`, and the lengths that it tells as a `Shape`.
 pub(crate) fn lays_out(alloc: Global, sample: Sample) -> Outcome {
     match sample.read(alloc) {
-        Ok(module) => lays_out_of(alloc, &module),
+        Ok(module) => and_drop(lays_out_of(alloc, &module), module),
         Err(_) => Outcome::NO_SAMPLE,
     }
 }

@@ -3,6 +3,7 @@
 use crate::edits::edit_of;
 use crate::mark::{call_begins, call_ends};
 use crate::same::{are_same, is_session_of};
+use crate::scenario::and_drop;
 use std::alloc::{AllocError, Global};
 use wk_module::Profile;
 use wk_samples::outcome::{Counts, Outcome};
@@ -46,7 +47,7 @@ fn edits_by(alloc: Global, edit: &Edit) -> Outcome {
 
 fn edits_bytes(alloc: Global, bytes: &[u8], edit: &Edit) -> Outcome {
     match Session::open(alloc, bytes) {
-        Ok(mut session) => edits_in(alloc, &mut session, bytes, edit),
+        Ok(mut session) => and_drop(edits_in(alloc, &mut session, bytes, edit), session),
         Err(_) => Outcome::NO_SAMPLE,
     }
 }

@@ -2,6 +2,7 @@
 
 use crate::bodies::{NO_MEMORY, is_length};
 use crate::mark::{call_begins, call_ends};
+use crate::scenario::and_drop;
 use std::alloc::Global;
 use wk_bytes::{Items, ReadFault};
 use wk_module::{
@@ -136,7 +137,7 @@ impl Sample {
         call_begins(alloc);
         let answer = self.read(alloc);
         call_ends(alloc);
-        self.was_read(alloc, &answer)
+        and_drop(self.was_read(alloc, &answer), answer)
     }
 
     // What reading the module answered.
@@ -150,7 +151,7 @@ impl Sample {
     /// `read_outline` of the module.
     pub(crate) fn outlines(self, alloc: Global) -> Outcome {
         match self.read(alloc) {
-            Ok(module) => self.outlines_module(alloc, &module),
+            Ok(module) => and_drop(self.outlines_module(alloc, &module), module),
             Err(_) => Outcome::NO_SAMPLE,
         }
     }
@@ -160,7 +161,10 @@ impl Sample {
         let answer = read_outline(alloc, self.bytes, self.profile);
         call_ends(alloc);
         match answer {
-            Ok(outline) => Outcome::answered(is_outline(alloc, &outline, module.parts())),
+            Ok(outline) => and_drop(
+                Outcome::answered(is_outline(alloc, &outline, module.parts())),
+                outline,
+            ),
             Err(fault) => Outcome::refused(fault == NO_MEMORY),
         }
     }
@@ -168,7 +172,7 @@ impl Sample {
     /// `read_skeleton` of the module.
     pub(crate) fn measures(self, alloc: Global) -> Outcome {
         match self.read(alloc) {
-            Ok(module) => self.measures_module(alloc, &module),
+            Ok(module) => and_drop(self.measures_module(alloc, &module), module),
             Err(_) => Outcome::NO_SAMPLE,
         }
     }
@@ -186,7 +190,7 @@ impl Sample {
     /// `encode` of the module.
     pub(crate) fn encodes(self, alloc: Global) -> Outcome {
         match self.read(alloc) {
-            Ok(module) => self.encodes_module(alloc, &module),
+            Ok(module) => and_drop(self.encodes_module(alloc, &module), module),
             Err(_) => Outcome::NO_SAMPLE,
         }
     }
@@ -250,7 +254,7 @@ fn shift_each(alloc: Global, parts: &Parts) -> Result<bool, ShiftFault> {
 /// `shift_lists` of each kind, which moves all lists that there are.
 pub(crate) fn shifts_lists(alloc: Global) -> Outcome {
     match read(alloc, ALL_OF_ONE) {
-        Ok(module) => shifts_lists_of(alloc, &module),
+        Ok(module) => and_drop(shifts_lists_of(alloc, &module), module),
         Err(_) => Outcome::NO_SAMPLE,
     }
 }

@@ -8,6 +8,7 @@ ghost use Rattle.wk_session.specs.Recoded.{encoded_with};
 
 use crate::mark::{call_begins, call_ends};
 use crate::same::is_session_of;
+use crate::scenario::and_drop;
 use crate::sinks::{Room, holds, holds_begun, sink};
 use std::alloc::Global;
 use wk_bytes::{Items, Out, Sink};
@@ -35,7 +36,7 @@ const VALID_WITH_BODY: &[u8] = b"\0asm\x01\0\0\0\
 /// `Session::write_with` of another code in the place of its own, to a sink with that much room.
 pub(crate) fn writes_with(alloc: Global, room: Room) -> Outcome {
     match Session::open(alloc, VALID) {
-        Ok(session) => writes_of(alloc, &session, room),
+        Ok(session) => and_drop(writes_of(alloc, &session, room), session),
         Err(_) => Outcome::NO_SAMPLE,
     }
 }

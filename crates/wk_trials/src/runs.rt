@@ -2,6 +2,7 @@
 
 use crate::mark::{call_begins, call_ends};
 use crate::same::{are_same, is_session_of};
+use crate::scenario::and_drop;
 use std::alloc::Global;
 use wk_bytes::{OutOfMemory, ReadFault};
 use wk_edit::read_script;
@@ -96,7 +97,7 @@ impl Edits {
 
     fn run_all(&self, alloc: Global, edits: &[Edit]) -> Outcome {
         match self.open(alloc) {
-            Ok(mut session) => self.run_in(alloc, &mut session, edits),
+            Ok(mut session) => and_drop(self.run_in(alloc, &mut session, edits), session),
             Err(_) => Outcome::NO_SAMPLE,
         }
     }

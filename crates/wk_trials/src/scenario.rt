@@ -21,6 +21,12 @@ use wk_list::Part;
 use wk_module::Profile;
 use wk_samples::outcome::Outcome;
 
+/// The outcome of a call, and drops what it was made on or gave: how that is freed is then proved once, and not in each scenario.
+pub(crate) fn and_drop<T: Drop>(outcome: Outcome, value: T) -> Outcome {
+    drop(value);
+    outcome
+}
+
 /// A call under test.
 #[derive(Clone, Copy)]
 pub(crate) enum Scenario {

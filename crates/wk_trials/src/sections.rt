@@ -3,6 +3,7 @@
 use crate::bodies::NO_MEMORY;
 use crate::mark::{call_begins, call_ends};
 use crate::modules::{Sample, was_encoded};
+use crate::scenario::and_drop;
 use crate::sinks::{BEFORE, Room, vector};
 use std::alloc::{AllocError, Global};
 use wk_bytes::{RawSection, ReadFault};
@@ -105,7 +106,7 @@ impl OfWhole {
             bytes: WHOLE,
         };
         match whole.read(alloc) {
-            Ok(module) => self.run_on(alloc, &module),
+            Ok(module) => and_drop(self.run_on(alloc, &module), module),
             Err(_) => Outcome::NO_SAMPLE,
         }
     }

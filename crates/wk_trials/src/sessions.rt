@@ -7,6 +7,7 @@ use crate::listings::sample;
 use crate::mark::{call_begins, call_ends};
 use crate::modules::Sample;
 use crate::same::{is_session_of, is_written};
+use crate::scenario::and_drop;
 use crate::sinks::{Room, holds, holds_begun, sink};
 use std::alloc::Global;
 use wk_bytes::{Out, ReadFault, Sink};
@@ -31,7 +32,7 @@ pub(crate) fn opens(alloc: Global, sample: Sample) -> Outcome {
         profile => Session::open_in(alloc, sample.bytes, profile),
     };
     call_ends(alloc);
-    was_opened(alloc, &answer, sample.bytes)
+    and_drop(was_opened(alloc, &answer, sample.bytes), answer)
 }
 
 /// `Session::open_judged` of a valid module in its written form.
@@ -43,7 +44,7 @@ pub(crate) fn opens_judged(alloc: Global, sample: Sample) -> Outcome {
     call_begins(alloc);
     let answer = Session::open_judged(alloc, bytes, profile, verdict);
     call_ends(alloc);
-    was_opened(alloc, &answer, bytes)
+    and_drop(was_opened(alloc, &answer, bytes), answer)
 }
 
 /// `Session::of` of a valid module.
@@ -58,13 +59,14 @@ fn holds_given(alloc: Global, module: Module, sample: Sample) -> Outcome {
     call_begins(alloc);
     let answer = Session::of(alloc, module);
     call_ends(alloc);
-    match &answer {
+    let outcome = match &answer {
         Ok(session) => {
             let Sample { profile, bytes } = sample;
             Outcome::answered(is_session_of(alloc, session, profile, bytes))
         }
         Err(fault) => Outcome::refused(*fault == EncodeFault::Memory),
-    }
+    };
+    and_drop(outcome, answer)
 }
 
 // What opening a session answered.
@@ -78,7 +80,7 @@ fn was_opened(alloc: Global, answer: &Result<Session, ReadFault>, bytes: &[u8]) 
 /// `Session::verdict`, `Session::encoded_len` and `Session::uses`, of a module of two functions, the first of which calls function 2.
 pub(crate) fn tells(alloc: Global, sample: Sample) -> Outcome {
     match Session::open_in(alloc, sample.bytes, sample.profile) {
-        Ok(session) => tells_of(alloc, &session, sample.bytes),
+        Ok(session) => and_drop(tells_of(alloc, &session, sample.bytes), session),
         Err(_) => Outcome::NO_SAMPLE,
     }
 }
@@ -101,7 +103,7 @@ fn tells_of(alloc: Global, session: &Session, bytes: &[u8]) -> Outcome {
 pub(crate) fn lists(alloc: Global, part: Part, profile: Profile, room: Room) -> Outcome {
     let (input, text) = sample(part, profile);
     match Session::open_in(alloc, input.bytes, profile) {
-        Ok(session) => lists_of(alloc, &session, part, input, text, room),
+        Ok(session) => and_drop(lists_of(alloc, &session, part, input, text, room), session),
         Err(_) => Outcome::NO_SAMPLE,
     }
 }
@@ -144,7 +146,7 @@ fn lists_to(
 /// `Session::write` to a sink with that much room.
 pub(crate) fn writes(alloc: Global, input: Sample, room: Room) -> Outcome {
     match Session::open_in(alloc, input.bytes, input.profile) {
-        Ok(session) => writes_of(alloc, &session, input, room),
+        Ok(session) => and_drop(writes_of(alloc, &session, input, room), session),
         Err(_) => Outcome::NO_SAMPLE,
     }
 }

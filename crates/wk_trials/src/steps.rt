@@ -3,6 +3,7 @@
 use crate::mark::{call_begins, call_ends};
 use crate::runs::Edits;
 use crate::same::are_same;
+use crate::scenario::and_drop;
 use std::alloc::Global;
 use wk_edit::read_script;
 use wk_samples::outcome::Outcome;
@@ -19,7 +20,7 @@ impl Edits {
 
     fn step_of(&self, alloc: Global, edits: &[Edit], number: usize) -> Outcome {
         match self.open(alloc) {
-            Ok(mut session) => self.step_in(alloc, &mut session, edits, number),
+            Ok(mut session) => and_drop(self.step_in(alloc, &mut session, edits, number), session),
             Err(_) => Outcome::NO_SAMPLE,
         }
     }
