@@ -26,7 +26,8 @@ use Rattle.wk_body.specs.declared.types.Profile.TheVariants.{Core, Extended}
 use Rattle.wk_body.specs.declared.walk.Walk.{Walk}
 use Rattle.wk_body.specs.Instructions.{form_of}
 use Rattle.wk_body.specs.Layouts.{layout_in}
-use Rattle.wk_body.specs.Brief.{plain_len, brief_len, IsBrief, IsShortType, bit_of, number_of, blocks_after}
+use Rattle.wk_body.specs.TokenLen.{plain_len, brief_len, IsBrief}
+use Rattle.wk_body.specs.Brief.{IsShortType, bit_of, number_of, blocks_after}
 use Rattle.wk_body.specs.Walks.{Passes, PassesPlain, Behind, GoesOn, BlocksPass}
 use Rattle.wk_body.proofs.Immediates.{nothing_passed, index_passed, memarg_passed, signed32_passed, signed64_passed}
 use Rattle.wk_body.proofs.Rewriting.{plain_goes, block_goes, loop_goes, if_goes, close_goes}

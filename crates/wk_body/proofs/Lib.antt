@@ -3,6 +3,8 @@ pub mod Capped
 pub mod Closing
 pub mod Labels
 pub mod Lookup
+pub mod ByteTables
+pub mod TokenLen
 pub mod Faults
 pub mod Table
 pub mod Pieces
@@ -37,12 +39,11 @@ pub mod Walking
 pub mod WideWalk
 pub mod TableWalk
 pub mod Immediates
-pub mod BriefTable
+pub mod BriefTests
 pub mod BriefWalk
 pub mod OpenBlocks
 pub mod Rewriting
 pub mod RewrittenBody
-pub mod Strides
 pub mod Found
 pub mod Integers
 pub mod ShiftShapes

@@ -6,15 +6,14 @@ use Rattle.byteorder.specs.Numbers.{length-bytes_low_first}
 use Rattle.wk_bytes.specs.Short.{short, short_signed}
 use Rattle.wk_body.specs.declared.shifts.Shifts.{Shifts}
 use Rattle.wk_body.specs.declared.types.BlockKind.TheVariants as kinds
-use Rattle.wk_body.specs.Instructions.{Plain, Unreachable, Nop, Br, BrIf, BrTable, Return, Call, CallIndirect, Drop, Select, LocalGet, LocalSet, LocalTee, GlobalGet, GlobalSet, Access, MemorySize, MemoryGrow, I32Const, I64Const, F32Const, F64Const, Numeric, immediates}
-use Rattle.wk_body.specs.MemoryOps.{memory_opcode}
-use Rattle.wk_body.specs.Numeric.{numeric_opcode}
+use Rattle.wk_body.specs.Instructions.{Plain, BrTable, Call, GlobalGet, GlobalSet, Access, F32Const, F64Const, Numeric, plain_opcode, Immediates, Nothing, Reserved, Index, IndexReserved, Labels, Memarg, Signed, Word, immediates, form_of}
 use Rattle.wk_body.specs.Shape.{AreInRange}
 use Rattle.wk_body.specs.Tree.{Tok, Simple, Open, OpenIf, Otherwise, Close}
 use Rattle.wk_body.specs.Vectors.{written_vector}
-use Rattle.wk_body.specs.Written.{type_bytes, tok_bytes}
-use Rattle.wk_body.specs.ShiftSteps.{stride, IsInteger, AreIntegers, IsReferring, index_after, shifted_tok, IsTokInRange}
-use Rattle.wk_body.proofs.Strides.{memory_stride, numeric_stride}
+use Rattle.wk_body.specs.Written.{immediate_bytes, type_bytes, tok_bytes}
+use Rattle.wk_body.specs.TokenLen.{stride}
+use Rattle.wk_body.specs.ShiftSteps.{IsInteger, AreIntegers, IsReferring, index_after, shifted_tok, IsTokInRange}
+use Rattle.wk_body.proofs.TokenLen.{memory_stride, numeric_stride}
 use Rattle.wk_body.proofs.Integers.{short_integer, signed_integer, type_integer, one_integer, two_integers}
 
 -- ---- tokens
@@ -67,37 +66,48 @@ regular t opcode behind count bytes long integers stays = inl (record { opcode =
 word : (t : Tok) (opcode size : ℕ) (behind : List ℕ) → tok_bytes t ≡ opcode ∷ behind → IsSized opcode size → length behind ≡ size → ((s : Shifts) → shifted_tok s t ≡ t) → Sort t
 word t opcode size behind bytes sized long stays = inr (inr (inl (record { opcode = opcode; size = size; behind = behind; bytes = bytes; sized = sized; long = long; stays = stays })))
 
-one : (x : ℕ) → AreIntegers 1 (short x)
-one x = one_integer (short x) (short_integer x)
-
 zero_byte : IsInteger (0x00 ∷ [])
 zero_byte = omega arith
 
+-- integers alone stand behind the opcode, of which a reserved byte is one
+abbrev HasIntegers : Immediates → Type 0
+HasIntegers (Labels labels other) = ⊥
+HasIntegers (Word size word) = ⊥
+HasIntegers i = Unit {0}
+
+abbrev count_of : Immediates → ℕ
+count_of Nothing = 0
+count_of (IndexReserved x) = 2
+count_of (Memarg align offset) = 2
+count_of i = 1
+
+integers_of : (i : Immediates) → HasIntegers i → AreIntegers (count_of i) (immediate_bytes i)
+integers_of Nothing has = refl
+integers_of Reserved has = one_integer (0x00 ∷ []) zero_byte
+integers_of (Index x) has = one_integer (short x) (short_integer x)
+integers_of (IndexReserved x) has = two_integers (short x) (0x00 ∷ []) (short_integer x) zero_byte
+integers_of (Memarg align offset) has = two_integers (short align) (short offset) (short_integer align) (short_integer offset)
+integers_of (Signed bits z) has = one_integer (short_signed z) (signed_integer z)
+integers_of (Labels labels other) has = absurd has
+integers_of (Word size word) has = absurd has
+
+regular_plain : (p : Plain) → HasIntegers (immediates p) → stride (plain_opcode p) ≡ suc (count_of (immediates p))
+    → ((s : Shifts) → shifted_tok s (Simple p) ≡ Simple p) → Sort (Simple p)
+regular_plain p has long stays =
+    let i = immediates p in
+    regular (Simple p) (plain_opcode p) (immediate_bytes i) (count_of i) refl long (integers_of i has) stays
+
 plain_sort : (p : Plain) → AreInRange (immediates p) → Sort (Simple p)
-plain_sort Unreachable r = regular (Simple Unreachable) 0x00 [] 0 refl refl refl (λ s. refl)
-plain_sort Nop r = regular (Simple Nop) 0x01 [] 0 refl refl refl (λ s. refl)
-plain_sort (Br label) r = regular (Simple (Br label)) 0x0C (short label) 1 refl refl (one label) (λ s. refl)
-plain_sort (BrIf label) r = regular (Simple (BrIf label)) 0x0D (short label) 1 refl refl (one label) (λ s. refl)
+unfolding form_of
 plain_sort (BrTable labels other) r = inr (inl (record { labels = labels; other = other; bytes = refl; few = r.0; stays = λ s. refl }))
-plain_sort Return r = regular (Simple Return) 0x0F [] 0 refl refl refl (λ s. refl)
 plain_sort (Call x) r = inr (inr (inr (record { opcode = 0x10; index = x; bytes = refl; small = r; refers = inl refl; moves = λ s. refl; fits = λ s h. h })))
-plain_sort (CallIndirect x) r = regular (Simple (CallIndirect x)) 0x11 (short x ++ 0x00 ∷ []) 2 refl refl (two_integers (short x) (0x00 ∷ []) (short_integer x) zero_byte) (λ s. refl)
-plain_sort Drop r = regular (Simple Drop) 0x1A [] 0 refl refl refl (λ s. refl)
-plain_sort Select r = regular (Simple Select) 0x1B [] 0 refl refl refl (λ s. refl)
-plain_sort (LocalGet x) r = regular (Simple (LocalGet x)) 0x20 (short x) 1 refl refl (one x) (λ s. refl)
-plain_sort (LocalSet x) r = regular (Simple (LocalSet x)) 0x21 (short x) 1 refl refl (one x) (λ s. refl)
-plain_sort (LocalTee x) r = regular (Simple (LocalTee x)) 0x22 (short x) 1 refl refl (one x) (λ s. refl)
 plain_sort (GlobalGet x) r = inr (inr (inr (record { opcode = 0x23; index = x; bytes = refl; small = r; refers = inr (inl refl); moves = λ s. refl; fits = λ s h. h })))
 plain_sort (GlobalSet x) r = inr (inr (inr (record { opcode = 0x24; index = x; bytes = refl; small = r; refers = inr (inr refl); moves = λ s. refl; fits = λ s h. h })))
-plain_sort (Access op align offset) r =
-    regular (Simple (Access op align offset)) (memory_opcode op) (short align ++ short offset) 2 refl (memory_stride op) (two_integers (short align) (short offset) (short_integer align) (short_integer offset)) (λ s. refl)
-plain_sort MemorySize r = regular (Simple MemorySize) 0x3F (0x00 ∷ []) 1 refl refl (one_integer (0x00 ∷ []) zero_byte) (λ s. refl)
-plain_sort MemoryGrow r = regular (Simple MemoryGrow) 0x40 (0x00 ∷ []) 1 refl refl (one_integer (0x00 ∷ []) zero_byte) (λ s. refl)
-plain_sort (I32Const z) r = regular (Simple (I32Const z)) 0x41 (short_signed z) 1 refl refl (one_integer (short_signed z) (signed_integer z)) (λ s. refl)
-plain_sort (I64Const z) r = regular (Simple (I64Const z)) 0x42 (short_signed z) 1 refl refl (one_integer (short_signed z) (signed_integer z)) (λ s. refl)
 plain_sort (F32Const w) r = word (Simple (F32Const w)) 0x43 4 (little_bytes 4 w) refl (inl (refl, refl)) (length-bytes_low_first 0 4 w) (λ s. refl)
 plain_sort (F64Const w) r = word (Simple (F64Const w)) 0x44 8 (little_bytes 8 w) refl (inr (refl, refl)) (length-bytes_low_first 0 8 w) (λ s. refl)
-plain_sort (Numeric op) r = regular (Simple (Numeric op)) (numeric_opcode op) [] 0 refl (numeric_stride op) refl (λ s. refl)
+plain_sort (Access op align offset) r = regular_plain (Access op align offset) tt (memory_stride op) (λ s. refl)
+plain_sort (Numeric op) r = regular_plain (Numeric op) tt (numeric_stride op) (λ s. refl)
+plain_sort p r = regular_plain p tt refl (λ s. refl)
 
 pub sort : (t : Tok) → IsTokInRange t → Sort t
 sort (Simple p) r = plain_sort p r
@@ -111,9 +121,14 @@ sort Close r = regular Close 0x0B [] 0 refl refl refl (λ s. refl)
 
 -- what may move is in no row of the table
 pub not_regular : (opcode other count : ℕ) → IsReferring opcode → opcode ≡ other → stride other ≡ suc count → ⊥
+unfolding form_of
 not_regular opcode other count (inl e) same long = let none : stride other ≡ 0 = ap stride (sym same ∙ e) in omega (arith, long, none)
 not_regular opcode other count (inr (inl e)) same long = let none : stride other ≡ 0 = ap stride (sym same ∙ e) in omega (arith, long, none)
 not_regular opcode other count (inr (inr e)) same long = let none : stride other ≡ 0 = ap stride (sym same ∙ e) in omega (arith, long, none)
+
+pub table_is_none : (opcode count : ℕ) → opcode ≡ 0x0E → stride opcode ≡ suc count → ⊥
+unfolding form_of
+table_is_none opcode count is long = let none : stride opcode ≡ 0 = ap stride is in omega (arith, long, none)
 
 pub not_table : (opcode : ℕ) → IsReferring opcode → opcode ≡ 0x0E → ⊥
 not_table opcode (inl e) is = omega (arith, e, is)
@@ -129,6 +144,7 @@ not_word opcode other size (inr (inr e)) same (inl d) = omega (arith, e, same, d
 not_word opcode other size (inr (inr e)) same (inr d) = omega (arith, e, same, d.0)
 
 pub word_is_none : (opcode size count : ℕ) → IsSized opcode size → stride opcode ≡ suc count → ⊥
+unfolding form_of
 word_is_none opcode size count (inl d) long = let none : stride opcode ≡ 0 = ap stride d.0 in omega (arith, long, none)
 word_is_none opcode size count (inr d) long = let none : stride opcode ≡ 0 = ap stride d.0 in omega (arith, long, none)
 
@@ -173,8 +189,7 @@ module _ (code : List ℕ) (at opcode : ℕ) (result : Option ℕ) (lt : at < le
       elim (sort t r) [
         | inl f ↦
             let b = front_at code at opcode f.opcode (tok_bytes t) f.behind later lt there ahead f.bytes in
-            let none : stride f.opcode ≡ 0 = ap stride (sym b.0 ∙ is) in
-            absurd (omega (arith, none, f.long))
+            absurd (table_is_none f.opcode f.count (sym b.0 ∙ is) f.long)
         | inr (inl f) ↦
             let behind = written_vector short f.labels ++ short f.other in
             let b = front_at code at opcode 0x0E (tok_bytes t) behind later lt there ahead f.bytes in

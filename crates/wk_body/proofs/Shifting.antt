@@ -5,13 +5,13 @@ use Rattle.std.specs.List.{flat_map}
 use Rattle.std.proofs.lemmas.List.{append-nil, drop-drop, drop_all, drop_more, length-drop}
 use Rattle.wk_bytes.specs.Short.{short}
 use Rattle.wk_body.specs.declared.shifts.Shifts.{Shifts}
-use Rattle.wk_body.specs.Brief.{IsBrief}
+use Rattle.wk_body.specs.TokenLen.{stride, IsBrief}
 use Rattle.wk_body.specs.Tree.{Tok}
 use Rattle.wk_body.specs.Written.{tok_bytes}
-use Rattle.wk_body.specs.ShiftSteps.{stride, AreIntegers, IsReferring, shifted_tok, IsTokInRange, AreToksInRange, between, Shifting}
+use Rattle.wk_body.specs.ShiftSteps.{AreIntegers, IsReferring, shifted_tok, IsTokInRange, AreToksInRange, between, Shifting}
 use Rattle.wk_body.proofs.Found.{found_is}
 use Rattle.wk_body.proofs.Integers.{brief_integers}
-use Rattle.wk_body.proofs.ShiftShapes.{IsReference, sort, front_at, not_regular, not_table, not_word, word_is_none}
+use Rattle.wk_body.proofs.ShiftShapes.{IsReference, sort, front_at, not_regular, not_table, not_word, table_is_none, word_is_none}
 
 -- ---- opcodes
 
@@ -169,8 +169,7 @@ module _ (s : Shifts) (all : List Tok) (goal code out : List ℕ) (run at : ℕ)
             (ap tok_bytes (f.stays s), omega (arith, ap length f.bytes, short_one, long))
         | inr (inl f) ↦
             let b = front_at code at opcode 0x0E (tok_bytes n.token) _ later near there n.ahead f.bytes in
-            let none : stride opcode ≡ 0 = ap stride b.0 in
-            absurd (omega (arith, is, none, brief.0))
+            absurd (table_is_none opcode (len - 1) b.0 (sym is ∙ more len brief.0))
         | inr (inr (inl f)) ↦
             let b = front_at code at opcode f.opcode (tok_bytes n.token) f.behind later near there n.ahead f.bytes in
             absurd (word_is_none f.opcode f.size (len - 1) f.sized (sym (ap stride b.0) ∙ sym is ∙ more len brief.0))
@@ -203,8 +202,7 @@ module _ (s : Shifts) (all : List Tok) (goal code out : List ℕ) (run at : ℕ)
             still_step n end le (ap tok_bytes (f.stays s)) (omega (arith, place, ap length f.bytes))
         | inr (inl f) ↦
             let b = front_at code at opcode 0x0E (tok_bytes n.token) _ later lt there n.ahead f.bytes in
-            let none : stride opcode ≡ 0 = ap stride b.0 in
-            absurd (omega (arith, long, none))
+            absurd (table_is_none opcode count b.0 long)
         | inr (inr (inl f)) ↦
             let b = front_at code at opcode f.opcode (tok_bytes n.token) f.behind later lt there n.ahead f.bytes in
             absurd (word_is_none f.opcode f.size count f.sized (sym (ap stride b.0) ∙ long))

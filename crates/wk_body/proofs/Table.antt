@@ -14,6 +14,7 @@ use Rattle.wk_body.specs.Numeric.{numeric_opcode, numeric_ops, numeric_of}
 use Rattle.wk_body.specs.MemoryOps.{memory_opcode, memory_ops, memory_of}
 use Rattle.wk_body.specs.OpcodeLaws.{any_form-memory, any_form-numeric}
 use Rattle.wk_body.specs.Instructions.{Plain, Unreachable, Nop, Br, BrIf, BrTable, Return, Call, CallIndirect, Drop, Select, LocalGet, LocalSet, LocalTee, GlobalGet, GlobalSet, Access, MemorySize, MemoryGrow, I32Const, I64Const, F32Const, F64Const, Numeric, plain_opcode, Nothing, Reserved, Index, IndexReserved, Labels, Memarg, Signed, Word, immediates, Form, Alone, WithReserved, WithIndex, WithIndexReserved, WithLabels, WithMemarg, WithSigned, WithWord, rows, find_row, numeric_form, memory_form, any_form, last_opcode, form_of, Allows}
+use Rattle.wk_body.proofs.ByteTables.{all_below, below}
 
 -- ---- the opcode of an instruction that an opcode finds
 
@@ -234,20 +235,6 @@ no_opcode p x none is =
     absurd cc
 
 -- ---- an opcode without a form is none of 1.0
-
--- each number below that passes a test
-abbrev all_below : ℕ → (ℕ → Bool) → Bool
-all_below zero test = true
-all_below (suc n) test = test n && all_below n test
-
-below : (n : ℕ) (test : ℕ → Bool) (x : ℕ) → all_below n test ≡ true → x < n → test x ≡ true
-below zero test x all lt = absurd (omega arith)
-below (suc n) test x all lt =
-    let both = and_parts (test n) (all_below n test) all in
-    elim (cases_lt x n) [
-      | inl less ↦ below n test x both.1 less
-      | inr more ↦ let same : n ≡ x = omega arith in subst (λ (y : ℕ). test y ≡ true) same both.0
-    ]
 
 -- it opens or ends a block
 abbrev is_bracket : ℕ → Bool

@@ -9,29 +9,6 @@ use Rattle.wk_body.specs.ValTypes.{valtype_byte}
 use Rattle.wk_body.specs.Instructions.{form_of}
 use Rattle.wk_body.specs.Layouts.{layout_in}
 
--- how many bytes an instruction has, with its opcode, where each of its integers has one; none that has anything else behind its opcode
-abbrev pub plain_len : Option Layout → ℕ
-plain_len (Some layouts.Nothing) = 1
-plain_len (Some layouts.Index) = 2
-plain_len (Some layouts.Signed32) = 2
-plain_len (Some layouts.Signed64) = 2
-plain_len (Some layouts.Memarg) = 3
-plain_len _ = 0
-
--- the same of a token: an end, or what opens a block, or an instruction of 1.0 that is no nop
-abbrev pub brief_len : ℕ → ℕ
-brief_len x =
-    if x == 0x0B then 1
-    else if x == 0x01 then 0
-    else if x == 0x02 then 2
-    else if x == 0x03 then 2
-    else if x == 0x04 then 2
-    else plain_len (layout_in (form_of Core x))
-
--- there is such a token of that many bytes, where these bytes stand behind its opcode: an integer of one byte is below 128
-abbrev pub IsBrief : ℕ → ℕ → ℕ → Type 0
-IsBrief len x y = (0 < len) × (1 < len → x < 128) × (2 < len → y < 128)
-
 -- an unsigned integer of two bytes is as short as it may be
 abbrev pub IsWideIndex : ℕ → ℕ → Type 0
 IsWideIndex x y = (128 ≤ x) × (x < 256) × (0 < y) × (y < 128)

@@ -1,6 +1,6 @@
 -- How the written form of a body is passed over while its references move. These are the steps of the code, for its private
 -- functions; what moving means is told without them, by `Shifts`.
-use Rattle.std.specs.Prelude.{◌≡◌, ℕ, zero, suc, ◌-◌, ◌<◌, ◌≤◌, ◌⊎◌, ◌&&◌, ◌==◌, nat_le, if◌then◌else◌, List, [], ◌∷◌, ◌++◌, map, take, drop}
+use Rattle.std.specs.Prelude.{◌≡◌, ℕ, zero, suc, ◌-◌, ◌<◌, ◌≤◌, ◌⊎◌, ◌==◌, if◌then◌else◌, List, [], ◌∷◌, ◌++◌, map, take, drop}
 use Rattle.std.specs.List.{flat_map, AllByRecursion}
 use Rattle.wk_body.specs.declared.shifts.Shifts.{Shifts}
 use Rattle.wk_body.specs.Instructions.{immediates}
@@ -10,43 +10,7 @@ use Rattle.wk_body.specs.References.{map_tok}
 use Rattle.wk_body.specs.Written.{tok_bytes}
 use Rattle.wk_body.specs.Shifts.{shifted, shifted_plain}
 
--- ---- how long tokens are
-
--- how many bytes a token of these opcodes has, where each of its integers and its type has one
-abbrev pub strides : List (ℕ × ℕ)
-strides =
-    (0x00, 1)
-    ∷ (0x01, 1)
-    ∷ (0x02, 2)
-    ∷ (0x03, 2)
-    ∷ (0x04, 2)
-    ∷ (0x05, 1)
-    ∷ (0x0B, 1)
-    ∷ (0x0C, 2)
-    ∷ (0x0D, 2)
-    ∷ (0x0F, 1)
-    ∷ (0x11, 3)
-    ∷ (0x1A, 1)
-    ∷ (0x1B, 1)
-    ∷ (0x20, 2)
-    ∷ (0x21, 2)
-    ∷ (0x22, 2)
-    ∷ (0x3F, 2)
-    ∷ (0x40, 2)
-    ∷ (0x41, 2)
-    ∷ (0x42, 2)
-    ∷ []
-
-abbrev pub find_stride : List (ℕ × ℕ) → ℕ → ℕ
-find_stride [] x = 0
-find_stride (row ∷ others) x = if x == row.0 then row.1 else find_stride others x
-
--- The same of any opcode, with loads and stores and numeric instructions. It is 0 for what may move, for what has labels or a word,
--- and where there is no token.
-abbrev pub stride : ℕ → ℕ
-stride x =
-    if nat_le 0x45 x then (if nat_le x 0xC4 then 1 else 0)
-    else (if nat_le 0x28 x && nat_le x 0x3E then 3 else find_stride strides x)
+-- ---- integers
 
 -- the bytes of an integer of any value, or of a type: the last alone is below 128
 abbrev pub IsInteger : List ℕ → Type 0

@@ -5,55 +5,13 @@ ghost use Rattle.std.specs.Prelude.{ℕ, ◌+◌, ◌*◌, ◌≡◌, ◌<◌, �
 ghost use Rattle.wk_body.specs.declared.types.Profile.TheVariants.{Core};
 ghost use Rattle.wk_body.specs.Instructions.{form_of};
 ghost use Rattle.wk_body.specs.Layouts.{layout_in};
-ghost use Rattle.wk_body.specs.Brief.{brief_len, number_of, blocks_after, IsBrief, IsShortType, IsWideIndex, IsWideNumber, IsWide, IsShortTable, IsOther};
+ghost use Rattle.wk_body.specs.TokenLen.{IsBrief};
+ghost use Rattle.wk_body.specs.Brief.{number_of, blocks_after, IsShortType, IsWideIndex, IsWideNumber, IsWide, IsShortTable, IsOther};
 
 use crate::layout::{Layout, layout_of};
+use crate::opcode;
+use crate::token_len::{brief_len, is_brief};
 use crate::types::Profile;
-
-/// How many bytes the token of an opcode has, where it has a byte for each integer, and for the type of a block. It is 0 for what
-/// has others behind its opcode, for an `else`, and where 1.0 has no token. It is 0 for a `nop` too: where one stands, there are often
-/// many, which are counted their own way.
-static LENGTHS: [u8; 256] = [
-    1, 0, 2, 2, 2, 0, 0, 0, 0, 0, 0, 1, 2, 2, 0, 1, // 00: unreachable, openers, end, br, br_if, return
-    2, 0, 0, 0, 0, 0, 0, 0, 0, 0, 1, 1, 0, 0, 0, 0, // 10: call, drop, select
-    2, 2, 2, 2, 2, 0, 0, 0, 3, 3, 3, 3, 3, 3, 3, 3, // 20: locals, globals, loads
-    3, 3, 3, 3, 3, 3, 3, 3, 3, 3, 3, 3, 3, 3, 3, 0, // 30: loads, stores
-    0, 2, 2, 0, 0, 1, 1, 1, 1, 1, 1, 1, 1, 1, 1, 1, // 40: constants of integers, numeric instructions
-    1, 1, 1, 1, 1, 1, 1, 1, 1, 1, 1, 1, 1, 1, 1, 1, // 50
-    1, 1, 1, 1, 1, 1, 1, 1, 1, 1, 1, 1, 1, 1, 1, 1, // 60
-    1, 1, 1, 1, 1, 1, 1, 1, 1, 1, 1, 1, 1, 1, 1, 1, // 70
-    1, 1, 1, 1, 1, 1, 1, 1, 1, 1, 1, 1, 1, 1, 1, 1, // 80
-    1, 1, 1, 1, 1, 1, 1, 1, 1, 1, 1, 1, 1, 1, 1, 1, // 90
-    1, 1, 1, 1, 1, 1, 1, 1, 1, 1, 1, 1, 1, 1, 1, 1, // A0
-    1, 1, 1, 1, 1, 1, 1, 1, 1, 1, 1, 1, 1, 1, 1, 1, // B0
-    0, 0, 0, 0, 0, 0, 0, 0, 0, 0, 0, 0, 0, 0, 0, 0, // C0
-    0, 0, 0, 0, 0, 0, 0, 0, 0, 0, 0, 0, 0, 0, 0, 0, // D0
-    0, 0, 0, 0, 0, 0, 0, 0, 0, 0, 0, 0, 0, 0, 0, 0, // E0
-    0, 0, 0, 0, 0, 0, 0, 0, 0, 0, 0, 0, 0, 0, 0, 0, // F0
-];
-
-/// How many bytes the token of an opcode has, where it has a byte for each integer and each type, in both profiles.
-#[inline(always)]
-#[tactic(auto, using(crate::proofs::BriefTable::length_at))]
-pub(crate) fn brief_len(opcode: u8) -> u8
-    ensures { result ≡ brief_len opcode }
-{
-    LENGTHS[usize::from(opcode)]
-}
-
-/// Of two bytes behind an opcode, the bits that are set where an integer has more bytes, by how many bytes the token has else.
-static MORE: [u32; 4] = [0, 0, 0x0080, 0x8080];
-
-// Whether these bytes behind an opcode leave the token that many bytes.
-#[inline(always)]
-pub(crate) fn is_brief(len: u8, x: u8, y: u8) -> bool
-    requires { len ≤ 3 }
-    ensures { result ≡ true → IsBrief len x y }
-{
-    // One test: what is left of the bytes is 0, or at least 128, and no number is below a length of 0.
-    let behind = u16::from_le_bytes([x, y]);
-    (u32::from(behind) & MORE[usize::from(len)]) < u32::from(len)
-}
 
 // Whether an opcode opens a block. (Both that ask it are one test then.)
 #[inline(always)]
@@ -61,7 +19,7 @@ fn opens(opcode: u8) -> bool
     ensures yes { result ≡ true → (0x02 ≤ opcode) × (opcode ≤ 0x04) }
     ensures no { result ≡ false → (opcode < 0x02) ⊎ (0x04 < opcode) }
 {
-    0x02 <= opcode && opcode <= 0x04
+    opcode::BLOCK <= opcode && opcode <= opcode::IF
 }
 
 // Whether the byte behind an opcode is a block type, where the opcode opens a block.
@@ -89,11 +47,15 @@ pub(crate) fn blocks_after(blocks: u64, opcode: u8) -> u64
     ensures { result ≡ blocks_after opcode blocks }
 {
     let opened = if opens(opcode) {
-        2 * blocks + u64::from(opcode == 0x04)
+        2 * blocks + u64::from(opcode == opcode::IF)
     } else {
         blocks
     };
-    if opcode == 0x0B { opened / 2 } else { opened }
+    if opcode == opcode::END {
+        opened / 2
+    } else {
+        opened
+    }
 }
 
 /// The greatest number whose bits are open blocks: 62 of them.
@@ -225,7 +187,7 @@ pub(crate) fn other_len(bytes: &[u8], at: usize) -> usize
     ensures { 0 < result → IsOther bytes.now at result }
 {
     let opcode = bytes[at];
-    if opcode == 0x0E {
+    if opcode == opcode::BR_TABLE {
         return table_len(bytes, at);
     }
     let both = u16::from_le_bytes([bytes[at + 1], bytes[at + 2]]);
@@ -236,7 +198,7 @@ pub(crate) fn other_len(bytes: &[u8], at: usize) -> usize
 #[inline(always)]
 pub(crate) fn begins_nop(bytes: &[u8]) -> bool {
     match bytes.first() {
-        Some(&opcode) => opcode == 0x01,
+        Some(&opcode) => opcode == opcode::NOP,
         None => false,
     }
 }
@@ -248,7 +210,7 @@ pub(crate) fn nops(bytes: &[u8]) -> usize
     ensures nops { (i : ℕ) → i < result → get_or bytes.now i 0 ≡ 0x01 }
 {
     let mut count = 0;
-    while count < bytes.len() && bytes[count] == 0x01 {
+    while count < bytes.len() && bytes[count] == opcode::NOP {
         count += 1;
     }
     count

@@ -19,6 +19,7 @@ ghost use Rattle.wk_body.specs.Shape.{depth_limit};
 
 use crate::brief::{MOST_BLOCKS, begins_brief, blocks_after, number_of};
 use crate::length::type_len;
+use crate::opcode;
 use crate::reader::{at_end, local_type, reading_of_code};
 use crate::reading::{MAX_DEPTH, are_bytes};
 use crate::scratch::Scratch;
@@ -142,7 +143,7 @@ fn open_settled(
 {
     hand_over(inner, reader)?;
     pass_type(profile, at, reader, walk, out)?;
-    let Ok(()) = reader.open(opcode == 0x04) else {
+    let Ok(()) = reader.open(opcode == opcode::IF) else {
         return None;
     };
     Some(())
@@ -235,7 +236,7 @@ fn pass_else(left: usize, walk: &mut Walk<'_>, out: &mut Vec<u8>) -> Option<()>
 {
     let rest = walk.cursor.rest();
     let (next, _) = rest.split_first()?;
-    if *next == 0x0B {
+    if *next == opcode::END {
         write_run(out, walk.run, left)?;
         walk.run = rest;
     }
@@ -263,18 +264,18 @@ fn pass_token(
         return None;
     };
     match opcode {
-        0x0B => Some(pass_end(inner, reader)),
-        0x02..=0x04 => {
+        opcode::END => Some(pass_end(inner, reader)),
+        opcode::BLOCK..=opcode::IF => {
             pass_opening(profile, opcode, at, inner, reader, walk, out)?;
             Some(false)
         }
-        0x05 => {
+        opcode::ELSE => {
             part(at, inner, reader)?;
             pass_else(left, walk, out)?;
             Some(false)
         }
-        0x01 => {
-            walk.pass_plain(profile, 0x01, out)?;
+        opcode::NOP => {
+            walk.pass_plain(profile, opcode::NOP, out)?;
             walk.pass_nops();
             Some(false)
         }

@@ -5,6 +5,7 @@ ghost use Rattle.wk_body.specs.Instructions.{form_of};
 ghost use Rattle.wk_body.specs.Layouts.{layout_in};
 
 use crate::memory::MemoryOp;
+use crate::opcode;
 use crate::reading::numeric_of;
 use crate::types::Profile;
 
@@ -30,19 +31,23 @@ pub(crate) fn layout_of(profile: Profile, opcode: u8) -> Option<Layout>
     ensures { result ≡ layout_in (form_of profile opcode) }
 {
     match opcode {
-        0x00 | 0x01 | 0x0F | 0x1A | 0x1B => Some(Layout::Nothing),
-        0x0C | 0x0D | 0x10 | 0x20..=0x24 => Some(Layout::Index),
-        0x0E => Some(Layout::Labels),
-        0x11 => Some(Layout::IndexReserved),
-        0x28..=0x3E => match MemoryOp::from_opcode(opcode) {
+        opcode::UNREACHABLE | opcode::NOP | opcode::RETURN | opcode::DROP | opcode::SELECT => Some(
+            Layout::Nothing,
+        ),
+        opcode::BR | opcode::BR_IF | opcode::CALL | opcode::LOCAL_GET..=opcode::GLOBAL_SET => Some(
+            Layout::Index,
+        ),
+        opcode::BR_TABLE => Some(Layout::Labels),
+        opcode::CALL_INDIRECT => Some(Layout::IndexReserved),
+        opcode::FIRST_ACCESS..=opcode::LAST_ACCESS => match MemoryOp::from_opcode(opcode) {
             Some(_) => Some(Layout::Memarg),
             None => None,
         },
-        0x3F | 0x40 => Some(Layout::Reserved),
-        0x41 => Some(Layout::Signed32),
-        0x42 => Some(Layout::Signed64),
-        0x43 => Some(Layout::Word32),
-        0x44 => Some(Layout::Word64),
+        opcode::MEMORY_SIZE | opcode::MEMORY_GROW => Some(Layout::Reserved),
+        opcode::I32_CONST => Some(Layout::Signed32),
+        opcode::I64_CONST => Some(Layout::Signed64),
+        opcode::F32_CONST => Some(Layout::Word32),
+        opcode::F64_CONST => Some(Layout::Word64),
         _ => match numeric_of(profile, opcode) {
             Some(_) => Some(Layout::Nothing),
             None => None,

@@ -5,11 +5,13 @@ ghost use Rattle.std.specs.List.{flat_map, AllByRecursion};
 ghost use Rattle.wk_bytes.specs.Short.{short, short_signed};
 ghost use Rattle.wk_body.specs.Kept.{told, all_told, IsWithin};
 ghost use Rattle.wk_body.specs.Lengths.{limited, GrowsBy};
+ghost use Rattle.wk_body.specs.Operands.{operand_bytes, operands_of, AreCounted};
 ghost use Rattle.wk_body.specs.Vectors.{written_vector};
 ghost use Rattle.wk_body.specs.Written.{type_bytes, tok_bytes, written_expr, written_body, written_group};
 
 use crate::body::Body;
 use crate::expr::Expr;
+use crate::operands::Operands;
 use crate::token::Token;
 use crate::types::{BlockType, LocalGroup};
 use wk_bytes::{LIMIT, leb_len_s64, leb_len_u32};
@@ -62,6 +64,30 @@ fn labels_len(labels: &[u32]) -> u64
     total
 }
 
+// The bytes of what stands behind an opcode.
+#[inline(always)]
+fn operands_len(operands: Operands<'_>) -> u64
+    requires { AreCounted operands }
+    ensures len { result ≡ length (operand_bytes (operands_of operands.entry)) }
+    ensures few { result ≤ 2 ^ 35 }
+{
+    match operands {
+        Operands::Nothing => 0,
+        Operands::Reserved => 1,
+        Operands::Index(x) => unsigned_len(x),
+        Operands::IndexReserved(x) => unsigned_len(x) + 1,
+        Operands::Labels { labels, other } => {
+            unsigned_len(labels.len() as u32) + labels_len(labels) + unsigned_len(other)
+        }
+        Operands::Memarg { align, offset } => unsigned_len(align) + unsigned_len(offset),
+        Operands::Signed32(z) => signed_len(i64::from(z)),
+        Operands::Signed64(z) => signed_len(z),
+        Operands::Word32(_) => 4,
+        Operands::Word64(_) => 8,
+        Operands::Opening(ty) => type_len(ty),
+    }
+}
+
 impl Token {
     /// How many bytes this token has in the written form: of a `block`, `loop` or `if` the opcode and the block type alone. Its
     /// labels lie in the pool that its tokens were lent with.
@@ -78,39 +104,8 @@ impl Token {
         requires { IsWithin (length labels.now) self.now }
         ensures { result ≡ length (tok_bytes (told labels.now self.now)) }
     {
-        match *self {
-            Token::Unreachable
-            | Token::Nop
-            | Token::Else { .. }
-            | Token::End
-            | Token::Return
-            | Token::Drop
-            | Token::Select
-            | Token::Numeric(_) => 1,
-            Token::Block { ty, .. } | Token::Loop { ty, .. } | Token::If { ty, .. } => {
-                1 + type_len(ty)
-            }
-            Token::Br(x)
-            | Token::BrIf(x)
-            | Token::Call(x)
-            | Token::LocalGet(x)
-            | Token::LocalSet(x)
-            | Token::LocalTee(x)
-            | Token::GlobalGet(x)
-            | Token::GlobalSet(x) => index_len(x),
-            Token::BrTable { start, len, other } => {
-                let start = start as usize;
-                let end = start + len as usize;
-                index_len(len) + labels_len(&labels[start..end]) + unsigned_len(other)
-            }
-            Token::CallIndirect(x) => index_len(x) + 1,
-            Token::Access { align, offset, .. } => index_len(align) + unsigned_len(offset),
-            Token::MemorySize | Token::MemoryGrow => 2,
-            Token::I32Const(z) => 1 + signed_len(i64::from(z)),
-            Token::I64Const(z) => 1 + signed_len(z),
-            Token::F32Const(_) => 5,
-            Token::F64Const(_) => 9,
-        }
+        let (_opcode, operands) = self.operands(labels);
+        1 + operands_len(operands)
     }
 }
 

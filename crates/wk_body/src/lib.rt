@@ -20,6 +20,7 @@
 //! - [`encode_body`] and [`encode_expr`] give the written form (`specs/Written`), which spells what it was made of in each profile that
 //!   it belongs to. [`append_body`] and [`append_expr`] append it; [`body_len`], [`expr_len`] and [`Token::head_len`] measure it;
 //!   [`code_bytes`] copies a spelling that is as long as the written form, which it then is.
+//!   [`Token::operands`] gives a token's opcode and what stands behind it (`specs/Operands`).
 //! - [`refs`] is the set of what a body refers to, [`uses`] the same with a function's own type. [`shift`], [`shift_expr`] and
 //!   [`shift_index`] move references (`specs/References`), and overflow exactly where one that moves has no next. [`expr_movement`]
 //!   tells that beforehand (`specs/Moves`). Where none overflows, [`shift_in_place`] moves those of a body where it stands,
@@ -46,6 +47,8 @@ mod memory;
 mod moves;
 mod numeric;
 mod numeric_name;
+mod opcode;
+mod operands;
 mod reader;
 mod reading;
 mod references;
@@ -54,6 +57,7 @@ mod sheet;
 mod shifted;
 mod shifts;
 mod token;
+mod token_len;
 mod token_reader;
 mod types;
 mod walk;
@@ -69,6 +73,7 @@ pub use moves::{
     shift_index,
 };
 pub use numeric::{NumericOp, NumericType};
+pub use operands::Operands;
 pub use reader::{
     next_expr, next_expr_in, one_spelling_of_code, read_body, read_body_in, read_expr,
     read_expr_in, reading_of_code,

@@ -3,6 +3,7 @@
 ghost use Rattle.std.specs.Prelude.{◌≡◌};
 ghost use Rattle.wk_body.specs.MemoryOps.{memory_of, memory_opcode, memory_name, memory_type, memory_width, memory_stores};
 
+use crate::opcode;
 use crate::types::ValType;
 
 /// A load or a store. Its number is its opcode (5.4.4).
@@ -33,7 +34,7 @@ pub enum MemoryOp {
     I64Store32 = 0x3E,
 }
 
-// The loads and stores in the order of their opcodes, from `28` on.
+// The loads and stores in the order of their opcodes.
 static OPS: [MemoryOp; 23] = [
     MemoryOp::I32Load,
     MemoryOp::I64Load,
@@ -60,9 +61,6 @@ static OPS: [MemoryOp; 23] = [
     MemoryOp::I64Store32,
 ];
 
-// The opcode of the first of them.
-const FIRST: u8 = 0x28;
-
 impl MemoryOp {
     /// The opcode (5.4.4).
     pub fn opcode(self) -> u8
@@ -76,11 +74,11 @@ impl MemoryOp {
     pub fn from_opcode(opcode: u8) -> Option<MemoryOp>
         ensures { result ≡ memory_of opcode }
     {
-        if opcode < FIRST {
+        if opcode < opcode::FIRST_ACCESS {
             return None;
         }
         let ops: &[MemoryOp] = &OPS;
-        ops.get(usize::from(opcode - FIRST)).copied()
+        ops.get(usize::from(opcode - opcode::FIRST_ACCESS)).copied()
     }
 
     /// Whether it is a store.
@@ -88,7 +86,7 @@ impl MemoryOp {
     pub fn is_store(self) -> bool
         ensures { result ≡ memory_stores self }
     {
-        self.opcode() >= 0x36
+        self.opcode() >= opcode::FIRST_STORE
     }
 
     /// The type of the value that is loaded or stored (3.3.4).

@@ -4,6 +4,7 @@ ghost use Rattle.std.specs.Prelude.{◌≡◌};
 ghost use Rattle.wk_body.specs.declared.numeric.NumericType.TheVariants.{Unary, Binary};
 ghost use Rattle.wk_body.specs.Numeric.{numeric_of, numeric_opcode, numeric_type};
 
+use crate::opcode;
 use crate::types::ValType;
 
 /// A numeric instruction without immediates. Its number is its opcode (5.4.5).
@@ -170,7 +171,7 @@ impl NumericType {
     }
 }
 
-// The instructions in the order of their opcodes, from `45` on.
+// The instructions in the order of their opcodes.
 static OPS: [NumericOp; 128] = [
     NumericOp::I32Eqz,
     NumericOp::I32Eq,
@@ -302,9 +303,6 @@ static OPS: [NumericOp; 128] = [
     NumericOp::I64Extend32S,
 ];
 
-// The opcode of the first of them.
-const FIRST: u8 = 0x45;
-
 impl NumericOp {
     /// The opcode (5.4.5).
     #[inline(always)]
@@ -318,11 +316,12 @@ impl NumericOp {
     pub fn from_opcode(opcode: u8) -> Option<NumericOp>
         ensures { result ≡ numeric_of opcode }
     {
-        if opcode < FIRST {
+        if opcode < opcode::FIRST_NUMERIC {
             return None;
         }
         let ops: &[NumericOp] = &OPS;
-        ops.get(usize::from(opcode - FIRST)).copied()
+        ops.get(usize::from(opcode - opcode::FIRST_NUMERIC))
+            .copied()
     }
 
     /// The type (3.3.1).

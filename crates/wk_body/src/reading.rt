@@ -14,6 +14,7 @@ ghost use Rattle.wk_body.specs.Building.{Good, size_of, kinds_of, ReadsLabels, R
 use crate::expr::Expr;
 use crate::memory::MemoryOp;
 use crate::numeric::NumericOp;
+use crate::opcode;
 use crate::scratch::Scratch;
 use crate::token::Token;
 use crate::types::{BlockKind, BlockType, Profile, ValType};
@@ -22,9 +23,6 @@ use wk_bytes::{Cursor, ReadFault, ReadKind};
 
 /// The most blocks that are open at one place of a body or an expression.
 pub const MAX_DEPTH: usize = 20_000;
-
-// The last opcode of 1.0.
-const LAST_CORE: u8 = 0xBF;
 
 /// Each byte is below 256, which proofs ask for where a cursor holds the bytes. It does nothing.
 pub(crate) fn are_bytes(bytes: &[u8])
@@ -133,7 +131,7 @@ fn double_of(cursor: &mut Cursor<'_>) -> Result<Token, ReadFault>
 pub(crate) fn numeric_of(profile: Profile, opcode: u8) -> Option<NumericOp>
     ensures { result ≡ numeric_in profile opcode }
 {
-    if profile == Profile::Core && opcode > LAST_CORE {
+    if profile == Profile::Core && opcode > opcode::LAST_CORE {
         return None;
     }
     NumericOp::from_opcode(opcode)
@@ -153,37 +151,37 @@ pub(crate) fn simple_of(
     ensures within { IfOk result (IsWithin 0) }
 {
     match opcode {
-        0x00 => Ok(Token::Unreachable),
-        0x01 => Ok(Token::Nop),
-        0x0C => Ok(Token::Br(cursor.u32()?)),
-        0x0D => Ok(Token::BrIf(cursor.u32()?)),
-        0x0F => Ok(Token::Return),
-        0x10 => Ok(Token::Call(cursor.u32()?)),
-        0x11 => {
+        opcode::UNREACHABLE => Ok(Token::Unreachable),
+        opcode::NOP => Ok(Token::Nop),
+        opcode::BR => Ok(Token::Br(cursor.u32()?)),
+        opcode::BR_IF => Ok(Token::BrIf(cursor.u32()?)),
+        opcode::RETURN => Ok(Token::Return),
+        opcode::CALL => Ok(Token::Call(cursor.u32()?)),
+        opcode::CALL_INDIRECT => {
             let x = cursor.u32()?;
             let _zero = reserved(cursor)?;
             Ok(Token::CallIndirect(x))
         }
-        0x1A => Ok(Token::Drop),
-        0x1B => Ok(Token::Select),
-        0x20 => Ok(Token::LocalGet(cursor.u32()?)),
-        0x21 => Ok(Token::LocalSet(cursor.u32()?)),
-        0x22 => Ok(Token::LocalTee(cursor.u32()?)),
-        0x23 => Ok(Token::GlobalGet(cursor.u32()?)),
-        0x24 => Ok(Token::GlobalSet(cursor.u32()?)),
-        0x28..=0x3E => memory_of(opcode, cursor),
-        0x3F => {
+        opcode::DROP => Ok(Token::Drop),
+        opcode::SELECT => Ok(Token::Select),
+        opcode::LOCAL_GET => Ok(Token::LocalGet(cursor.u32()?)),
+        opcode::LOCAL_SET => Ok(Token::LocalSet(cursor.u32()?)),
+        opcode::LOCAL_TEE => Ok(Token::LocalTee(cursor.u32()?)),
+        opcode::GLOBAL_GET => Ok(Token::GlobalGet(cursor.u32()?)),
+        opcode::GLOBAL_SET => Ok(Token::GlobalSet(cursor.u32()?)),
+        opcode::FIRST_ACCESS..=opcode::LAST_ACCESS => memory_of(opcode, cursor),
+        opcode::MEMORY_SIZE => {
             let _zero = reserved(cursor)?;
             Ok(Token::MemorySize)
         }
-        0x40 => {
+        opcode::MEMORY_GROW => {
             let _zero = reserved(cursor)?;
             Ok(Token::MemoryGrow)
         }
-        0x41 => Ok(Token::I32Const(cursor.s32()?)),
-        0x42 => long_of(cursor),
-        0x43 => Ok(Token::F32Const(cursor.word32()?)),
-        0x44 => double_of(cursor),
+        opcode::I32_CONST => Ok(Token::I32Const(cursor.s32()?)),
+        opcode::I64_CONST => long_of(cursor),
+        opcode::F32_CONST => Ok(Token::F32Const(cursor.word32()?)),
+        opcode::F64_CONST => double_of(cursor),
         _ => match numeric_of(profile, opcode) {
             Some(op) => Ok(Token::Numeric(op)),
             None => Err(ReadFault {
@@ -263,8 +261,8 @@ fn token_behind(
         (λ e. FailsAs e e.kind (behind_at profile (kinds_of scratch.old) at opcode cursor.old.end cursor.old.rest)) }
 {
     match opcode {
-        0x0B => Ok(scratch.close()?),
-        0x05 => {
+        opcode::END => Ok(scratch.close()?),
+        opcode::ELSE => {
             if !scratch.may_else() {
                 return Err(ReadFault {
                     kind: ReadKind::UnknownOpcode,
@@ -274,22 +272,22 @@ fn token_behind(
             scratch.start_else()?;
             Ok(false)
         }
-        0x02 => {
+        opcode::BLOCK => {
             let ty = opening_of(scratch, profile, at, cursor)?;
             scratch.open_block(BlockKind::Block, ty)?;
             Ok(false)
         }
-        0x03 => {
+        opcode::LOOP => {
             let ty = opening_of(scratch, profile, at, cursor)?;
             scratch.open_block(BlockKind::Loop, ty)?;
             Ok(false)
         }
-        0x04 => {
+        opcode::IF => {
             let ty = opening_of(scratch, profile, at, cursor)?;
             scratch.open_if(ty)?;
             Ok(false)
         }
-        0x0E => {
+        opcode::BR_TABLE => {
             table_of(scratch, cursor)?;
             Ok(false)
         }

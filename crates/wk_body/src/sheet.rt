@@ -1,12 +1,14 @@
 //! A sheet: an array that tokens are written on, one behind the other, before they go behind the output together. What is asked of
 //! each of their pieces is where it starts; room is asked for once a token.
 
-ghost use Rattle.std.specs.Prelude.{◌≡◌, ◌≤◌, ◌<◌, ◌+◌, ◌++◌, ◌∷◌, ℕ, List, take, IfSome, IfNone};
+ghost use Rattle.std.specs.Prelude.{◌≡◌, ◌≤◌, ◌<◌, ◌+◌, ◌++◌, ◌∷◌, length, take, IfSome, IfNone};
 ghost use Rattle.byteorder.specs.Endian.{little_bytes};
 ghost use Rattle.wk_bytes.specs.Short.{short, short_signed, is_lastS, lowS, highS};
-ghost use Rattle.wk_body.specs.Kept.{told};
+ghost use Rattle.wk_body.specs.Kept.{told, IsWithin};
+ghost use Rattle.wk_body.specs.Operands.{operand_bytes, operands_of};
 ghost use Rattle.wk_body.specs.Written.{type_bytes, tok_bytes};
 
+use crate::operands::Operands;
 use crate::token::Token;
 use crate::types::BlockType;
 use byteorder::{ByteOrder, LittleEndian};
@@ -127,28 +129,17 @@ fn put_index(sheet: &mut [u8; ROOM], at: usize, opcode: u8, x: u32) -> usize
     put_number(sheet, behind, x)
 }
 
-// An opcode and a signed integer.
+// A block type.
 #[inline(always)]
-fn put_const(sheet: &mut [u8; ROOM], at: usize, opcode: u8, n: i64) -> usize
-    requires { at + 11 ≤ ROOM }
-    ensures few { result ≤ at + 11 }
-    ensures bytes { take result sheet.new ≡ take at sheet.old ++ (opcode ∷ short_signed n) }
-{
-    let behind = put(sheet, at, [opcode]);
-    put_signed(sheet, behind, n)
-}
-
-// An opcode and a block type.
-#[inline(always)]
-fn put_opening(sheet: &mut [u8; ROOM], at: usize, opcode: u8, ty: BlockType) -> usize
-    requires { at + 11 ≤ ROOM }
-    ensures few { result ≤ at + 11 }
-    ensures bytes { take result sheet.new ≡ take at sheet.old ++ (opcode ∷ type_bytes ty) }
+fn put_type(sheet: &mut [u8; ROOM], at: usize, ty: BlockType) -> usize
+    requires { at + 10 ≤ ROOM }
+    ensures few { result ≤ at + 10 }
+    ensures bytes { take result sheet.new ≡ take at sheet.old ++ type_bytes ty }
 {
     match ty {
-        BlockType::Empty => put(sheet, at, [opcode, 0x40]),
-        BlockType::Value(ty) => put(sheet, at, [opcode, ty.byte()]),
-        BlockType::Index(x) => put_const(sheet, at, opcode, i64::from(x)),
+        BlockType::Empty => put(sheet, at, [0x40]),
+        BlockType::Value(ty) => put(sheet, at, [ty.byte()]),
+        BlockType::Index(x) => put_signed(sheet, at, i64::from(x)),
     }
 }
 
@@ -176,35 +167,55 @@ fn put_word64(sheet: &mut [u8; ROOM], at: usize, word: u64) -> usize
     put(sheet, at, bytes)
 }
 
-// The opcode and the index of a local or a global that is named.
+// What stands behind an opcode, or nothing for labels.
 #[inline(always)]
-fn variable(token: &Token) -> Option<(u8, u32)>
-    ensures { IfSome result (λ v. (pool : List ℕ) → tok_bytes (told pool token.now) ≡ v.0 ∷ short v.1) }
+fn put_operands(sheet: &mut [u8; ROOM], at: usize, operands: Operands<'_>) -> Option<usize>
+    requires { at + 10 ≤ ROOM }
+    ensures few { IfSome result (λ end. end ≤ at + 10) }
+    ensures bytes { IfSome result (λ end. take end sheet.new ≡ take at sheet.old ++ operand_bytes (operands_of operands.entry)) }
+    ensures none { IfNone result (take at sheet.new ≡ take at sheet.old) }
 {
-    match *token {
-        Token::LocalGet(x) => Some((0x20, x)),
-        Token::LocalSet(x) => Some((0x21, x)),
-        Token::LocalTee(x) => Some((0x22, x)),
-        Token::GlobalGet(x) => Some((0x23, x)),
-        Token::GlobalSet(x) => Some((0x24, x)),
-        _ => None,
+    match operands {
+        Operands::Nothing => Some(at),
+        Operands::Reserved => Some(put(sheet, at, [0x00])),
+        Operands::Index(x) => Some(put_number(sheet, at, x)),
+        Operands::IndexReserved(x) => {
+            let behind = put_number(sheet, at, x);
+            Some(put(sheet, behind, [0x00]))
+        }
+        Operands::Labels { .. } => None,
+        Operands::Memarg { align, offset } => {
+            let behind = put_number(sheet, at, align);
+            Some(put_number(sheet, behind, offset))
+        }
+        Operands::Signed32(z) => Some(put_signed(sheet, at, i64::from(z))),
+        Operands::Signed64(z) => Some(put_signed(sheet, at, z)),
+        Operands::Word32(word) => Some(put_word32(sheet, at, word)),
+        Operands::Word64(word) => Some(put_word64(sheet, at, word)),
+        Operands::Opening(ty) => Some(put_type(sheet, at, ty)),
     }
 }
 
-/// A token, behind so many bytes of a sheet. The answer is how many stand on it then, or nothing for a token that has labels in a
-/// pool, and where the sheet might have too little room.
+/// A token, behind so many bytes of a sheet. The answer is how many stand on it then, or nothing for a token that has labels, which
+/// lie in the pool, and where the sheet might have too little room.
 #[inline(always)]
-pub(crate) fn put_short(sheet: &mut [u8; ROOM], used: usize, token: &Token) -> Option<usize>
+pub(crate) fn put_short(
+    sheet: &mut [u8; ROOM],
+    used: usize,
+    labels: &[u32],
+    token: &Token,
+) -> Option<usize>
     requires inside { used ≤ ROOM }
+    requires within { IsWithin (length labels.now) token.now }
     ensures inside { IfSome result (λ end. end ≤ ROOM) }
-    ensures bytes { IfSome result (λ end. (pool : List ℕ) → take end sheet.new ≡ take used sheet.old ++ tok_bytes (told pool token.now)) }
+    ensures bytes { IfSome result (λ end. take end sheet.new ≡ take used sheet.old ++ tok_bytes (told labels.now token.now)) }
     ensures none { IfNone result (take used sheet.new ≡ take used sheet.old) }
 {
     if used > ROOM - MOST {
         return None;
     }
     // (Locals and globals are a third of all tokens or more. Asked for by themselves first, they are told apart by one test of a range,
-    // which is foreseen better than a jump by the kind of token. The `match` behind it names them too, and is not reached by them.)
+    // which is foreseen better than a jump by the kind of token.)
     if matches!(
         *token,
         Token::LocalGet(_)
@@ -213,50 +224,11 @@ pub(crate) fn put_short(sheet: &mut [u8; ROOM], used: usize, token: &Token) -> O
             | Token::GlobalGet(_)
             | Token::GlobalSet(_)
     ) {
-        if let Some((opcode, x)) = variable(token) {
+        if let (opcode, Operands::Index(x)) = token.operands(labels) {
             return Some(put_index(sheet, used, opcode, x));
         }
     }
-    match *token {
-        Token::Unreachable => Some(put(sheet, used, [0x00])),
-        Token::Nop => Some(put(sheet, used, [0x01])),
-        Token::Block { ty, .. } => Some(put_opening(sheet, used, 0x02, ty)),
-        Token::Loop { ty, .. } => Some(put_opening(sheet, used, 0x03, ty)),
-        Token::If { ty, .. } => Some(put_opening(sheet, used, 0x04, ty)),
-        Token::Else { .. } => Some(put(sheet, used, [0x05])),
-        Token::End => Some(put(sheet, used, [0x0B])),
-        Token::Br(label) => Some(put_index(sheet, used, 0x0C, label)),
-        Token::BrIf(label) => Some(put_index(sheet, used, 0x0D, label)),
-        Token::BrTable { .. } => None,
-        Token::Return => Some(put(sheet, used, [0x0F])),
-        Token::Call(x) => Some(put_index(sheet, used, 0x10, x)),
-        Token::CallIndirect(x) => {
-            let behind = put_index(sheet, used, 0x11, x);
-            Some(put(sheet, behind, [0x00]))
-        }
-        Token::Drop => Some(put(sheet, used, [0x1A])),
-        Token::Select => Some(put(sheet, used, [0x1B])),
-        Token::LocalGet(x) => Some(put_index(sheet, used, 0x20, x)),
-        Token::LocalSet(x) => Some(put_index(sheet, used, 0x21, x)),
-        Token::LocalTee(x) => Some(put_index(sheet, used, 0x22, x)),
-        Token::GlobalGet(x) => Some(put_index(sheet, used, 0x23, x)),
-        Token::GlobalSet(x) => Some(put_index(sheet, used, 0x24, x)),
-        Token::Access { op, align, offset } => {
-            let behind = put_index(sheet, used, op.opcode(), align);
-            Some(put_number(sheet, behind, offset))
-        }
-        Token::MemorySize => Some(put(sheet, used, [0x3F, 0x00])),
-        Token::MemoryGrow => Some(put(sheet, used, [0x40, 0x00])),
-        Token::I32Const(z) => Some(put_const(sheet, used, 0x41, i64::from(z))),
-        Token::I64Const(z) => Some(put_const(sheet, used, 0x42, z)),
-        Token::F32Const(word) => {
-            let behind = put(sheet, used, [0x43]);
-            Some(put_word32(sheet, behind, word))
-        }
-        Token::F64Const(word) => {
-            let behind = put(sheet, used, [0x44]);
-            Some(put_word64(sheet, behind, word))
-        }
-        Token::Numeric(op) => Some(put(sheet, used, [op.opcode()])),
-    }
+    let (opcode, operands) = token.operands(labels);
+    let behind = put(sheet, used, [opcode]);
+    put_operands(sheet, behind, operands)
 }

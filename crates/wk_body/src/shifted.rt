@@ -12,6 +12,7 @@ ghost use Rattle.wk_body.specs.Written.{written_body, StaysInFront};
 use crate::body::Body;
 use crate::length::groups_len;
 use crate::moves::{Moving, next_index, token_movement};
+use crate::opcode;
 use crate::references::{Ref, add};
 use crate::token::Token;
 use crate::writing::put_index;
@@ -60,9 +61,17 @@ fn put_shifted(out: &mut Vec<u8>, kind: Moving, from: u32, token: &Token) -> Res
     ensures err { OnErr result (StaysInFront out.old.items out.new.items) }
 {
     match (kind, *token) {
-        (Moving::Func, Token::Call(x)) => put_index(out, 0x10, next_index(from, x)),
-        (Moving::Global, Token::GlobalGet(x)) => put_index(out, 0x23, next_index(from, x)),
-        (Moving::Global, Token::GlobalSet(x)) => put_index(out, 0x24, next_index(from, x)),
+        (Moving::Func, Token::Call(x)) => put_index(out, opcode::CALL, next_index(from, x)),
+        (Moving::Global, Token::GlobalGet(x)) => put_index(
+            out,
+            opcode::GLOBAL_GET,
+            next_index(from, x),
+        ),
+        (Moving::Global, Token::GlobalSet(x)) => put_index(
+            out,
+            opcode::GLOBAL_SET,
+            next_index(from, x),
+        ),
         _ => unreachable!(),
     }
 }

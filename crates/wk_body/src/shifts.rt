@@ -9,9 +9,10 @@ ghost use Rattle.wk_body.specs.Vectors.{written_vector};
 ghost use Rattle.wk_body.specs.Written.{tok_bytes, written_body, StaysInFront};
 ghost use Rattle.wk_body.specs.declared.shifts.Shifts.{Shifts};
 ghost use Rattle.wk_body.specs.Shifts.{shifted, shifted_body};
-ghost use Rattle.wk_body.specs.ShiftSteps.{stride, IsInteger, AreIntegers, IsReferring, index_after, IsTokInRange, Shifting, ShiftsOn, StaysBehind};
+ghost use Rattle.wk_body.specs.ShiftSteps.{IsInteger, AreIntegers, IsReferring, index_after, IsTokInRange, Shifting, ShiftsOn, StaysBehind};
 
-use crate::brief::is_brief;
+use crate::opcode;
+use crate::token_len::{is_brief, stride};
 use crate::writing::put_index;
 use wk_bytes::{Cursor, LIMIT, OutOfMemory};
 
@@ -26,36 +27,6 @@ pub struct Shifts {
     pub globals_from: u32,
     /// How many globals came.
     pub globals_by: u32,
-}
-
-/// How many bytes the token of an opcode has, where it has a byte for each integer, and for the type of a block. It is 0 for what
-/// may move, for what has labels or a word behind its opcode, and where there is no token.
-static STRIDES: [u8; 256] = [
-    1, 1, 2, 2, 2, 1, 0, 0, 0, 0, 0, 1, 2, 2, 0, 1, // 00: unreachable, nop, openers, else, end, br, br_if, return
-    0, 3, 0, 0, 0, 0, 0, 0, 0, 0, 1, 1, 0, 0, 0, 0, // 10: call_indirect, drop, select
-    2, 2, 2, 0, 0, 0, 0, 0, 3, 3, 3, 3, 3, 3, 3, 3, // 20: locals, loads
-    3, 3, 3, 3, 3, 3, 3, 3, 3, 3, 3, 3, 3, 3, 3, 2, // 30: loads, stores, memory.size
-    2, 2, 2, 0, 0, 1, 1, 1, 1, 1, 1, 1, 1, 1, 1, 1, // 40: memory.grow, constants of integers, numeric instructions
-    1, 1, 1, 1, 1, 1, 1, 1, 1, 1, 1, 1, 1, 1, 1, 1, // 50
-    1, 1, 1, 1, 1, 1, 1, 1, 1, 1, 1, 1, 1, 1, 1, 1, // 60
-    1, 1, 1, 1, 1, 1, 1, 1, 1, 1, 1, 1, 1, 1, 1, 1, // 70
-    1, 1, 1, 1, 1, 1, 1, 1, 1, 1, 1, 1, 1, 1, 1, 1, // 80
-    1, 1, 1, 1, 1, 1, 1, 1, 1, 1, 1, 1, 1, 1, 1, 1, // 90
-    1, 1, 1, 1, 1, 1, 1, 1, 1, 1, 1, 1, 1, 1, 1, 1, // A0
-    1, 1, 1, 1, 1, 1, 1, 1, 1, 1, 1, 1, 1, 1, 1, 1, // B0
-    1, 1, 1, 1, 1, 0, 0, 0, 0, 0, 0, 0, 0, 0, 0, 0, // C0: sign extension
-    0, 0, 0, 0, 0, 0, 0, 0, 0, 0, 0, 0, 0, 0, 0, 0, // D0
-    0, 0, 0, 0, 0, 0, 0, 0, 0, 0, 0, 0, 0, 0, 0, 0, // E0
-    0, 0, 0, 0, 0, 0, 0, 0, 0, 0, 0, 0, 0, 0, 0, 0, // F0
-];
-
-// How many bytes the token of an opcode has, by the table.
-#[inline(always)]
-#[tactic(auto, using(crate::proofs::Strides::stride_at))]
-fn stride(opcode: u8) -> u8
-    ensures { result ≡ stride opcode }
-{
-    STRIDES[usize::from(opcode)]
 }
 
 // The offset behind the integer at an offset.
@@ -139,9 +110,9 @@ fn behind_token(code: &[u8], at: usize, opcode: u8) -> Option<usize>
 {
     let next = at + 1;
     match opcode {
-        0x0E => behind_labels(code, next),
-        0x43 => behind_bytes(code, next, 4),
-        0x44 => behind_bytes(code, next, 8),
+        opcode::BR_TABLE => behind_labels(code, next),
+        opcode::F32_CONST => behind_bytes(code, next, 4),
+        opcode::F64_CONST => behind_bytes(code, next, 8),
         _ => {
             let count = stride(opcode).checked_sub(1)?;
             behind_integers(code, next, usize::from(count))
@@ -154,7 +125,7 @@ fn index_after(opcode: u8, x: u32, shifts: Shifts) -> Option<u32>
     ensures some { IfSome result (λ y. y ≡ index_after shifts opcode x) }
     ensures none { result ≡ None → 2 ^ 32 ≤ index_after shifts opcode x }
 {
-    let (from, by) = if opcode == 0x10 {
+    let (from, by) = if opcode == opcode::CALL {
         (shifts.funcs_from, shifts.funcs_by)
     } else {
         (shifts.globals_from, shifts.globals_by)
@@ -216,7 +187,7 @@ fn pass_token(
     ensures front { StaysInFront out.old.items out.new.items }
 {
     let opcode = code[*at];
-    if opcode == 0x10 || opcode == 0x23 || opcode == 0x24 {
+    if opcode == opcode::CALL || opcode == opcode::GLOBAL_GET || opcode == opcode::GLOBAL_SET {
         return pass_reference(out, code, run, at, opcode, shifts);
     }
     let Some(end) = behind_token(code, *at, opcode) else {

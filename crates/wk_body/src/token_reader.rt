@@ -19,6 +19,7 @@ ghost use Rattle.wk_body.specs.Tree.{Close, Otherwise};
 ghost use Rattle.wk_body.specs.TokenReading.{NextRead, local_groups_at};
 ghost use Rattle.wk_body.specs.TokenSteps.{IsNext, Opens, Closes, StartsElse};
 
+use crate::opcode;
 use crate::reader::groups_of;
 use crate::reading::{MAX_DEPTH, are_bytes, block_type, simple_of};
 use crate::token::Token;
@@ -283,24 +284,24 @@ impl TokenReader {
             (λ e. FailsAs e e.kind (behind_at profile self.old.kinds at opcode cursor.old.end cursor.old.rest)) }
     {
         match opcode {
-            0x0B => Ok(self.close()),
-            0x05 => Ok(Some(self.other(at)?)),
-            0x02 => {
+            opcode::END => Ok(self.close()),
+            opcode::ELSE => Ok(Some(self.other(at)?)),
+            opcode::BLOCK => {
                 let ty = self.opening(profile, at, cursor)?;
                 self.open(false)?;
                 Ok(Some(Token::Block { ty, skip: 0 }))
             }
-            0x03 => {
+            opcode::LOOP => {
                 let ty = self.opening(profile, at, cursor)?;
                 self.open(false)?;
                 Ok(Some(Token::Loop { ty, skip: 0 }))
             }
-            0x04 => {
+            opcode::IF => {
                 let ty = self.opening(profile, at, cursor)?;
                 self.open(true)?;
                 Ok(Some(Token::If { ty, skip: 0 }))
             }
-            0x0E => Ok(Some(self.table(cursor)?)),
+            opcode::BR_TABLE => Ok(Some(self.table(cursor)?)),
             _ => Ok(Some(simple_of(profile, opcode, at, cursor)?)),
         }
     }

@@ -16,11 +16,11 @@ ghost use Rattle.wk_body.specs.Brief.{number_of};
 ghost use Rattle.wk_body.specs.Shape.{depth_limit};
 ghost use Rattle.wk_body.specs.Walks.{Passes, Keeps, PassesPlain, BlocksPass, GoesOn};
 
-use crate::brief::{
-    begins_nop, behind_short, blocks_after, brief_len, may_part, nops, other_len, passes,
-};
+use crate::brief::{begins_nop, behind_short, blocks_after, may_part, nops, other_len, passes};
 use crate::layout::{Layout, layout_of};
+use crate::opcode;
 use crate::reading::{are_bytes, reserved};
+use crate::token_len::brief_len;
 use crate::types::Profile;
 use wk_bytes::{Cursor, leb_len_s64, leb_len_u32, put_s64, put_u32};
 
@@ -228,13 +228,13 @@ impl Walk<'_> {
             let size = if passes(opcode, len, x, y, after) {
                 inner = after;
                 usize::from(len)
-            } else if opcode < 0x05 {
-                if opcode != 0x01 || x == 0x01 {
+            } else if opcode < opcode::ELSE {
+                if opcode != opcode::NOP || x == opcode::NOP {
                     break;
                 }
                 1
-            } else if opcode == 0x05 {
-                if x == 0x0B || !may_part(inner) {
+            } else if opcode == opcode::ELSE {
+                if x == opcode::END || !may_part(inner) {
                     break;
                 }
                 inner -= 1;

@@ -7,6 +7,7 @@ ghost use Rattle.wk_bytes.specs.LebLaws.{IsBytes};
 ghost use Rattle.wk_bytes.specs.Short.{short};
 ghost use Rattle.wk_body.specs.Kept.{told, all_told, IsWithin};
 ghost use Rattle.wk_body.specs.Written.{type_bytes, tok_bytes, written_expr, written_body, written_group, Fits, Unwritten, StaysInFront};
+ghost use Rattle.wk_body.specs.Operands.{operand_bytes, operands_of, AreCounted};
 ghost use Rattle.wk_body.specs.Spelling.{SpellsExpr, SpellsBody};
 ghost use Rattle.wk_body.specs.Shape.{IsShaped, IsOf};
 ghost use Rattle.wk_body.specs.Tree.{Instrs, tokens_of};
@@ -16,6 +17,7 @@ use crate::body::Body;
 use crate::expr::Expr;
 use crate::fault::EncodeFault;
 use crate::length::{body_len, expr_len};
+use crate::operands::Operands;
 use crate::reading::are_bytes;
 use crate::sheet::{ROOM, put_short};
 use crate::token::Token;
@@ -104,13 +106,36 @@ pub(crate) fn put_index(out: &mut Vec<u8>, opcode: u8, x: u32) -> Result<(), Out
     put_u32(out, x)
 }
 
-// An opcode and a block type.
-fn put_opening(out: &mut Vec<u8>, opcode: u8, ty: BlockType) -> Result<(), OutOfMemory>
-    ensures ok { OnOk result (out.new.items ≡ out.old.items ++ (opcode ∷ type_bytes ty)) }
+// What stands behind an opcode (5.4).
+#[inline(always)]
+fn put_operands(out: &mut Vec<u8>, operands: Operands<'_>) -> Result<(), OutOfMemory>
+    requires { AreCounted operands }
+    ensures ok { OnOk result (out.new.items ≡ out.old.items ++ operand_bytes (operands_of operands.entry)) }
     ensures err { OnErr result (StaysInFront out.old.items out.new.items) }
 {
-    put_byte(out, opcode)?;
-    put_type(out, ty)
+    match operands {
+        Operands::Nothing => Ok(()),
+        Operands::Reserved => put_byte(out, 0x00),
+        Operands::Index(x) => put_u32(out, x),
+        Operands::IndexReserved(x) => {
+            put_u32(out, x)?;
+            put_byte(out, 0x00)
+        }
+        Operands::Labels { labels, other } => {
+            put_u32(out, labels.len() as u32)?;
+            put_numbers(out, labels)?;
+            put_u32(out, other)
+        }
+        Operands::Memarg { align, offset } => {
+            put_u32(out, align)?;
+            put_u32(out, offset)
+        }
+        Operands::Signed32(z) => put_s32(out, z),
+        Operands::Signed64(z) => put_s64(out, z),
+        Operands::Word32(word) => put_word32(out, word),
+        Operands::Word64(word) => put_word64(out, word),
+        Operands::Opening(ty) => put_type(out, ty),
+    }
 }
 
 // A token whose labels lie in the pool (5.4).
@@ -120,61 +145,9 @@ fn put_token(out: &mut Vec<u8>, labels: &[u32], token: &Token) -> Result<(), Out
     ensures ok { OnOk result (out.new.items ≡ out.old.items ++ tok_bytes (told labels.now token.now)) }
     ensures err { OnErr result (StaysInFront out.old.items out.new.items) }
 {
-    match *token {
-        Token::Unreachable => put_byte(out, 0x00)?,
-        Token::Nop => put_byte(out, 0x01)?,
-        Token::Block { ty, .. } => put_opening(out, 0x02, ty)?,
-        Token::Loop { ty, .. } => put_opening(out, 0x03, ty)?,
-        Token::If { ty, .. } => put_opening(out, 0x04, ty)?,
-        Token::Else { .. } => put_byte(out, 0x05)?,
-        Token::End => put_byte(out, 0x0B)?,
-        Token::Br(label) => put_index(out, 0x0C, label)?,
-        Token::BrIf(label) => put_index(out, 0x0D, label)?,
-        Token::BrTable { start, len, other } => {
-            let start = start as usize;
-            let end = start + len as usize;
-            put_index(out, 0x0E, len)?;
-            put_numbers(out, &labels[start..end])?;
-            put_u32(out, other)?;
-        }
-        Token::Return => put_byte(out, 0x0F)?,
-        Token::Call(x) => put_index(out, 0x10, x)?,
-        Token::CallIndirect(x) => {
-            put_index(out, 0x11, x)?;
-            put_byte(out, 0x00)?;
-        }
-        Token::Drop => put_byte(out, 0x1A)?,
-        Token::Select => put_byte(out, 0x1B)?,
-        Token::LocalGet(x) => put_index(out, 0x20, x)?,
-        Token::LocalSet(x) => put_index(out, 0x21, x)?,
-        Token::LocalTee(x) => put_index(out, 0x22, x)?,
-        Token::GlobalGet(x) => put_index(out, 0x23, x)?,
-        Token::GlobalSet(x) => put_index(out, 0x24, x)?,
-        Token::Access { op, align, offset } => {
-            put_index(out, op.opcode(), align)?;
-            put_u32(out, offset)?;
-        }
-        Token::MemorySize => out.extend_from_slice(&[0x3F, 0x00])?,
-        Token::MemoryGrow => out.extend_from_slice(&[0x40, 0x00])?,
-        Token::I32Const(z) => {
-            put_byte(out, 0x41)?;
-            put_s32(out, z)?;
-        }
-        Token::I64Const(z) => {
-            put_byte(out, 0x42)?;
-            put_s64(out, z)?;
-        }
-        Token::F32Const(word) => {
-            put_byte(out, 0x43)?;
-            put_word32(out, word)?;
-        }
-        Token::F64Const(word) => {
-            put_byte(out, 0x44)?;
-            put_word64(out, word)?;
-        }
-        Token::Numeric(op) => put_byte(out, op.opcode())?,
-    }
-    Ok(())
+    let (opcode, operands) = token.operands(labels);
+    put_byte(out, opcode)?;
+    put_operands(out, operands)
 }
 
 // The tokens on a sheet, and behind them one that goes to no sheet.
@@ -208,7 +181,7 @@ fn put_behind(
     ensures ok { IfOk result (λ end. out.new.items ++ take end sheet.new ≡ out.old.items ++ take used sheet.old ++ tok_bytes (told labels.now token.now)) }
     ensures front { StaysInFront out.old.items out.new.items }
 {
-    if let Some(end) = put_short(sheet, used, token) {
+    if let Some(end) = put_short(sheet, used, labels, token) {
         return Ok(end);
     }
     put_far(out, &sheet[..used], labels, token)?;

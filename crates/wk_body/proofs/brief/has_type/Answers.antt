@@ -1,5 +1,5 @@
 use Rattle.std.proofs.lemmas.Bool.{leb-true}
-use Rattle.wk_body.proofs.BriefTable.{value_types}
+use Rattle.wk_body.proofs.BriefTests.{value_types}
 use Rattle.wk_body.proofs.brief.has_type.Goals as goal
 
 pub returns-then-x-ge124 : goal.returns-then-x-ge124

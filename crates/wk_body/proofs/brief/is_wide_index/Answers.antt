@@ -1,4 +1,4 @@
-use Rattle.wk_body.proofs.BriefTable.{wide_index_test}
+use Rattle.wk_body.proofs.BriefTests.{wide_index_test}
 use Rattle.wk_body.proofs.brief.is_wide_index.Goals as goal
 
 pub returns-then-both-eq128 : goal.returns-then-both-eq128

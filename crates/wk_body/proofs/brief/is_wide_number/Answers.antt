@@ -1,4 +1,4 @@
-use Rattle.wk_body.proofs.BriefTable.{wide_number_test}
+use Rattle.wk_body.proofs.BriefTests.{wide_number_test}
 use Rattle.wk_body.proofs.brief.is_wide_number.Goals as goal
 
 pub returns-then-both-ne2 : goal.returns-then-both-ne2

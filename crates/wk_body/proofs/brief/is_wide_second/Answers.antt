@@ -1,5 +1,5 @@
 use Rattle.std.proofs.lemmas.Bool.{ltb-true}
-use Rattle.wk_body.proofs.BriefTable.{wide_second_test}
+use Rattle.wk_body.proofs.BriefTests.{wide_second_test}
 use Rattle.wk_body.proofs.brief.is_wide_second.Goals as goal
 
 pub returns-then-z-gt0 : goal.returns-then-z-gt0

@@ -1,6 +1,6 @@
 use Rattle.std.proofs.Common.{◌≡◌, ◌≤◌, ◌<◌, ◌+◌, ℕ, suc, get_or, length, refl, arith, ap}
-use Rattle.wk_body.specs.ShiftSteps.{stride}
-use Rattle.wk_body.proofs.Strides.{few_bytes}
+use Rattle.wk_body.specs.TokenLen.{stride}
+use Rattle.wk_body.proofs.TokenLen.{few_bytes}
 use Rattle.wk_body.proofs.Shifting.{brief_step, regular_step}
 use Rattle.wk_body.proofs.shifts.behind_regular.Goals as goal
 

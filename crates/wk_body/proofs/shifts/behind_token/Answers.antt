@@ -23,3 +23,12 @@ returns-in_ok-count-in_default-clause-exact c =
     regular_found code at opcode c.behind_integers.result c.requires.inside c.requires.opcode c.requires.still no_table no_word no_other (λ count front later long integers ahead.
     let many : count ≡ c.from.result = omega (arith, c.from.ensures, c.in_ok-count-in_default.ensures, c.stride.ensures, long) in
     c.behind_integers.ensures.exact front later (subst (λ (n : ℕ). AreIntegers n front) many integers) ahead)
+
+pub returns-in_err-count-in_default-clause-exact : goal.returns-in_err-count-in_default-clause-exact
+returns-in_err-count-in_default-clause-exact c =
+    let opcode = c.args.opcode in
+    let no_table : opcode ≡ 0x0E → ⊥ = first_of (search rules, grind arith) in
+    let no_word : opcode ≡ 0x43 → ⊥ = first_of (search rules, grind arith) in
+    let no_other : opcode ≡ 0x44 → ⊥ = first_of (search rules, grind arith) in
+    regular_found c.args.code.now c.args.at opcode c.from_residual.result c.requires.inside c.requires.opcode c.requires.still no_table no_word no_other (λ count front later long integers ahead.
+    absurd (omega (arith, c.in_err-count-in_default.ensures, c.stride.ensures, long)))

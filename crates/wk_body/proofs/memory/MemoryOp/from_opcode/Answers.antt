@@ -7,5 +7,5 @@ use Rattle.wk_body.proofs.memory.MemoryOp.from_opcode.Goals as goal
 
 pub returns : goal.returns
 returns c =
-    let high : nat_le 0x28 c.args.opcode ≡ true = le-leb 0x28 c.args.opcode c.if-opcode-lt-FIRST.false in
+    let high : nat_le 0x28 c.args.opcode ≡ true = le-leb 0x28 c.args.opcode c.if-opcode-lt-FIRST_ACCESS.false in
     rw high (c.copied.ensures ∙ copied_at memory_ops c.from.result c.get.result c.get.ensures.lookup ∙ ap (slice_get memory_ops) c.from.ensures)

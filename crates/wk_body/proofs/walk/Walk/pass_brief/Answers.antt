@@ -5,7 +5,7 @@ use Rattle.wk_bytes.specs.LebLaws.{IsBytes}
 use Rattle.wk_body.proofs.TableWalk.{other_on}
 use Rattle.wk_body.proofs.WideWalk.{else_on, nop_on}
 use Rattle.wk_body.proofs.BriefWalk.{few_bytes, counted_on, passed_on, enough, moved}
-use Rattle.wk_body.proofs.walk.Walk.pass_brief.Goals.{then-passes, else-passes+then-opcode-lt5+else-opcode-ne1+else-x-eq1, else-passes+else-opcode-lt5+then-opcode-eq5+else-x-eq11+else-not-may_part, else-passes+else-opcode-lt5+else-opcode-eq5+else-size-eq0+else-bytes-at}
+use Rattle.wk_body.proofs.walk.Walk.pass_brief.Goals.{then-passes, else-passes+then-opcode-lt-ELSE+else-opcode-ne-NOP+else-x-eq-NOP, else-passes+else-opcode-lt-ELSE+then-opcode-eq-ELSE+else-x-eq-END+else-not-may_part, else-passes+else-opcode-lt-ELSE+else-opcode-eq-ELSE+else-size-eq0+else-bytes-at}
 use Rattle.wk_body.proofs.walk.Walk.pass_brief.Goals as goal
 
 pub loop-at-init : goal.loop-at-init
@@ -31,19 +31,19 @@ loop-at-preserved c =
                 (passed_on from bytes at (get_or bytes at 0) c.brief_len-len.result step blocks c.blocks_after-after.result ks below same within c.loop-at.invariant.small room refl
                 c.brief_len-len.ensures c.blocks_after-after.ensures (c.passes.ensures.some yes) (c.passes.ensures.brief yes) (c.passes.ensures.ty yes) (w.size-is ∙ w.from-size.ensures) (c.loop-at.invariant.goes ks below is room));
           }
-      | else-passes+then-opcode-lt5+else-opcode-ne1+else-x-eq1 w ↦ record {
+      | else-passes+then-opcode-lt-ELSE+else-opcode-ne-NOP+else-x-eq-NOP w ↦ record {
         within = omega (arith, within, w.size-is);
         small = omega (arith, c.loop-at.invariant.small, w.inner-is);
-        goes = λ ks below is room. counted_on from at 1 blocks step c.if-passes.inner ks below w.size-is w.inner-is (nop_on from bytes at blocks ks below same (omega (arith, within)) w.if-opcode-ne1.false (c.loop-at.invariant.goes ks below is room));
+        goes = λ ks below is room. counted_on from at 1 blocks step c.if-passes.inner ks below w.size-is w.inner-is (nop_on from bytes at blocks ks below same (omega (arith, within)) w.if-opcode-ne-NOP.false (c.loop-at.invariant.goes ks below is room));
       }
-      | else-passes+else-opcode-lt5+then-opcode-eq5+else-x-eq11+else-not-may_part w ↦ record {
+      | else-passes+else-opcode-lt-ELSE+then-opcode-eq-ELSE+else-x-eq-END+else-not-may_part w ↦ record {
         within = omega (arith, within, w.size-is);
         small = omega (arith, c.loop-at.invariant.small, w.inner-is);
         goes = λ ks below is room.
             counted_on from at 1 (blocks - 1) step c.if-passes.inner ks below w.size-is w.inner-is
-            (else_on from bytes at blocks ks below same within w.if-opcode-eq5.true w.if-x-eq11.false (w.may_part.ensures.some w.if-not-may_part.false) (w.may_part.ensures.may w.if-not-may_part.false) (c.loop-at.invariant.goes ks below is room));
+            (else_on from bytes at blocks ks below same within w.if-opcode-eq-ELSE.true w.if-x-eq-END.false (w.may_part.ensures.some w.if-not-may_part.false) (w.may_part.ensures.may w.if-not-may_part.false) (c.loop-at.invariant.goes ks below is room));
       }
-      | else-passes+else-opcode-lt5+else-opcode-eq5+else-size-eq0+else-bytes-at w ↦
+      | else-passes+else-opcode-lt-ELSE+else-opcode-eq-ELSE+else-size-eq0+else-bytes-at w ↦
           let fits : IsBytes from.cursor.rest = subst IsBytes same c.are_bytes.ensures in
           let size = w.other_len-size.result in
           let enough : at + size ≤ length bytes = omega (arith, w.if-bytes-at.false, within) in

@@ -1,6 +1,6 @@
 use Rattle.std.proofs.Common.{◌≡◌, ◌+◌, ◌*◌, arith}
-use Rattle.wk_body.proofs.BriefTable.{brief_test}
-use Rattle.wk_body.proofs.brief.is_brief.Goals as goal
+use Rattle.wk_body.proofs.TokenLen.{brief_test}
+use Rattle.wk_body.proofs.token_len.is_brief.Goals as goal
 
 pub returns : goal.returns
 returns c = λ e.
