@@ -2,7 +2,7 @@
 use Rattle.std.specs.Prelude.{ℕ, ◌+◌, ◌-◌, List, [], ◌∷◌, ◌++◌, length, codes}
 use Rattle.wk_body.specs.Tree.{Tok, Simple, Open, OpenIf, Otherwise, Close}
 use Rattle.wk_body.specs.Written.{tok_bytes}
-use Rattle.wk_body.specs.Instructions.{immediates}
+use Rattle.wk_body.specs.Operands.{OperandsOf, Immediate, Opening, tok_operands}
 use Rattle.wk_list.specs.CodeText.{immediates_text, plain_text, type_text, kind_text, code_line}
 
 abbrev pub tok_text : Tok → List ℕ
@@ -12,13 +12,14 @@ tok_text (OpenIf ty skip) = codes "if" ++ type_text ty
 tok_text (Otherwise skip) = codes "else"
 tok_text Close = codes "end"
 
+-- what is listed of operands
+abbrev pub operands_text : OperandsOf → List ℕ
+operands_text (Immediate i) = immediates_text i
+operands_text (Opening ty) = type_text ty
+
 -- what stands behind the name of a token
 abbrev pub behind_name : Tok → List ℕ
-behind_name (Simple p) = immediates_text (immediates p)
-behind_name (Open kind ty skip) = type_text ty
-behind_name (OpenIf ty skip) = type_text ty
-behind_name (Otherwise skip) = []
-behind_name Close = []
+behind_name t = operands_text (tok_operands t)
 
 -- the depth at which a token stands, inside `depth` open blocks
 abbrev pub stands_at : ℕ → Tok → ℕ

@@ -1,17 +1,21 @@
-//! The lines of tokens on a sheet, but for a token that has labels in a pool.
+//! The lines of tokens on a sheet, but for a token that has labels.
 
-ghost use Rattle.std.specs.Prelude.{◌≡◌, ◌<◌, ◌≤◌, ◌+◌, ◌*◌, ◌^◌, ◌++◌, List, ℕ, codes, decimal, length, take, replicate, IfSome, IfNone, IsTrue, []};
+ghost use Rattle.std.specs.Prelude.{◌≡◌, ◌<◌, ◌≤◌, ◌+◌, ◌*◌, ◌^◌, ◌++◌, codes, length, take, replicate, IfSome, IfNone};
 ghost use Rattle.std.specs.Fmt.{signed_decimal};
 ghost use Rattle.wk_bytes.specs.HexDigits.{hex_digits};
+ghost use Rattle.wk_bytes.specs.Short.{short, short_signed};
 ghost use Rattle.wk_body.specs.Kept.{told, IsWithin};
-ghost use Rattle.wk_body.specs.Written.{tok_bytes};
+ghost use Rattle.wk_body.specs.Operands.{operand_bytes, operands_of};
+ghost use Rattle.wk_body.specs.Written.{type_bytes, tok_bytes};
 ghost use Rattle.wk_list.specs.CodeText.{type_text, code_line};
 ghost use Rattle.wk_list.specs.Details.{field};
 ghost use Rattle.wk_list.specs.Text.{spaced};
-ghost use Rattle.wk_list.specs.TokenText.{tok_text, behind_name};
+ghost use Rattle.wk_list.specs.TokenText.{tok_text, behind_name, operands_text};
 
 use crate::sheet::{ROOM, put, put_hex8, put_margin, put_number, put_signed, put_word};
 use crate::typetext::valtype_name;
+use wk_body::Operands;
+use wk_bytes::{leb_len_s64, leb_len_u32};
 use wk_module::{BlockType, Token};
 
 /// The room that a line may take besides its name and the spaces in front of it.
@@ -27,17 +31,42 @@ pub(crate) struct Line {
     pub(crate) len: u64,
 }
 
-// How many bytes a token is that has no labels in a pool: so many where it is short, as most are.
+// How many bytes an unsigned integer has. Most have one.
 #[inline(always)]
-fn len_of(token: &Token, is_short: bool, short: u64) -> u64
-    requires within { IsWithin 0 token.now }
-    requires short { IsTrue is_short → short ≡ length (tok_bytes (told [] token.now)) }
-    ensures { result ≡ length (tok_bytes (told [] token.now)) }
+#[tactic(auto, using(crate::proofs::ShortTokens::len_1))]
+fn unsigned_len(x: u32) -> u64
+    ensures len { result ≡ length (short x) }
+    ensures few { result ≤ 10 }
 {
-    if is_short {
-        return short;
+    if x < 128 {
+        return 1;
     }
-    token.head_len(&[])
+    leb_len_u32(x) as u64
+}
+
+// How many bytes a signed integer has. Most have one.
+#[inline(always)]
+#[tactic(auto, using(crate::proofs::ShortTokens::one_byte_signed))]
+fn signed_len(z: i64) -> u64
+    ensures len { result ≡ length (short_signed z) }
+    ensures few { result ≤ 10 }
+{
+    if -64 <= z && z < 64 {
+        return 1;
+    }
+    leb_len_s64(z) as u64
+}
+
+// How many bytes the type of a block has.
+#[inline(always)]
+fn type_len(ty: BlockType) -> u64
+    ensures len { result ≡ length (type_bytes ty) }
+    ensures few { result ≤ 10 }
+{
+    match ty {
+        BlockType::Empty | BlockType::Value(_) => 1,
+        BlockType::Index(x) => signed_len(i64::from(x)),
+    }
 }
 
 // A number behind its label.
@@ -89,76 +118,75 @@ fn put_type(sheet: &mut [u8; ROOM], at: usize, ty: BlockType) -> usize
     }
 }
 
-// What stands behind the name of a token, or nothing for one that has labels in a pool.
+// What is listed of operands, or nothing for labels.
 #[inline(always)]
-#[tactic(auto, using(crate::proofs::ShortTokens::one_byte_signed))]
-fn put_immediates(sheet: &mut [u8; ROOM], at: usize, token: &Token) -> Option<Line>
+fn put_operands(sheet: &mut [u8; ROOM], at: usize, operands: Operands<'_>) -> Option<Line>
     requires { at + 64 ≤ ROOM }
     ensures short { IfSome result (λ line. line.end ≤ at + 60) }
-    ensures text { IfSome result (λ line. (pool : List ℕ) → take line.end sheet.new ≡ take at sheet.old ++ behind_name (told pool token.now)) }
-    ensures len { IfSome result (λ line. (pool : List ℕ) → line.len ≡ length (tok_bytes (told pool token.now))) }
+    ensures text { IfSome result (λ line. take line.end sheet.new ≡ take at sheet.old ++ operands_text (operands_of operands.entry)) }
+    ensures len { IfSome result (λ line. line.len ≡ 1 + length (operand_bytes (operands_of operands.entry))) }
     ensures none { IfNone result (take at sheet.new ≡ take at sheet.old) }
 {
-    match *token {
-        Token::Block { ty, .. } | Token::Loop { ty, .. } | Token::If { ty, .. } => {
-            let end = put_type(sheet, at, ty);
-            let len = len_of(token, !matches!(ty, BlockType::Index(_)), 2);
-            Some(Line { end, len })
-        }
-        Token::Br(x)
-        | Token::BrIf(x)
-        | Token::Call(x)
-        | Token::LocalGet(x)
-        | Token::LocalSet(x)
-        | Token::LocalTee(x)
-        | Token::GlobalGet(x)
-        | Token::GlobalSet(x) => {
+    match operands {
+        Operands::Nothing => Some(Line { end: at, len: 1 }),
+        Operands::Reserved => Some(Line { end: at, len: 2 }),
+        Operands::Index(x) => {
             let end = put_field(sheet, at, *b" ", x);
-            let len = len_of(token, x < 128, 2);
+            let len = 1 + unsigned_len(x);
             Some(Line { end, len })
         }
-        Token::BrTable { .. } => None,
-        Token::CallIndirect(x) => {
+        Operands::IndexReserved(x) => {
             let end = put_field(sheet, at, *b" type=", x);
-            let len = len_of(token, x < 128, 3);
+            let len = 2 + unsigned_len(x);
             Some(Line { end, len })
         }
-        Token::Access { align, offset, .. } => {
+        Operands::Labels { .. } => None,
+        Operands::Memarg { align, offset } => {
             let behind = put_field(sheet, at, *b" align=", align);
             let end = put_field(sheet, behind, *b" offset=", offset);
-            let len = len_of(token, align < 128 && offset < 128, 3);
+            let len = 1 + unsigned_len(align) + unsigned_len(offset);
             Some(Line { end, len })
         }
-        Token::I32Const(z) => {
+        Operands::Signed32(z) => {
             let end = put_integer(sheet, at, i64::from(z));
-            let len = len_of(token, -64 <= z && z < 64, 2);
+            let len = 1 + signed_len(i64::from(z));
             Some(Line { end, len })
         }
-        Token::I64Const(z) => {
+        Operands::Signed64(z) => {
             let end = put_integer(sheet, at, z);
-            let len = len_of(token, -64 <= z && z < 64, 2);
+            let len = 1 + signed_len(z);
             Some(Line { end, len })
         }
-        Token::F32Const(word) => {
+        Operands::Word32(word) => {
             let digits = put(sheet, at, b" 0x");
             let end = put_hex8(sheet, digits, word);
             Some(Line { end, len: 5 })
         }
-        Token::F64Const(word) => {
+        Operands::Word64(word) => {
             let digits = put(sheet, at, b" 0x");
             let end = put_hex16(sheet, digits, word);
             Some(Line { end, len: 9 })
         }
-        Token::MemorySize | Token::MemoryGrow => Some(Line { end: at, len: 2 }),
-        Token::Unreachable
-        | Token::Nop
-        | Token::Else { .. }
-        | Token::End
-        | Token::Return
-        | Token::Drop
-        | Token::Select
-        | Token::Numeric(_) => Some(Line { end: at, len: 1 }),
+        Operands::Opening(ty) => {
+            let end = put_type(sheet, at, ty);
+            let len = 1 + type_len(ty);
+            Some(Line { end, len })
+        }
     }
+}
+
+// What stands behind the name of a token, or nothing for one that has labels, which lie in the pool.
+#[inline(always)]
+fn put_immediates(sheet: &mut [u8; ROOM], at: usize, labels: &[u32], token: &Token) -> Option<Line>
+    requires room { at + 64 ≤ ROOM }
+    requires within { IsWithin (length labels.now) token.now }
+    ensures short { IfSome result (λ line. line.end ≤ at + 60) }
+    ensures text { IfSome result (λ line. take line.end sheet.new ≡ take at sheet.old ++ behind_name (told labels.now token.now)) }
+    ensures len { IfSome result (λ line. line.len ≡ length (tok_bytes (told labels.now token.now))) }
+    ensures none { IfNone result (take at sheet.new ≡ take at sheet.old) }
+{
+    let (_opcode, operands) = token.operands(labels);
+    put_operands(sheet, at, operands)
 }
 
 // The front of a line: a space, the offset, and two spaces for each open block.
@@ -176,24 +204,26 @@ fn put_front(sheet: &mut [u8; ROOM], used: usize, at: u32, depth: usize) -> usiz
     put_margin(sheet, margin, 2 * depth)
 }
 
-/// The line of a token at an offset and a depth, behind so many bytes of a sheet, or nothing for a token that has labels in a pool,
-/// and where its name would reach too far.
+/// The line of a token at an offset and a depth, behind so many bytes of a sheet, or nothing for a token that has labels,
+/// which lie in the pool, and where its name would reach too far.
 #[inline(always)]
 #[tactic(auto, unfolding(crate::specs::CodeText::code_line))]
 pub(crate) fn put_brief_line(
     sheet: &mut [u8; ROOM],
     used: usize,
+    labels: &[u32],
     token: &Token,
     at: u32,
     depth: usize,
     reach: usize,
 ) -> Option<Line>
+    requires within { IsWithin (length labels.now) token.now }
     requires shallow { depth < 2 ^ 32 }
     requires inside { used ≤ ROOM }
     requires reach { reach ≤ NAMED }
     ensures inside { IfSome result (λ line. line.end ≤ ROOM) }
-    ensures text { IfSome result (λ line. (pool : List ℕ) → take line.end sheet.new ≡ take used sheet.old ++ code_line at depth (tok_text (told pool token.now))) }
-    ensures len { IfSome result (λ line. (pool : List ℕ) → line.len ≡ length (tok_bytes (told pool token.now))) }
+    ensures text { IfSome result (λ line. take line.end sheet.new ≡ take used sheet.old ++ code_line at depth (tok_text (told labels.now token.now))) }
+    ensures len { IfSome result (λ line. line.len ≡ length (tok_bytes (told labels.now token.now))) }
     ensures none { IfNone result (take used sheet.new ≡ take used sheet.old) }
 {
     let name = token.name().as_bytes();
@@ -202,7 +232,7 @@ pub(crate) fn put_brief_line(
     }
     let front = put_front(sheet, used, at, depth);
     let behind = put_word(sheet, front, name);
-    let Line { end, len } = put_immediates(sheet, behind, token)?;
+    let Line { end, len } = put_immediates(sheet, behind, labels, token)?;
     let end = put(sheet, end, b"\n");
     Some(Line { end, len })
 }

@@ -14,7 +14,7 @@ ghost use Rattle.wk_list.specs.TokenText.{tok_text, toks_text, toks_length};
 
 use crate::brief::{Line, NAMED, put_brief_line};
 use crate::fault::ListFault;
-use crate::headers::{HEADER_LEN, contents_start, section_end};
+use crate::headers::{contents_start, section_end};
 use crate::page::{PIECE, spill, wanting};
 use crate::rows::put_field;
 use crate::shape::Shape;
@@ -24,10 +24,7 @@ use crate::text::{put_indexed, put_number};
 use crate::token::{depths, put_line};
 use crate::typetext::valtype_name;
 use wk_bytes::{Out, OutOfMemory, leb_len_u32};
-use wk_module::{Expr, Func, Kind, LocalGroup, Token};
-
-/// The id of the code section (5.5.2).
-const CODES: u8 = 10;
+use wk_module::{Expr, Func, HEADER_LEN, Kind, LocalGroup, Token, section_id};
 
 // How far names may reach on a sheet behind this text. Where both are long enough to go out, no name has room: so the text goes out
 // behind the same line, and before the next one asks for memory, as if each line went behind it by itself.
@@ -100,7 +97,7 @@ fn list_token<W: Out>(
     ensures err { OnErr result (TakesFront (W.taken out.old) (W.taken out.new) (text.old.items ++ take used sheet.old ++ code_line at depth (tok_text (told labels.now token.now)))) }
     ensures failures { W.failed out.new ≡ failed_after (W.failed out.old) result }
 {
-    if let Some(line) = put_brief_line(sheet, used, token, at, depth, *reach) {
+    if let Some(line) = put_brief_line(sheet, used, labels, token, at, depth, *reach) {
         return Ok(line);
     }
     list_long_line(&sheet[..used], labels, token, at, depth, text, out)?;
@@ -293,7 +290,7 @@ fn code_start<S: Shape>(shape: &S) -> u32
     // The proof asks what this says: the module fits.
     let _parts = shape.parts();
     let mut at = HEADER_LEN;
-    for id in 0..CODES {
+    for id in 0..section_id::CODE {
         at = section_end(id, at, shape.section_len(id)) + customs_len(shape, id);
     }
     at
@@ -315,7 +312,7 @@ pub(crate) fn list_code<S: Shape, W: Out>(
         return Ok(());
     }
     let imported = count_of(Kind::Func, parts.imports.as_slice());
-    let contents = contents_start(code_start(shape), shape.section_len(CODES));
+    let contents = contents_start(code_start(shape), shape.section_len(section_id::CODE));
     let first = contents + leb_len_u32(parts.funcs.len() as u32) as u32;
     let mut sheet = [0; ROOM];
     list_entries(shape, imported, first, &mut sheet, text, out)

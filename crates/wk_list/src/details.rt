@@ -13,7 +13,6 @@ ghost use Rattle.wk_list.specs.Details.{heading, group, with_heading, import_lin
 
 use crate::fault::ListFault;
 use crate::header::section_name;
-use crate::headers::LAST;
 use crate::imports::list_imports;
 use crate::lines::{Lines, list_lines};
 use crate::page::spill;
@@ -26,7 +25,7 @@ use crate::spaces::count_of;
 use crate::text::{put_hex, put_indexed, put_name, put_number};
 use std::alloc::Global;
 use wk_bytes::{Items, Out, OutOfMemory};
-use wk_module::{Custom, Import, Kind};
+use wk_module::{Custom, Import, Kind, section_id};
 
 // The heading of a section of so many items.
 fn put_heading(text: &mut Vec<u8>, id: u8, count: usize) -> Result<(), OutOfMemory>
@@ -165,9 +164,9 @@ fn list_section<S: Sketch, W: Out>(
     let parts = sketch.parts();
     let imports = parts.imports.as_slice();
     match id {
-        1 => list_group(alloc, id, &TypeRows, parts.types.as_slice(), text, out),
-        2 => list_import_group(id, imports, text, out),
-        3 => {
+        section_id::TYPE => list_group(alloc, id, &TypeRows, parts.types.as_slice(), text, out),
+        section_id::IMPORT => list_import_group(id, imports, text, out),
+        section_id::FUNCTION => {
             let imported = count_of(Kind::Func, imports);
             list_group(
                 alloc,
@@ -178,7 +177,7 @@ fn list_section<S: Sketch, W: Out>(
                 out,
             )
         }
-        4 => {
+        section_id::TABLE => {
             let imported = count_of(Kind::Table, imports);
             list_group(
                 alloc,
@@ -189,7 +188,7 @@ fn list_section<S: Sketch, W: Out>(
                 out,
             )
         }
-        5 => {
+        section_id::MEMORY => {
             let imported = count_of(Kind::Memory, imports);
             list_group(
                 alloc,
@@ -200,7 +199,7 @@ fn list_section<S: Sketch, W: Out>(
                 out,
             )
         }
-        6 => {
+        section_id::GLOBAL => {
             let imported = count_of(Kind::Global, imports);
             list_group(
                 alloc,
@@ -211,11 +210,18 @@ fn list_section<S: Sketch, W: Out>(
                 out,
             )
         }
-        7 => list_group(alloc, id, &ExportRows, parts.exports.as_slice(), text, out),
-        8 => Ok(put_start(text, parts.start)?),
-        9 => list_group(alloc, id, &ElemRows, parts.elems.as_slice(), text, out),
-        10 => list_code_group(id, sketch, count_of(Kind::Func, imports), text, out),
-        11 => list_group(alloc, id, &DataRows, parts.datas.as_slice(), text, out),
+        section_id::EXPORT => list_group(
+            alloc,
+            id,
+            &ExportRows,
+            parts.exports.as_slice(),
+            text,
+            out,
+        ),
+        section_id::START => Ok(put_start(text, parts.start)?),
+        section_id::ELEMENT => list_group(alloc, id, &ElemRows, parts.elems.as_slice(), text, out),
+        section_id::CODE => list_code_group(id, sketch, count_of(Kind::Func, imports), text, out),
+        section_id::DATA => list_group(alloc, id, &DataRows, parts.datas.as_slice(), text, out),
         _ => Ok(()),
     }
 }
@@ -266,7 +272,7 @@ pub(crate) fn list_details<S: Sketch, W: Out>(
     ensures failures { W.failed out.new ≡ failed_after (W.failed out.old) result }
 {
     let parts = sketch.parts();
-    for id in 0..=LAST {
+    for id in 0..=section_id::LAST {
         list_section(alloc, sketch, id, text, out)?;
         list_customs(&parts.customs, id, text, out)?;
     }

@@ -7,24 +7,25 @@ ghost use Rattle.wk_list.specs.Text.{StandsInFront};
 
 use crate::text::{put_hex8, put_spaces};
 use wk_bytes::OutOfMemory;
+use wk_module::section_id;
 
 /// The name of the sections with an id: nothing past 11.
 pub(crate) fn section_name(id: u8) -> &'static str
     ensures { result.now ≡ section_name id }
 {
     match id {
-        0 => "Custom",
-        1 => "Type",
-        2 => "Import",
-        3 => "Function",
-        4 => "Table",
-        5 => "Memory",
-        6 => "Global",
-        7 => "Export",
-        8 => "Start",
-        9 => "Elem",
-        10 => "Code",
-        11 => "Data",
+        section_id::CUSTOM => "Custom",
+        section_id::TYPE => "Type",
+        section_id::IMPORT => "Import",
+        section_id::FUNCTION => "Function",
+        section_id::TABLE => "Table",
+        section_id::MEMORY => "Memory",
+        section_id::GLOBAL => "Global",
+        section_id::EXPORT => "Export",
+        section_id::START => "Start",
+        section_id::ELEMENT => "Elem",
+        section_id::CODE => "Code",
+        section_id::DATA => "Data",
         _ => "",
     }
 }

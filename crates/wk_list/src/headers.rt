@@ -18,16 +18,7 @@ use crate::page::spill;
 use crate::sketch::Sketch;
 use crate::text::{put_name, put_number};
 use wk_bytes::{Out, OutOfMemory, leb_len_u32};
-use wk_module::{Custom, Parts};
-
-/// The length of the magic and the version.
-pub(crate) const HEADER_LEN: u32 = 8;
-
-/// The greatest id of a section (5.5.2).
-pub(crate) const LAST: u8 = 11;
-
-/// The id of custom sections (5.5.2).
-const CUSTOM: u8 = 0;
+use wk_module::{Custom, HEADER_LEN, Parts, section_id};
 
 /// Where the contents of a section start that begins at an offset and has contents of that length.
 pub(crate) fn contents_start(at: u32, size: u32) -> u32
@@ -61,16 +52,16 @@ fn put_tail(text: &mut Vec<u8>, parts: &Parts, id: u8) -> Result<(), OutOfMemory
     ensures { OnOk result (text.new.items ≡ text.old.items ++ tail_by parts.now (of_number id)) }
 {
     match id {
-        1 => put_count(text, parts.types.len()),
-        2 => put_count(text, parts.imports.len()),
-        3 | 10 => put_count(text, parts.funcs.len()),
-        4 => put_count(text, parts.tables.len()),
-        5 => put_count(text, parts.memories.len()),
-        6 => put_count(text, parts.globals.len()),
-        7 => put_count(text, parts.exports.len()),
-        8 => put_start(text, parts.start),
-        9 => put_count(text, parts.elems.len()),
-        11 => put_count(text, parts.datas.len()),
+        section_id::TYPE => put_count(text, parts.types.len()),
+        section_id::IMPORT => put_count(text, parts.imports.len()),
+        section_id::FUNCTION | section_id::CODE => put_count(text, parts.funcs.len()),
+        section_id::TABLE => put_count(text, parts.tables.len()),
+        section_id::MEMORY => put_count(text, parts.memories.len()),
+        section_id::GLOBAL => put_count(text, parts.globals.len()),
+        section_id::EXPORT => put_count(text, parts.exports.len()),
+        section_id::START => put_start(text, parts.start),
+        section_id::ELEMENT => put_count(text, parts.elems.len()),
+        section_id::DATA => put_count(text, parts.datas.len()),
         _ => Ok(()),
     }
 }
@@ -113,7 +104,7 @@ fn put_custom(text: &mut Vec<u8>, custom: &Custom, at: u32, size: u32) -> Result
     requires size { size ≡ length (written_custom custom.now) }
     ensures { OnOk result (text.new.items ≡ text.old.items ++ custom_header at custom.now) }
 {
-    put_header(text, CUSTOM, contents_start(at, size), size)?;
+    put_header(text, section_id::CUSTOM, contents_start(at, size), size)?;
     text.extend_from_slice(b" name=")?;
     put_name(text, custom.name.as_str())?;
     text.extend_from_slice(b"\n")?;
@@ -160,7 +151,7 @@ pub(crate) fn list_headers<S: Sketch, W: Out>(
 {
     let parts = sketch.parts();
     let mut at = HEADER_LEN;
-    for id in 0..=LAST {
+    for id in 0..=section_id::LAST {
         let size = sketch.section_len(id);
         put_section(text, parts, id, at, size)?;
         at = section_end(id, at, size);

@@ -8,10 +8,7 @@ use crate::plain::Plain;
 use crate::shape::Shape;
 use std::alloc::Global;
 use std::marker::Model;
-use wk_module::{EncodeFault, Measures, Module, Parts, measure};
-
-/// The id of the code section (5.5.2).
-pub(crate) const CODES: u8 = 10;
+use wk_module::{EncodeFault, Measures, Module, Parts, measure, section_id};
 
 /// A module that fits, with the lengths that a walk over its bodies tells. It is seen as the module.
 #[derive(Debug, Drop)]
@@ -65,7 +62,7 @@ impl<'a> Shape for Layout<'a> {
     }
 
     fn section_len(&self, id: u8) -> u32 {
-        if id == CODES {
+        if id == section_id::CODE {
             self.code_len
         } else {
             self.plain.section_len(id)

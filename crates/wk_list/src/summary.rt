@@ -15,7 +15,6 @@ ghost use Rattle.wk_list.specs.Taken.{Leaves, failed_after};
 use crate::details::list_details;
 use crate::fault::ListFault;
 use crate::headers::list_headers;
-use crate::layout::CODES;
 use crate::listing::Part;
 use crate::page::flush;
 use crate::sketch::Sketch;
@@ -23,7 +22,7 @@ use std::alloc::Global;
 use std::marker::Model;
 use wk_bytes::{Out, ReadFault, ReadKind};
 use wk_module::{
-    Parts, Profile, Skeleton, custom_len, read_skeleton, reading_of_module, section_len,
+    Parts, Profile, Skeleton, custom_len, read_skeleton, reading_of_module, section_id, section_len,
 };
 
 /// A module that was read without its bodies, which were measured. It is seen as the module that its bytes spell.
@@ -91,7 +90,7 @@ impl<'a> Sketch for Summary<'a> {
     }
 
     fn section_len(&self, id: u8) -> u32 {
-        if id == CODES {
+        if id == section_id::CODE {
             self.skeleton.codes
         } else {
             section_len(&self.skeleton.module, id).unwrap_or(0)

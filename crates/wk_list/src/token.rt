@@ -1,14 +1,17 @@
 //! The line of a token in the code listing.
 
-ghost use Rattle.std.specs.Prelude.{◌≡◌, ◌<◌, ◌≤◌, ◌+◌, ◌^◌, ◌++◌, List, ℕ, length, OnOk};
+ghost use Rattle.std.specs.Prelude.{◌≡◌, ◌<◌, ◌≤◌, ◌+◌, ◌^◌, ◌++◌, List, ℕ, codes, length, OnOk};
+ghost use Rattle.std.specs.Fmt.{signed_decimal};
 ghost use Rattle.wk_body.specs.Instructions.{Memarg};
 ghost use Rattle.wk_body.specs.Kept.{told, IsWithin};
+ghost use Rattle.wk_body.specs.Operands.{operands_of};
 ghost use Rattle.wk_list.specs.CodeText.{immediates_text, type_text, code_line};
-ghost use Rattle.wk_list.specs.TokenText.{tok_text, behind_name, stands_at, open_after};
+ghost use Rattle.wk_list.specs.TokenText.{tok_text, behind_name, operands_text, stands_at, open_after};
 
 use crate::rows::put_field;
 use crate::text::{put_all_spaced, put_hex8, put_hex16, put_signed, put_spaced, put_spaces};
 use crate::typetext::valtype_name;
+use wk_body::Operands;
 use wk_bytes::OutOfMemory;
 use wk_module::{BlockType, Token};
 
@@ -35,58 +38,48 @@ fn put_memarg(text: &mut Vec<u8>, align: u32, offset: u32) -> Result<(), OutOfMe
     put_field(text, " offset=", offset)
 }
 
+// A signed number after a space.
+fn put_integer(text: &mut Vec<u8>, z: i64) -> Result<(), OutOfMemory>
+    ensures { OnOk result (text.new.items ≡ text.old.items ++ (codes " " ++ signed_decimal z)) }
+{
+    text.extend_from_slice(b" ")?;
+    put_signed(text, z)
+}
+
+// What is listed of operands.
+fn put_operands(text: &mut Vec<u8>, operands: Operands<'_>) -> Result<(), OutOfMemory>
+    ensures { OnOk result (text.new.items ≡ text.old.items ++ operands_text (operands_of operands.entry)) }
+{
+    match operands {
+        Operands::Nothing | Operands::Reserved => Ok(()),
+        Operands::Index(x) => put_spaced(text, x),
+        Operands::IndexReserved(x) => put_field(text, " type=", x),
+        Operands::Labels { labels, other } => {
+            put_all_spaced(text, labels)?;
+            put_spaced(text, other)
+        }
+        Operands::Memarg { align, offset } => put_memarg(text, align, offset),
+        Operands::Signed32(z) => put_integer(text, i64::from(z)),
+        Operands::Signed64(z) => put_integer(text, z),
+        Operands::Word32(word) => {
+            text.extend_from_slice(b" 0x")?;
+            put_hex8(text, word)
+        }
+        Operands::Word64(word) => {
+            text.extend_from_slice(b" 0x")?;
+            put_hex16(text, word)
+        }
+        Operands::Opening(ty) => put_type(text, ty),
+    }
+}
+
 // What stands behind the name of a token.
 fn put_immediates(text: &mut Vec<u8>, labels: &[u32], token: &Token) -> Result<(), OutOfMemory>
     requires { IsWithin (length labels.now) token.now }
     ensures { OnOk result (text.new.items ≡ text.old.items ++ behind_name (told labels.now token.now)) }
 {
-    match *token {
-        Token::Block { ty, .. } | Token::Loop { ty, .. } | Token::If { ty, .. } => {
-            put_type(text, ty)
-        }
-        Token::Br(x)
-        | Token::BrIf(x)
-        | Token::Call(x)
-        | Token::LocalGet(x)
-        | Token::LocalSet(x)
-        | Token::LocalTee(x)
-        | Token::GlobalGet(x)
-        | Token::GlobalSet(x) => put_spaced(text, x),
-        Token::BrTable { start, len, other } => {
-            let start = start as usize;
-            let end = start + len as usize;
-            put_all_spaced(text, &labels[start..end])?;
-            put_spaced(text, other)
-        }
-        Token::CallIndirect(x) => put_field(text, " type=", x),
-        Token::Access { align, offset, .. } => put_memarg(text, align, offset),
-        Token::I32Const(z) => {
-            text.extend_from_slice(b" ")?;
-            put_signed(text, i64::from(z))
-        }
-        Token::I64Const(z) => {
-            text.extend_from_slice(b" ")?;
-            put_signed(text, z)
-        }
-        Token::F32Const(word) => {
-            text.extend_from_slice(b" 0x")?;
-            put_hex8(text, word)
-        }
-        Token::F64Const(word) => {
-            text.extend_from_slice(b" 0x")?;
-            put_hex16(text, word)
-        }
-        Token::Unreachable
-        | Token::Nop
-        | Token::Else { .. }
-        | Token::End
-        | Token::Return
-        | Token::Drop
-        | Token::Select
-        | Token::MemorySize
-        | Token::MemoryGrow
-        | Token::Numeric(_) => Ok(()),
-    }
+    let (_opcode, operands) = token.operands(labels);
+    put_operands(text, operands)
 }
 
 /// The depth at which a token stands inside so many open blocks, and how many are open behind it.
