@@ -23,7 +23,9 @@ use crate::typing::Room;
 use crate::whole::{Initial, Whole};
 use std::alloc::Global;
 use wk_bytes::OutOfMemory;
-use wk_module::{Export, Expr, FuncType, GlobalType, Import, ImportDesc, Lists, Profile};
+use wk_module::{
+    Export, Expr, FuncType, GlobalType, Import, ImportDesc, Lists, Profile, section_id,
+};
 
 // The verdict of a module where nothing but this may be wrong.
 fn verdict_by_flaw(flaw: Option<Flaw>, section: u8, item: u32) -> Verdict
@@ -41,7 +43,7 @@ pub fn verdict_with_type(profile: Profile, place: u32, ty: &FuncType) -> Verdict
     ensures { (m : PartsOf) → m.profile ≡ profile → length m.types ≡ place
         → module_verdict m ≡ Verdict.Valid → result ≡ module_verdict (with_type ty.now m) }
 {
-    verdict_by_flaw(flaw_of_type(profile, ty), 1, place)
+    verdict_by_flaw(flaw_of_type(profile, ty), section_id::TYPE, place)
 }
 
 /// The verdict of a valid module with so many types to which a function comes, the one of number `place` among those that it
@@ -53,9 +55,13 @@ pub fn verdict_with_func(types: u32, place: u32, ty: u32, own: BodyVerdict) -> V
         → result ≡ module_verdict (with_func ty b m) }
 {
     if ty >= types {
-        return verdict_by_flaw(Some(Flaw::of(FaultKind::UnknownType)), 3, place);
+        return verdict_by_flaw(
+            Some(Flaw::of(FaultKind::UnknownType)),
+            section_id::FUNCTION,
+            place,
+        );
     }
-    verdict_by_flaw(own.flaw(), 10, place)
+    verdict_by_flaw(own.flaw(), section_id::CODE, place)
 }
 
 /// The verdict of a valid module in which a body is replaced, that of the function of number `place` among those that it defines,
@@ -65,7 +71,7 @@ pub fn verdict_with_body(place: u32, own: BodyVerdict) -> Verdict
         → module_verdict m ≡ Verdict.Valid → own ≡ body_verdict (answers_of m) ty b
         → result ≡ module_verdict (with_body place b m) }
 {
-    verdict_by_flaw(own.flaw(), 10, place)
+    verdict_by_flaw(own.flaw(), section_id::CODE, place)
 }
 
 /// The verdict of a valid module with these lists to which a global comes: what is wrong with its initialiser, which sees imported
@@ -87,7 +93,7 @@ pub fn verdict_with_global(
     let whole = Whole::of(alloc, *lists)?;
     let initial = Initial { whole: &whole };
     let flaw = constant_flaw(&initial, ty.val, init, &mut Room::new(alloc))?;
-    Ok(verdict_by_flaw(flaw, 6, lists.globals.len() as u32))
+    Ok(verdict_by_flaw(flaw, section_id::GLOBAL, lists.globals.len() as u32))
 }
 
 /// The verdict of a valid module with these lists to which an export comes: what it names is not there, or another export has its
@@ -97,7 +103,11 @@ pub fn verdict_with_export(lists: &Lists<'_>, export: &Export) -> Verdict
     ensures { (m : PartsOf) → listed lists.now ≡ record (lists_of m) { codes = [] }
         → module_verdict m ≡ Verdict.Valid → result ≡ module_verdict (with_export export.now m) }
 {
-    verdict_by_flaw(flaw_of_export(lists, export), 7, lists.exports.len() as u32)
+    verdict_by_flaw(
+        flaw_of_export(lists, export),
+        section_id::EXPORT,
+        lists.exports.len() as u32,
+    )
 }
 
 // The verdict of a module to which an import comes that is well in itself: a table, or a memory, that the module defines is one too

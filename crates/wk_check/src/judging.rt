@@ -22,7 +22,7 @@ use crate::typing::Room;
 use crate::whole::Whole;
 use std::alloc::Global;
 use wk_bytes::OutOfMemory;
-use wk_module::{Func, Lists, Module, Parts};
+use wk_module::{Func, Lists, Module, Parts, section_id};
 
 // The first fault of the types, the imports and the functions.
 fn fault_of_types(lists: &Lists<'_>, room: &mut Room) -> Result<Option<Fault>, OutOfMemory>
@@ -32,7 +32,7 @@ fn fault_of_types(lists: &Lists<'_>, room: &mut Room) -> Result<Option<Fault>, O
     let rule = TypeRule {
         profile: lists.profile,
     };
-    if let Some(fault) = first_fault(&rule, 1, lists.types, room)? {
+    if let Some(fault) = first_fault(&rule, section_id::TYPE, lists.types, room)? {
         return Ok(Some(fault));
     }
     if let Some(fault) = imports_fault(lists.types, lists.imports) {
@@ -41,7 +41,7 @@ fn fault_of_types(lists: &Lists<'_>, room: &mut Room) -> Result<Option<Fault>, O
     let rule = FuncRule {
         types: lists.types.len(),
     };
-    first_fault(&rule, 3, lists.funcs, room)
+    first_fault(&rule, section_id::FUNCTION, lists.funcs, room)
 }
 
 // The first fault of the tables, the memories and the globals.
@@ -57,16 +57,21 @@ fn fault_of_storage(
     let rule = TableRule {
         imported: whole.imported_tables(),
     };
-    if let Some(fault) = first_fault(&rule, 4, lists.tables, room)? {
+    if let Some(fault) = first_fault(&rule, section_id::TABLE, lists.tables, room)? {
         return Ok(Some(fault));
     }
     let rule = MemoryRule {
         imported: whole.imported_memories(),
     };
-    if let Some(fault) = first_fault(&rule, 5, lists.memories, room)? {
+    if let Some(fault) = first_fault(&rule, section_id::MEMORY, lists.memories, room)? {
         return Ok(Some(fault));
     }
-    first_fault(&GlobalRule { whole }, 6, lists.globals, room)
+    first_fault(
+        &GlobalRule { whole },
+        section_id::GLOBAL,
+        lists.globals,
+        room,
+    )
 }
 
 // The first fault of the exports, the start function and the element segments.
@@ -88,7 +93,7 @@ fn fault_of_uses(
             return Ok(Some(flaw.at(8, 0)));
         }
     }
-    first_fault(&ElemRule { whole }, 9, lists.elems, room)
+    first_fault(&ElemRule { whole }, section_id::ELEMENT, lists.elems, room)
 }
 
 /// The first fault of the sections in front of the code section.
@@ -121,7 +126,7 @@ fn fault_of_datas(
     requires same { whole.now ≡ listed lists.now }
     ensures { IfOk result (λ r. r ≡ first_in 11 0 (data_flaws (listed lists.now))) }
 {
-    first_fault(&DataRule { whole }, 11, lists.datas, room)
+    first_fault(&DataRule { whole }, section_id::DATA, lists.datas, room)
 }
 
 // The verdict where this is the first fault of the sections up to the code section.
@@ -214,7 +219,8 @@ fn fault_up_to_code(
     if let Some(fault) = fault_before_code(alloc, lists, whole, room)? {
         return Ok(Some(fault));
     }
-    first_fault(&CodeRule { whole }, 10, parts.funcs.as_slice(), room)
+    let rule = CodeRule { whole };
+    first_fault(&rule, section_id::CODE, parts.funcs.as_slice(), room)
 }
 
 /// Judges a module: valid, or the first fault by section, item, and what is looked at.

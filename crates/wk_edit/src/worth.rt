@@ -1,17 +1,7 @@
 //! Whether edits of a module are worth a draft, by the sections of its bytes.
 
 use wk_bytes::{RawSection, Sections};
-
-// Ids of sections (5.5.2).
-const CUSTOM: u8 = 0;
-
-const FUNCS: u8 = 3;
-
-const START: u8 = 8;
-
-const CODES: u8 = 10;
-
-const DATAS: u8 = 11;
+use wk_module::section_id;
 
 /// For how many bytes of codes a code stands: its stub and its own room take as long as a draft spares on a short body.
 const CODE_WEIGHT: usize = 64;
@@ -38,10 +28,10 @@ fn weight_of(section: &RawSection<'_>) -> usize {
     let bytes = section.contents.len().saturating_mul(BYTE_WEIGHT);
     let items = count.saturating_mul(ITEM_WEIGHT);
     match section.id {
-        CUSTOM | START => 0,
-        FUNCS => bytes,
-        CODES => count.saturating_mul(CODE_WEIGHT),
-        DATAS => items.saturating_add(section.contents.len() / DATA_BYTES),
+        section_id::CUSTOM | section_id::START => 0,
+        section_id::FUNCTION => bytes,
+        section_id::CODE => count.saturating_mul(CODE_WEIGHT),
+        section_id::DATA => items.saturating_add(section.contents.len() / DATA_BYTES),
         _ => items.saturating_add(bytes),
     }
 }
@@ -59,11 +49,11 @@ pub(crate) fn is_worth_draft(input: &[u8]) -> bool {
             None => return codes > rest,
         };
         rest = rest.saturating_add(weight_of(&section));
-        if section.id == CODES {
+        if section.id == section_id::CODE {
             codes = section.contents.len();
         }
         // Behind it stand custom sections alone.
-        if section.id == DATAS {
+        if section.id == section_id::DATA {
             return codes > rest;
         }
     }

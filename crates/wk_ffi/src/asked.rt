@@ -4,12 +4,9 @@ ghost use Rattle.wk_ffi.specs.Asked.{flag_of, keep_of, part_of, profile_of, shor
 
 use std::alloc::{AllocError, Global};
 use std::str;
-use wk_bytes::Text;
+use wk_bytes::{LIMIT, Text};
 use wk_list::Part;
 use wk_module::Profile;
-
-/// The most bytes that a module or a script may have.
-const LIMIT: usize = 2_147_483_647;
 
 /// Whether the bytes are not too many to be read.
 pub fn is_short(bytes: &[u8]) -> bool

@@ -19,21 +19,13 @@ use crate::codes::{codes_len, codes_len_by};
 use crate::format::{Exports, FuncIndices, FuncTypes};
 use crate::lists::Lists;
 use crate::module::Module;
+use crate::section_id;
 use crate::types::{Custom, Export, FuncType, Parts};
 use crate::writing::{Writable, list_len, plus, plus_bytes, plus_u32};
 use wk_bytes::{Items, LIMIT, Text};
 
-/// The length of the magic and the version.
-const HEADER_LEN: u32 = 8;
-
-/// The greatest id of a section (5.5.2).
-pub(crate) const LAST: u8 = 11;
-
-/// The id of the function section (5.5.2).
-pub(crate) const FUNCTIONS: u8 = 3;
-
-/// The id of the code section (5.5.2).
-pub(crate) const CODES: u8 = 10;
+/// How many bytes the magic and the version are (5.5.15).
+pub const HEADER_LEN: u32 = 8;
 
 /// How many bytes the written form of a module has (`encode`), or nothing past 2,147,483,647. It takes no memory.
 pub fn encoded_len(module: &Module) -> Option<u32>
@@ -65,7 +57,7 @@ pub(crate) fn len_by_code(parts: &Parts, code: Option<u32>) -> Option<u32>
 pub fn section_len(module: &Module, id: u8) -> Option<u32>
     ensures { SectionLen (lists_of «module».now) (of_number id) result }
 {
-    if id == 0 || id > LAST {
+    if id == section_id::CUSTOM || id > section_id::LAST {
         return None;
     }
     contents_len(module.parts(), id)
@@ -107,8 +99,8 @@ pub(crate) fn contents_len(parts: &Parts, id: u8) -> Option<u32>
     ensures { result ≡ limited (length (contents_by (lists_of parts.now) (of_number id))) }
 {
     match id {
-        FUNCTIONS => list_len::<FuncIndices>(parts.funcs.as_slice()),
-        CODES => codes_len(parts.funcs.as_slice()),
+        section_id::FUNCTION => list_len::<FuncIndices>(parts.funcs.as_slice()),
+        section_id::CODE => codes_len(parts.funcs.as_slice()),
         _ => Lists::of(parts, &[]).contents_len(id),
     }
 }
@@ -119,7 +111,7 @@ pub(crate) fn contents_len_by(parts: &Parts, code_sizes: &[u32], id: u8) -> Opti
     ensures { result ≡ limited (length (contents_by (lists_of parts.now) (of_number id))) }
 {
     match id {
-        CODES => codes_len_by(code_sizes),
+        section_id::CODE => codes_len_by(code_sizes),
         _ => contents_len(parts, id),
     }
 }
@@ -130,7 +122,7 @@ pub fn len_of_lists(lists: &Lists<'_>, code_sizes: &[u32], customs: &Items<Custo
     ensures { (m : PartsOf) → AreListsOf (listed lists.now) code_sizes.now m → customs.now ≡ m.customs → IsInOrderFrom 0 m.customs → result ≡ limited (length (encoded m)) }
 {
     let mut total = Some(HEADER_LEN);
-    for id in 0..=LAST {
+    for id in 0..=section_id::LAST {
         total = plus_lent(total, lists, code_sizes, id);
     }
     plus_customs(total, customs)
@@ -201,7 +193,7 @@ fn plus_section(total: Option<u32>, parts: &Parts, code: Option<u32>, id: u8) ->
     requires { code ≡ limited (length (code_contents parts.now.funcs)) }
     ensures { GrowsBy (length (section_of parts.now id)) total result }
 {
-    let size = if id == CODES {
+    let size = if id == section_id::CODE {
         code
     } else {
         contents_len(parts, id)
@@ -213,7 +205,7 @@ fn plus_section(total: Option<u32>, parts: &Parts, code: Option<u32>, id: u8) ->
 fn plus_lent(total: Option<u32>, lists: &Lists<'_>, code_sizes: &[u32], id: u8) -> Option<u32>
     ensures { (m : PartsOf) → AreListsOf (listed lists.now) code_sizes.now m → GrowsBy (length (section_of m id)) total result }
 {
-    let size = if id == CODES {
+    let size = if id == section_id::CODE {
         codes_len_by(code_sizes)
     } else {
         lists.contents_len(id)
@@ -227,7 +219,7 @@ fn plus_sections(total: Option<u32>, parts: &Parts, code: Option<u32>) -> Option
     ensures { GrowsBy (length (flat_map (section_of parts.now) ids)) total result }
 {
     let mut all = total;
-    for id in 0..=LAST {
+    for id in 0..=section_id::LAST {
         all = plus_section(all, parts, code, id);
     }
     all

@@ -16,7 +16,8 @@ ghost use Rattle.wk_module.specs.Reading.{Progress, at_start, joined, module_at,
 
 use crate::module::Module;
 use crate::reader::{SoFar, place_behind, reading_of_module};
-use crate::section_reader::{CODE, CodeReader};
+use crate::section_id;
+use crate::section_reader::CodeReader;
 use crate::types::{Func, Parts};
 use std::alloc::Global;
 use wk_body::{Body, Profile, Scratch, read_body_in};
@@ -134,12 +135,12 @@ fn read_section<K: Kept>(
     ensures { (p : Progress) → underway so_far.old kept.old.items ≡ aside K.kept p
         → Reads (λ u. underway so_far.new kept.new.items) result (read_aside K.kept (with_section profile p (raw_view section.now))) }
 {
-    if section.id != CODE {
+    if section.id != section_id::CODE {
         return so_far.read_section(alloc, scratch, profile, section);
     }
     let funcs = so_far.indices.len();
     *kept = read_codes::<K>(alloc, scratch, profile, funcs, section)?;
-    so_far.place = place_behind(so_far.place, CODE, !kept.is_empty());
+    so_far.place = place_behind(so_far.place, section_id::CODE, !kept.is_empty());
     Ok(())
 }
 

@@ -20,6 +20,7 @@ use crate::format::{
 };
 use crate::module::Module;
 use crate::reading::{at_end, read_contents, read_name};
+use crate::section_id;
 use crate::section_reader::CodeReader;
 use crate::types::{Custom, Func, Parts};
 use std::alloc::Global;
@@ -149,19 +150,19 @@ impl SoFar {
         ensures { Reads (λ u. self.new) result (with_section profile self.old (raw_view section.now)) }
     {
         let full = match section.id {
-            1 => {
+            section_id::TYPE => {
                 self.parts.types = read_contents::<FuncTypes>(alloc, scratch, profile, section)?;
                 !self.parts.types.is_empty()
             }
-            2 => {
+            section_id::IMPORT => {
                 self.parts.imports = read_contents::<Imports>(alloc, scratch, profile, section)?;
                 !self.parts.imports.is_empty()
             }
-            3 => {
+            section_id::FUNCTION => {
                 self.indices = read_contents::<Indices>(alloc, scratch, profile, section)?;
                 !self.indices.is_empty()
             }
-            4 => {
+            section_id::TABLE => {
                 self.parts.tables = read_contents::<Tables>(alloc, scratch, profile, section)?;
                 !self.parts.tables.is_empty()
             }
@@ -188,23 +189,23 @@ impl SoFar {
         ensures { Reads (λ u. self.new) result (with_section profile self.old (raw_view section.now)) }
     {
         let full = match section.id {
-            6 => {
+            section_id::GLOBAL => {
                 self.parts.globals = read_contents::<Globals>(alloc, scratch, profile, section)?;
                 !self.parts.globals.is_empty()
             }
-            7 => {
+            section_id::EXPORT => {
                 self.parts.exports = read_contents::<Exports>(alloc, scratch, profile, section)?;
                 !self.parts.exports.is_empty()
             }
-            8 => {
+            section_id::START => {
                 self.parts.start = read_start(profile, section)?;
                 self.parts.start.is_some()
             }
-            9 => {
+            section_id::ELEMENT => {
                 self.parts.elems = read_contents::<Elems>(alloc, scratch, profile, section)?;
                 !self.parts.elems.is_empty()
             }
-            10 => {
+            section_id::CODE => {
                 let funcs = self.indices.len();
                 self.bodies = read_codes(alloc, scratch, profile, funcs, section)?;
                 !self.bodies.is_empty()
@@ -230,8 +231,12 @@ impl SoFar {
         ensures { Reads (λ u. self.new) result (with_section profile self.old (raw_view section.now)) }
     {
         match section.id {
-            1..=5 => self.read_low_section(alloc, scratch, profile, section),
-            6..=11 => self.read_high_section(alloc, scratch, profile, section),
+            section_id::TYPE..=section_id::MEMORY => self.read_low_section(
+                alloc, scratch, profile, section,
+            ),
+            section_id::GLOBAL..=section_id::DATA => self.read_high_section(
+                alloc, scratch, profile, section,
+            ),
             _ => {
                 let custom = read_custom(alloc, self.place, section)?;
                 self.parts.customs.push(custom)?;

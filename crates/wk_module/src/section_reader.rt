@@ -18,13 +18,11 @@ ghost use Rattle.wk_module.specs.Sections.{codes_at, no_lists};
 use crate::lists::Lists;
 use crate::reader::SoFar;
 use crate::reading::{Readable, at_end};
+use crate::section_id;
 use std::alloc::Global;
 use std::marker::Model;
 use wk_body::{Body, Profile, Scratch, reading_of_code, written_form_of_code};
 use wk_bytes::{Cursor, RawSection, ReadFault, ReadKind, Sections};
-
-/// The id of the code section.
-pub(crate) const CODE: u8 = 10;
 
 /// The lists of a module of which some sections are read, and the sections that are left.
 #[derive(Debug, Drop)]
@@ -72,8 +70,12 @@ impl SoFar {
     {
         are_bytes(section.contents);
         match section.id {
-            1..=5 => self.read_low_section(alloc, scratch, profile, section),
-            6..=11 => self.read_high_section(alloc, scratch, profile, section),
+            section_id::TYPE..=section_id::MEMORY => self.read_low_section(
+                alloc, scratch, profile, section,
+            ),
+            section_id::GLOBAL..=section_id::DATA => self.read_high_section(
+                alloc, scratch, profile, section,
+            ),
             _ => {
                 let mut cursor = section.cursor();
                 let _name = cursor.name()?;
@@ -104,7 +106,7 @@ impl SoFar {
     {
         while let Some(section) = left.next() {
             let section = section?;
-            if section.id == CODE {
+            if section.id == section_id::CODE {
                 return Ok(Some(section));
             }
             self.read_listed(alloc, scratch, profile, &section)?;

@@ -16,11 +16,12 @@ ghost use Rattle.wk_module.specs.Writing.{encoded, framed, contents_by, section_
 
 use crate::codes::put_codes;
 use crate::format::FuncIndices;
-use crate::length::{CODES, FUNCTIONS, LAST, contents_len_by, custom_len};
+use crate::length::{contents_len_by, custom_len};
 use crate::lists::Lists;
 use crate::measures::measure_parts;
 use crate::module::Module;
 use crate::reader::one_module;
+use crate::section_id;
 use crate::types::{Custom, Parts};
 use crate::writing::{put_bytes, put_list};
 use std::alloc::Global;
@@ -29,9 +30,6 @@ use wk_bytes::{Items, OutOfMemory, put_u32};
 
 /// The magic and the version (5.5.15).
 pub const HEADER: [u8; 8] = [0, 97, 115, 109, 1, 0, 0, 0];
-
-/// The id of custom sections (5.5.2).
-const CUSTOM: u8 = 0;
 
 /// The written form of a module (5.5.15).
 ///
@@ -147,7 +145,7 @@ fn put_module(parts: &Parts, code_sizes: &[u32], bytes: &mut Vec<u8>) -> Result<
     ensures { OnOk result (bytes.new.items ≡ bytes.old.items ++ encoded parts.now) }
 {
     bytes.extend_from_slice(&HEADER)?;
-    for id in 0..=LAST {
+    for id in 0..=section_id::LAST {
         put_section(parts, code_sizes, id, bytes)?;
         put_customs_at(&parts.customs, id, bytes)?;
     }
@@ -166,8 +164,8 @@ fn put_contents(
     ensures { OnOk result (bytes.new.items ≡ bytes.old.items ++ contents_by (lists_of parts.now) (of_number id)) }
 {
     match id {
-        FUNCTIONS => put_list::<FuncIndices>(parts.funcs.as_slice(), bytes),
-        CODES => put_codes(parts.funcs.as_slice(), code_sizes, bytes),
+        section_id::FUNCTION => put_list::<FuncIndices>(parts.funcs.as_slice(), bytes),
+        section_id::CODE => put_codes(parts.funcs.as_slice(), code_sizes, bytes),
         _ => Lists::of(parts, &[]).put_contents(id, bytes),
     }
 }
@@ -219,7 +217,7 @@ fn put_custom_section(custom: &Custom, bytes: &mut Vec<u8>) -> Result<(), OutOfM
     let Some(size) = custom_len(custom) else {
         unreachable!()
     };
-    put_front(CUSTOM, size, bytes)?;
+    put_front(section_id::CUSTOM, size, bytes)?;
     put_custom(custom, bytes)
 }
 

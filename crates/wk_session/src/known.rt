@@ -3,8 +3,8 @@
 ghost use Rattle.std.specs.Prelude.{◌≡◌};
 ghost use Rattle.wk_session.specs.Known.{body_told, told_by};
 
-use crate::lengths::CODES;
 use wk_check::{BodyVerdict, Fault, Verdict};
+use wk_module::section_id;
 
 // What a fault of a module, its first, tells of the body at an index.
 fn told_behind(fault: Fault, index: usize) -> Option<BodyVerdict>
@@ -12,10 +12,10 @@ fn told_behind(fault: Fault, index: usize) -> Option<BodyVerdict>
 {
     let place = fault.place;
     let item = place.item as usize;
-    if place.section < CODES {
+    if place.section < section_id::CODE {
         return None;
     }
-    if CODES < place.section || index < item {
+    if section_id::CODE < place.section || index < item {
         return Some(BodyVerdict::Valid);
     }
     if item < index {

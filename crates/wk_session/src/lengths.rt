@@ -12,16 +12,7 @@ ghost use Rattle.wk_session.specs.Overlays.{with_items};
 ghost use Rattle.wk_session.specs.Pieces.{codes_size, customs_size, entries_size, section_pieces};
 
 use wk_bytes::{Items, LIMIT, leb_len_u32};
-use wk_module::{Custom, custom_len, framed_len, whole_len};
-
-/// How many ids of sections there are, 0 of custom ones with them.
-pub(crate) const SECTIONS: usize = 12;
-
-/// The greatest id of a section (5.5.2).
-pub(crate) const LAST: u8 = 11;
-
-/// The id of the code section (5.5.2).
-pub(crate) const CODES: u8 = 10;
+use wk_module::{Custom, custom_len, framed_len, section_id, whole_len};
 
 // A length with more added, or nothing past 2,147,483,647.
 fn plus(total: Option<u32>, more: usize) -> Option<u32>
@@ -110,8 +101,8 @@ fn sizes_after(sections: &Vec<Items<u8>>, news: &Vec<Option<Items<u8>>>) -> [usi
     requires news { length news.now.items ≡ 12 }
     ensures { result ≡ map length (with_items sections.now.items news.now.items) }
 {
-    let mut sizes = [0; SECTIONS];
-    for id in 0..SECTIONS {
+    let mut sizes = [0; section_id::COUNT];
+    for id in 0..section_id::COUNT {
         sizes[id] = size_after(sections, news, id);
     }
     sizes
@@ -146,7 +137,7 @@ pub(crate) fn len_after(
         → result ≡ limited (length (encoded n)) }
 {
     let mut sizes = sizes_after(sections, news);
-    sizes[CODES as usize] = code_contents(count, codes);
+    sizes[section_id::CODE as usize] = code_contents(count, codes);
     whole_len(&sizes, customs as usize)
 }
 
@@ -155,8 +146,8 @@ fn sizes_of(sections: &Vec<Items<u8>>) -> [usize; 12]
     requires { length sections.now.items ≡ 12 }
     ensures { result ≡ map length sections.now.items }
 {
-    let mut sizes = [0; SECTIONS];
-    for id in 0..SECTIONS {
+    let mut sizes = [0; section_id::COUNT];
+    for id in 0..section_id::COUNT {
         sizes[id] = sections[id].len();
     }
     sizes
@@ -181,7 +172,7 @@ pub(crate) fn len_with(
 {
     let mut sizes = sizes_of(sections);
     sizes[id] = size;
-    sizes[CODES as usize] = code_contents(count, codes);
+    sizes[section_id::CODE as usize] = code_contents(count, codes);
     whole_len(&sizes, customs as usize)
 }
 
@@ -200,6 +191,6 @@ pub(crate) fn len_of(
         → result ≡ limited (length (encoded n)) }
 {
     let mut sizes = sizes_of(sections);
-    sizes[CODES as usize] = code_contents(count, codes);
+    sizes[section_id::CODE as usize] = code_contents(count, codes);
     whole_len(&sizes, customs as usize)
 }

@@ -11,11 +11,12 @@ ghost use Rattle.wk_module.specs.Shape.{IsInOrderFrom};
 ghost use Rattle.wk_module.specs.Writing.{Fits, contents_by};
 ghost use Rattle.wk_session.specs.Pieces.{ArePieces, IsOneRemade, IsOverlong, IsUnwritten, code_of, contents_of, no_news};
 
-use crate::lengths::{CODES, LAST, SECTIONS, codes_len, customs_len};
+use crate::lengths::{codes_len, customs_len};
 use std::alloc::{AllocError, Global};
 use wk_bytes::{Items, OutOfMemory};
 use wk_module::{
     Body, EncodeFault, Lists, Parts, append_body, code_bytes, encode_body, encode_section,
+    section_id,
 };
 
 /// The written form of a module in pieces (`ArePieces` of `specs/Pieces`). Custom sections are not kept a second time: the module holds
@@ -105,8 +106,8 @@ pub(crate) fn code_in_room(
 pub(crate) fn no_news(alloc: Global) -> Result<Vec<Option<Items<u8>>>, OutOfMemory>
     ensures { IfOk result (λ v. v.items ≡ no_news) }
 {
-    let mut news = Vec::with_capacity(alloc, SECTIONS)?;
-    for _ in 0..SECTIONS {
+    let mut news = Vec::with_capacity(alloc, section_id::COUNT)?;
+    for _ in 0..section_id::COUNT {
         news.push(None)?;
     }
     Ok(news)
@@ -144,7 +145,7 @@ fn contents_at(
         (IsOverlong (contents_by (listed lists.now) (of_number id))) }
     ensures made { made.new ≤ made.old + 1 }
 {
-    if id == 0 || id == CODES {
+    if id == section_id::CUSTOM || id == section_id::CODE {
         return Ok(Items::new(alloc));
     }
     remade(alloc, lists, id, made)
@@ -155,8 +156,8 @@ pub(crate) fn all_remade(alloc: Global, lists: &Lists<'_>) -> Result<Vec<Items<u
     ensures { MatchResult result (λ v. v.items ≡ contents_of (listed lists.now)) (IsUnwritten (listed lists.now)) }
 {
     let mut made = 0;
-    let mut sections = Vec::with_capacity(alloc, SECTIONS)?;
-    for id in 0..=LAST {
+    let mut sections = Vec::with_capacity(alloc, section_id::COUNT)?;
+    for id in 0..=section_id::LAST {
         let contents = contents_at(alloc, lists, id, &mut made)?;
         sections.push(contents).map_err(|_| AllocError)?;
     }

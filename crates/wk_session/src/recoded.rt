@@ -12,11 +12,11 @@ ghost use Rattle.wk_session.specs.Overlays.{with_items};
 ghost use Rattle.wk_session.specs.Pieces.{ArePieces, code_section, entries_size};
 ghost use Rattle.wk_session.specs.Recoded.{encoded_with, place_with};
 
-use crate::lengths::{CODES, LAST, codes_len_after};
+use crate::lengths::codes_len_after;
 use crate::pieces::Pieces;
-use crate::written::{HEADER, put_bytes, put_customs_at, put_head, put_place};
+use crate::written::{put_bytes, put_customs_at, put_head, put_place};
 use wk_bytes::{Items, Out, OutFault, leb_len_u32, out_u32, put_all};
-use wk_module::Parts;
+use wk_module::{HEADER, Parts, section_id};
 
 // The code that is made anew, or else the one that is kept.
 fn code_now<'a>(code: &'a Items<u8>, new: &'a Option<Items<u8>>) -> &'a Items<u8>
@@ -68,7 +68,7 @@ fn put_code_section_with<W: Out>(
         unreachable!()
     };
     let count = codes.len() as u32;
-    put_head(out, CODES, leb_len_u32(count) as u32 + codes_len)?;
+    put_head(out, section_id::CODE, leb_len_u32(count) as u32 + codes_len)?;
     out_u32(out, count)?;
     put_codes_with(out, codes, news)
 }
@@ -91,11 +91,11 @@ fn put_place_with<W: Out>(
     ensures err { OnErr result (TakesFront (W.taken out.old) (W.taken out.new) (place_with parts.now (with_items pieces.now.codes.items news.now.items) id)) }
     ensures failures { W.failed out.new ≡ failures_after (W.failed out.old) result }
 {
-    if id != CODES {
+    if id != section_id::CODE {
         return put_place(out, parts, pieces, id);
     }
     put_code_section_with(out, &pieces.codes, news)?;
-    put_customs_at(out, &parts.customs, CODES)
+    put_customs_at(out, &parts.customs, section_id::CODE)
 }
 
 /// Puts a module out by its pieces, with each new code that there is in the place of the one that is kept. After a fault a beginning of
@@ -116,7 +116,7 @@ pub(crate) fn put_module_with<W: Out>(
     ensures failures { W.failed out.new ≡ failures_after (W.failed out.old) result }
 {
     put_all(out, &HEADER)?;
-    for id in 0..=LAST {
+    for id in 0..=section_id::LAST {
         put_place_with(out, parts, pieces, news, id)?;
     }
     Ok(())

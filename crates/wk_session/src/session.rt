@@ -28,7 +28,7 @@ use crate::edits::{
     strip_all, strip_custom,
 };
 use crate::kept::Kept;
-use crate::lengths::{CODES, code_contents};
+use crate::lengths::code_contents;
 use crate::recoded::put_module_with;
 use crate::write::WriteFault;
 use crate::written::put_module;
@@ -41,7 +41,7 @@ use wk_check::{Meter, Verdict};
 use wk_list::{ListFault, Part, Shape, list};
 use wk_module::{
     EncodeFault, Module, Parts, Profile, Ref, custom_len, encoded_len, one_module, read_in,
-    reading_of_code, written_form_of_module,
+    reading_of_code, section_id, written_form_of_module,
 };
 
 /// A module under edits, seen by contracts as its plain lists.
@@ -415,7 +415,7 @@ impl Shape for Session {
 
     fn section_len(&self, id: u8) -> u32 {
         let pieces = &self.kept.pieces;
-        if id == CODES {
+        if id == section_id::CODE {
             return code_contents(pieces.codes.len(), pieces.codes_len) as u32;
         }
         match pieces.sections.get(id as usize) {

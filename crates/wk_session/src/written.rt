@@ -12,16 +12,9 @@ ghost use Rattle.wk_module.specs.Writing.{Fits, customs_at, encoded, section_and
 ghost use Rattle.wk_module.specs.WritingLaws.{written_frame};
 ghost use Rattle.wk_session.specs.Pieces.{ArePieces, code_section, entries_size, framed_some};
 
-use crate::lengths::{CODES, LAST};
 use crate::pieces::Pieces;
 use wk_bytes::{Items, Out, OutFault, leb_len_u32, out_u32, put_all};
-use wk_module::{Custom, Parts, custom_len};
-
-/// The magic and the version (5.5.15).
-pub(crate) const HEADER: [u8; 8] = [0, 97, 115, 109, 1, 0, 0, 0];
-
-/// The id of custom sections (5.5.2).
-const CUSTOM: u8 = 0;
+use wk_module::{Custom, HEADER, Parts, custom_len, section_id};
 
 /// The id and the size of a section.
 pub(crate) fn put_head<W: Out>(out: &mut W, id: u8, size: u32) -> Result<(), OutFault>
@@ -93,7 +86,7 @@ fn put_code_section<W: Out>(
         return Ok(());
     }
     let count = codes.len() as u32;
-    put_head(out, CODES, leb_len_u32(count) as u32 + codes_len)?;
+    put_head(out, section_id::CODE, leb_len_u32(count) as u32 + codes_len)?;
     out_u32(out, count)?;
     put_codes(out, codes)
 }
@@ -109,7 +102,7 @@ fn put_custom<W: Out>(out: &mut W, custom: &Custom) -> Result<(), OutFault>
     let Some(size) = custom_len(custom) else {
         unreachable!()
     };
-    put_head(out, CUSTOM, size)?;
+    put_head(out, section_id::CUSTOM, size)?;
     put_bytes(out, custom.name.as_str().as_bytes())?;
     put_all(out, custom.bytes.as_slice())
 }
@@ -149,7 +142,7 @@ fn put_section_of<W: Out>(
     ensures err { OnErr result (TakesFront (W.taken out.old) (W.taken out.new) (section_of parts.now id)) }
     ensures failures { W.failed out.new ≡ failures_after (W.failed out.old) result }
 {
-    if id == CODES {
+    if id == section_id::CODE {
         return put_code_section(out, &pieces.codes, pieces.codes_len);
     }
     put_section(out, id, &pieces.sections[id as usize])
@@ -188,7 +181,7 @@ pub(crate) fn put_module<W: Out>(
     ensures failures { W.failed out.new ≡ failures_after (W.failed out.old) result }
 {
     put_all(out, &HEADER)?;
-    for id in 0..=LAST {
+    for id in 0..=section_id::LAST {
         put_place(out, parts, pieces, id)?;
     }
     Ok(())

@@ -13,10 +13,9 @@ ghost use Rattle.wk_module.specs.ListReading.{codes_of};
 ghost use Rattle.wk_strip.specs.Rewritten.{codes_in, IsTaken, IsRewritten, AreRewritten, BeginsCodes};
 ghost use Rattle.wk_strip.specs.Written.{code_front};
 
-use crate::sections::CODES;
 use std::alloc::Global;
 use wk_bytes::{Cursor, OutOfMemory, RawSection, ReadFault, ReadKind, leb_len_u32, put_u32};
-use wk_module::{Profile, Scratch, reading_of_code, written_form_of_code};
+use wk_module::{Profile, Scratch, reading_of_code, section_id, written_form_of_code};
 
 // So many codes: where the first one stands in the input, and where their section ends.
 #[derive(Clone, Copy)]
@@ -176,7 +175,7 @@ pub(crate) fn append_code_front(
     if count == 0 {
         return Ok(());
     }
-    out.push(CODES)?;
+    out.push(section_id::CODE)?;
     put_u32(out, leb_len_u32(count) as u32 + codes)?;
     put_u32(out, count)
 }

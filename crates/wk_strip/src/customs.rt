@@ -12,12 +12,7 @@ ghost use Rattle.wk_strip.specs.Stripped.{AreKept};
 use std::alloc::Global;
 use std::marker::Model;
 use wk_bytes::{OutOfMemory, RawSection, Sections, Text, leb_len_u32, put_u32};
-
-/// The id of custom sections (5.5.2).
-const CUSTOM: u8 = 0;
-
-/// The id of the start section, which has no count (5.5.2).
-const START: u8 = 8;
+use wk_module::section_id;
 
 // A custom section that stays, with the size of its contents as they are written.
 #[derive(Drop)]
@@ -45,7 +40,7 @@ impl KeptCustom {
     fn append(&self, out: &mut Vec<u8>) -> Result<(), OutOfMemory>
         ensures { OnOk result (out.new.items ≡ out.old.items ++ framed 0 (written_custom self.now)) }
     {
-        out.push(CUSTOM)?;
+        out.push(section_id::CUSTOM)?;
         put_u32(out, self.size)?;
         put_u32(out, self.name.len() as u32)?;
         out.extend_from_slice(self.name.as_bytes())?;
@@ -85,7 +80,7 @@ fn named(
 fn is_empty(section: &RawSection<'_>) -> bool
     ensures { IsTrue result ↔ IsEmptyFrame (frame_of (raw_view section.now)) }
 {
-    if section.id == START {
+    if section.id == section_id::START {
         return false;
     }
     let mut cursor = section.cursor();
@@ -112,7 +107,7 @@ pub(crate) fn kept_customs(
         let Ok(section) = section else {
             return Ok(kept);
         };
-        if section.id == CUSTOM {
+        if section.id == section_id::CUSTOM {
             let found = named(alloc, name, place, &section)?;
             if let Some(custom) = found {
                 kept.push(custom)?;

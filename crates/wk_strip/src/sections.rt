@@ -9,13 +9,10 @@ ghost use Rattle.wk_strip.specs.Written.{sections_from, IsTooLong};
 use crate::customs::{KeptCustom, append_customs};
 use std::alloc::Global;
 use wk_bytes::OutOfMemory;
-use wk_module::{EncodeFault, HEADER, Lists, append_section};
-
-/// The id of the code section (5.5.2).
-pub(crate) const CODES: u8 = 10;
+use wk_module::{EncodeFault, HEADER, Lists, append_section, section_id};
 
 /// The ids end in front of this.
-pub(crate) const END: u8 = 12;
+pub(crate) const END: u8 = section_id::LAST + 1;
 
 // These bytes with the sections of the ids from `first` up to `end`, which is not among them, behind them, each with the custom
 // sections of its place.

@@ -22,12 +22,12 @@ ghost use Rattle.wk_strip.specs.Written.{code_front, sections_from, IsTooLong};
 
 use crate::codes::{Codes, append_code_front, rewrite_codes};
 use crate::customs::{KeptCustom, kept_customs};
-use crate::sections::{CODES, END, append_sections, begin, written};
+use crate::sections::{END, append_sections, begin, written};
 use crate::stripped::Stripped;
 use std::alloc::Global;
 use wk_bytes::{OutOfMemory, RawSection, ReadFault, ReadKind, Text};
 use wk_module::{
-    Lists, OwnedLists, Profile, Scratch, SectionReader, one_module, reading_of_module,
+    Lists, OwnedLists, Profile, Scratch, SectionReader, one_module, reading_of_module, section_id,
     written_form_of_module,
 };
 
@@ -58,9 +58,9 @@ fn assemble(
         ++ (drop gap codes.items ++ sections_from (listed lists.now) kept.now 10 2)) }
 {
     let size = codes.len() - gap;
-    let mut front = written(begin(alloc, lists, kept, CODES))?;
+    let mut front = written(begin(alloc, lists, kept, section_id::CODE))?;
     append_code_front(lists.funcs.len() as u32, size as u32, &mut front)?;
-    let bytes = written(append_sections(lists, kept, CODES, END, codes))?;
+    let bytes = written(append_sections(lists, kept, section_id::CODE, END, codes))?;
     Stripped::behind(front, gap, bytes)
 }
 

@@ -23,10 +23,7 @@ use std::alloc::{AllocError, Global};
 use std::mem;
 use wk_bytes::{Items, LIMIT, Text};
 use wk_check::Verdict;
-use wk_module::{Custom, Parts, framed_len, named_len};
-
-/// The greatest place of a custom section, which settling lowers.
-const LAST: u8 = 11;
+use wk_module::{Custom, Parts, framed_len, named_len, section_id};
 
 // What it takes to change custom sections, where so many of them are encoded.
 fn work_on(sections: u32) -> Work
@@ -193,7 +190,7 @@ fn push_custom(
     ensures err { OnErr result (parts.new ≡ parts.old) }
 {
     let custom = Custom {
-        place: LAST,
+        place: section_id::LAST,
         name: name.copy(alloc)?,
         bytes: bytes.copy(alloc)?,
     };

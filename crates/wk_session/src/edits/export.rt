@@ -33,10 +33,7 @@ use std::alloc::Global;
 use std::{mem, slice};
 use wk_bytes::{Items, Text};
 use wk_check::{Verdict, laws_of_valid_modules, verdict_with_export};
-use wk_module::{EncodeFault, Export, Lists, Parts, export_len};
-
-/// The id of the export section (5.5.2).
-const SECTION: u8 = 7;
+use wk_module::{EncodeFault, Export, Lists, Parts, export_len, section_id};
 
 // The verdict of a module with an export more, where it is known: where the one without is valid.
 fn known_with_export(parts: &Parts, kept: &Kept, export: &Export) -> Option<Verdict>
@@ -108,7 +105,12 @@ fn new_export(
         exports: slice::from_ref(export),
         ..Lists::of(parts, &kept.types)
     };
-    new_item(alloc, &alone, SECTION, parts.exports.len() as u32)
+    new_item(
+        alloc,
+        &alone,
+        section_id::EXPORT,
+        parts.exports.len() as u32,
+    )
 }
 
 // Appends an export where the module with it may stay, which is so long, and keeps what is to be kept of it. Answers how many sections
@@ -263,10 +265,14 @@ fn len_without(kept: &Kept, funcs: usize, count: u32, span: Span) -> Option<u32>
         → result ≡ limited (length (encoded n)) }
 {
     let pieces = &kept.pieces;
-    let size = shrunk_len(pieces.sections[SECTION as usize].as_slice(), count, span);
+    let size = shrunk_len(
+        pieces.sections[section_id::EXPORT as usize].as_slice(),
+        count,
+        span,
+    );
     len_with(
         &pieces.sections,
-        SECTION as usize,
+        section_id::EXPORT as usize,
         size,
         funcs,
         pieces.codes_len,
@@ -293,7 +299,7 @@ fn keep_shrunk(
 {
     let judgement = judged?;
     let mut made = 0;
-    let section = &mut kept.pieces.sections[SECTION as usize];
+    let section = &mut kept.pieces.sections[section_id::EXPORT as usize];
     remove_item(alloc, section, count, span, &mut made)?;
     keep_judgement(kept, judgement);
     Ok(made)

@@ -33,10 +33,7 @@ use std::alloc::Global;
 use std::slice;
 use wk_bytes::{Items, OutOfMemory};
 use wk_check::{BodyVerdict, Meter, Verdict, Whole, laws_of_valid_modules, verdict_with_func};
-use wk_module::{Body, EncodeFault, Func, Lists, Parts};
-
-/// The id of the function section (5.5.2).
-const SECTION: u8 = 3;
+use wk_module::{Body, EncodeFault, Func, Lists, Parts, section_id};
 
 // The verdicts of all bodies where a function comes whose type stands behind those of the others already.
 fn verdicts_with(
@@ -144,7 +141,12 @@ fn new_index(alloc: Global, parts: &Parts, kept: &Kept, ty: &u32) -> Result<NewI
         funcs: slice::from_ref(ty),
         ..Lists::of(parts, &kept.types)
     };
-    new_item(alloc, &alone, SECTION, parts.funcs.len() as u32)
+    new_item(
+        alloc,
+        &alone,
+        section_id::FUNCTION,
+        parts.funcs.len() as u32,
+    )
 }
 
 // What is to be kept of the module with a function more, whose type stands behind those of the others already; or why it may not be.
@@ -221,7 +223,7 @@ fn push_planned(
 {
     let entry = planned_func(alloc, keep, parts, kept, ty, &body, spelled, item, meter)?;
     parts.funcs.push(Func { ty, body })?;
-    let section = &mut kept.pieces.sections[SECTION as usize];
+    let section = &mut kept.pieces.sections[section_id::FUNCTION as usize];
     match append_item(alloc, section, item.count, bytes_of(item)) {
         Ok(()) => Ok(entry),
         Err(OutOfMemory) => {

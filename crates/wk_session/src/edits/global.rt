@@ -22,10 +22,9 @@ use std::alloc::Global;
 use std::slice;
 use wk_bytes::{Items, OutOfMemory, ReadFault, ReadKind};
 use wk_check::{Meter, Verdict, laws_of_valid_modules, verdict_with_global};
-use wk_module::{EncodeFault, Expr, GlobalDef, GlobalType, Lists, Parts, Profile, read_expr_in};
-
-/// The id of the global section (5.5.2).
-const SECTION: u8 = 6;
+use wk_module::{
+    EncodeFault, Expr, GlobalDef, GlobalType, Lists, Parts, Profile, read_expr_in, section_id,
+};
 
 // What an edit is answered whose bytes cannot be read.
 fn refusal_of(fault: ReadFault) -> EditFault
@@ -103,7 +102,12 @@ fn new_global(
         globals: slice::from_ref(global),
         ..Lists::of(parts, &kept.types)
     };
-    new_item(alloc, &alone, SECTION, parts.globals.len() as u32)
+    new_item(
+        alloc,
+        &alone,
+        section_id::GLOBAL,
+        parts.globals.len() as u32,
+    )
 }
 
 // Appends a global where the module with it may stay, and keeps what is to be kept of it. Answers how many sections were made anew; or

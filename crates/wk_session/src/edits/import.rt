@@ -39,11 +39,8 @@ use wk_check::{
 };
 use wk_module::{
     EncodeFault, Import, ImportDesc, Kind, Limits, Lists, MovedLists, Parts, ShiftFault,
-    import_count, moving_of_code, moving_of_module, shift_lists,
+    import_count, moving_of_code, moving_of_module, section_id, shift_lists,
 };
-
-/// The id of the import section (5.5.2).
-const SECTION: u8 = 2;
 
 /// What an import makes of a module beside its list of imports.
 #[derive(Drop)]
@@ -261,7 +258,7 @@ fn remade_after(
 ) -> Result<NewSections, EncodeFault>
     ensures { MatchResult result (IsRemadeAfter (listed lists.now) moved.now) (IsUnwritten (listed lists.now)) }
 {
-    let mut news = one_remade(alloc, lists, SECTION)?;
+    let mut news = one_remade(alloc, lists, section_id::IMPORT)?;
     remake_where(alloc, lists, 6, moved.globals.is_some(), &mut news)?;
     remake_where(alloc, lists, 7, moved.exports.is_some(), &mut news)?;
     remake_where(alloc, lists, 8, moved.start.is_some(), &mut news)?;

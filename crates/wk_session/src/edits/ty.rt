@@ -21,10 +21,7 @@ use crate::kept::Kept;
 use std::alloc::Global;
 use std::slice;
 use wk_check::{Meter, Verdict, laws_of_valid_modules, verdict_with_type};
-use wk_module::{EncodeFault, FuncType, Lists, Parts};
-
-/// The id of the type section (5.5.2).
-const SECTION: u8 = 1;
+use wk_module::{EncodeFault, FuncType, Lists, Parts, section_id};
 
 // The lists without the last type.
 fn without_last_type<'a>(lists: Lists<'a>) -> Lists<'a>
@@ -66,7 +63,7 @@ fn new_type(
         types: slice::from_ref(ty),
         ..Lists::of(parts, &kept.types)
     };
-    new_item(alloc, &alone, SECTION, parts.types.len() as u32)
+    new_item(alloc, &alone, section_id::TYPE, parts.types.len() as u32)
 }
 
 // Appends a type where the module with it may stay, which is so long, and keeps what is to be kept of it. Answers how many sections were

@@ -11,10 +11,10 @@ use Rattle.wk_session.proofs.Recoding.{codes_few, codes_place, other_place}
 use Rattle.wk_session.proofs.Replacing.{length-with_items}
 use Rattle.wk_session.proofs.recoded.put_place_with.Goals as goal
 
-pub returns-then-id-ne-CODES-clause-err : goal.returns-then-id-ne-CODES-clause-err
-returns-then-id-ne-CODES-clause-err g c =
+pub returns-then-id-ne-CODE-clause-err : goal.returns-then-id-ne-CODE-clause-err
+returns-then-id-ne-CODE-clause-err g c =
     let codes = with_items c.args.pieces.now.codes.items c.args.news.now.items in
-    let other : c.args.id ≢ 10 = λ same. absurd (omega (arith, same, c.if-id-ne-CODES.true)) in
+    let other : c.args.id ≢ 10 = λ same. absurd (omega (arith, same, c.if-id-ne-CODE.true)) in
     subst (λ (xs : List ℕ). OnErr c.put_place.result (TakesFront (g.W.Out.taken c.args.out.now) (g.W.Out.taken c.put_place.new.out) xs)) (other_place c.args.parts.now codes c.args.id other) c.put_place.ensures.err
 
 pub put_code_section_with-requires-clause-count : goal.put_code_section_with-requires-clause-count
@@ -34,7 +34,7 @@ returns-in_err-put_code_section_with-clause-err g c =
     let r = c.from_residual.result in
     let a = g.W.Out.taken c.args.out.now in
     let b = g.W.Out.taken c.put_code_section_with.new.out in
-    subst (λ (xs : List ℕ). OnErr r (TakesFront a b xs)) (codes_place m codes c.args.id c.if-id-ne-CODES.false)
+    subst (λ (xs : List ℕ). OnErr r (TakesFront a b xs)) (codes_place m codes c.args.id c.if-id-ne-CODE.false)
     (fails_first r a b (code_section codes) (customs_at 10 m.customs) c.in_err-put_code_section_with.ensures.err)
 
 pub put_customs_at-requires-clause-few : goal.put_customs_at-requires-clause-few
@@ -48,5 +48,5 @@ returns-clause-err g c =
     let a = g.W.Out.taken c.args.out.now in
     let b = g.W.Out.taken c.put_code_section_with.new.out in
     let d = g.W.Out.taken c.put_customs_at.new.out in
-    subst (λ (xs : List ℕ). OnErr r (TakesFront a d xs)) (codes_place m codes c.args.id c.if-id-ne-CODES.false)
+    subst (λ (xs : List ℕ). OnErr r (TakesFront a d xs)) (codes_place m codes c.args.id c.if-id-ne-CODE.false)
     (fails_last r a b d (code_section codes) (customs_at 10 m.customs) c.in_ok-put_code_section_with.ensures.ok c.put_customs_at.ensures.err)

@@ -13,7 +13,7 @@ use Rattle.wk_session.proofs.Piecing.{entries_codes, section_within}
 use Rattle.wk_session.proofs.Putting.{codes_length, code_section_within, no_entries, piece_at, section_framed}
 use Rattle.wk_session.proofs.written.put_section_of.Given.{Over}
 use Rattle.wk_session.proofs.written.put_section_of.Goals as goal
-use Rattle.wk_session.proofs.written.put_section_of.Goals.{Then-id-eq-CODES, After-index}
+use Rattle.wk_session.proofs.written.put_section_of.Goals.{Then-id-eq-CODE, After-index}
 
 pub put_code_section-requires-clause-len : goal.put_code_section-requires-clause-len
 put_code_section-requires-clause-len g c =
@@ -32,17 +32,17 @@ put_code_section-requires-clause-few g c =
       | inr some ↦ omega (arith, size, code_section_within c.args.parts.now codes c.requires.pieces.codes (omega (arith, some)), c.requires.fits)
     ]
 
-codes_are : (g : Over) (c : Then-id-eq-CODES g) → section_of c.args.parts.now c.args.id ≡ code_section c.args.pieces.now.codes.items
-codes_are g c = ap (section_of c.args.parts.now) c.if-id-eq-CODES.true ∙ section_codes c.args.parts.now ∙ ap code_section (sym c.requires.pieces.codes)
+codes_are : (g : Over) (c : Then-id-eq-CODE g) → section_of c.args.parts.now c.args.id ≡ code_section c.args.pieces.now.codes.items
+codes_are g c = ap (section_of c.args.parts.now) c.if-id-eq-CODE.true ∙ section_codes c.args.parts.now ∙ ap code_section (sym c.requires.pieces.codes)
 
-pub returns-then-id-eq-CODES-clause-ok : goal.returns-then-id-eq-CODES-clause-ok
-returns-then-id-eq-CODES-clause-ok g c =
-    let is = codes_are g (goal.at.returns-then-id-eq-CODES-clause-ok g c).Then-id-eq-CODES in
+pub returns-then-id-eq-CODE-clause-ok : goal.returns-then-id-eq-CODE-clause-ok
+returns-then-id-eq-CODE-clause-ok g c =
+    let is = codes_are g (goal.at.returns-then-id-eq-CODE-clause-ok g c).Then-id-eq-CODE in
     subst (λ (xs : List ℕ). OnOk c.put_code_section.result (Appends (g.W.Out.taken c.args.out.now) (g.W.Out.taken c.put_code_section.new.out) xs)) (sym is) c.put_code_section.ensures.ok
 
-pub returns-then-id-eq-CODES-clause-err : goal.returns-then-id-eq-CODES-clause-err
-returns-then-id-eq-CODES-clause-err g c =
-    let is = codes_are g (goal.at.returns-then-id-eq-CODES-clause-err g c).Then-id-eq-CODES in
+pub returns-then-id-eq-CODE-clause-err : goal.returns-then-id-eq-CODE-clause-err
+returns-then-id-eq-CODE-clause-err g c =
+    let is = codes_are g (goal.at.returns-then-id-eq-CODE-clause-err g c).Then-id-eq-CODE in
     subst (λ (xs : List ℕ). OnErr c.put_code_section.result (TakesFront (g.W.Out.taken c.args.out.now) (g.W.Out.taken c.put_code_section.new.out) xs)) (sym is) c.put_code_section.ensures.err
 
 piece_is : (g : Over) (c : After-index g) → c.index.result.now ≡ section_piece c.args.id c.args.parts.now
@@ -57,7 +57,7 @@ put_section-requires-clause-few g c =
 
 section_is : (g : Over) (c : After-index g) → section_of c.args.parts.now c.args.id ≡ framed_some c.args.id c.index.result.now
 section_is g c =
-    let other : c.args.id ≢ 10 = λ same. absurd (omega (arith, same, c.if-id-eq-CODES.false)) in
+    let other : c.args.id ≢ 10 = λ same. absurd (omega (arith, same, c.if-id-eq-CODE.false)) in
     section_framed c.args.parts.now c.args.id other ∙ ap (framed_some c.args.id) (sym (piece_is g c))
 
 pub returns-clause-ok : goal.returns-clause-ok

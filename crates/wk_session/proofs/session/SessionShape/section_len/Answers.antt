@@ -29,9 +29,9 @@ overflow_cast-result c =
     let fits = limited-some (length (encoded m)) c.self.inside.kept.len c.self.invariant.len in
     omega (arith, is (goal.at.overflow_cast-result c).After-code_contents, code_contents_fit m fits)
 
-pub returns-then-id-eq-CODES : goal.returns-then-id-eq-CODES
-returns-then-id-eq-CODES c =
-    rw (← c.self.view_is) (is (goal.at.returns-then-id-eq-CODES c).After-code_contents ∙ ap (λ id. length (contents_by (lists_of c.self.inside.module) (of_number id))) (sym c.if-id-eq-CODES.true))
+pub returns-then-id-eq-CODE : goal.returns-then-id-eq-CODE
+returns-then-id-eq-CODE c =
+    rw (← c.self.view_is) (is (goal.at.returns-then-id-eq-CODE c).After-code_contents ∙ ap (λ id. length (contents_by (lists_of c.self.inside.module) (of_number id))) (sym c.if-id-eq-CODE.true))
 
 pub overflow_cast-result-in-Some : goal.overflow_cast-result-in-Some
 overflow_cast-result-in-Some c =
