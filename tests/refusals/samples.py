@@ -266,6 +266,18 @@ def lengthened(module, size):
 # table and of a memory have a session over all of it make the edits; without them the draft serves.
 LONG, LONG_EDITED, LONG_KEPT = lengthened(MOVING, 0x1D), lengthened(ALL_EDITED, 0x19), lengthened(ALL_KEPT, 0x19)
 OF_MOST_KINDS = OF_EACH_KIND.replace(b"import table a u 4\nimport memory a n 1 3\n", b"")
+
+
+def invalid(types):
+    """A module with so many types of no parameters and results, and with a body so long that an outline is read of it, which leaves an operand."""
+    body = b"\x00" + b"\x01" * NOPS + b"\x41\x01\x0b"
+    code = b"\x01" + two_bytes(len(body)) + body
+    front = b"\x01" + bytes([1 + 3 * types, types]) + b"\x60\x00\x00" * types + b"\x03\x02\x01\x00"
+    return HEADER + front + b"\x0a" + two_bytes(len(code)) + code
+
+
+LONG_INVALID, LONG_INVALID_EDITED = invalid(1), invalid(2)
+LONG_INVALID_LINE = b"invalid V15 StackHeight at section 10 item 0 token %d\n" % (NOPS + 1)
 # What WIDE_OF_EACH_KIND makes of WIDE, and what it makes where the module has to stay valid.
 WIDE_EDITED = (
     HEADER

@@ -21,7 +21,7 @@ struct Shape {
     datas: u32,
     // Custom sections in front of all others.
     customs: u32,
-    // Whether the body leaves an operand.
+    // Whether the body leaves an operand, for which it has two bytes more.
     is_invalid: bool,
 }
 
@@ -114,14 +114,14 @@ static SHAPES: [Shape; 14] = [
         is_invalid: false,
     },
     Shape {
-        nops: ENOUGH - 1,
+        nops: ENOUGH - 3,
         exports: 0,
         datas: 0,
         customs: 0,
         is_invalid: true,
     },
     Shape {
-        nops: ENOUGH,
+        nops: ENOUGH - 2,
         exports: 0,
         datas: 0,
         customs: 0,

@@ -128,16 +128,26 @@ fn drafted_of(alloc: Global, module: Module, edits: &[Edit], keep: bool) -> Opti
     edit_outline(alloc, outline, bytes, profile, edits, keep).ok()
 }
 
-// Whether both make what those of a session make.
+// Whether both make what those of a session make. Each is dropped by a call, which is proved once.
 fn are_drafted(alloc: Global, module: Module, edits: &[Edit], keep: bool) -> bool {
-    let Some(made) = made_of(alloc, module, edits, keep) else {
-        return false;
+    let made = made_of(alloc, module, edits, keep);
+    let is_so = match &made {
+        Some(made) => is_of_session(alloc, module, made, edits, keep),
+        None => false,
     };
-    let Some(Drafted::Made(other)) = drafted_of(alloc, module, edits, keep) else {
-        return false;
+    drop(made);
+    is_so && is_outlined(alloc, module, edits, keep)
+}
+
+// The same of the draft of an outline.
+fn is_outlined(alloc: Global, module: Module, edits: &[Edit], keep: bool) -> bool {
+    let made = drafted_of(alloc, module, edits, keep);
+    let is_so = match &made {
+        Some(Drafted::Made(made)) => is_of_session(alloc, module, made, edits, keep),
+        _ => false,
     };
-    is_of_session(alloc, module, &made, edits, keep)
-        && is_of_session(alloc, module, &other, edits, keep)
+    drop(made);
+    is_so
 }
 
 fn is_drafted(alloc: Global, module: Module, script: &[u8], keep: bool) -> bool {

@@ -74,7 +74,10 @@ const INDEX: ReadFault = ReadFault {
 };
 
 fn is_refused(alloc: Global) -> bool {
-    read_body(alloc, EXTENDED).err() == Some(INDEX)
+    let answer = read_body(alloc, EXTENDED);
+    let is_so = matches!(&answer, Err(fault) if *fault == INDEX);
+    drop(answer);
+    is_so
 }
 
 fn reads_all(alloc: Global) -> bool {

@@ -16,6 +16,22 @@ use wk_samples::moving::MOVING;
 use wk_samples::outcome::Outcome;
 use wk_samples::wide::WIDE;
 
+// A type, and 70 functions of it that do nothing.
+const SEVENTY_CODES: &[u8] = b"\0asm\x01\0\0\0\x01\x04\x01\x60\0\0\x03\x47\x46\
+      \0\0\0\0\0\0\0\0\0\0\0\0\0\0\0\0\0\0\0\0\0\0\0\0\0\0\0\0\0\0\0\0\0\0\0\
+      \0\0\0\0\0\0\0\0\0\0\0\0\0\0\0\0\0\0\0\0\0\0\0\0\0\0\0\0\0\0\0\0\0\0\0\
+      \x0a\xd3\x01\x46\
+      \x02\0\x0b\x02\0\x0b\x02\0\x0b\x02\0\x0b\x02\0\x0b\x02\0\x0b\x02\0\x0b\
+      \x02\0\x0b\x02\0\x0b\x02\0\x0b\x02\0\x0b\x02\0\x0b\x02\0\x0b\x02\0\x0b\
+      \x02\0\x0b\x02\0\x0b\x02\0\x0b\x02\0\x0b\x02\0\x0b\x02\0\x0b\x02\0\x0b\
+      \x02\0\x0b\x02\0\x0b\x02\0\x0b\x02\0\x0b\x02\0\x0b\x02\0\x0b\x02\0\x0b\
+      \x02\0\x0b\x02\0\x0b\x02\0\x0b\x02\0\x0b\x02\0\x0b\x02\0\x0b\x02\0\x0b\
+      \x02\0\x0b\x02\0\x0b\x02\0\x0b\x02\0\x0b\x02\0\x0b\x02\0\x0b\x02\0\x0b\
+      \x02\0\x0b\x02\0\x0b\x02\0\x0b\x02\0\x0b\x02\0\x0b\x02\0\x0b\x02\0\x0b\
+      \x02\0\x0b\x02\0\x0b\x02\0\x0b\x02\0\x0b\x02\0\x0b\x02\0\x0b\x02\0\x0b\
+      \x02\0\x0b\x02\0\x0b\x02\0\x0b\x02\0\x0b\x02\0\x0b\x02\0\x0b\x02\0\x0b\
+      \x02\0\x0b\x02\0\x0b\x02\0\x0b\x02\0\x0b\x02\0\x0b\x02\0\x0b\x02\0\x0b";
+
 /// The bytes of a module, and the profile that it is read in.
 #[derive(Clone, Copy)]
 pub(crate) struct Sample {
@@ -59,6 +75,12 @@ pub(crate) const OF_TWO: Sample = Sample {
 pub(crate) const OF_WIDE: Sample = Sample {
     profile: Profile::Extended,
     bytes: WIDE,
+};
+
+/// More functions than an outline has room for behind its first code.
+pub(crate) const OF_MANY: Sample = Sample {
+    profile: Profile::Core,
+    bytes: SEVENTY_CODES,
 };
 
 /// Whether the module is written as these bytes.

@@ -1,7 +1,7 @@
 //! Calls of `wk_module`, `wk_check`, `wk_list` and `wk_strip`.
 
 use crate::judging::OfValid;
-use crate::modules::{OF_ALL, OF_MOVING, OF_TWO, OF_TYPES, OF_VALID, OF_WIDE};
+use crate::modules::{OF_ALL, OF_MANY, OF_MOVING, OF_TWO, OF_TYPES, OF_VALID, OF_WIDE};
 use crate::scenario::{Named, Scenario};
 use crate::sections::{OfWhole, Walk};
 use crate::sinks::Room::{Ample, Full};
@@ -10,13 +10,14 @@ use wk_list::Part;
 use wk_module::Profile::{Core, Extended};
 
 /// Calls of `wk_module`, `wk_check`, `wk_list` and `wk_strip`.
-pub(crate) static MODULES: [Named; 74] = [
+pub(crate) static MODULES: [Named; 75] = [
     ("read-types", Scenario::Read(OF_TYPES)),
     ("read-whole", Scenario::Read(OF_ALL)),
     ("read-valid", Scenario::Read(OF_VALID)),
     ("read-wide", Scenario::Read(OF_WIDE)),
     ("read-outline", Scenario::Outline(OF_MOVING)),
     ("read-outline-wide", Scenario::Outline(OF_WIDE)),
+    ("read-outline-of-many", Scenario::Outline(OF_MANY)),
     ("read-skeleton", Scenario::Skeleton(OF_MOVING)),
     ("read-skeleton-wide", Scenario::Skeleton(OF_WIDE)),
     ("encode-types", Scenario::Encode(OF_TYPES)),
