@@ -119,7 +119,7 @@ sort Close r = regular Close 0x0B [] 0 refl refl refl (λ s. refl)
 
 -- ---- at an offset
 
--- what may move is in no row of the table
+-- what may move has no stride
 pub not_regular : (opcode other count : ℕ) → IsReferring opcode → opcode ≡ other → stride other ≡ suc count → ⊥
 unfolding form_of
 not_regular opcode other count (inl e) same long = let none : stride other ≡ 0 = ap stride (sym same ∙ e) in omega (arith, long, none)

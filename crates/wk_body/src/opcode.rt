@@ -1,5 +1,5 @@
 //! The opcodes that the code names, in their order (5.4). Those of loads, stores and numeric instructions are rows of `memory.rt` and
-//! `numeric.rt`: here stand the ends of their ranges.
+//! `numeric.rt`: here stand the first and the last of them that the code asks for.
 
 // ---- control instructions (5.4.1); `end` closes an expression too (5.4.6)
 

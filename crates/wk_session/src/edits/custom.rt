@@ -189,6 +189,7 @@ fn push_custom(
     ensures ok { OnOk result (parts.new ≡ record parts.old { customs = parts.old.customs ++ last_custom name.now bytes.now ∷ [] }) }
     ensures err { OnErr result (parts.new ≡ parts.old) }
 {
+    // The greatest place, which settling lowers.
     let custom = Custom {
         place: section_id::LAST,
         name: name.copy(alloc)?,
