@@ -53,6 +53,14 @@ opened_by profile b outline codes (Ok p) asked reads fits is m at =
     }
 opened_by profile b outline codes (Err e) asked reads fits is m at = absurd cc
 
+-- the codes of an outline are those of the module that the bytes spell
+pub codes_by : (read : Result Parts ReadFault) (outline : Parts) (codes : List (List ℕ))
+    → ((n : Parts) × (read ≡ Ok n) × (outline ≡ outlined n) × (codes ≡ map (λ (f : Func). written_body f.body) n.funcs))
+    → (m : Parts) → read ≡ Ok m → codes ≡ map code_of m.funcs
+codes_by (Ok p) outline codes is m at =
+    let told : is.0 ≡ m = cc in is.3 ∙ ap (λ (n : Parts). map code_of n.funcs) told
+codes_by (Err e) outline codes is m at = absurd cc
+
 -- ---- the module that is written
 
 module _ (os : List Func) (m : Parts) (d : Draft) (held : IsHeld os m d) where

@@ -97,7 +97,8 @@ pub record IsRun (keep : Bool) (m : Parts) (edits : List Edit) (r : Run) : Type 
   pub verdict : r.verdict ≡ module_verdict (after keep edits [] m)
   pub replies : AreAlike r.replies.items (replies_of keep edits [] m)
 
--- the run, or the verdict on m where it was judged
+-- the run; or the verdict on m where it was judged, and the codes of its bodies where they are at hand
 abbrev pub IsDrafted : Bool → Parts → List Edit → Drafted → Type 0
 IsDrafted keep m edits (Made run) = IsRun keep m edits run
-IsDrafted keep m edits (Unmade verdict) = IfSome verdict (λ v. v ≡ module_verdict m)
+IsDrafted keep m edits (Unmade verdict codes) =
+    IfSome verdict (λ v. v ≡ module_verdict m) × IfSome codes (λ cs. cs.items ≡ map code_of m.funcs)

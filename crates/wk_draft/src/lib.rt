@@ -5,8 +5,8 @@
 //! - [`is_valid`] tells whether the module that bytes spell is valid, or the fault of reading it.
 //! - [`edit_outline`] makes edits in order on the module that bytes spell, of which an outline was read before: the answers, the verdict and
 //!   the written form that come are those that the edits of `wk_session` make of it (`IsRun` of `specs/Runs`; an [`Answer`] tells of no
-//!   work). Or it says that it does not, with the verdict on the module where it was judged: a session over the whole module makes them
-//!   then.
+//!   work). Or it says that it does not, with the verdict on the module where it was judged, and with its codes where they are at hand: a
+//!   session over the whole module makes them then.
 //! - [`edit_valid`] does so of bytes alone, whose module has to be valid.
 //! - An [`Edited`] is seen as the written form of the edited module, and [`Edited::write`] makes an `Out` take it, without memory.
 //!

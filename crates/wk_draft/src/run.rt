@@ -13,6 +13,7 @@ ghost use Rattle.wk_module.specs.Outlines.{outlined};
 ghost use Rattle.wk_module.specs.Shape.{IsShaped};
 ghost use Rattle.wk_check.specs.Verdict.{module_verdict};
 ghost use Rattle.wk_session.specs.declared.edit.Edit.{Edit as EditOf};
+ghost use Rattle.wk_session.specs.Pieces.{code_of};
 ghost use Rattle.wk_session.specs.Runs.{after, replies_of};
 ghost use Rattle.wk_draft.specs.Drafts.{aside_room};
 ghost use Rattle.wk_draft.specs.Runs.{AreAlike, IsDrafted, IsFirst, IsHeld, IsMade, IsOutlined, IsRun};
@@ -48,8 +49,13 @@ pub struct Run {
 pub enum Drafted {
     /// They were made.
     Made(Run),
-    /// None of them was made. The verdict on the module, where it was judged.
-    Unmade(Option<Verdict>),
+    /// None of them was made.
+    Unmade {
+        /// The verdict on the module, where it was judged.
+        verdict: Option<Verdict>,
+        /// The codes of its bodies, which the outline had, where no draft took them.
+        codes: Option<Vec<Items<u8>>>,
+    },
 }
 
 // Where references stand at first.
@@ -217,6 +223,19 @@ fn edit_outlined(
     }
 }
 
+// What is left where no draft is made of an outline: its stubs go, and its codes stay, for a session over the whole module.
+fn unmade(verdict: Option<Verdict>, outline: Outline) -> Drafted
+    ensures { (keep : Bool) (m : PartsOf) (edits : List EditOf) → IfSome verdict (λ v. v ≡ module_verdict m)
+        → outline.codes.items ≡ map code_of m.funcs → IsDrafted keep m edits result }
+{
+    let Outline { module, codes } = outline;
+    drop(module);
+    Drafted::Unmade {
+        verdict,
+        codes: Some(codes),
+    }
+}
+
 /// Whether the module of a profile that bytes spell is valid.
 ///
 /// # Errors
@@ -273,8 +292,8 @@ pub fn edit_valid(
 /// Makes edits in order on the module of a profile that bytes spell, of which an outline was read; `keep` says whether each has to leave a
 /// valid module. The module is judged first, and an invalid one is left as it is.
 ///
-/// Where they are not made, nothing is known but the verdict that is answered, if there is one; no clause says when. It is so as for
-/// [`edit_valid`]. An import that looks as if it would break the module is told before it is judged.
+/// Where they are not made, nothing is known but the verdict and the codes that are answered, if there are any; no clause says when. It is so
+/// as for [`edit_valid`]. An import that looks as if it would break the module is told before it is judged.
 ///
 /// # Errors
 ///
@@ -294,8 +313,7 @@ pub fn edit_outline(
     // The proof asks what this says: the module is shaped and fits.
     reading_of_module(input, profile);
     if keep && would_break(outline.module.parts(), edits) {
-        drop(outline);
-        return Ok(Drafted::Unmade(None));
+        return Ok(unmade(None, outline));
     }
     let verdict = match judge_spelled(alloc, input, profile) {
         Ok(verdict) => verdict,
@@ -305,11 +323,13 @@ pub fn edit_outline(
         }
     };
     let Verdict::Valid = verdict else {
-        drop(outline);
-        return Ok(Drafted::Unmade(Some(verdict)));
+        return Ok(unmade(Some(verdict), outline));
     };
     match edit_outlined(alloc, outline, edits, keep)? {
         Some(run) => Ok(Drafted::Made(run)),
-        None => Ok(Drafted::Unmade(Some(Verdict::Valid))),
+        None => Ok(Drafted::Unmade {
+            verdict: Some(Verdict::Valid),
+            codes: None,
+        }),
     }
 }

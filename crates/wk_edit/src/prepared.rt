@@ -1,5 +1,5 @@
 //! An outcome that is computed whole before any of it is written.
-ghost use Rattle.std.specs.Prelude.{◌≡◌, ◌≢◌, ℕ, Bool, Ok, List, Result, IfOk, IfErr, IfSome, MatchResult, OnOk};
+ghost use Rattle.std.specs.Prelude.{◌≡◌, ◌≢◌, ℕ, Bool, Ok, List, Result, IfOk, IfErr, IfSome, MatchResult, OnOk, map};
 ghost use Rattle.std.specs.List.{list_all, list_any};
 ghost use Rattle.wk_module.specs.declared.types.Parts.{Parts as PartsOf};
 ghost use Rattle.wk_body.specs.Reads.{FailsAs, Reads};
@@ -9,6 +9,7 @@ ghost use Rattle.wk_session.specs.declared.edit.Edit.{Edit as EditOf};
 ghost use Rattle.wk_session.specs.declared.edit.EditFault.{EditFault as EditFaultOf};
 ghost use Rattle.wk_session.specs.declared.edit.Work.{Work as WorkOf};
 ghost use Rattle.wk_check.specs.Verdict.{module_verdict};
+ghost use Rattle.wk_session.specs.Pieces.{code_of};
 ghost use Rattle.wk_session.specs.Runs.{is_memory, replies_of, after, refused_for_memory};
 ghost use Rattle.wk_draft.specs.Runs.{AreAlike, IsRun};
 ghost use Rattle.wk_edit.specs.Outcome.{malformed_outcome, outcome_of, run_outcome, run_status, script_outcome};
@@ -20,7 +21,7 @@ use crate::lines::{malformed_line, refused_script, report};
 use crate::script::read_script;
 use crate::worth::is_worth_draft;
 use std::alloc::Global;
-use wk_bytes::{OutOfMemory, ReadFault, ReadKind};
+use wk_bytes::{Items, OutOfMemory, ReadFault, ReadKind};
 use wk_check::Verdict;
 use wk_draft::{Drafted, Edited, Run, edit_outline};
 use wk_list::Shape;
@@ -208,19 +209,26 @@ fn of_draft(alloc: Global, run: Run) -> Result<Prepared, RunFault>
     }
 }
 
-// A session over a module whose verdict may be known: then it is not judged again.
+// A session over a module whose verdict may be known, and whose codes may be at hand: then it is not judged again, and they are not written.
 fn session_over(
     alloc: Global,
     input: &[u8],
     verdict: Option<Verdict>,
+    codes: Option<Vec<Items<u8>>>,
     profile: Profile,
 ) -> Result<Session, ReadFault>
-    requires { (m : PartsOf) → module_at profile input.now ≡ Ok m → IfSome verdict (λ v. v ≡ module_verdict m) }
+    requires judged { (m : PartsOf) → module_at profile input.now ≡ Ok m
+        → IfSome verdict (λ v. v ≡ module_verdict m) }
+    requires codes { (m : PartsOf) → module_at profile input.now ≡ Ok m
+        → IfSome codes (λ cs. cs.items ≡ map code_of m.funcs) }
     ensures { Reads (λ m. m) result (module_at profile input.now) }
 {
-    match verdict {
-        Some(verdict) => Session::open_judged(alloc, input, profile, verdict),
-        None => Session::open_in(alloc, input, profile),
+    match (codes, verdict) {
+        (Some(codes), verdict) => {
+            Session::open_outlined(alloc, input, profile, verdict, codes)
+        }
+        (None, Some(verdict)) => Session::open_judged(alloc, input, profile, verdict),
+        (None, None) => Session::open_in(alloc, input, profile),
     }
 }
 
@@ -229,17 +237,20 @@ fn by_session(
     alloc: Global,
     input: Vec<u8>,
     verdict: Option<Verdict>,
+    codes: Option<Vec<Items<u8>>>,
     edits: &[Edit],
     keep_valid: bool,
     profile: Profile,
 ) -> Result<Prepared, RunFault>
     requires spelled { (m : PartsOf) × (module_at profile input.items ≡ Ok m) }
     requires judged { (m : PartsOf) → module_at profile input.items ≡ Ok m → IfSome verdict (λ v. v ≡ module_verdict m) }
+    requires codes { (m : PartsOf) → module_at profile input.items ≡ Ok m
+        → IfSome codes (λ cs. cs.items ≡ map code_of m.funcs) }
     ensures ok { (m : PartsOf) → module_at profile input.items ≡ Ok m
         → IfOk result (IsPrepared (run_outcome keep_valid m edits.now)) }
     ensures memory { IfErr result (λ e. e ≡ RunFault.Memory) }
 {
-    let opened = session_over(alloc, &input, verdict, profile);
+    let opened = session_over(alloc, &input, verdict, codes, profile);
     drop(input);
     match opened {
         Ok(session) => of_run(alloc, session, edits, keep_valid),
@@ -298,8 +309,8 @@ fn run_edits(
     };
     match edit_outline(alloc, outline, &input, profile, edits, keep_valid)? {
         Drafted::Made(run) => of_draft(alloc, run),
-        Drafted::Unmade(verdict) => {
-            by_session(alloc, input, verdict, edits, keep_valid, profile)
+        Drafted::Unmade { verdict, codes } => {
+            by_session(alloc, input, verdict, codes, edits, keep_valid, profile)
         }
     }
 }

@@ -194,10 +194,11 @@ fn left(alloc: Global, module: Module, script: &[u8]) -> Option<Drafted> {
 // Whether edits of a module are left to a session, before it is judged or with its verdict.
 fn is_left(alloc: Global, module: Module, script: &[u8], is_judged: bool) -> bool {
     match left(alloc, module, script) {
-        Some(Drafted::Unmade(Some(verdict))) => {
-            is_judged && judge_bytes(alloc, module.0, module.1) == Ok(verdict)
-        }
-        Some(Drafted::Unmade(None)) => !is_judged,
+        Some(Drafted::Unmade {
+            verdict: Some(verdict),
+            ..
+        }) => is_judged && judge_bytes(alloc, module.0, module.1) == Ok(verdict),
+        Some(Drafted::Unmade { verdict: None, .. }) => !is_judged,
         Some(Drafted::Made(_)) => false,
         None => false,
     }

@@ -8,7 +8,7 @@ use std::test::Fail;
 use wk_bytes::{OutOfMemory, ReadFault, ReadKind, Sink};
 use wk_check::{Fault, FaultKind, Place, Verdict, judge_bytes};
 use wk_edit::read_script;
-use wk_module::{Profile, Ref, read_in};
+use wk_module::{Outline, Profile, Ref, read_in, read_outline};
 use wk_session::{Edit, Reply, Session};
 
 // The bytes that a session writes.
@@ -42,7 +42,28 @@ fn open_judged(alloc: Global, profile: Profile, bytes: &[u8]) -> Result<Session,
     Session::open_judged(alloc, bytes, profile, verdict)
 }
 
-// Whether a module is opened with this verdict, and written as these bytes, whether it is judged or its verdict is known.
+// The same with the codes of its outline, and without the verdict.
+fn open_outlined(alloc: Global, profile: Profile, bytes: &[u8]) -> Result<Session, ReadFault> {
+    let Outline { module, codes } = read_outline(alloc, bytes, profile)?;
+    drop(module);
+    Session::open_outlined(alloc, bytes, profile, None, codes)
+}
+
+// The same with both.
+fn open_known(alloc: Global, profile: Profile, bytes: &[u8]) -> Result<Session, ReadFault> {
+    let Outline { module, codes } = read_outline(alloc, bytes, profile)?;
+    drop(module);
+    match judge_bytes(alloc, bytes, profile) {
+        Ok(verdict) => Session::open_outlined(alloc, bytes, profile, Some(verdict), codes),
+        Err(fault) => {
+            drop(codes);
+            Err(fault)
+        }
+    }
+}
+
+// Whether a module is opened with this verdict, and written as these bytes, whether it is judged or its verdict is known, and with codes that
+// are at hand.
 fn opens_as(alloc: Global, profile: Profile, bytes: &[u8], whole: &[u8], verdict: Verdict) -> bool {
     let Ok(session) = open(alloc, profile, bytes) else {
         return false;
@@ -50,7 +71,16 @@ fn opens_as(alloc: Global, profile: Profile, bytes: &[u8], whole: &[u8], verdict
     let Ok(judged) = open_judged(alloc, profile, bytes) else {
         return false;
     };
-    says(alloc, &session, whole, verdict) && says(alloc, &judged, whole, verdict)
+    let Ok(outlined) = open_outlined(alloc, profile, bytes) else {
+        return false;
+    };
+    let Ok(known) = open_known(alloc, profile, bytes) else {
+        return false;
+    };
+    says(alloc, &session, whole, verdict)
+        && says(alloc, &judged, whole, verdict)
+        && says(alloc, &outlined, whole, verdict)
+        && says(alloc, &known, whole, verdict)
 }
 
 // Whether a session over the module that was read says the same.
@@ -68,6 +98,19 @@ fn is_over(alloc: Global, profile: Profile, bytes: &[u8], whole: &[u8], verdict:
 const SIGN_EXTENSION: &[u8] =
     b"\0asm\x01\0\0\0\x01\x04\x01\x60\0\0\x03\x02\x01\0\x0a\x08\x01\x06\0\x41\0\xc0\x1a\x0b";
 
+// Three functions: the first is empty, the second leaves an operand, and the third drops one that is not there.
+const TWO_INVALID: &[u8] =
+    b"\0asm\x01\0\0\0\x01\x04\x01\x60\0\0\x03\x04\x03\0\0\0\x0a\x0d\x03\x02\0\x0b\x04\0\x41\0\x0b\x03\0\x1a\x0b";
+
+const LEFT_BY_SECOND: Verdict = Verdict::Invalid(Fault {
+    kind: FaultKind::StackHeight,
+    place: Place {
+        section: 10,
+        item: 1,
+        token: Some(1),
+    },
+});
+
 const TWO_RESULTS_OF_FIRST: Verdict = Verdict::Invalid(Fault {
     kind: FaultKind::TypeArity,
     place: Place {
@@ -80,7 +123,7 @@ const TWO_RESULTS_OF_FIRST: Verdict = Verdict::Invalid(Fault {
 // A profile, a module, and its written form and verdict.
 type Opened = (Profile, &'static [u8], &'static [u8], Verdict);
 
-static OPENED: [Opened; 9] = [
+static OPENED: [Opened; 10] = [
     (Profile::Core, EMPTY, EMPTY, Verdict::Valid),
     (Profile::Core, ONE_TYPE, ONE_TYPE, Verdict::Valid),
     (
@@ -96,6 +139,12 @@ static OPENED: [Opened; 9] = [
         TWO_RESULTS_OF_FIRST,
     ),
     (Profile::Core, MIXED, MIXED, Verdict::Valid),
+    (
+        Profile::Core,
+        TWO_INVALID,
+        TWO_INVALID,
+        LEFT_BY_SECOND,
+    ),
     (
         Profile::Core,
         b"\0asm\x01\0\0\0\x01\x01\0\0\x02\x01c",

@@ -94,16 +94,18 @@ fn verdict_of<E: Env>(
     }
 }
 
-// What is kept of functions of a module, whose verdict may be known. Each of which it does not tell is judged, and each is looked at and
-// written while it is in the processor's caches.
+// What is kept of functions of a module, whose verdict may be known, and whose codes may be at hand. Each of which the verdict does not tell
+// is judged, and each is looked at and, where its code is not at hand, written while it is in the processor's caches.
 fn entries_in<E: Env>(
     alloc: Global,
     env: &E,
     funcs: &Items<Func>,
     known: &Option<Verdict>,
+    at_hand: Option<Vec<Items<u8>>>,
 ) -> Result<Entries, OutOfMemory>
     requires few { length funcs.now < 2 ^ 32 }
     requires told { AreTold known.now (E.answers env.now) funcs.now }
+    requires at_hand { IfSome at_hand (λ cs. cs.items ≡ map code_of funcs.now) }
     ensures verdicts { IfOk result (λ e. e.verdicts.items ≡ map (func_verdict (E.answers env.now)) funcs.now) }
     ensures refs { IfOk result (λ e. map (λ s. s.keys) e.refs.items ≡ map uses_of funcs.now) }
     ensures codes { IfOk result (λ e. e.codes.items ≡ map code_of funcs.now) }
@@ -112,15 +114,20 @@ fn entries_in<E: Env>(
     let mut encoded = 0;
     let mut verdicts = Vec::with_capacity(alloc, funcs.len())?;
     let mut refs = Vec::with_capacity(alloc, funcs.len())?;
-    let mut codes = Vec::with_capacity(alloc, funcs.len())?;
+    let is_written = at_hand.is_some();
+    let mut codes = match at_hand {
+        Some(codes) => codes,
+        None => Vec::with_capacity(alloc, funcs.len())?,
+    };
     let mut room = Vec::new(alloc);
     for (i, func) in funcs.as_slice().iter().enumerate() {
         let verdict = verdict_of(env, func, told_body(known, i), &mut meter)?;
         let found = func_uses(alloc, func.ty, &func.body)?;
-        let code = code_in_room(alloc, &mut room, &func.body, &mut encoded)?;
+        if !is_written {
+            codes.push(code_in_room(alloc, &mut room, &func.body, &mut encoded)?)?;
+        }
         verdicts.push(verdict)?;
         refs.push(found)?;
-        codes.push(code)?;
     }
     Ok(Entries {
         verdicts,
@@ -129,21 +136,23 @@ fn entries_in<E: Env>(
     })
 }
 
-// What is kept of functions in a module with these lists, whose verdict may be known.
+// What is kept of functions in a module with these lists, whose verdict may be known, and whose codes may be at hand.
 fn entries_of(
     alloc: Global,
     lists: Lists<'_>,
     funcs: &Items<Func>,
     known: &Option<Verdict>,
+    at_hand: Option<Vec<Items<u8>>>,
 ) -> Result<Entries, OutOfMemory>
     requires few { length funcs.now < 2 ^ 32 }
     requires told { AreTold known.now (answer_in (spaces_of (listed lists))) funcs.now }
+    requires at_hand { IfSome at_hand (λ cs. cs.items ≡ map code_of funcs.now) }
     ensures verdicts { IfOk result (λ e. e.verdicts.items ≡ map (func_verdict (answer_in (spaces_of (listed lists.entry)))) funcs.now) }
     ensures refs { IfOk result (λ e. map (λ s. s.keys) e.refs.items ≡ map uses_of funcs.now) }
     ensures codes { IfOk result (λ e. e.codes.items ≡ map code_of funcs.now) }
 {
     let whole = Whole::of(alloc, lists)?;
-    entries_in(alloc, &whole, funcs, known)
+    entries_in(alloc, &whole, funcs, known, at_hand)
 }
 
 // The verdict of a module with these lists and verdicts of bodies. It is not judged where it is known.
@@ -184,20 +193,22 @@ fn pieces_len(alloc: Global, pieces: &Pieces) -> Result<Option<u32>, OutOfMemory
 }
 
 impl Kept {
-    /// What is to be kept of a module that is not too large, and whose verdict may be known.
+    /// What is to be kept of a module that is not too large, whose verdict may be known, and whose codes may be at hand.
     pub(crate) fn of(
         alloc: Global,
         module: &Module,
         known: &Option<Verdict>,
+        at_hand: Option<Vec<Items<u8>>>,
     ) -> Result<Kept, OutOfMemory>
         requires fits { Fits «module».now }
         requires known { IfSome known.now (λ v. v ≡ module_verdict «module».now) }
+        requires at_hand { IfSome at_hand (λ cs. cs.items ≡ map code_of («module».now).funcs) }
         ensures { IfOk result (IsKept «module».now) }
     {
         let parts = module.parts();
         let types = types_of(alloc, &parts.funcs)?;
         let lists = Lists::of(parts, &types);
-        let entries = entries_of(alloc, lists, &parts.funcs, known)?;
+        let entries = entries_of(alloc, lists, &parts.funcs, known, at_hand)?;
         let Entries {
             verdicts,
             refs,

@@ -3,7 +3,8 @@
 //! # What it promises
 //!
 //! - A [`Session`] is seen as its plain module; no clause names what it keeps. [`Session::open_in`] is the grammar of a profile,
-//!   [`Session::open`] that of 1.0, and [`Session::open_judged`] is the same as `open_in` where the verdict is known.
+//!   [`Session::open`] that of 1.0. [`Session::open_judged`] is the same as `open_in` where the verdict is known, and
+//!   [`Session::open_outlined`] where the codes are at hand in their written form, as an outline has them.
 //! - [`Session::of`] is over a module that is given, unless its written form would be too long.
 //! - [`Session::apply`] and [`Session::apply_kept`] make of the module what the definition of the edit says, and answer its reply
 //!   (`made` of `specs/Edits`; `reply_of`, `after_one` of `specs/Runs`), for any module and for a valid one. [`Session::run`] and
@@ -29,8 +30,8 @@
 //! the sections that change, and writing puts what is kept in order. All growths come before what is kept changes; what was pushed to
 //! be judged is taken back where the edit is refused.
 //!
-//! Opening goes over the bytes once, and over each body once more: it is typed, unless its verdict is known, looked at and written
-//! in turn, into one room that serves all bodies. What is held then is 16 bytes for each token, each code, the contents of each section
+//! Opening goes over the bytes once, and over each body once more: it is typed, unless its verdict is known, looked at, and, unless its
+//! code is at hand, written in turn, into one room that serves all bodies. What is held then is 16 bytes for each token, each code, the contents of each section
 //! beside the lists that are read of them, and a set of some 200 bytes for each function.
 //!
 //! What grows with a session that is kept open is the module, and with it what is kept: an edit leaves nothing behind, but for the room

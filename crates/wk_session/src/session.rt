@@ -98,13 +98,19 @@ fn edit_parts(alloc: Global, keep: bool, parts: &mut Parts, kept: &mut Kept, edi
 }
 
 impl Session {
-    // A session over a module that is not too large, and whose verdict may be known.
-    fn over(alloc: Global, module: Module, known: &Option<Verdict>) -> Result<Session, OutOfMemory>
+    // A session over a module that is not too large, whose verdict may be known, and whose codes may be at hand.
+    fn over(
+        alloc: Global,
+        module: Module,
+        known: &Option<Verdict>,
+        at_hand: Option<Vec<Items<u8>>>,
+    ) -> Result<Session, OutOfMemory>
         requires fits { Fits «module» }
         requires known { IfSome known.now (λ v. v ≡ module_verdict «module») }
+        requires at_hand { IfSome at_hand (λ cs. cs.items ≡ map code_of («module»).funcs) }
         ensures { IfOk result (λ m. m ≡ «module») }
     {
-        let kept = Kept::of(alloc, &module, known)?;
+        let kept = Kept::of(alloc, &module, known, at_hand)?;
         Ok(Session {
             alloc,
             module,
@@ -128,7 +134,7 @@ impl Session {
         ensures fault { IfErr result (λ e. StandsIn bytes.now e) }
     {
         let module = read_in(alloc, bytes, profile)?;
-        Ok(Session::over(alloc, module, &None)?)
+        Ok(Session::over(alloc, module, &None, None)?)
     }
 
     /// The same as [`Session::open_in`] of a module whose verdict is known, as [`judge_bytes`](wk_check::judge_bytes) gives it. It is not judged
@@ -153,7 +159,43 @@ impl Session {
         ensures fault { IfErr result (λ e. StandsIn bytes.now e) }
     {
         let judged = read_in(alloc, bytes, profile)?;
-        Ok(Session::over(alloc, judged, &Some(verdict))?)
+        Ok(Session::over(alloc, judged, &Some(verdict), None)?)
+    }
+
+    /// The same as [`Session::open_in`] of a module of which an outline was read before: the code of each of its functions is at hand in its
+    /// written form, without its size, and is kept as it is, where `open_in` writes each body. Its verdict may be known, as for
+    /// [`Session::open_judged`].
+    ///
+    /// # Errors
+    ///
+    /// Those of [`Session::open_in`].
+    pub fn open_outlined(
+        alloc: Global,
+        bytes: &[u8],
+        profile: Profile,
+        verdict: Option<Verdict>,
+        codes: Vec<Items<u8>>,
+    ) -> Result<Session, ReadFault>
+        requires verdict { (m : PartsOf) → module_at profile bytes.now ≡ Ok m
+            → IfSome verdict (λ v. v ≡ module_verdict m) }
+        requires codes { (m : PartsOf) → module_at profile bytes.now ≡ Ok m
+            → codes.items ≡ map code_of m.funcs }
+        ensures exact { Reads (λ m. m) result (module_at profile bytes.now) }
+        ensures found { IfOk result (λ m. Spells bytes.now m) }
+        ensures profile { IfOk result (λ m. m.profile ≡ profile) }
+        ensures only { IfOk result (λ m. (n : PartsOf) → n.profile ≡ profile → Spells bytes.now n → n ≡ m) }
+        ensures refused { IfErr result (λ e. e.kind ≢ ReadKind.Memory → SpellsNone profile bytes.now) }
+        ensures fits { IfOk result (λ m. Fits m) }
+        ensures fault { IfErr result (λ e. StandsIn bytes.now e) }
+    {
+        let outlined = match read_in(alloc, bytes, profile) {
+            Ok(outlined) => outlined,
+            Err(fault) => {
+                drop(codes);
+                return Err(fault);
+            }
+        };
+        Ok(Session::over(alloc, outlined, &verdict, Some(codes))?)
     }
 
     /// A session over the one module of WebAssembly 1.0 that the bytes spell, as [`Session::open_in`].
@@ -182,7 +224,7 @@ impl Session {
         if encoded_len(&module).is_none() {
             return Err(EncodeFault::TooLarge);
         }
-        Ok(Session::over(alloc, module, &None)?)
+        Ok(Session::over(alloc, module, &None, None)?)
     }
 
     /// The verdict of the module.

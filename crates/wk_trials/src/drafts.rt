@@ -128,7 +128,7 @@ impl Draft {
         call_ends(alloc);
         match answer {
             Ok(Drafted::Made(run)) => Outcome::answered(self.is_made(alloc, &run, edits)),
-            Ok(Drafted::Unmade(_)) => Outcome::Wrong("the draft gave up"),
+            Ok(Drafted::Unmade { .. }) => Outcome::Wrong("the draft gave up"),
             Err(OutOfMemory) => Outcome::refused(true),
         }
     }

@@ -86,6 +86,8 @@ pub(crate) enum Scenario {
     Open(Sample),
     /// `Session::open_judged` of a valid module.
     OpenJudged(Sample),
+    /// `Session::open_outlined` of a valid module whose verdict is not known.
+    OpenOutlined(Sample),
     /// `Session::of` of a valid module.
     Holding(Sample),
     /// `Session::verdict`, `Session::encoded_len` and `Session::uses`.
@@ -192,6 +194,7 @@ impl Scenario {
         match self {
             Scenario::Open(sample) => sessions::opens(alloc, sample),
             Scenario::OpenJudged(sample) => sessions::opens_judged(alloc, sample),
+            Scenario::OpenOutlined(sample) => sessions::opens_outlined(alloc, sample),
             Scenario::Holding(sample) => sessions::holds_module(alloc, sample),
             Scenario::Tell(sample) => sessions::tells(alloc, sample),
             Scenario::ListSession(part, profile, room) => {

@@ -13,7 +13,7 @@ use std::alloc::Global;
 use wk_bytes::{Out, ReadFault, Sink};
 use wk_check::{Verdict, judge_bytes};
 use wk_list::{ListFault, Part};
-use wk_module::{EncodeFault, Module, Profile, Ref};
+use wk_module::{EncodeFault, Module, Outline, Profile, Ref, read_outline};
 use wk_samples::outcome::Outcome;
 use wk_session::{Session, WriteFault};
 
@@ -43,6 +43,19 @@ pub(crate) fn opens_judged(alloc: Global, sample: Sample) -> Outcome {
     };
     call_begins(alloc);
     let answer = Session::open_judged(alloc, bytes, profile, verdict);
+    call_ends(alloc);
+    and_drop(was_opened(alloc, &answer, bytes), answer)
+}
+
+/// `Session::open_outlined` of a valid module in its written form, whose verdict is not known.
+pub(crate) fn opens_outlined(alloc: Global, sample: Sample) -> Outcome {
+    let Sample { profile, bytes } = sample;
+    let Ok(Outline { module, codes }) = read_outline(alloc, bytes, profile) else {
+        return Outcome::NO_SAMPLE;
+    };
+    drop(module);
+    call_begins(alloc);
+    let answer = Session::open_outlined(alloc, bytes, profile, None, codes);
     call_ends(alloc);
     and_drop(was_opened(alloc, &answer, bytes), answer)
 }

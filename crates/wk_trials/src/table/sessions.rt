@@ -16,6 +16,8 @@ pub(crate) static SESSIONS: [Named; 48] = [
     ("open-wide", Open(OF_WIDE)),
     ("open-judged", Scenario::OpenJudged(OF_MOVING)),
     ("open-judged-wide", Scenario::OpenJudged(OF_WIDE)),
+    ("open-outlined", Scenario::OpenOutlined(OF_MOVING)),
+    ("open-outlined-wide", Scenario::OpenOutlined(OF_WIDE)),
     ("hold-types", Scenario::Holding(OF_TYPES)),
     ("hold-moving", Scenario::Holding(OF_MOVING)),
     ("hold-wide", Scenario::Holding(OF_WIDE)),

@@ -26,4 +26,4 @@ returns-in-Some c = λ m at.
     rw c.in-Some.is at (c.in_ok-run.ensures m outlined)
 
 pub returns-in-None : goal.returns-in-None
-returns-in-None c = λ m at. sym c.in-Valid.is ∙ c.in-Ok.ensures.exact m at
+returns-in-None c = λ m at. (sym c.in-Valid.is ∙ c.in-Ok.ensures.exact m at, tt)

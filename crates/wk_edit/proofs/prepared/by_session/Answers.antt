@@ -7,9 +7,13 @@ use Rattle.wk_edit.specs.Prepared.{IsPrepared}
 use Rattle.wk_edit.proofs.OutcomeLemmas.{same_module}
 use Rattle.wk_edit.proofs.prepared.by_session.Goals as goal
 
-pub session_over-opened-requires : goal.session_over-opened-requires
-session_over-opened-requires c = λ m at.
+pub session_over-opened-requires-clause-judged : goal.session_over-opened-requires-clause-judged
+session_over-opened-requires-clause-judged c = λ m at.
     c.requires.judged m (subst (λ (b : List ℕ). module_at c.args.profile b ≡ Ok m) c.deref.ensures.value at)
+
+pub session_over-opened-requires-clause-codes : goal.session_over-opened-requires-clause-codes
+session_over-opened-requires-clause-codes c = λ m at.
+    c.requires.codes m (subst (λ (b : List ℕ). module_at c.args.profile b ≡ Ok m) c.deref.ensures.value at)
 
 pub returns-in-Ok-clause-ok : goal.returns-in-Ok-clause-ok
 returns-in-Ok-clause-ok c = λ m at.

@@ -27,7 +27,12 @@ returns-in-Made-clause-ok c = λ m opened.
 pub by_session-requires-clause-judged : goal.by_session-requires-clause-judged
 by_session-requires-clause-judged c = λ m at.
     let lent : module_at c.args.profile c.deref.result.now ≡ Ok m = subst (λ (b : List ℕ). module_at c.args.profile b ≡ Ok m) (sym c.deref.ensures.value) at in
-    rw c.in-Unmade.is at (c.in_ok-run.ensures m lent)
+    (rw c.in-Unmade.is at (c.in_ok-run.ensures m lent)).0
+
+pub by_session-requires-clause-codes : goal.by_session-requires-clause-codes
+by_session-requires-clause-codes c = λ m at.
+    let lent : module_at c.args.profile c.deref.result.now ≡ Ok m = subst (λ (b : List ℕ). module_at c.args.profile b ≡ Ok m) (sym c.deref.ensures.value) at in
+    (rw c.in-Unmade.is at (c.in_ok-run.ensures m lent)).1
 
 pub returns-in-Unmade-clause-ok : goal.returns-in-Unmade-clause-ok
 returns-in-Unmade-clause-ok c = λ m opened. c.by_session.ensures.ok m (rw c.in-Outlined.is at opened).0

@@ -1,0 +1,5 @@
+use Rattle.std.proofs.Common.{sym, ◌∙◌}
+use Rattle.wk_session.proofs.session.Session.open_outlined.Goals as goal
+
+pub returns-clause-only : goal.returns-clause-only
+returns-clause-only c = λ n profile spells. c.in-Ok.ensures.only n profile spells ∙ sym c.in_ok-over.ensures
