@@ -4,7 +4,9 @@ use Rattle.std.proofs.lemmas.List.{take_more}
 use Rattle.wk_module.specs.declared.types.Import.{Import}
 use Rattle.wk_module.specs.declared.types.ImportDesc.{ImportDesc}
 use Rattle.wk_module.specs.declared.types.Kind.{Kind}
-use Rattle.wk_list.specs.Spaces.{is_of, count_of}
+use Rattle.wk_module.specs.declared.types.Kind.TheVariants.{Func, Table, Memory, Global}
+use Rattle.wk_list.specs.declared.spaces.Counts.{Counts}
+use Rattle.wk_list.specs.Spaces.{is_of, count_of, AreCounted}
 
 -- what one more counts
 abbrev pub once : Bool → ℕ
@@ -30,6 +32,18 @@ count_le kind [] = omega arith
 count_le kind (i ∷ is) = omega (arith, once_le (is_of kind i.desc), count_le kind is)
 
 -- a count with one import more
-pub counted_behind : (kind : Kind) (before : List Import) (i : Import) (d : ImportDesc) (old new : ℕ) → i.desc ≡ d → old ≡ count_of kind before → new ≡ old + once (is_of kind d)
+counted_behind : (kind : Kind) (before : List Import) (i : Import) (d : ImportDesc) (old new : ℕ) → i.desc ≡ d → old ≡ count_of kind before
+    → new ≡ old + once (is_of kind d)
     → new ≡ count_of kind (before ++ i ∷ [])
 counted_behind kind before i d old new same counted one = omega (arith, count_behind kind before i, ap (λ (e : ImportDesc). once (is_of kind e)) same)
+
+-- all counts with one import more, by what is added to each
+pub counted_on : (old new : Counts) (before : List Import) (i : Import) (d : ImportDesc) → i.desc ≡ d → AreCounted old before
+    → new.funcs ≡ old.funcs + once (is_of Func d) → new.tables ≡ old.tables + once (is_of Table d)
+    → new.memories ≡ old.memories + once (is_of Memory d) → new.globals ≡ old.globals + once (is_of Global d) → AreCounted new (before ++ i ∷ [])
+counted_on old new before i d same counted funcs tables memories globals = record {
+  funcs_are = counted_behind Func before i d _ _ same counted.funcs_are funcs;
+  tables_are = counted_behind Table before i d _ _ same counted.tables_are tables;
+  memories_are = counted_behind Memory before i d _ _ same counted.memories_are memories;
+  globals_are = counted_behind Global before i d _ _ same counted.globals_are globals;
+}

@@ -1,24 +1,17 @@
 -- Sections with a heading.
-use Rattle.std.proofs.Common.{◌≡◌, ℕ, ◌==◌, false, Option, Some, List, [], ◌∷◌, ◌++◌, length, codes, decimal, sym, ap, ◌∙◌, subst, append_assoc}
-use Rattle.wk_bytes.specs.Taken.{TakesFront}
-use Rattle.wk_list.specs.Taken.{Leaves}
+use Rattle.std.proofs.Common.{◌≡◌, ℕ, ◌==◌, false, Some, Option, List, [], ◌∷◌, ◌++◌, length, codes, decimal, sym, ap, ◌∙◌, append_assoc, append-nil, arith}
 use Rattle.wk_list.specs.Details.{heading, with_heading, start_line}
 
 -- the heading was gathered of a section that has items
-with_heading_is : {A : Type 0} (id : ℕ) (items : List A) (lines t between : List ℕ) → (length items == 0) ≡ false → between ≡ t ++ heading id (length items)
+pub heading_put : {A : Type 0} (id : ℕ) (items : List A) (lines t between : List ℕ) → (length items == 0) ≡ false → between ≡ t ++ heading id (length items)
     → between ++ lines ≡ t ++ with_heading id items lines
-with_heading_is id [] lines t between some e = absurd cc
-with_heading_is id (x ∷ xs) lines t between some e = ap (λ (r : List ℕ). r ++ lines) e ∙ append_assoc t (heading id (length (x ∷ xs))) lines
+heading_put id [] lines t between some e = absurd cc
+heading_put id (x ∷ xs) lines t between some e = ap (λ (r : List ℕ). r ++ lines) e ∙ append_assoc t (heading id (length (x ∷ xs))) lines
 
--- a call that stopped in the lines stopped in the section
-pub heading_stopped : {A : Type 0} (a b : Option (List ℕ)) (id : ℕ) (items : List A) (lines t between : List ℕ) → (length items == 0) ≡ false → between ≡ t ++ heading id (length items)
-    → TakesFront a b (between ++ lines) → TakesFront a b (t ++ with_heading id items lines)
-heading_stopped a b id items lines t between some e p = subst (λ (r : List ℕ). TakesFront a b r) (with_heading_is id items lines t between some e) p
-
--- ... and one that ended in them ended in it
-pub heading_listed : {A : Type 0} (a b : Option (List ℕ)) (id : ℕ) (items : List A) (lines t between new : List ℕ) → (length items == 0) ≡ false → between ≡ t ++ heading id (length items)
-    → Leaves a b (between ++ lines) new → Leaves a b (t ++ with_heading id items lines) new
-heading_listed a b id items lines t between new some e p = subst (λ (r : List ℕ). Leaves a b r new) (with_heading_is id items lines t between some e) p
+-- a section without items has none
+pub no_heading : {A : Type 0} (id : ℕ) (items : List A) (lines t : List ℕ) → length items ≡ 0 → t ++ with_heading id items lines ≡ t
+no_heading id [] lines t none = append-nil t
+no_heading id (x ∷ xs) lines t none = absurd (omega arith)
 
 -- ---- the start section
 

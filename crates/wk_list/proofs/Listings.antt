@@ -1,13 +1,14 @@
 -- The whole of a listing: what was gathered last goes out at its end.
-use Rattle.std.proofs.Common.{◌≡◌, ℕ, Option, List, [], ◌++◌, append-nil, sym, ◌∙◌, subst}
-use Rattle.std.specs.Prelude.{Result, Ok, Err, OnErr}
+use Rattle.std.proofs.Common.{◌≡◌, ℕ, List, [], ◌++◌, append-nil, sym, ap, ◌∙◌}
+use Rattle.std.specs.Prelude.{Result, Ok, Err, Option, OnErr}
 use Rattle.wk_bytes.specs.Taken.{TakesFront}
-use Rattle.wk_list.specs.Taken.{Leaves}
-use Rattle.wk_list.proofs.TakenLemmas.{stops_spilled}
+use Rattle.wk_list.specs.Taken.{PutsOut}
+use Rattle.wk_list.proofs.TakenLemmas.{puts_same, stops_on}
 
-pub stops_last : {T E : Type 0} (r : Result T E) (a b c : Option (List ℕ)) (text all left between : List ℕ) → text ≡ [] → Leaves a b (text ++ all) left → between ≡ left → OnErr r (TakesFront b c between) → OnErr r (TakesFront a c all)
-stops_last (Ok x) a b c text all left between none so_far same stopped = tt
-stops_last (Err e) a b c text all left between none so_far same stopped =
-    let whole : Leaves a b all left = subst (λ (r : List ℕ). Leaves a b (r ++ all) left) none so_far in
-    let last : Leaves a b all (left ++ ([] ++ [])) = subst (λ (r : List ℕ). Leaves a b all r) (sym (append-nil left)) whole in
-    stops_spilled a b c all left [] [] between last (same ∙ sym (append-nil left)) stopped
+pub stops_last : {W U T E : Type 0} {taken : W → Option (List ℕ)} {failed : W → ℕ} {a b : W} {text left between : List ℕ} {u : U} (c : W) (r : Result T E)
+    (all : List ℕ) → text ≡ [] → PutsOut taken failed a b (text ++ all) left (Ok u) → between ≡ left → OnErr r (TakesFront (taken b) (taken c) between)
+    → OnErr r (TakesFront (taken a) (taken c) all)
+stops_last c (Ok x) all none so_far same stopped = tt
+stops_last {left = left} {between = between} c (Err e) all none so_far same stopped =
+    stops_on _ _ _ all left between [] (puts_same (ap (λ (x : List ℕ). x ++ all) none) so_far).ok
+    (sym (append-nil left) ∙ ap (λ (x : List ℕ). x ++ []) (sym same)) stopped

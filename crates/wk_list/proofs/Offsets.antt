@@ -4,7 +4,6 @@ use Rattle.std.proofs.lemmas.Bool.{eq-eqb}
 use Rattle.std.specs.List.{flat_map}
 use Rattle.std.proofs.lemmas.List.{flat_map_more, take_more, drop_more, length-map}
 use Rattle.std.proofs.lemmas.List.Folds.{length-flat_map-take, flat_map-map}
-use Rattle.std.proofs.lemmas.List.FromFn.{get_or-range_with_len}
 use Rattle.wk_bytes.specs.Frames.{limit, magic, version}
 use Rattle.wk_bytes.specs.ListWords.{is_empty}
 use Rattle.wk_bytes.specs.Short.{short}
@@ -23,7 +22,7 @@ use Rattle.wk_module.specs.Items.{written_code}
 use Rattle.wk_module.specs.Sections.{CodeSection, contents}
 use Rattle.wk_module.specs.Shape.{lists_of}
 use Rattle.wk_module.specs.Writing.{section_contents, written_section, section_of, customs_at, section_and_customs, ids, encoded, Fits}
-use Rattle.wk_module.specs.WritingLaws.{at_place, written_frame, customs_at-cons}
+use Rattle.wk_module.specs.WritingLaws.{at_place, written_frame, customs_at-cons, id_is}
 use Rattle.wk_list.specs.Headers.{contents_start}
 use Rattle.wk_list.specs.Spaces.{count_of}
 use Rattle.wk_list.specs.CodeText.{entries_text, instrs_start, code_start, first_code, code_text}
@@ -82,9 +81,6 @@ custom_counted place customs items i total whole size c same is within len here 
 
 -- ---- sections one after the other
 
-id_is : (id : ℕ) → id < 12 → get_or ids id id ≡ id
-id_is id lt = omega (arith, get_or-range_with_len 0 12 id id lt)
-
 length_both : (m : Parts) (id : ℕ) → length (section_and_customs m id) ≡ length (section_of m id) + length (customs_at id m.customs)
 length_both m id = length-append (section_of m id) (customs_at id m.customs)
 
@@ -92,7 +88,7 @@ length_both m id = length-append (section_of m id) (customs_at id m.customs)
 pub sections_more : (m : Parts) (id : ℕ) → id < 12 → length (flat_map (section_and_customs m) (take (id + 1) ids)) ≡ length (flat_map (section_and_customs m) (take id ids)) + length (section_of m id) + length (customs_at id m.customs)
 sections_more m id lt =
     let f = section_and_customs m in
-    let split = ap (λ (ks : List ℕ). length (flat_map f ks)) (take_more ids id id lt ∙ ap (λ (k : ℕ). take id ids ++ k ∷ []) (id_is id lt)) in
+    let split = ap (λ (ks : List ℕ). length (flat_map f ks)) (take_more ids id id lt ∙ ap (λ (k : ℕ). take id ids ++ k ∷ []) (sym (id_is id lt))) in
     let parts = ap length (sym (flat_map_more f [] (take id ids) id)) ∙ length-append (flat_map f (take id ids)) (f id) in
     omega (arith, split, parts, length_both m id)
 
@@ -102,7 +98,7 @@ unfolding encoded
 sections_fit m id lt fits =
     let f = section_and_customs m in
     let le = length-flat_map-take f ids id id lt in
-    let here = ap (λ (k : ℕ). length (f k)) (id_is id lt) in
+    let here = ap (λ (k : ℕ). length (f k)) (sym (id_is id lt)) in
     omega (arith, le, here, fits, length_both m id, length-append (magic ++ version) (flat_map f ids))
 
 -- ---- the code section

@@ -1,66 +1,54 @@
 -- The sections of the details listing by their ids.
-use Rattle.std.proofs.Common.{◌≡◌, ℕ, ◌+◌, ◌<◌, ◌^◌, List, [], ◌∷◌, ◌++◌, Option, Result, OnErr, OnOk, length, map, refl, sym, ap, ◌∙◌, subst, arith}
+use Rattle.std.proofs.Common.{◌≡◌, ℕ, ◌+◌, ◌<◌, ◌^◌, List, [], ◌∷◌, ◌++◌, Option, Some, length, map, refl, sym, ap, ◌∙◌, subst, arith}
 use Rattle.std.proofs.lemmas.List.{length-map}
-use Rattle.wk_bytes.specs.Taken.{TakesFront}
-use Rattle.wk_module.specs.declared.types.FuncType.{FuncType}
 use Rattle.wk_module.specs.declared.types.Import.{Import}
 use Rattle.wk_module.specs.declared.types.Func.{Func}
-use Rattle.wk_module.specs.declared.types.Limits.{Limits}
-use Rattle.wk_module.specs.declared.types.GlobalDef.{GlobalDef}
-use Rattle.wk_module.specs.declared.types.Export.{Export}
-use Rattle.wk_module.specs.declared.types.Elem.{Elem}
-use Rattle.wk_module.specs.declared.types.DataSeg.{DataSeg}
 use Rattle.wk_module.specs.declared.types.Parts.{Parts}
 use Rattle.wk_module.specs.declared.types.Kind.TheVariants as kinds
-use Rattle.wk_module.specs.Sections.{TypeSection, ImportSection, FunctionSection, TableSection, MemorySection, GlobalSection, ExportSection, ElementSection, DataSection, of_number}
+use Rattle.wk_module.specs.Sections.{SectionId, TypeSection, ImportSection, FunctionSection, TableSection, MemorySection, GlobalSection, ExportSection, StartSection, ElementSection, CodeSection, DataSection, of_number}
 use Rattle.wk_module.specs.Shape.{IsShaped}
-use Rattle.wk_list.specs.Sketches.{IsSketch}
+use Rattle.wk_list.specs.Sketches.{IsSketch, HasFewItems}
 use Rattle.wk_list.specs.Spaces.{count_of}
-use Rattle.wk_list.specs.Taken.{Leaves}
 use Rattle.wk_list.specs.Text.{numbered}
-use Rattle.wk_list.specs.Details.{type_line, func_line, table_line, memory_line, global_line, export_line, elem_line, data_line, code_size_line, heading, group, with_heading, import_lines, details_by}
+use Rattle.wk_list.proofs.Sections.{many_funcs}
+use Rattle.wk_list.specs.Details.{func_line, code_size_line, heading, group, section_details, details_by}
 
--- a call that stopped in a text stopped in what is the same
-pub stopped_in : {T E : Type 0} (r : Result T E) (a b : Option (List ℕ)) (t x y : List ℕ) → x ≡ y → OnErr r (TakesFront a b (t ++ x)) → OnErr r (TakesFront a b (t ++ y))
-stopped_in r a b t x y e p = subst (λ (z : List ℕ). OnErr r (TakesFront a b (t ++ z))) e p
-
--- ... and one that ended in it
-pub listed_in : {T E : Type 0} (r : Result T E) (a b : Option (List ℕ)) (t new x y : List ℕ) → x ≡ y → OnOk r (Leaves a b (t ++ x) new) → OnOk r (Leaves a b (t ++ y) new)
-listed_in r a b t new x y e p = subst (λ (z : List ℕ). OnOk r (Leaves a b (t ++ z) new)) e p
-
--- ---- a module is a sketch of itself
-
+-- a module is a sketch of itself
 pub sketch_same : (m p : Parts) → p ≡ m → IsSketch m p
 sketch_same m p same = subst (IsSketch m) (sym same) (record { rest = refl; types = refl })
 
--- ---- the lists xs of a module m that is shaped are no longer than indexes count; they are those of the parts p, which are the module's
+-- the lists of a shaped module are no longer than indexes count, and those of a sketch of it are as long
+few_here : (m : Parts) → IsShaped m → HasFewItems m
+few_here m shaped =
+    let few = shaped.formed.valid in
+    record {
+      types = few TypeSection;
+      imports = (few ImportSection).0;
+      funcs = omega (arith, (few FunctionSection).0, length-map m.funcs (λ (f : Func). f.ty));
+      tables = (few TableSection).0;
+      memories = (few MemorySection).0;
+      globals = (few GlobalSection).0;
+      exports = (few ExportSection).0;
+      elems = (few ElementSection).0;
+      datas = (few DataSection).0;
+    }
 
-pub few_types : (m p : Parts) (xs : List FuncType) → IsShaped m → IsSketch m p → xs ≡ p.types → length xs < 2 ^ 32
-few_types m p xs shaped same is = omega (arith, shaped.formed.valid TypeSection, ap length is, ap (λ (q : Parts). length q.types) same.rest)
-
-pub few_funcs : (m p : Parts) (xs : List Func) → IsShaped m → IsSketch m p → xs ≡ p.funcs → length xs < 2 ^ 32
-few_funcs m p xs shaped same is = omega (arith, (shaped.formed.valid FunctionSection).0, length-map m.funcs (λ (f : Func). f.ty), ap length is, length-map p.funcs (λ (f : Func). f.ty), ap length same.types)
-
-pub few_tables : (m p : Parts) (xs : List Limits) → IsShaped m → IsSketch m p → xs ≡ p.tables → length xs < 2 ^ 32
-few_tables m p xs shaped same is = omega (arith, (shaped.formed.valid TableSection).0, ap length is, ap (λ (q : Parts). length q.tables) same.rest)
-
-pub few_memories : (m p : Parts) (xs : List Limits) → IsShaped m → IsSketch m p → xs ≡ p.memories → length xs < 2 ^ 32
-few_memories m p xs shaped same is = omega (arith, (shaped.formed.valid MemorySection).0, ap length is, ap (λ (q : Parts). length q.memories) same.rest)
-
-pub few_globals : (m p : Parts) (xs : List GlobalDef) → IsShaped m → IsSketch m p → xs ≡ p.globals → length xs < 2 ^ 32
-few_globals m p xs shaped same is = omega (arith, (shaped.formed.valid GlobalSection).0, ap length is, ap (λ (q : Parts). length q.globals) same.rest)
-
-pub few_exports : (m p : Parts) (xs : List Export) → IsShaped m → IsSketch m p → xs ≡ p.exports → length xs < 2 ^ 32
-few_exports m p xs shaped same is = omega (arith, (shaped.formed.valid ExportSection).0, ap length is, ap (λ (q : Parts). length q.exports) same.rest)
-
-pub few_elems : (m p : Parts) (xs : List Elem) → IsShaped m → IsSketch m p → xs ≡ p.elems → length xs < 2 ^ 32
-few_elems m p xs shaped same is = omega (arith, (shaped.formed.valid ElementSection).0, ap length is, ap (λ (q : Parts). length q.elems) same.rest)
-
-pub few_datas : (m p : Parts) (xs : List DataSeg) → IsShaped m → IsSketch m p → xs ≡ p.datas → length xs < 2 ^ 32
-few_datas m p xs shaped same is = omega (arith, (shaped.formed.valid DataSection).0, ap length is, ap (λ (q : Parts). length q.datas) same.rest)
-
-pub few_imports : (m p : Parts) (xs : List Import) → IsShaped m → IsSketch m p → xs ≡ p.imports → length xs < 2 ^ 32
-few_imports m p xs shaped same is = omega (arith, (shaped.formed.valid ImportSection).0, ap length is, ap (λ (q : Parts). length q.imports) same.rest)
+pub few_items : (m p : Parts) → IsShaped m → IsSketch m p → HasFewItems p
+few_items m p shaped same =
+    let few = few_here m shaped in
+    let funcs : length p.funcs < 2 ^ 32 = omega (arith, few.funcs, many_funcs m p same) in
+    let given : HasFewItems (record m { funcs = p.funcs }) = record {
+      types = few.types;
+      imports = few.imports;
+      funcs = funcs;
+      tables = few.tables;
+      memories = few.memories;
+      globals = few.globals;
+      exports = few.exports;
+      elems = few.elems;
+      datas = few.datas;
+    } in
+    subst HasFewItems (sym same.rest) given
 
 -- ---- lines of functions tell their types alone
 
@@ -83,43 +71,29 @@ rows_same id k (f ∷ fs) (g ∷ gs) same =
     ap (λ (r : List ℕ). heading id (length (f ∷ fs)) ++ r) (lines_same 0 k (f ∷ fs) (g ∷ gs) same)
     ∙ ap (λ (n : ℕ). heading id n ++ numbered (λ n. func_line (k + n)) 0 (g ∷ gs)) many
 
--- ---- the text of each section, by its id
+-- ---- the text of a section but that of the codes is that of a sketch
 
-pub types_section : (m p : Parts) (id : ℕ) (xs : List FuncType) → IsSketch m p → xs ≡ p.types → id ≡ 1 → group id type_line xs ≡ details_by m (of_number id)
-types_section m p id xs same is here = rw (here, is, ap (λ (q : Parts). q.types) same.rest) refl
+section_kept : (m p : Parts) (k : SectionId) → IsSketch m p → (k ≡ CodeSection → ⊥) → section_details p k ≡ section_details m k
+section_kept m p TypeSection same other = ap (λ (q : Parts). section_details q TypeSection) same.rest
+section_kept m p ImportSection same other = ap (λ (q : Parts). section_details q ImportSection) same.rest
+section_kept m p FunctionSection same other =
+    ap (λ (q : Parts). group 3 (λ n. func_line (count_of kinds.Func q.imports + n)) p.funcs) same.rest
+    ∙ rows_same 3 (count_of kinds.Func m.imports) p.funcs m.funcs same.types
+section_kept m p TableSection same other = ap (λ (q : Parts). section_details q TableSection) same.rest
+section_kept m p MemorySection same other = ap (λ (q : Parts). section_details q MemorySection) same.rest
+section_kept m p GlobalSection same other = ap (λ (q : Parts). section_details q GlobalSection) same.rest
+section_kept m p ExportSection same other = ap (λ (q : Parts). section_details q ExportSection) same.rest
+section_kept m p StartSection same other = ap (λ (q : Parts). section_details q StartSection) same.rest
+section_kept m p ElementSection same other = ap (λ (q : Parts). section_details q ElementSection) same.rest
+section_kept m p CodeSection same other = absurd (other refl)
+section_kept m p DataSection same other = ap (λ (q : Parts). section_details q DataSection) same.rest
 
-pub funcs_section : (m p : Parts) (id imported : ℕ) (xs : List Func) (imports : List Import) → IsSketch m p → xs ≡ p.funcs → imports ≡ p.imports → imported ≡ count_of kinds.Func imports → id ≡ 3
-    → group id (λ n. func_line (imported + n)) xs ≡ details_by m (of_number id)
-funcs_section m p id imported xs imports same is are counted here =
-    rw (here, counted, is, are, ap (λ (q : Parts). q.imports) same.rest) (rows_same 3 (count_of kinds.Func m.imports) p.funcs m.funcs same.types)
+pub section_is : (m p : Parts) (id n : ℕ) (k : SectionId) (t : List ℕ) → IsSketch m p → id ≡ n → of_number n ≡ Some k → (k ≡ CodeSection → ⊥)
+    → t ++ section_details p k ≡ t ++ details_by m (of_number id)
+section_is m p id n k t same here is other =
+    ap (λ (x : List ℕ). t ++ x) (section_kept m p k same other) ∙ ap (λ (o : Option SectionId). t ++ details_by m o) (sym (ap of_number here ∙ is))
 
-pub tables_section : (m p : Parts) (id imported : ℕ) (xs : List Limits) (imports : List Import) → IsSketch m p → xs ≡ p.tables → imports ≡ p.imports → imported ≡ count_of kinds.Table imports → id ≡ 4
-    → group id (λ n. table_line (imported + n)) xs ≡ details_by m (of_number id)
-tables_section m p id imported xs imports same is are counted here =
-    rw (here, counted, is, are, ap (λ (q : Parts). q.tables) same.rest, ap (λ (q : Parts). q.imports) same.rest) refl
-
-pub memories_section : (m p : Parts) (id imported : ℕ) (xs : List Limits) (imports : List Import) → IsSketch m p → xs ≡ p.memories → imports ≡ p.imports → imported ≡ count_of kinds.Memory imports → id ≡ 5
-    → group id (λ n. memory_line (imported + n)) xs ≡ details_by m (of_number id)
-memories_section m p id imported xs imports same is are counted here =
-    rw (here, counted, is, are, ap (λ (q : Parts). q.memories) same.rest, ap (λ (q : Parts). q.imports) same.rest) refl
-
-pub globals_section : (m p : Parts) (id imported : ℕ) (xs : List GlobalDef) (imports : List Import) → IsSketch m p → xs ≡ p.globals → imports ≡ p.imports → imported ≡ count_of kinds.Global imports → id ≡ 6
-    → group id (λ n. global_line (imported + n)) xs ≡ details_by m (of_number id)
-globals_section m p id imported xs imports same is are counted here =
-    rw (here, counted, is, are, ap (λ (q : Parts). q.globals) same.rest, ap (λ (q : Parts). q.imports) same.rest) refl
-
-pub exports_section : (m p : Parts) (id : ℕ) (xs : List Export) → IsSketch m p → xs ≡ p.exports → id ≡ 7 → group id export_line xs ≡ details_by m (of_number id)
-exports_section m p id xs same is here = rw (here, is, ap (λ (q : Parts). q.exports) same.rest) refl
-
-pub elems_section : (m p : Parts) (id : ℕ) (xs : List Elem) → IsSketch m p → xs ≡ p.elems → id ≡ 9 → group id elem_line xs ≡ details_by m (of_number id)
-elems_section m p id xs same is here = rw (here, is, ap (λ (q : Parts). q.elems) same.rest) refl
-
-pub datas_section : (m p : Parts) (id : ℕ) (xs : List DataSeg) → IsSketch m p → xs ≡ p.datas → id ≡ 11 → group id data_line xs ≡ details_by m (of_number id)
-datas_section m p id xs same is here = rw (here, is, ap (λ (q : Parts). q.datas) same.rest) refl
-
-pub imports_section : (m p : Parts) (id : ℕ) (xs : List Import) → IsSketch m p → xs ≡ p.imports → id ≡ 2 → with_heading id xs (import_lines [] xs) ≡ details_by m (of_number id)
-imports_section m p id xs same is here = rw (here, is, ap (λ (q : Parts). q.imports) same.rest) refl
-
-pub codes_section : (m p : Parts) (id imported : ℕ) (imports : List Import) → IsSketch m p → imports ≡ p.imports → imported ≡ count_of kinds.Func imports → id ≡ 10
-    → group id (λ n. code_size_line (imported + n)) m.funcs ≡ details_by m (of_number id)
-codes_section m p id imported imports same are counted here = rw (here, counted, are, ap (λ (q : Parts). q.imports) same.rest) refl
+pub codes_is : (m p : Parts) (id imported : ℕ) (imports : List Import) (t : List ℕ) → IsSketch m p → imports ≡ p.imports
+    → imported ≡ count_of kinds.Func imports → id ≡ 10
+    → t ++ group id (λ n. code_size_line (imported + n)) m.funcs ≡ t ++ details_by m (of_number id)
+codes_is m p id imported imports t same are counted here = rw (here, counted, are, ap (λ (q : Parts). q.imports) same.rest) refl

@@ -1,62 +1,23 @@
 -- Sections as they stand in the written form and in the listing of headers: none without contents, and else one with its own id.
-use Rattle.std.proofs.Common.{◌≡◌, ℕ, ◌<◌, ◌==◌, Bool, true, false, if◌then◌else◌, Option, Some, None, List, [], ◌++◌, length, refl, sym, ap, ◌∙◌, arith, inl, inr, append_assoc, append-nil}
+use Rattle.std.proofs.Common.{◌≡◌, ℕ, ◌<◌, Bool, true, false, if◌then◌else◌, Option, Some, None, List, [], ◌++◌, length, refl, sym, ap, ◌∙◌, arith, append_assoc, append-nil}
 use Rattle.std.specs.Prelude.{codes}
 use Rattle.std.proofs.lemmas.List.{length-map}
-use Rattle.std.proofs.lemmas.Bool.{cases_Bool, cond-true, cond-false, eqb-true}
-use Rattle.wk_bytes.specs.Short.{short}
-use Rattle.wk_bytes.specs.ShortLaws.{short-some}
 use Rattle.wk_module.specs.declared.types.Func.{Func}
 use Rattle.wk_module.specs.declared.types.Parts.{Parts}
 use Rattle.wk_module.specs.Sections.{SectionId, TypeSection, ImportSection, FunctionSection, TableSection, MemorySection, GlobalSection, ExportSection, StartSection, ElementSection, CodeSection, DataSection, number, of_number, ContentsOf, contents, is_full, written_contents}
 use Rattle.wk_module.specs.Shape.{lists_of}
-use Rattle.wk_module.specs.Types.{written_functype, written_tabletype, written_limits}
-use Rattle.wk_module.specs.Items.{written_import, written_global, written_export, written_elem, written_code, written_data}
-use Rattle.wk_module.specs.Writing.{section_contents, section_by, contents_by}
-use Rattle.wk_module.specs.WritingLaws.{some_vector}
+use Rattle.wk_module.specs.Writing.{section_contents, contents_by}
+use Rattle.wk_module.specs.SectionLaws.{number-of_number}
+use Rattle.wk_module.specs.WritingLaws.{some_contents}
 use Rattle.wk_list.specs.Sketches.{IsSketch}
 use Rattle.wk_list.specs.Headers.{count_text, header_text, header_line, header_tail, header_by, tail_by, contents_start}
 
--- no section that is written has empty contents
-some_contents : (k : SectionId) (x : ContentsOf k) → is_full k x ≡ true → 0 < length (written_contents k x)
-some_contents TypeSection x full = some_vector written_functype x
-some_contents ImportSection x full = some_vector written_import x
-some_contents FunctionSection x full = some_vector short x
-some_contents TableSection x full = some_vector written_tabletype x
-some_contents MemorySection x full = some_vector written_limits x
-some_contents GlobalSection x full = some_vector written_global x
-some_contents ExportSection x full = some_vector written_export x
-some_contents StartSection None full = absurd cc
-some_contents StartSection (Some x) full = short-some x
-some_contents ElementSection x full = some_vector written_elem x
-some_contents CodeSection x full = some_vector written_code x
-some_contents DataSection x full = some_vector written_data x
-
--- a number is that of the section that it names, where it names one
-named : (id n : ℕ) (j k : SectionId) (rest : Option SectionId) → number j ≡ n → (rest ≡ Some k → number k ≡ id) → (if id == n then Some j else rest) ≡ Some k → number k ≡ id
-named id n j k rest is later e =
-    elim (cases_Bool (id == n)) [
-      | inl t ↦
-          let one : Some j ≡ Some k = sym (cond-true (id == n) (Some j) rest t) ∙ e in
-          let same : j ≡ k = cc in
-          ap number (sym same) ∙ is ∙ sym (eqb-true id n t)
-      | inr f ↦ later (sym (cond-false (id == n) (Some j) rest f) ∙ e)
-    ]
-
-pub number_of : (id : ℕ) (k : SectionId) → of_number id ≡ Some k → number k ≡ id
-number_of id k =
-    named id 1 TypeSection k _ refl (named id 2 ImportSection k _ refl (named id 3 FunctionSection k _ refl (named id 4 TableSection k _ refl
-    (named id 5 MemorySection k _ refl (named id 6 GlobalSection k _ refl (named id 7 ExportSection k _ refl (named id 8 StartSection k _ refl
-    (named id 9 ElementSection k _ refl (named id 10 CodeSection k _ refl (named id 11 DataSection k None refl (λ e. absurd cc)))))))))))
-
 -- ---- without contents
 
-left_out : {A : Type 0} (k : SectionId) (x : ContentsOf k) (full : Bool) (some : List A) → is_full k x ≡ full → length (if full then written_contents k x else []) ≡ 0 → (if full then some else []) ≡ []
-left_out k x true some is none = absurd (omega (arith, some_contents k x is, none))
-left_out k x false some is none = refl
-
-pub section_none : (m : Parts) (k : Option SectionId) → length (contents_by (lists_of m) k) ≡ 0 → section_by (lists_of m) k ≡ []
-section_none m None none = refl
-section_none m (Some k) none = left_out k (contents (lists_of m) k) (is_full k (contents (lists_of m) k)) _ refl none
+left_out : (k : SectionId) (x : ContentsOf k) (full : Bool) (line : List ℕ) → is_full k x ≡ full → length (if full then written_contents k x else []) ≡ 0
+    → (if full then line else []) ≡ []
+left_out k x true line is none = absurd (omega (arith, some_contents k x is, none))
+left_out k x false line is none = refl
 
 header_none : (m : Parts) (at : ℕ) (k : Option SectionId) → length (contents_by (lists_of m) k) ≡ 0 → header_by m at k ≡ []
 header_none m at None none = refl
@@ -76,7 +37,7 @@ header_some m at id None is some = absurd (omega arith)
 header_some m at id (Some k) is some =
     let x = contents (lists_of m) k in
     put_in k x (is_full k x) (header_line (number k) at (length (section_contents k x)) (header_tail m k)) some
-    ∙ ap (λ (n : ℕ). header_line n at (length (section_contents k x)) (header_tail m k)) (number_of id k is)
+    ∙ ap (λ (n : ℕ). header_line n at (length (section_contents k x)) (header_tail m k)) (sym (number-of_number id k is))
 
 -- ---- lines
 

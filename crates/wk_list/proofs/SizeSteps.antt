@@ -10,15 +10,13 @@ use Rattle.wk_list.proofs.LineSteps.{item_at, numbered_step}
 abbrev pub sizes_from : ℕ → ℕ → List Func → List ℕ
 sizes_from imported index funcs = numbered (λ n. code_size_line (imported + n)) index (drop index funcs)
 
--- the next line was gathered, by the length of the code at the index
-pub size_put : (funcs : List Func) (imported index first size : ℕ) (t new : List ℕ) → index < length funcs → first ≡ imported
+-- ... the first of which was gathered, by the length of the code at the index
+pub sizes_step : (funcs : List Func) (imported index first size : ℕ) (t new : List ℕ) → index < length funcs → first ≡ imported
     → ((other : Func) → size ≡ length (written_body (slice_index_or funcs index other).body))
     → ((f : Func) → size ≡ length (written_body f.body) → new ≡ t ++ code_size_line (first + index) f)
-    → (line : List ℕ) × (sizes_from imported index funcs ≡ line ++ sizes_from imported (index + 1) funcs) × (new ≡ t ++ line)
-size_put funcs imported index first size t new within same len put =
+    → t ++ sizes_from imported index funcs ≡ new ++ sizes_from imported (index + 1) funcs
+sizes_step funcs imported index first size t new within same len put =
     let func = item_at funcs index within in
-    let is = len func.0 ∙ ap (λ (f : Func). length (written_body f.body)) (func.1 func.0) in (
-      code_size_line (imported + index) func.0,
-      numbered_step (λ (n : ℕ). code_size_line (imported + n)) funcs index func.0 within (sym (func.1 func.0)),
-      put func.0 is ∙ ap (λ (n : ℕ). t ++ code_size_line (n + index) func.0) same,
-    )
+    let is = len func.0 ∙ ap (λ (f : Func). length (written_body f.body)) (func.1 func.0) in
+    numbered_step (λ (n : ℕ). code_size_line (imported + n)) funcs index func.0 t new within (sym (func.1 func.0))
+    (put func.0 is ∙ ap (λ (n : ℕ). t ++ code_size_line (n + index) func.0) same)

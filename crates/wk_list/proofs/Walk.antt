@@ -10,16 +10,13 @@ use Rattle.wk_bytes.specs.Frames.{limit, magic, version}
 use Rattle.wk_body.specs.Lengths.{limited}
 use Rattle.wk_module.specs.declared.types.Parts.{Parts}
 use Rattle.wk_module.specs.declared.types.Custom.{Custom}
-use Rattle.wk_module.specs.Writing.{framed, section_of, customs_at, section_and_customs, ids, encoded}
+use Rattle.wk_module.specs.Writing.{section_of, customs_at, section_and_customs, ids, encoded}
 use Rattle.wk_list.specs.Headers.{custom_frame, customs_of}
 
 -- ---- lengths
 
 pub few_bytes : (n : ℕ) → n < 2 ^ 32 → length (short n) ≤ 5
 few_bytes n small = omega (arith, short-few 32 n (omega arith) small)
-
-pub length-framed : (id : ℕ) (b : List ℕ) → length (framed id b) ≡ 1 + length (short (length b)) + length b
-length-framed id b = omega (arith, length-append (short (length b)) b)
 
 -- a length that is within the limit is told
 pub told : (len : Option ℕ) (n : ℕ) → len ≡ limited n → n ≤ limit → unwrap_or len 0 ≡ n

@@ -8,7 +8,7 @@ ghost use Rattle.wk_body.specs.Kept.{told, all_told, IsWithin};
 ghost use Rattle.wk_body.specs.Written.{tok_bytes, written_expr, written_group, written_body};
 ghost use Rattle.wk_module.specs.Items.{written_code};
 ghost use Rattle.wk_module.specs.Writing.{customs_at};
-ghost use Rattle.wk_list.specs.Taken.{Leaves, failed_after};
+ghost use Rattle.wk_list.specs.Taken.{Leaves, PutsOut, failed_after};
 ghost use Rattle.wk_list.specs.CodeText.{code_line, group_text, locals_text, entry_head, entry_text, entries_text, expr_text, code_start, code_text};
 ghost use Rattle.wk_list.specs.TokenText.{tok_text, toks_text, toks_length};
 
@@ -38,9 +38,8 @@ fn reach_behind(text: &[u8]) -> usize
 // The lines on a sheet go behind the text.
 fn put_sheet<W: Out>(sheet: &[u8], text: &mut Vec<u8>, out: &mut W) -> Result<(), ListFault>
     requires room { W.failed out.old < 2 ^ 64 - 1 }
-    ensures ok { OnOk result (Leaves (W.taken out.old) (W.taken out.new) (text.old.items ++ sheet.now) text.new.items) }
-    ensures err { OnErr result (TakesFront (W.taken out.old) (W.taken out.new) (text.old.items ++ sheet.now)) }
-    ensures failures { W.failed out.new ≡ failed_after (W.failed out.old) result }
+    ensures { PutsOut W.taken W.failed out.old out.new
+        (text.old.items ++ sheet.now) text.new.items result }
 {
     if sheet.is_empty() {
         return Ok(());
@@ -63,9 +62,8 @@ fn list_long_line<W: Out>(
     requires room { W.failed out.old < 2 ^ 64 - 1 }
     requires within { IsWithin (length labels.now) token.now }
     requires shallow { depth < 2 ^ 32 }
-    ensures ok { OnOk result (Leaves (W.taken out.old) (W.taken out.new) (text.old.items ++ sheet.now ++ code_line at depth (tok_text (told labels.now token.now))) text.new.items) }
-    ensures err { OnErr result (TakesFront (W.taken out.old) (W.taken out.new) (text.old.items ++ sheet.now ++ code_line at depth (tok_text (told labels.now token.now)))) }
-    ensures failures { W.failed out.new ≡ failed_after (W.failed out.old) result }
+    ensures { PutsOut W.taken W.failed out.old out.new
+        (text.old.items ++ sheet.now ++ code_line at depth (tok_text (told labels.now token.now))) text.new.items result }
 {
     put_sheet(sheet, text, out)?;
     put_line(text, labels, token, at, depth)?;
@@ -118,9 +116,8 @@ fn list_tokens<W: Out>(
     requires room { W.failed out.old < 2 ^ 64 - 1 }
     requires within { AllByRecursion (IsWithin (length labels.now)) tokens.now }
     requires fits { start + toks_length (all_told labels.now tokens.now) ≤ limit }
-    ensures ok { OnOk result (Leaves (W.taken out.old) (W.taken out.new) (text.old.items ++ toks_text start 0 (all_told labels.now tokens.now)) text.new.items) }
-    ensures err { OnErr result (TakesFront (W.taken out.old) (W.taken out.new) (text.old.items ++ toks_text start 0 (all_told labels.now tokens.now))) }
-    ensures failures { W.failed out.new ≡ failed_after (W.failed out.old) result }
+    ensures { PutsOut W.taken W.failed out.old out.new
+        (text.old.items ++ toks_text start 0 (all_told labels.now tokens.now)) text.new.items result }
 {
     let mut rest = tokens;
     let mut at = start;
@@ -148,9 +145,8 @@ fn list_expr<W: Out>(
 ) -> Result<(), ListFault>
     requires room { W.failed out.old < 2 ^ 64 - 1 }
     requires fits { start + length (written_expr expr.now) ≤ limit }
-    ensures ok { OnOk result (Leaves (W.taken out.old) (W.taken out.new) (text.old.items ++ expr_text start expr.now) text.new.items) }
-    ensures err { OnErr result (TakesFront (W.taken out.old) (W.taken out.new) (text.old.items ++ expr_text start expr.now)) }
-    ensures failures { W.failed out.new ≡ failed_after (W.failed out.old) result }
+    ensures { PutsOut W.taken W.failed out.old out.new
+        (text.old.items ++ expr_text start expr.now) text.new.items result }
 {
     let (tokens, labels) = expr.tokens();
     list_tokens(labels, tokens, start, sheet, text, out)
@@ -224,9 +220,8 @@ fn list_entry<W: Out>(
     requires room { W.failed out.old < 2 ^ 64 - 1 }
     requires size { size ≡ length (written_body func.now.body) }
     requires fits { at + length (written_code func.now.body) ≤ limit }
-    ensures ok { OnOk result (Leaves (W.taken out.old) (W.taken out.new) (text.old.items ++ entry_text index at func.now) text.new.items) }
-    ensures err { OnErr result (TakesFront (W.taken out.old) (W.taken out.new) (text.old.items ++ entry_text index at func.now)) }
-    ensures failures { W.failed out.new ≡ failed_after (W.failed out.old) result }
+    ensures { PutsOut W.taken W.failed out.old out.new
+        (text.old.items ++ entry_text index at func.now) text.new.items result }
 {
     let groups = func.body.groups();
     let locals_len = leb_len_u32(groups.len() as u32) as u64 + groups_len(groups);
@@ -247,9 +242,8 @@ fn list_entries<S: Shape, W: Out>(
     requires room { W.failed out.old < 2 ^ 64 - 1 }
     requires few { length (S.seen shape.now).funcs < 2 ^ 32 }
     requires fits { start + length (flat_map (λ f. written_code f.body) (S.seen shape.now).funcs) ≤ limit }
-    ensures ok { OnOk result (Leaves (W.taken out.old) (W.taken out.new) (text.old.items ++ entries_text imported start (S.seen shape.now).funcs) text.new.items) }
-    ensures err { OnErr result (TakesFront (W.taken out.old) (W.taken out.new) (text.old.items ++ entries_text imported start (S.seen shape.now).funcs)) }
-    ensures failures { W.failed out.new ≡ failed_after (W.failed out.old) result }
+    ensures { PutsOut W.taken W.failed out.old out.new
+        (text.old.items ++ entries_text imported start (S.seen shape.now).funcs) text.new.items result }
 {
     let mut at = start;
     for (index, func) in shape.parts().funcs.as_slice().iter().enumerate() {
@@ -303,9 +297,8 @@ pub(crate) fn list_code<S: Shape, W: Out>(
     out: &mut W,
 ) -> Result<(), ListFault>
     requires room { W.failed out.old < 2 ^ 64 - 1 }
-    ensures ok { OnOk result (Leaves (W.taken out.old) (W.taken out.new) (text.old.items ++ code_text (S.seen shape.now)) text.new.items) }
-    ensures err { OnErr result (TakesFront (W.taken out.old) (W.taken out.new) (text.old.items ++ code_text (S.seen shape.now))) }
-    ensures failures { W.failed out.new ≡ failed_after (W.failed out.old) result }
+    ensures { PutsOut W.taken W.failed out.old out.new
+        (text.old.items ++ code_text (S.seen shape.now)) text.new.items result }
 {
     let parts = shape.parts();
     if parts.funcs.is_empty() {

@@ -6,7 +6,7 @@ ghost use Rattle.wk_bytes.specs.Taken.{TakesFront};
 ghost use Rattle.wk_body.specs.Written.{written_body};
 ghost use Rattle.wk_module.specs.declared.types.Func.{Func as Function};
 ghost use Rattle.wk_module.specs.Sections.{of_number};
-ghost use Rattle.wk_list.specs.Taken.{Leaves, failed_after};
+ghost use Rattle.wk_list.specs.Taken.{PutsOut};
 ghost use Rattle.wk_list.specs.Text.{numbered};
 ghost use Rattle.wk_list.specs.Headers.{customs_of};
 ghost use Rattle.wk_list.specs.Details.{heading, group, with_heading, import_lines, code_size_line, start_line, custom_details, details_by, details_text};
@@ -47,9 +47,8 @@ fn list_group<L: Lines, W: Out>(
 ) -> Result<(), ListFault>
     requires room { W.failed out.old < 2 ^ 64 - 1 }
     requires few { length items.now < 2 ^ 32 }
-    ensures ok { OnOk result (Leaves (W.taken out.old) (W.taken out.new) (text.old.items ++ group id (L.line lines.now) items.now) text.new.items) }
-    ensures err { OnErr result (TakesFront (W.taken out.old) (W.taken out.new) (text.old.items ++ group id (L.line lines.now) items.now)) }
-    ensures failures { W.failed out.new ≡ failed_after (W.failed out.old) result }
+    ensures { PutsOut W.taken W.failed out.old out.new
+        (text.old.items ++ group id (L.line lines.now) items.now) text.new.items result }
 {
     if items.is_empty() {
         return Ok(());
@@ -67,9 +66,8 @@ fn list_import_group<W: Out>(
 ) -> Result<(), ListFault>
     requires room { W.failed out.old < 2 ^ 64 - 1 }
     requires few { length imports.now < 2 ^ 32 }
-    ensures ok { OnOk result (Leaves (W.taken out.old) (W.taken out.new) (text.old.items ++ with_heading id imports.now (import_lines [] imports.now)) text.new.items) }
-    ensures err { OnErr result (TakesFront (W.taken out.old) (W.taken out.new) (text.old.items ++ with_heading id imports.now (import_lines [] imports.now))) }
-    ensures failures { W.failed out.new ≡ failed_after (W.failed out.old) result }
+    ensures { PutsOut W.taken W.failed out.old out.new
+        (text.old.items ++ with_heading id imports.now (import_lines [] imports.now)) text.new.items result }
 {
     if imports.is_empty() {
         return Ok(());
@@ -97,9 +95,8 @@ fn list_sizes<S: Sketch, W: Out>(
 ) -> Result<(), ListFault>
     requires room { W.failed out.old < 2 ^ 64 - 1 }
     requires few { length (S.seen sketch.now).funcs < 2 ^ 32 }
-    ensures ok { OnOk result (Leaves (W.taken out.old) (W.taken out.new) (text.old.items ++ numbered (λ n. code_size_line (imported + n)) 0 (S.seen sketch.now).funcs) text.new.items) }
-    ensures err { OnErr result (TakesFront (W.taken out.old) (W.taken out.new) (text.old.items ++ numbered (λ n. code_size_line (imported + n)) 0 (S.seen sketch.now).funcs)) }
-    ensures failures { W.failed out.new ≡ failed_after (W.failed out.old) result }
+    ensures { PutsOut W.taken W.failed out.old out.new
+        (text.old.items ++ numbered (λ n. code_size_line (imported + n)) 0 (S.seen sketch.now).funcs) text.new.items result }
 {
     let count = sketch.parts().funcs.len();
     for index in 0..count {
@@ -123,9 +120,8 @@ fn list_code_group<S: Sketch, W: Out>(
 ) -> Result<(), ListFault>
     requires room { W.failed out.old < 2 ^ 64 - 1 }
     requires few { length (S.seen sketch.now).funcs < 2 ^ 32 }
-    ensures ok { OnOk result (Leaves (W.taken out.old) (W.taken out.new) (text.old.items ++ group id (λ n. code_size_line (imported + n)) (S.seen sketch.now).funcs) text.new.items) }
-    ensures err { OnErr result (TakesFront (W.taken out.old) (W.taken out.new) (text.old.items ++ group id (λ n. code_size_line (imported + n)) (S.seen sketch.now).funcs)) }
-    ensures failures { W.failed out.new ≡ failed_after (W.failed out.old) result }
+    ensures { PutsOut W.taken W.failed out.old out.new
+        (text.old.items ++ group id (λ n. code_size_line (imported + n)) (S.seen sketch.now).funcs) text.new.items result }
 {
     let funcs = sketch.parts().funcs.as_slice();
     if funcs.is_empty() {
@@ -157,9 +153,8 @@ fn list_section<S: Sketch, W: Out>(
     out: &mut W,
 ) -> Result<(), ListFault>
     requires room { W.failed out.old < 2 ^ 64 - 1 }
-    ensures ok { OnOk result (Leaves (W.taken out.old) (W.taken out.new) (text.old.items ++ details_by (S.seen sketch.now) (of_number id)) text.new.items) }
-    ensures err { OnErr result (TakesFront (W.taken out.old) (W.taken out.new) (text.old.items ++ details_by (S.seen sketch.now) (of_number id))) }
-    ensures failures { W.failed out.new ≡ failed_after (W.failed out.old) result }
+    ensures { PutsOut W.taken W.failed out.old out.new
+        (text.old.items ++ details_by (S.seen sketch.now) (of_number id)) text.new.items result }
 {
     let parts = sketch.parts();
     let imports = parts.imports.as_slice();
@@ -246,9 +241,8 @@ fn list_customs<W: Out>(
     out: &mut W,
 ) -> Result<(), ListFault>
     requires room { W.failed out.old < 2 ^ 64 - 1 }
-    ensures ok { OnOk result (Leaves (W.taken out.old) (W.taken out.new) (text.old.items ++ flat_map custom_details (customs_of place customs.now)) text.new.items) }
-    ensures err { OnErr result (TakesFront (W.taken out.old) (W.taken out.new) (text.old.items ++ flat_map custom_details (customs_of place customs.now))) }
-    ensures failures { W.failed out.new ≡ failed_after (W.failed out.old) result }
+    ensures { PutsOut W.taken W.failed out.old out.new
+        (text.old.items ++ flat_map custom_details (customs_of place customs.now)) text.new.items result }
 {
     for custom in customs.as_slice() {
         if custom.place == place {
@@ -267,9 +261,8 @@ pub(crate) fn list_details<S: Sketch, W: Out>(
     out: &mut W,
 ) -> Result<(), ListFault>
     requires room { W.failed out.old < 2 ^ 64 - 1 }
-    ensures ok { OnOk result (Leaves (W.taken out.old) (W.taken out.new) (text.old.items ++ details_text (S.seen sketch.now)) text.new.items) }
-    ensures err { OnErr result (TakesFront (W.taken out.old) (W.taken out.new) (text.old.items ++ details_text (S.seen sketch.now))) }
-    ensures failures { W.failed out.new ≡ failed_after (W.failed out.old) result }
+    ensures { PutsOut W.taken W.failed out.old out.new
+        (text.old.items ++ details_text (S.seen sketch.now)) text.new.items result }
 {
     let parts = sketch.parts();
     for id in 0..=section_id::LAST {

@@ -9,7 +9,7 @@ ghost use Rattle.wk_module.specs.Shape.{lists_of};
 ghost use Rattle.wk_module.specs.Writing.{contents_by, section_of, customs_at};
 ghost use Rattle.wk_module.specs.declared.types.Parts.{Parts as Seen};
 ghost use Rattle.wk_list.specs.Sketches.{IsSketch};
-ghost use Rattle.wk_list.specs.Taken.{Leaves, failed_after};
+ghost use Rattle.wk_list.specs.Taken.{PutsOut};
 ghost use Rattle.wk_list.specs.Headers.{count_text, start_text, tail_by, header_by, custom_header, custom_frame, customs_of, placed, headers_text, contents_start};
 
 use crate::fault::ListFault;
@@ -122,9 +122,8 @@ fn list_customs<S: Sketch, W: Out>(
     requires room { W.failed out.old < 2 ^ 64 - 1 }
     requires fits { at + length (customs_at place (S.seen sketch.now).customs) ≤ limit }
     ensures end { IfOk result (λ end. end ≡ at + length (customs_at place (S.seen sketch.now).customs)) }
-    ensures ok { OnOk result (Leaves (W.taken out.old) (W.taken out.new) (text.old.items ++ placed custom_frame custom_header at (customs_of place (S.seen sketch.now).customs)) text.new.items) }
-    ensures err { OnErr result (TakesFront (W.taken out.old) (W.taken out.new) (text.old.items ++ placed custom_frame custom_header at (customs_of place (S.seen sketch.now).customs))) }
-    ensures failures { W.failed out.new ≡ failed_after (W.failed out.old) result }
+    ensures puts { PutsOut W.taken W.failed out.old out.new
+        (text.old.items ++ placed custom_frame custom_header at (customs_of place (S.seen sketch.now).customs)) text.new.items result }
 {
     let mut next = at;
     for (index, custom) in sketch.parts().customs.as_slice().iter().enumerate() {
@@ -145,9 +144,8 @@ pub(crate) fn list_headers<S: Sketch, W: Out>(
     out: &mut W,
 ) -> Result<(), ListFault>
     requires room { W.failed out.old < 2 ^ 64 - 1 }
-    ensures ok { OnOk result (Leaves (W.taken out.old) (W.taken out.new) (text.old.items ++ headers_text (S.seen sketch.now)) text.new.items) }
-    ensures err { OnErr result (TakesFront (W.taken out.old) (W.taken out.new) (text.old.items ++ headers_text (S.seen sketch.now))) }
-    ensures failures { W.failed out.new ≡ failed_after (W.failed out.old) result }
+    ensures { PutsOut W.taken W.failed out.old out.new
+        (text.old.items ++ headers_text (S.seen sketch.now)) text.new.items result }
 {
     let parts = sketch.parts();
     let mut at = HEADER_LEN;

@@ -4,7 +4,7 @@ ghost use Rattle.std.specs.Prelude.{◌≡◌, ◌<◌, ◌-◌, ◌^◌, ◌++�
 ghost use Rattle.wk_bytes.specs.Taken.{TakesFront};
 ghost use Rattle.wk_module.specs.declared.types.Import.{Import as Imported};
 ghost use Rattle.wk_module.specs.Items.{desc_kind};
-ghost use Rattle.wk_list.specs.Taken.{Leaves, failed_after};
+ghost use Rattle.wk_list.specs.Taken.{PutsOut};
 ghost use Rattle.wk_list.specs.Spaces.{count_of};
 ghost use Rattle.wk_list.specs.Details.{desc_text, import_head, import_line, import_lines};
 
@@ -59,9 +59,8 @@ pub(crate) fn list_imports<W: Out>(
 ) -> Result<(), ListFault>
     requires room { W.failed out.old < 2 ^ 64 - 1 }
     requires few { length imports.now < 2 ^ 32 }
-    ensures ok { OnOk result (Leaves (W.taken out.old) (W.taken out.new) (text.old.items ++ import_lines [] imports.now) text.new.items) }
-    ensures err { OnErr result (TakesFront (W.taken out.old) (W.taken out.new) (text.old.items ++ import_lines [] imports.now)) }
-    ensures failures { W.failed out.new ≡ failed_after (W.failed out.old) result }
+    ensures { PutsOut W.taken W.failed out.old out.new
+        (text.old.items ++ import_lines [] imports.now) text.new.items result }
 {
     let mut counts = Counts::new();
     for (index, import) in imports.iter().enumerate() {

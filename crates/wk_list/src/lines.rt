@@ -2,7 +2,7 @@
 
 ghost use Rattle.std.specs.Prelude.{◌≡◌, ◌<◌, ◌-◌, ◌^◌, ◌++◌, length, OnOk, OnErr};
 ghost use Rattle.wk_bytes.specs.Taken.{TakesFront};
-ghost use Rattle.wk_list.specs.Taken.{Leaves, failed_after};
+ghost use Rattle.wk_list.specs.Taken.{PutsOut};
 ghost use Rattle.wk_list.specs.Text.{numbered};
 
 use crate::fault::ListFault;
@@ -41,9 +41,8 @@ pub(crate) fn list_lines<L: Lines, W: Out>(
 ) -> Result<(), ListFault>
     requires room { W.failed out.old < 2 ^ 64 - 1 }
     requires few { length items.now < 2 ^ 32 }
-    ensures ok { OnOk result (Leaves (W.taken out.old) (W.taken out.new) (text.old.items ++ numbered (L.line lines.now) 0 items.now) text.new.items) }
-    ensures err { OnErr result (TakesFront (W.taken out.old) (W.taken out.new) (text.old.items ++ numbered (L.line lines.now) 0 items.now)) }
-    ensures failures { W.failed out.new ≡ failed_after (W.failed out.old) result }
+    ensures { PutsOut W.taken W.failed out.old out.new
+        (text.old.items ++ numbered (L.line lines.now) 0 items.now) text.new.items result }
 {
     for (index, item) in items.iter().enumerate() {
         lines.put(alloc, text, index as u32, item)?;

@@ -3,7 +3,7 @@
 ghost use Rattle.std.specs.Prelude.{◌≡◌, ◌<◌, ◌-◌, ◌^◌, length, OnOk, OnErr};
 ghost use Rattle.std.specs.Io.KnownBytes.{Appends};
 ghost use Rattle.wk_bytes.specs.Taken.{TakesFront};
-ghost use Rattle.wk_list.specs.Taken.{Leaves, failed_after};
+ghost use Rattle.wk_list.specs.Taken.{PutsOut, failed_after};
 
 use crate::fault::ListFault;
 use wk_bytes::{Out, put_all};
@@ -23,9 +23,7 @@ pub(crate) fn wanting(text: &[u8]) -> usize
 /// What is left of it stays. After a fault a beginning of it was taken.
 pub(crate) fn spill<W: Out>(text: &mut Vec<u8>, out: &mut W) -> Result<(), ListFault>
     requires { W.failed out.old < 2 ^ 64 - 1 }
-    ensures ok { OnOk result (Leaves (W.taken out.old) (W.taken out.new) text.old.items text.new.items) }
-    ensures err { OnErr result (TakesFront (W.taken out.old) (W.taken out.new) text.old.items) }
-    ensures failures { W.failed out.new ≡ failed_after (W.failed out.old) result }
+    ensures { PutsOut W.taken W.failed out.old out.new text.old.items text.new.items result }
 {
     if text.len() < PIECE {
         return Ok(());

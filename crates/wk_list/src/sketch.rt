@@ -16,7 +16,7 @@ pub(crate) trait Sketch {
     ghost use Rattle.wk_module.specs.Sections.{of_number};
     ghost use Rattle.wk_module.specs.Shape.{lists_of, IsShaped};
     ghost use Rattle.wk_module.specs.Writing.{contents_by, Fits};
-    ghost use Rattle.wk_list.specs.Sketches.{IsSketch};
+    ghost use Rattle.wk_list.specs.Sketches.{IsSketch, HasFewItems};
 
     // The module.
     ghost seen: { Self → Seen };
@@ -24,6 +24,7 @@ pub(crate) trait Sketch {
     /// The parts of the module, but for its bodies.
     fn parts(&self) -> &Parts
         ensures value { IsSketch (seen self.now) result.now }
+        ensures few { HasFewItems result.now }
         ensures shaped { IsShaped (seen self.now) }
         ensures fits { Fits (seen self.now) };
 

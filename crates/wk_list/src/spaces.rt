@@ -74,6 +74,7 @@ impl Counts {
     }
 
     /// The index that an import has in the space of its kind; it is counted from now on.
+    #[tactic(auto, using(crate::proofs::Counting::count_le))]
     pub(crate) fn take(&mut self, desc: &ImportDesc) -> u64
         requires { (before : List Imported) × AreCounted self.old before × (length before < 2 ^ 32) }
         ensures index { (before : List Imported) → AreCounted self.old before → result ≡ count_of (desc_kind desc.now) before }

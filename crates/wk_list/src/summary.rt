@@ -10,7 +10,7 @@ ghost use Rattle.wk_module.specs.Writing.{Fits};
 ghost use Rattle.wk_module.specs.Modules.{Spells, SpellsNone};
 ghost use Rattle.wk_module.specs.Reading.{module_at};
 ghost use Rattle.wk_list.specs.Listing.{listing, lists_bodies};
-ghost use Rattle.wk_list.specs.Taken.{Leaves, failed_after};
+ghost use Rattle.wk_list.specs.Taken.{PutsOut, failed_after};
 
 use crate::details::list_details;
 use crate::fault::ListFault;
@@ -117,9 +117,8 @@ fn list_summary_part<W: Out>(
 ) -> Result<(), ListFault>
     requires room { W.failed out.old < 2 ^ 64 - 1 }
     requires part { lists_bodies part ≡ false }
-    ensures ok { OnOk result (Leaves (W.taken out.old) (W.taken out.new) (text.old.items ++ listing summary.now part) text.new.items) }
-    ensures err { OnErr result (TakesFront (W.taken out.old) (W.taken out.new) (text.old.items ++ listing summary.now part)) }
-    ensures failures { W.failed out.new ≡ failed_after (W.failed out.old) result }
+    ensures { PutsOut W.taken W.failed out.old out.new
+        (text.old.items ++ listing summary.now part) text.new.items result }
 {
     match part {
         Part::Headers => list_headers(summary, text, out),

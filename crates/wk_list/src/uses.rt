@@ -4,7 +4,7 @@ ghost use Rattle.std.specs.Prelude.{◌≡◌, ◌<◌, ◌-◌, ◌^◌, ◌++�
 ghost use Rattle.std.specs.List.{flat_map};
 ghost use Rattle.wk_bytes.specs.Taken.{TakesFront};
 ghost use Rattle.wk_body.specs.References.{refs_of};
-ghost use Rattle.wk_list.specs.Taken.{Leaves, failed_after};
+ghost use Rattle.wk_list.specs.Taken.{PutsOut};
 ghost use Rattle.wk_list.specs.Uses.{in_order, ref_text, uses_text};
 
 use crate::fault::ListFault;
@@ -79,9 +79,8 @@ pub(crate) fn list_uses<S: Shape, W: Out>(
     out: &mut W,
 ) -> Result<(), ListFault>
     requires room { W.failed out.old < 2 ^ 64 - 1 }
-    ensures ok { OnOk result (Leaves (W.taken out.old) (W.taken out.new) (text.old.items ++ uses_text (S.seen shape.now)) text.new.items) }
-    ensures err { OnErr result (TakesFront (W.taken out.old) (W.taken out.new) (text.old.items ++ uses_text (S.seen shape.now))) }
-    ensures failures { W.failed out.new ≡ failed_after (W.failed out.old) result }
+    ensures { PutsOut W.taken W.failed out.old out.new
+        (text.old.items ++ uses_text (S.seen shape.now)) text.new.items result }
 {
     let parts = shape.parts();
     let imported = count_of(Kind::Func, parts.imports.as_slice());

@@ -1,20 +1,12 @@
-use Rattle.std.proofs.Common.{◌++◌}
-use Rattle.std.proofs.lemmas.Result.{on_ok_weaker, on_err_weaker}
-use Rattle.wk_bytes.specs.TakenLaws.{TakesFront-first}
-use Rattle.wk_list.proofs.TakenLemmas.{on_err_known, leaves_more, stops_here, stops_more}
+use Rattle.std.proofs.Common.{refl, sym}
+use Rattle.wk_list.proofs.TakenLemmas.{all_left, puts_last, puts_on, refused, stopped}
 use Rattle.wk_list.proofs.code.list_long_line.Goals as goal
 
-pub returns-in_err-put_sheet-clause-err : goal.returns-in_err-put_sheet-clause-err
-returns-in_err-put_sheet-clause-err g c = on_err_known c.from_residual.result (TakesFront-first _ _ (c.args.text.now.items ++ c.args.sheet.now) _ c.in_err-put_sheet.ensures.err)
+pub returns-in_err-put_sheet : goal.returns-in_err-put_sheet
+returns-in_err-put_sheet g c = stopped (puts_on _ (all_left refl) refl c.in_err-put_sheet.ensures) c.from_residual.ensures
 
-pub returns-in_err-put_line-clause-err : goal.returns-in_err-put_line-clause-err
-returns-in_err-put_line-clause-err g c = on_err_known c.from_residual-in_err-put_line.result (
-    TakesFront-first _ _ (c.args.text.now.items ++ c.args.sheet.now) _ (stops_here _ _ (c.args.text.now.items ++ c.args.sheet.now) _ c.in_ok-put_sheet.ensures.ok))
+pub returns-in_err-put_line : goal.returns-in_err-put_line
+returns-in_err-put_line g c = refused (puts_on _ (all_left refl) refl c.in_ok-put_sheet.ensures) c.from_residual-in_err-put_line.ensures
 
-pub returns-clause-ok : goal.returns-clause-ok
-returns-clause-ok g c = on_ok_weaker c.spill.result
-    (λ p. leaves_more _ _ _ (c.args.text.now.items ++ c.args.sheet.now) _ _ _ c.in_ok-put_sheet.ensures.ok (rw c.in_ok-put_line.ensures at p)) c.spill.ensures.ok
-
-pub returns-clause-err : goal.returns-clause-err
-returns-clause-err g c = on_err_weaker c.spill.result
-    (λ p. stops_more _ _ _ (c.args.text.now.items ++ c.args.sheet.now) _ _ c.in_ok-put_sheet.ensures.ok (rw c.in_ok-put_line.ensures at p)) c.spill.ensures.err
+pub returns : goal.returns
+returns g c = puts_last (puts_on _ (all_left refl) refl c.in_ok-put_sheet.ensures) (sym c.in_ok-put_line.ensures) c.spill.ensures

@@ -3,14 +3,15 @@ use Rattle.std.specs.List.{AllByRecursion}
 use Rattle.wk_body.specs.Kept.{all_told, IsWithin}
 use Rattle.wk_list.specs.declared.brief.TheConstants.{NAMED}
 use Rattle.wk_list.specs.declared.sheet.TheConstants.{ROOM}
-use Rattle.wk_list.specs.Taken.{Leaves}
 use Rattle.wk_list.specs.TokenText.{toks_text, toks_length}
+use Rattle.wk_list.proofs.TakenLemmas.{IsLeft}
 use Rattle.wk_list.proofs.code.list_tokens.Given as goal
 
 abbrev pub invariant-loop-token : goal.invariant-loop-token
 invariant-loop-token g l = record {
-  so_far : Leaves (g.W.Out.taken l.fn.out) (g.W.Out.taken l.out) (l.fn.text.items ++ toks_text l.start 0 (all_told l.labels l.tokens)) (l.text.items ++ take l.used l.sheet ++ toks_text l.at l.depth (all_told l.labels l.rest));
-  failures : g.W.Out.failed l.out ≡ g.W.Out.failed l.fn.out;
+  so_far : IsLeft g.W.Out.taken g.W.Out.failed l.fn.out l.out
+      (l.fn.text.items ++ toks_text l.start 0 (all_told l.labels l.tokens))
+      (l.text.items ++ take l.used l.sheet ++ toks_text l.at l.depth (all_told l.labels l.rest));
   place : l.at + toks_length (all_told l.labels l.rest) ≡ l.start + toks_length (all_told l.labels l.tokens);
   deep : l.depth ≤ l.at;
   inside : l.used ≤ ROOM;

@@ -1,56 +1,40 @@
-use Rattle.std.proofs.Common.{ℕ, ◌+◌, ◌<◌, ◌≤◌, List, ◌++◌, length, drop, refl, ap, ◌∙◌, subst, arith}
-use Rattle.wk_list.specs.Taken.{Leaves}
-use Rattle.wk_list.specs.Details.{custom_details}
-use Rattle.wk_list.proofs.TakenLemmas.{on_err_known, leaves_same, stops_here}
-use Rattle.wk_list.proofs.LineSteps.{step_spilled, step_stopped}
-use Rattle.wk_list.proofs.CustomSteps.{details_at, custom_here, custom_elsewhere, none_left}
+use Rattle.std.proofs.Common.{◌<◌, ◌≤◌, ◌++◌, length, ap, ◌∙◌, arith, append-nil}
+use Rattle.std.proofs.lemmas.List.{drop_all}
+use Rattle.wk_module.specs.declared.types.Custom.{Custom}
+use Rattle.std.proofs.Common.{List, ℕ}
+use Rattle.wk_list.proofs.TakenLemmas.{puts_on, puts_left, refused, stopped}
+use Rattle.wk_list.proofs.CustomSteps.{details_at, custom_here, custom_elsewhere}
 use Rattle.wk_list.proofs.details.list_customs.Goals as goal
 use Rattle.wk_list.proofs.details.list_customs.Goals.{then-custom-place+in_ok-put_custom+in_ok-spill, else-custom-place}
 
-pub returns-in_err-put_custom-clause-err : goal.returns-in_err-put_custom-clause-err
-returns-in_err-put_custom-clause-err g c = on_err_known c.from_residual.result (stops_here _ _ _ _ c.loop-custom.invariant.so_far)
+pub returns-in_err-put_custom : goal.returns-in_err-put_custom
+returns-in_err-put_custom g c = refused c.loop-custom.invariant c.from_residual.ensures
 
-pub returns-in_err-spill-clause-err : goal.returns-in_err-spill-clause-err
-returns-in_err-spill-clause-err g c =
-    let customs = c.args.customs.now in
-    let at = c.loop-custom.custom-index in
-    let place = c.args.place in
-    let custom = c.custom-item.result in
-    let within : at < length customs = omega (arith, ap length c.as_slice-custom-items.ensures) in
+pub returns-in_err-spill : goal.returns-in_err-spill
+returns-in_err-spill g c =
+    let within : c.loop-custom.custom-index < length c.args.customs.now = omega (arith, ap length c.as_slice-custom-items.ensures) in
     let is = rw c.as_slice-custom-items.ensures at c.custom-item.is in
-    let more = custom_here customs at place custom within is c.if-custom-place.true in
-    on_err_known c.from_residual-in_err-spill.result (
-    step_stopped _ _ _ _ c.loop-custom.text.items (details_at place (drop at customs)) (custom_details custom) (details_at place (drop (at + 1) customs)) _ c.loop-custom.invariant.so_far more c.in_ok-put_custom.ensures c.in_err-spill.ensures.err)
+    let step = custom_here c.args.customs.now c.loop-custom.custom-index c.args.place c.custom-item.result c.loop-custom.text.items _ within is
+    c.if-custom-place.true c.in_ok-put_custom.ensures in
+    stopped (puts_on _ c.loop-custom.invariant step c.in_err-spill.ensures) c.from_residual-in_err-spill.ensures
 
 pub loop-custom-preserved : goal.loop-custom-preserved
 loop-custom-preserved g c =
     let customs = c.args.customs.now in
     let at = c.loop-custom.custom-index in
-    let place = c.args.place in
-    let custom = c.custom-item.result in
     let within : at < length customs = omega (arith, ap length c.as_slice-custom-items.ensures) in
     let is = rw c.as_slice-custom-items.ensures at c.custom-item.is in
     elim c.if-custom-place.branch [
-      | then-custom-place+in_ok-put_custom+in_ok-spill w ↦ rw (w.text-is, w.out-is) (record {
-        so_far = step_spilled _ _ _ _ c.loop-custom.text.items (details_at place (drop at customs)) (custom_details custom) (details_at place (drop (at + 1) customs)) _ _ c.loop-custom.invariant.so_far (custom_here customs at place custom within is w.if-custom-place.true) w.in_ok-put_custom.ensures w.in_ok-spill.ensures.ok;
-        failures = w.in_ok-spill.ensures.failures ∙ c.loop-custom.invariant.failures;
-      })
-      | else-custom-place w ↦ rw (w.text-is, w.out-is) (record {
-        so_far = subst (λ (r : List ℕ). Leaves (g.W.Out.taken c.args.out.now) (g.W.Out.taken c.loop-custom.out) (c.args.text.now.items ++ details_at place customs) (c.loop-custom.text.items ++ r)) (custom_elsewhere customs at place custom within is w.if-custom-place.false) c.loop-custom.invariant.so_far;
-        failures = c.loop-custom.invariant.failures;
-      })
+      | then-custom-place+in_ok-put_custom+in_ok-spill w ↦ rw (w.text-is, w.out-is)
+          (puts_on _ c.loop-custom.invariant (custom_here customs at c.args.place c.custom-item.result c.loop-custom.text.items _ within is
+          w.if-custom-place.true w.in_ok-put_custom.ensures) w.in_ok-spill.ensures)
+      | else-custom-place w ↦ rw (w.text-is, w.out-is)
+          (puts_left (ap (λ (r : List ℕ). c.loop-custom.text.items ++ r)
+          (custom_elsewhere customs at c.args.place c.custom-item.result within is w.if-custom-place.false)) c.loop-custom.invariant)
     ]
 
-pub spill-requires : goal.spill-requires
-spill-requires g c = rw c.loop-custom.invariant.failures c.requires.room
-
-pub returns-clause-ok : goal.returns-clause-ok
-returns-clause-ok g c =
+pub returns : goal.returns
+returns g c =
     let done : length c.args.customs.now ≤ c.loop-custom.custom-index = omega (arith, c.loop-custom-test.false, ap length c.as_slice-custom-items.ensures) in
-    none_left _ _ _ c.loop-custom.text.items c.args.customs.now c.loop-custom.custom-index c.args.place done c.loop-custom.invariant.so_far
-
-pub returns-clause-failures : goal.returns-clause-failures
-returns-clause-failures g c = c.loop-custom.invariant.failures
-
-pub loop-custom-init : goal.loop-custom-init
-loop-custom-init g c = record { so_far = leaves_same _ _ _ refl; failures = refl }
+    puts_left (ap (λ (ds : List Custom). c.loop-custom.text.items ++ details_at c.args.place ds)
+    (drop_all c.loop-custom.custom-index c.args.customs.now done) ∙ append-nil c.loop-custom.text.items) c.loop-custom.invariant

@@ -1,26 +1,21 @@
-use Rattle.std.proofs.Common.{◌≡◌, ◌+◌, [], ◌∷◌, ◌++◌, List, take, drop, sym, refl, ap, ◌∙◌, subst}
-use Rattle.std.proofs.lemmas.List.{take_more}
+use Rattle.std.proofs.Common.{List, take, sym, refl, subst}
 use Rattle.wk_module.specs.declared.types.Import.{Import}
 use Rattle.wk_list.specs.Spaces.{AreCounted}
-use Rattle.wk_list.specs.Details.{import_line, import_lines}
-use Rattle.wk_list.proofs.TakenLemmas.{on_err_known, stops_here}
-use Rattle.wk_list.proofs.LineSteps.{step_spilled, step_stopped}
-use Rattle.wk_list.proofs.ImportSteps.{before_are, imports_step}
+use Rattle.wk_list.proofs.TakenLemmas.{puts_on, refused, stopped}
+use Rattle.wk_list.proofs.ImportSteps.{before_are, before_next, imports_step}
 use Rattle.wk_list.proofs.imports.list_imports.Goals as goal
 
-pub returns-in_err-put_import-clause-err : goal.returns-in_err-put_import-clause-err
-returns-in_err-put_import-clause-err g c = on_err_known c.from_residual.result (stops_here _ _ _ _ c.loop-index.invariant.so_far)
+pub returns-in_err-put_import : goal.returns-in_err-put_import
+returns-in_err-put_import g c = refused c.loop-index.invariant.so_far c.from_residual.ensures
 
-pub returns-in_err-spill-clause-err : goal.returns-in_err-spill-clause-err
-returns-in_err-spill-clause-err g c =
+pub returns-in_err-spill : goal.returns-in_err-spill
+returns-in_err-spill g c =
     let imports = c.args.imports.now in
     let at = c.loop-index.index in
-    let import = c.index-imports-index.result in
-    let before = take at imports in
-    let own = c.take-own.ensures.index before c.loop-index.invariant.counted in
-    let put = c.in_ok-put_import.ensures before (before_are imports at c.loop-index-test.true) own in
-    on_err_known c.from_residual-in_err-spill.result (
-    step_stopped _ _ _ _ c.loop-index.text.items (import_lines before (drop at imports)) (import_line before import) (import_lines (take (at + 1) imports) (drop (at + 1) imports)) _ c.loop-index.invariant.so_far (imports_step imports at import c.loop-index-test.true c.index-imports-index.is) put c.in_err-spill.ensures.err)
+    let put = c.in_ok-put_import.ensures (take at imports) (before_are imports at c.loop-index-test.true)
+    (c.take-own.ensures.index (take at imports) c.loop-index.invariant.counted) in
+    let step = imports_step imports at c.index-imports-index.result c.loop-index.text.items _ c.loop-index-test.true c.index-imports-index.is put in
+    stopped (puts_on _ c.loop-index.invariant.so_far step c.in_err-spill.ensures) c.from_residual-in_err-spill.ensures
 
 pub loop-index-preserved : goal.loop-index-preserved
 loop-index-preserved g c =
@@ -28,11 +23,11 @@ loop-index-preserved g c =
     let at = c.loop-index.index in
     let import = c.index-imports-index.result in
     let before = take at imports in
-    let own = c.take-own.ensures.index before c.loop-index.invariant.counted in
-    let put = c.in_ok-put_import.ensures before (before_are imports at c.loop-index-test.true) own in
-    let more : take (at + 1) imports ≡ before ++ import ∷ [] = take_more imports at import c.loop-index-test.true ∙ ap (λ (i : Import). before ++ i ∷ []) (sym c.index-imports-index.is) in
+    let put = c.in_ok-put_import.ensures before (before_are imports at c.loop-index-test.true)
+    (c.take-own.ensures.index before c.loop-index.invariant.counted) in
+    let step = imports_step imports at import c.loop-index.text.items _ c.loop-index-test.true c.index-imports-index.is put in
+    let more = before_next imports at import c.loop-index-test.true c.index-imports-index.is in
     record {
       counted = subst (λ (is : List Import). AreCounted c.take-own.new.self is) (sym more) (c.take-own.ensures.counted before import refl c.loop-index.invariant.counted);
-      so_far = step_spilled _ _ _ _ c.loop-index.text.items (import_lines before (drop at imports)) (import_line before import) (import_lines (take (at + 1) imports) (drop (at + 1) imports)) _ _ c.loop-index.invariant.so_far (imports_step imports at import c.loop-index-test.true c.index-imports-index.is) put c.in_ok-spill.ensures.ok;
-      failures = c.in_ok-spill.ensures.failures ∙ c.loop-index.invariant.failures;
+      so_far = puts_on _ c.loop-index.invariant.so_far step c.in_ok-spill.ensures;
     }

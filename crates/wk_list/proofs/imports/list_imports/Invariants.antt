@@ -1,12 +1,12 @@
-use Rattle.std.proofs.Common.{◌≡◌, ◌++◌, [], take, drop}
-use Rattle.wk_list.specs.Taken.{Leaves}
+use Rattle.std.proofs.Common.{◌++◌, [], take, drop}
 use Rattle.wk_list.specs.Spaces.{AreCounted}
 use Rattle.wk_list.specs.Details.{import_lines}
+use Rattle.wk_list.proofs.TakenLemmas.{IsLeft}
 use Rattle.wk_list.proofs.imports.list_imports.Given as goal
 
 abbrev pub invariant-loop-index : goal.invariant-loop-index
 invariant-loop-index g l = record {
   counted : AreCounted l.counts (take l.index l.imports);
-  so_far : Leaves (g.W.Out.taken l.fn.out) (g.W.Out.taken l.out) (l.fn.text.items ++ import_lines [] l.imports) (l.text.items ++ import_lines (take l.index l.imports) (drop l.index l.imports));
-  failures : g.W.Out.failed l.out ≡ g.W.Out.failed l.fn.out;
+  so_far : IsLeft g.W.Out.taken g.W.Out.failed l.fn.out l.out (l.fn.text.items ++ import_lines [] l.imports)
+      (l.text.items ++ import_lines (take l.index l.imports) (drop l.index l.imports));
 }

@@ -1,10 +1,8 @@
-use Rattle.std.proofs.Common.{◌≡◌, ◌++◌, drop}
-use Rattle.wk_list.specs.Taken.{Leaves}
+use Rattle.std.proofs.Common.{◌++◌, drop}
 use Rattle.wk_list.specs.Text.{numbered}
+use Rattle.wk_list.proofs.TakenLemmas.{IsLeft}
 use Rattle.wk_list.proofs.lines.list_lines.Given as goal
 
 abbrev pub invariant-loop-index : goal.invariant-loop-index
-invariant-loop-index g l = record {
-  so_far : Leaves (g.W.Out.taken l.fn.out) (g.W.Out.taken l.out) (l.fn.text.items ++ numbered (g.L.Lines.line l.lines) 0 l.items) (l.text.items ++ numbered (g.L.Lines.line l.lines) l.index (drop l.index l.items));
-  failures : g.W.Out.failed l.out ≡ g.W.Out.failed l.fn.out;
-}
+invariant-loop-index g l = IsLeft g.W.Out.taken g.W.Out.failed l.fn.out l.out
+    (l.fn.text.items ++ numbered (g.L.Lines.line l.lines) 0 l.items) (l.text.items ++ numbered (g.L.Lines.line l.lines) l.index (drop l.index l.items))
