@@ -5,42 +5,23 @@ use Rattle.wk_module.specs.declared.types.Import.{Import}
 use Rattle.wk_module.specs.declared.types.Func.{Func}
 use Rattle.wk_module.specs.declared.types.Parts.{Parts}
 use Rattle.wk_module.specs.declared.types.Kind.TheVariants as kinds
+use Rattle.wk_module.specs.Listed.{AreNumbered}
+use Rattle.wk_module.specs.NumberedLaws.{module_numbered}
 use Rattle.wk_module.specs.Sections.{SectionId, TypeSection, ImportSection, FunctionSection, TableSection, MemorySection, GlobalSection, ExportSection, StartSection, ElementSection, CodeSection, DataSection, of_number}
-use Rattle.wk_module.specs.Shape.{IsShaped}
-use Rattle.wk_list.specs.Sketches.{IsSketch, HasFewItems}
+use Rattle.wk_module.specs.Shape.{lists_of, IsShaped}
+use Rattle.wk_list.specs.Sketches.{IsSketch}
 use Rattle.wk_list.specs.Spaces.{count_of}
 use Rattle.wk_list.specs.Text.{numbered}
-use Rattle.wk_list.proofs.Sections.{many_funcs}
 use Rattle.wk_list.specs.Details.{func_line, code_size_line, heading, group, section_details, details_by}
 
--- a module is a sketch of itself
-pub sketch_same : (m p : Parts) → p ≡ m → IsSketch m p
-sketch_same m p same = subst (IsSketch m) (sym same) (record { rest = refl; types = refl })
-
--- the lists of a shaped module are no longer than indexes count, and those of a sketch of it are as long
-few_here : (m : Parts) → IsShaped m → HasFewItems m
-few_here m shaped =
-    let few = shaped.formed.valid in
-    record {
-      types = few TypeSection;
-      imports = (few ImportSection).0;
-      funcs = omega (arith, (few FunctionSection).0, length-map m.funcs (λ (f : Func). f.ty));
-      tables = (few TableSection).0;
-      memories = (few MemorySection).0;
-      globals = (few GlobalSection).0;
-      exports = (few ExportSection).0;
-      elems = (few ElementSection).0;
-      datas = (few DataSection).0;
-    }
-
-pub few_items : (m p : Parts) → IsShaped m → IsSketch m p → HasFewItems p
-few_items m p shaped same =
-    let few = few_here m shaped in
-    let funcs : length p.funcs < 2 ^ 32 = omega (arith, few.funcs, many_funcs m p same) in
-    let given : HasFewItems (record m { funcs = p.funcs }) = record {
+-- the lists of a sketch are no longer than indexes count, as those of the module
+pub sketch_numbered : (m p : Parts) → IsShaped m → IsSketch m p → AreNumbered (lists_of p)
+sketch_numbered m p shaped same =
+    let few = module_numbered m shaped.formed in
+    let given : AreNumbered (lists_of (record m { funcs = p.funcs })) = record {
       types = few.types;
       imports = few.imports;
-      funcs = funcs;
+      funcs = subst (λ (ts : List ℕ). length ts < 2 ^ 32) (sym same.types) few.funcs;
       tables = few.tables;
       memories = few.memories;
       globals = few.globals;
@@ -48,7 +29,7 @@ few_items m p shaped same =
       elems = few.elems;
       datas = few.datas;
     } in
-    subst HasFewItems (sym same.rest) given
+    subst (λ (q : Parts). AreNumbered (lists_of q)) (sym same.rest) given
 
 -- ---- lines of functions tell their types alone
 

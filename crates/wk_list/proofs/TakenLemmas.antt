@@ -66,8 +66,7 @@ puts_on {T = T} {all = all} {left = left} {now = now} {r = Err f} rest p e q =
 -- ... and nothing comes behind it
 pub puts_last : {W U T : Type 0} {taken : W → Option (List ℕ)} {failed : W → ℕ} {a b c : W} {all left now new : List ℕ} {u : U} {r : Result T ListFault}
     → PutsOut taken failed a b all left (Ok u) → left ≡ now → PutsOut taken failed b c now new r → PutsOut taken failed a c all new r
-puts_last {taken = taken} {failed = failed} {a = a} {c = c} {all = all} {now = now} {new = new} {r = r} p e q =
-    puts_left (append-nil new) (puts_on [] p (e ∙ sym (append-nil now)) q)
+puts_last {now = now} {new = new} p e q = puts_left (append-nil new) (puts_on [] p (e ∙ sym (append-nil now)) q)
 
 -- ---- a call that hands a fault on
 

@@ -1,5 +1,5 @@
 -- A module, but for the bodies of its functions.
-use Rattle.std.specs.Prelude.{◌≡◌, ℕ, ◌<◌, ◌^◌, List, length, map, Result, Ok, Err}
+use Rattle.std.specs.Prelude.{◌≡◌, ℕ, List, length, map, Result, Ok, Err}
 use Rattle.wk_bytes.specs.declared.fault.ReadFault.{ReadFault}
 use Rattle.wk_body.specs.declared.types.Profile.{Profile}
 use Rattle.wk_module.specs.declared.skeleton.Skeleton.{Skeleton}
@@ -15,18 +15,6 @@ use Rattle.wk_module.specs.Writing.{Fits}
 pub record IsSketch (m d : Parts) : Type 0 where
   pub rest : d ≡ record m { funcs = d.funcs }
   pub types : map (λ (f : Func). f.ty) d.funcs ≡ map (λ (f : Func). f.ty) m.funcs
-
--- no list of the parts is longer than indexes count
-pub record HasFewItems (p : Parts) : Type 0 where
-  pub types : length p.types < 2 ^ 32
-  pub imports : length p.imports < 2 ^ 32
-  pub funcs : length p.funcs < 2 ^ 32
-  pub tables : length p.tables < 2 ^ 32
-  pub memories : length p.memories < 2 ^ 32
-  pub globals : length p.globals < 2 ^ 32
-  pub exports : length p.exports < 2 ^ 32
-  pub elems : length p.elems < 2 ^ 32
-  pub datas : length p.datas < 2 ^ 32
 
 -- the module that was read, or one with nothing
 abbrev pub found_in : Profile → Result Parts ReadFault → Parts

@@ -1,7 +1,6 @@
 //! The lines of imports in the details listing.
 
-ghost use Rattle.std.specs.Prelude.{◌≡◌, ◌<◌, ◌-◌, ◌^◌, ◌++◌, [], List, length, OnOk, OnErr};
-ghost use Rattle.wk_bytes.specs.Taken.{TakesFront};
+ghost use Rattle.std.specs.Prelude.{◌≡◌, ◌<◌, ◌-◌, ◌^◌, ◌++◌, [], List, length, OnOk};
 ghost use Rattle.wk_module.specs.declared.types.Import.{Import as Imported};
 ghost use Rattle.wk_module.specs.Items.{desc_kind};
 ghost use Rattle.wk_list.specs.Taken.{PutsOut};

@@ -1,7 +1,6 @@
 //! Lines of the items of a list.
 
-ghost use Rattle.std.specs.Prelude.{◌≡◌, ◌<◌, ◌-◌, ◌^◌, ◌++◌, length, OnOk, OnErr};
-ghost use Rattle.wk_bytes.specs.Taken.{TakesFront};
+ghost use Rattle.std.specs.Prelude.{◌≡◌, ◌<◌, ◌-◌, ◌^◌, ◌++◌, length};
 ghost use Rattle.wk_list.specs.Taken.{PutsOut};
 ghost use Rattle.wk_list.specs.Text.{numbered};
 

@@ -13,10 +13,11 @@ pub(crate) trait Sketch {
     ghost use Rattle.wk_module.specs.declared.types.Custom.{Custom as CustomSection};
     ghost use Rattle.wk_module.specs.declared.types.Func.{Func as Function};
     ghost use Rattle.wk_module.specs.Customs.{written_custom};
+    ghost use Rattle.wk_module.specs.Listed.{AreNumbered};
     ghost use Rattle.wk_module.specs.Sections.{of_number};
     ghost use Rattle.wk_module.specs.Shape.{lists_of, IsShaped};
     ghost use Rattle.wk_module.specs.Writing.{contents_by, Fits};
-    ghost use Rattle.wk_list.specs.Sketches.{IsSketch, HasFewItems};
+    ghost use Rattle.wk_list.specs.Sketches.{IsSketch};
 
     // The module.
     ghost seen: { Self → Seen };
@@ -24,7 +25,7 @@ pub(crate) trait Sketch {
     /// The parts of the module, but for its bodies.
     fn parts(&self) -> &Parts
         ensures value { IsSketch (seen self.now) result.now }
-        ensures few { HasFewItems result.now }
+        ensures numbered { AreNumbered (lists_of result.now) }
         ensures shaped { IsShaped (seen self.now) }
         ensures fits { Fits (seen self.now) };
 

@@ -1,19 +1,19 @@
-use Rattle.std.proofs.Common.{◌++◌, ap, arith, List, ℕ, refl}
+use Rattle.std.proofs.Common.{◌++◌, ap, arith, length, List, ℕ}
 use Rattle.wk_list.proofs.Offsets.{sections_fit, first_is, codes_fit, text_is}
-use Rattle.wk_list.proofs.SectionTexts.{few_items, sketch_same}
+use Rattle.wk_module.specs.declared.types.Parts.{Parts}
+use Rattle.wk_module.specs.NumberedLaws.{funcs_numbered, module_numbered}
 use Rattle.wk_list.proofs.TakenLemmas.{puts_same}
 use Rattle.wk_list.proofs.code.list_code.Goals as goal
 
 pub count_of-imported-requires : goal.count_of-imported-requires
-count_of-imported-requires g c = rw c.as_slice.ensures (few_items _ _ c.parts-parts.ensures.shaped (sketch_same _ _ c.parts-parts.ensures.value)).imports
+count_of-imported-requires g c = rw (c.as_slice.ensures, c.parts-parts.ensures.value) (module_numbered _ c.parts-parts.ensures.shaped.formed).imports
 
 pub contents_start-contents-requires : goal.contents_start-contents-requires
 contents_start-contents-requires g c = omega (arith, c.code_start.ensures, sections_fit (g.S.Shape.seen c.args.shape.now) 10 (omega arith) c.parts-parts.ensures.fits)
 
 pub overflow_cast-len : goal.overflow_cast-len
 overflow_cast-len g c =
-    let few = few_items _ _ c.parts-parts.ensures.shaped (sketch_same _ _ c.parts-parts.ensures.value) in
-    omega (arith, few.funcs, c.len.ensures)
+    omega (arith, funcs_numbered _ c.parts-parts.ensures.shaped.formed, c.len.ensures, ap (λ (m : Parts). length m.funcs) c.parts-parts.ensures.value)
 
 pub overflow_add-first : goal.overflow_add-first
 overflow_add-first g c =
@@ -24,7 +24,7 @@ overflow_add-first g c =
     )
 
 pub list_entries-requires-clause-few : goal.list_entries-requires-clause-few
-list_entries-requires-clause-few g c = (few_items _ _ c.parts-parts.ensures.shaped (sketch_same _ _ refl)).funcs
+list_entries-requires-clause-few g c = funcs_numbered _ c.parts-parts.ensures.shaped.formed
 
 pub list_entries-requires-clause-fits : goal.list_entries-requires-clause-fits
 list_entries-requires-clause-fits g c =

@@ -1,13 +1,13 @@
 use Rattle.std.proofs.Common.{◌≡◌, ℕ, List, [], ◌++◌, refl, ap, ◌∙◌, append-nil, rules}
 use Rattle.wk_module.specs.Sections.{TypeSection, ImportSection, FunctionSection, TableSection, MemorySection, GlobalSection, ExportSection, ElementSection, DataSection, of_number}
+use Rattle.wk_module.specs.NumberedLaws.{funcs_numbered}
 use Rattle.wk_list.specs.Details.{details_by}
 use Rattle.wk_list.proofs.TakenLemmas.{all_left, puts_same}
-use Rattle.wk_list.proofs.SectionTexts.{few_items, section_is, codes_is, sketch_same}
+use Rattle.wk_list.proofs.SectionTexts.{section_is, codes_is}
 use Rattle.wk_list.proofs.details.list_section.Goals as goal
 
 pub list_code_group-requires-clause-few : goal.list_code_group-requires-clause-few
-list_code_group-requires-clause-few g c = (few_items (g.S.Sketch.seen c.args.sketch.now) (g.S.Sketch.seen c.args.sketch.now) c.parts-parts.ensures.shaped
-    (sketch_same _ _ refl)).funcs
+list_code_group-requires-clause-few g c = funcs_numbered _ c.parts-parts.ensures.shaped.formed
 
 pub returns-in-1 : goal.returns-in-1
 returns-in-1 g c = puts_same (section_is (g.S.Sketch.seen c.args.sketch.now) c.parts-parts.result.now c.args.id 1 TypeSection c.args.text.now.items

@@ -1,5 +1,5 @@
-use Rattle.wk_list.proofs.SectionTexts.{few_items, sketch_same}
+use Rattle.wk_module.specs.NumberedLaws.{module_numbered}
 use Rattle.wk_list.proofs.sketch.WholeSketch.parts.Goals as goal
 
-pub returns-clause-few : goal.returns-clause-few
-returns-clause-few g c = few_items _ _ c.parts.ensures.shaped (sketch_same _ _ c.parts.ensures.value)
+pub returns-clause-numbered : goal.returns-clause-numbered
+returns-clause-numbered g c = rw c.parts.ensures.value (module_numbered _ c.parts.ensures.shaped.formed)
