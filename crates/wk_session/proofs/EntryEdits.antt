@@ -1,7 +1,6 @@
 -- Edits that give or replace a code entry: what the module that they make is judged by, and what is kept of it.
-use Rattle.std.proofs.Common.{◌≡◌, ◌≢◌, ℕ, ◌+◌, ◌<◌, ◌≤◌, ◌^◌, Bool, false, Some, None, List, [], ◌∷◌, ◌++◌, length, map, take, get_or, count_by, Result, Ok, Err, refl, sym, ap, subst, ◌∙◌, arith, nat_le, length-append}
+use Rattle.std.proofs.Common.{◌≡◌, ◌≢◌, ℕ, ◌+◌, ◌<◌, ◌≤◌, ◌^◌, Bool, false, Some, None, List, [], ◌∷◌, ◌++◌, length, map, take, get_or, count_by, Result, Ok, Err, refl, sym, ap, subst, ◌∙◌, arith, length-append}
 use Rattle.std.proofs.Math.Seq.{take-append_seam}
-use Rattle.std.proofs.lemmas.Bool.{le-leb, cond-true}
 use Rattle.std.proofs.lemmas.List.{length-map, map_push}
 use Rattle.std.proofs.lemmas.List.Sums.{count_by-le-length, sum_by_push}
 use Rattle.wk_bytes.specs.Frames.{limit}
@@ -45,10 +44,9 @@ use Rattle.wk_session.specs.Functions.{IsPlanned, body_spelled}
 use Rattle.wk_session.specs.Kept.{IsKept, Leads, uses_of, standing}
 use Rattle.wk_session.specs.Pieces.{ArePieces, IsOverlong, code_of, codes_size, entries_size, section_pieces}
 use Rattle.wk_session.specs.Refusals.{encode_refusal}
-use Rattle.wk_session.proofs.ItemLengths.{past_limit}
 use Rattle.wk_session.proofs.Leading.{accepted, too_large}
 use Rattle.wk_session.proofs.Outcomes.{limited-some}
-use Rattle.wk_session.proofs.Piecing.{codes_within, entries_codes}
+use Rattle.wk_session.proofs.Piecing.{codes_within, entries_codes, limited_within, past_limit}
 use Rattle.wk_session.proofs.Works.{work_is}
 
 -- ---- lists that are lent
@@ -112,10 +110,6 @@ pub unencoded : (keep : Bool) (n : Parts) (i : ℕ) (f : Func) (e : EncodeFault)
     → encode_refusal e ≢ Memory → standing keep n ≡ Err (encode_refusal e)
 unencoded keep n i f encoding.TooLarge order within is over other = code_large keep n i f order within is (over (λ same. absurd cc))
 unencoded keep n i f encoding.Memory order within is over other = absurd (other refl)
-
--- a length within the limit
-pub limited_within : (n : ℕ) → n ≤ limit → Some n ≡ limited n
-limited_within n less = sym (cond-true (nat_le n limit) (Some n) None (le-leb n limit less))
 
 -- the length of codes, as it is kept
 pub codes_kept : (m : Parts) (k : Pieces) → Fits m → ArePieces m k → Some k.codes_len ≡ limited (codes_size m.funcs)

@@ -26,9 +26,8 @@ use Rattle.wk_session.specs.Overlays.{with_items}
 use Rattle.wk_session.specs.Pieces.{IsUnwritten, code_of, entries_size, section_piece, section_pieces}
 use Rattle.wk_session.specs.Refusals.{encode_refusal}
 use Rattle.wk_session.proofs.ImportEdits.{AreLaid}
-use Rattle.wk_session.proofs.ItemLengths.{past_limit}
 use Rattle.wk_session.proofs.Leading.{too_large}
-use Rattle.wk_session.proofs.Piecing.{codes_within, entries_codes, section_large}
+use Rattle.wk_session.proofs.Piecing.{codes_within, entries_codes, past_limit, section_large}
 
 -- ---- sections
 

@@ -20,7 +20,6 @@ pub mod Used
 pub mod Lasting
 pub mod EntryEdits
 pub mod BodyEdits
-pub mod ItemLengths
 pub mod LongerLists
 pub mod Gaps
 pub mod ShorterLists

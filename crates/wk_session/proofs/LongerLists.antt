@@ -1,12 +1,14 @@
 -- The contents of a list with one item more, by those of the list without it.
-use Rattle.std.proofs.Common.{get_or, ◌≡◌, ℕ, zero, suc, ◌+◌, ◌≤◌, List, [], ◌∷◌, ◌++◌, length, map, drop, set, refl, sym, ap, ◌∙◌, arith, length-append}
+use Rattle.std.proofs.Common.{get_or, ◌≡◌, ℕ, ◌+◌, ◌≤◌, Option, Some, List, [], ◌∷◌, ◌++◌, length, map, drop, set, sym, ap, ◌∙◌, arith, length-append, length-drop}
 use Rattle.std.proofs.Math.Seq.{drop-append_seam, drop-nil}
 use Rattle.std.proofs.lemmas.List.{length-map, map_push}
 use Rattle.std.proofs.lemmas.List.Concat.{flat_map-append}
 use Rattle.std.specs.List.{flat_map}
+use Rattle.wk_bytes.specs.Frames.{limit}
 use Rattle.wk_bytes.specs.Short.{short}
 use Rattle.wk_bytes.specs.ShortLaws.{short-last, short-some}
 use Rattle.wk_body.specs.Bodies.{BodyOf}
+use Rattle.wk_body.specs.Lengths.{limited}
 use Rattle.wk_body.specs.declared.fault.EncodeFault.{EncodeFault}
 use Rattle.wk_module.specs.declared.types.Export.{Export}
 use Rattle.wk_module.specs.declared.types.Func.{Func}
@@ -20,7 +22,7 @@ use Rattle.wk_module.specs.Writing.{list_contents}
 use Rattle.wk_session.specs.Longer.{IsLonger, IsNewItem, with_item}
 use Rattle.wk_session.specs.declared.edits.one_more.NewItem.{NewItem}
 use Rattle.wk_session.specs.Pieces.{IsOverlong, section_pieces}
-use Rattle.wk_session.proofs.ItemLengths.{item_more}
+use Rattle.wk_session.proofs.Piecing.{limited_within}
 
 one_byte : short 1 ≡ 1 ∷ []
 one_byte = short-last 1 (omega arith)
@@ -46,7 +48,13 @@ module _ {A : Type 0} (written : A → List ℕ) where
 
   alone_within : (xs : List A) (x : A) → length (list_contents written (x ∷ [])) ≤ length (list_contents written (xs ++ x ∷ []))
   alone_within xs x =
-      omega (arith, item_more written xs x, item_more written [] x, short-some (length xs + 1), ap length one_byte)
+      let alone = list_contents written (x ∷ []) in
+      let kept = drop (length (short (length xs))) (list_contents written xs) in
+      omega (arith, ap length (longer_is xs x), length-append (short (length xs + 1)) (kept ++ drop 1 alone), length-append kept (drop 1 alone), length-drop 1 alone, short-some (length xs + 1))
+
+  -- how long the item is, as it is told of what it writes
+  pub alone_len : (x : A) (len : Option ℕ) → len ≡ limited (length (written x)) → len ≡ limited (length (drop 1 (list_contents written (x ∷ []))))
+  alone_len x len is = is ∙ ap limited (omega (arith, ap length (alone_is x), length-append (written x) []))
 
 -- an item that can't be made is one of contents that can't, unless memory was wanted
 pub overlong_more : (alone all : List ℕ) (e : EncodeFault) → length alone ≤ length all → IsOverlong alone e → IsOverlong all e
@@ -55,6 +63,11 @@ overlong_more alone all e within over = λ other. omega (arith, over other, with
 -- by the item itself
 pub longer_by : (id count : ℕ) (alone : List ℕ) (pieces : List (List ℕ)) (n : Parts) (item : NewItem) → IsNewItem id count alone item → IsLonger id count alone pieces n → IsLonger item.id item.count item.alone pieces n
 longer_by id count alone pieces n item new longer = rw (new.id_is, new.count_is, new.alone_is) longer
+
+-- how long it is
+pub item_told : (item : NewItem) (len : ℕ) → length item.alone ≤ limit → len ≡ length (drop 1 item.alone) → Some len ≡ limited (length (drop 1 item.alone))
+item_told item len few is =
+    ap Some is ∙ limited_within (length (drop 1 item.alone)) (omega (arith, few, length-drop 1 item.alone))
 
 -- ---- of a module
 

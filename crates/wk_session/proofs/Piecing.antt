@@ -1,13 +1,12 @@
 -- The pieces of a module, and how long it is by them.
-use Rattle.std.proofs.Common.{◌≡◌, ◌≢◌, Bool, ℕ, ◌+◌, ◌<◌, ◌≤◌, ◌==◌, inl, inr, if◌then◌else◌, Some, Err, List, [], ◌∷◌, ◌++◌, length, map, set, refl, sym, ap, ◌∙◌, arith, length-append}
-use Rattle.std.proofs.lemmas.Bool.{cases_eq, ne_eqb}
+use Rattle.std.proofs.Common.{◌≡◌, ◌≢◌, Bool, ℕ, ◌+◌, ◌<◌, ◌≤◌, ◌==◌, nat_le, inl, inr, if◌then◌else◌, Some, None, Err, List, [], ◌∷◌, length, map, set, refl, sym, ap, ◌∙◌, arith, length-append}
+use Rattle.std.proofs.lemmas.Bool.{cases_eq, cond-false, cond-true, le-leb, lt-leb, ne_eqb}
 use Rattle.std.proofs.lemmas.List.{length-map}
 use Rattle.std.proofs.lemmas.List.Folds.{flat_map-map}
 use Rattle.std.proofs.lemmas.List.Sums.{sum_by-cons}
 use Rattle.std.specs.List.{flat_map}
 use Rattle.wk_bytes.specs.Frames.{limit}
 use Rattle.wk_bytes.specs.Short.{short}
-use Rattle.wk_body.specs.Bodies.{BodyOf}
 use Rattle.wk_body.specs.declared.fault.EncodeFault.{EncodeFault}
 use Rattle.wk_body.specs.declared.fault.EncodeFault.TheVariants as encoding
 use Rattle.wk_body.specs.Lengths.{limited}
@@ -19,14 +18,22 @@ use Rattle.wk_module.specs.Sections.{CodeSection, of_number}
 use Rattle.wk_module.specs.Shape.{lists_of, IsInOrderFrom}
 use Rattle.wk_module.specs.Sizes.{entry_size, whole_size}
 use Rattle.wk_module.specs.Writing.{encoded, section_contents, ids}
-use Rattle.wk_module.specs.WritingLaws.{contents_by-lent, contents_size, contents_within, length-encoded, length-encoded_sizes, written_frame}
-use Rattle.wk_session.specs.declared.edit.EditFault.{EditFault}
+use Rattle.wk_module.specs.WritingLaws.{contents_by-lent, contents_size, contents_within, length-encoded, length-encoded_sizes}
 use Rattle.wk_session.specs.declared.edit.EditFault.TheVariants.{TooLarge, Memory}
 use Rattle.wk_session.specs.Kept.{standing}
 use Rattle.wk_session.specs.Refusals.{encode_refusal}
-use Rattle.wk_session.proofs.ItemLengths.{past_limit}
 use Rattle.wk_session.proofs.Leading.{too_large}
 use Rattle.wk_session.specs.Pieces.{IsOverlong, code_of, codes_size, customs_size, entries_size, section_piece, section_pieces}
+
+-- ---- the limit
+
+-- a length past it
+pub past_limit : (n : ℕ) → limit < n → None ≡ limited n
+past_limit n past = sym (cond-false (nat_le n limit) (Some n) None (lt-leb n limit past))
+
+-- one within it
+pub limited_within : (n : ℕ) → n ≤ limit → Some n ≡ limited n
+limited_within n less = sym (cond-true (nat_le n limit) (Some n) None (le-leb n limit less))
 
 -- ---- codes
 
@@ -74,12 +81,12 @@ customs_within m order = omega (arith, length-encoded m order)
 
 -- ---- of a module
 
-pub length_by : (n : Parts) (pieces : List (List ℕ)) (code customs : ℕ) → IsInOrderFrom 0 n.customs → pieces ≡ section_pieces n
+pub length_by : (n : Parts) (sizes : List ℕ) (code customs : ℕ) → IsInOrderFrom 0 n.customs → sizes ≡ map length (section_pieces n)
     → code ≡ (if length n.funcs == 0 then 0 else length (short (length n.funcs)) + codes_size n.funcs) → customs ≡ customs_size n.customs
-    → limited (whole_size (set (map length pieces) 10 code) customs) ≡ limited (length (encoded n))
-length_by n pieces code customs order sections codes frames =
-    let as_whole : List ℕ → ℕ → ℕ = λ sizes len. whole_size sizes len in
-    ap (λ (ps : List (List ℕ)). limited (as_whole (set (map length ps) 10 code) customs)) sections
+    → limited (whole_size (set sizes 10 code) customs) ≡ limited (length (encoded n))
+length_by n sizes code customs order sections codes frames =
+    let as_whole : List ℕ → ℕ → ℕ = λ all len. whole_size all len in
+    ap (λ (all : List ℕ). limited (as_whole (set all 10 code) customs)) sections
     ∙ ap (λ (c : ℕ). limited (as_whole (set (map length (section_pieces n)) 10 c) customs)) (codes ∙ code_contents_size n.funcs)
     ∙ ap (λ (c : ℕ). limited (as_whole (map (contents_size n) ids) c)) frames
     ∙ ap limited (sym (length-encoded_sizes n order))

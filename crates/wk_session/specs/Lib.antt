@@ -16,7 +16,6 @@ pub mod MadeLaws
 pub mod MovedEntries
 pub mod Imported
 pub mod Functions
-pub mod ItemSizes
 pub mod Judged
 pub mod Customs
 pub mod Refusals

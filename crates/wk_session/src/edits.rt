@@ -7,7 +7,6 @@ mod export;
 mod function;
 mod global;
 mod import;
-mod item_len;
 mod moved;
 mod one_more;
 mod ty;

@@ -18,7 +18,7 @@ ghost use Rattle.wk_session.specs.Pieces.{ArePieces, code_of};
 
 use crate::judged::judged;
 use crate::known::told_body;
-use crate::lengths::len_after;
+use crate::lengths::{module_len, sizes_after};
 use crate::pieces::{Pieces, code_in_room, no_news};
 use std::alloc::Global;
 use std::collections::BTreeSet;
@@ -182,14 +182,9 @@ fn pieces_len(alloc: Global, pieces: &Pieces) -> Result<Option<u32>, OutOfMemory
         → IfOk result (λ len. len ≡ limited (length (encoded m))) }
 {
     let news = no_news(alloc)?;
+    let sizes = sizes_after(&pieces.sections, &news);
     let count = pieces.codes.len();
-    Ok(len_after(
-        &pieces.sections,
-        &news,
-        count,
-        pieces.codes_len,
-        pieces.customs_len,
-    ))
+    Ok(module_len(sizes, count, pieces.codes_len, pieces.customs_len))
 }
 
 impl Kept {

@@ -95,8 +95,8 @@ fn size_after(sections: &Vec<Items<u8>>, news: &Vec<Option<Items<u8>>>, id: usiz
     }
 }
 
-// The same of all sections, by their ids.
-fn sizes_after(sections: &Vec<Items<u8>>, news: &Vec<Option<Items<u8>>>) -> [usize; 12]
+/// How many bytes the contents of each section have, by their ids, or what is made in their place.
+pub(crate) fn sizes_after(sections: &Vec<Items<u8>>, news: &Vec<Option<Items<u8>>>) -> [usize; 12]
     requires sections { length sections.now.items ≡ 12 }
     requires news { length news.now.items ≡ 12 }
     ensures { result ≡ map length (with_items sections.now.items news.now.items) }
@@ -105,6 +105,30 @@ fn sizes_after(sections: &Vec<Items<u8>>, news: &Vec<Option<Items<u8>>>) -> [usi
     for id in 0..section_id::COUNT {
         sizes[id] = size_after(sections, news, id);
     }
+    sizes
+}
+
+/// How many bytes the contents of each section have, by their ids.
+pub(crate) fn sizes_of(sections: &Vec<Items<u8>>) -> [usize; 12]
+    requires { length sections.now.items ≡ 12 }
+    ensures { result ≡ map length sections.now.items }
+{
+    let mut sizes = [0; section_id::COUNT];
+    for id in 0..section_id::COUNT {
+        sizes[id] = sections[id].len();
+    }
+    sizes
+}
+
+/// The same, where one section alone is another, whose contents have that many bytes.
+pub(crate) fn sizes_with(sections: &Vec<Items<u8>>, id: usize, size: usize) -> [usize; 12]
+    requires sections { length sections.now.items ≡ 12 }
+    requires id { id < 12 }
+    ensures { (bytes : List ℕ) → size ≡ length bytes
+        → result ≡ map length (set sections.now.items id bytes) }
+{
+    let mut sizes = sizes_of(sections);
+    sizes[id] = size;
     sizes
 }
 
@@ -119,78 +143,15 @@ pub(crate) fn code_contents(count: usize, codes: u32) -> usize
     leb_len_u32(count as u32) + codes as usize
 }
 
-/// The length of a module, by its sections with those made anew in their places, by how many functions it defines, and by how many
-/// bytes its codes and its custom sections have, with sizes and ids; or nothing past 2,147,483,647.
-pub(crate) fn len_after(
-    sections: &Vec<Items<u8>>,
-    news: &Vec<Option<Items<u8>>>,
-    count: usize,
-    codes: u32,
-    customs: u32,
-) -> Option<u32>
-    requires sections { length sections.now.items ≡ 12 }
-    requires news { length news.now.items ≡ 12 }
-    requires count { count < 2 ^ 32 }
-    ensures { (n : PartsOf) → IsInOrderFrom 0 n.customs
-        → with_items sections.now.items news.now.items ≡ section_pieces n
+/// The length of a module, by how many bytes the contents of each section have, by how many functions it defines, and by how many bytes
+/// its codes and its custom sections have, with sizes and ids; or nothing past 2,147,483,647.
+pub(crate) fn module_len(sizes: [usize; 12], count: usize, codes: u32, customs: u32) -> Option<u32>
+    requires { count < 2 ^ 32 }
+    ensures { (n : PartsOf) → IsInOrderFrom 0 n.customs → sizes ≡ map length (section_pieces n)
         → count ≡ length n.funcs → codes ≡ codes_size n.funcs → customs ≡ customs_size n.customs
         → result ≡ limited (length (encoded n)) }
 {
-    let mut sizes = sizes_after(sections, news);
-    sizes[section_id::CODE as usize] = code_contents(count, codes);
-    whole_len(&sizes, customs as usize)
-}
-
-// How many bytes the contents of each section have, by their ids.
-fn sizes_of(sections: &Vec<Items<u8>>) -> [usize; 12]
-    requires { length sections.now.items ≡ 12 }
-    ensures { result ≡ map length sections.now.items }
-{
-    let mut sizes = [0; section_id::COUNT];
-    for id in 0..section_id::COUNT {
-        sizes[id] = sections[id].len();
-    }
-    sizes
-}
-
-/// The length of a module, as [`len_after`], where one section alone is another, whose contents have that many bytes. It takes no memory.
-pub(crate) fn len_with(
-    sections: &Vec<Items<u8>>,
-    id: usize,
-    size: usize,
-    count: usize,
-    codes: u32,
-    customs: u32,
-) -> Option<u32>
-    requires sections { length sections.now.items ≡ 12 }
-    requires id { id < 12 }
-    requires count { count < 2 ^ 32 }
-    ensures { (n : PartsOf) → IsInOrderFrom 0 n.customs
-        → (bytes : List ℕ) → size ≡ length bytes → set sections.now.items id bytes ≡ section_pieces n
-        → count ≡ length n.funcs → codes ≡ codes_size n.funcs → customs ≡ customs_size n.customs
-        → result ≡ limited (length (encoded n)) }
-{
-    let mut sizes = sizes_of(sections);
-    sizes[id] = size;
-    sizes[section_id::CODE as usize] = code_contents(count, codes);
-    whole_len(&sizes, customs as usize)
-}
-
-/// The length of a module, as [`len_with`], whose sections are these. It takes no memory.
-pub(crate) fn len_of(
-    sections: &Vec<Items<u8>>,
-    count: usize,
-    codes: u32,
-    customs: u32,
-) -> Option<u32>
-    requires sections { length sections.now.items ≡ 12 }
-    requires count { count < 2 ^ 32 }
-    ensures { (n : PartsOf) → IsInOrderFrom 0 n.customs
-        → sections.now.items ≡ section_pieces n
-        → count ≡ length n.funcs → codes ≡ codes_size n.funcs → customs ≡ customs_size n.customs
-        → result ≡ limited (length (encoded n)) }
-{
-    let mut sizes = sizes_of(sections);
+    let mut sizes = sizes;
     sizes[section_id::CODE as usize] = code_contents(count, codes);
     whole_len(&sizes, customs as usize)
 }

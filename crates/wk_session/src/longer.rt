@@ -1,7 +1,6 @@
 //! The kept contents of a list that gets an item more: what stays is not written again.
 
-ghost use Rattle.std.specs.Prelude.{◌≡◌, ◌+◌, ◌<◌, ◌≤◌, ◌^◌, ◌++◌, drop, length, OnOk, OnErr};
-ghost use Rattle.wk_bytes.specs.Frames.{limit};
+ghost use Rattle.std.specs.Prelude.{◌≡◌, ◌+◌, ◌<◌, ◌≤◌, ◌^◌, ◌++◌, ℕ, List, drop, length, OnOk, OnErr};
 ghost use Rattle.wk_bytes.specs.Short.{short};
 ghost use Rattle.wk_session.specs.Longer.{with_item};
 
@@ -16,14 +15,12 @@ fn behind_count(contents: &[u8], count: u32) -> &[u8]
     contents.get(leb_len_u32(count)..).unwrap_or(&[])
 }
 
-/// How many bytes contents of so many items get to which one more comes. It takes no memory.
-pub(crate) fn grown_len(contents: &[u8], count: u32, item: &[u8]) -> usize
-    requires count { count + 1 < 2 ^ 32 }
-    requires contents { length contents.now ≤ limit }
-    requires item { length item.now ≤ limit }
-    ensures { result ≡ length (with_item contents.now count item.now) }
+/// How many bytes contents of so many items get to which one more comes, which has that many. It takes no memory.
+pub(crate) fn grown_len(contents: &[u8], count: u32, item: u32) -> usize
+    requires { count + 1 < 2 ^ 32 }
+    ensures { (bytes : List ℕ) → item ≡ length bytes → result ≡ length (with_item contents.now count bytes) }
 {
-    leb_len_u32(count + 1) + behind_count(contents, count).len() + item.len()
+    leb_len_u32(count + 1) + behind_count(contents, count).len() + item as usize
 }
 
 /// Writes bytes over the first ones.

@@ -25,7 +25,7 @@ use crate::edit::{EditFault, Reply, Work};
 use crate::edits::entry::{Entry, Verdicts, keep_entry, spelled_body, with_other};
 use crate::judged::judged;
 use crate::kept::{Kept, func_uses};
-use crate::lengths::{len_of, plus_code};
+use crate::lengths::{module_len, plus_code, sizes_of};
 use crate::pieces::{Pieces, encoded_body};
 use std::alloc::Global;
 use std::mem;
@@ -151,12 +151,8 @@ fn planned_body(
     let Some(codes_len) = codes_len_with(pieces, entry, &code) else {
         return Err(EditFault::TooLarge);
     };
-    let len = len_of(
-        &pieces.sections,
-        parts.funcs.len(),
-        codes_len,
-        pieces.customs_len,
-    );
+    let sizes = sizes_of(&pieces.sections);
+    let len = module_len(sizes, parts.funcs.len(), codes_len, pieces.customs_len);
     let uses = func_uses(alloc, ty, body)?;
     let (verdicts, appraisal) = judged_body(alloc, keep, parts, kept, entry, ty, body, len, meter)?;
     Ok(Entry {

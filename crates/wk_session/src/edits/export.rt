@@ -24,10 +24,9 @@ ghost use Rattle.wk_session.specs.Shorter.{without_item};
 
 use crate::appraisal::appraise_unless_known;
 use crate::edit::{EditFault, Reply, Work};
-use crate::edits::item_len::len_with_export;
-use crate::edits::one_more::{Judgement, NewItem, keep_grown, keep_judgement, new_item};
+use crate::edits::one_more::{Judgement, NewItem, keep_grown, keep_judgement, len_grown, new_item};
 use crate::kept::Kept;
-use crate::lengths::len_with;
+use crate::lengths::{module_len, sizes_with};
 use crate::shorter::{Span, remove_item, shrunk_len};
 use std::alloc::Global;
 use std::{mem, slice};
@@ -155,7 +154,14 @@ pub(crate) fn add_export(
     requires kept { IsKept parts.old kept.old }
     ensures { Leads keep (Edit.Export export.now) parts.old result parts.new kept.new }
 {
-    let len = len_with_export(parts, kept, export);
+    let len = len_grown(
+        &kept.pieces,
+        section_id::EXPORT,
+        parts.exports.len() as u32,
+        export_len(export),
+        parts.funcs.len(),
+        kept.pieces.codes_len,
+    );
     if len.is_none() {
         return Err(EditFault::TooLarge);
     }
@@ -265,19 +271,10 @@ fn len_without(kept: &Kept, funcs: usize, count: u32, span: Span) -> Option<u32>
         → result ≡ limited (length (encoded n)) }
 {
     let pieces = &kept.pieces;
-    let size = shrunk_len(
-        pieces.sections[section_id::EXPORT as usize].as_slice(),
-        count,
-        span,
-    );
-    len_with(
-        &pieces.sections,
-        section_id::EXPORT as usize,
-        size,
-        funcs,
-        pieces.codes_len,
-        pieces.customs_len,
-    )
+    let section = pieces.sections[section_id::EXPORT as usize].as_slice();
+    let size = shrunk_len(section, count, span);
+    let sizes = sizes_with(&pieces.sections, section_id::EXPORT as usize, size);
+    module_len(sizes, funcs, pieces.codes_len, pieces.customs_len)
 }
 
 // Keeps what is to be kept of a module without an export of so many where it may stay, and answers how many sections were made anew for

@@ -23,7 +23,7 @@ ghost use Rattle.wk_session.specs.Pieces.{IsOverlong, section_pieces};
 use crate::appraisal::{Appraisal, admit, appraise};
 use crate::edit::{EditFault, Reply, Work};
 use crate::edits::entry::{Entry, Verdicts, keep_entry, spelled_body};
-use crate::edits::one_more::{NewItem, bytes_of, len_grown, new_item};
+use crate::edits::one_more::{NewItem, bytes_of, item_len, len_grown, new_item};
 use crate::judged::{judged, rejudged};
 use crate::kept::{Kept, func_uses};
 use crate::lengths::plus_code;
@@ -178,7 +178,14 @@ fn planned_func(
     let Some(codes_len) = plus_code(Some(pieces.codes_len), &code) else {
         return Err(EditFault::TooLarge);
     };
-    let len = len_grown(pieces, item, kept.types.len(), codes_len);
+    let len = len_grown(
+        pieces,
+        item.id,
+        item.count,
+        Some(item_len(item)),
+        kept.types.len(),
+        codes_len,
+    );
     let uses = func_uses(alloc, ty, body)?;
     let (verdicts, appraisal) = judged_func(alloc, keep, parts, kept, ty, body, len, meter)?;
     Ok(Entry {

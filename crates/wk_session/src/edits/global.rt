@@ -16,7 +16,7 @@ ghost use Rattle.wk_session.specs.Longer.{IsNewItem};
 ghost use Rattle.wk_session.specs.Pieces.{IsOverlong};
 
 use crate::edit::{EditFault, Reply, Work};
-use crate::edits::one_more::{NewItem, judge_grown, keep_grown, len_grown, new_item};
+use crate::edits::one_more::{NewItem, item_len, judge_grown, keep_grown, len_grown, new_item};
 use crate::kept::Kept;
 use std::alloc::Global;
 use std::slice;
@@ -134,7 +134,9 @@ fn push_global(
     let item = new_global(alloc, parts, kept, &global)?;
     let len = len_grown(
         &kept.pieces,
-        &item,
+        item.id,
+        item.count,
+        Some(item_len(&item)),
         parts.funcs.len(),
         kept.pieces.codes_len,
     );

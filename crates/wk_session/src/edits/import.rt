@@ -28,7 +28,7 @@ use crate::edit::{EditFault, Reply, Work};
 use crate::edits::moved::{MovedEntries, is_any_code_stuck, moved_entries, put_moved};
 use crate::judged::rejudged;
 use crate::kept::Kept;
-use crate::lengths::{codes_len_after, len_after};
+use crate::lengths::{codes_len_after, module_len, sizes_after};
 use crate::overlay::replace_each;
 use crate::pieces::{NewSections, one_remade, remade};
 use std::alloc::Global;
@@ -307,13 +307,8 @@ fn judged_import(
     let Some(codes_len) = codes_len_after(&pieces.codes, &plan.entries.codes) else {
         return Err(EditFault::TooLarge);
     };
-    let len = len_after(
-        &pieces.sections,
-        &remade.sections,
-        parts.funcs.len(),
-        codes_len,
-        pieces.customs_len,
-    );
+    let sizes = sizes_after(&pieces.sections, &remade.sections);
+    let len = module_len(sizes, parts.funcs.len(), codes_len, pieces.customs_len);
     let verdicts = verdicts_after(alloc, parts, kept, &now, meter, import, plan)?;
     let verdicts_now = verdicts_or(&verdicts, &kept.verdicts);
     let appraisal = appraise_unless_known(alloc, keep, known, &now, verdicts_now, len)?;

@@ -1,6 +1,6 @@
 //! What edits share that add to a module something that references may find.
 
-ghost use Rattle.std.specs.Prelude.{◌≡◌, ◌+◌, ◌<◌, ◌≤◌, ◌^◌, ℕ, Bool, [], count_by, drop, get_or, length, map, unwrap_or, IfOk, IfSome, MatchResult, OnOk};
+ghost use Rattle.std.specs.Prelude.{◌≡◌, ◌+◌, ◌<◌, ◌≤◌, ◌^◌, ℕ, Bool, List, count_by, drop, length, map, unwrap_or, IfOk, IfSome, MatchResult, OnOk};
 ghost use Rattle.wk_bytes.specs.Frames.{limit};
 ghost use Rattle.wk_body.specs.Lengths.{limited};
 ghost use Rattle.wk_body.specs.declared.references.Ref.{Ref as RefOf};
@@ -23,7 +23,7 @@ use crate::appraisal::{Appraisal, admit, appraise};
 use crate::edit::EditFault;
 use crate::judged::rejudged;
 use crate::kept::Kept;
-use crate::lengths::len_with;
+use crate::lengths::{module_len, sizes_with};
 use crate::longer::{append_item, grown_len};
 use crate::pieces::{Pieces, remade};
 use std::alloc::Global;
@@ -148,23 +148,39 @@ pub(crate) fn bytes_of(item: &NewItem) -> &[u8]
     item.alone.as_slice().get(1..).unwrap_or(&[])
 }
 
-/// The length of a module with that item more, by how many functions it defines and how many bytes its codes have with their sizes; or
-/// nothing past 2,147,483,647. It takes no memory.
-pub(crate) fn len_grown(pieces: &Pieces, item: &NewItem, funcs: usize, codes: u32) -> Option<u32>
+/// How many bytes the item has.
+pub(crate) fn item_len(item: &NewItem) -> u32
+    requires { length item.now.alone ≤ limit }
+    ensures { result ≡ length (drop 1 item.now.alone) }
+{
+    bytes_of(item).len() as u32
+}
+
+/// The length of a module with an item more in the list of an id, which has so many: by how long the item is, how many functions the
+/// module defines, and how many bytes its codes have with their sizes; or nothing past 2,147,483,647, as of an item that is so long. It
+/// takes no memory.
+pub(crate) fn len_grown(
+    pieces: &Pieces,
+    id: u8,
+    count: u32,
+    item: Option<u32>,
+    funcs: usize,
+    codes: u32,
+) -> Option<u32>
     requires sections { length pieces.now.sections.items ≡ 12 }
-    requires id { item.now.id < 12 }
-    requires count { item.now.count + 1 < 2 ^ 32 }
-    requires item { length item.now.alone ≤ limit }
-    requires contents { length (get_or pieces.now.sections.items item.now.id []) ≤ limit }
+    requires id { id < 12 }
+    requires count { count + 1 < 2 ^ 32 }
     requires funcs { funcs < 2 ^ 32 }
-    ensures { (n : PartsOf) → IsInOrderFrom 0 n.customs
-        → IsLonger item.now.id item.now.count item.now.alone pieces.now.sections.items n
+    ensures { (n : PartsOf) → (alone : List ℕ) → IsInOrderFrom 0 n.customs
+        → IsLonger id count alone pieces.now.sections.items n → item ≡ limited (length (drop 1 alone))
         → funcs ≡ length n.funcs → codes ≡ codes_size n.funcs → pieces.now.customs_len ≡ customs_size n.customs
         → result ≡ limited (length (encoded n)) }
 {
-    let id = item.id as usize;
-    let size = grown_len(pieces.sections[id].as_slice(), item.count, bytes_of(item));
-    len_with(&pieces.sections, id, size, funcs, codes, pieces.customs_len)
+    let item = item?;
+    let sections = &pieces.sections;
+    let size = grown_len(sections[id as usize].as_slice(), count, item);
+    let sizes = sizes_with(sections, id as usize, size);
+    module_len(sizes, funcs, codes, pieces.customs_len)
 }
 
 /// Keeps what is to be kept of a module that an edit makes, but for its sections.

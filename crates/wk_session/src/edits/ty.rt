@@ -15,13 +15,12 @@ ghost use Rattle.wk_session.specs.Longer.{IsNewItem};
 ghost use Rattle.wk_session.specs.Pieces.{IsOverlong};
 
 use crate::edit::{EditFault, Reply, Work};
-use crate::edits::item_len::len_with_type;
-use crate::edits::one_more::{NewItem, judge_grown, keep_grown, new_item};
+use crate::edits::one_more::{NewItem, judge_grown, keep_grown, len_grown, new_item};
 use crate::kept::Kept;
 use std::alloc::Global;
 use std::slice;
 use wk_check::{Meter, Verdict, laws_of_valid_modules, verdict_with_type};
-use wk_module::{EncodeFault, FuncType, Lists, Parts, section_id};
+use wk_module::{EncodeFault, FuncType, Lists, Parts, section_id, type_len};
 
 // The lists without the last type.
 fn without_last_type<'a>(lists: Lists<'a>) -> Lists<'a>
@@ -111,7 +110,14 @@ pub(crate) fn add_type(
     requires fresh { meter.old ≡ 0 }
     ensures { Leads keep (Edit.Ty ty.now) parts.old result parts.new kept.new }
 {
-    let len = len_with_type(parts, kept, ty);
+    let len = len_grown(
+        &kept.pieces,
+        section_id::TYPE,
+        parts.types.len() as u32,
+        type_len(ty),
+        parts.funcs.len(),
+        kept.pieces.codes_len,
+    );
     if len.is_none() {
         return Err(EditFault::TooLarge);
     }

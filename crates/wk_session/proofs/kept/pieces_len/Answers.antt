@@ -1,4 +1,4 @@
-use Rattle.std.proofs.Common.{List, ℕ, ap, ◌∙◌}
+use Rattle.std.proofs.Common.{List, ℕ, length, map, ap, ◌∙◌}
 use Rattle.wk_session.specs.Overlays.{with_items}
 use Rattle.wk_session.specs.Pieces.{no_news}
 use Rattle.wk_session.proofs.Putting.{codes_length}
@@ -9,4 +9,5 @@ returns c =
     λ m order are.
     let p = c.args.pieces.now in
     let all = ap (with_items p.sections.items) c.in_ok-news.ensures ∙ ap (λ (ps : List (List ℕ)). with_items ps no_news) are.sections in
-    c.len_after.ensures m order all (c.len-count.ensures ∙ p.codes.ok.0 ∙ codes_length m p.codes.items are.codes) are.codes_len are.customs_len
+    let sizes = c.sizes_after-sizes.ensures ∙ ap (map length) all in
+    c.module_len.ensures m order sizes (c.len-count.ensures ∙ p.codes.ok.0 ∙ codes_length m p.codes.items are.codes) are.codes_len are.customs_len

@@ -1,4 +1,4 @@
-use Rattle.std.proofs.Common.{◌≡◌, ℕ, List, length, set, ap, sym, ◌∙◌, refl, arith}
+use Rattle.std.proofs.Common.{◌≡◌, ℕ, List, length, map, set, ap, sym, ◌∙◌, refl, arith}
 use Rattle.std.proofs.lemmas.Result.{err_from_is_err_and}
 use Rattle.wk_body.specs.Lengths.{limited}
 use Rattle.wk_body.specs.LengthsLaws.{limited_some}
@@ -43,8 +43,8 @@ returns-in_default-clause-err c =
     let at = (goal.at.returns-in_default-clause-err c).After-codes_len_with in
     λ other. codes_large c.args.keep (with_body c.args.entry c.args.body.now c.args.parts.now) c.requires.shaped.formed.order (sym c.in_default.is ∙ codes_are at)
 
-pub len_of-len-requires-clause-count : goal.len_of-len-requires-clause-count
-len_of-len-requires-clause-count c = omega (arith, c.len.ensures, funcs_numbered c.args.parts.now c.requires.shaped.formed)
+pub module_len-len-requires : goal.module_len-len-requires
+module_len-len-requires c = omega (arith, c.len.ensures, funcs_numbered c.args.parts.now c.requires.shaped.formed)
 
 -- the length that is kept of all codes
 codes_len_is : (c : In-Some) → c.codes_len_with.result ≡ limited (codes_size (with_body c.args.entry c.args.body.now c.args.parts.now).funcs)
@@ -56,8 +56,8 @@ codes_len_is c codes =
 sections_are : (c : After-codes_len_with) → c.args.kept.now.pieces.sections.items ≡ section_pieces (with_body c.args.entry c.args.body.now c.args.parts.now)
 sections_are c = body_sections c.args.entry c.args.body.now c.args.parts.now c.args.kept.now.pieces.sections.items c.requires.kept.pieces.sections
 
-pub len_of-len-requires-clause-sections : goal.len_of-len-requires-clause-sections
-len_of-len-requires-clause-sections c = ap length c.requires.kept.pieces.sections
+pub sizes_of-sizes-requires : goal.sizes_of-sizes-requires
+sizes_of-sizes-requires c = ap length c.requires.kept.pieces.sections
 
 pub judged_body-requires-clause-len : goal.judged_body-requires-clause-len
 judged_body-requires-clause-len c =
@@ -66,7 +66,8 @@ judged_body-requires-clause-len c =
     let at = goal.at.judged_body-requires-clause-len c in
     let codes = codes_len_is at.In-Some (codes_are at.After-codes_len_with) in
     let count : c.len.result ≡ length n.funcs = omega (arith, c.len.ensures, length-given c.args.entry c.args.body.now m.funcs c.args.ty c.requires.ty) in
-    c.len_of-len.ensures n c.requires.shaped.formed.order (sections_are at.After-codes_len_with) count codes c.requires.kept.pieces.customs_len
+    let sizes = c.sizes_of-sizes.ensures ∙ ap (map length) (sections_are at.After-codes_len_with) in
+    c.module_len-len.ensures n c.requires.shaped.formed.order sizes count codes c.requires.kept.pieces.customs_len
 
 pub returns-in_err-verdicts-clause-err : goal.returns-in_err-verdicts-clause-err
 returns-in_err-verdicts-clause-err c =

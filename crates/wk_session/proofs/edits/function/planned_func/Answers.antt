@@ -1,4 +1,4 @@
-use Rattle.std.proofs.Common.{◌≡◌, ◌+◌, ℕ, List, [], get_or, length, ap, sym, ◌∙◌, refl, arith}
+use Rattle.std.proofs.Common.{◌≡◌, ◌+◌, ℕ, List, length, ap, sym, ◌∙◌, refl, arith}
 use Rattle.std.proofs.lemmas.Result.{err_from_is_err_and}
 use Rattle.std.proofs.lemmas.List.{length-map}
 use Rattle.wk_body.specs.Lengths.{limited}
@@ -11,9 +11,8 @@ use Rattle.wk_module.specs.Writing.{encoded, Fits}
 use Rattle.wk_module.specs.WritingLaws.{room_for_func}
 use Rattle.wk_session.specs.Pieces.{codes_size}
 use Rattle.wk_session.proofs.EntryEdits.{codes_kept, codes_large, codes_more, func_formed_from, func_unencoded, types_with}
-use Rattle.wk_session.proofs.LongerLists.{func_longer, longer_by}
+use Rattle.wk_session.proofs.LongerLists.{func_longer, item_told, longer_by}
 use Rattle.wk_session.proofs.Outcomes.{limited-some}
-use Rattle.wk_session.proofs.Piecing.{section_within}
 use Rattle.wk_session.proofs.edits.function.planned_func.Goals as goal
 use Rattle.wk_session.proofs.edits.function.planned_func.Goals.{After-plus_code, In-Some}
 
@@ -59,16 +58,8 @@ pub len_grown-len-requires-clause-count : goal.len_grown-len-requires-clause-cou
 len_grown-len-requires-clause-count c =
     omega (arith, c.requires.item.count_is, room_for_func c.args.parts.now (limited-some (length (encoded c.args.parts.now)) c.args.kept.now.len c.requires.kept.len))
 
-pub len_grown-len-requires-clause-item : goal.len_grown-len-requires-clause-item
-len_grown-len-requires-clause-item c = c.requires.item.few
-
-pub len_grown-len-requires-clause-contents : goal.len_grown-len-requires-clause-contents
-len_grown-len-requires-clause-contents c =
-    let m = c.args.parts.now in
-    let k = c.args.kept.now in
-    let here = ap (λ (id : ℕ). length (get_or k.pieces.sections.items id [])) c.requires.item.id_is in
-    let is = ap (λ (ps : List (List ℕ)). length (get_or ps 3 [])) c.requires.kept.pieces.sections in
-    omega (arith, here, is, section_within 3 m, limited-some (length (encoded m)) k.len c.requires.kept.len)
+pub item_len-requires : goal.item_len-requires
+item_len-requires c = c.requires.item.few
 
 pub len_grown-len-requires-clause-funcs : goal.len_grown-len-requires-clause-funcs
 len_grown-len-requires-clause-funcs c =
@@ -87,8 +78,10 @@ judged_func-requires-clause-len c =
     let codes = codes_len_is at.In-Some (codes_are at.After-plus_code (fits at.After-plus_code)) in
     let count : c.len.result ≡ length n.funcs = omega (arith, c.len.ensures, types_count at.After-plus_code) in
     let m = c.args.parts.now in
-    let longer = longer_by _ _ _ c.args.kept.now.pieces.sections.items n c.args.item.now c.requires.item (func_longer c.args.ty c.args.body.now m c.args.kept.now.pieces.sections.items c.requires.kept.pieces.sections) in
-    c.len_grown-len.ensures n c.requires.shaped.formed.order longer count codes c.requires.kept.pieces.customs_len
+    let item = c.args.item.now in
+    let longer = longer_by _ _ _ c.args.kept.now.pieces.sections.items n item c.requires.item (func_longer c.args.ty c.args.body.now m c.args.kept.now.pieces.sections.items c.requires.kept.pieces.sections) in
+    let told = item_told item c.item_len.result c.requires.item.few c.item_len.ensures in
+    c.len_grown-len.ensures n item.alone c.requires.shaped.formed.order longer told count codes c.requires.kept.pieces.customs_len
 
 pub returns-in_err-verdicts-clause-err : goal.returns-in_err-verdicts-clause-err
 returns-in_err-verdicts-clause-err c =

@@ -1,4 +1,4 @@
-use Rattle.std.proofs.Common.{◌≡◌, ◌+◌, ◌<◌, ◌^◌, ℕ, List, [], ◌∷◌, ◌++◌, get_or, arith, length, map, refl, Result, Err, sym, ap, subst, ◌∙◌}
+use Rattle.std.proofs.Common.{◌≡◌, ◌+◌, ◌<◌, ◌^◌, ℕ, List, [], ◌∷◌, ◌++◌, arith, length, map, refl, Result, Err, sym, ap, subst, ◌∙◌}
 use Rattle.std.specs.Prelude.{IfSome}
 use Rattle.std.proofs.lemmas.Result.{err_from_is_err_and}
 use Rattle.wk_body.specs.Lengths.{limited}
@@ -23,8 +23,8 @@ use Rattle.wk_session.specs.declared.kept.Kept.{Kept}
 use Rattle.wk_session.specs.Kept.{IsKept}
 use Rattle.wk_module.specs.NumberedLaws.{funcs_numbered}
 use Rattle.wk_session.proofs.Keeping.{others_kept}
-use Rattle.wk_session.proofs.LongerLists.{global_longer, longer_by, overlong_more}
-use Rattle.wk_session.proofs.Piecing.{section_within, unwritten}
+use Rattle.wk_session.proofs.LongerLists.{global_longer, item_told, longer_by, overlong_more}
+use Rattle.wk_session.proofs.Piecing.{unwritten}
 use Rattle.wk_session.proofs.Outcomes.{limited-some}
 use Rattle.wk_session.proofs.LastItems.{but_last, globals_before}
 use Rattle.wk_session.proofs.edits.global.push_global.Goals as goal
@@ -100,14 +100,6 @@ len_grown-len-requires-clause-id c = omega (arith, c.in_ok-item.ensures.id_is)
 pub len_grown-len-requires-clause-count : goal.len_grown-len-requires-clause-count
 len_grown-len-requires-clause-count c = omega (arith, c.in_ok-item.ensures.count_is, few c.args.parts.now c.args.kept.now c.requires.kept)
 
-pub len_grown-len-requires-clause-contents : goal.len_grown-len-requires-clause-contents
-len_grown-len-requires-clause-contents c =
-    let m = c.args.parts.now in
-    let k = c.args.kept.now in
-    let here = ap (λ (id : ℕ). length (get_or k.pieces.sections.items id [])) c.in_ok-item.ensures.id_is in
-    let is = ap (λ (ps : List (List ℕ)). length (get_or ps 6 [])) c.requires.kept.pieces.sections in
-    omega (arith, here, is, section_within 6 m, limited-some (length (encoded m)) k.len c.requires.kept.len)
-
 pub len_grown-len-requires-clause-funcs : goal.len_grown-len-requires-clause-funcs
 len_grown-len-requires-clause-funcs c = omega (arith, c.len.ensures, funcs_numbered c.args.parts.now c.requires.shaped.formed)
 
@@ -117,8 +109,10 @@ judge_grown-judged-requires-clause-len c =
     let k = c.args.kept.now in
     let g = c.args.global in
     let n : Parts = record m { globals = m.globals ++ g ∷ [] } in
-    let longer = longer_by _ _ _ k.pieces.sections.items n c.in_ok-item.item c.in_ok-item.ensures (global_longer g m k.pieces.sections.items c.requires.kept.pieces.sections) in
-    c.len_grown-len.ensures n c.requires.shaped.formed.order longer c.len.ensures c.requires.kept.pieces.codes_len c.requires.kept.pieces.customs_len
+    let item = c.in_ok-item.item in
+    let longer = longer_by _ _ _ k.pieces.sections.items n item c.in_ok-item.ensures (global_longer g m k.pieces.sections.items c.requires.kept.pieces.sections) in
+    let told = item_told item c.item_len.result c.in_ok-item.ensures.few c.item_len.ensures in
+    c.len_grown-len.ensures n item.alone c.requires.shaped.formed.order longer told c.len.ensures c.requires.kept.pieces.codes_len c.requires.kept.pieces.customs_len
     ∙ ap (λ (gs : List GlobalDef). limited (length (encoded (record m { globals = gs })))) (sym c.in_ok-push.ensures.ok)
 
 pub keep_grown-grown-requires-clause-id : goal.keep_grown-grown-requires-clause-id

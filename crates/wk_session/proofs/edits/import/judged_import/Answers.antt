@@ -21,7 +21,7 @@ use Rattle.wk_session.proofs.ImportEdits.{pending_lists, numbered_after}
 use Rattle.wk_session.proofs.ImportPieces.{pieces_after, made_after, unwritten, codes_large}
 use Rattle.wk_session.proofs.Piecing.{entries_codes}
 use Rattle.wk_session.proofs.edits.import.judged_import.Goals as goal
-use Rattle.wk_session.proofs.edits.import.judged_import.Goals.{After-with_moved-now, In_ok-remade, After-codes_len_after, After-len, After-len_after-len, After-verdicts_or-verdicts_now}
+use Rattle.wk_session.proofs.edits.import.judged_import.Goals.{After-with_moved-now, In_ok-remade, After-codes_len_after, After-len, After-module_len-len, After-verdicts_or-verdicts_now}
 
 lent : (c : After-with_moved-now) → let n = after_import c.args.import.now (before_import c.args.parts.now) in listed c.with_moved-now.result ≡ listed_with (map (λ (f : Func). f.ty) n.funcs) n
 lent c =
@@ -77,9 +77,9 @@ count_now c =
     let m = before_import c.args.parts.now in
     c.len.ensures ∙ sym (length-map m.funcs (moved_func (desc_kind c.args.import.now.desc) (import_place c.args.import.now m)))
 
-pub len_after-len-requires-clause-count : goal.len_after-len-requires-clause-count
-len_after-len-requires-clause-count c =
-    omega (arith, count_now (goal.at.len_after-len-requires-clause-count c).After-len, funcs_numbered (after_import c.args.import.now (before_import c.args.parts.now)) c.requires.ready.formed)
+pub module_len-len-requires : goal.module_len-len-requires
+module_len-len-requires c =
+    omega (arith, count_now (goal.at.module_len-len-requires c).After-len, funcs_numbered (after_import c.args.import.now (before_import c.args.parts.now)) c.requires.ready.formed)
 
 codes_len_now : (c : After-len) → with_items c.args.kept.now.pieces.codes.items c.args.plan.now.entries.codes.items ≡ map code_of (after_import c.args.import.now (before_import c.args.parts.now)).funcs
     → c.in-Some.codes_len ≡ codes_size (after_import c.args.import.now (before_import c.args.parts.now)).funcs
@@ -88,16 +88,17 @@ codes_len_now c codes =
     told.0 ∙ ap entries_size codes ∙ entries_codes (after_import c.args.import.now (before_import c.args.parts.now)).funcs
 
 -- how long the module gets
-len_now : (c : After-len_after-len) → with_items c.args.kept.now.pieces.sections.items c.in_ok-remade.remade.sections.items ≡ section_pieces (after_import c.args.import.now (before_import c.args.parts.now))
+len_now : (c : After-module_len-len) → with_items c.args.kept.now.pieces.sections.items c.in_ok-remade.remade.sections.items ≡ section_pieces (after_import c.args.import.now (before_import c.args.parts.now))
     → c.len.result ≡ length (after_import c.args.import.now (before_import c.args.parts.now)).funcs → c.in-Some.codes_len ≡ codes_size (after_import c.args.import.now (before_import c.args.parts.now)).funcs
-    → c.len_after-len.result ≡ limited (length (encoded (after_import c.args.import.now (before_import c.args.parts.now))))
+    → c.module_len-len.result ≡ limited (length (encoded (after_import c.args.import.now (before_import c.args.parts.now))))
 len_now c sections count codes =
     let ready = c.requires.ready in
-    c.len_after-len.ensures (after_import c.args.import.now (before_import c.args.parts.now)) ready.formed.order sections count codes ready.kept.pieces.customs_len
+    let sizes = c.sizes_after-sizes.ensures ∙ ap (map length) sections in
+    c.module_len-len.ensures (after_import c.args.import.now (before_import c.args.parts.now)) ready.formed.order sizes count codes ready.kept.pieces.customs_len
 
 pending : (c : After-verdicts_or-verdicts_now) → listed c.with_moved-now.result ≡ listed_with (map (λ (f : Func). f.ty) (after_import c.args.import.now (before_import c.args.parts.now)).funcs) (after_import c.args.import.now (before_import c.args.parts.now))
-    → c.len_after-len.result ≡ limited (length (encoded (after_import c.args.import.now (before_import c.args.parts.now))))
-    → IsPending c.with_moved-now.result c.verdicts_or-verdicts_now.result.now.items c.len_after-len.result (after_import c.args.import.now (before_import c.args.parts.now))
+    → c.module_len-len.result ≡ limited (length (encoded (after_import c.args.import.now (before_import c.args.parts.now))))
+    → IsPending c.with_moved-now.result c.verdicts_or-verdicts_now.result.now.items c.module_len-len.result (after_import c.args.import.now (before_import c.args.parts.now))
 pending c lists len = record {
   formed = c.requires.ready.formed;
   profile = c.with_moved-now.ensures.profile ∙ c.of.ensures.profile;
@@ -112,7 +113,7 @@ returns-in_err-appraisal-clause-judgement c =
     let p = err_from_is_err_and c.from_residual-in_err-appraisal.result c.from_residual-in_err-appraisal.ensures.1 in
     let n = after_import c.args.import.now (before_import c.args.parts.now) in
     let lists = lent at.After-with_moved-now in
-    let len = len_now at.After-len_after-len (sections_now at.In_ok-remade lists) (count_now at.After-len) (codes_len_now at.After-len (codes_now at.After-codes_len_after)) in
+    let len = len_now at.After-module_len-len (sections_now at.In_ok-remade lists) (count_now at.After-len) (codes_len_now at.After-len (codes_now at.After-codes_len_after)) in
     rw (p.1, p.2) (λ some. c.in_err-appraisal.ensures n (pending at.After-verdicts_or-verdicts_now lists len) c.requires.known some)
 
 pub returns-clause-judgement : goal.returns-clause-judgement
@@ -124,7 +125,7 @@ returns-clause-judgement c =
     let lists = lent at.After-with_moved-now in
     let sections = sections_now at.In_ok-remade lists in
     let codes = codes_len_now at.After-len (codes_now at.After-codes_len_after) in
-    let appraised = c.in_ok-appraisal.ensures n (pending at.After-verdicts_or-verdicts_now lists (len_now at.After-len_after-len sections (count_now at.After-len) codes)) c.requires.known in
+    let appraised = c.in_ok-appraisal.ensures n (pending at.After-verdicts_or-verdicts_now lists (len_now at.After-module_len-len sections (count_now at.After-len) codes)) c.requires.known in
     record {
       stands = appraised.0;
       verdict = appraised.1;
