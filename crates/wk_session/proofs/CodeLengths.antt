@@ -1,11 +1,10 @@
--- How long codes are of which some are made anew.
-use Rattle.std.proofs.Common.{◌≡◌, ℕ, ◌+◌, ◌<◌, Option, unwrap_or, List, [], ◌∷◌, ◌++◌, length, take, slice_index_or, sym, ap, ◌∙◌, arith}
+-- How long codes are, one after the other.
+use Rattle.std.proofs.Common.{◌≡◌, ℕ, ◌+◌, Some, List, [], ◌∷◌, ◌++◌, length, take, slice_get, sym, ap, ◌∙◌, arith}
 use Rattle.std.proofs.lemmas.List.{take_more}
 use Rattle.std.proofs.lemmas.List.Sums.{sum_by-append}
+use Rattle.std.proofs.lemmas.Option.{get_or_from_slice_get, slice_get_within}
 use Rattle.wk_module.specs.Sizes.{entry_size}
-use Rattle.wk_session.specs.Overlays.{with_items}
 use Rattle.wk_session.specs.Pieces.{entries_size}
-use Rattle.wk_session.proofs.Replacing.{with_items_at, length-with_items}
 
 entries_push : (codes : List (List ℕ)) (code : List ℕ) → entries_size codes + entry_size (length code) ≡ entries_size (codes ++ code ∷ [])
 entries_push codes code =
@@ -14,11 +13,9 @@ entries_push codes code =
     omega (arith, one, sum_by-append size codes (code ∷ []))
 
 -- one code more
-pub entries_next : (codes : List (List ℕ)) (news : List (Option (List ℕ))) (i : ℕ) (old : List ℕ) (new : Option (List ℕ)) (now : List ℕ) → length news ≡ length codes → i < length codes
-    → old ≡ slice_index_or codes i old → new ≡ slice_index_or news i new → unwrap_or new old ≡ now
-    → entries_size (take i (with_items codes news)) + entry_size (length now) ≡ entries_size (take (i + 1) (with_items codes news))
-entries_next codes news i old new now same within old_is new_is is =
-    let all = with_items codes news in
-    let there : i < length all = omega (arith, length-with_items codes news, within) in
-    let at : slice_index_or all i now ≡ now = with_items_at codes news i old new now within (omega (arith, same, within)) old_is new_is ∙ is in
-    entries_push (take i all) now ∙ ap entries_size (sym (take_more all i now there ∙ ap (λ (code : List ℕ). take i all ++ code ∷ []) at))
+pub entries_next : (codes : List (List ℕ)) (i : ℕ) (code : List ℕ) → slice_get codes i ≡ Some code
+    → entries_size (take i codes) + entry_size (length code) ≡ entries_size (take (i + 1) codes)
+entries_next codes i code there =
+    let at = get_or_from_slice_get codes i code code there in
+    let more = take_more codes i code (slice_get_within codes i code there) ∙ ap (λ (c : List ℕ). take i codes ++ c ∷ []) at in
+    entries_push (take i codes) code ∙ ap entries_size (sym more)

@@ -28,7 +28,6 @@ pub mod Removals
 pub mod Shrinking
 pub mod Piecing
 pub mod Putting
-pub mod Recoding
 pub mod Shaping
 pub mod NewSections
 pub mod CodeLengths

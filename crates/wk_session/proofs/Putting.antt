@@ -1,13 +1,15 @@
 -- A module put out piece after piece.
-use Rattle.std.proofs.Common.{◌≡◌, ◌≢◌, ℕ, zero, suc, ◌+◌, ◌<◌, ◌≤◌, ◌==◌, Bool, false, if◌then◌else◌, Option, List, [], ◌∷◌, ◌++◌, length, map, take, drop, slice_index_or, refl, sym, ap, ◌∙◌, arith, append_assoc, length-append}
+use Rattle.std.proofs.Common.{◌≡◌, ◌≢◌, ℕ, zero, suc, ◌+◌, ◌<◌, ◌≤◌, Bool, if◌then◌else◌, Option, Some, List, [], ◌∷◌, ◌++◌, length, map, take, drop, slice_get, slice_index_or, refl, sym, ap, ◌∙◌, arith, append_assoc, length-append}
 use Rattle.std.specs.Prelude.{Result, Ok, Err, OnOk, OnErr}
-use Rattle.std.proofs.lemmas.Bool.{eq-eqb, ne_eqb}
+use Rattle.std.proofs.lemmas.Bool.{eq-eqb}
 use Rattle.std.proofs.lemmas.List.{flat_map_more, length-map, take_more}
 use Rattle.std.proofs.lemmas.List.Sums.{sum_by-cons}
+use Rattle.std.proofs.lemmas.Option.{get_or_from_slice_get, slice_get_within}
 use Rattle.std.specs.List.{flat_map}
 use Rattle.std.specs.Io.KnownBytes.{Appends}
-use Rattle.wk_bytes.specs.Frames.{magic, version}
+use Rattle.wk_bytes.specs.Frames.{limit, magic, version}
 use Rattle.wk_bytes.specs.Short.{short}
+use Rattle.wk_bytes.specs.ShortLaws.{short-some}
 use Rattle.wk_bytes.specs.Taken.{TakesFront}
 use Rattle.wk_bytes.specs.TakenLaws.{Appends-then, TakesFront-first, TakesFront-then}
 use Rattle.wk_body.specs.Vectors.{written_vector}
@@ -17,37 +19,35 @@ use Rattle.wk_module.specs.Formats.{written_bytes}
 use Rattle.wk_module.specs.Sections.{of_number}
 use Rattle.wk_module.specs.Shape.{lists_of}
 use Rattle.wk_module.specs.Sizes.{entry_size}
-use Rattle.wk_module.specs.Writing.{contents_by, customs_at, encoded, framed, ids, section_and_customs, section_of}
+use Rattle.wk_module.specs.Writing.{contents_by, customs_at, encoded, framed, ids, section_of}
 use Rattle.wk_module.specs.WritingLaws.{at_place, contents_by-lent, customs_at-cons, id_is, piece_le, section_none, section_some, written_frame}
-use Rattle.wk_session.specs.RecodedLaws.{section_codes}
+use Rattle.wk_session.specs.Overlays.{with_items}
 use Rattle.wk_session.specs.Pieces.{code_of, code_section, entries_size, framed_some, section_piece, section_pieces}
+use Rattle.wk_session.specs.Recoded.{encoded_with, place_with}
+use Rattle.wk_session.specs.RecodedLaws.{recoded}
 
 -- ---- what calls take, one after the other
 
-pub known : {T E P : Type 0} (r : Result T E) → P → OnErr r P
+known : {T E P : Type 0} (r : Result T E) → P → OnErr r P
 known (Ok x) p = tt
 known (Err e) p = p
 
-module _ {T E : Type 0} (r : Result T E) where
-  pub fails_first : (a b : Option (List ℕ)) (xs ys : List ℕ) → TakesFront a b xs → OnErr r (TakesFront a b (xs ++ ys))
-  fails_first a b xs ys p = known r (TakesFront-first a b xs ys p)
+module _ {T E : Type 0} where
+  -- the first of them failed
+  pub fails_first : (r : Result T E) (a b : Option (List ℕ)) (xs ys all : List ℕ) → TakesFront a b xs → all ≡ xs ++ ys → OnErr r (TakesFront a b all)
+  fails_first r a b xs ys all p is = known r (rw is (TakesFront-first a b xs ys p))
 
-  pub fails_between : (a b c : Option (List ℕ)) (xs ys zs : List ℕ) → Appends a b xs → TakesFront b c ys → OnErr r (TakesFront a c (xs ++ (ys ++ zs)))
-  fails_between a b c xs ys zs p q = known r (TakesFront-then a b c xs (ys ++ zs) p (TakesFront-first b c ys zs q))
+  -- the first of them took all of its bytes, and the others may have failed
+  pub fails_later : (r : Result T E) (a b c : Option (List ℕ)) (xs ys all : List ℕ) → Appends a b xs → OnErr r (TakesFront b c ys) → all ≡ xs ++ ys
+      → OnErr r (TakesFront a c all)
+  fails_later (Ok x) a b c xs ys all p q is = tt
+  fails_later (Err e) a b c xs ys all p q is = rw is (TakesFront-then a b c xs ys p q)
 
-  fails_last_at : (s : Result T E) (a b c : Option (List ℕ)) (xs ys : List ℕ) → Appends a b xs → OnErr s (TakesFront b c ys) → OnErr s (TakesFront a c (xs ++ ys))
-  fails_last_at (Ok x) a b c xs ys p q = tt
-  fails_last_at (Err e) a b c xs ys p q = TakesFront-then a b c xs ys p q
-
-  pub fails_last : (a b c : Option (List ℕ)) (xs ys : List ℕ) → Appends a b xs → OnErr r (TakesFront b c ys) → OnErr r (TakesFront a c (xs ++ ys))
-  fails_last = fails_last_at r
-
-  takes_last_at : (s : Result T E) (a b c : Option (List ℕ)) (xs ys : List ℕ) → Appends a b xs → OnOk s (Appends b c ys) → OnOk s (Appends a c (xs ++ ys))
-  takes_last_at (Ok x) a b c xs ys p q = Appends-then a b c xs ys p q
-  takes_last_at (Err e) a b c xs ys p q = tt
-
-  pub takes_last : (a b c : Option (List ℕ)) (xs ys : List ℕ) → Appends a b xs → OnOk r (Appends b c ys) → OnOk r (Appends a c (xs ++ ys))
-  takes_last = takes_last_at r
+  -- the others may have taken all of theirs
+  pub takes_both : (r : Result T E) (a b c : Option (List ℕ)) (xs ys all : List ℕ) → Appends a b xs → OnOk r (Appends b c ys) → all ≡ xs ++ ys
+      → OnOk r (Appends a c all)
+  takes_both (Ok x) a b c xs ys all p q is = rw is (Appends-then a b c xs ys p q)
+  takes_both (Err e) a b c xs ys all p q is = tt
 
 -- ---- pieces of lists
 
@@ -58,6 +58,11 @@ flat_split f (y ∷ xs) zero x within is = ap (λ z. f z ++ flat_map f xs) (sym 
 flat_split f (y ∷ xs) (suc i) x within is =
     ap (λ (b : List ℕ). f y ++ b) (flat_split f xs i x (omega arith) is)
     ∙ sym (append_assoc (f y) (flat_map f (take i xs)) (f x ++ flat_map f (drop (suc i) xs)))
+
+-- one item more
+flat_more : {A : Type 0} (f : A → List ℕ) (xs : List A) (i : ℕ) (x : A) → i < length xs → x ≡ slice_index_or xs i x
+    → flat_map f (take (i + 1) xs) ≡ flat_map f (take i xs) ++ f x
+flat_more f xs i x within is = ap (flat_map f) (take_more xs i x within ∙ ap (λ y. take i xs ++ y ∷ []) (sym is)) ∙ sym (flat_map_more f [] (take i xs) x)
 
 pub customs_split : (place : ℕ) (cs : List Custom) (i : ℕ) (c : Custom) → i < length cs → c ≡ slice_index_or cs i c
     → customs_at place cs ≡ customs_at place (take i cs) ++ (at_place c.place (written_frame c) place ++ customs_at place (drop (suc i) cs))
@@ -90,6 +95,10 @@ framed_is : (m : Parts) (id : ℕ) (contents : List ℕ) → contents_by (lists_
 framed_is m id [] is = section_none (lists_of m) (of_number id) (ap length is)
 framed_is m id (x ∷ xs) is = section_some (lists_of m) id (of_number id) refl (omega (arith, ap length is)) ∙ ap (framed id) is
 
+pub framed_within : (id : ℕ) (contents : List ℕ) → length contents ≤ length (framed_some id contents)
+framed_within id [] = omega arith
+framed_within id (x ∷ xs) = omega (arith, length-append (short (length (x ∷ xs))) (x ∷ xs))
+
 pub section_framed : (m : Parts) (id : ℕ) → id ≢ 10 → section_of m id ≡ framed_some id (section_piece id m)
 section_framed m id other = framed_is m id (section_piece id m) (sym (contents_by-lent (lists_of m) id other))
 
@@ -103,74 +112,100 @@ entries_length [] = refl
 entries_length (c ∷ cs) =
     omega (arith, sum_by-cons (λ (code : List ℕ). entry_size (length code)) c cs, entries_length cs, length-append (short (length c)) c, length-append (written_bytes c) (flat_map written_bytes cs))
 
-some_codes : (codes : List (List ℕ)) → (length codes == 0) ≡ false → code_section codes ≡ framed 10 (written_vector written_bytes codes)
-some_codes [] some = absurd cc
+entries_most : (codes : List (List ℕ)) → length codes ≤ entries_size codes
+entries_most [] = omega arith
+entries_most (c ∷ cs) = omega (arith, sum_by-cons (λ (code : List ℕ). entry_size (length code)) c cs, entries_most cs, short-some (length c))
+
+some_codes : (codes : List (List ℕ)) → length codes ≢ 0 → code_section codes ≡ framed 10 (written_vector written_bytes codes)
+some_codes [] some = absurd (some refl)
 some_codes (c ∷ cs) some = refl
 
 -- the code section in the order in which it is put out
-pub code_section_is : (codes : List (List ℕ)) (size : ℕ) → (length codes == 0) ≡ false → size ≡ length (short (length codes)) + entries_size codes
+pub code_section_is : (codes : List (List ℕ)) (size : ℕ) → length codes ≢ 0 → size ≡ length (short (length codes)) + entries_size codes
     → code_section codes ≡ (10 ∷ short size) ++ (short (length codes) ++ flat_map written_bytes codes)
 code_section_is codes size some is =
     let whole = written_vector written_bytes codes in
     let same : length whole ≡ size = omega (arith, is, entries_length codes, length-append (short (length codes)) (flat_map written_bytes codes)) in
     some_codes codes some ∙ ap (λ (n : ℕ). 10 ∷ (short n ++ whole)) same
 
--- ---- modules
+-- what stands in the section of some codes
+pub contents_within : (codes : List (List ℕ)) → length codes ≢ 0 → length (short (length codes)) + entries_size codes ≤ length (code_section codes)
+contents_within codes some =
+    let whole = written_vector written_bytes codes in
+    let section = ap length (some_codes codes some) in
+    omega (arith, section, entries_length codes, length-append (short (length codes)) (flat_map written_bytes codes), length-append (short (length whole)) whole)
 
--- a form with a piece for each id: it up to an id, the piece of that, and the rest
-pub form_split : (f : ℕ → List ℕ) (id : ℕ) → id < 12 → (magic ++ version) ++ flat_map f ids ≡ ((magic ++ version) ++ flat_map f (take id ids)) ++ (f id ++ flat_map f (drop (suc id) ids))
-form_split f id lt =
-    let later = f id ++ flat_map f (drop (suc id) ids) in
-    ap (λ (b : List ℕ). (magic ++ version) ++ b) (flat_split f ids id id lt (id_is id lt))
-    ∙ sym (append_assoc (magic ++ version) (flat_map f (take id ids)) later)
+-- the same of any codes, none or some
+pub entries_within : (codes : List (List ℕ)) → (length codes ≤ entries_size codes) × (entries_size codes ≤ length (code_section codes))
+entries_within [] = (omega arith, omega arith)
+entries_within (c ∷ cs) = (entries_most (c ∷ cs), omega (arith, contents_within (c ∷ cs) (λ none. absurd (omega (arith, none)))))
 
--- one piece more
-pub form_more : (f : ℕ → List ℕ) (id : ℕ) → id < 12 → (magic ++ version) ++ flat_map f (take (id + 1) ids) ≡ ((magic ++ version) ++ flat_map f (take id ids)) ++ f id
-form_more f id lt =
-    let so_far = flat_map f (take id ids) in
-    ap (λ (is : List ℕ). (magic ++ version) ++ flat_map f is) (take_more ids id id lt ∙ ap (λ y. take id ids ++ y ∷ []) (sym (id_is id lt)))
-    ∙ ap (λ (b : List ℕ). (magic ++ version) ++ b) (sym (flat_map_more f [] (take id ids) id))
-    ∙ sym (append_assoc (magic ++ version) so_far (f id))
+-- a code among them
+module _ (codes : List (List ℕ)) (i : ℕ) (code : List ℕ) (there : slice_get codes i ≡ Some code) where
+  within : i < length codes
+  within = slice_get_within codes i code there
 
--- the form up to a section, it with the customs behind it, and the rest
-pub encoded_split : (m : Parts) (id : ℕ) → id < 12
-    → encoded m ≡ ((magic ++ version) ++ flat_map (section_and_customs m) (take id ids)) ++ (section_and_customs m id ++ flat_map (section_and_customs m) (drop (suc id) ids))
-unfolding encoded
-encoded_split m id lt = form_split (section_and_customs m) id lt
+  at : code ≡ slice_index_or codes i code
+  at = sym (get_or_from_slice_get codes i code code there)
 
--- a section and the customs behind it are within the form
-pub both_within : (m : Parts) (id : ℕ) → id < 12 → length (section_of m id) + length (customs_at id m.customs) ≤ length (encoded m)
-unfolding encoded
-both_within m id lt =
-    omega (arith, piece_le (section_and_customs m) ids id id lt (id_is id lt), length-append (section_of m id) (customs_at id m.customs), length-append (magic ++ version) (flat_map (section_and_customs m) ids))
+  pub code_split : flat_map written_bytes codes ≡ flat_map written_bytes (take i codes) ++ (written_bytes code ++ flat_map written_bytes (drop (suc i) codes))
+  code_split = flat_split written_bytes codes i code within at
 
--- the magic and the version come first
-pub encoded_first : (m : Parts) → encoded m ≡ (magic ++ version) ++ flat_map (section_and_customs m) ids
-unfolding encoded
-encoded_first m = refl
+  pub code_more : flat_map written_bytes (take (i + 1) codes) ≡ flat_map written_bytes (take i codes) ++ written_bytes code
+  code_more = flat_more written_bytes codes i code within at
 
--- ---- codes of a module that fits
+  pub code_few : entries_size codes ≤ limit → length code ≤ limit
+  code_few few = omega (arith, few, entries_length codes, piece_le written_bytes codes i code within at, length-append (short (length code)) code)
 
 pub codes_length : (m : Parts) (codes : List (List ℕ)) → codes ≡ map code_of m.funcs → length codes ≡ length m.funcs
 codes_length m codes is = ap length is ∙ length-map m.funcs code_of
 
--- codes with their sizes and their number are within their section
-pub codes_within : (codes : List (List ℕ)) → 0 < length codes → length (short (length codes)) + entries_size codes ≤ length (code_section codes)
-codes_within codes some =
-    let whole = written_vector written_bytes codes in
-    let section = ap length (some_codes codes (ne_eqb (length codes) 0 (λ none. absurd (omega (arith, none, some))))) in
-    omega (arith, section, entries_length codes, length-append (short (length codes)) (flat_map written_bytes codes), length-append (short (length whole)) whole)
+-- ---- a module with these codes
 
-pub code_section_within : (m : Parts) (codes : List (List ℕ)) → codes ≡ map code_of m.funcs → 0 < length codes → length (short (length codes)) + entries_size codes ≤ length (encoded m)
-code_section_within m codes is some =
-    omega (arith, codes_within codes some, ap length (section_codes m ∙ ap code_section (sym is)), both_within m 10 (omega arith))
+module _ (m : Parts) (codes : List (List ℕ)) where
+  -- the magic and the version come first
+  pub form_first : encoded_with m codes ≡ (magic ++ version) ++ flat_map (place_with m codes) ids
+  unfolding encoded_with
+  form_first = refl
 
-pub no_entries : (codes : List (List ℕ)) → length codes ≡ 0 → entries_size codes ≡ 0
-no_entries [] none = refl
-no_entries (c ∷ cs) none = absurd (omega (arith, none))
+  -- the form up to a place, what stands there, and the rest
+  pub form_split : (id : ℕ) → id < 12
+      → encoded_with m codes
+      ≡ ((magic ++ version) ++ flat_map (place_with m codes) (take id ids)) ++ (place_with m codes id ++ flat_map (place_with m codes) (drop (suc id) ids))
+  form_split id lt =
+      let later = place_with m codes id ++ flat_map (place_with m codes) (drop (suc id) ids) in
+      form_first
+      ∙ ap (λ (b : List ℕ). (magic ++ version) ++ b) (flat_split (place_with m codes) ids id id lt (id_is id lt))
+      ∙ sym (append_assoc (magic ++ version) (flat_map (place_with m codes) (take id ids)) later)
 
--- ---- one section more
+  -- one place more
+  pub form_more : (id : ℕ) → id < 12
+      → (magic ++ version) ++ flat_map (place_with m codes) (take (id + 1) ids)
+      ≡ ((magic ++ version) ++ flat_map (place_with m codes) (take id ids)) ++ place_with m codes id
+  form_more id lt =
+      ap (λ (b : List ℕ). (magic ++ version) ++ b) (flat_more (place_with m codes) ids id id lt (id_is id lt))
+      ∙ sym (append_assoc (magic ++ version) (flat_map (place_with m codes) (take id ids)) (place_with m codes id))
 
-pub encoded_more : (m : Parts) (id : ℕ) → id < 12
-    → (magic ++ version) ++ flat_map (section_and_customs m) (take (id + 1) ids) ≡ ((magic ++ version) ++ flat_map (section_and_customs m) (take id ids)) ++ section_and_customs m id
-encoded_more m id lt = form_more (section_and_customs m) id lt
+  -- what stands at a place is within the form
+  pub place_within : (id : ℕ) → id < 12 → length (place_with m codes id) ≤ length (encoded_with m codes)
+  place_within id lt =
+      let all = flat_map (place_with m codes) ids in
+      omega (arith, ap length form_first, piece_le (place_with m codes) ids id id lt (id_is id lt), length-append (magic ++ version) all)
+
+  -- so are the codes
+  pub entries_in_form : entries_size codes ≤ length (encoded_with m codes)
+  entries_in_form = omega (arith, (entries_within codes).1, place_within 10 (omega arith), length-append (code_section codes) (customs_at 10 m.customs))
+
+-- ---- a session's module
+
+-- with codes in the place of those that are kept
+pub session_codes : (p m n : Parts) (kept : List (List ℕ)) (news : List (Option (List ℕ))) → p ≡ m → m ≡ n → kept ≡ map code_of m.funcs
+    → encoded_with p (with_items kept news) ≡ encoded_with n (with_items (map code_of n.funcs) news)
+session_codes p m n kept news first second is =
+    ap (λ (q : Parts). encoded_with q (with_items kept news)) (first ∙ second)
+    ∙ ap (λ (codes : List (List ℕ)). encoded_with n (with_items codes news)) (is ∙ ap (λ (q : Parts). map code_of q.funcs) second)
+
+-- with those
+pub session_form : (p m n : Parts) (kept : List (List ℕ)) → p ≡ m → m ≡ n → kept ≡ map code_of m.funcs → encoded_with p kept ≡ encoded n
+session_form p m n kept first second is =
+    ap (λ (q : Parts). encoded_with q kept) first ∙ ap (encoded_with m) is ∙ recoded m m refl refl ∙ ap encoded second

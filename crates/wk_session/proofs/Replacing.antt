@@ -1,6 +1,7 @@
 -- Lists with some items replaced.
-use Rattle.std.proofs.Common.{◌≡◌, ℕ, suc, ◌<◌, List, [], ◌∷◌, ◌++◌, length, map, set, slice_get, slice_index_or, Option, Some, None, unwrap_or, zero, refl, ap, sym, ◌∙◌, arith}
-use Rattle.std.specs.Prelude.{option_map}
+use Rattle.std.proofs.Common.{◌≡◌, ℕ, suc, ◌<◌, List, [], ◌∷◌, ◌++◌, length, map, set, slice_get, slice_index_or, Option, Some, None, unwrap_or, zero, refl, ap, sym, ◌∙◌, arith, Bor}
+use Rattle.std.proofs.lemmas.Option.{slice_get-get_or}
+use Rattle.std.specs.Prelude.{option_map, option_copied}
 use Rattle.wk_session.specs.Overlays.{with_items}
 
 pub with_items_all : {A : Type 0} (xs : List A) → with_items xs [] ≡ xs
@@ -47,21 +48,22 @@ with_items_push [] (m ∷ ns) x n h = absurd (omega arith)
 with_items_push (y ∷ xs) [] x n h = absurd (omega arith)
 with_items_push (y ∷ xs) (m ∷ ns) x n h = ap (λ ys. unwrap_or m y ∷ ys) (with_items_push xs ns x n (omega arith))
 
--- an item that stands there
-pub with_items_new : {A : Type 0} (xs : List A) (ns : List (Option A)) (i : ℕ) (n : Option A) (y : A) → i < length xs → i < length ns → n ≡ slice_index_or ns i n → n ≡ Some y → slice_get (with_items xs ns) i ≡ Some y
-with_items_new [] ns i n y within there is new = absurd (omega arith)
-with_items_new (x ∷ xs) [] i n y within there is new = absurd (omega arith)
-with_items_new (x ∷ xs) (m ∷ ns) zero n y within there is new = ap (λ k. Some (unwrap_or k x)) (sym is ∙ new)
-with_items_new (x ∷ xs) (m ∷ ns) (suc i) n y within there is new = with_items_new xs ns i n y (omega arith) (omega arith) is new
+-- the item of an index
+with_items_at : {A : Type 0} (xs : List A) (ns : List (Option A)) (i : ℕ) (d : A) → i < length xs
+    → slice_get (with_items xs ns) i ≡ Some (unwrap_or (slice_index_or ns i None) (slice_index_or xs i d))
+with_items_at [] ns i d within = absurd (omega arith)
+with_items_at (x ∷ xs) [] i d within = slice_get-get_or (x ∷ xs) i d within
+with_items_at (x ∷ xs) (n ∷ ns) zero d within = refl
+with_items_at (x ∷ xs) (n ∷ ns) (suc i) d within = with_items_at xs ns i d (omega arith)
 
-pub with_items_old : {A : Type 0} (xs : List A) (ns : List (Option A)) (i : ℕ) (n : Option A) (y : A) → i < length xs → i < length ns → n ≡ slice_index_or ns i n → n ≡ None → y ≡ slice_index_or xs i y → slice_get (with_items xs ns) i ≡ Some y
-with_items_old [] ns i n y within there is none old = absurd (omega arith)
-with_items_old (x ∷ xs) [] i n y within there is none old = absurd (omega arith)
-with_items_old (x ∷ xs) (m ∷ ns) zero n y within there is none old = ap (λ k. Some (unwrap_or k x)) (sym is ∙ none) ∙ ap Some (sym old)
-with_items_old (x ∷ xs) (m ∷ ns) (suc i) n y within there is none old = with_items_old xs ns i n y (omega arith) (omega arith) is none old
+lent_or : {A : Type 0} (new : Option (Bor A)) (old : Bor A) → unwrap_or (option_copied new) old.now ≡ (unwrap_or new old).now
+lent_or None old = refl
+lent_or (Some x) old = refl
 
-pub with_items_at : {A : Type 0} (xs : List A) (ns : List (Option A)) (i : ℕ) (x : A) (n : Option A) (d : A) → i < length xs → i < length ns → x ≡ slice_index_or xs i x → n ≡ slice_index_or ns i n → slice_index_or (with_items xs ns) i d ≡ unwrap_or n x
-with_items_at [] ns i x n d within there old new = absurd (omega arith)
-with_items_at (y ∷ xs) [] i x n d within there old new = absurd (omega arith)
-with_items_at (y ∷ xs) (m ∷ ns) zero x n d within there old new = ap (λ k. unwrap_or k y) (sym new) ∙ ap (unwrap_or n) (sym old)
-with_items_at (y ∷ xs) (m ∷ ns) (suc i) x n d within there old new = with_items_at xs ns i x n d (omega arith) (omega arith) old new
+-- the same where it is lent
+pub with_items_lent : {A : Type 0} (xs : List A) (ns : List (Option A)) (i : ℕ) (new : Option (Bor A)) (old item : Bor A) → i < length xs
+    → option_copied new ≡ slice_index_or ns i None → old.now ≡ slice_index_or xs i old.now → item ≡ unwrap_or new old
+    → slice_get (with_items xs ns) i ≡ Some item.now
+with_items_lent {A} xs ns i new old item within there is lent =
+    let either = ap (λ (n : Option A). unwrap_or n (slice_index_or xs i old.now)) (sym there) ∙ ap (unwrap_or (option_copied new)) (sym is) in
+    with_items_at xs ns i old.now within ∙ ap Some (either ∙ lent_or new old ∙ ap (λ (b : Bor A). b.now) (sym lent))

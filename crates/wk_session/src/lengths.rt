@@ -11,6 +11,7 @@ ghost use Rattle.wk_module.specs.WritingLaws.{written_frame};
 ghost use Rattle.wk_session.specs.Overlays.{with_items};
 ghost use Rattle.wk_session.specs.Pieces.{codes_size, customs_size, entries_size, section_pieces};
 
+use crate::overlay::item_at;
 use wk_bytes::{Items, LIMIT, leb_len_u32};
 use wk_module::{Custom, custom_len, framed_len, section_id, whole_len};
 
@@ -54,11 +55,8 @@ pub(crate) fn codes_len_after(codes: &Vec<Items<u8>>, news: &Vec<Option<Items<u8
     ensures { result ≡ limited (entries_size (with_items codes.now.items news.now.items)) }
 {
     let mut total = Some(0);
-    for (i, code) in codes.iter().enumerate() {
-        total = match &news[i] {
-            Some(new) => plus_code(total, new),
-            None => plus_code(total, code),
-        };
+    for i in 0..codes.len() {
+        total = plus_code(total, item_at(codes, news, i));
     }
     total
 }
@@ -89,10 +87,7 @@ fn size_after(sections: &Vec<Items<u8>>, news: &Vec<Option<Items<u8>>>, id: usiz
     requires news { id < length news.now.items }
     ensures { Some result ≡ option_map length (slice_get (with_items sections.now.items news.now.items) id) }
 {
-    match &news[id] {
-        Some(new) => new.len(),
-        None => sections[id].len(),
-    }
+    item_at(sections, news, id).len()
 }
 
 /// How many bytes the contents of each section have, by their ids, or what is made in their place.

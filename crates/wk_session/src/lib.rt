@@ -44,6 +44,7 @@
 #![tactic(auto)]
 
 mod appraisal;
+mod codes;
 mod display;
 mod edit;
 mod edits;
@@ -55,7 +56,6 @@ mod lengths;
 mod longer;
 mod overlay;
 mod pieces;
-mod recoded;
 mod session;
 mod shorter;
 mod write;

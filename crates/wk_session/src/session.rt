@@ -22,6 +22,7 @@ ghost use Rattle.wk_session.specs.Told.{IsTold, AreTold};
 ghost use Rattle.wk_session.specs.Written.{Leaves, failures_after_write};
 ghost use Rattle.wk_session.specs.Runs.{reply_of, after_one, is_memory, replies_of, after, refused_for_memory, AreUndecided};
 
+use crate::codes::Codes;
 use crate::edit::{Edit, EditFault, Reply};
 use crate::edits::{
     add_export, add_func, add_global, add_import, add_type, put_body, remove_export, set_custom,
@@ -29,7 +30,6 @@ use crate::edits::{
 };
 use crate::kept::Kept;
 use crate::lengths::code_contents;
-use crate::recoded::put_module_with;
 use crate::write::WriteFault;
 use crate::written::put_module;
 use std::alloc::Global;
@@ -260,7 +260,9 @@ impl Session {
         // The proof asks what these two say: the written form spells the module, and no other.
         written_form_of_module();
         one_module();
-        match put_module(out, self.module.parts(), &self.kept.pieces) {
+        let pieces = &self.kept.pieces;
+        let codes = Codes::kept(pieces);
+        match put_module(out, self.module.parts(), &pieces.sections, &codes) {
             Ok(()) => Ok(()),
             Err(OutFault) => Err(WriteFault::Write),
         }
@@ -289,7 +291,9 @@ impl Session {
         ensures failures { W.failed out.new ≡ failures_after_write (W.failed out.old) result }
         ensures never { IfErr result (λ e. e ≡ WriteFault.Write) }
     {
-        put_module_with(out, self.module.parts(), &self.kept.pieces, codes).map_err(
+        let pieces = &self.kept.pieces;
+        let codes = Codes::with_new(pieces, codes);
+        put_module(out, self.module.parts(), &pieces.sections, &codes).map_err(
             |_| WriteFault::Write,
         )
     }

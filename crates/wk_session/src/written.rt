@@ -1,23 +1,23 @@
 //! Puts the written form of a module out, piece after piece, without memory.
 
-ghost use Rattle.std.specs.Prelude.{◌≡◌, ◌+◌, ◌-◌, ◌<◌, ◌≤◌, ◌^◌, ◌∷◌, length, OnOk, OnErr};
+ghost use Rattle.std.specs.Prelude.{◌≡◌, ◌-◌, ◌<◌, ◌≤◌, ◌^◌, ◌∷◌, length, OnOk, OnErr};
 ghost use Rattle.std.specs.Io.KnownBytes.{Appends};
 ghost use Rattle.std.specs.List.{flat_map};
 ghost use Rattle.wk_bytes.specs.Frames.{limit};
 ghost use Rattle.wk_bytes.specs.Short.{short};
 ghost use Rattle.wk_bytes.specs.Taken.{TakesFront, failures_after};
 ghost use Rattle.wk_module.specs.Formats.{written_bytes};
-ghost use Rattle.wk_module.specs.Shape.{IsInOrderFrom};
-ghost use Rattle.wk_module.specs.Writing.{Fits, customs_at, encoded, section_and_customs, section_of};
+ghost use Rattle.wk_module.specs.Writing.{customs_at};
 ghost use Rattle.wk_module.specs.WritingLaws.{written_frame};
-ghost use Rattle.wk_session.specs.Pieces.{ArePieces, code_section, entries_size, framed_some};
+ghost use Rattle.wk_session.specs.Pieces.{code_section, entries_size, framed_some, section_pieces};
+ghost use Rattle.wk_session.specs.Recoded.{encoded_with, place_with, section_with};
 
-use crate::pieces::Pieces;
+use crate::codes::Codes;
 use wk_bytes::{Items, Out, OutFault, leb_len_u32, out_u32, put_all};
 use wk_module::{Custom, HEADER, Parts, custom_len, section_id};
 
-/// The id and the size of a section.
-pub(crate) fn put_head<W: Out>(out: &mut W, id: u8, size: u32) -> Result<(), OutFault>
+// The id and the size of a section.
+fn put_head<W: Out>(out: &mut W, id: u8, size: u32) -> Result<(), OutFault>
     requires { W.failed out.old < 2 ^ 64 - 1 }
     ensures ok { OnOk result (Appends (W.taken out.old) (W.taken out.new) (id ∷ short size)) }
     ensures err { OnErr result (TakesFront (W.taken out.old) (W.taken out.new) (id ∷ short size)) }
@@ -27,12 +27,14 @@ pub(crate) fn put_head<W: Out>(out: &mut W, id: u8, size: u32) -> Result<(), Out
     out_u32(out, size)
 }
 
-/// Bytes behind their number.
-pub(crate) fn put_bytes<W: Out>(out: &mut W, bytes: &[u8]) -> Result<(), OutFault>
+// Bytes behind their number.
+fn put_bytes<W: Out>(out: &mut W, bytes: &[u8]) -> Result<(), OutFault>
     requires failed { W.failed out.old < 2 ^ 64 - 1 }
     requires few { length bytes.now ≤ limit }
-    ensures ok { OnOk result (Appends (W.taken out.old) (W.taken out.new) (written_bytes bytes.now)) }
-    ensures err { OnErr result (TakesFront (W.taken out.old) (W.taken out.new) (written_bytes bytes.now)) }
+    ensures ok { OnOk result
+        (Appends (W.taken out.old) (W.taken out.new) (written_bytes bytes.now)) }
+    ensures err { OnErr result
+        (TakesFront (W.taken out.old) (W.taken out.new) (written_bytes bytes.now)) }
     ensures failures { W.failed out.new ≡ failures_after (W.failed out.old) result }
 {
     out_u32(out, bytes.len() as u32)?;
@@ -43,8 +45,10 @@ pub(crate) fn put_bytes<W: Out>(out: &mut W, bytes: &[u8]) -> Result<(), OutFaul
 fn put_section<W: Out>(out: &mut W, id: u8, contents: &Items<u8>) -> Result<(), OutFault>
     requires failed { W.failed out.old < 2 ^ 64 - 1 }
     requires few { length contents.now ≤ limit }
-    ensures ok { OnOk result (Appends (W.taken out.old) (W.taken out.new) (framed_some id contents.now)) }
-    ensures err { OnErr result (TakesFront (W.taken out.old) (W.taken out.new) (framed_some id contents.now)) }
+    ensures ok { OnOk result
+        (Appends (W.taken out.old) (W.taken out.new) (framed_some id contents.now)) }
+    ensures err { OnErr result
+        (TakesFront (W.taken out.old) (W.taken out.new) (framed_some id contents.now)) }
     ensures failures { W.failed out.new ≡ failures_after (W.failed out.old) result }
 {
     if contents.is_empty() {
@@ -55,38 +59,37 @@ fn put_section<W: Out>(out: &mut W, id: u8, contents: &Items<u8>) -> Result<(), 
 }
 
 // Codes with their sizes.
-fn put_codes<W: Out>(out: &mut W, codes: &Vec<Items<u8>>) -> Result<(), OutFault>
+fn put_codes<W: Out>(out: &mut W, codes: &Codes<'_>) -> Result<(), OutFault>
     requires failed { W.failed out.old < 2 ^ 64 - 1 }
-    requires few { entries_size codes.now.items ≤ limit }
-    ensures ok { OnOk result (Appends (W.taken out.old) (W.taken out.new) (flat_map written_bytes codes.now.items)) }
-    ensures err { OnErr result (TakesFront (W.taken out.old) (W.taken out.new) (flat_map written_bytes codes.now.items)) }
+    requires few { entries_size codes.now ≤ limit }
+    ensures ok { OnOk result
+        (Appends (W.taken out.old) (W.taken out.new) (flat_map written_bytes codes.now)) }
+    ensures err { OnErr result
+        (TakesFront (W.taken out.old) (W.taken out.new) (flat_map written_bytes codes.now)) }
     ensures failures { W.failed out.new ≡ failures_after (W.failed out.old) result }
 {
-    for code in codes {
-        put_bytes(out, code.as_slice())?;
+    for i in 0..codes.count() {
+        put_bytes(out, codes.at(i))?;
     }
     Ok(())
 }
 
 // The code section, unless it has no codes.
-fn put_code_section<W: Out>(
-    out: &mut W,
-    codes: &Vec<Items<u8>>,
-    codes_len: u32,
-) -> Result<(), OutFault>
+fn put_code_section<W: Out>(out: &mut W, codes: &Codes<'_>) -> Result<(), OutFault>
     requires failed { W.failed out.old < 2 ^ 64 - 1 }
-    requires len { codes_len ≡ entries_size codes.now.items }
-    requires count { length codes.now.items < 2 ^ 32 }
-    requires few { length (short (length codes.now.items)) + codes_len ≤ limit }
-    ensures ok { OnOk result (Appends (W.taken out.old) (W.taken out.new) (code_section codes.now.items)) }
-    ensures err { OnErr result (TakesFront (W.taken out.old) (W.taken out.new) (code_section codes.now.items)) }
+    requires few { length (code_section codes.now) ≤ limit }
+    ensures ok { OnOk result
+        (Appends (W.taken out.old) (W.taken out.new) (code_section codes.now)) }
+    ensures err { OnErr result
+        (TakesFront (W.taken out.old) (W.taken out.new) (code_section codes.now)) }
     ensures failures { W.failed out.new ≡ failures_after (W.failed out.old) result }
 {
-    if codes.is_empty() {
+    let count = codes.count() as u32;
+    if count == 0 {
         return Ok(());
     }
-    let count = codes.len() as u32;
-    put_head(out, section_id::CODE, leb_len_u32(count) as u32 + codes_len)?;
+    let size = leb_len_u32(count) as u32 + codes.len();
+    put_head(out, section_id::CODE, size)?;
     out_u32(out, count)?;
     put_codes(out, codes)
 }
@@ -95,8 +98,10 @@ fn put_code_section<W: Out>(
 fn put_custom<W: Out>(out: &mut W, custom: &Custom) -> Result<(), OutFault>
     requires failed { W.failed out.old < 2 ^ 64 - 1 }
     requires few { length (written_frame custom.now) ≤ limit }
-    ensures ok { OnOk result (Appends (W.taken out.old) (W.taken out.new) (written_frame custom.now)) }
-    ensures err { OnErr result (TakesFront (W.taken out.old) (W.taken out.new) (written_frame custom.now)) }
+    ensures ok { OnOk result
+        (Appends (W.taken out.old) (W.taken out.new) (written_frame custom.now)) }
+    ensures err { OnErr result
+        (TakesFront (W.taken out.old) (W.taken out.new) (written_frame custom.now)) }
     ensures failures { W.failed out.new ≡ failures_after (W.failed out.old) result }
 {
     let Some(size) = custom_len(custom) else {
@@ -107,16 +112,14 @@ fn put_custom<W: Out>(out: &mut W, custom: &Custom) -> Result<(), OutFault>
     put_all(out, custom.bytes.as_slice())
 }
 
-/// The custom sections of a place.
-pub(crate) fn put_customs_at<W: Out>(
-    out: &mut W,
-    customs: &Items<Custom>,
-    place: u8,
-) -> Result<(), OutFault>
+// The custom sections of a place.
+fn put_customs_at<W: Out>(out: &mut W, customs: &Items<Custom>, place: u8) -> Result<(), OutFault>
     requires failed { W.failed out.old < 2 ^ 64 - 1 }
     requires few { length (customs_at place customs.now) ≤ limit }
-    ensures ok { OnOk result (Appends (W.taken out.old) (W.taken out.new) (customs_at place customs.now)) }
-    ensures err { OnErr result (TakesFront (W.taken out.old) (W.taken out.new) (customs_at place customs.now)) }
+    ensures ok { OnOk result
+        (Appends (W.taken out.old) (W.taken out.new) (customs_at place customs.now)) }
+    ensures err { OnErr result
+        (TakesFront (W.taken out.old) (W.taken out.new) (customs_at place customs.now)) }
     ensures failures { W.failed out.new ≡ failures_after (W.failed out.old) result }
 {
     for custom in customs.as_slice() {
@@ -131,58 +134,68 @@ pub(crate) fn put_customs_at<W: Out>(
 fn put_section_of<W: Out>(
     out: &mut W,
     parts: &Parts,
-    pieces: &Pieces,
+    sections: &Vec<Items<u8>>,
+    codes: &Codes<'_>,
     id: u8,
 ) -> Result<(), OutFault>
     requires failed { W.failed out.old < 2 ^ 64 - 1 }
     requires id { id < 12 }
-    requires pieces { ArePieces parts.now pieces.now }
-    requires fits { Fits parts.now }
-    ensures ok { OnOk result (Appends (W.taken out.old) (W.taken out.new) (section_of parts.now id)) }
-    ensures err { OnErr result (TakesFront (W.taken out.old) (W.taken out.new) (section_of parts.now id)) }
+    requires sections { sections.now.items ≡ section_pieces parts.now }
+    requires few { length (section_with parts.now codes.now id) ≤ limit }
+    ensures ok { OnOk result
+        (Appends (W.taken out.old) (W.taken out.new) (section_with parts.now codes.now id)) }
+    ensures err { OnErr result
+        (TakesFront (W.taken out.old) (W.taken out.new) (section_with parts.now codes.now id)) }
     ensures failures { W.failed out.new ≡ failures_after (W.failed out.old) result }
 {
     if id == section_id::CODE {
-        return put_code_section(out, &pieces.codes, pieces.codes_len);
+        return put_code_section(out, codes);
     }
-    put_section(out, id, &pieces.sections[id as usize])
+    put_section(out, id, &sections[id as usize])
 }
 
-/// The section of an id, and the custom sections behind it.
-pub(crate) fn put_place<W: Out>(
+// The section of an id, and the custom sections behind it.
+fn put_place<W: Out>(
     out: &mut W,
     parts: &Parts,
-    pieces: &Pieces,
+    sections: &Vec<Items<u8>>,
+    codes: &Codes<'_>,
     id: u8,
 ) -> Result<(), OutFault>
     requires failed { W.failed out.old < 2 ^ 64 - 1 }
     requires id { id < 12 }
-    requires pieces { ArePieces parts.now pieces.now }
-    requires fits { Fits parts.now }
-    ensures ok { OnOk result (Appends (W.taken out.old) (W.taken out.new) (section_and_customs parts.now id)) }
-    ensures err { OnErr result (TakesFront (W.taken out.old) (W.taken out.new) (section_and_customs parts.now id)) }
+    requires sections { sections.now.items ≡ section_pieces parts.now }
+    requires few { length (place_with parts.now codes.now id) ≤ limit }
+    ensures ok { OnOk result
+        (Appends (W.taken out.old) (W.taken out.new) (place_with parts.now codes.now id)) }
+    ensures err { OnErr result
+        (TakesFront (W.taken out.old) (W.taken out.new) (place_with parts.now codes.now id)) }
     ensures failures { W.failed out.new ≡ failures_after (W.failed out.old) result }
 {
-    put_section_of(out, parts, pieces, id)?;
+    put_section_of(out, parts, sections, codes, id)?;
     put_customs_at(out, &parts.customs, id)
 }
 
-/// Puts a module that is not too large out by its pieces. After a fault a beginning of its written form stands taken.
+/// Puts a module out by the contents of its sections, with these codes in the place of its own. After a fault a beginning of that form
+/// stands taken.
 pub(crate) fn put_module<W: Out>(
     out: &mut W,
     parts: &Parts,
-    pieces: &Pieces,
+    sections: &Vec<Items<u8>>,
+    codes: &Codes<'_>,
 ) -> Result<(), OutFault>
     requires failed { W.failed out.old < 2 ^ 64 - 1 }
-    requires pieces { ArePieces parts.now pieces.now }
-    requires fits { Fits parts.now }
-    ensures ok { OnOk result (Appends (W.taken out.old) (W.taken out.new) (encoded parts.now)) }
-    ensures err { OnErr result (TakesFront (W.taken out.old) (W.taken out.new) (encoded parts.now)) }
+    requires sections { sections.now.items ≡ section_pieces parts.now }
+    requires few { length (encoded_with parts.now codes.now) ≤ limit }
+    ensures ok { OnOk result
+        (Appends (W.taken out.old) (W.taken out.new) (encoded_with parts.now codes.now)) }
+    ensures err { OnErr result
+        (TakesFront (W.taken out.old) (W.taken out.new) (encoded_with parts.now codes.now)) }
     ensures failures { W.failed out.new ≡ failures_after (W.failed out.old) result }
 {
     put_all(out, &HEADER)?;
     for id in 0..=section_id::LAST {
-        put_place(out, parts, pieces, id)?;
+        put_place(out, parts, sections, codes, id)?;
     }
     Ok(())
 }

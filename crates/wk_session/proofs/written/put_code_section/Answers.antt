@@ -1,68 +1,49 @@
-use Rattle.std.proofs.Common.{◌≡◌, ◌==◌, ◌∷◌, ◌++◌, ◌+◌, ℕ, List, false, length, ap, ◌∙◌, sym, subst, arith}
-use Rattle.std.specs.Prelude.{OnErr, OnOk}
+use Rattle.std.proofs.Common.{◌≡◌, ◌≢◌, ◌∷◌, ◌++◌, ◌+◌, ℕ, length, ap, refl, ◌∙◌, sym, arith}
 use Rattle.std.specs.List.{flat_map}
-use Rattle.std.specs.Io.KnownBytes.{Appends}
 use Rattle.wk_bytes.specs.Short.{short}
-use Rattle.wk_bytes.specs.Taken.{TakesFront}
 use Rattle.wk_module.specs.Formats.{written_bytes}
 use Rattle.wk_session.specs.Pieces.{code_section}
-use Rattle.wk_session.proofs.Putting.{fails_first, fails_between, fails_last, takes_last, code_section_is}
+use Rattle.wk_session.proofs.Putting.{code_section_is, contents_within, entries_within, fails_first, fails_later, takes_both}
 use Rattle.wk_session.proofs.written.put_code_section.Given.{Over}
 use Rattle.wk_session.proofs.written.put_code_section.Goals as goal
-use Rattle.wk_session.proofs.written.put_code_section.Goals.{After-leb_len_u32}
+use Rattle.wk_session.proofs.written.put_code_section.Goals.{After-len}
 
-is : (g : Over) (c : After-leb_len_u32 g) → code_section c.args.codes.now.items ≡ (10 ∷ short (c.leb_len_u32.result + c.args.codes_len)) ++ (short c.len-count.result ++ flat_map written_bytes c.args.codes.now.items)
+pub overflow_cast-count : goal.overflow_cast-count
+overflow_cast-count g c = omega (arith, entries_within c.args.codes.now, c.requires.few, c.count-count.ensures)
+
+pub overflow_add-size : goal.overflow_add-size
+overflow_add-size g c =
+    let some : length c.args.codes.now ≢ 0 = λ none. absurd (omega (arith, none, c.count-count.ensures)) in
+    let long = ap (λ (n : ℕ). length (short n)) c.count-count.ensures in
+    omega (arith, contents_within c.args.codes.now some, c.requires.few, c.leb_len_u32.ensures, c.len.ensures, long)
+
+pub put_codes-requires-clause-few : goal.put_codes-requires-clause-few
+put_codes-requires-clause-few g c = omega (arith, entries_within c.args.codes.now, c.requires.few)
+
+is : (g : Over) (c : After-len g)
+    → code_section c.args.codes.now ≡ (10 ∷ short (c.leb_len_u32.result + c.len.result)) ++ (short c.count-count.result ++ flat_map written_bytes c.args.codes.now)
 is g c =
-    let codes = c.args.codes.now.items in
-    let size = c.leb_len_u32.result + c.args.codes_len in
-    let count : c.len-count.result ≡ length codes = c.len-count.ensures ∙ c.args.codes.now.ok.0 in
-    let some : (length codes == 0) ≡ false = sym (ap (λ (n : ℕ). n == 0) c.args.codes.now.ok.0) ∙ sym c.if-is_empty.ensures in
-    code_section_is codes size some (omega (arith, c.leb_len_u32.ensures, c.requires.len, ap (λ (n : ℕ). length (short n)) count))
+    let codes = c.args.codes.now in
+    let size = c.leb_len_u32.result + c.len.result in
+    let count : c.count-count.result ≡ length codes = c.count-count.ensures in
+    let long = ap (λ (n : ℕ). length (short n)) count in
+    code_section_is codes size (λ none. absurd (omega (arith, none, count))) (omega (arith, c.leb_len_u32.ensures, c.len.ensures, long))
     ∙ ap (λ (n : ℕ). (10 ∷ short size) ++ (short n ++ flat_map written_bytes codes)) (sym count)
 
 pub returns-in_err-put_head-clause-err : goal.returns-in_err-put_head-clause-err
-returns-in_err-put_head-clause-err g c =
-    let r = c.from_residual.result in
-    let a = g.W.Out.taken c.args.out.now in
-    let b = g.W.Out.taken c.put_head.new.out in
-    let codes = c.args.codes.now.items in
-    let size = c.leb_len_u32.result + c.args.codes_len in
-    subst (λ (xs : List ℕ). OnErr r (TakesFront a b xs)) (sym (is g (goal.at.returns-in_err-put_head-clause-err g c).After-leb_len_u32))
-    (fails_first r a b (10 ∷ short size) (short c.len-count.result ++ flat_map written_bytes codes) c.in_err-put_head.ensures.err)
+returns-in_err-put_head-clause-err g c = fails_first _ _ _ _ _ _ c.in_err-put_head.ensures.err (is g (goal.at.returns-in_err-put_head-clause-err g c).After-len)
 
 pub returns-in_err-out_u32-clause-err : goal.returns-in_err-out_u32-clause-err
 returns-in_err-out_u32-clause-err g c =
-    let r = c.from_residual-in_err-out_u32.result in
-    let a = g.W.Out.taken c.args.out.now in
-    let b = g.W.Out.taken c.put_head.new.out in
-    let d = g.W.Out.taken c.out_u32.new.out in
-    let codes = c.args.codes.now.items in
-    let size = c.leb_len_u32.result + c.args.codes_len in
-    subst (λ (xs : List ℕ). OnErr r (TakesFront a d xs)) (sym (is g (goal.at.returns-in_err-out_u32-clause-err g c).After-leb_len_u32))
-    (fails_between r a b d (10 ∷ short size) (short c.len-count.result) (flat_map written_bytes codes) c.in_ok-put_head.ensures.ok c.in_err-out_u32.ensures.err)
+    let later = fails_first _ _ _ _ _ _ c.in_err-out_u32.ensures.err refl in
+    fails_later _ _ _ _ _ _ _ c.in_ok-put_head.ensures.ok later (is g (goal.at.returns-in_err-out_u32-clause-err g c).After-len)
 
 pub returns-clause-ok : goal.returns-clause-ok
 returns-clause-ok g c =
-    let r = c.put_codes.result in
-    let a = g.W.Out.taken c.args.out.now in
-    let b = g.W.Out.taken c.put_head.new.out in
-    let d = g.W.Out.taken c.out_u32.new.out in
-    let e = g.W.Out.taken c.put_codes.new.out in
-    let codes = c.args.codes.now.items in
-    let size = c.leb_len_u32.result + c.args.codes_len in
-    subst (λ (xs : List ℕ). OnOk r (Appends a e xs)) (sym (is g (goal.at.returns-clause-ok g c).After-leb_len_u32))
-    (takes_last r a b e (10 ∷ short size) (short c.len-count.result ++ flat_map written_bytes codes) c.in_ok-put_head.ensures.ok
-    (takes_last r b d e (short c.len-count.result) (flat_map written_bytes codes) c.in_ok-out_u32.ensures.ok c.put_codes.ensures.ok))
+    let later = takes_both _ _ _ _ _ _ _ c.in_ok-out_u32.ensures.ok c.put_codes.ensures.ok refl in
+    takes_both _ _ _ _ _ _ _ c.in_ok-put_head.ensures.ok later (is g (goal.at.returns-clause-ok g c).After-len)
 
 pub returns-clause-err : goal.returns-clause-err
 returns-clause-err g c =
-    let r = c.put_codes.result in
-    let a = g.W.Out.taken c.args.out.now in
-    let b = g.W.Out.taken c.put_head.new.out in
-    let d = g.W.Out.taken c.out_u32.new.out in
-    let e = g.W.Out.taken c.put_codes.new.out in
-    let codes = c.args.codes.now.items in
-    let size = c.leb_len_u32.result + c.args.codes_len in
-    subst (λ (xs : List ℕ). OnErr r (TakesFront a e xs)) (sym (is g (goal.at.returns-clause-err g c).After-leb_len_u32))
-    (fails_last r a b e (10 ∷ short size) (short c.len-count.result ++ flat_map written_bytes codes) c.in_ok-put_head.ensures.ok
-    (fails_last r b d e (short c.len-count.result) (flat_map written_bytes codes) c.in_ok-out_u32.ensures.ok c.put_codes.ensures.err))
+    let later = fails_later _ _ _ _ _ _ _ c.in_ok-out_u32.ensures.ok c.put_codes.ensures.err refl in
+    fails_later _ _ _ _ _ _ _ c.in_ok-put_head.ensures.ok later (is g (goal.at.returns-clause-err g c).After-len)

@@ -1,11 +1,8 @@
-use Rattle.std.proofs.Common.{◌≡◌, suc, ◌<◌, ◌++◌, ℕ, List, length, take, drop, sym, ap, subst, ◌∙◌, arith, slice_index_or, length-append}
-use Rattle.std.proofs.lemmas.Bool.{eq-eqb}
-use Rattle.std.specs.Prelude.{OnErr}
-use Rattle.wk_bytes.specs.Taken.{TakesFront}
+use Rattle.std.proofs.Common.{◌≡◌, suc, ◌<◌, ◌++◌, List, length, take, drop, ap, ◌∙◌, arith, slice_index_or, refl, length-append}
 use Rattle.wk_module.specs.declared.types.Custom.{Custom}
 use Rattle.wk_module.specs.Writing.{customs_at}
 use Rattle.wk_module.specs.WritingLaws.{written_frame}
-use Rattle.wk_session.proofs.Putting.{fails_between, custom_split}
+use Rattle.wk_session.proofs.Putting.{custom_split, fails_first, fails_later}
 use Rattle.wk_session.proofs.written.put_customs_at.Given.{Over}
 use Rattle.wk_session.proofs.written.put_customs_at.Goals as goal
 use Rattle.wk_session.proofs.written.put_customs_at.Goals.{Then-custom-place}
@@ -30,12 +27,6 @@ put_custom-requires-clause-few g c =
 
 pub returns-in_err-put_custom-clause-err : goal.returns-in_err-put_custom-clause-err
 returns-in_err-put_custom-clause-err g c =
-    let place = c.args.place in
-    let customs = c.args.customs.now in
-    let i = c.loop-custom.custom-index in
-    let r = c.from_residual.result in
-    let a = g.W.Out.taken c.args.out.now in
-    let b = g.W.Out.taken c.loop-custom.out in
-    let d = g.W.Out.taken c.put_custom.new.out in
-    subst (λ (xs : List ℕ). OnErr r (TakesFront a d xs)) (sym (split g (goal.at.returns-in_err-put_custom-clause-err g c).Then-custom-place))
-    (fails_between r a b d (customs_at place (take i customs)) (written_frame c.custom-item.result) (customs_at place (drop (suc i) customs)) c.loop-custom.invariant.taken c.in_err-put_custom.ensures.err)
+    let later = fails_first _ _ _ _ _ _ c.in_err-put_custom.ensures.err refl in
+    let so_far = customs_at c.args.place (take c.loop-custom.custom-index c.args.customs.now) in
+    fails_later _ _ _ _ so_far _ _ c.loop-custom.invariant.taken later (split g (goal.at.returns-in_err-put_custom-clause-err g c).Then-custom-place)

@@ -1,10 +1,8 @@
-use Rattle.std.proofs.Common.{◌≡◌, ◌∷◌, ◌++◌, ◌∙◌, List, Bool, ℕ, [], if◌then◌else◌, length, sym, ap, subst}
-use Rattle.std.specs.Prelude.{OnErr}
+use Rattle.std.proofs.Common.{◌≡◌, ◌∷◌, ◌++◌, ◌∙◌, Bool, ℕ, [], if◌then◌else◌, sym, ap}
 use Rattle.wk_bytes.specs.Short.{short}
-use Rattle.wk_bytes.specs.Taken.{TakesFront}
 use Rattle.wk_module.specs.Writing.{framed}
 use Rattle.wk_session.specs.Pieces.{framed_some}
-use Rattle.wk_session.proofs.Putting.{fails_first, fails_last}
+use Rattle.wk_session.proofs.Putting.{fails_first, fails_later}
 use Rattle.wk_session.proofs.written.put_section.Given.{Over}
 use Rattle.wk_session.proofs.written.put_section.Goals as goal
 use Rattle.wk_session.proofs.written.put_section.Goals.{After-len}
@@ -15,19 +13,8 @@ is g c =
     ∙ ap (λ (n : ℕ). (c.args.id ∷ short n) ++ c.args.contents.now) (sym c.len.ensures)
 
 pub returns-in_err-put_head-clause-err : goal.returns-in_err-put_head-clause-err
-returns-in_err-put_head-clause-err g c =
-    let r = c.from_residual.result in
-    let a = g.W.Out.taken c.args.out.now in
-    let b = g.W.Out.taken c.put_head.new.out in
-    let bytes = c.args.contents.now in
-    subst (λ (xs : List ℕ). OnErr r (TakesFront a b xs)) (sym (is g (goal.at.returns-in_err-put_head-clause-err g c).After-len)) (fails_first r a b (c.args.id ∷ short c.len.result) bytes c.in_err-put_head.ensures.err)
+returns-in_err-put_head-clause-err g c = fails_first _ _ _ _ _ _ c.in_err-put_head.ensures.err (is g (goal.at.returns-in_err-put_head-clause-err g c).After-len)
 
 pub returns-clause-err : goal.returns-clause-err
 returns-clause-err g c =
-    let r = c.put_all.result in
-    let a = g.W.Out.taken c.args.out.now in
-    let b = g.W.Out.taken c.put_head.new.out in
-    let d = g.W.Out.taken c.put_all.new.out in
-    let bytes = c.args.contents.now in
-    let failed = subst (λ (xs : List ℕ). OnErr r (TakesFront b d xs)) c.as_slice.ensures c.put_all.ensures.err in
-    subst (λ (xs : List ℕ). OnErr r (TakesFront a d xs)) (sym (is g (goal.at.returns-clause-err g c).After-len)) (fails_last r a b d (c.args.id ∷ short c.len.result) bytes c.in_ok-put_head.ensures.ok failed)
+    fails_later _ _ _ _ _ _ _ c.in_ok-put_head.ensures.ok (rw c.as_slice.ensures at c.put_all.ensures.err) (is g (goal.at.returns-clause-err g c).After-len)
