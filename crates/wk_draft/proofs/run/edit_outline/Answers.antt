@@ -3,7 +3,7 @@ use Rattle.wk_module.specs.declared.types.Parts.{Parts}
 use Rattle.wk_module.specs.Reading.{module_at}
 use Rattle.wk_check.specs.declared.fault.Verdict.TheVariants.{Valid}
 use Rattle.wk_check.specs.Verdict.{module_verdict}
-use Rattle.wk_draft.proofs.Running.{opened_by}
+use Rattle.wk_draft.proofs.Running.{codes_by, opened_by}
 use Rattle.wk_draft.proofs.run.edit_outline.Goals as goal
 
 pub edit_outlined-requires : goal.edit_outlined-requires
@@ -27,3 +27,13 @@ returns-in-Some c = λ m at.
 
 pub returns-in-None : goal.returns-in-None
 returns-in-None c = λ m at. (sym c.in-Valid.is ∙ c.in-Ok.ensures.exact m at, tt)
+
+pub returns-then-would_break : goal.returns-then-would_break
+returns-then-would_break c = λ m at.
+    let codes = codes_by (module_at c.args.profile c.args.input.now) c.args.outline.module c.args.outline.codes.items (c.requires.0, c.requires.1, c.requires.2, c.requires.3) m at in
+    c.unmade.ensures c.args.keep m c.args.edits.now tt codes
+
+pub returns-in_default : goal.returns-in_default
+returns-in_default c = λ m at.
+    let codes = codes_by (module_at c.args.profile c.args.input.now) c.args.outline.module c.args.outline.codes.items (c.requires.0, c.requires.1, c.requires.2, c.requires.3) m at in
+    c.unmade-in_default.ensures c.args.keep m c.args.edits.now (c.in-Ok.ensures.exact m at) codes
