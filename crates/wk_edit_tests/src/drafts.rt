@@ -196,9 +196,13 @@ fn is_left(alloc: Global, module: Module, script: &[u8], is_judged: bool) -> boo
     match left(alloc, module, script) {
         Some(Drafted::Unmade {
             verdict: Some(verdict),
-            ..
+            codes: Some(_),
         }) => is_judged && judge_bytes(alloc, module.0, module.1) == Ok(verdict),
-        Some(Drafted::Unmade { verdict: None, .. }) => !is_judged,
+        Some(Drafted::Unmade {
+            verdict: None,
+            codes: Some(_),
+        }) => !is_judged,
+        Some(Drafted::Unmade { .. }) => false,
         Some(Drafted::Made(_)) => false,
         None => false,
     }

@@ -9,7 +9,7 @@ use wk_list::Part;
 use wk_module::Profile::{Core, Extended};
 
 /// Calls of sessions.
-pub(crate) static SESSIONS: [Named; 48] = [
+pub(crate) static SESSIONS: [Named; 50] = [
     ("open-types", Open(OF_TYPES)),
     ("open-valid", Open(OF_VALID)),
     ("open-moving", Open(OF_MOVING)),

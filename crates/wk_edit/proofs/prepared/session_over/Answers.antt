@@ -1,8 +1,7 @@
-use Rattle.std.proofs.Common.{◌≡◌, Option, subst}
-use Rattle.std.specs.Prelude.{IfSome}
-use Rattle.wk_check.specs.declared.fault.Verdict.{Verdict}
-use Rattle.wk_check.specs.Verdict.{module_verdict}
 use Rattle.wk_edit.proofs.prepared.session_over.Goals as goal
 
 pub open_judged-requires : goal.open_judged-requires
-open_judged-requires c = λ m at. subst (λ (known : Option Verdict). IfSome known (λ v. v ≡ module_verdict m)) c.in-Some.is (c.requires m at)
+open_judged-requires c = λ m at. rw c.in-None-Some.is-1 at (c.requires.judged m at)
+
+pub open_outlined-requires-clause-codes : goal.open_outlined-requires-clause-codes
+open_outlined-requires-clause-codes c = λ m at. rw c.in-Some-default.is-0 at (c.requires.codes m at)
