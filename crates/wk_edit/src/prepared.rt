@@ -224,9 +224,7 @@ fn session_over(
     ensures { Reads (λ m. m) result (module_at profile input.now) }
 {
     match (codes, verdict) {
-        (Some(codes), verdict) => {
-            Session::open_outlined(alloc, input, profile, verdict, codes)
-        }
+        (Some(codes), verdict) => { Session::open_outlined(alloc, input, profile, verdict, codes) }
         (None, Some(verdict)) => Session::open_judged(alloc, input, profile, verdict),
         (None, None) => Session::open_in(alloc, input, profile),
     }

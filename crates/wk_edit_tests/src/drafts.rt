@@ -194,14 +194,18 @@ fn left(alloc: Global, module: Module, script: &[u8]) -> Option<Drafted> {
 // Whether edits of a module are left to a session, before it is judged or with its verdict.
 fn is_left(alloc: Global, module: Module, script: &[u8], is_judged: bool) -> bool {
     match left(alloc, module, script) {
-        Some(Drafted::Unmade {
-            verdict: Some(verdict),
-            codes: Some(_),
-        }) => is_judged && judge_bytes(alloc, module.0, module.1) == Ok(verdict),
-        Some(Drafted::Unmade {
-            verdict: None,
-            codes: Some(_),
-        }) => !is_judged,
+        Some(
+            Drafted::Unmade {
+                verdict: Some(verdict),
+                codes: Some(_),
+            },
+        ) => is_judged && judge_bytes(alloc, module.0, module.1) == Ok(verdict),
+        Some(
+            Drafted::Unmade {
+                verdict: None,
+                codes: Some(_),
+            },
+        ) => !is_judged,
         Some(Drafted::Unmade { .. }) => false,
         Some(Drafted::Made(_)) => false,
         None => false,

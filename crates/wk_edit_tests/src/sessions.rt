@@ -139,12 +139,7 @@ static OPENED: [Opened; 10] = [
         TWO_RESULTS_OF_FIRST,
     ),
     (Profile::Core, MIXED, MIXED, Verdict::Valid),
-    (
-        Profile::Core,
-        TWO_INVALID,
-        TWO_INVALID,
-        LEFT_BY_SECOND,
-    ),
+    (Profile::Core, TWO_INVALID, TWO_INVALID, LEFT_BY_SECOND),
     (
         Profile::Core,
         b"\0asm\x01\0\0\0\x01\x01\0\0\x02\x01c",

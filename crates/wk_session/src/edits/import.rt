@@ -259,11 +259,41 @@ fn remade_after(
     ensures { MatchResult result (IsRemadeAfter (listed lists.now) moved.now) (IsUnwritten (listed lists.now)) }
 {
     let mut news = one_remade(alloc, lists, section_id::IMPORT)?;
-    remake_where(alloc, lists, section_id::GLOBAL, moved.globals.is_some(), &mut news)?;
-    remake_where(alloc, lists, section_id::EXPORT, moved.exports.is_some(), &mut news)?;
-    remake_where(alloc, lists, section_id::START, moved.start.is_some(), &mut news)?;
-    remake_where(alloc, lists, section_id::ELEMENT, moved.elems.is_some(), &mut news)?;
-    remake_where(alloc, lists, section_id::DATA, moved.datas.is_some(), &mut news)?;
+    remake_where(
+        alloc,
+        lists,
+        section_id::GLOBAL,
+        moved.globals.is_some(),
+        &mut news,
+    )?;
+    remake_where(
+        alloc,
+        lists,
+        section_id::EXPORT,
+        moved.exports.is_some(),
+        &mut news,
+    )?;
+    remake_where(
+        alloc,
+        lists,
+        section_id::START,
+        moved.start.is_some(),
+        &mut news,
+    )?;
+    remake_where(
+        alloc,
+        lists,
+        section_id::ELEMENT,
+        moved.elems.is_some(),
+        &mut news,
+    )?;
+    remake_where(
+        alloc,
+        lists,
+        section_id::DATA,
+        moved.datas.is_some(),
+        &mut news,
+    )?;
     Ok(news)
 }
 

@@ -36,15 +36,15 @@ loop-i-preserved g c =
       verdicts = pushed (func_verdict (g.E.Env.answers c.args.env.now)) fs i f c.loop-i.verdicts.items c.push-in-loop-i.new.self.items c.in_ok-verdict.verdict within at so_far.verdicts c.in_ok-push-2.ensures.items c.in_ok-verdict.ensures.verdict;
       refs = pushed uses_of fs i f (map keys c.loop-i.refs.items) (map keys c.push-in-loop-i-2.new.self.items) c.in_ok-found.found.keys within at so_far.refs more (c.in_ok-found.ensures f (λ j. f.ty) (λ j. f.body));
       codes = elim c.if-not-is_written.branch [
-        then-not-is_written+in_ok-code_in_room+in_ok-push w ↦
-          (let no = w.if-not-is_written.true in
-          let before : c.loop-i.codes.items ≡ map code_of (take i fs) = rw no at so_far.codes in
-          rw (no, w.codes-is) (pushed code_of fs i f c.loop-i.codes.items w.push.new.self.items w.in_ok-code_in_room.field-0 within at before w.in_ok-push.ensures.items w.in_ok-code_in_room.ensures.code))
-      | else-not-is_written w ↦ (let yes = w.if-not-is_written.false in rw (yes, w.codes-is) (rw yes at so_far.codes))
+        | then-not-is_written+in_ok-code_in_room+in_ok-push w ↦
+            (let no = w.if-not-is_written.true in
+            let before : c.loop-i.codes.items ≡ map code_of (take i fs) = rw no at so_far.codes in
+            rw (no, w.codes-is) (pushed code_of fs i f c.loop-i.codes.items w.push.new.self.items w.in_ok-code_in_room.field-0 within at before w.in_ok-push.ensures.items w.in_ok-code_in_room.ensures.code))
+        | else-not-is_written w ↦ (let yes = w.if-not-is_written.false in rw (yes, w.codes-is) (rw yes at so_far.codes))
       ];
       typed = omega (arith, c.in_ok-verdict.ensures.typed, so_far.typed);
       encoded = elim c.if-not-is_written.branch [
-        then-not-is_written+in_ok-code_in_room+in_ok-push w ↦ omega (arith, w.encoded-is, w.in_ok-code_in_room.ensures.made, so_far.encoded)
-      | else-not-is_written w ↦ omega (arith, w.encoded-is, so_far.encoded)
+        | then-not-is_written+in_ok-code_in_room+in_ok-push w ↦ omega (arith, w.encoded-is, w.in_ok-code_in_room.ensures.made, so_far.encoded)
+        | else-not-is_written w ↦ omega (arith, w.encoded-is, so_far.encoded)
       ];
     }
