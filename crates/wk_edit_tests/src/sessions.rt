@@ -49,19 +49,6 @@ fn open_outlined(alloc: Global, profile: Profile, bytes: &[u8]) -> Result<Sessio
     Session::open_outlined(alloc, bytes, profile, None, codes)
 }
 
-// The same with both.
-fn open_known(alloc: Global, profile: Profile, bytes: &[u8]) -> Result<Session, ReadFault> {
-    let Outline { module, codes } = read_outline(alloc, bytes, profile)?;
-    drop(module);
-    match judge_bytes(alloc, bytes, profile) {
-        Ok(verdict) => Session::open_outlined(alloc, bytes, profile, Some(verdict), codes),
-        Err(fault) => {
-            drop(codes);
-            Err(fault)
-        }
-    }
-}
-
 // Whether a module is opened with this verdict, and written as these bytes, whether it is judged or its verdict is known, and with codes that
 // are at hand.
 fn opens_as(alloc: Global, profile: Profile, bytes: &[u8], whole: &[u8], verdict: Verdict) -> bool {
@@ -74,13 +61,9 @@ fn opens_as(alloc: Global, profile: Profile, bytes: &[u8], whole: &[u8], verdict
     let Ok(outlined) = open_outlined(alloc, profile, bytes) else {
         return false;
     };
-    let Ok(known) = open_known(alloc, profile, bytes) else {
-        return false;
-    };
     says(alloc, &session, whole, verdict)
         && says(alloc, &judged, whole, verdict)
         && says(alloc, &outlined, whole, verdict)
-        && says(alloc, &known, whole, verdict)
 }
 
 // Whether a session over the module that was read says the same.
