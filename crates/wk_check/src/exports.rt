@@ -13,7 +13,7 @@ use crate::whole::Whole;
 use std::alloc::Global;
 use std::collections::BTreeSet;
 use wk_bytes::{OutOfMemory, Text};
-use wk_module::{Export, Kind, Lists, import_count};
+use wk_module::{Export, Kind, Lists, import_count, section_id};
 
 // What is wrong with the index of an export.
 fn flaw_of_index(whole: &Whole<'_>, kind: Kind, index: u32) -> Option<Flaw>
@@ -99,10 +99,13 @@ pub(crate) fn exports_fault(
     let mut names: BTreeSet<&str> = BTreeSet::new(alloc);
     for (index, export) in exports.iter().enumerate() {
         if let Some(flaw) = flaw_of_index(whole, export.kind, export.index) {
-            return Ok(Some(flaw.at(7, index as u32)));
+            return Ok(Some(flaw.at(section_id::EXPORT, index as u32)));
         }
         if !names.insert(export.name.as_str())? {
-            return Ok(Some(Flaw::of(FaultKind::DuplicateExport).at(7, index as u32)));
+            return Ok(Some(Flaw::of(FaultKind::DuplicateExport).at(
+                section_id::EXPORT,
+                index as u32,
+            )));
         }
     }
     Ok(None)

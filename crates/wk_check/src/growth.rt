@@ -118,10 +118,10 @@ fn verdict_beside(lists: &Lists<'_>, desc: &ImportDesc) -> Verdict
 {
     match desc {
         ImportDesc::Table(_) if !lists.tables.is_empty() => {
-            Verdict::Invalid(Flaw::of(FaultKind::TooManyTables).at(4, 0))
+            Verdict::Invalid(Flaw::of(FaultKind::TooManyTables).at(section_id::TABLE, 0))
         }
         ImportDesc::Memory(_) if !lists.memories.is_empty() => {
-            Verdict::Invalid(Flaw::of(FaultKind::TooManyMemories).at(5, 0))
+            Verdict::Invalid(Flaw::of(FaultKind::TooManyMemories).at(section_id::MEMORY, 0))
         }
         _ => Verdict::Valid,
     }
@@ -137,7 +137,7 @@ pub fn verdict_with_import(lists: &Lists<'_>, import: &Import) -> Verdict
         result ≡ module_verdict (with_import import.now (moved_parts kind (import_count kind m.imports) m))) }
 {
     match flaw_of_next_import(lists, &import.desc) {
-        Some(flaw) => Verdict::Invalid(flaw.at(2, lists.imports.len() as u32)),
+        Some(flaw) => Verdict::Invalid(flaw.at(section_id::IMPORT, lists.imports.len() as u32)),
         None => verdict_beside(lists, &import.desc),
     }
 }

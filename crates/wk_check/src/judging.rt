@@ -90,7 +90,7 @@ fn fault_of_uses(
     }
     if let Some(start) = lists.start {
         if let Some(flaw) = flaw_of_start(whole, start) {
-            return Ok(Some(flaw.at(8, 0)));
+            return Ok(Some(flaw.at(section_id::START, 0)));
         }
     }
     first_fault(&ElemRule { whole }, section_id::ELEMENT, lists.elems, room)

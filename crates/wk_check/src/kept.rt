@@ -11,7 +11,7 @@ ghost use Rattle.wk_check.specs.Typing.{body_verdict};
 
 use crate::env::Env;
 use crate::fault::{BodyVerdict, Fault};
-use wk_module::{Body, Moving};
+use wk_module::{Body, Moving, section_id};
 
 /// The verdict of a body whose references find what they found, under types that are found to be the same: the verdict that it
 /// had, with its kind and token. `own_types` are the indexes of the type before and now. It takes no memory.
@@ -56,7 +56,7 @@ pub fn first_code_fault(verdicts: &[BodyVerdict]) -> Option<Fault>
 {
     for (index, verdict) in verdicts.iter().enumerate() {
         if let Some(flaw) = verdict.flaw() {
-            return Some(flaw.at(10, index as u32));
+            return Some(flaw.at(section_id::CODE, index as u32));
         }
     }
     None

@@ -16,7 +16,7 @@ use crate::whole::{Initial, Whole};
 use wk_bytes::OutOfMemory;
 use wk_module::{
     DataSeg, Elem, Func, FuncType, GlobalDef, Import, ImportDesc, Kind, Limits, Lists, Profile,
-    Ref, ValType, import_count,
+    Ref, ValType, import_count, section_id,
 };
 
 /// The most pages that a memory may have, 4 GiB in all.
@@ -311,7 +311,7 @@ pub(crate) fn imports_fault(types: &[FuncType], imports: &[Import]) -> Option<Fa
     let mut memories: usize = 0;
     for (index, import) in imports.iter().enumerate() {
         if let Some(flaw) = flaw_of_import(types.len(), tables, memories, &import.desc) {
-            return Some(flaw.at(2, index as u32));
+            return Some(flaw.at(section_id::IMPORT, index as u32));
         }
         match import.desc {
             ImportDesc::Func(_) => {}

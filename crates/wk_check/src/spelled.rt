@@ -25,7 +25,9 @@ use crate::typing::Room;
 use crate::whole::Whole;
 use std::alloc::Global;
 use wk_bytes::{Cursor, OutOfMemory, RawSection, ReadFault, ReadKind};
-use wk_module::{CodeReader, Func, Lists, Profile, Scratch, SectionReader, reading_of_module};
+use wk_module::{
+    CodeReader, Func, Lists, Profile, Scratch, SectionReader, reading_of_module, section_id,
+};
 
 // A function whose code is still to be read.
 #[derive(Drop)]
@@ -69,7 +71,7 @@ fn fault_behind(
         return Ok(fault);
     }
     match rule.flaw(index as usize, func, room)? {
-        Some(flaw) => Ok(Some(flaw.at(10, index))),
+        Some(flaw) => Ok(Some(flaw.at(section_id::CODE, index))),
         None => Ok(None),
     }
 }
