@@ -1,4 +1,4 @@
--- The machine over tokens that come one after the other, and the tree that they spell: where the machine finds no fault, the
+-- The algorithm over tokens that come one after the other, and the tree that they spell: where the algorithm finds no fault, the
 -- tree is typed without one.
 use Rattle.std.proofs.Common.{◌≡◌, ℕ, ◌+◌, Bool, true, false, List, [], ◌∷◌, Option, Some, Ok, refl, sym, subst}
 use Rattle.wk_bytes.specs.Leb.{◌>>=◌}
@@ -13,13 +13,13 @@ use Rattle.wk_body.specs.Instructions.{Plain}
 use Rattle.wk_body.specs.Reading.{after}
 use Rattle.wk_body.specs.TokenReading.{MayStand}
 use Rattle.wk_check.specs.declared.fault.FaultKind.{FaultKind}
-use Rattle.wk_check.specs.declared.machine.Opener.{Opener}
-use Rattle.wk_check.specs.declared.machine.Opener.TheVariants as openers
+use Rattle.wk_check.specs.declared.stacks.FrameKind.{FrameKind}
+use Rattle.wk_check.specs.declared.stacks.FrameKind.TheVariants as frames
 use Rattle.wk_check.specs.Answers.{Found}
 use Rattle.wk_check.specs.Own.{Own, pushed, fresh, ended}
 use Rattle.wk_check.specs.Effects.{results_of, effect_of}
 use Rattle.wk_check.specs.Typing.{after_effect, is_finish, else_count, count, entered, begun, label_types, typed, code_result}
-use Rattle.wk_check.specs.Levels.{Level, Blocks, blocks, with_own, with_top, opened, opener_of, labels_of, entering, halved, left, closed, step}
+use Rattle.wk_check.specs.Levels.{Level, Blocks, blocks, with_own, with_top, opened, frame_of, labels_of, enter_block, end_then, end_inner, end_block, step}
 use Rattle.wk_check.specs.Moves.{body_of}
 
 module _ (A : Ref → Found) (locals : ℕ → Option ValType) (final : List ValType) where
@@ -57,8 +57,8 @@ module _ (A : Ref → Found) (locals : ℕ → Option ValType) (final : List Val
       (s : Own) × Leads (results_of A bt ∷ labels) is (begun A bt) s × (ended (results_of A bt) s ≡ Ok tt)
 
   -- what stands behind the else of a block that so began: only an if has one
-  abbrev pub Second : List (List ValType) → Opener → BlockType → Instrs → Type 0
-  Second labels openers.If bt other = IsBranch labels bt other
+  abbrev pub Second : List (List ValType) → FrameKind → BlockType → Instrs → Type 0
+  Second labels frames.If bt other = IsBranch labels bt other
   Second labels _ bt other = Unit {0}
 
   -- what is left to do in the open blocks, the innermost first, has no fault
@@ -69,11 +69,11 @@ module _ (A : Ref → Found) (locals : ℕ → Option ValType) (final : List Val
   Completes (x ∷ []) l (m ∷ ls) = ⊥
   Completes (x ∷ y ∷ ys) l [] = ⊥
   Completes (x ∷ y ∷ ys) l (m ∷ ls) =
-      (s : Own) × Leads (labels_of A (blocks l (m ∷ ls))) x.rest l.own s × (ended (results_of A l.block) s ≡ Ok tt) × Second (labels_of A (blocks m ls)) l.opener l.block x.other × Completes (y ∷ ys) (with_own m (pushed (results_of A l.block) m.own)) ls
+      (s : Own) × Leads (labels_of A (blocks l (m ∷ ls))) x.rest l.own s × (ended (results_of A l.block) s ≡ Ok tt) × Second (labels_of A (blocks m ls)) l.kind l.block x.other × Completes (y ∷ ys) (with_own m (pushed (results_of A l.block) m.own)) ls
 
   -- as many blocks are open for the reader as stand in the outermost one, which is the body
   abbrev pub Matches : List Bool → Level → List Level → Type 0
-  Matches [] l [] = l.opener ≡ openers.Body
+  Matches [] l [] = l.kind ≡ frames.Body
   Matches [] l (m ∷ ls) = ⊥
   Matches (k ∷ ks) l [] = ⊥
   Matches (k ∷ ks) l (m ∷ ls) = Matches ks m ls
@@ -87,41 +87,42 @@ module _ (A : Ref → Found) (locals : ℕ → Option ValType) (final : List Val
   matches_own (k ∷ ks) l [] s h = h
   matches_own (k ∷ ks) l (m ∷ ls) s h = h
 
-  -- the machine leaves a block: those around it stay the reader's
-  matches_left : (ks : List Bool) (l m : Level) (ls : List Level) (new : Blocks) → left A l (m ∷ ls) ≡ Ok new → Matches ks m ls → Matches ks new.inner new.outer
-  matches_left ks l m ls new e h =
+  -- the algorithm leaves a block: those around it stay the reader's
+  matches_inner : (ks : List Bool) (l m : Level) (ls : List Level) (new : Blocks)
+      → end_inner A l (m ∷ ls) ≡ Ok new → Matches ks m ls → Matches ks new.inner new.outer
+  matches_inner ks l m ls new e h =
       let a = bind_ok (ended (results_of A l.block) l.own) (λ u. Ok (blocks (with_own m (pushed (results_of A l.block) m.own)) ls)) new e in
       let is = ok_is {E = FaultKind} _ _ a.2 in
       subst (λ (b : Blocks). Matches ks b.inner b.outer) is (matches_own ks m ls _ h)
 
-  -- the machine goes from a branch to the next one: the block stays open for both
-  matches_halved : (k : Bool) (ks : List Bool) (l m : Level) (ls : List Level) (new : Blocks) → halved A (blocks l (m ∷ ls)) ≡ Ok new → Matches ks m ls → Matches (k ∷ ks) new.inner new.outer
-  matches_halved k ks l m ls new e h =
-      let a = bind_ok (ended (results_of A l.block) l.own) (λ u. Ok (blocks (opened A openers.Else l.block) (m ∷ ls))) new e in
+  -- the algorithm goes from a branch to the next one: the block stays open for both
+  matches_then : (k : Bool) (ks : List Bool) (l m : Level) (ls : List Level) (new : Blocks) → end_then A (blocks l (m ∷ ls)) ≡ Ok new → Matches ks m ls → Matches (k ∷ ks) new.inner new.outer
+  matches_then k ks l m ls new e h =
+      let a = bind_ok (ended (results_of A l.block) l.own) (λ u. Ok (blocks (opened A frames.Else l.block) (m ∷ ls))) new e in
       let is = ok_is {E = FaultKind} _ _ a.2 in
       subst (λ (b : Blocks). Matches (k ∷ ks) b.inner b.outer) is h
 
   -- a new block is open for both
-  matches_entering : (k : Bool) (ks : List Bool) (test : Bool) (o : Opener) (bt : BlockType) (b new : Blocks) → entering A test o bt b ≡ Ok new → Matches ks b.inner b.outer → Matches (k ∷ ks) new.inner new.outer
-  matches_entering k ks test o bt b new e h =
+  matches_enter : (k : Bool) (ks : List Bool) (test : Bool) (o : FrameKind) (bt : BlockType) (b new : Blocks) → enter_block A test o bt b ≡ Ok new → Matches ks b.inner b.outer → Matches (k ∷ ks) new.inner new.outer
+  matches_enter k ks test o bt b new e h =
       let a = bind_ok (entered A test bt b.inner.own) (λ s. Ok (blocks (opened A o bt) (with_own b.inner s ∷ b.outer))) new e in
       let is = ok_is {E = FaultKind} _ _ a.2 in
       subst (λ (c : Blocks). Matches (k ∷ ks) c.inner c.outer) is (matches_own ks b.inner b.outer a.0 h)
 
   -- a block is closed for both
-  matches_closed : (o : Opener) (ks : List Bool) (l m : Level) (ls : List Level) (new : Blocks) → closed A o (blocks l (m ∷ ls)) ≡ Ok new → Matches ks m ls → Matches ks new.inner new.outer
-  matches_closed openers.Body ks l m ls new e h = matches_left ks l m ls new e h
-  matches_closed openers.Block ks l m ls new e h = matches_left ks l m ls new e h
-  matches_closed openers.Loop ks l m ls new e h = matches_left ks l m ls new e h
-  matches_closed openers.Else ks l m ls new e h = matches_left ks l m ls new e h
-  matches_closed openers.If ks l m ls new e h =
-      let a = bind_ok (halved A (blocks l (m ∷ ls))) (λ b. left A b.inner b.outer) new e in
-      let c = bind_ok (ended (results_of A l.block) l.own) (λ u. Ok (blocks (opened A openers.Else l.block) (m ∷ ls))) a.0 a.1 in
+  matches_end : (o : FrameKind) (ks : List Bool) (l m : Level) (ls : List Level) (new : Blocks) → end_block A o (blocks l (m ∷ ls)) ≡ Ok new → Matches ks m ls → Matches ks new.inner new.outer
+  matches_end frames.Body ks l m ls new e h = matches_inner ks l m ls new e h
+  matches_end frames.Block ks l m ls new e h = matches_inner ks l m ls new e h
+  matches_end frames.Loop ks l m ls new e h = matches_inner ks l m ls new e h
+  matches_end frames.Else ks l m ls new e h = matches_inner ks l m ls new e h
+  matches_end frames.If ks l m ls new e h =
+      let a = bind_ok (end_then A (blocks l (m ∷ ls))) (λ b. end_inner A b.inner b.outer) new e in
+      let c = bind_ok (ended (results_of A l.block) l.own) (λ u. Ok (blocks (opened A frames.Else l.block) (m ∷ ls))) a.0 a.1 in
       let is = ok_is {E = FaultKind} _ _ c.2 in
-      let e2 : left A (opened A openers.Else l.block) (m ∷ ls) ≡ Ok new = subst (λ (b : Blocks). left A b.inner b.outer ≡ Ok new) (sym is) a.2 in
-      matches_left ks (opened A openers.Else l.block) m ls new e2 h
+      let e2 : end_inner A (opened A frames.Else l.block) (m ∷ ls) ≡ Ok new = subst (λ (b : Blocks). end_inner A b.inner b.outer ≡ Ok new) (sym is) a.2 in
+      matches_inner ks (opened A frames.Else l.block) m ls new e2 h
 
-  -- one token, with the machine's blocks taken apart
+  -- one token, with the algorithm's blocks taken apart
   matches_after : (ks next : List Bool) (t : Tok) (l : Level) (ls : List Level) (new : Blocks) → Matches ks l ls → after t ks ≡ Some next → MayStand t ks → step A locals final t (blocks l ls) ≡ Ok new → Matches next new.inner new.outer
   matches_after ks next (Simple p) l ls new h e may r =
       let a = bind_ok (effect_of A locals final (labels_of A (blocks l ls)) p >>= λ f. after_effect f l.own) (λ s. Ok (with_top s (blocks l ls))) new r in
@@ -129,19 +130,19 @@ module _ (A : Ref → Found) (locals : ℕ → Option ValType) (final : List Val
       let same = subst (λ (b : Blocks). Matches ks b.inner b.outer) is (matches_own ks l ls a.0 h) in
       subst (λ (z : List Bool). Matches z new.inner new.outer) (some_is _ _ e) same
   matches_after ks next (Open kind bt skip) l ls new h e may r =
-      subst (λ (z : List Bool). Matches z new.inner new.outer) (some_is _ _ e) (matches_entering false ks false (opener_of kind) bt (blocks l ls) new r h)
+      subst (λ (z : List Bool). Matches z new.inner new.outer) (some_is _ _ e) (matches_enter false ks false (frame_of kind) bt (blocks l ls) new r h)
   matches_after ks next (OpenIf bt skip) l ls new h e may r =
-      subst (λ (z : List Bool). Matches z new.inner new.outer) (some_is _ _ e) (matches_entering true ks true openers.If bt (blocks l ls) new r h)
+      subst (λ (z : List Bool). Matches z new.inner new.outer) (some_is _ _ e) (matches_enter true ks true frames.If bt (blocks l ls) new r h)
   matches_after [] next (Otherwise skip) l ls new h e may r = absurd may
   matches_after (k ∷ ks) next (Otherwise skip) l [] new h e may r = absurd h
   matches_after (k ∷ ks) next (Otherwise skip) l (m ∷ ls) new h e may r =
-      subst (λ (z : List Bool). Matches z new.inner new.outer) (some_is _ _ e) (matches_halved false ks l m ls new r h)
+      subst (λ (z : List Bool). Matches z new.inner new.outer) (some_is _ _ e) (matches_then false ks l m ls new r h)
   matches_after [] next Close l ls new h e may r = absurd cc
   matches_after (k ∷ ks) next Close l [] new h e may r = absurd h
   matches_after (k ∷ ks) next Close l (m ∷ ls) new h e may r =
-      subst (λ (z : List Bool). Matches z new.inner new.outer) (some_is _ _ e) (matches_closed l.opener ks l m ls new r h)
+      subst (λ (z : List Bool). Matches z new.inner new.outer) (some_is _ _ e) (matches_end l.kind ks l m ls new r h)
 
-  -- a token that the machine goes over keeps the reader's open blocks and the machine's the same
+  -- a token that the algorithm goes over keeps the reader's open blocks and the algorithm's the same
   pub step_matches : (ks next : List Bool) (t : Tok) (b new : Blocks) → Matches ks b.inner b.outer → after t ks ≡ Some next → MayStand t ks → step A locals final t b ≡ Ok new → Matches next new.inner new.outer
   step_matches ks next t b new h e may r = matches_after ks next t b.inner b.outer new h e may r
 
@@ -164,7 +165,7 @@ module _ (A : Ref → Found) (locals : ℕ → Option ValType) (final : List Val
       lead_on x xs l ls a.0 (One p x.rest) (λ t h. (a.0, a.1, h)) d
 
   -- a block in front of those that are left: what is left to do in it, and behind it
-  nested_back : (test : Bool) (o : Opener) (bt : BlockType) (l : Level) (ls : List Level) (new : Blocks) → entering A test o bt (blocks l ls) ≡ Ok new → (xs : List Part) → Completes xs new.inner new.outer → (s : Own) × (entered A test bt l.own ≡ Ok s) × Completes xs (opened A o bt) (with_own l s ∷ ls)
+  nested_back : (test : Bool) (o : FrameKind) (bt : BlockType) (l : Level) (ls : List Level) (new : Blocks) → enter_block A test o bt (blocks l ls) ≡ Ok new → (xs : List Part) → Completes xs new.inner new.outer → (s : Own) × (entered A test bt l.own ≡ Ok s) × Completes xs (opened A o bt) (with_own l s ∷ ls)
   nested_back test o bt l ls new r xs c =
       let a = bind_ok (entered A test bt l.own) (λ s. Ok (blocks (opened A o bt) (with_own l s ∷ ls))) new r in
       let is = ok_is {E = FaultKind} _ _ a.2 in
@@ -173,68 +174,68 @@ module _ (A : Ref → Found) (locals : ℕ → Option ValType) (final : List Val
   -- a block or a loop in front
   block_back : (kind : BlockKind) (bt : BlockType) (skip : ℕ) (l : Level) (ls : List Level) (new : Blocks) → step A locals final (Open kind bt skip) (blocks l ls) ≡ Ok new → (xs : List Part) → Completes xs new.inner new.outer → Completes (before (Open kind bt skip) xs) l ls
   block_back kind bt skip l ls new r [] c = absurd c
-  block_back kind bt skip l ls new r (x ∷ []) c = absurd (nested_back false (opener_of kind) bt l ls new r (x ∷ []) c).2
+  block_back kind bt skip l ls new r (x ∷ []) c = absurd (nested_back false (frame_of kind) bt l ls new r (x ∷ []) c).2
   block_back kinds.Block bt skip l ls new r (x ∷ y ∷ ys) c =
-      let n = nested_back false openers.Block bt l ls new r (x ∷ y ∷ ys) c in
+      let n = nested_back false frames.Block bt l ls new r (x ∷ y ∷ ys) c in
       lead_on y ys l ls (pushed (results_of A bt) n.0) (Block kinds.Block bt x.rest y.rest) (λ t h. (n.0, n.2.0, n.1, n.2.1, n.2.2, h)) n.2.4
   block_back kinds.Loop bt skip l ls new r (x ∷ y ∷ ys) c =
-      let n = nested_back false openers.Loop bt l ls new r (x ∷ y ∷ ys) c in
+      let n = nested_back false frames.Loop bt l ls new r (x ∷ y ∷ ys) c in
       lead_on y ys l ls (pushed (results_of A bt) n.0) (Block kinds.Loop bt x.rest y.rest) (λ t h. (n.0, n.2.0, n.1, n.2.1, n.2.2, h)) n.2.4
 
   -- an if in front
   if_back : (bt : BlockType) (skip : ℕ) (l : Level) (ls : List Level) (new : Blocks) → step A locals final (OpenIf bt skip) (blocks l ls) ≡ Ok new → (xs : List Part) → Completes xs new.inner new.outer → Completes (before (OpenIf bt skip) xs) l ls
   if_back bt skip l ls new r [] c = absurd c
-  if_back bt skip l ls new r (x ∷ []) c = absurd (nested_back true openers.If bt l ls new r (x ∷ []) c).2
+  if_back bt skip l ls new r (x ∷ []) c = absurd (nested_back true frames.If bt l ls new r (x ∷ []) c).2
   if_back bt skip l ls new r (x ∷ y ∷ ys) c =
-      let n = nested_back true openers.If bt l ls new r (x ∷ y ∷ ys) c in
+      let n = nested_back true frames.If bt l ls new r (x ∷ y ∷ ys) c in
       let d = n.2.3 in
       lead_on y ys l ls (pushed (results_of A bt) n.0) (If bt x.rest x.other y.rest) (λ t h. (n.0, n.2.0, d.0, n.1, n.2.1, n.2.2, d.1, d.2, h)) n.2.4
 
   -- a branch will do for the else of any block
-  second_of : (labels : List (List ValType)) (o : Opener) (bt : BlockType) (other : Instrs) → IsBranch labels bt other → Second labels o bt other
-  second_of labels openers.If bt other h = h
-  second_of labels openers.Body bt other h = tt
-  second_of labels openers.Block bt other h = tt
-  second_of labels openers.Loop bt other h = tt
-  second_of labels openers.Else bt other h = tt
+  second_of : (labels : List (List ValType)) (o : FrameKind) (bt : BlockType) (other : Instrs) → IsBranch labels bt other → Second labels o bt other
+  second_of labels frames.If bt other h = h
+  second_of labels frames.Body bt other h = tt
+  second_of labels frames.Block bt other h = tt
+  second_of labels frames.Loop bt other h = tt
+  second_of labels frames.Else bt other h = tt
 
   -- what is left to do at the end of a branch, where an else branch is still to come
-  branch_back : (l m : Level) (ls : List Level) (x : Part) (xs : List Part) → ended (results_of A l.block) l.own ≡ Ok tt → Completes (x ∷ xs) (opened A openers.Else l.block) (m ∷ ls) → Completes (record { rest = Finish; other = x.rest } ∷ xs) l (m ∷ ls)
+  branch_back : (l m : Level) (ls : List Level) (x : Part) (xs : List Part) → ended (results_of A l.block) l.own ≡ Ok tt → Completes (x ∷ xs) (opened A frames.Else l.block) (m ∷ ls) → Completes (record { rest = Finish; other = x.rest } ∷ xs) l (m ∷ ls)
   branch_back l m ls x [] e c = absurd c
   branch_back l m ls x (y ∷ ys) e c =
-      (l.own, refl, e, second_of (labels_of A (blocks m ls)) l.opener l.block x.rest (c.0, c.1, c.2), c.4)
+      (l.own, refl, e, second_of (labels_of A (blocks m ls)) l.kind l.block x.rest (c.0, c.1, c.2), c.4)
 
   -- an else in front
-  else_back : (skip : ℕ) (l m : Level) (ls : List Level) (new : Blocks) → halved A (blocks l (m ∷ ls)) ≡ Ok new → (xs : List Part) → Completes xs new.inner new.outer → Completes (before (Otherwise skip) xs) l (m ∷ ls)
+  else_back : (skip : ℕ) (l m : Level) (ls : List Level) (new : Blocks) → end_then A (blocks l (m ∷ ls)) ≡ Ok new → (xs : List Part) → Completes xs new.inner new.outer → Completes (before (Otherwise skip) xs) l (m ∷ ls)
   else_back skip l m ls new r [] c = absurd c
   else_back skip l m ls new r (x ∷ xs) c =
-      let a = bind_ok (ended (results_of A l.block) l.own) (λ u. Ok (blocks (opened A openers.Else l.block) (m ∷ ls))) new r in
+      let a = bind_ok (ended (results_of A l.block) l.own) (λ u. Ok (blocks (opened A frames.Else l.block) (m ∷ ls))) new r in
       let is = ok_is {E = FaultKind} _ _ a.2 in
       branch_back l m ls x xs a.1 (subst (λ (b : Blocks). Completes (x ∷ xs) b.inner b.outer) (sym is) c)
 
   -- an end in front, of a block that needs no else branch
-  left_back : (l m : Level) (ls : List Level) (new : Blocks) → left A l (m ∷ ls) ≡ Ok new → Second (labels_of A (blocks m ls)) l.opener l.block Finish → (xs : List Part) → Completes xs new.inner new.outer → Completes (before Close xs) l (m ∷ ls)
-  left_back l m ls new r other [] c = absurd c
-  left_back l m ls new r other (y ∷ ys) c =
+  inner_back : (l m : Level) (ls : List Level) (new : Blocks) → end_inner A l (m ∷ ls) ≡ Ok new → Second (labels_of A (blocks m ls)) l.kind l.block Finish → (xs : List Part) → Completes xs new.inner new.outer → Completes (before Close xs) l (m ∷ ls)
+  inner_back l m ls new r other [] c = absurd c
+  inner_back l m ls new r other (y ∷ ys) c =
       let a = bind_ok (ended (results_of A l.block) l.own) (λ u. Ok (blocks (with_own m (pushed (results_of A l.block) m.own)) ls)) new r in
       let is = ok_is {E = FaultKind} _ _ a.2 in
       (l.own, refl, a.1, other, subst (λ (b : Blocks). Completes (y ∷ ys) b.inner b.outer) (sym is) c)
 
   -- an end in front, of a block that so began
-  end_of_back : (o : Opener) (bt : BlockType) (s : Own) (m : Level) (ls : List Level) (new : Blocks) → closed A o (blocks (record { opener = o; block = bt; own = s }) (m ∷ ls)) ≡ Ok new → (xs : List Part) → Completes xs new.inner new.outer → Completes (before Close xs) (record { opener = o; block = bt; own = s }) (m ∷ ls)
-  end_of_back openers.Body bt s m ls new r xs c = left_back (record { opener = openers.Body; block = bt; own = s }) m ls new r tt xs c
-  end_of_back openers.Block bt s m ls new r xs c = left_back (record { opener = openers.Block; block = bt; own = s }) m ls new r tt xs c
-  end_of_back openers.Loop bt s m ls new r xs c = left_back (record { opener = openers.Loop; block = bt; own = s }) m ls new r tt xs c
-  end_of_back openers.Else bt s m ls new r xs c = left_back (record { opener = openers.Else; block = bt; own = s }) m ls new r tt xs c
-  end_of_back openers.If bt s m ls new r xs c =
-      let l : Level = record { opener = openers.If; block = bt; own = s } in
-      let a = bind_ok (halved A (blocks l (m ∷ ls))) (λ b. left A b.inner b.outer) new r in
-      let d = bind_ok (ended (results_of A bt) s) (λ u. Ok (blocks (opened A openers.Else bt) (m ∷ ls))) a.0 a.1 in
+  end_of_back : (o : FrameKind) (bt : BlockType) (s : Own) (m : Level) (ls : List Level) (new : Blocks) → end_block A o (blocks (record { kind = o; block = bt; own = s }) (m ∷ ls)) ≡ Ok new → (xs : List Part) → Completes xs new.inner new.outer → Completes (before Close xs) (record { kind = o; block = bt; own = s }) (m ∷ ls)
+  end_of_back frames.Body bt s m ls new r xs c = inner_back (record { kind = frames.Body; block = bt; own = s }) m ls new r tt xs c
+  end_of_back frames.Block bt s m ls new r xs c = inner_back (record { kind = frames.Block; block = bt; own = s }) m ls new r tt xs c
+  end_of_back frames.Loop bt s m ls new r xs c = inner_back (record { kind = frames.Loop; block = bt; own = s }) m ls new r tt xs c
+  end_of_back frames.Else bt s m ls new r xs c = inner_back (record { kind = frames.Else; block = bt; own = s }) m ls new r tt xs c
+  end_of_back frames.If bt s m ls new r xs c =
+      let l : Level = record { kind = frames.If; block = bt; own = s } in
+      let a = bind_ok (end_then A (blocks l (m ∷ ls))) (λ b. end_inner A b.inner b.outer) new r in
+      let d = bind_ok (ended (results_of A bt) s) (λ u. Ok (blocks (opened A frames.Else bt) (m ∷ ls))) a.0 a.1 in
       let is = ok_is {E = FaultKind} _ _ d.2 in
-      let e : left A (opened A openers.Else bt) (m ∷ ls) ≡ Ok new = subst (λ (b : Blocks). left A b.inner b.outer ≡ Ok new) (sym is) a.2 in
-      branch_back l m ls (record { rest = Finish; other = Finish }) xs d.1 (left_back (opened A openers.Else bt) m ls new e tt xs c)
+      let e : end_inner A (opened A frames.Else bt) (m ∷ ls) ≡ Ok new = subst (λ (b : Blocks). end_inner A b.inner b.outer ≡ Ok new) (sym is) a.2 in
+      branch_back l m ls (record { rest = Finish; other = Finish }) xs d.1 (inner_back (opened A frames.Else bt) m ls new e tt xs c)
 
-  -- one token in front, with the machine's blocks taken apart
+  -- one token in front, with the algorithm's blocks taken apart
   back : (ks next : List Bool) (t : Tok) (l : Level) (ls : List Level) (new : Blocks) → Matches ks l ls → after t ks ≡ Some next → MayStand t ks → step A locals final t (blocks l ls) ≡ Ok new → (xs : List Part) → Completes xs new.inner new.outer → Completes (before t xs) l ls
   back ks next (Simple p) l ls new h e may r xs c = one_back p l ls new r xs c
   back ks next (Open kind bt skip) l ls new h e may r xs c = block_back kind bt skip l ls new r xs c
@@ -244,9 +245,9 @@ module _ (A : Ref → Found) (locals : ℕ → Option ValType) (final : List Val
   back (k ∷ ks) next (Otherwise skip) l (m ∷ ls) new h e may r xs c = else_back skip l m ls new r xs c
   back [] next Close l ls new h e may r xs c = absurd cc
   back (k ∷ ks) next Close l [] new h e may r xs c = absurd h
-  back (k ∷ ks) next Close l (m ∷ ls) new h e may r xs c = end_of_back l.opener l.block l.own m ls new r xs c
+  back (k ∷ ks) next Close l (m ∷ ls) new h e may r xs c = end_of_back l.kind l.block l.own m ls new r xs c
 
-  -- where the machine goes over a token, and what is left behind the token has no fault, what is left in front of it has none
+  -- where the algorithm goes over a token, and what is left behind the token has no fault, what is left in front of it has none
   pub step_back : (ks next : List Bool) (t : Tok) (b new : Blocks) → Matches ks b.inner b.outer → after t ks ≡ Some next → MayStand t ks → step A locals final t b ≡ Ok new → (xs : List Part) → Completes xs new.inner new.outer → Completes (before t xs) b.inner b.outer
   step_back ks next t b new h e may r xs c = back ks next t b.inner b.outer new h e may r xs c
 

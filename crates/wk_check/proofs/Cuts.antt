@@ -1,4 +1,4 @@
--- How the machine's moves cut the operand stack.
+-- How the moves of the stacks cut the operand stack.
 use Rattle.std.proofs.Common.{◌≡◌, ℕ, zero, suc, ◌+◌, ◌-◌, ◌<◌, ◌≤◌, true, false, List, [], ◌∷◌, ◌++◌, length, take, drop, reverse, get_or, Ok, Err, Option, Some, None, IsTrue, nat_eq, refl, sym, ap, ◌∙◌, subst, arith, length-append}
 use Rattle.std.specs.Prelude.{slice_get, set, Result}
 use Rattle.wk_bytes.specs.Leb.{◌>>=◌}
@@ -8,14 +8,14 @@ use Rattle.std.proofs.lemmas.List.{reverse-append, length-reverse, take-append-d
 use Rattle.std.proofs.lemmas.Option.{slice_get_past, slice_get-get_or}
 use Rattle.wk_check.specs.Slots.{Slot, AnyType, fits}
 use Rattle.wk_check.specs.declared.fault.FaultKind.TheVariants.{StackUnderflow}
-use Rattle.wk_check.specs.declared.machine.Opener.{Opener}
+use Rattle.wk_check.specs.declared.stacks.FrameKind.{FrameKind}
 use Rattle.wk_body.specs.declared.types.BlockType.{BlockType}
-use Rattle.wk_check.specs.declared.machine.Frame.{Frame}
+use Rattle.wk_check.specs.declared.stacks.Frame.{Frame}
 use Rattle.wk_check.specs.Own.{Own, stopped, is_empty, popped_any, checked, top_of}
 use Rattle.std.proofs.lemmas.Bool.Decides.{nat_tests}
 use Rattle.wk_check.specs.Levels.{Blocks, blocks, with_top}
 use Rattle.wk_check.specs.Cuts.{level_of, levels_of, blocks_of, Cuts}
-use Rattle.wk_check.specs.Moves.{pushed_on, left_by, stopped_on, Pops, popped_on, popped_by, turned_on, joined_on, own_is_empty, head_in, head_at}
+use Rattle.wk_check.specs.Moves.{pushed_on, ctrl_popped, unreachable_on, Pops, popped_on, popped_by, unop_on, binop_on, own_is_empty, head_in, head_at}
 
 pub reverse_push : {A : Type 0} (xs : List A) (x : A) → reverse (xs ++ x ∷ []) ≡ x ∷ reverse xs
 reverse_push xs x = reverse-append xs (x ∷ [])
@@ -84,12 +84,12 @@ module _ (f : Frame) (fs : List Frame) (xs zs : List Slot) (n : ℕ) (x g : Slot
   beneath_cuts : Cuts (f ∷ fs) (reverse beneath)
   beneath_cuts = pop_cuts f fs xs beneath x st is cuts was lt
 
-  pub turn_cuts : Cuts (f ∷ fs) (reverse zs)
-  turn_cuts = push_cuts f fs beneath zs g (blocks_of f fs (reverse beneath)) refl beneath_cuts becomes
+  pub unop_cuts : Cuts (f ∷ fs) (reverse zs)
+  unop_cuts = push_cuts f fs beneath zs g (blocks_of f fs (reverse beneath)) refl beneath_cuts becomes
 
   -- which fits
-  pub turn_levels : (want : Slot) → fits want x ≡ true → turned_on want g st ≡ Ok (blocks_of f fs (reverse zs))
-  turn_levels want fit =
+  pub unop_levels : (want : Slot) → fits want x ≡ true → unop_on want g st ≡ Ok (blocks_of f fs (reverse zs))
+  unop_levels want fit =
       let mid = blocks_of f fs (reverse beneath) in
       ap (λ r. r >>= λ p. Ok (pushed_on g (p.1))) (popped_fits want x st mid (popped_any st.inner.own) (pop_levels f fs xs beneath x st is cuts was lt) fit)
       ∙ ap Ok (sym (push_levels f fs beneath zs g mid refl beneath_cuts becomes))
@@ -117,15 +117,15 @@ module _ (f : Frame) (fs : List Frame) (xs ys zs : List Slot) (n : ℕ) (x y g :
   higher : f.height < length ys
   higher = omega (arith, le, last, one_less)
 
-  pub join_cuts : Cuts (f ∷ fs) (reverse zs)
-  join_cuts = turn_cuts f fs ys zs n y g (blocks_of f fs (reverse ys)) refl shorter_cuts higher one_less still put
+  pub binop_cuts : Cuts (f ∷ fs) (reverse zs)
+  binop_cuts = unop_cuts f fs ys zs n y g (blocks_of f fs (reverse ys)) refl shorter_cuts higher one_less still put
 
-  pub join_levels : (want : Slot) → fits want x ≡ true → fits want y ≡ true → joined_on want g st ≡ Ok (blocks_of f fs (reverse zs))
-  join_levels want fit fit' =
+  pub binop_levels : (want : Slot) → fits want x ≡ true → fits want y ≡ true → binop_on want g st ≡ Ok (blocks_of f fs (reverse zs))
+  binop_levels want fit fit' =
       let mid = blocks_of f fs (reverse ys) in
       let popped = pop_levels f fs xs ys x st is cuts parted (omega (arith, le)) in
-      ap (λ r. r >>= λ p. turned_on want g (p.1)) (popped_fits want x st mid (popped_any st.inner.own) popped fit)
-      ∙ turn_levels f fs ys zs n y g mid refl shorter_cuts higher one_less still put want fit'
+      ap (λ r. r >>= λ p. unop_on want g (p.1)) (popped_fits want x st mid (popped_any st.inner.own) popped fit)
+      ∙ unop_levels f fs ys zs n y g mid refl shorter_cuts higher one_less still put want fit'
 
 module _ (f : Frame) (fs : List Frame) (xs : List Slot) (st : Blocks) (is : blocks_of f fs (reverse xs) ≡ st) (le : length xs ≤ f.height) where
   no_gap_left : length (reverse xs) - f.height ≡ 0
@@ -134,18 +134,18 @@ module _ (f : Frame) (fs : List Frame) (xs : List Slot) (st : Blocks) (is : bloc
   own_items : take (length (reverse xs) - f.height) (reverse xs) ≡ []
   own_items = ap (λ n. take n (reverse xs)) no_gap_left
 
-  pub pop_dead : f.dead ≡ true → Pops (popped_on popped_any st) (Ok AnyType) st
-  pop_dead e =
+  pub pop_unreachable : f.unreachable ≡ true → Pops (popped_on popped_any st) (Ok AnyType) st
+  pop_unreachable e =
       let b = blocks_of f fs (reverse xs) in
-      let top : popped_any b.inner.own ≡ Ok (AnyType, stopped) = ap (λ ys. top_of f.dead ys) own_items ∙ ap (λ d. top_of d []) e in
-      let same : b ≡ with_top stopped b = ap (λ ys. with_top (record { items = ys; dead = f.dead }) b) own_items ∙ ap (λ d. with_top (record { items = []; dead = d }) b) e in
+      let top : popped_any b.inner.own ≡ Ok (AnyType, stopped) = ap (λ ys. top_of f.unreachable ys) own_items ∙ ap (λ d. top_of d []) e in
+      let same : b ≡ with_top stopped b = ap (λ ys. with_top (record { items = ys; dead = f.unreachable }) b) own_items ∙ ap (λ d. with_top (record { items = []; dead = d }) b) e in
       let P : Blocks → Type 0 = λ s. Pops (popped_on popped_any s) (Ok AnyType) s in
       subst P is (ap (λ r. popped_by r b) top ∙ ap (λ z. Ok (AnyType, z)) (sym same))
 
-  pub pop_live : f.dead ≡ false → Pops (popped_on popped_any st) (Err StackUnderflow) st
-  pop_live e =
+  pub pop_reachable : f.unreachable ≡ false → Pops (popped_on popped_any st) (Err StackUnderflow) st
+  pop_reachable e =
       let b = blocks_of f fs (reverse xs) in
-      let top : popped_any b.inner.own ≡ Err StackUnderflow = ap (λ ys. top_of f.dead ys) own_items ∙ ap (λ d. top_of d []) e in
+      let top : popped_any b.inner.own ≡ Err StackUnderflow = ap (λ ys. top_of f.unreachable ys) own_items ∙ ap (λ d. top_of d []) e in
       let P : Blocks → Type 0 = λ s. Pops (popped_on popped_any s) (Err StackUnderflow) s in
       subst P is (ap (λ r. popped_by r b) top)
 
@@ -160,39 +160,39 @@ none_above : (xs : List Slot) (h : ℕ) → h ≤ length xs → length (reverse 
 none_above xs h le = omega (arith, length-reverse (take h xs), length-take h xs)
 
 module _ (f : Frame) (fs : List Frame) (xs : List Slot) (st : Blocks) (is : blocks_of f fs (reverse xs) ≡ st) (cuts : Cuts (f ∷ fs) (reverse xs)) where
-  -- becoming dead
+  -- becoming unreachable
   height_le : f.height ≤ length xs
   height_le = omega (arith, cuts.0, length-reverse xs)
 
-  abbrev pub dead_frame : Frame
-  dead_frame = record { opener = f.opener; block = f.block; dead = true; height = f.height }
+  abbrev pub unreachable_frame : Frame
+  unreachable_frame = record { kind = f.kind; block = f.block; unreachable = true; height = f.height }
 
-  pub stop_cuts : (ys : List Slot) → ys ≡ take f.height xs → Cuts (dead_frame ∷ fs) (reverse ys)
-  stop_cuts ys e =
+  pub unreachable_cuts : (ys : List Slot) → ys ≡ take f.height xs → Cuts (unreachable_frame ∷ fs) (reverse ys)
+  unreachable_cuts ys e =
       let t = take f.height xs in
       let none = none_above xs f.height height_le in
       let same : drop (length (reverse t) - f.height) (reverse t) ≡ drop (length (reverse xs) - f.height) (reverse xs) = ap (λ n. drop n (reverse t)) none ∙ reverse_take xs f.height height_le in
-      let P : List Slot → Type 0 = λ z. Cuts (dead_frame ∷ fs) (reverse z) in
+      let P : List Slot → Type 0 = λ z. Cuts (unreachable_frame ∷ fs) (reverse z) in
       subst P (sym e) (omega (arith, length-reverse t, length-take f.height xs, height_le), subst (Cuts fs) (sym same) cuts.1)
 
-  pub stop_levels : (ys : List Slot) → ys ≡ take f.height xs → blocks_of dead_frame fs (reverse ys) ≡ stopped_on st
-  stop_levels ys e =
+  pub unreachable_levels : (ys : List Slot) → ys ≡ take f.height xs → blocks_of unreachable_frame fs (reverse ys) ≡ unreachable_on st
+  unreachable_levels ys e =
       let t = take f.height xs in
       let none = none_above xs f.height height_le in
       let same : drop (length (reverse t) - f.height) (reverse t) ≡ drop (length (reverse xs) - f.height) (reverse xs) = ap (λ n. drop n (reverse t)) none ∙ reverse_take xs f.height height_le in
-      ap (λ z. blocks_of dead_frame fs (reverse z)) e
-      ∙ ap (λ n. blocks (level_of dead_frame (take n (reverse t))) (levels_of fs (drop (length (reverse t) - f.height) (reverse t)))) none
-      ∙ ap (λ z. blocks (level_of dead_frame []) (levels_of fs z)) same
-      ∙ ap stopped_on is
+      ap (λ z. blocks_of unreachable_frame fs (reverse z)) e
+      ∙ ap (λ n. blocks (level_of unreachable_frame (take n (reverse t))) (levels_of fs (drop (length (reverse t) - f.height) (reverse t)))) none
+      ∙ ap (λ z. blocks (level_of unreachable_frame []) (levels_of fs z)) same
+      ∙ ap unreachable_on is
 
   -- closing
-  pub leave_levels : (gs : List Frame) (g : Frame) → fs ≡ g ∷ gs → IsTrue (own_is_empty st) → blocks_of g gs (reverse xs) ≡ left_by st
-  leave_levels gs g e clear =
+  pub pop_ctrl_levels : (gs : List Frame) (g : Frame) → fs ≡ g ∷ gs → IsTrue (own_is_empty st) → blocks_of g gs (reverse xs) ≡ ctrl_popped st
+  pop_ctrl_levels gs g e clear =
       let clear' = subst (λ s. IsTrue (own_is_empty s)) (sym is) clear in
       let zero_gap = no_gap (reverse xs) (length (reverse xs) - f.height) (omega arith) clear' in
       ap (λ n. blocks_of g gs (drop n (reverse xs))) (sym zero_gap)
-      ∙ ap (λ hs. left_by (blocks_of f hs (reverse xs))) (sym e)
-      ∙ ap left_by is
+      ∙ ap (λ hs. ctrl_popped (blocks_of f hs (reverse xs))) (sym e)
+      ∙ ap ctrl_popped is
     where
       no_gap : (zs : List Slot) (n : ℕ) → n ≤ length zs → IsTrue (is_empty (take n zs)) → n ≡ 0
       no_gap zs zero le h = refl
@@ -200,9 +200,9 @@ module _ (f : Frame) (fs : List Frame) (xs : List Slot) (st : Blocks) (is : bloc
       no_gap (z ∷ zs) (suc n) le h = absurd (cc)
 
 -- looking at frames
-abbrev head_of : Option Frame → Option (Opener × BlockType)
+abbrev head_of : Option Frame → Option (FrameKind × BlockType)
 head_of None = None
-head_of (Some f) = Some (f.opener, f.block)
+head_of (Some f) = Some (f.kind, f.block)
 
 head_levels : (fs : List Frame) (xs : List Slot) (n : ℕ) → head_in (levels_of fs xs) n ≡ head_of (slice_get fs n)
 head_levels [] xs n = refl
@@ -215,7 +215,7 @@ module _ (f : Frame) (os : List Frame) (xs : List Slot) (st : Blocks) (is : bloc
   head_none (suc n) lt =
       sym (ap (λ s. head_at s (suc n)) (sym is) ∙ head_levels (f ∷ reverse os) (reverse xs) (suc n) ∙ ap head_of (slice_get_past (reverse os) n (omega (arith, length-reverse os))))
 
-  pub head_some : (n : ℕ) (g : Frame) → n ≤ length os → 0 < n → g ≡ get_or os (length os - n) g → Some (g.opener, g.block) ≡ head_at st n
+  pub head_some : (n : ℕ) (g : Frame) → n ≤ length os → 0 < n → g ≡ get_or os (length os - n) g → Some (g.kind, g.block) ≡ head_at st n
   head_some zero g le pos e = absurd (omega arith)
   head_some (suc n) g le pos e =
       let place : length os - 1 - n ≡ length os - suc n = omega arith in

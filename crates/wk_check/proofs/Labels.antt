@@ -6,14 +6,14 @@ use Rattle.wk_body.specs.declared.types.ValType.{ValType}
 use Rattle.wk_body.specs.declared.types.BlockType.{BlockType}
 use Rattle.wk_body.specs.declared.types.BlockType.TheVariants.{Empty}
 use Rattle.wk_body.specs.declared.references.Ref.{Ref}
-use Rattle.wk_check.specs.declared.machine.Opener.{Opener}
-use Rattle.wk_check.specs.declared.machine.Opener.TheVariants as openers
+use Rattle.wk_check.specs.declared.stacks.FrameKind.{FrameKind}
+use Rattle.wk_check.specs.declared.stacks.FrameKind.TheVariants as frames
 use Rattle.wk_check.specs.Answers.{Found}
 use Rattle.wk_check.specs.Effects.{same_types}
 use Rattle.wk_check.specs.Levels.{Level, Blocks, level_label, outer_labels, labels_of}
 use Rattle.wk_check.specs.Moves.{head_in, head_at}
 
-abbrev pub label_found : (Ref → Found) → Option (Opener × BlockType) → Option (List ValType)
+abbrev pub label_found : (Ref → Found) → Option (FrameKind × BlockType) → Option (List ValType)
 label_found A None = None
 label_found A (Some p) = Some (level_label A (p.0) (p.1))
 
@@ -22,18 +22,18 @@ label_in A [] n = refl
 label_in A (l ∷ ls) zero = refl
 label_in A (l ∷ ls) (suc n) = label_in A ls n
 
-pub label_at : (A : Ref → Found) (b : Blocks) (n : ℕ) (r : Option (Opener × BlockType)) → r ≡ head_at b n → slice_get (labels_of A b) n ≡ label_found A r
+pub label_at : (A : Ref → Found) (b : Blocks) (n : ℕ) (r : Option (FrameKind × BlockType)) → r ≡ head_at b n → slice_get (labels_of A b) n ≡ label_found A r
 label_at A b n r e = label_in A (b.inner ∷ b.outer) n ∙ ap (label_found A) (sym e)
 
 -- a block of no types takes none, whatever opened it
-none_at : (A : Ref → Found) (o : Opener) → level_label A o Empty ≡ []
-none_at A openers.Body = refl
-none_at A openers.Block = refl
-none_at A openers.Loop = refl
-none_at A openers.If = refl
-none_at A openers.Else = refl
+none_at : (A : Ref → Found) (o : FrameKind) → level_label A o Empty ≡ []
+none_at A frames.Body = refl
+none_at A frames.Block = refl
+none_at A frames.Loop = refl
+none_at A frames.If = refl
+none_at A frames.Else = refl
 
-pub label_none : (A : Ref → Found) (b : Blocks) (n : ℕ) (o : Opener) → Some (o, Empty) ≡ head_at b n → slice_get (labels_of A b) n ≡ Some []
+pub label_none : (A : Ref → Found) (b : Blocks) (n : ℕ) (o : FrameKind) → Some (o, Empty) ≡ head_at b n → slice_get (labels_of A b) n ≡ Some []
 label_none A b n o e = label_at A b n (Some (o, Empty)) e ∙ ap Some (none_at A o)
 
 -- none are the types of a list exactly where it is empty

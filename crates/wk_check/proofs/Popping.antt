@@ -11,7 +11,7 @@ use Rattle.wk_body.specs.declared.types.ValType.TheVariants.{I32}
 use Rattle.wk_check.specs.Effects.{same_types, Takes, Selects}
 use Rattle.wk_check.specs.Typing.{after_effect}
 use Rattle.wk_check.specs.Levels.{Blocks, with_top}
-use Rattle.wk_check.specs.Moves.{popped_on, popped_by, pushed_on, turned_on, joined_on, on_top, own_is_spent, Steps}
+use Rattle.wk_check.specs.Moves.{popped_on, popped_by, pushed_on, unop_on, binop_on, on_top, own_is_spent, Steps}
 use Rattle.std.proofs.lemmas.List.{take_more}
 
 pub popped_push : (ts : List ValType) (t : ValType) (s : Own) → popped (ts ++ t ∷ []) s ≡ (popped_one (Known t) s >>= λ p. popped ts (p.1))
@@ -138,24 +138,24 @@ last_step t us b (Err e) = refl
 pub takes_last : (t : ValType) (ts us : List ValType) (b : Blocks) → on_top (after_effect (Takes (t ∷ ts) us)) b ≡ (on_top (popped ts) b >>= λ b1. on_top (after_effect (Takes (t ∷ []) us)) b1)
 takes_last t ts us b = last_step t us b (popped ts b.inner.own)
 
-turns_at : (u : ValType) (b : Blocks) (m : Result (Slot × Own) FaultKind)
+unop_at : (u : ValType) (b : Blocks) (m : Result (Slot × Own) FaultKind)
     → (popped_by m b >>= λ p. Ok (pushed_on (Known u) (p.1))) ≡ (((m >>= λ p. Ok (p.1)) >>= λ s. Ok (pushed (u ∷ []) s)) >>= λ s. Ok (with_top s b))
-turns_at u b (Ok p) = refl
-turns_at u b (Err e) = refl
+unop_at u b (Ok p) = refl
+unop_at u b (Err e) = refl
 
 -- an operand in the place of another is what an effect of one operand and one result does
-pub turns : (t u : ValType) (b : Blocks) → on_top (after_effect (Takes (t ∷ []) (u ∷ []))) b ≡ turned_on (Known t) (Known u) b
-turns t u b = sym (turns_at u b (popped_one (Known t) b.inner.own))
+pub unop_is : (t u : ValType) (b : Blocks) → on_top (after_effect (Takes (t ∷ []) (u ∷ []))) b ≡ unop_on (Known t) (Known u) b
+unop_is t u b = sym (unop_at u b (popped_one (Known t) b.inner.own))
 
-joins_at : (t u : ValType) (b : Blocks) (m : Result (Slot × Own) FaultKind)
+binop_at : (t u : ValType) (b : Blocks) (m : Result (Slot × Own) FaultKind)
     → (((m >>= λ p. Ok (p.1)) >>= λ s. Ok (with_top s b)) >>= λ b1. on_top (after_effect (Takes (t ∷ []) (u ∷ []))) b1)
-    ≡ (popped_by m b >>= λ p. turned_on (Known t) (Known u) (p.1))
-joins_at t u b (Ok p) = turns t u (with_top (p.1) b)
-joins_at t u b (Err e) = refl
+    ≡ (popped_by m b >>= λ p. unop_on (Known t) (Known u) (p.1))
+binop_at t u b (Ok p) = unop_is t u (with_top (p.1) b)
+binop_at t u b (Err e) = refl
 
 -- and one in the place of two, an effect of two operands
-pub joins : (t u : ValType) (b : Blocks) → on_top (after_effect (Takes (t ∷ t ∷ []) (u ∷ []))) b ≡ joined_on (Known t) (Known u) b
-joins t u b = takes_last t (t ∷ []) (u ∷ []) b ∙ joins_at t u b (popped_one (Known t) b.inner.own)
+pub binop_is : (t u : ValType) (b : Blocks) → on_top (after_effect (Takes (t ∷ t ∷ []) (u ∷ []))) b ≡ binop_on (Known t) (Known u) b
+binop_is t u b = takes_last t (t ∷ []) (u ∷ []) b ∙ binop_at t u b (popped_one (Known t) b.inner.own)
 
 pub steps_then : (whole first : Result Blocks FaultKind) (f : Blocks → Result Blocks FaultKind) (b : Blocks) (r : Result (Unit {0}) Stop) (new : Blocks) → whole ≡ (first >>= f) → first ≡ Ok b → Steps (f b) r new → Steps whole r new
 steps_then whole first f b r new e h s = subst (λ o. Steps o r new) (sym (e ∙ ap (λ m. m >>= f) h)) s

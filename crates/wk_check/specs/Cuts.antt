@@ -1,12 +1,12 @@
 -- One operand stack, cut by frames into the stacks of the open blocks.
 use Rattle.std.specs.Prelude.{◌≡◌, ◌-◌, ◌≤◌, List, [], ◌∷◌, length, take, drop}
-use Rattle.wk_check.specs.declared.machine.Frame.{Frame}
+use Rattle.wk_check.specs.declared.stacks.Frame.{Frame}
 use Rattle.wk_check.specs.Slots.{Slot}
 use Rattle.wk_check.specs.Levels.{Level, Blocks, blocks}
 
 -- a frame's block, with its operands
 abbrev pub level_of : Frame → List Slot → Level
-level_of f xs = record { opener = f.opener; block = f.block; own = record { items = xs; dead = f.dead } }
+level_of f xs = record { kind = f.kind; block = f.block; own = record { items = xs; dead = f.unreachable } }
 
 -- the blocks of these frames, the innermost first, and of these operands, the top first
 abbrev pub levels_of : List Frame → List Slot → List Level

@@ -1,4 +1,4 @@
--- The small moves of the machine, and what its calls answer.
+-- The small moves of the stacks, and what their calls answer.
 use Rattle.std.specs.Prelude.{◌≡◌, ℕ, zero, suc, Bool, true, false, if◌then◌else◌, List, [], ◌∷◌, Option, Some, None, Result, Ok, Err}
 use Rattle.wk_bytes.specs.Leb.{◌>>=◌}
 use Rattle.wk_body.specs.declared.types.ValType.{ValType}
@@ -8,8 +8,8 @@ use Rattle.wk_check.specs.declared.stop.Stop.{Stop}
 use Rattle.wk_check.specs.declared.stop.Stop.TheVariants as stops
 use Rattle.wk_check.specs.declared.stop.Growth.{Growth}
 use Rattle.wk_check.specs.declared.stop.Growth.TheVariants as growths
-use Rattle.wk_check.specs.declared.machine.Opener.{Opener}
-use Rattle.wk_check.specs.declared.machine.Opener.TheVariants as openers
+use Rattle.wk_check.specs.declared.stacks.FrameKind.{FrameKind}
+use Rattle.wk_check.specs.declared.stacks.FrameKind.TheVariants as frames
 use Rattle.wk_check.specs.Slots.{Slot}
 use Rattle.wk_check.specs.Own.{Own, TokenFault, ended, popped_one, pushed_one, stopped, fresh, is_empty}
 use Rattle.wk_check.specs.Effects.{Effect}
@@ -21,24 +21,24 @@ pushed_on x b = with_top (pushed_one x b.inner.own) b
 
 -- a body, or an expression, as it begins
 abbrev pub body_of : BlockType → Blocks
-body_of bt = blocks (record { opener = openers.Body; block = bt; own = fresh }) []
+body_of bt = blocks (record { kind = frames.Body; block = bt; own = fresh }) []
 
-abbrev pub entered_by : Opener → BlockType → Blocks → Blocks
-entered_by o bt b = blocks (record { opener = o; block = bt; own = fresh }) (b.inner ∷ b.outer)
+abbrev pub ctrl_pushed : FrameKind → BlockType → Blocks → Blocks
+ctrl_pushed o bt b = blocks (record { kind = o; block = bt; own = fresh }) (b.inner ∷ b.outer)
 
-abbrev pub left_in : Level → List Level → Blocks
-left_in l [] = blocks l []
-left_in l (m ∷ ls) = blocks m ls
+abbrev pub ctrl_popped_in : Level → List Level → Blocks
+ctrl_popped_in l [] = blocks l []
+ctrl_popped_in l (m ∷ ls) = blocks m ls
 
 -- the blocks without the innermost, unless it is the only one
-abbrev pub left_by : Blocks → Blocks
-left_by b = left_in b.inner b.outer
+abbrev pub ctrl_popped : Blocks → Blocks
+ctrl_popped b = ctrl_popped_in b.inner b.outer
 
-abbrev pub stopped_on : Blocks → Blocks
-stopped_on b = with_top stopped b
+abbrev pub unreachable_on : Blocks → Blocks
+unreachable_on b = with_top stopped b
 
-abbrev pub restarted_on : Blocks → Blocks
-restarted_on b = blocks (record { opener = openers.Else; block = b.inner.block; own = fresh }) b.outer
+abbrev pub else_begun : Blocks → Blocks
+else_begun b = blocks (record { kind = frames.Else; block = b.inner.block; own = fresh }) b.outer
 
 abbrev pub own_is_empty : Blocks → Bool
 own_is_empty b = is_empty b.inner.own.items
@@ -56,12 +56,12 @@ abbrev pub popped_on : (Own → Result (Slot × Own) FaultKind) → Blocks → R
 popped_on f b = popped_by (f b.inner.own) b
 
 -- an operand that fits is popped from the innermost block's own stack, and another pushed
-abbrev pub turned_on : Slot → Slot → Blocks → Result Blocks FaultKind
-turned_on want x b = popped_on (popped_one want) b >>= λ p. Ok (pushed_on x (p.1))
+abbrev pub unop_on : Slot → Slot → Blocks → Result Blocks FaultKind
+unop_on want x b = popped_on (popped_one want) b >>= λ p. Ok (pushed_on x (p.1))
 
 -- two that fit are popped, and another pushed
-abbrev pub joined_on : Slot → Slot → Blocks → Result Blocks FaultKind
-joined_on want x b = popped_on (popped_one want) b >>= λ p. turned_on want x (p.1)
+abbrev pub binop_on : Slot → Slot → Blocks → Result Blocks FaultKind
+binop_on want x b = popped_on (popped_one want) b >>= λ p. unop_on want x (p.1)
 
 -- a change of the innermost block's own stack
 abbrev pub on_top : (Own → Result Own FaultKind) → Blocks → Result Blocks FaultKind
@@ -93,13 +93,13 @@ MadeBy o (Ok growths.Made) new = o ≡ Ok new
 MadeBy o (Ok growths.Refused) new = Unit {0}
 MadeBy o (Err e) new = o ≡ Err e
 
-abbrev pub head_in : List Level → ℕ → Option (Opener × BlockType)
+abbrev pub head_in : List Level → ℕ → Option (FrameKind × BlockType)
 head_in [] n = None
-head_in (l ∷ ls) zero = Some (l.opener, l.block)
+head_in (l ∷ ls) zero = Some (l.kind, l.block)
 head_in (l ∷ ls) (suc n) = head_in ls n
 
 -- what opened the block at a depth, and its type
-abbrev pub head_at : Blocks → ℕ → Option (Opener × BlockType)
+abbrev pub head_at : Blocks → ℕ → Option (FrameKind × BlockType)
 head_at b n = head_in (b.inner ∷ b.outer) n
 
 -- the end check of the innermost block: its answer, and where there is no fault an empty stack

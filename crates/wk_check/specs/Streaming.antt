@@ -18,14 +18,14 @@ use Rattle.wk_body.specs.Shape.{depth_limit}
 use Rattle.wk_body.specs.TokenReading.{TokenReading, NextToken, NextRead}
 use Rattle.wk_body.specs.Tree.{Instrs, Simple, Otherwise, Close}
 use Rattle.wk_check.specs.declared.fault.BodyVerdict.TheVariants.{Valid}
-use Rattle.wk_check.specs.declared.machine.Opener.{Opener}
+use Rattle.wk_check.specs.declared.stacks.FrameKind.{FrameKind}
 use Rattle.wk_check.specs.declared.step.Function.{Function}
 use Rattle.wk_check.specs.declared.stop.Stop.{Stop}
-use Rattle.wk_check.specs.declared.streaming.Went.{Went}
-use Rattle.wk_check.specs.declared.streaming.Went.TheVariants as went
+use Rattle.wk_check.specs.declared.streaming.Step.{Step}
+use Rattle.wk_check.specs.declared.streaming.Step.TheVariants as steps
 use Rattle.wk_check.specs.Answers.{Found}
 use Rattle.wk_check.specs.Effects.{local_type}
-use Rattle.wk_check.specs.Levels.{Blocks, entering, halved, closed, step}
+use Rattle.wk_check.specs.Levels.{Blocks, enter_block, end_then, end_block, step}
 use Rattle.wk_check.specs.Moves.{Steps}
 use Rattle.wk_check.specs.Typing.{code_result, body_verdict}
 
@@ -110,27 +110,27 @@ IsShort (Index x) = ⊥
 IsShort _ = Unit {0}
 
 -- A block was opened behind its opcode, with a test or without one.
-pub record IsOpened (A : Ref → Found) (test : Bool) (opener : Opener) (profile : Profile) (old new : TokenReading) (from to : Span) (b next : Blocks) : Type 0 where
+pub record IsOpened (A : Ref → Found) (test : Bool) (kind : FrameKind) (profile : Profile) (old new : TokenReading) (from to : Span) (b next : Blocks) : Type 0 where
   pub block : BlockType
   pub shallow : length old.kinds < depth_limit
   pub kinds : new.kinds ≡ test ∷ old.kinds
   pub read : type_at profile from.end from.rest ≡ Ok (block, to.rest)
   pub same_end : to.end ≡ from.end
-  pub typed : entering A test opener block b ≡ Ok next
+  pub typed : enter_block A test kind block b ≡ Ok next
 
 -- A then branch was ended behind an `else`.
 pub record IsParted (A : Ref → Found) (old new : TokenReading) (b next : Blocks) : Type 0 where
   pub may : may_else old.kinds ≡ true
   pub kinds : after (Otherwise 0) old.kinds ≡ Some new.kinds
-  pub typed : halved A b ≡ Ok next
+  pub typed : end_then A b ≡ Ok next
 
 -- A block was closed behind an `end`.
 pub record IsClosed (A : Ref → Found) (old new : TokenReading) (b next : Blocks) : Type 0 where
   pub kinds : after Close old.kinds ≡ Some new.kinds
-  pub typed : closed A b.inner.opener b ≡ Ok next
+  pub typed : end_block A b.inner.kind b ≡ Ok next
 
 -- what came of a token: it was typed, or it is the end that closes no block
-abbrev pub GoesOn : (Ref → Found) → (ℕ → Option ValType) → List ValType → Profile → Went → TokenReading → TokenReading → Span → Span → Blocks → Blocks → Type 0
-GoesOn A locals final profile went.On old new from to b next = IsTaken A locals final profile old new from to b next
-GoesOn A locals final profile went.End old new from to b next = NextRead profile old new from to None × (next ≡ b)
+abbrev pub GoesOn : (Ref → Found) → (ℕ → Option ValType) → List ValType → Profile → Step → TokenReading → TokenReading → Span → Span → Blocks → Blocks → Type 0
+GoesOn A locals final profile steps.On old new from to b next = IsTaken A locals final profile old new from to b next
+GoesOn A locals final profile steps.End old new from to b next = NextRead profile old new from to None × (next ≡ b)
 GoesOn A locals final profile _ old new from to b next = Unit {0}

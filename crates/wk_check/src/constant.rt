@@ -64,7 +64,7 @@ pub(crate) fn constant_flaw<E: Env>(
         locals: Locals::none(),
         results: one(ty),
     };
-    match type_code(env, &f, BlockType::Value(ty), expr, &mut room.machine)? {
+    match type_code(env, &f, BlockType::Value(ty), expr, &mut room.stacks)? {
         None => Ok(None),
         Some((kind, token)) => Ok(Some(Flaw {
             kind,

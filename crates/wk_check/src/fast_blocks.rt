@@ -3,22 +3,22 @@
 ghost use Rattle.std.specs.Prelude.{◌≡◌, [], Ok, IfOk, IfSome};
 ghost use Rattle.wk_body.specs.declared.types.Profile.{Profile};
 ghost use Rattle.wk_body.specs.Reading.{type_at};
-ghost use Rattle.wk_check.specs.Levels.{entering, halved, closed};
+ghost use Rattle.wk_check.specs.Levels.{enter_block, end_then, end_block};
 ghost use Rattle.wk_check.specs.Moves.{Steps, MadeBy};
 ghost use Rattle.wk_check.specs.Streaming.{IsShort, IsOpened, IsParted, IsClosed};
 
-use crate::control::{close_in_line, halve};
+use crate::control::{end_block_in_line, end_then};
 use crate::env::Env;
 use crate::fault::FaultKind;
-use crate::machine::{Machine, Opener};
-use crate::operands::remove;
-use crate::stop::{Growth, Stop, in_registers};
+use crate::operands::pop_val;
+use crate::stacks::{FrameKind, Stacks};
+use crate::stop::{Growth, Stop, to_registers};
 use wk_bytes::Cursor;
 use wk_module::{BlockType, TokenReader, ValType};
 
-/// What was met at the front.
+/// What is at the front.
 #[derive(Clone, Copy, Debug, PartialEq, Eq)]
-pub(crate) enum Met {
+pub(crate) enum Peek {
     /// A token, which was typed.
     Token,
     /// The end that closes no block.
@@ -48,22 +48,22 @@ fn short_type(cursor: &mut Cursor<'_>) -> Option<BlockType>
 
 // A block of such a type begins, behind its test, where there is one.
 #[inline(always)]
-fn begin<E: Env>(
+fn enter_short<E: Env>(
     env: &E,
     test: bool,
-    opener: Opener,
+    kind: FrameKind,
     block: BlockType,
-    m: &mut Machine,
+    s: &mut Stacks,
 ) -> Result<(), Stop>
     requires { IsShort block }
-    ensures { Steps (entering (E.answers env.now) test opener block m.old) result m.new }
+    ensures { Steps (enter_block (E.answers env.now) test kind block s.old) result s.new }
 {
     if test {
-        remove(m, ValType::I32)?;
-        m.enter(opener, block)?;
+        pop_val(s, ValType::I32)?;
+        s.push_ctrl(kind, block)?;
         return Ok(());
     }
-    m.enter(opener, block)?;
+    s.push_ctrl(kind, block)?;
     Ok(())
 }
 
@@ -72,31 +72,31 @@ fn begin<E: Env>(
 pub(crate) fn fast_open<E: Env>(
     env: &E,
     test: bool,
-    opener: Opener,
+    kind: FrameKind,
     reader: &mut TokenReader,
-    m: &mut Machine,
+    s: &mut Stacks,
     cursor: &mut Cursor<'_>,
-) -> Result<Met, Stop>
-    ensures taken { (profile : Profile) → IfOk result (λ met. met ≡ Met.Token → IsOpened (E.answers env.now) test opener profile reader.old reader.new cursor.old cursor.new m.old m.new) }
-    ensures left { IfOk result (λ met. met ≡ Met.Other → (m.new ≡ m.old) × (reader.new ≡ reader.old)) }
-    ensures never { IfOk result (λ met. met ≡ Met.Last → ⊥) }
+) -> Result<Peek, Stop>
+    ensures taken { (profile : Profile) → IfOk result (λ p. p ≡ Peek.Token → IsOpened (E.answers env.now) test kind profile reader.old reader.new cursor.old cursor.new s.old s.new) }
+    ensures left { IfOk result (λ p. p ≡ Peek.Other → (s.new ≡ s.old) × (reader.new ≡ reader.old)) }
+    ensures never { IfOk result (λ p. p ≡ Peek.Last → ⊥) }
 {
     let Some(block) = short_type(cursor) else {
-        return Ok(Met::Other);
+        return Ok(Peek::Other);
     };
     if !reader.open_block(test) {
-        return Ok(Met::Other);
+        return Ok(Peek::Other);
     }
-    begin(env, test, opener, block, m)?;
-    Ok(Met::Token)
+    enter_short(env, test, kind, block, s)?;
+    Ok(Peek::Token)
 }
 
 // The end of a then branch that has a type or operands, out of line.
 #[inline(never)]
-fn part_typed<E: Env>(env: &E, m: &mut Machine) -> Result<(), Stop>
-    ensures { Steps (halved (E.answers env.now) m.old) result m.new }
+fn end_then_typed<E: Env>(env: &E, s: &mut Stacks) -> Result<(), Stop>
+    ensures { Steps (end_then (E.answers env.now) s.old) result s.new }
 {
-    halve(env, m)
+    end_then(env, s)
 }
 
 /// An `else`. Most have no type, and nothing is left of the branch before.
@@ -104,31 +104,31 @@ fn part_typed<E: Env>(env: &E, m: &mut Machine) -> Result<(), Stop>
 pub(crate) fn fast_else<E: Env>(
     env: &E,
     reader: &mut TokenReader,
-    m: &mut Machine,
-) -> Result<Met, Stop>
-    ensures taken { IfOk result (λ met. met ≡ Met.Token → IsParted (E.answers env.now) reader.old reader.new m.old m.new) }
-    ensures left { IfOk result (λ met. met ≡ Met.Other → (m.new ≡ m.old) × (reader.new ≡ reader.old)) }
-    ensures never { IfOk result (λ met. met ≡ Met.Last → ⊥) }
+    s: &mut Stacks,
+) -> Result<Peek, Stop>
+    ensures taken { IfOk result (λ p. p ≡ Peek.Token → IsParted (E.answers env.now) reader.old reader.new s.old s.new) }
+    ensures left { IfOk result (λ p. p ≡ Peek.Other → (s.new ≡ s.old) × (reader.new ≡ reader.old)) }
+    ensures never { IfOk result (λ p. p ≡ Peek.Last → ⊥) }
 {
     if !reader.part_block() {
-        return Ok(Met::Other);
+        return Ok(Peek::Other);
     }
-    if let BlockType::Empty = m.block()
-        && m.is_clear()
+    if let BlockType::Empty = s.block()
+        && s.is_clear()
     {
-        m.restart();
-        return Ok(Met::Token);
+        s.begin_else();
+        return Ok(Peek::Token);
     }
-    part_typed(env, m)?;
-    Ok(Met::Token)
+    end_then_typed(env, s)?;
+    Ok(Peek::Token)
 }
 
 // The end of a block that has a type or operands, out of line, whose answer goes in registers.
 #[inline(never)]
-fn close_typed<E: Env>(env: &E, m: &mut Machine) -> Result<Growth, FaultKind>
-    ensures { MadeBy (closed (E.answers env.now) m.old.inner.opener m.old) result m.new }
+fn end_block_typed<E: Env>(env: &E, s: &mut Stacks) -> Result<Growth, FaultKind>
+    ensures { MadeBy (end_block (E.answers env.now) s.old.inner.kind s.old) result s.new }
 {
-    in_registers(close_in_line(env, m))
+    to_registers(end_block_in_line(env, s))
 }
 
 /// An `end`. Most close a block of no type in another, and nothing is left of it.
@@ -136,24 +136,24 @@ fn close_typed<E: Env>(env: &E, m: &mut Machine) -> Result<Growth, FaultKind>
 pub(crate) fn fast_end<E: Env>(
     env: &E,
     reader: &mut TokenReader,
-    m: &mut Machine,
-) -> Result<Met, Stop>
-    ensures taken { IfOk result (λ met. met ≡ Met.Token → IsClosed (E.answers env.now) reader.old reader.new m.old m.new) }
-    ensures last { IfOk result (λ met. met ≡ Met.Last → (reader.old.kinds ≡ []) × (m.new ≡ m.old)) }
-    ensures never { IfOk result (λ met. met ≡ Met.Other → ⊥) }
+    s: &mut Stacks,
+) -> Result<Peek, Stop>
+    ensures taken { IfOk result (λ p. p ≡ Peek.Token → IsClosed (E.answers env.now) reader.old reader.new s.old s.new) }
+    ensures last { IfOk result (λ p. p ≡ Peek.Last → (reader.old.kinds ≡ []) × (s.new ≡ s.old)) }
+    ensures never { IfOk result (λ p. p ≡ Peek.Other → ⊥) }
 {
     if !reader.close_block() {
-        return Ok(Met::Last);
+        return Ok(Peek::Last);
     }
-    let is_bare = m.is_clear() && !m.is_outermost();
-    if let BlockType::Empty = m.block()
+    let is_bare = s.is_clear() && !s.is_outermost();
+    if let BlockType::Empty = s.block()
         && is_bare
     {
-        m.leave();
-        return Ok(Met::Token);
+        s.pop_ctrl();
+        return Ok(Peek::Token);
     }
-    match close_typed(env, m)? {
-        Growth::Made => Ok(Met::Token),
+    match end_block_typed(env, s)? {
+        Growth::Made => Ok(Peek::Token),
         Growth::Refused => Err(Stop::Memory),
     }
 }

@@ -41,40 +41,40 @@
 //! sections.
 #![tactic(auto)]
 
+mod carry;
 mod constant;
 mod control;
 mod display;
 mod env;
 mod exports;
 mod fast_blocks;
+mod fast_extended;
 mod fast_path;
 mod fault;
-mod growth;
+mod incremental;
+mod judge_bytes;
 mod judging;
-mod kept;
 mod locals;
-mod machine;
 mod meter;
 mod operand;
 mod operands;
-mod quick_extended;
 mod rule;
 mod rules;
-mod spelled;
+mod stacks;
 mod step;
 mod stop;
 mod streaming;
 mod typing;
 mod whole;
 
+pub use carry::{carry, carry_moved, first_code_fault, verdicts_that_keep};
 pub use env::{Answer, Env};
 pub use fault::{BodyVerdict, Fault, FaultKind, Place, Verdict};
-pub use growth::{
+pub use incremental::{
     laws_of_valid_modules, verdict_with_body, verdict_with_export, verdict_with_func,
     verdict_with_global, verdict_with_import, verdict_with_type,
 };
+pub use judge_bytes::{judge_bytes, judge_spelled};
 pub use judging::{judge, judge_around};
-pub use kept::{carry, carry_moved, first_code_fault, verdicts_that_keep};
 pub use meter::{Meter, declarative_rules, judge_body};
-pub use spelled::{judge_bytes, judge_spelled};
 pub use whole::Whole;

@@ -24,7 +24,7 @@ pub(crate) fn put_ends(groups: &[LocalGroup], ends: &mut Vec<u32>) -> Result<(),
 }
 
 // Of how many locals the types are written out at the most, so that a body of a few bytes with many locals takes little time.
-const WRITTEN: usize = 256;
+const MAX_WRITTEN: usize = 256;
 
 /// Writes into `first` the types of the first locals, one by one: those of the parameters and of the groups behind them, up to the
 /// first group that does not fit whole.
@@ -36,13 +36,13 @@ pub(crate) fn put_first(
     ensures { OnOk result (AreFirst params.now groups.now first.new.items) }
 {
     first.clear();
-    if params.len() > WRITTEN {
+    if params.len() > MAX_WRITTEN {
         return Ok(());
     }
     first.extend_from_slice(params)?;
     for group in groups {
         let len = first.len() + group.count as usize;
-        if len > WRITTEN {
+        if len > MAX_WRITTEN {
             return Ok(());
         }
         first.resize(len, group.ty)?;

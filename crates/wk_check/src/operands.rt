@@ -10,9 +10,9 @@ ghost use Rattle.wk_check.specs.Moves.{Pops, popped_on, pushed_on, Does, Steps, 
 ghost use Rattle.wk_body.specs.declared.types.ValType.TheVariants.{I32};
 
 use crate::fault::FaultKind;
-use crate::machine::Machine;
 use crate::operand::Operand;
-use crate::stop::{Growth, Stop, in_registers};
+use crate::stacks::Stacks;
+use crate::stop::{Growth, Stop, to_registers};
 use wk_bytes::OutOfMemory;
 use wk_module::ValType;
 
@@ -33,10 +33,10 @@ pub(crate) fn are_same(a: &[ValType], b: &[ValType]) -> bool
 
 /// Pops an operand that fits.
 #[inline(always)]
-fn pop_as(m: &mut Machine, want: Operand) -> Result<Operand, FaultKind>
-    ensures { Pops (popped_on (popped_one want) m.old) result m.new }
+fn pop_as(s: &mut Stacks, want: Operand) -> Result<Operand, FaultKind>
+    ensures { Pops (popped_on (popped_one want) s.old) result s.new }
 {
-    let x = m.pop()?;
+    let x = s.pop_val()?;
     if want.fits(x) {
         Ok(x)
     } else {
@@ -46,160 +46,164 @@ fn pop_as(m: &mut Machine, want: Operand) -> Result<Operand, FaultKind>
 
 // Pops an operand that fits a type.
 #[inline(always)]
-fn pop_known(m: &mut Machine, ty: ValType) -> Result<Operand, FaultKind>
-    ensures { Pops (popped_on (popped_one (Known ty)) m.old) result m.new }
+fn pop_known(s: &mut Stacks, ty: ValType) -> Result<Operand, FaultKind>
+    ensures { Pops (popped_on (popped_one (Known ty)) s.old) result s.new }
 {
-    pop_as(m, Operand::known(ty))
+    pop_as(s, Operand::known(ty))
 }
 
 // Pushes an operand of a type.
 #[inline(always)]
-fn push_known(m: &mut Machine, ty: ValType) -> Result<(), OutOfMemory>
-    ensures { OnOk result (m.new ≡ pushed_on (Known ty) m.old) }
+fn push_known(s: &mut Stacks, ty: ValType) -> Result<(), OutOfMemory>
+    ensures { OnOk result (s.new ≡ pushed_on (Known ty) s.old) }
 {
-    m.push(Operand::known(ty))
+    s.push_val(Operand::known(ty))
 }
 
 // Pops an operand of a type.
 #[inline(always)]
-fn pop_type(m: &mut Machine, ty: ValType) -> Result<(), FaultKind>
-    ensures { Does (on_top (popped (ty ∷ [])) m.old) result m.new }
+fn pop_type(s: &mut Stacks, ty: ValType) -> Result<(), FaultKind>
+    ensures { Does (on_top (popped (ty ∷ [])) s.old) result s.new }
 {
-    pop_known(m, ty)?;
+    pop_known(s, ty)?;
     Ok(())
 }
 
 /// Pops operands of these types, the last first. It takes no more steps than there are operands.
-pub(crate) fn pop_types(m: &mut Machine, types: &[ValType]) -> Result<(), FaultKind>
-    ensures { Does (on_top (popped types.now) m.old) result m.new }
+pub(crate) fn pop_types(s: &mut Stacks, types: &[ValType]) -> Result<(), FaultKind>
+    ensures { Does (on_top (popped types.now) s.old) result s.new }
 {
     let mut n = types.len();
     while n > 0 {
-        if m.is_spent() {
+        if s.is_spent() {
             return Ok(());
         }
         n -= 1;
-        pop_known(m, types[n])?;
+        pop_known(s, types[n])?;
     }
     Ok(())
 }
 
 /// Pops operands of these types, and before them an i32 where there is a test or an index.
 #[inline(always)]
-pub(crate) fn pop_indexed(m: &mut Machine, index: bool, types: &[ValType]) -> Result<(), FaultKind>
-    ensures { Does (on_top (popped (with_index index types.now)) m.old) result m.new }
+pub(crate) fn pop_indexed(s: &mut Stacks, index: bool, types: &[ValType]) -> Result<(), FaultKind>
+    ensures { Does (on_top (popped (with_index index types.now)) s.old) result s.new }
 {
     if index {
-        pop_known(m, ValType::I32)?;
-        return pop_types(m, types);
+        pop_known(s, ValType::I32)?;
+        return pop_types(s, types);
     }
-    pop_types(m, types)
+    pop_types(s, types)
 }
 
 /// Pushes operands of these types, the first first.
-pub(crate) fn push_types(m: &mut Machine, types: &[ValType]) -> Result<(), OutOfMemory>
-    ensures { OnOk result (m.new ≡ with_top (pushed types.now m.old.inner.own) m.old) }
+pub(crate) fn push_types(s: &mut Stacks, types: &[ValType]) -> Result<(), OutOfMemory>
+    ensures { OnOk result (s.new ≡ with_top (pushed types.now s.old.inner.own) s.old) }
 {
     for ty in types {
-        push_known(m, *ty)?;
+        push_known(s, *ty)?;
     }
     Ok(())
 }
 
 /// Pops operands, and before them an i32 where there is an index, and pushes results, in line.
 #[inline(always)]
-pub(crate) fn take_in_line(
-    m: &mut Machine,
+pub(crate) fn apply_type_in_line(
+    s: &mut Stacks,
     index: bool,
     operands: &[ValType],
     results: &[ValType],
 ) -> Result<(), Stop>
-    ensures { Steps (on_top (after_effect (Takes (with_index index operands.now) results.now)) m.old) result m.new }
+    ensures { Steps (on_top (after_effect (Takes (with_index index operands.now) results.now)) s.old) result s.new }
 {
-    pop_indexed(m, index, operands)?;
-    push_types(m, results)?;
+    pop_indexed(s, index, operands)?;
+    push_types(s, results)?;
     Ok(())
 }
 
 /// Pops operands, and before them an i32 where there is an index, and pushes results.
-pub(crate) fn take(
-    m: &mut Machine,
+pub(crate) fn apply_type(
+    s: &mut Stacks,
     index: bool,
     operands: &[ValType],
     results: &[ValType],
 ) -> Result<(), Stop>
-    ensures { Steps (on_top (after_effect (Takes (with_index index operands.now) results.now)) m.old) result m.new }
+    ensures { Steps (on_top (after_effect (Takes (with_index index operands.now) results.now)) s.old) result s.new }
 {
-    take_in_line(m, index, operands, results)
+    apply_type_in_line(s, index, operands, results)
 }
 
 /// Pops operands, and before them an i32 where there is an index, and does not go on.
-pub(crate) fn stop(m: &mut Machine, index: bool, operands: &[ValType]) -> Result<(), Stop>
-    ensures { Steps (on_top (after_effect (Stops (with_index index operands.now))) m.old) result m.new }
+pub(crate) fn apply_polymorphic(
+    s: &mut Stacks,
+    index: bool,
+    operands: &[ValType],
+) -> Result<(), Stop>
+    ensures { Steps (on_top (after_effect (Stops (with_index index operands.now))) s.old) result s.new }
 {
-    pop_indexed(m, index, operands)?;
-    m.stop();
+    pop_indexed(s, index, operands)?;
+    s.unreachable();
     Ok(())
 }
 
 /// Pushes an operand.
 #[inline(always)]
-pub(crate) fn give(m: &mut Machine, ty: ValType) -> Result<(), Stop>
-    ensures { Steps (on_top (after_effect (Takes [] (ty ∷ []))) m.old) result m.new }
+pub(crate) fn push_val(s: &mut Stacks, ty: ValType) -> Result<(), Stop>
+    ensures { Steps (on_top (after_effect (Takes [] (ty ∷ []))) s.old) result s.new }
 {
-    push_known(m, ty)?;
+    push_known(s, ty)?;
     Ok(())
 }
 
 /// Pops an operand.
 #[inline(always)]
-pub(crate) fn remove(m: &mut Machine, ty: ValType) -> Result<(), Stop>
-    ensures { Steps (on_top (after_effect (Takes (ty ∷ []) [])) m.old) result m.new }
+pub(crate) fn pop_val(s: &mut Stacks, ty: ValType) -> Result<(), Stop>
+    ensures { Steps (on_top (after_effect (Takes (ty ∷ []) [])) s.old) result s.new }
 {
-    pop_type(m, ty)?;
+    pop_type(s, ty)?;
     Ok(())
 }
 
 /// Pops two operands, the second first.
 #[inline(always)]
-pub(crate) fn remove_two(m: &mut Machine, first: ValType, second: ValType) -> Result<(), Stop>
-    ensures { Steps (on_top (after_effect (Takes (first ∷ second ∷ []) [])) m.old) result m.new }
+pub(crate) fn pop_two(s: &mut Stacks, first: ValType, second: ValType) -> Result<(), Stop>
+    ensures { Steps (on_top (after_effect (Takes (first ∷ second ∷ []) [])) s.old) result s.new }
 {
-    pop_type(m, second)?;
-    remove(m, first)
+    pop_type(s, second)?;
+    pop_val(s, first)
 }
 
 // Pops an operand and pushes a result, one after the other.
 #[inline(always)]
-fn turn_in_steps(m: &mut Machine, operand: ValType, given: ValType) -> Result<(), Stop>
-    ensures { Steps (on_top (after_effect (Takes (operand ∷ []) (given ∷ []))) m.old) result m.new }
+fn unop_in_steps(s: &mut Stacks, operand: ValType, given: ValType) -> Result<(), Stop>
+    ensures { Steps (on_top (after_effect (Takes (operand ∷ []) (given ∷ []))) s.old) result s.new }
 {
-    pop_type(m, operand)?;
-    give(m, given)
+    pop_type(s, operand)?;
+    push_val(s, given)
 }
 
-// The same out of line, where `turn` finds no operand that fits.
+// The same out of line, where `unop` finds no operand that fits.
 #[cold]
 #[inline(never)]
-fn turn_apart(m: &mut Machine, operand: ValType, given: ValType) -> Result<Growth, FaultKind>
+fn unop_slow(s: &mut Stacks, operand: ValType, given: ValType) -> Result<Growth, FaultKind>
     ensures { MadeBy
-        (on_top (after_effect (Takes (operand ∷ []) (given ∷ []))) m.old)
+        (on_top (after_effect (Takes (operand ∷ []) (given ∷ []))) s.old)
         result
-        m.new }
+        s.new }
 {
-    in_registers(turn_in_steps(m, operand, given))
+    to_registers(unop_in_steps(s, operand, given))
 }
 
 /// Pops an operand and pushes a result. Where an operand that fits is there, the result takes its place: that is a pop and a push
 /// without a look for room.
 #[inline(always)]
-pub(crate) fn turn(m: &mut Machine, operand: ValType, given: ValType) -> Result<(), Stop>
-    ensures { Steps (on_top (after_effect (Takes (operand ∷ []) (given ∷ []))) m.old) result m.new }
+pub(crate) fn unop(s: &mut Stacks, operand: ValType, given: ValType) -> Result<(), Stop>
+    ensures { Steps (on_top (after_effect (Takes (operand ∷ []) (given ∷ []))) s.old) result s.new }
 {
-    if m.turn_top(Operand::known(operand), Operand::known(given)) {
+    if s.unop_top(Operand::known(operand), Operand::known(given)) {
         return Ok(());
     }
-    match turn_apart(m, operand, given)? {
+    match unop_slow(s, operand, given)? {
         Growth::Made => Ok(()),
         Growth::Refused => Err(Stop::Memory),
     }
@@ -207,40 +211,40 @@ pub(crate) fn turn(m: &mut Machine, operand: ValType, given: ValType) -> Result<
 
 // Pops two operands of one type and pushes a result, one after the other.
 #[inline(always)]
-fn join_in_steps(m: &mut Machine, operand: ValType, given: ValType) -> Result<(), Stop>
+fn binop_in_steps(s: &mut Stacks, operand: ValType, given: ValType) -> Result<(), Stop>
     ensures { Steps
-        (on_top (after_effect (Takes (operand ∷ operand ∷ []) (given ∷ []))) m.old)
+        (on_top (after_effect (Takes (operand ∷ operand ∷ []) (given ∷ []))) s.old)
         result
-        m.new }
+        s.new }
 {
-    pop_type(m, operand)?;
-    turn_in_steps(m, operand, given)
+    pop_type(s, operand)?;
+    unop_in_steps(s, operand, given)
 }
 
-// The same out of line, where `join` does not find two operands that fit.
+// The same out of line, where `binop` does not find two operands that fit.
 #[cold]
 #[inline(never)]
-fn join_apart(m: &mut Machine, operand: ValType, given: ValType) -> Result<Growth, FaultKind>
+fn binop_slow(s: &mut Stacks, operand: ValType, given: ValType) -> Result<Growth, FaultKind>
     ensures { MadeBy
-        (on_top (after_effect (Takes (operand ∷ operand ∷ []) (given ∷ []))) m.old)
+        (on_top (after_effect (Takes (operand ∷ operand ∷ []) (given ∷ []))) s.old)
         result
-        m.new }
+        s.new }
 {
-    in_registers(join_in_steps(m, operand, given))
+    to_registers(binop_in_steps(s, operand, given))
 }
 
 /// Pops two operands of one type and pushes a result. Where two that fit are there, the result takes the place of the first.
 #[inline(always)]
-pub(crate) fn join(m: &mut Machine, operand: ValType, given: ValType) -> Result<(), Stop>
+pub(crate) fn binop(s: &mut Stacks, operand: ValType, given: ValType) -> Result<(), Stop>
     ensures { Steps
-        (on_top (after_effect (Takes (operand ∷ operand ∷ []) (given ∷ []))) m.old)
+        (on_top (after_effect (Takes (operand ∷ operand ∷ []) (given ∷ []))) s.old)
         result
-        m.new }
+        s.new }
 {
-    if m.join_top(Operand::known(operand), Operand::known(given)) {
+    if s.binop_top(Operand::known(operand), Operand::known(given)) {
         return Ok(());
     }
-    match join_apart(m, operand, given)? {
+    match binop_slow(s, operand, given)? {
         Growth::Made => Ok(()),
         Growth::Refused => Err(Stop::Memory),
     }
@@ -248,20 +252,20 @@ pub(crate) fn join(m: &mut Machine, operand: ValType, given: ValType) -> Result<
 
 /// Pops any operand.
 #[inline(always)]
-pub(crate) fn drop_top(m: &mut Machine) -> Result<(), Stop>
-    ensures { Steps (on_top (after_effect Drops) m.old) result m.new }
+pub(crate) fn drop_top(s: &mut Stacks) -> Result<(), Stop>
+    ensures { Steps (on_top (after_effect Drops) s.old) result s.new }
 {
-    m.pop()?;
+    s.pop_val()?;
     Ok(())
 }
 
 /// Pops an i32 and two operands of one type, and pushes one of them.
-pub(crate) fn select(m: &mut Machine) -> Result<(), Stop>
-    ensures { Steps (on_top (after_effect Selects) m.old) result m.new }
+pub(crate) fn select(s: &mut Stacks) -> Result<(), Stop>
+    ensures { Steps (on_top (after_effect Selects) s.old) result s.new }
 {
-    pop_known(m, ValType::I32)?;
-    let second = m.pop()?;
-    let first = pop_as(m, second)?;
-    m.push(second.or(first))?;
+    pop_known(s, ValType::I32)?;
+    let second = s.pop_val()?;
+    let first = pop_as(s, second)?;
+    s.push_val(second.or(first))?;
     Ok(())
 }

@@ -20,7 +20,7 @@ use wk_module::{
 };
 
 /// The most pages that a memory may have, 4 GiB in all.
-const MOST_PAGES: u32 = 1 << 16;
+const MAX_PAGES: u32 = 1 << 16;
 
 // Whether the least size is not above the greatest.
 fn are_in_order(limits: &Limits) -> bool
@@ -37,8 +37,8 @@ fn are_in_range(limits: &Limits) -> bool
     ensures { result ≡ in_range limits.now.min limits.now.max }
 {
     match limits.max {
-        Some(max) => limits.min <= MOST_PAGES && max <= MOST_PAGES,
-        None => limits.min <= MOST_PAGES,
+        Some(max) => limits.min <= MAX_PAGES && max <= MAX_PAGES,
+        None => limits.min <= MAX_PAGES,
     }
 }
 

@@ -8,18 +8,21 @@ ghost use Rattle.wk_body.specs.declared.references.Ref.{Ref};
 ghost use Rattle.wk_body.specs.declared.types.ValType.TheVariants.{I32};
 ghost use Rattle.wk_check.specs.Effects.{Takes, Selects, local_type, local_get, local_set, local_tee, global_get, global_set, with_memory, access_effect, numeric_effect};
 ghost use Rattle.wk_check.specs.Typing.{after_effect};
-ghost use Rattle.wk_check.specs.Levels.{step, entering, halved};
+ghost use Rattle.wk_check.specs.Levels.{step, enter_block, end_then};
 ghost use Rattle.wk_check.specs.Locals.{is_over};
 ghost use Rattle.wk_check.specs.Moves.{Steps, acting, on_top};
 
 use crate::control::{
-    branch, branch_if, branch_table, call, call_indirect, check_memory, close, enter, halve,
+    branch, branch_if, branch_table, call, call_indirect, check_memory, end_block, end_then,
+    enter_block,
 };
 use crate::env::{Answer, Env};
 use crate::fault::FaultKind;
 use crate::locals::Locals;
-use crate::machine::{Machine, Opener};
-use crate::operands::{drop_top, give, join, remove, remove_two, select, stop, turn};
+use crate::operands::{
+    apply_polymorphic, binop, drop_top, pop_two, pop_val, push_val, select, unop,
+};
+use crate::stacks::{FrameKind, Stacks};
 use crate::stop::Stop;
 use wk_module::{BlockType, MemoryOp, NumericOp, NumericType, Ref, Token, ValType};
 
@@ -34,55 +37,55 @@ pub(crate) struct Function<'a> {
 
 // A `local.get`.
 #[inline(always)]
-pub(crate) fn get_local(locals: &Locals, m: &mut Machine, x: u32) -> Result<(), Stop>
-    ensures { Steps (acting (local_get (local_type locals.now.params locals.now.groups x)) m.old) result m.new }
+pub(crate) fn get_local(locals: &Locals, s: &mut Stacks, x: u32) -> Result<(), Stop>
+    ensures { Steps (acting (local_get (local_type locals.now.params locals.now.groups x)) s.old) result s.new }
 {
     match locals.ty(x) {
-        Some(ty) => give(m, ty),
+        Some(ty) => push_val(s, ty),
         None => Err(Stop::Fault(FaultKind::UnknownLocal)),
     }
 }
 
 // A `local.set`.
 #[inline(always)]
-pub(crate) fn set_local(locals: &Locals, m: &mut Machine, x: u32) -> Result<(), Stop>
-    ensures { Steps (acting (local_set (local_type locals.now.params locals.now.groups x)) m.old) result m.new }
+pub(crate) fn set_local(locals: &Locals, s: &mut Stacks, x: u32) -> Result<(), Stop>
+    ensures { Steps (acting (local_set (local_type locals.now.params locals.now.groups x)) s.old) result s.new }
 {
     match locals.ty(x) {
-        Some(ty) => remove(m, ty),
+        Some(ty) => pop_val(s, ty),
         None => Err(Stop::Fault(FaultKind::UnknownLocal)),
     }
 }
 
 // A `local.tee`.
 #[inline(always)]
-pub(crate) fn tee_local(locals: &Locals, m: &mut Machine, x: u32) -> Result<(), Stop>
-    ensures { Steps (acting (local_tee (local_type locals.now.params locals.now.groups x)) m.old) result m.new }
+pub(crate) fn tee_local(locals: &Locals, s: &mut Stacks, x: u32) -> Result<(), Stop>
+    ensures { Steps (acting (local_tee (local_type locals.now.params locals.now.groups x)) s.old) result s.new }
 {
     match locals.ty(x) {
-        Some(ty) => turn(m, ty, ty),
+        Some(ty) => unop(s, ty, ty),
         None => Err(Stop::Fault(FaultKind::UnknownLocal)),
     }
 }
 
 // A `global.get`.
-pub(crate) fn get_global<E: Env>(env: &E, m: &mut Machine, x: u32) -> Result<(), Stop>
-    ensures { Steps (acting (global_get (E.answers env.now (Ref.Global x))) m.old) result m.new }
+pub(crate) fn get_global<E: Env>(env: &E, s: &mut Stacks, x: u32) -> Result<(), Stop>
+    ensures { Steps (acting (global_get (E.answers env.now (Ref.Global x))) s.old) result s.new }
 {
     match env.answer(Ref::Global(x)) {
-        Answer::Global(global) => give(m, global.val),
+        Answer::Global(global) => push_val(s, global.val),
         _ => Err(Stop::Fault(FaultKind::UnknownGlobal)),
     }
 }
 
 // A `global.set`.
-pub(crate) fn set_global<E: Env>(env: &E, m: &mut Machine, x: u32) -> Result<(), Stop>
-    ensures { Steps (acting (global_set (E.answers env.now (Ref.Global x))) m.old) result m.new }
+pub(crate) fn set_global<E: Env>(env: &E, s: &mut Stacks, x: u32) -> Result<(), Stop>
+    ensures { Steps (acting (global_set (E.answers env.now (Ref.Global x))) s.old) result s.new }
 {
     match env.answer(Ref::Global(x)) {
         Answer::Global(global) => {
             if global.mutable {
-                remove(m, global.val)
+                pop_val(s, global.val)
             } else {
                 Err(Stop::Fault(FaultKind::GlobalImmutable))
             }
@@ -93,7 +96,7 @@ pub(crate) fn set_global<E: Env>(env: &E, m: &mut Machine, x: u32) -> Result<(),
 
 // The exponent of the width of an access.
 #[inline(always)]
-fn most_align(op: MemoryOp) -> u32
+fn natural_align(op: MemoryOp) -> u32
     ensures { memory_width op ≡ 2 ^ result }
 {
     match op.width() {
@@ -109,90 +112,90 @@ fn most_align(op: MemoryOp) -> u32
 fn is_over(op: MemoryOp, align: u32) -> bool
     ensures { result ≡ is_over (memory_width op) align }
 {
-    align > most_align(op)
+    align > natural_align(op)
 }
 
 // A load or a store.
 #[inline(always)]
-pub(crate) fn access<E: Env>(env: &E, m: &mut Machine, op: MemoryOp, align: u32) -> Result<(), Stop>
-    ensures { Steps (acting (access_effect (E.answers env.now Ref.Memory) op align) m.old) result m.new }
+pub(crate) fn access<E: Env>(env: &E, s: &mut Stacks, op: MemoryOp, align: u32) -> Result<(), Stop>
+    ensures { Steps (acting (access_effect (E.answers env.now Ref.Memory) op align) s.old) result s.new }
 {
     check_memory(env)?;
     if is_over(op, align) {
         return Err(Stop::Fault(FaultKind::Alignment));
     }
     if op.is_store() {
-        remove_two(m, ValType::I32, op.ty())
+        pop_two(s, ValType::I32, op.ty())
     } else {
-        turn(m, ValType::I32, op.ty())
+        unop(s, ValType::I32, op.ty())
     }
 }
 
 // A `memory.size`.
-pub(crate) fn memory_size<E: Env>(env: &E, m: &mut Machine) -> Result<(), Stop>
-    ensures { Steps (acting (with_memory (E.answers env.now Ref.Memory) (Takes [] (I32 ∷ []))) m.old) result m.new }
+pub(crate) fn memory_size<E: Env>(env: &E, s: &mut Stacks) -> Result<(), Stop>
+    ensures { Steps (acting (with_memory (E.answers env.now Ref.Memory) (Takes [] (I32 ∷ []))) s.old) result s.new }
 {
     check_memory(env)?;
-    give(m, ValType::I32)
+    push_val(s, ValType::I32)
 }
 
 // A `memory.grow`.
-pub(crate) fn memory_grow<E: Env>(env: &E, m: &mut Machine) -> Result<(), Stop>
-    ensures { Steps (acting (with_memory (E.answers env.now Ref.Memory) (Takes (I32 ∷ []) (I32 ∷ []))) m.old) result m.new }
+pub(crate) fn memory_grow<E: Env>(env: &E, s: &mut Stacks) -> Result<(), Stop>
+    ensures { Steps (acting (with_memory (E.answers env.now Ref.Memory) (Takes (I32 ∷ []) (I32 ∷ []))) s.old) result s.new }
 {
     check_memory(env)?;
-    turn(m, ValType::I32, ValType::I32)
+    unop(s, ValType::I32, ValType::I32)
 }
 
 // The beginning of a block. (Its answer comes through memory, into a place that is this function's own, and its type goes through
 // memory in a copy: so the loop over the tokens keeps its answers and the tokens in registers.)
 #[inline(always)]
-fn open<E: Env>(
+fn type_open<E: Env>(
     env: &E,
-    m: &mut Machine,
+    s: &mut Stacks,
     test: bool,
-    opener: Opener,
+    kind: FrameKind,
     ty: &BlockType,
 ) -> Result<(), Stop>
-    ensures { Steps (entering (E.answers env.now) test opener ty.now m.old) result m.new }
+    ensures { Steps (enter_block (E.answers env.now) test kind ty.now s.old) result s.new }
 {
     let ty = *ty;
-    enter(env, m, test, opener, &ty)?;
+    enter_block(env, s, test, kind, &ty)?;
     Ok(())
 }
 
 // An `else`, with a place of its own as well.
 #[inline(always)]
-fn otherwise<E: Env>(env: &E, m: &mut Machine) -> Result<(), Stop>
-    ensures { Steps (halved (E.answers env.now) m.old) result m.new }
+fn type_else<E: Env>(env: &E, s: &mut Stacks) -> Result<(), Stop>
+    ensures { Steps (end_then (E.answers env.now) s.old) result s.new }
 {
-    halve(env, m)?;
+    end_then(env, s)?;
     Ok(())
 }
 
 // A `select`, with a place of its own as well.
 #[inline(always)]
-fn choose(m: &mut Machine) -> Result<(), Stop>
-    ensures { Steps (on_top (after_effect Selects) m.old) result m.new }
+fn type_select(s: &mut Stacks) -> Result<(), Stop>
+    ensures { Steps (on_top (after_effect Selects) s.old) result s.new }
 {
-    select(m)?;
+    select(s)?;
     Ok(())
 }
 
 // A numeric instruction.
 #[inline(always)]
-pub(crate) fn numeric(m: &mut Machine, op: NumericOp) -> Result<(), Stop>
-    ensures { Steps (on_top (after_effect (numeric_effect (numeric_type op))) m.old) result m.new }
+pub(crate) fn numeric(s: &mut Stacks, op: NumericOp) -> Result<(), Stop>
+    ensures { Steps (on_top (after_effect (numeric_effect (numeric_type op))) s.old) result s.new }
 {
     match op.ty() {
         NumericType::Unary {
             operand,
             result: given,
-        } => turn(m, operand, given),
+        } => unop(s, operand, given),
         NumericType::Binary {
             operand,
             result: given,
-        } => join(m, operand, given),
+        } => binop(s, operand, given),
     }
 }
 
@@ -202,43 +205,43 @@ pub(crate) fn type_token<E: Env>(
     env: &E,
     f: &Function<'_>,
     pool: &[u32],
-    m: &mut Machine,
+    s: &mut Stacks,
     token: &Token,
 ) -> Result<(), Stop>
     requires { IsWithin (length pool.now) token.now }
-    ensures { Steps (step (E.answers env.now) (local_type f.now.locals.params f.now.locals.groups) f.now.results.now (told pool.now token.now) m.old) result m.new }
+    ensures { Steps (step (E.answers env.now) (local_type f.now.locals.params f.now.locals.groups) f.now.results.now (told pool.now token.now) s.old) result s.new }
 {
     match token {
-        Token::Unreachable => stop(m, false, &[]),
+        Token::Unreachable => apply_polymorphic(s, false, &[]),
         Token::Nop => Ok(()),
-        Token::Block { ty, .. } => open(env, m, false, Opener::Block, ty),
-        Token::Loop { ty, .. } => open(env, m, false, Opener::Loop, ty),
-        Token::If { ty, .. } => open(env, m, true, Opener::If, ty),
-        Token::Else { .. } => otherwise(env, m),
-        Token::End => close(env, m),
-        Token::Br(to) => branch(env, m, *to),
-        Token::BrIf(to) => branch_if(env, m, *to),
+        Token::Block { ty, .. } => type_open(env, s, false, FrameKind::Block, ty),
+        Token::Loop { ty, .. } => type_open(env, s, false, FrameKind::Loop, ty),
+        Token::If { ty, .. } => type_open(env, s, true, FrameKind::If, ty),
+        Token::Else { .. } => type_else(env, s),
+        Token::End => end_block(env, s),
+        Token::Br(to) => branch(env, s, *to),
+        Token::BrIf(to) => branch_if(env, s, *to),
         Token::BrTable { start, len, other } => {
             let start = *start as usize;
-            branch_table(env, m, &pool[start..start + *len as usize], *other)
+            branch_table(env, s, &pool[start..start + *len as usize], *other)
         }
-        Token::Return => stop(m, false, f.results),
-        Token::Call(x) => call(env, m, *x),
-        Token::CallIndirect(x) => call_indirect(env, m, *x),
-        Token::Drop => drop_top(m),
-        Token::Select => choose(m),
-        Token::LocalGet(x) => get_local(&f.locals, m, *x),
-        Token::LocalSet(x) => set_local(&f.locals, m, *x),
-        Token::LocalTee(x) => tee_local(&f.locals, m, *x),
-        Token::GlobalGet(x) => get_global(env, m, *x),
-        Token::GlobalSet(x) => set_global(env, m, *x),
-        Token::Access { op, align, .. } => access(env, m, *op, *align),
-        Token::MemorySize => memory_size(env, m),
-        Token::MemoryGrow => memory_grow(env, m),
-        Token::I32Const(_) => give(m, ValType::I32),
-        Token::I64Const(_) => give(m, ValType::I64),
-        Token::F32Const(_) => give(m, ValType::F32),
-        Token::F64Const(_) => give(m, ValType::F64),
-        Token::Numeric(op) => numeric(m, *op),
+        Token::Return => apply_polymorphic(s, false, f.results),
+        Token::Call(x) => call(env, s, *x),
+        Token::CallIndirect(x) => call_indirect(env, s, *x),
+        Token::Drop => drop_top(s),
+        Token::Select => type_select(s),
+        Token::LocalGet(x) => get_local(&f.locals, s, *x),
+        Token::LocalSet(x) => set_local(&f.locals, s, *x),
+        Token::LocalTee(x) => tee_local(&f.locals, s, *x),
+        Token::GlobalGet(x) => get_global(env, s, *x),
+        Token::GlobalSet(x) => set_global(env, s, *x),
+        Token::Access { op, align, .. } => access(env, s, *op, *align),
+        Token::MemorySize => memory_size(env, s),
+        Token::MemoryGrow => memory_grow(env, s),
+        Token::I32Const(_) => push_val(s, ValType::I32),
+        Token::I64Const(_) => push_val(s, ValType::I64),
+        Token::F32Const(_) => push_val(s, ValType::F32),
+        Token::F64Const(_) => push_val(s, ValType::F64),
+        Token::Numeric(op) => numeric(s, *op),
     }
 }

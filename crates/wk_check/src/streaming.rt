@@ -8,11 +8,11 @@ ghost use Rattle.wk_check.specs.Streaming.{IsTyped, IsValidBody, GoesOn};
 
 use crate::control::{check_end, check_known, params, results};
 use crate::env::Env;
-use crate::fast_blocks::Met;
-use crate::fast_path::quick;
+use crate::fast_blocks::Peek;
+use crate::fast_extended::{fast_open_indexed, fast_sign_extend};
+use crate::fast_path::type_fast;
 use crate::locals::{Locals, put_ends, put_first};
-use crate::machine::Machine;
-use crate::quick_extended::{quick_indexed, quick_signed};
+use crate::stacks::Stacks;
 use crate::step::{Function, type_token};
 use crate::stop::Stop;
 use std::alloc::Global;
@@ -23,7 +23,7 @@ use wk_module::{BlockType, LocalGroup, Profile, TokenReader, ValType, next_group
 #[derive(Drop)]
 struct Stream {
     reader: TokenReader,
-    machine: Machine,
+    stacks: Stacks,
 }
 
 /// The room in which bodies are typed while they are read, used again from one body to the next.
@@ -41,7 +41,7 @@ impl StreamRoom {
         StreamRoom {
             stream: Stream {
                 reader: TokenReader::new(alloc),
-                machine: Machine::new(alloc),
+                stacks: Stacks::new(alloc),
             },
             groups: Vec::new(alloc),
             ends: Vec::new(alloc),
@@ -51,7 +51,7 @@ impl StreamRoom {
 }
 
 // What it means for the body that its reading stops at a fault.
-fn stopped(fault: &ReadFault) -> Result<bool, OutOfMemory>
+fn verdict_of_fault(fault: &ReadFault) -> Result<bool, OutOfMemory>
     ensures { IfOk result (λ valid. valid ≡ false) }
 {
     match fault.kind {
@@ -62,7 +62,7 @@ fn stopped(fault: &ReadFault) -> Result<bool, OutOfMemory>
 
 // What one token came to. (It goes in a register.)
 #[derive(Clone, Copy, Debug, PartialEq, Eq)]
-enum Went {
+enum Step {
     // It was typed.
     On,
     // It is the end that closes no block.
@@ -75,93 +75,93 @@ enum Went {
 
 // Reads the token at the front, whatever it is, and types it.
 #[inline(never)]
-fn read_on<E: Env>(
+fn read_and_type<E: Env>(
     env: &E,
     f: &Function<'_>,
     profile: Profile,
     stream: &mut Stream,
     cursor: &mut Cursor<'_>,
-) -> Went
-    ensures { GoesOn (E.answers env.now) (local_type f.now.locals.params f.now.locals.groups) f.now.results.now profile result stream.old.reader stream.new.reader cursor.old cursor.new stream.old.machine stream.new.machine }
+) -> Step
+    ensures { GoesOn (E.answers env.now) (local_type f.now.locals.params f.now.locals.groups) f.now.results.now profile result stream.old.reader stream.new.reader cursor.old cursor.new stream.old.stacks stream.new.stacks }
 {
-    let Stream { reader, machine } = stream;
+    let Stream { reader, stacks } = stream;
     // (A cursor of its own, which stays in registers from label to label.)
     let mut ahead = cursor.ahead();
     let next = reader.next(profile, &mut ahead);
     *cursor = ahead;
     match next {
-        Ok(Some(token)) => match type_token(env, f, reader.labels(), machine, &token) {
-            Ok(()) => Went::On,
-            Err(Stop::Fault(_)) => Went::Wrong,
-            Err(Stop::Memory) => Went::Memory,
+        Ok(Some(token)) => match type_token(env, f, reader.labels(), stacks, &token) {
+            Ok(()) => Step::On,
+            Err(Stop::Fault(_)) => Step::Wrong,
+            Err(Stop::Memory) => Step::Memory,
         },
-        Ok(None) => Went::End,
+        Ok(None) => Step::End,
         Err(fault) => match fault.kind {
-            ReadKind::Memory => Went::Memory,
-            _ => Went::Wrong,
+            ReadKind::Memory => Step::Memory,
+            _ => Step::Wrong,
         },
     }
 }
 
 // Types the token at the front, whatever it is, in the extended profile: one that opens a block of a type index from its bytes.
 #[inline(never)]
-fn open_on<E: Env>(
+fn type_extended<E: Env>(
     env: &E,
     f: &Function<'_>,
     profile: Profile,
     stream: &mut Stream,
     cursor: &mut Cursor<'_>,
-) -> Went
+) -> Step
     requires { profile ≡ Profile.Extended }
-    ensures { GoesOn (E.answers env.now) (local_type f.now.locals.params f.now.locals.groups) f.now.results.now profile result stream.old.reader stream.new.reader cursor.old cursor.new stream.old.machine stream.new.machine }
+    ensures { GoesOn (E.answers env.now) (local_type f.now.locals.params f.now.locals.groups) f.now.results.now profile result stream.old.reader stream.new.reader cursor.old cursor.new stream.old.stacks stream.new.stacks }
 {
-    let Stream { reader, machine } = stream;
+    let Stream { reader, stacks } = stream;
     let mut ahead = cursor.ahead();
-    match quick_indexed(env, f, reader, machine, &mut ahead) {
+    match fast_open_indexed(env, f, reader, stacks, &mut ahead) {
         Ok(true) => {
             *cursor = ahead;
-            return Went::On;
+            return Step::On;
         }
         Ok(false) => {}
-        Err(Stop::Fault(_)) => return Went::Wrong,
-        Err(Stop::Memory) => return Went::Memory,
+        Err(Stop::Fault(_)) => return Step::Wrong,
+        Err(Stop::Memory) => return Step::Memory,
     }
-    read_on(env, f, profile, stream, cursor)
+    read_and_type(env, f, profile, stream, cursor)
 }
 
-// Types the token at the front, whatever it is. It stands apart, so that the loop over those that `quick` takes is small. What the
-// extended profile alone has is told from its bytes here, as `quick` tells other tokens, and the rarer one behind another call: so
-// this one holds no room of a result, which would be cleared at each token.
+// Types the token at the front, whatever it is. It stands apart, so that the loop over those that `type_fast` takes is small. What
+// the extended profile alone has is told from its bytes here, as `type_fast` tells other tokens, and the rarer one behind another
+// call: so this one holds no room of a result, which would be cleared at each token.
 #[inline(never)]
-fn go<E: Env>(
+fn type_slow<E: Env>(
     env: &E,
     f: &Function<'_>,
     profile: Profile,
     stream: &mut Stream,
     cursor: &mut Cursor<'_>,
-) -> Went
-    ensures { GoesOn (E.answers env.now) (local_type f.now.locals.params f.now.locals.groups) f.now.results.now profile result stream.old.reader stream.new.reader cursor.old cursor.new stream.old.machine stream.new.machine }
+) -> Step
+    ensures { GoesOn (E.answers env.now) (local_type f.now.locals.params f.now.locals.groups) f.now.results.now profile result stream.old.reader stream.new.reader cursor.old cursor.new stream.old.stacks stream.new.stacks }
 {
     if profile == Profile::Core {
-        return read_on(env, f, profile, stream, cursor);
+        return read_and_type(env, f, profile, stream, cursor);
     }
     let mut ahead = cursor.ahead();
-    match quick_signed(env, f, &mut stream.machine, &mut ahead) {
+    match fast_sign_extend(env, f, &mut stream.stacks, &mut ahead) {
         Ok(true) => {
             *cursor = ahead;
-            return Went::On;
+            return Step::On;
         }
         Ok(false) => {}
-        Err(Stop::Fault(_)) => return Went::Wrong,
-        Err(Stop::Memory) => return Went::Memory,
+        Err(Stop::Fault(_)) => return Step::Wrong,
+        Err(Stop::Memory) => return Step::Memory,
     }
-    open_on(env, f, profile, stream, cursor)
+    type_extended(env, f, profile, stream, cursor)
 }
 
 // Whether the instructions at the front, which have this type, go up to their end without a fault. Then the cursor stands behind
 // them.
 #[inline(never)]
-fn flows<E: Env>(
+fn type_expr<E: Env>(
     env: &E,
     f: &Function<'_>,
     block: BlockType,
@@ -173,40 +173,40 @@ fn flows<E: Env>(
     ensures { IfOk result (λ valid. valid ≡ true → IsTyped (E.answers env.now) (local_type f.now.locals.params f.now.locals.groups) f.now.results.now profile cursor.old cursor.new) }
 {
     stream.reader.begin();
-    stream.machine.begin(block);
+    stream.stacks.begin(block);
     // A cursor of its own, which stays in registers from token to token.
     let mut ahead = cursor.ahead();
     loop {
         let mut next = ahead.ahead();
-        let Stream { reader, machine } = stream;
-        match quick(env, f, reader, machine, &mut next) {
-            Ok(Met::Token) => {
+        let Stream { reader, stacks } = stream;
+        match type_fast(env, f, reader, stacks, &mut next) {
+            Ok(Peek::Token) => {
                 ahead = next;
                 continue;
             }
-            Ok(Met::Last) => {
-                let Ok(()) = check_end(machine, f.results) else {
+            Ok(Peek::Last) => {
+                let Ok(()) = check_end(stacks, f.results) else {
                     return Ok(false);
                 };
                 *cursor = next;
                 return Ok(true);
             }
-            Ok(Met::Other) => {}
+            Ok(Peek::Other) => {}
             Err(Stop::Fault(_)) => return Ok(false),
             Err(Stop::Memory) => return Err(OutOfMemory),
         }
         let mut next = ahead.ahead();
-        match go(env, f, profile, stream, &mut next) {
-            Went::On => ahead = next,
-            Went::End => {
-                let Ok(()) = check_end(&mut stream.machine, f.results) else {
+        match type_slow(env, f, profile, stream, &mut next) {
+            Step::On => ahead = next,
+            Step::End => {
+                let Ok(()) = check_end(&mut stream.stacks, f.results) else {
                     return Ok(false);
                 };
                 *cursor = next;
                 return Ok(true);
             }
-            Went::Wrong => return Ok(false),
-            Went::Memory => return Err(OutOfMemory),
+            Step::Wrong => return Ok(false),
+            Step::Memory => return Err(OutOfMemory),
         }
     }
 }
@@ -234,7 +234,7 @@ pub(crate) fn is_valid_body<E: Env>(
     } = room;
     let mut cursor = code.ahead();
     if let Err(fault) = next_groups(groups, &mut cursor) {
-        return stopped(&fault);
+        return verdict_of_fault(&fault);
     }
     put_ends(groups, ends)?;
     let parameters = params(env, block);
@@ -243,5 +243,5 @@ pub(crate) fn is_valid_body<E: Env>(
         locals: Locals::of(parameters, groups, ends, first),
         results: results(env, block),
     };
-    Ok(flows(env, &f, block, profile, stream, &mut cursor)? && cursor.rest().is_empty())
+    Ok(type_expr(env, &f, block, profile, stream, &mut cursor)? && cursor.rest().is_empty())
 }

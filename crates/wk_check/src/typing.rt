@@ -12,7 +12,7 @@ use crate::control::{check_end, check_known, params, results};
 use crate::env::Env;
 use crate::fault::{BodyVerdict, FaultKind};
 use crate::locals::{Locals, put_ends, put_first};
-use crate::machine::Machine;
+use crate::stacks::Stacks;
 use crate::step::{Function, type_token};
 use crate::stop::Stop;
 use std::alloc::Global;
@@ -22,7 +22,7 @@ use wk_module::{BlockType, Body, Expr, Token, ValType};
 /// The room in which code is typed, used again from one body to the next.
 #[derive(Debug, Drop)]
 pub(crate) struct Room {
-    pub(crate) machine: Machine,
+    pub(crate) stacks: Stacks,
     ends: Vec<u32>,
     first: Vec<ValType>,
 }
@@ -31,7 +31,7 @@ impl Room {
     /// Room that is still to grow.
     pub(crate) fn new(alloc: Global) -> Room {
         Room {
-            machine: Machine::new(alloc),
+            stacks: Stacks::new(alloc),
             ends: Vec::new(alloc),
             first: Vec::new(alloc),
         }
@@ -43,7 +43,7 @@ fn type_tokens<E: Env>(
     env: &E,
     f: &Function<'_>,
     pool: &[u32],
-    m: &mut Machine,
+    s: &mut Stacks,
     tokens: &[Token],
 ) -> Result<Option<(FaultKind, u32)>, OutOfMemory>
     requires few { length tokens.now < 2 ^ 32 }
@@ -51,13 +51,13 @@ fn type_tokens<E: Env>(
     ensures { IfOk
         result
         (λ r. RunsTo
-        (run (E.answers env.now) (local_type f.now.locals.params f.now.locals.groups) f.now.results.now 0 (all_told pool.now tokens.now) m.old)
+        (run (E.answers env.now) (local_type f.now.locals.params f.now.locals.groups) f.now.results.now 0 (all_told pool.now tokens.now) s.old)
         r
-        m.new) }
+        s.new) }
 {
     let mut at: u32 = 0;
     for token in tokens {
-        match type_token(env, f, pool, m, token) {
+        match type_token(env, f, pool, s, token) {
             Ok(()) => {
                 at += 1;
             }
@@ -78,7 +78,7 @@ pub(crate) fn type_code<E: Env>(
     f: &Function<'_>,
     block: BlockType,
     expr: &Expr,
-    m: &mut Machine,
+    s: &mut Stacks,
 ) -> Result<Option<(FaultKind, u32)>, OutOfMemory>
     requires { f.now.results.now ≡ results_of (E.answers env.now) block }
     ensures { IfOk
@@ -88,11 +88,11 @@ pub(crate) fn type_code<E: Env>(
         r) }
 {
     let (tokens, pool) = expr.tokens();
-    m.begin(block);
-    if let Some(fault) = type_tokens(env, f, pool, m, tokens)? {
+    s.begin(block);
+    if let Some(fault) = type_tokens(env, f, pool, s, tokens)? {
         return Ok(Some(fault));
     }
-    match check_end(m, f.results) {
+    match check_end(s, f.results) {
         Ok(()) => Ok(None),
         Err(kind) => Ok(Some((kind, tokens.len() as u32 - 1))),
     }
@@ -124,7 +124,7 @@ pub(crate) fn type_body<E: Env>(
         ),
         results: results(env, block),
     };
-    match type_code(env, &f, block, body.expr(), &mut room.machine)? {
+    match type_code(env, &f, block, body.expr(), &mut room.stacks)? {
         None => Ok(BodyVerdict::Valid),
         Some((kind, token)) => Ok(BodyVerdict::Invalid { kind, token }),
     }

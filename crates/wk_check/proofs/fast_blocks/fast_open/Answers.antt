@@ -9,5 +9,5 @@ returns-clause-taken g c = λ profile yes.
       kinds = opened.1;
       read = (c.in-Some.ensures.read profile).0;
       same_end = (c.in-Some.ensures.read profile).1;
-      typed = c.in_ok-begin.ensures;
+      typed = c.in_ok-enter_short.ensures;
     }

@@ -9,5 +9,5 @@ returns g c =
     let A = g.E.Env.answers c.args.env.now in
     let empty = c.in-Some-default-Empty in
     let head = rw empty.field-0-1-is at (sym empty.is ∙ c.head.ensures) in
-    let label : slice_get (labels_of A c.args.m.now) c.args.x ≡ Some [] = label_none A c.args.m.now c.args.x empty.field-0-0 head in
-    rw label (sym (ap Ok c.stop.ensures))
+    let label : slice_get (labels_of A c.args.s.now) c.args.x ≡ Some [] = label_none A c.args.s.now c.args.x empty.field-0-0 head in
+    rw label (sym (ap Ok c.unreachable.ensures))

@@ -9,10 +9,10 @@ use Rattle.wk_check.proofs.operands.pop_indexed.Goals as goal
 pub returns-in_err-pop_known : goal.returns-in_err-pop_known
 returns-in_err-pop_known c =
     let p = err_from_is_err_and c.from_residual.result c.from_residual.ensures.1 in
-    let P : Bool → Type 0 = λ i. Does (on_top (popped (with_index i c.args.types.now)) c.args.m.now) c.from_residual.result c.pop_known.new.m in
-    subst P (sym c.if-index.true) (rw (p.1, p.2) (indexed_err c.args.types.now _ c.args.m.now _ c.in_err-pop_known.ensures))
+    let P : Bool → Type 0 = λ i. Does (on_top (popped (with_index i c.args.types.now)) c.args.s.now) c.from_residual.result c.pop_known.new.s in
+    subst P (sym c.if-index.true) (rw (p.1, p.2) (indexed_err c.args.types.now _ c.args.s.now _ c.in_err-pop_known.ensures))
 
 pub returns-then-index : goal.returns-then-index
 returns-then-index c =
-    let P : Bool → Type 0 = λ i. Does (on_top (popped (with_index i c.args.types.now)) c.args.m.now) c.pop_types.result c.pop_types.new.m in
-    subst P (sym c.if-index.true) (subst (λ o. Does o c.pop_types.result c.pop_types.new.m) (sym (indexed_ok c.args.types.now _ c.args.m.now c.pop_known.new.m _ c.in_ok-pop_known.ensures)) c.pop_types.ensures)
+    let P : Bool → Type 0 = λ i. Does (on_top (popped (with_index i c.args.types.now)) c.args.s.now) c.pop_types.result c.pop_types.new.s in
+    subst P (sym c.if-index.true) (subst (λ o. Does o c.pop_types.result c.pop_types.new.s) (sym (indexed_ok c.args.types.now _ c.args.s.now c.pop_known.new.s _ c.in_ok-pop_known.ensures)) c.pop_types.ensures)

@@ -2,4 +2,4 @@ use Rattle.wk_check.proofs.Alignment.{over}
 use Rattle.wk_check.proofs.step.is_over.Goals as goal
 
 pub returns : goal.returns
-returns c = over c.most_align.result c.args.align _ c.most_align.ensures
+returns c = over c.natural_align.result c.args.align _ c.natural_align.ensures
