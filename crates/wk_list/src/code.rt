@@ -12,13 +12,13 @@ ghost use Rattle.wk_list.specs.Taken.{Leaves, PutsOut, failed_after};
 ghost use Rattle.wk_list.specs.CodeText.{code_line, group_text, locals_text, entry_head, entry_text, entries_text, expr_text, code_start, code_text};
 ghost use Rattle.wk_list.specs.TokenText.{tok_text, toks_text, toks_length};
 
-use crate::brief::{Line, NAMED, put_brief_line};
+use crate::fast_line::{Line, NAME_LIMIT, put_line_fast};
 use crate::fault::ListFault;
 use crate::headers::{contents_start, section_end};
-use crate::page::{PIECE, spill, wanting};
+use crate::line_buffer::CAPACITY;
+use crate::page::{FLUSH_LEN, len_to_flush, spill};
 use crate::rows::put_field;
 use crate::shape::Shape;
-use crate::sheet::ROOM;
 use crate::spaces::count_of;
 use crate::text::{put_indexed, put_number};
 use crate::token::{depths, put_line};
@@ -26,32 +26,32 @@ use crate::typetext::valtype_name;
 use wk_bytes::{Out, OutOfMemory, leb_len_u32};
 use wk_module::{Expr, Func, HEADER_LEN, Kind, LocalGroup, Token, section_id};
 
-// How far names may reach on a sheet behind this text. Where both are long enough to go out, no name has room: so the text goes out
+// How far names may reach in a buffer behind this text. Where both are long enough to go out, no name has room: so the text goes out
 // behind the same line, and before the next one asks for memory, as if each line went behind it by itself.
 fn reach_behind(text: &[u8]) -> usize
-    ensures near { result ≤ NAMED }
-    ensures exact { result ≡ min NAMED (PIECE - length text.now) }
+    ensures near { result ≤ NAME_LIMIT }
+    ensures exact { result ≡ min NAME_LIMIT (FLUSH_LEN - length text.now) }
 {
-    NAMED.min(wanting(text))
+    NAME_LIMIT.min(len_to_flush(text))
 }
 
-// The lines on a sheet go behind the text.
-fn put_sheet<W: Out>(sheet: &[u8], text: &mut Vec<u8>, out: &mut W) -> Result<(), ListFault>
+// The lines in a buffer go behind the text.
+fn put_buf<W: Out>(buf: &[u8], text: &mut Vec<u8>, out: &mut W) -> Result<(), ListFault>
     requires room { W.failed out.old < 2 ^ 64 - 1 }
     ensures { PutsOut W.taken W.failed out.old out.new
-        (text.old.items ++ sheet.now) text.new.items result }
+        (text.old.items ++ buf.now) text.new.items result }
 {
-    if sheet.is_empty() {
+    if buf.is_empty() {
         return Ok(());
     }
-    text.extend_from_slice(sheet)?;
+    text.extend_from_slice(buf)?;
     spill(text, out)
 }
 
-// The lines on a sheet, and behind them the line of a token that goes to no sheet.
+// The lines in a buffer, and behind them the line of a token that goes to no buffer.
 #[inline(never)]
 fn list_long_line<W: Out>(
-    sheet: &[u8],
+    buf: &[u8],
     labels: &[u32],
     token: &Token,
     at: u32,
@@ -63,21 +63,21 @@ fn list_long_line<W: Out>(
     requires within { IsWithin (length labels.now) token.now }
     requires shallow { depth < 2 ^ 32 }
     ensures { PutsOut W.taken W.failed out.old out.new
-        (text.old.items ++ sheet.now ++ code_line at depth (tok_text (told labels.now token.now))) text.new.items result }
+        (text.old.items ++ buf.now ++ code_line at depth (tok_text (told labels.now token.now))) text.new.items result }
 {
-    put_sheet(sheet, text, out)?;
+    put_buf(buf, text, out)?;
     put_line(text, labels, token, at, depth)?;
     spill(text, out)
 }
 
-// The line of a token, behind so many bytes of a sheet, on which names may reach so far. Its end is how many stand on it then.
+// The line of a token, behind so many bytes of a buffer, on which names may reach so far. Its end is how many stand on it then.
 #[inline(always)]
 fn list_token<W: Out>(
     labels: &[u32],
     token: &Token,
     at: u32,
     depth: usize,
-    sheet: &mut [u8; ROOM],
+    buf: &mut [u8; CAPACITY],
     used: usize,
     reach: &mut usize,
     text: &mut Vec<u8>,
@@ -86,30 +86,30 @@ fn list_token<W: Out>(
     requires room { W.failed out.old < 2 ^ 64 - 1 }
     requires within { IsWithin (length labels.now) token.now }
     requires shallow { depth < 2 ^ 32 }
-    requires inside { used ≤ ROOM }
-    requires reach { reach.old ≤ NAMED }
-    ensures reach { reach.new ≤ NAMED }
-    ensures inside { IfOk result (λ line. line.end ≤ ROOM) }
-    ensures ok { IfOk result (λ line. Leaves (W.taken out.old) (W.taken out.new) (text.old.items ++ take used sheet.old ++ code_line at depth (tok_text (told labels.now token.now))) (text.new.items ++ take line.end sheet.new)) }
+    requires inside { used ≤ CAPACITY }
+    requires reach { reach.old ≤ NAME_LIMIT }
+    ensures reach { reach.new ≤ NAME_LIMIT }
+    ensures inside { IfOk result (λ line. line.end ≤ CAPACITY) }
+    ensures ok { IfOk result (λ line. Leaves (W.taken out.old) (W.taken out.new) (text.old.items ++ take used buf.old ++ code_line at depth (tok_text (told labels.now token.now))) (text.new.items ++ take line.end buf.new)) }
     ensures len { IfOk result (λ line. line.len ≡ length (tok_bytes (told labels.now token.now))) }
-    ensures err { OnErr result (TakesFront (W.taken out.old) (W.taken out.new) (text.old.items ++ take used sheet.old ++ code_line at depth (tok_text (told labels.now token.now)))) }
+    ensures err { OnErr result (TakesFront (W.taken out.old) (W.taken out.new) (text.old.items ++ take used buf.old ++ code_line at depth (tok_text (told labels.now token.now)))) }
     ensures failures { W.failed out.new ≡ failed_after (W.failed out.old) result }
 {
-    if let Some(line) = put_brief_line(sheet, used, labels, token, at, depth, *reach) {
+    if let Some(line) = put_line_fast(buf, used, labels, token, at, depth, *reach) {
         return Ok(line);
     }
-    list_long_line(&sheet[..used], labels, token, at, depth, text, out)?;
+    list_long_line(&buf[..used], labels, token, at, depth, text, out)?;
     *reach = reach_behind(text);
     let len = token.head_len(labels);
     Ok(Line { end: 0, len })
 }
 
-// The lines of tokens, the first of which stands at `start` and outside of all blocks. They are gathered on a sheet first.
+// The lines of tokens, the first of which stands at `start` and outside of all blocks. They are gathered in a buffer first.
 fn list_tokens<W: Out>(
     labels: &[u32],
     tokens: &[Token],
     start: u32,
-    sheet: &mut [u8; ROOM],
+    buf: &mut [u8; CAPACITY],
     text: &mut Vec<u8>,
     out: &mut W,
 ) -> Result<(), ListFault>
@@ -126,20 +126,20 @@ fn list_tokens<W: Out>(
     let mut reach = reach_behind(text);
     while let Some((token, after)) = rest.split_first() {
         let (here, behind) = depths(token, depth);
-        let line = list_token(labels, token, at, here, sheet, used, &mut reach, text, out)?;
+        let line = list_token(labels, token, at, here, buf, used, &mut reach, text, out)?;
         at += line.len as u32;
         used = line.end;
         depth = behind;
         rest = after;
     }
-    put_sheet(&sheet[..used], text, out)
+    put_buf(&buf[..used], text, out)
 }
 
 // The lines of an expression whose first instruction stands at `start`.
 fn list_expr<W: Out>(
     expr: &Expr,
     start: u32,
-    sheet: &mut [u8; ROOM],
+    buf: &mut [u8; CAPACITY],
     text: &mut Vec<u8>,
     out: &mut W,
 ) -> Result<(), ListFault>
@@ -149,7 +149,7 @@ fn list_expr<W: Out>(
         (text.old.items ++ expr_text start expr.now) text.new.items result }
 {
     let (tokens, labels) = expr.tokens();
-    list_tokens(labels, tokens, start, sheet, text, out)
+    list_tokens(labels, tokens, start, buf, text, out)
 }
 
 // How many bytes local groups are, without their count.
@@ -213,7 +213,7 @@ fn list_entry<W: Out>(
     func: &Func,
     at: u32,
     size: u32,
-    sheet: &mut [u8; ROOM],
+    buf: &mut [u8; CAPACITY],
     text: &mut Vec<u8>,
     out: &mut W,
 ) -> Result<(), ListFault>
@@ -227,7 +227,7 @@ fn list_entry<W: Out>(
     let locals_len = leb_len_u32(groups.len() as u32) as u64 + groups_len(groups);
     let start = at + leb_len_u32(size) as u32 + locals_len as u32;
     put_entry_head(text, index, func)?;
-    list_expr(func.body.expr(), start, sheet, text, out)
+    list_expr(func.body.expr(), start, buf, text, out)
 }
 
 // The lines of all functions, behind so many imported ones; the size of the first begins at `start`.
@@ -235,7 +235,7 @@ fn list_entries<S: Shape, W: Out>(
     shape: &S,
     imported: u32,
     start: u32,
-    sheet: &mut [u8; ROOM],
+    buf: &mut [u8; CAPACITY],
     text: &mut Vec<u8>,
     out: &mut W,
 ) -> Result<(), ListFault>
@@ -253,7 +253,7 @@ fn list_entries<S: Shape, W: Out>(
             func,
             at,
             size,
-            sheet,
+            buf,
             text,
             out,
         )?;
@@ -307,6 +307,6 @@ pub(crate) fn list_code<S: Shape, W: Out>(
     let imported = count_of(Kind::Func, parts.imports.as_slice());
     let contents = contents_start(code_start(shape), shape.section_len(section_id::CODE));
     let first = contents + leb_len_u32(parts.funcs.len() as u32) as u32;
-    let mut sheet = [0; ROOM];
-    list_entries(shape, imported, first, &mut sheet, text, out)
+    let mut buf = [0; CAPACITY];
+    list_entries(shape, imported, first, &mut buf, text, out)
 }

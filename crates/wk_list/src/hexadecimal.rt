@@ -28,7 +28,7 @@ pub(crate) fn pair(byte: u32) -> [u8; 2]
 
 /// A number in eight digits.
 #[inline(always)]
-pub(crate) fn eight(n: u32) -> [u8; 8]
+pub(crate) fn eight_digits(n: u32) -> [u8; 8]
     ensures { result ≡ hex_digits 8 n }
 {
     let [a, b] = pair(n / 0x100_0000);

@@ -17,27 +17,27 @@
 //! - [`put_header`] appends the line of a section as far as its size (`header_text`), which `sections` of the program prints too.
 //!
 //! Nothing recurses over nested blocks: tokens are listed as they are kept. Text goes out in pieces, so that no part is held whole:
-//! what is held is a piece, a sheet of 4 KB, one line (as long as its item needs), and the bytes of one initialiser or what one function
+//! what is held is a piece, a buffer of 4 KB, one line (as long as its item needs), and the bytes of one initialiser or what one function
 //! refers to.
 #![tactic(auto)]
 
-mod brief;
 mod code;
 mod details;
 mod display;
+mod fast_line;
 mod fault;
 mod header;
 mod headers;
 mod hexadecimal;
 mod imports;
 mod layout;
+mod line_buffer;
 mod lines;
 mod listing;
 mod page;
 mod plain;
 mod rows;
 mod shape;
-mod sheet;
 mod sketch;
 mod spaces;
 mod summary;

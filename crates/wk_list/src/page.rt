@@ -9,13 +9,13 @@ use crate::fault::ListFault;
 use wk_bytes::{Out, put_all};
 
 /// How many bytes of text are worth a call of the [`Out`].
-pub(crate) const PIECE: usize = 1 << 16;
+pub(crate) const FLUSH_LEN: usize = 1 << 16;
 
 /// How many bytes are wanting until the text is long enough to go out.
-pub(crate) fn wanting(text: &[u8]) -> usize
-    ensures { result ≡ PIECE - length text.now }
+pub(crate) fn len_to_flush(text: &[u8]) -> usize
+    ensures { result ≡ FLUSH_LEN - length text.now }
 {
-    PIECE.saturating_sub(text.len())
+    FLUSH_LEN.saturating_sub(text.len())
 }
 
 /// Puts out the text that was gathered, if it is long.
@@ -25,7 +25,7 @@ pub(crate) fn spill<W: Out>(text: &mut Vec<u8>, out: &mut W) -> Result<(), ListF
     requires { W.failed out.old < 2 ^ 64 - 1 }
     ensures { PutsOut W.taken W.failed out.old out.new text.old.items text.new.items result }
 {
-    if text.len() < PIECE {
+    if text.len() < FLUSH_LEN {
         return Ok(());
     }
     flush(text, out)?;

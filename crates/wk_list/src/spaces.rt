@@ -50,7 +50,7 @@ pub(crate) fn count_of(kind: Kind, imports: &[Import]) -> u32
 }
 
 // Counts one more. Answers how many there were before.
-fn one_more(count: &mut u64) -> u64
+fn count_one(count: &mut u64) -> u64
     requires { count.old < 2 ^ 64 - 1 }
     ensures before { result ≡ count.old }
     ensures counted { count.new ≡ count.old + 1 }
@@ -81,10 +81,10 @@ impl Counts {
         ensures counted { (before : List Imported) (import : Imported) → import.desc ≡ desc.now → AreCounted self.old before → AreCounted self.new (before ++ import ∷ []) }
     {
         match desc {
-            ImportDesc::Func(_) => one_more(&mut self.funcs),
-            ImportDesc::Table(_) => one_more(&mut self.tables),
-            ImportDesc::Memory(_) => one_more(&mut self.memories),
-            ImportDesc::Global(_) => one_more(&mut self.globals),
+            ImportDesc::Func(_) => count_one(&mut self.funcs),
+            ImportDesc::Table(_) => count_one(&mut self.tables),
+            ImportDesc::Memory(_) => count_one(&mut self.memories),
+            ImportDesc::Global(_) => count_one(&mut self.globals),
         }
     }
 }

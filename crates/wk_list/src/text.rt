@@ -7,7 +7,7 @@ ghost use Rattle.hex.specs.Hex.{encode_lower};
 ghost use Rattle.wk_bytes.specs.HexDigits.{hex_digits};
 ghost use Rattle.wk_list.specs.Text.{all_visible, is_word, name_text, spaced, indexed};
 
-use crate::hexadecimal::{DIGITS, digits_of, eight};
+use crate::hexadecimal::{DIGITS, digits_of, eight_digits};
 use itoa::Buffer;
 use wk_bytes::OutOfMemory;
 
@@ -19,7 +19,7 @@ pub(crate) fn put_hex8(text: &mut Vec<u8>, n: u32) -> Result<(), OutOfMemory>
     ensures ok { OnOk result (text.new.items ≡ text.old.items ++ hex_digits 8 n) }
     ensures err { OnErr result (text.new.items ≡ text.old.items) }
 {
-    text.extend_from_slice(&eight(n))?;
+    text.extend_from_slice(&eight_digits(n))?;
     Ok(())
 }
 

@@ -9,7 +9,7 @@ pub returns-in_err-line : goal.returns-in_err-line
 returns-in_err-line g c =
     let pool = c.args.labels.now in
     let step = token_next pool _ _ c.in-Some.token.now c.loop-token.at c.loop-token.depth _ _ _
-    (c.loop-token.text.items ++ take c.loop-token.used c.loop-token.sheet)
+    (c.loop-token.text.items ++ take c.loop-token.used c.loop-token.buf)
     c.in-Some.ensures.cases.0 (c.depths-here.ensures.here pool) refl refl in
     stopped {U = Unit} (puts_on {new = []} _ c.loop-token.invariant.so_far step
     (record { ok = tt; err = c.in_err-line.ensures.err; failures = c.in_err-line.ensures.failures })) c.from_residual.ensures
@@ -20,7 +20,7 @@ loop-token-preserved g c =
     let place = rw c.in-Some.ensures.cases.0 at c.loop-token.invariant.place in
     let within = rw c.in-Some.ensures.cases.0 at c.loop-token.invariant.within in
     let step = token_next pool _ _ c.in-Some.token.now c.loop-token.at c.loop-token.depth _ _ _
-    (c.loop-token.text.items ++ take c.loop-token.used c.loop-token.sheet)
+    (c.loop-token.text.items ++ take c.loop-token.used c.loop-token.buf)
     c.in-Some.ensures.cases.0 (c.depths-here.ensures.here pool) (c.depths-here.ensures.behind pool) c.in_ok-line.ensures.len in
     record {
       so_far = puts_on _ c.loop-token.invariant.so_far step (record { ok = c.in_ok-line.ensures.ok; err = tt; failures = c.in_ok-line.ensures.failures });
@@ -35,4 +35,4 @@ pub returns : goal.returns
 returns g c =
     puts_last c.loop-token.invariant.so_far
     (tokens_end c.args.labels.now c.loop-token.rest.now c.loop-token.at c.loop-token.depth
-    (c.loop-token.text.items ++ take c.loop-token.used c.loop-token.sheet) c.in_default.ensures.cases) c.put_sheet.ensures
+    (c.loop-token.text.items ++ take c.loop-token.used c.loop-token.buf) c.in_default.ensures.cases) c.put_buf.ensures

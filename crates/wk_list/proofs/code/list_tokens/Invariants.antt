@@ -1,8 +1,8 @@
 use Rattle.std.proofs.Common.{◌≡◌, ◌+◌, ◌≤◌, ◌++◌, length, take}
 use Rattle.std.specs.List.{AllByRecursion}
 use Rattle.wk_body.specs.Kept.{all_told, IsWithin}
-use Rattle.wk_list.specs.declared.brief.TheConstants.{NAMED}
-use Rattle.wk_list.specs.declared.sheet.TheConstants.{ROOM}
+use Rattle.wk_list.specs.declared.fast_line.TheConstants.{NAME_LIMIT}
+use Rattle.wk_list.specs.declared.line_buffer.TheConstants.{CAPACITY}
 use Rattle.wk_list.specs.TokenText.{toks_text, toks_length}
 use Rattle.wk_list.proofs.TakenLemmas.{IsLeft}
 use Rattle.wk_list.proofs.code.list_tokens.Given as goal
@@ -11,11 +11,11 @@ abbrev pub invariant-loop-token : goal.invariant-loop-token
 invariant-loop-token g l = record {
   so_far : IsLeft g.W.Out.taken g.W.Out.failed l.fn.out l.out
       (l.fn.text.items ++ toks_text l.start 0 (all_told l.labels l.tokens))
-      (l.text.items ++ take l.used l.sheet ++ toks_text l.at l.depth (all_told l.labels l.rest));
+      (l.text.items ++ take l.used l.buf ++ toks_text l.at l.depth (all_told l.labels l.rest));
   place : l.at + toks_length (all_told l.labels l.rest) ≡ l.start + toks_length (all_told l.labels l.tokens);
   deep : l.depth ≤ l.at;
-  inside : l.used ≤ ROOM;
-  reach : l.reach ≤ NAMED;
+  inside : l.used ≤ CAPACITY;
+  reach : l.reach ≤ NAME_LIMIT;
   within : AllByRecursion (IsWithin (length l.labels)) l.rest;
 }
 

@@ -3,7 +3,7 @@ use Rattle.std.specs.Int.{w64}
 use Rattle.std.proofs.lemmas.Int.{to_z-of_z}
 use Rattle.wk_bytes.specs.Short.{short_signed}
 use Rattle.wk_bytes.specs.ShortLaws.{signed_few}
-use Rattle.wk_list.proofs.brief.signed_len.Goals as goal
+use Rattle.wk_list.proofs.fast_line.signed_len.Goals as goal
 
 pub returns-clause-few : goal.returns-clause-few
 returns-clause-few c =

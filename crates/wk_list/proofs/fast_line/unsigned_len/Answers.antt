@@ -1,6 +1,6 @@
 use Rattle.std.proofs.Common.{◌<◌, ◌^◌, arith}
 use Rattle.wk_bytes.specs.ShortLaws.{short-few}
-use Rattle.wk_list.proofs.brief.unsigned_len.Goals as goal
+use Rattle.wk_list.proofs.fast_line.unsigned_len.Goals as goal
 
 pub returns-clause-few : goal.returns-clause-few
 returns-clause-few c =

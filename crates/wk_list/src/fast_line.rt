@@ -1,4 +1,4 @@
-//! The lines of tokens on a sheet, but for a token that has labels.
+//! The lines of tokens in a buffer, but for a token that has labels.
 
 ghost use Rattle.std.specs.Prelude.{◌≡◌, ◌<◌, ◌≤◌, ◌+◌, ◌*◌, ◌^◌, ◌++◌, codes, length, take, replicate, IfSome, IfNone};
 ghost use Rattle.std.specs.Fmt.{signed_decimal};
@@ -12,19 +12,21 @@ ghost use Rattle.wk_list.specs.Details.{field};
 ghost use Rattle.wk_list.specs.Text.{spaced};
 ghost use Rattle.wk_list.specs.TokenText.{tok_text, behind_name, operands_text};
 
-use crate::sheet::{ROOM, put, put_hex8, put_margin, put_number, put_signed, put_word};
+use crate::line_buffer::{
+    CAPACITY, write, write_hex8, write_margin, write_number, write_signed, write_word,
+};
 use crate::typetext::valtype_name;
 use wk_body::Operands;
 use wk_bytes::{leb_len_s64, leb_len_u32};
 use wk_module::{BlockType, Token};
 
 /// The room that a line may take besides its name and the spaces in front of it.
-const MOST: usize = 128;
+const MAX_REST_LEN: usize = 128;
 
-/// How far the name of a line may reach on a sheet, so that there is room for what stands behind it.
-pub(crate) const NAMED: usize = ROOM - MOST;
+/// How far the name of a line may reach in a buffer, so that there is room for what stands behind it.
+pub(crate) const NAME_LIMIT: usize = CAPACITY - MAX_REST_LEN;
 
-/// A line on a sheet: the place behind it, and how many bytes its token is.
+/// A line in a buffer: the place behind it, and how many bytes its token is.
 #[derive(Clone, Copy)]
 pub(crate) struct Line {
     pub(crate) end: usize,
@@ -71,104 +73,104 @@ fn type_len(ty: BlockType) -> u64
 
 // A number behind its label.
 #[inline(always)]
-fn put_field<const N: usize>(sheet: &mut [u8; ROOM], at: usize, label: [u8; N], n: u32) -> usize
-    requires { at + N + 20 ≤ ROOM }
+fn write_field<const N: usize>(buf: &mut [u8; CAPACITY], at: usize, label: [u8; N], n: u32) -> usize
+    requires { at + N + 20 ≤ CAPACITY }
     ensures short { result ≤ at + N + 20 }
-    ensures text { take result sheet.new ≡ take at sheet.old ++ field label.entry n }
+    ensures text { take result buf.new ≡ take at buf.old ++ field label.entry n }
 {
-    let digits = put(sheet, at, &label);
-    put_number(sheet, digits, u64::from(n))
+    let digits = write(buf, at, &label);
+    write_number(buf, digits, u64::from(n))
 }
 
 // A signed number after a space.
 #[inline(always)]
-fn put_integer(sheet: &mut [u8; ROOM], at: usize, z: i64) -> usize
-    requires { at + 22 ≤ ROOM }
+fn write_integer(buf: &mut [u8; CAPACITY], at: usize, z: i64) -> usize
+    requires { at + 22 ≤ CAPACITY }
     ensures short { result ≤ at + 22 }
-    ensures text { take result sheet.new ≡ take at sheet.old ++ (codes " " ++ signed_decimal z) }
+    ensures text { take result buf.new ≡ take at buf.old ++ (codes " " ++ signed_decimal z) }
 {
-    let digits = put(sheet, at, b" ");
-    put_signed(sheet, digits, z)
+    let digits = write(buf, at, b" ");
+    write_signed(buf, digits, z)
 }
 
 // A word of 64 bits in sixteen hexadecimal digits.
-fn put_hex16(sheet: &mut [u8; ROOM], at: usize, word: u64) -> usize
-    requires { at + 16 ≤ ROOM }
+fn write_hex16(buf: &mut [u8; CAPACITY], at: usize, word: u64) -> usize
+    requires { at + 16 ≤ CAPACITY }
     ensures short { result ≤ at + 16 }
-    ensures text { take result sheet.new ≡ take at sheet.old ++ hex_digits 16 word }
+    ensures text { take result buf.new ≡ take at buf.old ++ hex_digits 16 word }
 {
-    let low = put_hex8(sheet, at, (word / 0x1_0000_0000) as u32);
-    put_hex8(sheet, low, (word % 0x1_0000_0000) as u32)
+    let low = write_hex8(buf, at, (word / 0x1_0000_0000) as u32);
+    write_hex8(buf, low, (word % 0x1_0000_0000) as u32)
 }
 
 // The type of a block.
 #[inline(always)]
-fn put_type(sheet: &mut [u8; ROOM], at: usize, ty: BlockType) -> usize
-    requires { at + 32 ≤ ROOM }
+fn write_type(buf: &mut [u8; CAPACITY], at: usize, ty: BlockType) -> usize
+    requires { at + 32 ≤ CAPACITY }
     ensures short { result ≤ at + 32 }
-    ensures text { take result sheet.new ≡ take at sheet.old ++ type_text ty }
+    ensures text { take result buf.new ≡ take at buf.old ++ type_text ty }
 {
     match ty {
         BlockType::Empty => at,
         BlockType::Value(ty) => {
-            let name = put(sheet, at, b" ");
-            put(sheet, name, valtype_name(ty).as_bytes())
+            let name = write(buf, at, b" ");
+            write(buf, name, valtype_name(ty).as_bytes())
         }
-        BlockType::Index(x) => put_field(sheet, at, *b" type=", x),
+        BlockType::Index(x) => write_field(buf, at, *b" type=", x),
     }
 }
 
 // What is listed of operands, or nothing for labels.
 #[inline(always)]
-fn put_operands(sheet: &mut [u8; ROOM], at: usize, operands: Operands<'_>) -> Option<Line>
-    requires { at + 64 ≤ ROOM }
+fn write_operands(buf: &mut [u8; CAPACITY], at: usize, operands: Operands<'_>) -> Option<Line>
+    requires { at + 64 ≤ CAPACITY }
     ensures short { IfSome result (λ line. line.end ≤ at + 60) }
-    ensures text { IfSome result (λ line. take line.end sheet.new ≡ take at sheet.old ++ operands_text (operands_of operands.entry)) }
+    ensures text { IfSome result (λ line. take line.end buf.new ≡ take at buf.old ++ operands_text (operands_of operands.entry)) }
     ensures len { IfSome result (λ line. line.len ≡ 1 + length (operand_bytes (operands_of operands.entry))) }
-    ensures none { IfNone result (take at sheet.new ≡ take at sheet.old) }
+    ensures none { IfNone result (take at buf.new ≡ take at buf.old) }
 {
     match operands {
         Operands::Nothing => Some(Line { end: at, len: 1 }),
         Operands::Reserved => Some(Line { end: at, len: 2 }),
         Operands::Index(x) => {
-            let end = put_field(sheet, at, *b" ", x);
+            let end = write_field(buf, at, *b" ", x);
             let len = 1 + unsigned_len(x);
             Some(Line { end, len })
         }
         Operands::IndexReserved(x) => {
-            let end = put_field(sheet, at, *b" type=", x);
+            let end = write_field(buf, at, *b" type=", x);
             let len = 2 + unsigned_len(x);
             Some(Line { end, len })
         }
         Operands::Labels { .. } => None,
         Operands::Memarg { align, offset } => {
-            let behind = put_field(sheet, at, *b" align=", align);
-            let end = put_field(sheet, behind, *b" offset=", offset);
+            let behind = write_field(buf, at, *b" align=", align);
+            let end = write_field(buf, behind, *b" offset=", offset);
             let len = 1 + unsigned_len(align) + unsigned_len(offset);
             Some(Line { end, len })
         }
         Operands::Signed32(z) => {
-            let end = put_integer(sheet, at, i64::from(z));
+            let end = write_integer(buf, at, i64::from(z));
             let len = 1 + signed_len(i64::from(z));
             Some(Line { end, len })
         }
         Operands::Signed64(z) => {
-            let end = put_integer(sheet, at, z);
+            let end = write_integer(buf, at, z);
             let len = 1 + signed_len(z);
             Some(Line { end, len })
         }
         Operands::Word32(word) => {
-            let digits = put(sheet, at, b" 0x");
-            let end = put_hex8(sheet, digits, word);
+            let digits = write(buf, at, b" 0x");
+            let end = write_hex8(buf, digits, word);
             Some(Line { end, len: 5 })
         }
         Operands::Word64(word) => {
-            let digits = put(sheet, at, b" 0x");
-            let end = put_hex16(sheet, digits, word);
+            let digits = write(buf, at, b" 0x");
+            let end = write_hex16(buf, digits, word);
             Some(Line { end, len: 9 })
         }
         Operands::Opening(ty) => {
-            let end = put_type(sheet, at, ty);
+            let end = write_type(buf, at, ty);
             let len = 1 + type_len(ty);
             Some(Line { end, len })
         }
@@ -177,39 +179,44 @@ fn put_operands(sheet: &mut [u8; ROOM], at: usize, operands: Operands<'_>) -> Op
 
 // What stands behind the name of a token, or nothing for one that has labels, which lie in the pool.
 #[inline(always)]
-fn put_immediates(sheet: &mut [u8; ROOM], at: usize, labels: &[u32], token: &Token) -> Option<Line>
-    requires room { at + 64 ≤ ROOM }
+fn write_immediates(
+    buf: &mut [u8; CAPACITY],
+    at: usize,
+    labels: &[u32],
+    token: &Token,
+) -> Option<Line>
+    requires room { at + 64 ≤ CAPACITY }
     requires within { IsWithin (length labels.now) token.now }
     ensures short { IfSome result (λ line. line.end ≤ at + 60) }
-    ensures text { IfSome result (λ line. take line.end sheet.new ≡ take at sheet.old ++ behind_name (told labels.now token.now)) }
+    ensures text { IfSome result (λ line. take line.end buf.new ≡ take at buf.old ++ behind_name (told labels.now token.now)) }
     ensures len { IfSome result (λ line. line.len ≡ length (tok_bytes (told labels.now token.now))) }
-    ensures none { IfNone result (take at sheet.new ≡ take at sheet.old) }
+    ensures none { IfNone result (take at buf.new ≡ take at buf.old) }
 {
     let (_opcode, operands) = token.operands(labels);
-    put_operands(sheet, at, operands)
+    write_operands(buf, at, operands)
 }
 
 // The front of a line: a space, the offset, and two spaces for each open block.
 #[inline(always)]
-fn put_front(sheet: &mut [u8; ROOM], used: usize, at: u32, depth: usize) -> usize
+fn write_front(buf: &mut [u8; CAPACITY], used: usize, at: u32, depth: usize) -> usize
     requires shallow { depth < 2 ^ 32 }
-    requires room { used + 2 * depth + 43 ≤ ROOM }
+    requires room { used + 2 * depth + 43 ≤ CAPACITY }
     ensures end { result ≡ used + 2 * depth + 11 }
-    ensures text { take result sheet.new ≡ take used sheet.old ++ (codes " " ++ (hex_digits 8 at ++ (codes ": " ++ replicate (2 * depth) 32))) }
+    ensures text { take result buf.new ≡ take used buf.old ++ (codes " " ++ (hex_digits 8 at ++ (codes ": " ++ replicate (2 * depth) 32))) }
 {
-    let digits = put(sheet, used, b" ");
-    let colon = put_hex8(sheet, digits, at);
-    let space = put(sheet, colon, b":");
-    let margin = put(sheet, space, b" ");
-    put_margin(sheet, margin, 2 * depth)
+    let digits = write(buf, used, b" ");
+    let colon = write_hex8(buf, digits, at);
+    let space = write(buf, colon, b":");
+    let margin = write(buf, space, b" ");
+    write_margin(buf, margin, 2 * depth)
 }
 
-/// The line of a token at an offset and a depth, behind so many bytes of a sheet, or nothing for a token that has labels,
+/// The line of a token at an offset and a depth, behind so many bytes of a buffer, or nothing for a token that has labels,
 /// which lie in the pool, and where its name would reach too far.
 #[inline(always)]
 #[tactic(auto, unfolding(crate::specs::CodeText::code_line))]
-pub(crate) fn put_brief_line(
-    sheet: &mut [u8; ROOM],
+pub(crate) fn put_line_fast(
+    buf: &mut [u8; CAPACITY],
     used: usize,
     labels: &[u32],
     token: &Token,
@@ -219,20 +226,20 @@ pub(crate) fn put_brief_line(
 ) -> Option<Line>
     requires within { IsWithin (length labels.now) token.now }
     requires shallow { depth < 2 ^ 32 }
-    requires inside { used ≤ ROOM }
-    requires reach { reach ≤ NAMED }
-    ensures inside { IfSome result (λ line. line.end ≤ ROOM) }
-    ensures text { IfSome result (λ line. take line.end sheet.new ≡ take used sheet.old ++ code_line at depth (tok_text (told labels.now token.now))) }
+    requires inside { used ≤ CAPACITY }
+    requires reach { reach ≤ NAME_LIMIT }
+    ensures inside { IfSome result (λ line. line.end ≤ CAPACITY) }
+    ensures text { IfSome result (λ line. take line.end buf.new ≡ take used buf.old ++ code_line at depth (tok_text (told labels.now token.now))) }
     ensures len { IfSome result (λ line. line.len ≡ length (tok_bytes (told labels.now token.now))) }
-    ensures none { IfNone result (take used sheet.new ≡ take used sheet.old) }
+    ensures none { IfNone result (take used buf.new ≡ take used buf.old) }
 {
     let name = token.name().as_bytes();
     if used + 2 * depth + name.len() > reach {
         return None;
     }
-    let front = put_front(sheet, used, at, depth);
-    let behind = put_word(sheet, front, name);
-    let Line { end, len } = put_immediates(sheet, behind, labels, token)?;
-    let end = put(sheet, end, b"\n");
+    let front = write_front(buf, used, at, depth);
+    let behind = write_word(buf, front, name);
+    let Line { end, len } = write_immediates(buf, behind, labels, token)?;
+    let end = write(buf, end, b"\n");
     Some(Line { end, len })
 }

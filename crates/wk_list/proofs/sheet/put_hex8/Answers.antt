@@ -1,7 +1,0 @@
-use Rattle.wk_list.proofs.Digits.{put_by_pairs}
-use Rattle.wk_list.proofs.sheet.put_hex8.Goals as goal
-
-pub returns-clause-text : goal.returns-clause-text
-returns-clause-text c =
-    put_by_pairs c.args.n _ _ _ _ _ _ _ _ _ c.ranges.n.fits c.put-second.ensures.text c.put-third.ensures.text c.put-last.ensures.text c.put.ensures.text
-    c.pair.ensures c.pair-2.ensures c.pair-3.ensures c.pair-4.ensures
