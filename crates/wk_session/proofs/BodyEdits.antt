@@ -26,8 +26,8 @@ use Rattle.wk_session.specs.declared.edit.Edit.TheVariants as edits
 use Rattle.wk_session.specs.declared.edit.EditFault.{EditFault}
 use Rattle.wk_session.specs.declared.edit.EditFault.TheVariants.{Memory}
 use Rattle.wk_session.specs.declared.edit.Work.{Work}
-use Rattle.wk_session.specs.declared.edits.entry.Entry.{Entry}
-use Rattle.wk_session.specs.declared.kept.Kept.{Kept}
+use Rattle.wk_session.specs.declared.edits.code_entry.Entry.{Entry}
+use Rattle.wk_session.specs.declared.cache.Cache.{Cache}
 use Rattle.wk_session.specs.Dependents.{held, all_but, is_retyped_in, work_of}
 use Rattle.wk_session.specs.Edits.{entry_of, fitting, lasting, made, body_put}
 use Rattle.wk_session.specs.Functions.{IsPlanned, body_spelled}
@@ -143,7 +143,7 @@ told_set {C = C} f g xs ys i x y told same =
     map-set f xs i x ∙ (ap (λ (zs : List C). slice_set zs i (f x)) told ∙ (ap (slice_set (map g ys) i) same ∙ sym (map-set g ys i y)))
 
 -- what is kept of the module with another body
-module _ (keep : Bool) (entry : ℕ) (t : ℕ) (b : BodyOf) (m : Parts) (p : Entry) (k new : Kept) where
+module _ (keep : Bool) (entry : ℕ) (t : ℕ) (b : BodyOf) (m : Parts) (p : Entry) (k new : Cache) where
   pub body_kept : HasType m.funcs entry t → IsPlanned keep t b (with_body entry b m) m.funcs k.verdicts.items 0 p → IsKept m k → new.verdict ≡ p.appraisal.verdict → new.len ≡ p.appraisal.len
       → new.types ≡ k.types → new.verdicts.items ≡ map (func_verdict (answers_of (with_body entry b m))) (with_body entry b m).funcs → new.refs.items ≡ slice_set k.refs.items entry p.uses
       → new.pieces.sections.items ≡ k.pieces.sections.items → new.pieces.codes.items ≡ slice_set k.pieces.codes.items entry p.code

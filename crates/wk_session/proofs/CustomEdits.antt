@@ -15,7 +15,7 @@ use Rattle.wk_session.specs.declared.edit.Edit.TheVariants as edits
 use Rattle.wk_session.specs.declared.edit.EditFault.{EditFault}
 use Rattle.wk_session.specs.declared.edit.EditFault.TheVariants.{NoSuchCustom, Memory}
 use Rattle.wk_session.specs.declared.edit.Work.{Work}
-use Rattle.wk_session.specs.declared.kept.Kept.{Kept}
+use Rattle.wk_session.specs.declared.cache.Cache.{Cache}
 use Rattle.wk_session.specs.Customs.{IsChecked, IsPut, with_customs_len}
 use Rattle.wk_session.specs.Edits.{fitting, is_large, is_named, with_custom, without_customs, lasting, made}
 use Rattle.wk_session.specs.Kept.{IsKept, Leads, standing}
@@ -45,7 +45,7 @@ limited_fits n len fits is = cond-true (nat_le n limit) (Some n) None (le-leb n 
 
 -- ---- what is kept, with other customs
 
-module _ (m : Parts) (cs : List Custom) (k : Kept) (order : IsInOrderFrom 0 m.customs) (kept : IsKept m k) where
+module _ (m : Parts) (cs : List Custom) (k : Cache) (order : IsInOrderFrom 0 m.customs) (kept : IsKept m k) where
   pub customs_before : k.pieces.customs_len ≤ k.len
   customs_before = omega (arith, customs_within m order, kept.pieces.customs_len, limited_some k.len (length (encoded m)) (sym kept.len))
 
@@ -72,7 +72,7 @@ module _ (m : Parts) (cs : List Custom) (k : Kept) (order : IsInOrderFrom 0 m.cu
     };
   }
 
-module _ {A : Type 0} (keep : Bool) (m n p : Parts) (k : Kept) (same : p ≡ m) where
+module _ {A : Type 0} (keep : Bool) (m n p : Parts) (k : Cache) (same : p ≡ m) where
   put_refused : (r : Result A EditFault) (f : EditFault) → (y : EditFault) × (r ≡ Err y) × (y ≡ f) → (f ≢ Memory → standing keep n ≡ Err f) → (f ≡ Memory → fitting (settle n) ≡ Ok (settle n)) → IsPut keep m n k r p k
   put_refused r f returns due fits =
       let refused : Result A EditFault = Err f in
@@ -95,7 +95,7 @@ pub absent_made : (keep : Bool) (name : List ℕ) (m : Parts) → list_any (is_n
 absent_made keep name m is = ap (λ (b : Bool). (if b then Ok (settle (without_customs name m)) else Err NoSuchCustom) >>= lasting keep) is
 
 -- what was put leads to the module with the custom
-pub put_leads : (keep : Bool) (name bytes : List ℕ) (m p : Parts) (k j : Kept) → standing keep (with_custom name bytes m) ≡ Ok (settle (with_custom name bytes m)) → p ≡ with_custom name bytes m
+pub put_leads : (keep : Bool) (name bytes : List ℕ) (m p : Parts) (k j : Cache) → standing keep (with_custom name bytes m) ≡ Ok (settle (with_custom name bytes m)) → p ≡ with_custom name bytes m
     → IsFormed (with_custom name bytes m) → IsKept (with_custom name bytes m) j → Leads keep (edits.SetCustom name bytes) m (Ok (record { typed = 0; encoded = 0; sections = 1 })) p j
 put_leads keep name bytes m p k j stands same formed kept =
     let e = edits.SetCustom name bytes in
@@ -104,7 +104,7 @@ put_leads keep name bytes m p k j stands same formed kept =
     let at : Leads keep e m (Ok w) n j = (stands, set_work name bytes m (settle n) (λ r. refl), formed, kept) in
     subst (λ (q : Parts). Leads keep e m (Ok w) q j) (sym same) at
 
-pub put_refusal : (keep : Bool) (name bytes : List ℕ) (m p : Parts) (k j : Kept) (out : Result Work EditFault) (f : EditFault) → (y : EditFault) × (out ≡ Err y) × (y ≡ f) → IsKept m k
+pub put_refusal : (keep : Bool) (name bytes : List ℕ) (m p : Parts) (k j : Cache) (out : Result Work EditFault) (f : EditFault) → (y : EditFault) × (out ≡ Err y) × (y ≡ f) → IsKept m k
     → (f ≢ Memory → standing keep (with_custom name bytes m) ≡ Err f) → (f ≡ Memory → fitting (settle (with_custom name bytes m)) ≡ Ok (settle (with_custom name bytes m))) → p ≡ m → j ≡ k
     → Leads keep (edits.SetCustom name bytes) m out p j
 put_refusal keep name bytes m p k j out f returns kept due fits same stays =

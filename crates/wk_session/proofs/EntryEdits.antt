@@ -35,9 +35,9 @@ use Rattle.wk_session.specs.declared.edit.Edit.TheVariants as edits
 use Rattle.wk_session.specs.declared.edit.EditFault.{EditFault}
 use Rattle.wk_session.specs.declared.edit.EditFault.TheVariants.{TooLarge, Memory}
 use Rattle.wk_session.specs.declared.edit.Work.{Work}
-use Rattle.wk_session.specs.declared.edits.entry.Entry.{Entry}
-use Rattle.wk_session.specs.declared.kept.Kept.{Kept}
-use Rattle.wk_session.specs.declared.pieces.Pieces.{Pieces}
+use Rattle.wk_session.specs.declared.edits.code_entry.Entry.{Entry}
+use Rattle.wk_session.specs.declared.cache.Cache.{Cache}
+use Rattle.wk_session.specs.declared.pieces.EncodedSections.{EncodedSections}
 use Rattle.wk_session.specs.Dependents.{is_retyped_in, work_of}
 use Rattle.wk_session.specs.Edits.{fitting, lasting, made}
 use Rattle.wk_session.specs.Functions.{IsPlanned, body_spelled}
@@ -92,7 +92,7 @@ at_end (y ∷ xs) x d = at_end xs x d
 
 -- ---- lengths
 
-pub kept_fits : (m : Parts) (k : Kept) → IsKept m k → Fits m
+pub kept_fits : (m : Parts) (k : Cache) → IsKept m k → Fits m
 kept_fits m k kept = limited-some (length (encoded m)) k.len kept.len
 
 -- a module whose codes are too long together
@@ -112,7 +112,7 @@ unencoded keep n i f encoding.TooLarge order within is over other = code_large k
 unencoded keep n i f encoding.Memory order within is over other = absurd (other refl)
 
 -- the length of codes, as it is kept
-pub codes_kept : (m : Parts) (k : Pieces) → Fits m → ArePieces m k → Some k.codes_len ≡ limited (codes_size m.funcs)
+pub codes_kept : (m : Parts) (k : EncodedSections) → Fits m → ArePieces m k → Some k.codes_len ≡ limited (codes_size m.funcs)
 codes_kept m k fits kept =
     let less : codes_size m.funcs ≤ limit = omega (arith, codes_within m, fits) in
     ap Some kept.codes_len ∙ limited_within (codes_size m.funcs) less
@@ -180,7 +180,7 @@ told_more {C = C} f g xs ys x y told same =
     map_push f xs x ∙ (ap (λ (zs : List C). zs ++ f x ∷ []) told ∙ (ap (λ (z : C). map g ys ++ z ∷ []) same ∙ sym (map_push g ys y)))
 
 -- what is kept of the module with a function more
-module _ (keep : Bool) (t : ℕ) (b : BodyOf) (m : Parts) (p : Entry) (k new : Kept) where
+module _ (keep : Bool) (t : ℕ) (b : BodyOf) (m : Parts) (p : Entry) (k new : Cache) where
   pub func_kept : IsPlanned keep t b (with_func t b m) m.funcs k.verdicts.items 1 p → IsKept m k → new.verdict ≡ p.appraisal.verdict → new.len ≡ p.appraisal.len
       → new.types.items ≡ k.types.items ++ t ∷ [] → new.verdicts.items ≡ map (func_verdict (answers_of (with_func t b m))) (with_func t b m).funcs → new.refs.items ≡ k.refs.items ++ p.uses ∷ []
       → new.pieces.sections.items ≡ section_pieces (with_func t b m) → new.pieces.codes.items ≡ k.pieces.codes.items ++ p.code ∷ []
@@ -210,7 +210,7 @@ module _ (keep : Bool) (t : ℕ) (b : BodyOf) (m : Parts) (p : Entry) (k new : K
       accepted keep (edits.Func t code) m (with_func t b m) after k new w pushed (made_func keep t code m b read) plan.stands
       (func_work t code m (with_func t b m) typed encoded sections counted (bodies ∙ plan.encoded) (made ∙ plan.made)) plan.formed kept
 
-pub few_typed : (m : Parts) (k : Kept) (p : Func → Bool) (typed : ℕ) → IsKept m k → typed ≡ 1 + count_by p m.funcs → typed < 2 ^ 32
+pub few_typed : (m : Parts) (k : Cache) (p : Func → Bool) (typed : ℕ) → IsKept m k → typed ≡ 1 + count_by p m.funcs → typed < 2 ^ 32
 few_typed m k p typed kept counted = omega (arith, counted, count_by-le-length p m.funcs, room_for_func m (kept_fits m k kept))
 
 pub one_more : {A : Type 0} (old same new : List A) (x y : A) → new ≡ same ++ y ∷ [] → same ≡ old → y ≡ x → new ≡ old ++ x ∷ []

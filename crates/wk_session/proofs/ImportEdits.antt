@@ -43,7 +43,7 @@ use Rattle.wk_check.specs.Verdict.{func_verdict}
 use Rattle.wk_session.specs.declared.edit.Edit.TheVariants as edits
 use Rattle.wk_session.specs.declared.edit.EditFault.TheVariants.{IndexOverflow}
 use Rattle.wk_session.specs.declared.edits.import.ImportPlan.{ImportPlan}
-use Rattle.wk_session.specs.declared.kept.Kept.{Kept}
+use Rattle.wk_session.specs.declared.cache.Cache.{Cache}
 use Rattle.wk_session.specs.Dependents.{held, ref_moved, is_retyped, answers_after, is_retyped_in}
 use Rattle.wk_session.specs.Edits.{import_place, made, lasting, fitting}
 use Rattle.wk_session.specs.Imported.{after_import, before_import, IsImportPlan, IsReady}
@@ -55,7 +55,7 @@ use Rattle.wk_session.proofs.MovedCode.{uses_as_code, any_told}
 -- ---- references that can't move
 
 -- the kept sets tell whether a code is stuck
-pub sets_stuck : MoveAlike → (kind : Kind) (from : ℕ) (m : Parts) (k : Kept) → IsKept m k
+pub sets_stuck : MoveAlike → (kind : Kind) (from : ℕ) (m : Parts) (k : Cache) → IsKept m k
     → list_any (λ s. (uses_movement kind from s.keys).stuck) k.refs.items ≡ list_any (λ (f : Func). is_code_stuck kind from f.body.instrs) m.funcs
 sets_stuck alike kind from m k kept =
     any_told (λ s. s.keys) uses_of (λ (keys : List Ref). (uses_movement kind from keys).stuck) (λ (f : Func). is_code_stuck kind from f.body.instrs)
@@ -230,14 +230,14 @@ pushed_before i m p pushed =
 abbrev pub AreFormedMoved : Type 0
 AreFormedMoved = (kind : Kind) (from : ℕ) (m : Parts) → are_parts_stuck kind from m ≡ false → IsFormed m → IsFormed (moved_parts kind from m)
 
-pub formed_after : AreFormedMoved → (i : Import) (m : Parts) (k : Kept) → IsKept m k → are_parts_stuck (desc_kind i.desc) (import_place i m) m ≡ false → IsImport i → IsFormed m → IsFormed (after_import i m)
+pub formed_after : AreFormedMoved → (i : Import) (m : Parts) (k : Cache) → IsKept m k → are_parts_stuck (desc_kind i.desc) (import_place i m) m ≡ false → IsImport i → IsFormed m → IsFormed (after_import i m)
 formed_after moves i m k kept free valid formed =
     let kind = desc_kind i.desc in
     let from = import_place i m in
     let fits = (limited_some k.len (length (encoded m)) (sym kept.len)).1 in
     import_formed i (moved_parts kind from m) (room m ImportSection fits) valid (moves kind from m free formed)
 
-pub ready_after : AreFormedMoved → (i : Import) (m p : Parts) (k : Kept) (plan : ImportPlan) → p ≡ with_import i m → IsKept m k → IsImportPlan (desc_kind i.desc) (import_place i m) m plan → IsImport i → IsFormed m
+pub ready_after : AreFormedMoved → (i : Import) (m p : Parts) (k : Cache) (plan : ImportPlan) → p ≡ with_import i m → IsKept m k → IsImportPlan (desc_kind i.desc) (import_place i m) m plan → IsImport i → IsFormed m
     → IsReady i (before_import p) p k plan
 ready_after moves i m p k plan pushed kept planned valid formed =
     subst (λ (q : Parts). IsReady i q p k plan) (sym (pushed_before i m p pushed)) (record {

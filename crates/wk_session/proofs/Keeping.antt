@@ -8,7 +8,7 @@ use Rattle.wk_module.specs.ShapeLaws.{settled_in_order}
 use Rattle.wk_module.specs.WritingLaws.{length-encoded, length-encoded_settle}
 use Rattle.wk_check.specs.SpacesLaws.{answers_of}
 use Rattle.wk_check.specs.Verdict.{func_verdict}
-use Rattle.wk_session.specs.declared.kept.Kept.{Kept}
+use Rattle.wk_session.specs.declared.cache.Cache.{Cache}
 use Rattle.wk_session.specs.Judged.{AreKept}
 use Rattle.wk_session.specs.Kept.{IsKept, uses_of}
 use Rattle.wk_session.specs.Pieces.{code_of, codes_size, customs_size}
@@ -18,7 +18,7 @@ customs_settled : (m : Parts) → IsFormed m → customs_size m.customs ≡ cust
 customs_settled m formed =
     omega (arith, length-encoded_settle m formed.order, length-encoded m formed.order, length-encoded (settle m) (settled_in_order (is_filled m) 0 m.customs formed.order))
 
-pub kept_settled : (m : Parts) (k : Kept) → IsFormed m → IsKept m k → IsKept (settle m) k
+pub kept_settled : (m : Parts) (k : Cache) → IsFormed m → IsKept m k → IsKept (settle m) k
 kept_settled m k formed kept = record {
   verdict = kept.verdict;
   len = ap limited (length-encoded_settle m formed.order) ∙ kept.len;
@@ -33,7 +33,7 @@ kept_settled m k formed kept = record {
   };
 }
 
-pub others_kept : (m n : Parts) (k : Kept) → n.funcs ≡ m.funcs → n.customs ≡ m.customs → IsKept m k → AreKept (answers_of m) n k
+pub others_kept : (m n : Parts) (k : Cache) → n.funcs ≡ m.funcs → n.customs ≡ m.customs → IsKept m k → AreKept (answers_of m) n k
 others_kept m n k funcs customs kept = record {
   types = kept.types ∙ ap (map (λ f. f.ty)) (sym funcs);
   verdicts = kept.verdicts ∙ ap (map (func_verdict (answers_of m))) (sym funcs);

@@ -18,7 +18,7 @@ use Rattle.wk_check.specs.Flaws.{fault_at, first_in, first_fault, verdict_by, Ar
 use Rattle.wk_check.specs.Items.{body_flaw, earlier}
 use Rattle.wk_check.specs.SpacesLaws.{answers_of}
 use Rattle.wk_check.specs.Verdict.{func_verdict, code_flaws, data_flaws, code_fault, flaws_before_code, front_fault, module_verdict}
-use Rattle.wk_session.specs.Known.{AreTold, body_told, told_by}
+use Rattle.wk_session.specs.Known.{AreKnown, body_told, told_by}
 
 -- ---- lists
 
@@ -190,6 +190,6 @@ module _ (m : Parts) where
     by_verdict (Invalid fault) e = by_fault fault e
 
   -- what the verdict of a module tells of its bodies, holds
-  pub told_bodies : (known : Option Verdict) → IfSome known (λ v. v ≡ module_verdict m) → AreTold known (answers_of m) m.funcs
+  pub told_bodies : (known : Option Verdict) → IfSome known (λ v. v ≡ module_verdict m) → AreKnown known (answers_of m) m.funcs
   told_bodies None is = λ i f there. tt
   told_bodies (Some v) is = λ i f there. by_verdict i f there v (sym is)

@@ -13,8 +13,8 @@ use Rattle.wk_session.specs.declared.edit.Edit.{Edit}
 use Rattle.wk_session.specs.declared.edit.EditFault.{EditFault}
 use Rattle.wk_session.specs.declared.edit.EditFault.TheVariants.{TooLarge, Memory}
 use Rattle.wk_session.specs.declared.edit.Work.{Work}
-use Rattle.wk_session.specs.declared.edits.one_more.Judgement.{Judgement}
-use Rattle.wk_session.specs.declared.kept.Kept.{Kept}
+use Rattle.wk_session.specs.declared.edits.plan_append.Judgement.{Judgement}
+use Rattle.wk_session.specs.declared.cache.Cache.{Cache}
 use Rattle.wk_session.specs.Dependents.{work_of}
 use Rattle.wk_session.specs.Edits.{fitting, lasting, made, is_decided}
 use Rattle.wk_session.specs.Judged.{AreKept, IsUnchanged, MayStay}
@@ -31,7 +31,7 @@ Returns r f = (y : EditFault) × (r ≡ Err y) × (y ≡ f)
 returned : (r : Result Work EditFault) (f : EditFault) → Returns r f → r ≡ Err f
 returned r f p = p.1 ∙ ap (λ (y : EditFault). let r : Result Work EditFault = Err y in r) p.2
 
-module _ (keep : Bool) (e : Edit) (m : Parts) (k : Kept) (kept : IsKept m k) where
+module _ (keep : Bool) (e : Edit) (m : Parts) (k : Cache) (kept : IsKept m k) where
   pub wants_memory : (r : Result Work EditFault) → Returns r Memory → is_decided e m ≡ false → Leads keep e m r m k
   wants_memory r p decided =
       let at : Leads keep e m (Err Memory) m k = ((λ other. absurd (other refl)), (λ same. decided), refl, kept) in
@@ -63,42 +63,42 @@ is_none_at (Some len) h = absurd cc
 
 -- ---- what is kept of the same module
 
-pub kept_again : (m : Parts) (k new : Kept) → IsUnchanged k new → IsKept m k → IsKept m new
+pub kept_again : (m : Parts) (k new : Cache) → IsUnchanged k new → IsKept m k → IsKept m new
 kept_again m k new same kept = record {
-  verdict = ap (λ (x : Kept). x.verdict) same.others ∙ kept.verdict;
-  len = kept.len ∙ ap (λ (x : Kept). Some x.len) (sym same.others);
-  types = ap (λ (x : Kept). x.types.items) same.others ∙ kept.types;
-  verdicts = ap (λ (x : Kept). x.verdicts.items) same.others ∙ kept.verdicts;
-  refs = ap (λ (x : Kept). map (λ s. s.keys) x.refs.items) same.others ∙ kept.refs;
+  verdict = ap (λ (x : Cache). x.verdict) same.others ∙ kept.verdict;
+  len = kept.len ∙ ap (λ (x : Cache). Some x.len) (sym same.others);
+  types = ap (λ (x : Cache). x.types.items) same.others ∙ kept.types;
+  verdicts = ap (λ (x : Cache). x.verdicts.items) same.others ∙ kept.verdicts;
+  refs = ap (λ (x : Cache). map (λ s. s.keys) x.refs.items) same.others ∙ kept.refs;
   pieces = record {
     sections = same.sections ∙ kept.pieces.sections;
-    codes = ap (λ (x : Kept). x.pieces.codes.items) same.others ∙ kept.pieces.codes;
-    codes_len = ap (λ (x : Kept). x.pieces.codes_len) same.others ∙ kept.pieces.codes_len;
-    customs_len = ap (λ (x : Kept). x.pieces.customs_len) same.others ∙ kept.pieces.customs_len;
+    codes = ap (λ (x : Cache). x.pieces.codes.items) same.others ∙ kept.pieces.codes;
+    codes_len = ap (λ (x : Cache). x.pieces.codes_len) same.others ∙ kept.pieces.codes_len;
+    customs_len = ap (λ (x : Cache). x.pieces.customs_len) same.others ∙ kept.pieces.customs_len;
   };
 }
 
 -- ---- an acceptance
 
 -- a judgement of the new module comes to what is kept
-pub judged_kept : (keep : Bool) (before : Ref → Found) (n : Parts) (typed : ℕ) (k new : Kept) (j : Judgement) → AreKept before n k → MayStay keep before n k typed j
+pub judged_kept : (keep : Bool) (before : Ref → Found) (n : Parts) (typed : ℕ) (k new : Cache) (j : Judgement) → AreKept before n k → MayStay keep before n k typed j
     → new ≡ record k { verdict = j.appraisal.verdict; len = j.appraisal.len; verdicts = unwrap_or j.verdicts k.verdicts; pieces = record k.pieces { sections = new.pieces.sections } }
     → new.pieces.sections.items ≡ section_pieces n → IsKept n new
 judged_kept keep before n typed k new j kept may is sections = record {
-  verdict = ap (λ (x : Kept). x.verdict) is ∙ may.verdict;
-  len = may.len ∙ ap (λ (x : Kept). Some x.len) (sym is);
-  types = ap (λ (x : Kept). x.types.items) is ∙ kept.types;
-  verdicts = ap (λ (x : Kept). x.verdicts.items) is ∙ may.verdicts;
-  refs = ap (λ (x : Kept). map (λ s. s.keys) x.refs.items) is ∙ kept.refs;
+  verdict = ap (λ (x : Cache). x.verdict) is ∙ may.verdict;
+  len = may.len ∙ ap (λ (x : Cache). Some x.len) (sym is);
+  types = ap (λ (x : Cache). x.types.items) is ∙ kept.types;
+  verdicts = ap (λ (x : Cache). x.verdicts.items) is ∙ may.verdicts;
+  refs = ap (λ (x : Cache). map (λ s. s.keys) x.refs.items) is ∙ kept.refs;
   pieces = record {
     sections = sections;
-    codes = ap (λ (x : Kept). x.pieces.codes.items) is ∙ kept.codes;
-    codes_len = ap (λ (x : Kept). x.pieces.codes_len) is ∙ kept.codes_len;
-    customs_len = ap (λ (x : Kept). x.pieces.customs_len) is ∙ kept.customs_len;
+    codes = ap (λ (x : Cache). x.pieces.codes.items) is ∙ kept.codes;
+    codes_len = ap (λ (x : Cache). x.pieces.codes_len) is ∙ kept.codes_len;
+    customs_len = ap (λ (x : Cache). x.pieces.customs_len) is ∙ kept.customs_len;
   };
 }
 
-pub accepted : (keep : Bool) (e : Edit) (m n p : Parts) (k new : Kept) (w : Work) → p ≡ n → made keep e m ≡ standing keep n → standing keep n ≡ Ok (settle n) → w ≡ work_of e m (settle n) → IsFormed n → IsKept n new → Leads keep e m (Ok w) p new
+pub accepted : (keep : Bool) (e : Edit) (m n p : Parts) (k new : Cache) (w : Work) → p ≡ n → made keep e m ≡ standing keep n → standing keep n ≡ Ok (settle n) → w ≡ work_of e m (settle n) → IsFormed n → IsKept n new → Leads keep e m (Ok w) p new
 accepted keep e m n p k new w same makes stands works formed kept =
     let at : Leads keep e m (Ok w) n new = (makes ∙ stands, works, formed, kept) in
     subst (λ (q : Parts). Leads keep e m (Ok w) q new) (sym same) at

@@ -20,7 +20,7 @@ use Rattle.wk_module.specs.Items.{written_export, written_global}
 use Rattle.wk_module.specs.Types.{written_functype}
 use Rattle.wk_module.specs.Writing.{list_contents}
 use Rattle.wk_session.specs.Longer.{IsLonger, IsNewItem, with_item}
-use Rattle.wk_session.specs.declared.edits.one_more.NewItem.{NewItem}
+use Rattle.wk_session.specs.declared.edits.plan_append.NewItem.{NewItem}
 use Rattle.wk_session.specs.Pieces.{IsOverlong, section_pieces}
 use Rattle.wk_session.proofs.Piecing.{limited_within}
 

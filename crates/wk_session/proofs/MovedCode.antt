@@ -16,8 +16,8 @@ use Rattle.wk_module.specs.declared.types.Kind.{Kind}
 use Rattle.wk_module.specs.declared.types.Kind.TheVariants as kinds
 use Rattle.wk_module.specs.Moving.{moved_func, is_code_moving, is_code_stuck}
 use Rattle.wk_list.specs.UsesLaws.{in_order_same}
-use Rattle.wk_session.specs.declared.edits.moved.MovedEntry.{MovedEntry}
-use Rattle.wk_session.specs.declared.edits.moved.MovedEntries.{MovedEntries}
+use Rattle.wk_session.specs.declared.edits.renumber.MovedEntry.{MovedEntry}
+use Rattle.wk_session.specs.declared.edits.renumber.MovedEntries.{MovedEntries}
 use Rattle.wk_session.specs.Dependents.{held, one_if}
 use Rattle.wk_session.specs.Kept.{uses_of}
 use Rattle.wk_session.specs.MovedEntries.{uses_movement, IsMovedEntry, AreMovedEntries}

@@ -8,14 +8,14 @@ use Rattle.wk_session.specs.declared.edit.Edit.TheVariants as edits
 use Rattle.wk_session.specs.declared.edit.EditFault.{EditFault}
 use Rattle.wk_session.specs.declared.edit.EditFault.TheVariants.{NoSuchFunction, NoSuchExport, NoSuchCustom, IndexOverflow, TooLarge, BadBytes, WouldBreak, Memory}
 use Rattle.wk_session.specs.declared.edit.Work.{Work}
-use Rattle.wk_session.specs.declared.kept.Kept.{Kept}
+use Rattle.wk_session.specs.declared.cache.Cache.{Cache}
 use Rattle.wk_session.specs.Edits.{is_decided}
 use Rattle.wk_session.specs.Kept.{IsKept, Leads}
 use Rattle.wk_session.specs.Runs.{is_memory, reply_of, after_one}
 use Rattle.wk_session.proofs.Keeping.{kept_settled}
 use Rattle.wk_session.proofs.Outcomes.{reply_refused, after_refused, reply_accepted, after_accepted}
 
-module _ (keep : Bool) (e : Edit) (m n : Parts) (k : Kept) where
+module _ (keep : Bool) (e : Edit) (m n : Parts) (k : Cache) where
   pub formed_after : (r : Result Work EditFault) → IsShaped m → Leads keep e m r n k → IsFormed n
   formed_after (Ok w) shaped leads = leads.2
   formed_after (Err f) shaped leads = subst IsFormed (sym leads.2) shaped.formed

@@ -17,7 +17,7 @@ use Rattle.wk_module.specs.Shape.{lists_of, IsInOrderFrom}
 use Rattle.wk_module.specs.Writing.{contents_by, encoded, ids, section_contents, Fits}
 use Rattle.wk_module.specs.WritingLaws.{contents_within, custom_within, length-framed}
 use Rattle.wk_session.specs.Pieces.{ArePieces, code_of, codes_size, section_piece, section_pieces}
-use Rattle.wk_session.specs.declared.pieces.Pieces.{Pieces}
+use Rattle.wk_session.specs.declared.pieces.EncodedSections.{EncodedSections}
 use Rattle.wk_session.proofs.CustomEdits.{limited_fits}
 use Rattle.wk_session.proofs.Piecing.{code_contents_size, codes_within, section_within}
 use Rattle.wk_session.proofs.Putting.{codes_length, piece_at}
@@ -30,13 +30,13 @@ code_le (f ∷ fs) zero c within is =
 code_le (f ∷ fs) (suc i) c within is =
     omega (arith, code_le fs i c (omega arith) is, length-append (written_code f.body) (flat_map (λ (g : Func). written_code g.body) fs))
 
-pub code_fits : (m : Parts) (p : Pieces) (i : ℕ) (c : List ℕ) → ArePieces m p → Fits m → i < length m.funcs → c ≡ slice_index_or p.codes.items i c → length c ≤ limit
+pub code_fits : (m : Parts) (p : EncodedSections) (i : ℕ) (c : List ℕ) → ArePieces m p → Fits m → i < length m.funcs → c ≡ slice_index_or p.codes.items i c → length c ≤ limit
 code_fits m p i c are fits within is =
     let at = is ∙ ap (λ (codes : List (List ℕ)). slice_index_or codes i c) are.codes in
     omega (arith, fits, codes_within m, code_le m.funcs i c within at)
 
 -- the contents of the code section
-pub code_contents_is : (m : Parts) (p : Pieces) (count size : ℕ) → ArePieces m p → count ≡ length p.codes.items → size ≡ (if count == 0 then 0 else length (short count) + p.codes_len) → size ≡ length (section_contents CodeSection (map (λ f. f.body) m.funcs))
+pub code_contents_is : (m : Parts) (p : EncodedSections) (count size : ℕ) → ArePieces m p → count ≡ length p.codes.items → size ≡ (if count == 0 then 0 else length (short count) + p.codes_len) → size ≡ length (section_contents CodeSection (map (λ f. f.body) m.funcs))
 code_contents_is m p count size are counted is =
     is
     ∙ ap (λ (n : ℕ). if n == 0 then 0 else length (short n) + p.codes_len) (counted ∙ codes_length m p.codes.items are.codes)
@@ -46,7 +46,7 @@ code_contents_is m p count size are counted is =
 pub code_contents_fit : (m : Parts) → Fits m → length (section_contents CodeSection (map (λ f. f.body) m.funcs)) ≤ limit
 code_contents_fit m fits = omega (arith, fits, contents_within m (Some CodeSection))
 
-pub piece_fits : (m : Parts) (p : Pieces) (id : ℕ) (piece : List ℕ) → ArePieces m p → Fits m → id < length p.sections.items → piece ≡ slice_index_or p.sections.items id piece → length piece ≤ limit
+pub piece_fits : (m : Parts) (p : EncodedSections) (id : ℕ) (piece : List ℕ) → ArePieces m p → Fits m → id < length p.sections.items → piece ≡ slice_index_or p.sections.items id piece → length piece ≤ limit
 piece_fits m p id piece are fits within is =
     let at = piece_at m id piece (omega (arith, within, ap length are.sections)) (is ∙ ap (λ (ps : List (List ℕ)). slice_index_or ps id piece) are.sections) in
     omega (arith, fits, section_within id m, ap length at)

@@ -9,7 +9,7 @@ use Rattle.wk_check.specs.declared.fault.Verdict.{Verdict}
 use Rattle.wk_check.specs.Verdict.{module_verdict}
 use Rattle.wk_session.specs.declared.edit.EditFault.{EditFault}
 use Rattle.wk_session.specs.declared.edit.EditFault.TheVariants.{Memory}
-use Rattle.wk_session.specs.declared.kept.Kept.{Kept}
+use Rattle.wk_session.specs.declared.cache.Cache.{Cache}
 use Rattle.wk_session.specs.Edits.{fitting, lasting, with_bytes}
 use Rattle.wk_session.specs.Kept.{IsKept, standing}
 
@@ -24,7 +24,7 @@ abbrev pub last_custom : List ℕ → List ℕ → Custom
 last_custom name bytes = record { place = 11; name = name; bytes = bytes }
 
 -- what is kept, where the length is another by other customs
-abbrev pub with_customs_len : ℕ → Kept → Kept
+abbrev pub with_customs_len : ℕ → Cache → Cache
 with_customs_len len k = record k { len = len; pieces = record k.pieces { customs_len = len - (k.len - k.pieces.customs_len) } }
 
 -- whether modules of this verdict may stay, or why they may not
@@ -39,6 +39,6 @@ IsChecked keep n (Err e) = (e ≢ Memory) × (standing keep n ≡ Err e)
 
 -- From m, of which k is kept, it came to n, which may stay; or all is as it was, since n may not or memory was wanted, but not where n is too
 -- large.
-abbrev pub IsPut : {A : Type 0} → Bool → Parts → Parts → Kept → Result A EditFault → Parts → Kept → Type 0
+abbrev pub IsPut : {A : Type 0} → Bool → Parts → Parts → Cache → Result A EditFault → Parts → Cache → Type 0
 IsPut keep m n k (Ok x) p j = (standing keep n ≡ Ok (settle n)) × (p ≡ n) × IsFormed n × IsKept n j
 IsPut keep m n k (Err e) p j = (e ≢ Memory → standing keep n ≡ Err e) × (e ≡ Memory → fitting (settle n) ≡ Ok (settle n)) × (p ≡ m) × (j ≡ k)

@@ -14,10 +14,10 @@ use Rattle.wk_check.specs.SpacesLaws.{answers_of}
 use Rattle.wk_check.specs.Typing.{body_verdict}
 use Rattle.wk_check.specs.Verdict.{func_verdict, module_verdict}
 use Rattle.wk_session.specs.declared.edit.EditFault.{EditFault}
-use Rattle.wk_session.specs.declared.edits.entry.Entry.{Entry}
-use Rattle.wk_session.specs.declared.edits.entry.Verdicts.{Verdicts}
-use Rattle.wk_session.specs.declared.edits.entry.Verdicts.TheVariants as entries
-use Rattle.wk_session.specs.declared.kept.Kept.{Kept}
+use Rattle.wk_session.specs.declared.edits.code_entry.Entry.{Entry}
+use Rattle.wk_session.specs.declared.edits.code_entry.Verdicts.{Verdicts}
+use Rattle.wk_session.specs.declared.edits.code_entry.Verdicts.TheVariants as entries
+use Rattle.wk_session.specs.declared.cache.Cache.{Cache}
 use Rattle.wk_session.specs.Edits.{from_bytes}
 use Rattle.wk_session.specs.Kept.{uses_of, standing}
 use Rattle.wk_session.specs.Pieces.{ArePieces, codes_size}
@@ -27,7 +27,7 @@ abbrev pub body_spelled : Profile → List ℕ → Result BodyOf EditFault
 body_spelled profile code = from_bytes (whole_at (all_body_at profile) code)
 
 -- what is kept of m, but that the type of a function which comes to it stands behind those of the others already
-pub record IsKeptWithType (t : ℕ) (m : Parts) (k : Kept) : Type 0 where
+pub record IsKeptWithType (t : ℕ) (m : Parts) (k : Cache) : Type 0 where
   pub verdict : k.verdict ≡ module_verdict m
   pub len : limited (length (encoded m)) ≡ Some k.len
   pub types : k.types.items ≡ map (λ f. f.ty) m.funcs ++ t ∷ []

@@ -16,8 +16,8 @@ use Rattle.wk_check.specs.Verdict.{func_verdict, module_verdict}
 use Rattle.wk_session.specs.declared.edit.EditFault.{EditFault}
 use Rattle.wk_session.specs.declared.edit.EditFault.TheVariants.{IndexOverflow, Memory}
 use Rattle.wk_session.specs.declared.edits.import.ImportPlan.{ImportPlan}
-use Rattle.wk_session.specs.declared.edits.import.Judgement.{Judgement}
-use Rattle.wk_session.specs.declared.kept.Kept.{Kept}
+use Rattle.wk_session.specs.declared.edits.import.ImportJudgement.{ImportJudgement}
+use Rattle.wk_session.specs.declared.cache.Cache.{Cache}
 use Rattle.wk_session.specs.Edits.{import_place}
 use Rattle.wk_session.specs.declared.pieces.NewSections.{NewSections}
 use Rattle.wk_session.specs.declared.edit.Edit.TheVariants as edits
@@ -46,7 +46,7 @@ abbrev pub IsUnplanned : Kind → ℕ → Parts → EditFault → Type 0
 IsUnplanned kind from m e = e ≢ Memory → (e ≡ IndexOverflow) × (are_parts_stuck kind from m ≡ true)
 
 -- The import is pushed on m, all else that it changes is planned, and beside it stands what is kept of m.
-pub record IsReady (i : Import) (m p : Parts) (k : Kept) (all : ImportPlan) : Type 0 where
+pub record IsReady (i : Import) (m p : Parts) (k : Cache) (all : ImportPlan) : Type 0 where
   pub pushed : p ≡ with_import i m
   pub kept : IsKept m k
   pub plan : IsImportPlan (desc_kind i.desc) (import_place i m) m all
@@ -82,7 +82,7 @@ pub record IsRemadeAfter (l : SectionLists) (moved : MovedLists) (r : NewSection
 
 -- the module may stay, and what is to be kept of it, for which so many sections were made anew; where no verdicts stand, those that are
 -- kept stay
-pub record IsJudgement (keep : Bool) (n : Parts) (k : Kept) (anew : ℕ) (j : Judgement) : Type 0 where
+pub record IsJudgement (keep : Bool) (n : Parts) (k : Cache) (anew : ℕ) (j : ImportJudgement) : Type 0 where
   pub stands : standing keep n ≡ Ok (settle n)
   pub verdict : j.appraisal.verdict ≡ module_verdict n
   pub len : limited (length (encoded n)) ≡ Some j.appraisal.len
@@ -93,7 +93,7 @@ pub record IsJudgement (keep : Bool) (n : Parts) (k : Kept) (anew : ℕ) (j : Ju
   pub codes_len : j.codes_len ≡ codes_size n.funcs
 
 -- that of the module with the import, for which the import section is made anew and each that holds something that moves
-abbrev pub IsImportJudgement : Bool → Import → Parts → Kept → Judgement → Type 0
+abbrev pub IsImportJudgement : Bool → Import → Parts → Cache → ImportJudgement → Type 0
 IsImportJudgement keep i m k j = IsJudgement keep (after_import i m) k (1 + sections_moving (desc_kind i.desc) (import_place i m) m) j
 
 -- why it may not stay, unless memory was wanted

@@ -10,14 +10,14 @@ use Rattle.wk_check.specs.Answers.{Found}
 use Rattle.wk_check.specs.SpacesLaws.{answers_of}
 use Rattle.wk_check.specs.Verdict.{func_verdict, module_verdict}
 use Rattle.wk_session.specs.declared.edit.EditFault.{EditFault}
-use Rattle.wk_session.specs.declared.edits.one_more.Judgement.{Judgement}
-use Rattle.wk_session.specs.declared.kept.Kept.{Kept}
+use Rattle.wk_session.specs.declared.edits.plan_append.Judgement.{Judgement}
+use Rattle.wk_session.specs.declared.cache.Cache.{Cache}
 use Rattle.wk_session.specs.Dependents.{is_retyped_in}
 use Rattle.wk_session.specs.Kept.{uses_of, standing, IsAppraised, IsKept}
 use Rattle.wk_session.specs.Pieces.{code_of, codes_size, customs_size}
 
 -- Each part that is kept of functions is that of the functions of n, and the verdicts are those by what references found before.
-pub record AreKept (before : Ref → Found) (n : Parts) (k : Kept) : Type 0 where
+pub record AreKept (before : Ref → Found) (n : Parts) (k : Cache) : Type 0 where
   pub types : k.types.items ≡ map (λ f. f.ty) n.funcs
   pub verdicts : k.verdicts.items ≡ map (func_verdict before) n.funcs
   pub refs : map (λ s. s.keys) k.refs.items ≡ map uses_of n.funcs
@@ -34,7 +34,7 @@ pub record IsKnown (before : Ref → Found) (n : Parts) (v : Verdict) : Type 0 w
 
 -- n may stay, and that is to be kept of it in the place of what is kept, but for its sections; so many bodies were typed: those that find
 -- another thing than before. Where no verdicts of bodies stand, those that are kept stay.
-pub record MayStay (keep : Bool) (before : Ref → Found) (n : Parts) (k : Kept) (typed : ℕ) (j : Judgement) : Type 0 where
+pub record MayStay (keep : Bool) (before : Ref → Found) (n : Parts) (k : Cache) (typed : ℕ) (j : Judgement) : Type 0 where
   pub stands : standing keep n ≡ Ok (settle n)
   pub verdict : j.appraisal.verdict ≡ module_verdict n
   pub len : limited (length (encoded n)) ≡ Some j.appraisal.len
@@ -42,16 +42,16 @@ pub record MayStay (keep : Bool) (before : Ref → Found) (n : Parts) (k : Kept)
   pub typed_are : typed ≡ count_by (is_retyped_in before (answers_of n)) n.funcs
 
 -- that, or why the edit that makes n is refused, unless memory was wanted
-abbrev pub IsJudged : Bool → (Ref → Found) → Parts → Kept → ℕ → Result Judgement EditFault → Type 0
+abbrev pub IsJudged : Bool → (Ref → Found) → Parts → Cache → ℕ → Result Judgement EditFault → Type 0
 IsJudged keep before n k typed (Ok j) = MayStay keep before n k typed j
 IsJudged keep before n k typed (Err e) = IsAppraised keep n (Err e)
 
 -- the same is kept: the contents of sections may have got more room
-pub record IsUnchanged (k new : Kept) : Type 0 where
+pub record IsUnchanged (k new : Cache) : Type 0 where
   pub others : new ≡ record k { pieces = record k.pieces { sections = new.pieces.sections } }
   pub sections : new.pieces.sections.items ≡ k.pieces.sections.items
 
 -- n stays and new is kept of it, where so many bodies were typed and sections made anew; or that, and what was kept is as it was
-abbrev pub IsGrown : Bool → (Ref → Found) → Parts → ℕ → ℕ → Kept → Kept → Result ℕ EditFault → Type 0
+abbrev pub IsGrown : Bool → (Ref → Found) → Parts → ℕ → ℕ → Cache → Cache → Result ℕ EditFault → Type 0
 IsGrown keep before n typed made k new (Ok sections) = (standing keep n ≡ Ok (settle n)) × IsKept n new × (typed ≡ count_by (is_retyped_in before (answers_of n)) n.funcs) × (sections ≡ made)
 IsGrown keep before n typed made k new (Err e) = IsAppraised keep n (Err e) × IsUnchanged k new

@@ -26,5 +26,5 @@ body_told (Some Valid) i = Some bodies.Valid
 body_told (Some (Invalid fault)) i = told_by fault i
 
 -- what is told of functions is their verdict where references find these answers
-abbrev pub AreTold : Option Verdict → (Ref → Found) → List Func → Type 0
-AreTold verdict answers fs = (i : ℕ) (f : Func) → slice_get fs i ≡ Some f → IfSome (body_told verdict i) (λ v. v ≡ func_verdict answers f)
+abbrev pub AreKnown : Option Verdict → (Ref → Found) → List Func → Type 0
+AreKnown verdict answers fs = (i : ℕ) (f : Func) → slice_get fs i ≡ Some f → IfSome (body_told verdict i) (λ v. v ≡ func_verdict answers f)

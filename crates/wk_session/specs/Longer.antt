@@ -3,7 +3,7 @@ use Rattle.std.specs.Prelude.{◌≡◌, ◌≤◌, ℕ, ◌+◌, List, [], ◌+
 use Rattle.wk_bytes.specs.Short.{short}
 use Rattle.wk_module.specs.declared.types.Parts.{Parts}
 use Rattle.wk_bytes.specs.Frames.{limit}
-use Rattle.wk_session.specs.declared.edits.one_more.NewItem.{NewItem}
+use Rattle.wk_session.specs.declared.edits.plan_append.NewItem.{NewItem}
 use Rattle.wk_session.specs.Pieces.{section_piece, section_pieces}
 
 -- contents of so many items with one more behind them, of which the count in front is one more

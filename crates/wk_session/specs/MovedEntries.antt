@@ -10,8 +10,8 @@ use Rattle.wk_module.specs.declared.types.Kind.{Kind}
 use Rattle.wk_module.specs.declared.types.Kind.TheVariants.{Func, Global}
 use Rattle.wk_module.specs.declared.types.Func.{Func as FuncOf}
 use Rattle.wk_module.specs.Moving.{moved_func, is_code_moving}
-use Rattle.wk_session.specs.declared.edits.moved.MovedEntry.{MovedEntry}
-use Rattle.wk_session.specs.declared.edits.moved.MovedEntries.{MovedEntries}
+use Rattle.wk_session.specs.declared.edits.renumber.MovedEntry.{MovedEntry}
+use Rattle.wk_session.specs.declared.edits.renumber.MovedEntries.{MovedEntries}
 use Rattle.wk_session.specs.Kept.{uses_of}
 use Rattle.wk_session.specs.Overlays.{with_items}
 use Rattle.wk_session.specs.Pieces.{code_of}

@@ -17,7 +17,7 @@ use Rattle.wk_module.specs.Sections.{SectionLists, of_number}
 use Rattle.wk_module.specs.Sizes.{entry_size}
 use Rattle.wk_module.specs.Writing.{contents_by, framed, ids}
 use Rattle.wk_module.specs.WritingLaws.{written_frame}
-use Rattle.wk_session.specs.declared.pieces.Pieces.{Pieces}
+use Rattle.wk_session.specs.declared.pieces.EncodedSections.{EncodedSections as Pieces}
 use Rattle.wk_session.specs.declared.pieces.NewSections.{NewSections}
 
 -- ---- sections

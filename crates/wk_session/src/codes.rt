@@ -6,8 +6,8 @@ ghost use Rattle.wk_session.specs.Overlays.{with_items};
 ghost use Rattle.wk_session.specs.Pieces.{entries_size};
 
 use crate::lengths::codes_len_after;
-use crate::overlay::item_at;
-use crate::pieces::Pieces;
+use crate::pieces::EncodedSections;
+use crate::replace::item_at;
 use std::marker::Model;
 use wk_bytes::Items;
 
@@ -36,7 +36,7 @@ impl<'a> Model for Codes<'a> {
 impl<'a> Codes<'a> {
     /// The codes that are kept.
     #[tactic(auto, using(crate::proofs::Replacing::with_items_all))]
-    pub(crate) fn kept(pieces: &'a Pieces) -> Codes<'a>
+    pub(crate) fn of(pieces: &'a EncodedSections) -> Codes<'a>
         requires { pieces.now.codes_len ≡ entries_size pieces.now.codes.items }
         ensures { result ≡ pieces.now.codes.items }
     {
@@ -48,7 +48,10 @@ impl<'a> Codes<'a> {
     }
 
     /// The same with each new one in the place of the one that is kept. They are measured here.
-    pub(crate) fn with_new(pieces: &'a Pieces, news: &'a Vec<Option<Items<u8>>>) -> Codes<'a>
+    pub(crate) fn with_new(
+        pieces: &'a EncodedSections,
+        news: &'a Vec<Option<Items<u8>>>,
+    ) -> Codes<'a>
         requires many { length news.now.items ≡ length pieces.now.codes.items }
         requires few { entries_size (with_items pieces.now.codes.items news.now.items) ≤ limit }
         ensures { result ≡ with_items pieces.now.codes.items news.now.items }

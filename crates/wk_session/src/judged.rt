@@ -47,7 +47,7 @@ fn is_retyped<O: Env, N: Env>(old: &O, new: &N, refs: &BTreeSet<Ref>) -> bool
 }
 
 /// Types a body. No other function of this crate does.
-pub(crate) fn judged<E: Env>(
+pub(crate) fn type_body<E: Env>(
     env: &E,
     own_type: u32,
     body: &Body,
@@ -61,7 +61,7 @@ pub(crate) fn judged<E: Env>(
 }
 
 // The verdict of a body where what was found is found still. A valid one refers to nothing that was not, so that it is not looked at.
-fn judged_again<O: Env, N: Env>(
+fn rejudge_body<O: Env, N: Env>(
     old: &O,
     new: &N,
     func: &Func,
@@ -83,13 +83,13 @@ fn judged_again<O: Env, N: Env>(
         return Ok(carry(old, new, own_types, &func.body, verdict));
     }
     if is_retyped(old, new, refs) {
-        return judged(new, func.ty, &func.body, meter);
+        return type_body(new, func.ty, &func.body, meter);
     }
     Ok(carry(old, new, own_types, &func.body, verdict))
 }
 
 /// The verdicts of bodies where what was found is found still. The meter counts those that are judged for it.
-pub(crate) fn rejudged<O: Env, N: Env>(
+pub(crate) fn rejudge_bodies<O: Env, N: Env>(
     alloc: Global,
     old: &O,
     new: &N,
@@ -107,7 +107,7 @@ pub(crate) fn rejudged<O: Env, N: Env>(
 {
     let mut judged = Vec::with_capacity(alloc, funcs.len())?;
     for (i, func) in funcs.as_slice().iter().enumerate() {
-        let verdict = judged_again(old, new, func, &refs[i], verdicts[i], meter)?;
+        let verdict = rejudge_body(old, new, func, &refs[i], verdicts[i], meter)?;
         judged.push(verdict)?;
     }
     Ok(judged)

@@ -11,7 +11,7 @@ ghost use Rattle.wk_module.specs.WritingLaws.{written_frame};
 ghost use Rattle.wk_session.specs.Overlays.{with_items};
 ghost use Rattle.wk_session.specs.Pieces.{codes_size, customs_size, entries_size, section_pieces};
 
-use crate::overlay::item_at;
+use crate::replace::item_at;
 use wk_bytes::{Items, LIMIT, leb_len_u32};
 use wk_module::{Custom, custom_len, framed_len, section_id, whole_len};
 

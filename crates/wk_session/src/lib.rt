@@ -30,9 +30,10 @@
 //! the sections that change, and writing puts what is kept in order. All growths come before what is kept changes; what was pushed to
 //! be judged is taken back where the edit is refused.
 //!
-//! Opening goes over the bytes once, and over each body once more: it is typed, unless its verdict is known, looked at, and, unless its
-//! code is at hand, written in turn, into one room that serves all bodies. What is held then is 16 bytes for each token, each code, the contents of each section
-//! beside the lists that are read of them, and a set of some 200 bytes for each function.
+//! Opening goes over the bytes once, and over each body once more: it is typed, unless its verdict
+//! is known, looked at, and, unless its code is at hand, written in turn, into one room that serves
+//! all bodies. What is held then is 16 bytes for each token, each code, the contents of each
+//! section beside the lists that are read of them, and a set of some 200 bytes for each function.
 //!
 //! What grows with a session that is kept open is the module, and with it what is kept: an edit leaves nothing behind, but for the room
 //! of a list that got shorter, which later items fill, and room ahead of one that grew, at most as much again. Appending to a list of a
@@ -43,21 +44,21 @@
 //! custom section costs its own bytes, and a verdict, a length and what a function refers to cost nothing: they are looked up.
 #![tactic(auto)]
 
-mod appraisal;
+mod append_item;
+mod cache;
 mod codes;
 mod display;
 mod edit;
 mod edits;
 mod judged;
-mod kept;
 mod known;
 mod laws;
 mod lengths;
-mod longer;
-mod overlay;
 mod pieces;
+mod remove_item;
+mod replace;
 mod session;
-mod shorter;
+mod verdict_and_len;
 mod write;
 mod written;
 

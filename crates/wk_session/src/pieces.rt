@@ -22,7 +22,7 @@ use wk_module::{
 /// The written form of a module in pieces (`ArePieces` of `specs/Pieces`). Custom sections are not kept a second time: the module holds
 /// their bytes.
 #[derive(Debug, Drop)]
-pub(crate) struct Pieces {
+pub(crate) struct EncodedSections {
     /// The contents of each section by its id, 0 to 11; none of custom sections and of the code section.
     pub(crate) sections: Vec<Items<u8>>,
     /// The code of each function, without its size.
@@ -43,7 +43,7 @@ pub(crate) struct NewSections {
 }
 
 /// Makes the contents of the section of an id, and counts it. No other function of this crate encodes sections.
-pub(crate) fn remade(
+pub(crate) fn remake_section(
     alloc: Global,
     lists: &Lists<'_>,
     id: u8,
@@ -126,7 +126,7 @@ pub(crate) fn one_remade(
 {
     let mut made = 0;
     let mut sections = no_news(alloc)?;
-    let contents = remade(alloc, lists, id, &mut made)?;
+    let contents = remake_section(alloc, lists, id, &mut made)?;
     sections[id as usize] = Some(contents);
     Ok(NewSections { sections, made })
 }
@@ -148,7 +148,7 @@ fn contents_at(
     if id == section_id::CUSTOM || id == section_id::CODE {
         return Ok(Items::new(alloc));
     }
-    remade(alloc, lists, id, made)
+    remake_section(alloc, lists, id, made)
 }
 
 /// Makes the contents of all sections, by their ids.
@@ -176,14 +176,14 @@ fn sections_of(alloc: Global, lists: &Lists<'_>) -> Result<Vec<Items<u8>>, OutOf
     }
 }
 
-impl Pieces {
+impl EncodedSections {
     /// The pieces of a module that is not too large and whose functions have these types and these codes.
     pub(crate) fn of(
         alloc: Global,
         parts: &Parts,
         types: &[u32],
         codes: Vec<Items<u8>>,
-    ) -> Result<Pieces, OutOfMemory>
+    ) -> Result<EncodedSections, OutOfMemory>
         requires types { types.now ≡ map (λ f. f.ty) parts.now.funcs }
         requires codes { codes.items ≡ map code_of parts.now.funcs }
         requires order { IsInOrderFrom 0 parts.now.customs }
@@ -195,7 +195,7 @@ impl Pieces {
         else {
             unreachable!()
         };
-        Ok(Pieces {
+        Ok(EncodedSections {
             sections,
             codes,
             codes_len,

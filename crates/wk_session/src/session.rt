@@ -22,13 +22,13 @@ ghost use Rattle.wk_session.specs.Told.{IsTold, AreTold};
 ghost use Rattle.wk_session.specs.Written.{Leaves, failures_after_write};
 ghost use Rattle.wk_session.specs.Runs.{reply_of, after_one, is_memory, replies_of, after, refused_for_memory, AreUndecided};
 
+use crate::cache::Cache;
 use crate::codes::Codes;
 use crate::edit::{Edit, EditFault, Reply};
 use crate::edits::{
     add_export, add_func, add_global, add_import, add_type, put_body, remove_export, set_custom,
     strip_all, strip_custom,
 };
-use crate::kept::Kept;
 use crate::lengths::code_contents;
 use crate::write::WriteFault;
 use crate::written::put_module;
@@ -49,7 +49,7 @@ use wk_module::{
 pub struct Session {
     alloc: Global,
     module: Module,
-    kept: Kept,
+    kept: Cache,
 }
 
 impl Model for Session {
@@ -77,7 +77,7 @@ fn take_parts(alloc: Global, module: &mut Module) -> Parts
 }
 
 // Makes one edit of the parts of a module.
-fn edit_parts(alloc: Global, keep: bool, parts: &mut Parts, kept: &mut Kept, edit: &Edit) -> Reply
+fn edit_parts(alloc: Global, keep: bool, parts: &mut Parts, kept: &mut Cache, edit: &Edit) -> Reply
     requires shaped { IsShaped parts.old }
     requires kept { IsKept parts.old kept.old }
     ensures { Leads keep edit.now parts.old result parts.new kept.new }
@@ -99,7 +99,7 @@ fn edit_parts(alloc: Global, keep: bool, parts: &mut Parts, kept: &mut Kept, edi
 
 impl Session {
     // A session over a module that is not too large, whose verdict may be known, and whose codes may be at hand.
-    fn over(
+    fn from_module(
         alloc: Global,
         module: Module,
         known: &Option<Verdict>,
@@ -110,7 +110,7 @@ impl Session {
         requires at_hand { IfSome at_hand (λ cs. cs.items ≡ map code_of («module»).funcs) }
         ensures { IfOk result (λ m. m ≡ «module») }
     {
-        let kept = Kept::of(alloc, &module, known, at_hand)?;
+        let kept = Cache::of(alloc, &module, known, at_hand)?;
         Ok(Session {
             alloc,
             module,
@@ -134,7 +134,7 @@ impl Session {
         ensures fault { IfErr result (λ e. StandsIn bytes.now e) }
     {
         let module = read_in(alloc, bytes, profile)?;
-        Ok(Session::over(alloc, module, &None, None)?)
+        Ok(Session::from_module(alloc, module, &None, None)?)
     }
 
     /// The same as [`Session::open_in`] of a module whose verdict is known, as [`judge_bytes`](wk_check::judge_bytes) gives it. It is not judged
@@ -159,7 +159,7 @@ impl Session {
         ensures fault { IfErr result (λ e. StandsIn bytes.now e) }
     {
         let judged = read_in(alloc, bytes, profile)?;
-        Ok(Session::over(alloc, judged, &Some(verdict), None)?)
+        Ok(Session::from_module(alloc, judged, &Some(verdict), None)?)
     }
 
     /// The same as [`Session::open_in`] of a module of which an outline was read before: the code of each of its functions is at hand in its
@@ -188,14 +188,14 @@ impl Session {
         ensures fits { IfOk result (λ m. Fits m) }
         ensures fault { IfErr result (λ e. StandsIn bytes.now e) }
     {
-        let outlined = match read_in(alloc, bytes, profile) {
-            Ok(outlined) => outlined,
+        let whole = match read_in(alloc, bytes, profile) {
+            Ok(whole) => whole,
             Err(fault) => {
                 drop(codes);
                 return Err(fault);
             }
         };
-        Ok(Session::over(alloc, outlined, &verdict, Some(codes))?)
+        Ok(Session::from_module(alloc, whole, &verdict, Some(codes))?)
     }
 
     /// A session over the one module of WebAssembly 1.0 that the bytes spell, as [`Session::open_in`].
@@ -224,7 +224,7 @@ impl Session {
         if encoded_len(&module).is_none() {
             return Err(EncodeFault::TooLarge);
         }
-        Ok(Session::over(alloc, module, &None, None)?)
+        Ok(Session::from_module(alloc, module, &None, None)?)
     }
 
     /// The verdict of the module.
@@ -261,7 +261,7 @@ impl Session {
         written_form_of_module();
         one_module();
         let pieces = &self.kept.pieces;
-        let codes = Codes::kept(pieces);
+        let codes = Codes::of(pieces);
         match put_module(out, self.module.parts(), &pieces.sections, &codes) {
             Ok(()) => Ok(()),
             Err(OutFault) => Err(WriteFault::Write),

@@ -20,13 +20,13 @@ ghost use Rattle.wk_session.specs.Functions.{AreVerdicts, IsPlanned};
 ghost use Rattle.wk_session.specs.Kept.{IsAppraised, IsKept, Leads, standing};
 ghost use Rattle.wk_session.specs.Pieces.{entries_size};
 
-use crate::appraisal::{Appraisal, admit, appraise};
+use crate::cache::{Cache, func_uses};
 use crate::edit::{EditFault, Reply, Work};
-use crate::edits::entry::{Entry, Verdicts, keep_entry, spelled_body, with_other};
-use crate::judged::judged;
-use crate::kept::{Kept, func_uses};
+use crate::edits::code_entry::{Entry, Verdicts, keep_entry, spelled_body, with_other};
+use crate::judged::type_body;
 use crate::lengths::{module_len, plus_code, sizes_of};
-use crate::pieces::{Pieces, encoded_body};
+use crate::pieces::{EncodedSections, encoded_body};
+use crate::verdict_and_len::{Appraisal, admit, appraise};
 use std::alloc::Global;
 use std::mem;
 use wk_bytes::{Items, OutOfMemory};
@@ -57,7 +57,7 @@ fn type_at(funcs: &Items<Func>, entry: usize) -> u32
 fn own_verdict(
     alloc: Global,
     parts: &Parts,
-    kept: &Kept,
+    kept: &Cache,
     entry: usize,
     ty: u32,
     body: &Body,
@@ -69,7 +69,7 @@ fn own_verdict(
     ensures typed { OnOk result (meter.new ≡ 1) }
 {
     let whole = Whole::of(alloc, Lists::of(parts, &kept.types))?;
-    judged(&whole, ty, body, meter)
+    type_body(&whole, ty, body, meter)
 }
 
 // The verdicts of bodies where one is replaced, and what is kept of the module as a whole, which is so long; or why it may not stay. In a
@@ -78,7 +78,7 @@ fn judged_body(
     alloc: Global,
     keep: bool,
     parts: &Parts,
-    kept: &Kept,
+    kept: &Cache,
     entry: usize,
     ty: u32,
     body: &Body,
@@ -110,7 +110,7 @@ fn judged_body(
 }
 
 // How many bytes all codes have with this one in the place of that of an entry, sizes with them; or nothing past 2,147,483,647.
-fn codes_len_with(pieces: &Pieces, entry: usize, code: &Items<u8>) -> Option<u32>
+fn codes_len_with(pieces: &EncodedSections, entry: usize, code: &Items<u8>) -> Option<u32>
     requires within { entry < length pieces.now.codes.items }
     requires len { pieces.now.codes_len ≡ entries_size pieces.now.codes.items }
     requires fits { pieces.now.codes_len ≤ limit }
@@ -127,7 +127,7 @@ fn planned_body(
     alloc: Global,
     keep: bool,
     parts: &Parts,
-    kept: &Kept,
+    kept: &Cache,
     entry: usize,
     ty: u32,
     body: &Body,
@@ -184,7 +184,7 @@ fn put_at(
     alloc: Global,
     keep: bool,
     parts: &mut Parts,
-    kept: &mut Kept,
+    kept: &mut Cache,
     meter: &mut Meter,
     entry: usize,
     code: &Items<u8>,
@@ -223,7 +223,7 @@ pub(crate) fn put_body(
     alloc: Global,
     keep: bool,
     parts: &mut Parts,
-    kept: &mut Kept,
+    kept: &mut Cache,
     meter: &mut Meter,
     func: u32,
     code: &Items<u8>,

@@ -16,8 +16,8 @@ ghost use Rattle.wk_session.specs.Edits.{is_named, with_custom, without_customs}
 ghost use Rattle.wk_session.specs.Kept.{IsKept, Leads};
 ghost use Rattle.wk_session.specs.Pieces.{customs_size};
 
+use crate::cache::Cache;
 use crate::edit::{EditFault, Reply, Work};
-use crate::kept::Kept;
 use crate::lengths::customs_len;
 use std::alloc::{AllocError, Global};
 use std::mem;
@@ -61,7 +61,7 @@ fn check_verdict(keep: bool, verdict: &Verdict) -> Result<(), EditFault>
 }
 
 // Keeps the length of a module that has other customs than before, and how much of it these are.
-fn keep_len(kept: &mut Kept, len: u32)
+fn keep_len(kept: &mut Cache, len: u32)
     requires before { kept.old.pieces.customs_len ≤ kept.old.len }
     requires after { kept.old.len - kept.old.pieces.customs_len ≤ len }
     ensures { kept.new ≡ with_customs_len len kept.old }
@@ -72,7 +72,7 @@ fn keep_len(kept: &mut Kept, len: u32)
 }
 
 // Keeps the length of a module that fits and has these customs, where this is kept of it but for them.
-fn keep_customs(kept: &mut Kept, customs: &Items<Custom>)
+fn keep_customs(kept: &mut Cache, customs: &Items<Custom>)
     requires before { kept.old.pieces.customs_len ≤ kept.old.len }
     requires fits { kept.old.len - kept.old.pieces.customs_len + customs_size customs.now ≤ limit }
     ensures { kept.new ≡ with_customs_len (kept.old.len - kept.old.pieces.customs_len + customs_size customs.now) kept.old }
@@ -146,7 +146,7 @@ fn exchange(len: u32, old: u32, new: Option<u32>) -> Option<u32>
 }
 
 // The length of a module with these bytes in the custom section at an index, or nothing past 2,147,483,647.
-fn len_with_bytes(parts: &Parts, kept: &Kept, index: usize, bytes: &Items<u8>) -> Option<u32>
+fn len_with_bytes(parts: &Parts, kept: &Cache, index: usize, bytes: &Items<u8>) -> Option<u32>
     requires order { IsInOrderFrom 0 parts.now.customs }
     requires len { limited (length (encoded parts.now)) ≡ Some kept.now.len }
     requires within { index < length parts.now.customs }
@@ -160,7 +160,7 @@ fn len_with_bytes(parts: &Parts, kept: &Kept, index: usize, bytes: &Items<u8>) -
 }
 
 // The length of a module with one custom section more behind all others, or nothing past 2,147,483,647.
-fn len_with_custom(parts: &Parts, kept: &Kept, name: &Text, bytes: &Items<u8>) -> Option<u32>
+fn len_with_custom(parts: &Parts, kept: &Cache, name: &Text, bytes: &Items<u8>) -> Option<u32>
     requires order { IsInOrderFrom 0 parts.now.customs }
     requires len { limited (length (encoded parts.now)) ≡ Some kept.now.len }
     ensures { result ≡ limited (length (encoded
@@ -203,7 +203,7 @@ fn replace_bytes(
     alloc: Global,
     keep: bool,
     parts: &mut Parts,
-    kept: &mut Kept,
+    kept: &mut Cache,
     index: usize,
     bytes: &Items<u8>,
 ) -> Result<(), EditFault>
@@ -227,7 +227,7 @@ fn append_custom(
     alloc: Global,
     keep: bool,
     parts: &mut Parts,
-    kept: &mut Kept,
+    kept: &mut Cache,
     name: &Text,
     bytes: &Items<u8>,
 ) -> Result<(), EditFault>
@@ -251,7 +251,7 @@ fn put_custom(
     alloc: Global,
     keep: bool,
     parts: &mut Parts,
-    kept: &mut Kept,
+    kept: &mut Cache,
     name: &Text,
     bytes: &Items<u8>,
 ) -> Result<(), EditFault>
@@ -270,7 +270,7 @@ pub(crate) fn set_custom(
     alloc: Global,
     keep: bool,
     parts: &mut Parts,
-    kept: &mut Kept,
+    kept: &mut Cache,
     name: &Text,
     bytes: &Items<u8>,
 ) -> Reply
@@ -287,7 +287,7 @@ pub(crate) fn strip_custom(
     alloc: Global,
     keep: bool,
     parts: &mut Parts,
-    kept: &mut Kept,
+    kept: &mut Cache,
     name: &Text,
 ) -> Reply
     requires shaped { IsShaped parts.old }
@@ -304,7 +304,7 @@ pub(crate) fn strip_custom(
 }
 
 /// Removes all custom sections.
-pub(crate) fn strip_all(alloc: Global, keep: bool, parts: &mut Parts, kept: &mut Kept) -> Reply
+pub(crate) fn strip_all(alloc: Global, keep: bool, parts: &mut Parts, kept: &mut Cache) -> Reply
     requires shaped { IsShaped parts.old }
     requires kept { IsKept parts.old kept.old }
     ensures { Leads keep Edit.StripAll parts.old result parts.new kept.new }

@@ -22,12 +22,14 @@ ghost use Rattle.wk_session.specs.Longer.{IsNewItem};
 ghost use Rattle.wk_session.specs.Pieces.{IsOverlong, codes_size, customs_size, section_pieces};
 ghost use Rattle.wk_session.specs.Shorter.{without_item};
 
-use crate::appraisal::appraise_unless_known;
+use crate::cache::Cache;
 use crate::edit::{EditFault, Reply, Work};
-use crate::edits::one_more::{Judgement, NewItem, keep_grown, keep_judgement, len_grown, new_item};
-use crate::kept::Kept;
+use crate::edits::plan_append::{
+    Judgement, NewItem, keep_grown, keep_judgement, len_grown, new_item,
+};
 use crate::lengths::{module_len, sizes_with};
-use crate::shorter::{Span, remove_item, shrunk_len};
+use crate::remove_item::{Span, remove_item, shrunk_len};
+use crate::verdict_and_len::appraise_unless_known;
 use std::alloc::Global;
 use std::{mem, slice};
 use wk_bytes::{Items, Text};
@@ -35,7 +37,7 @@ use wk_check::{Verdict, laws_of_valid_modules, verdict_with_export};
 use wk_module::{EncodeFault, Export, Lists, Parts, export_len, section_id};
 
 // The verdict of a module with an export more, where it is known: where the one without is valid.
-fn known_with_export(parts: &Parts, kept: &Kept, export: &Export) -> Option<Verdict>
+fn known_with_export(parts: &Parts, kept: &Cache, export: &Export) -> Option<Verdict>
     requires shaped { IsShaped parts.now }
     requires kept { IsKept parts.now kept.now }
     ensures some { IfSome result (λ v. v ≡ module_verdict (with_export export.now parts.now)) }
@@ -48,7 +50,7 @@ fn known_with_export(parts: &Parts, kept: &Kept, export: &Export) -> Option<Verd
 }
 
 // The verdict of a module without one of its exports, where it is known: where the one with it is valid.
-fn known_without_export(parts: &Parts, kept: &Kept, place: usize) -> Option<Verdict>
+fn known_without_export(parts: &Parts, kept: &Cache, place: usize) -> Option<Verdict>
     requires kept { IsKept parts.now kept.now }
     ensures some { IfSome result (λ v. v ≡ module_verdict (record parts.now { exports = remove parts.now.exports place })) }
     ensures none { IfNone result (kept.now.verdict ≢ Verdict.Valid) }
@@ -66,7 +68,7 @@ fn judge_exports(
     alloc: Global,
     keep: bool,
     parts: &Parts,
-    kept: &Kept,
+    kept: &Cache,
     exports: &[Export],
     len: Option<u32>,
     known: Option<Verdict>,
@@ -92,7 +94,7 @@ fn judge_exports(
 fn new_export(
     alloc: Global,
     parts: &Parts,
-    kept: &Kept,
+    kept: &Cache,
     export: &Export,
 ) -> Result<NewItem, EncodeFault>
     requires { length parts.now.exports < 2 ^ 32 }
@@ -118,7 +120,7 @@ fn push_export(
     alloc: Global,
     keep: bool,
     parts: &mut Parts,
-    kept: &mut Kept,
+    kept: &mut Cache,
     export: Export,
     len: Option<u32>,
 ) -> Result<u32, EditFault>
@@ -147,7 +149,7 @@ pub(crate) fn add_export(
     alloc: Global,
     keep: bool,
     parts: &mut Parts,
-    kept: &mut Kept,
+    kept: &mut Cache,
     export: &Export,
 ) -> Reply
     requires shaped { IsShaped parts.old }
@@ -259,7 +261,7 @@ fn span_of(exports: &[Export], place: usize) -> Span
 }
 
 // The length of a module without an export of so many that stands there, by how many functions it defines.
-fn len_without(kept: &Kept, funcs: usize, count: u32, span: Span) -> Option<u32>
+fn len_without(kept: &Cache, funcs: usize, count: u32, span: Span) -> Option<u32>
     requires sections { length kept.now.pieces.sections.items ≡ 12 }
     requires some { 0 < count }
     requires few { length (get_or kept.now.pieces.sections.items 7 []) ≤ limit }
@@ -281,7 +283,7 @@ fn len_without(kept: &Kept, funcs: usize, count: u32, span: Span) -> Option<u32>
 // it; or leaves what is kept as it was.
 fn keep_shrunk(
     alloc: Global,
-    kept: &mut Kept,
+    kept: &mut Cache,
     count: u32,
     span: Span,
     judged: Result<Judgement, EditFault>,
@@ -308,7 +310,7 @@ fn take_export(
     alloc: Global,
     keep: bool,
     parts: &mut Parts,
-    kept: &mut Kept,
+    kept: &mut Cache,
     place: usize,
 ) -> Result<u32, EditFault>
     requires place { place < length parts.old.exports }
@@ -344,7 +346,7 @@ pub(crate) fn remove_export(
     alloc: Global,
     keep: bool,
     parts: &mut Parts,
-    kept: &mut Kept,
+    kept: &mut Cache,
     name: &Text,
 ) -> Reply
     requires shaped { IsShaped parts.old }

@@ -20,15 +20,15 @@ ghost use Rattle.wk_session.specs.Kept.{IsAppraised, IsKept, Leads, standing};
 ghost use Rattle.wk_session.specs.Longer.{IsNewItem};
 ghost use Rattle.wk_session.specs.Pieces.{IsOverlong, section_pieces};
 
-use crate::appraisal::{Appraisal, admit, appraise};
+use crate::append_item::append_item;
+use crate::cache::{Cache, func_uses};
 use crate::edit::{EditFault, Reply, Work};
-use crate::edits::entry::{Entry, Verdicts, keep_entry, spelled_body};
-use crate::edits::one_more::{NewItem, bytes_of, item_len, len_grown, new_item};
-use crate::judged::{judged, rejudged};
-use crate::kept::{Kept, func_uses};
+use crate::edits::code_entry::{Entry, Verdicts, keep_entry, spelled_body};
+use crate::edits::plan_append::{NewItem, bytes_of, item_len, len_grown, new_item};
+use crate::judged::{rejudge_bodies, type_body};
 use crate::lengths::plus_code;
-use crate::longer::append_item;
 use crate::pieces::encoded_body;
+use crate::verdict_and_len::{Appraisal, admit, appraise};
 use std::alloc::Global;
 use std::slice;
 use wk_bytes::{Items, OutOfMemory};
@@ -39,7 +39,7 @@ use wk_module::{Body, EncodeFault, Func, Lists, Parts, section_id};
 fn verdicts_with(
     alloc: Global,
     parts: &Parts,
-    kept: &Kept,
+    kept: &Cache,
     ty: u32,
     body: &Body,
     meter: &mut Meter,
@@ -53,7 +53,7 @@ fn verdicts_with(
     let before = &kept.types[..parts.funcs.len()];
     let old = Whole::of(alloc, Lists::of(parts, before))?;
     let new = Whole::of(alloc, Lists::of(parts, &kept.types))?;
-    let mut verdicts = rejudged(
+    let mut verdicts = rejudge_bodies(
         alloc,
         &old,
         &new,
@@ -62,7 +62,7 @@ fn verdicts_with(
         &kept.verdicts,
         meter,
     )?;
-    let own = judged(&new, ty, body, meter)?;
+    let own = type_body(&new, ty, body, meter)?;
     verdicts.push(own)?;
     Ok(verdicts)
 }
@@ -72,7 +72,7 @@ fn judged_in_valid(
     alloc: Global,
     keep: bool,
     parts: &Parts,
-    kept: &Kept,
+    kept: &Cache,
     ty: u32,
     body: &Body,
     len: Option<u32>,
@@ -92,7 +92,7 @@ fn judged_in_valid(
     // The proof asks what this says: bodies of a valid module find what they found.
     laws_of_valid_modules();
     let whole = Whole::of(alloc, Lists::of(parts, &kept.types))?;
-    let own = judged(&whole, ty, body, meter)?;
+    let own = type_body(&whole, ty, body, meter)?;
     let verdict = verdict_with_func(parts.types.len() as u32, parts.funcs.len() as u32, ty, own);
     let appraisal = admit(keep, verdict, len)?;
     Ok((Verdicts::Own(own), appraisal))
@@ -104,7 +104,7 @@ fn judged_func(
     alloc: Global,
     keep: bool,
     parts: &Parts,
-    kept: &Kept,
+    kept: &Cache,
     ty: u32,
     body: &Body,
     len: Option<u32>,
@@ -131,7 +131,7 @@ fn judged_func(
 }
 
 // The index of a type as it comes to those of the others.
-fn new_index(alloc: Global, parts: &Parts, kept: &Kept, ty: &u32) -> Result<NewItem, EncodeFault>
+fn new_index(alloc: Global, parts: &Parts, kept: &Cache, ty: &u32) -> Result<NewItem, EncodeFault>
     requires { length parts.now.funcs < 2 ^ 32 }
     ensures { MatchResult result
         (IsNewItem 3 (length parts.now.funcs) (list_contents short (ty.now ∷ [])))
@@ -154,7 +154,7 @@ fn planned_func(
     alloc: Global,
     keep: bool,
     parts: &Parts,
-    kept: &Kept,
+    kept: &Cache,
     ty: u32,
     body: &Body,
     spelled: &Items<u8>,
@@ -205,7 +205,7 @@ fn push_planned(
     alloc: Global,
     keep: bool,
     parts: &mut Parts,
-    kept: &mut Kept,
+    kept: &mut Cache,
     meter: &mut Meter,
     ty: u32,
     body: Body,
@@ -245,7 +245,7 @@ fn push_func(
     alloc: Global,
     keep: bool,
     parts: &mut Parts,
-    kept: &mut Kept,
+    kept: &mut Cache,
     meter: &mut Meter,
     ty: u32,
     body: Body,
@@ -281,7 +281,7 @@ fn push_func(
 
 // Asks for room for the verdict of a function more where it comes to those that are kept: in a valid module. In any other a list of all
 // takes their place.
-fn reserve_verdict(kept: &mut Kept) -> Result<(), OutOfMemory>
+fn reserve_verdict(kept: &mut Cache) -> Result<(), OutOfMemory>
     ensures rest { kept.new ≡ record kept.old { verdicts = kept.new.verdicts } }
     ensures same { kept.new.verdicts.items ≡ kept.old.verdicts.items }
     ensures room { OnOk result (kept.old.verdict ≡ Verdict.Valid
@@ -311,7 +311,7 @@ pub(crate) fn add_func(
     alloc: Global,
     keep: bool,
     parts: &mut Parts,
-    kept: &mut Kept,
+    kept: &mut Cache,
     meter: &mut Meter,
     ty: u32,
     code: &Items<u8>,

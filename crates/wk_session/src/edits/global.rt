@@ -15,9 +15,9 @@ ghost use Rattle.wk_session.specs.Kept.{IsKept, Leads};
 ghost use Rattle.wk_session.specs.Longer.{IsNewItem};
 ghost use Rattle.wk_session.specs.Pieces.{IsOverlong};
 
+use crate::cache::Cache;
 use crate::edit::{EditFault, Reply, Work};
-use crate::edits::one_more::{NewItem, item_len, judge_grown, keep_grown, len_grown, new_item};
-use crate::kept::Kept;
+use crate::edits::plan_append::{NewItem, item_len, judge_grown, keep_grown, len_grown, new_item};
 use std::alloc::Global;
 use std::slice;
 use wk_bytes::{Items, OutOfMemory, ReadFault, ReadKind};
@@ -67,7 +67,7 @@ fn without_last_global<'a>(lists: Lists<'a>) -> Lists<'a>
 fn known_with_global(
     alloc: Global,
     parts: &Parts,
-    kept: &Kept,
+    kept: &Cache,
     global: &GlobalDef,
 ) -> Result<Option<Verdict>, OutOfMemory>
     requires shaped { IsShaped parts.now }
@@ -90,7 +90,7 @@ fn known_with_global(
 fn new_global(
     alloc: Global,
     parts: &Parts,
-    kept: &Kept,
+    kept: &Cache,
     global: &GlobalDef,
 ) -> Result<NewItem, EncodeFault>
     requires { length parts.now.globals < 2 ^ 32 }
@@ -116,7 +116,7 @@ fn push_global(
     alloc: Global,
     keep: bool,
     parts: &mut Parts,
-    kept: &mut Kept,
+    kept: &mut Cache,
     meter: &mut Meter,
     global: GlobalDef,
 ) -> Result<u32, EditFault>
@@ -155,7 +155,7 @@ pub(crate) fn add_global(
     alloc: Global,
     keep: bool,
     parts: &mut Parts,
-    kept: &mut Kept,
+    kept: &mut Cache,
     meter: &mut Meter,
     ty: GlobalType,
     init: &Items<u8>,

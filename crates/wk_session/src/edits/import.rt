@@ -23,14 +23,14 @@ ghost use Rattle.wk_session.specs.Kept.{IsKept, Leads};
 ghost use Rattle.wk_session.specs.Overlays.{with_items};
 ghost use Rattle.wk_session.specs.Pieces.{IsUnwritten};
 
-use crate::appraisal::{Appraisal, appraise_unless_known};
+use crate::cache::Cache;
 use crate::edit::{EditFault, Reply, Work};
-use crate::edits::moved::{MovedEntries, is_any_code_stuck, moved_entries, put_moved};
-use crate::judged::rejudged;
-use crate::kept::Kept;
+use crate::edits::renumber::{MovedEntries, is_any_code_stuck, moved_entries, put_moved};
+use crate::judged::rejudge_bodies;
 use crate::lengths::{codes_len_after, module_len, sizes_after};
-use crate::overlay::replace_each;
-use crate::pieces::{NewSections, one_remade, remade};
+use crate::pieces::{NewSections, one_remade, remake_section};
+use crate::replace::replace_each;
+use crate::verdict_and_len::{Appraisal, appraise_unless_known};
 use std::alloc::Global;
 use wk_bytes::OutOfMemory;
 use wk_check::{
@@ -53,7 +53,7 @@ struct ImportPlan {
 
 /// What is to be kept of a module with an import more.
 #[derive(Drop)]
-struct Judgement {
+struct ImportJudgement {
     /// What is kept of it as a whole.
     appraisal: Appraisal,
     /// The verdicts of its bodies, or nothing where they stay.
@@ -104,7 +104,7 @@ fn spelled_import(import: &Import)
 fn lists_after(
     alloc: Global,
     parts: &Parts,
-    kept: &Kept,
+    kept: &Cache,
     kind: Kind,
     from: u32,
 ) -> Result<MovedLists, EditFault>
@@ -129,7 +129,7 @@ fn lists_after(
 fn plan_import(
     alloc: Global,
     parts: &Parts,
-    kept: &Kept,
+    kept: &Cache,
     kind: Kind,
     from: u32,
 ) -> Result<ImportPlan, EditFault>
@@ -148,7 +148,7 @@ fn plan_import(
 fn verdicts_beside(
     alloc: Global,
     parts: &Parts,
-    kept: &Kept,
+    kept: &Cache,
     now: &Lists<'_>,
     meter: &mut Meter,
 ) -> Result<Option<Vec<BodyVerdict>>, OutOfMemory>
@@ -174,7 +174,7 @@ fn verdicts_beside(
     };
     let old = Whole::of(alloc, before)?;
     let new = Whole::of(alloc, *now)?;
-    let verdicts = rejudged(
+    let verdicts = rejudge_bodies(
         alloc,
         &old,
         &new,
@@ -191,7 +191,7 @@ fn verdicts_beside(
 fn verdicts_after(
     alloc: Global,
     parts: &Parts,
-    kept: &Kept,
+    kept: &Cache,
     now: &Lists<'_>,
     meter: &mut Meter,
     import: &Import,
@@ -244,7 +244,7 @@ fn remake_where(
         (IsUnwritten (listed lists.now)) }
 {
     if is_moved {
-        let contents = remade(alloc, lists, id, &mut news.made)?;
+        let contents = remake_section(alloc, lists, id, &mut news.made)?;
         news.sections[id as usize] = Some(contents);
     }
     Ok(())
@@ -298,7 +298,7 @@ fn remade_after(
 }
 
 // The verdict of a module with an import more, where it is known: where the one without is valid.
-fn known_with_import(parts: &Parts, kept: &Kept, import: &Import) -> Option<Verdict>
+fn known_with_import(parts: &Parts, kept: &Cache, import: &Import) -> Option<Verdict>
     requires formed { IsFormed parts.now }
     requires kept { IsKept parts.now kept.now }
     ensures some { IfSome result (λ v. v ≡ module_verdict (after_import import.now parts.now)) }
@@ -315,12 +315,12 @@ fn judged_import(
     alloc: Global,
     keep: bool,
     parts: &Parts,
-    kept: &Kept,
+    kept: &Cache,
     meter: &mut Meter,
     import: &Import,
     plan: &ImportPlan,
     known: Option<Verdict>,
-) -> Result<Judgement, EditFault>
+) -> Result<ImportJudgement, EditFault>
     requires ready { IsReady import.now (before_import parts.now) parts.now kept.now plan.now }
     requires known { IfSome known (λ v. v ≡ module_verdict (after_import import.now (before_import parts.now))) }
     requires fresh { meter.old ≡ 0 }
@@ -342,7 +342,7 @@ fn judged_import(
     let verdicts = verdicts_after(alloc, parts, kept, &now, meter, import, plan)?;
     let verdicts_now = verdicts_or(&verdicts, &kept.verdicts);
     let appraisal = appraise_unless_known(alloc, keep, known, &now, verdicts_now, len)?;
-    Ok(Judgement {
+    Ok(ImportJudgement {
         appraisal,
         verdicts,
         remade,
@@ -355,11 +355,11 @@ fn push_judged(
     alloc: Global,
     keep: bool,
     parts: &mut Parts,
-    kept: &Kept,
+    kept: &Cache,
     meter: &mut Meter,
     import: &Import,
     plan: &ImportPlan,
-) -> Result<Judgement, EditFault>
+) -> Result<ImportJudgement, EditFault>
     requires kept { IsKept parts.old kept.now }
     requires plan { IsImportPlan (desc_kind import.now.desc) (import_place import.now parts.old) parts.old plan.now }
     requires formed { IsFormed parts.old }
@@ -388,11 +388,11 @@ fn push_judged(
 fn put_import(
     alloc: Global,
     parts: &mut Parts,
-    kept: &mut Kept,
+    kept: &mut Cache,
     kind: Kind,
     from: u32,
     plan: ImportPlan,
-    judgement: Judgement,
+    judgement: ImportJudgement,
 )
     requires moves { map is_some plan.entries.codes.items
         ≡ map (λ f. is_code_moving kind from f.body.instrs) parts.old.funcs }
@@ -417,7 +417,7 @@ fn put_import(
         codes,
         encoded: _,
     } = entries;
-    let Judgement {
+    let ImportJudgement {
         appraisal,
         verdicts,
         remade,
@@ -440,7 +440,7 @@ pub(crate) fn add_import(
     alloc: Global,
     keep: bool,
     parts: &mut Parts,
-    kept: &mut Kept,
+    kept: &mut Cache,
     meter: &mut Meter,
     import: &Import,
 ) -> Reply

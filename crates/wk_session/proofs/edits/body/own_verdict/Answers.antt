@@ -16,4 +16,4 @@ pub returns-clause-own : goal.returns-clause-own
 returns-clause-own c =
     let m = c.args.parts.now in
     let found = answers_lent m c.in_ok-whole.whole (whole_is (goal.at.returns-clause-own c).In_ok-whole) ∙ sym (answers_stay c.args.entry c.args.body.now m) in
-    IfOk-weaker c.judged.result _ _ (λ v is. is ∙ ap (λ (A : Ref → Found). body_verdict A c.args.ty c.args.body.now) found) c.judged.ensures.verdict
+    IfOk-weaker c.type_body.result _ _ (λ v is. is ∙ ap (λ (A : Ref → Found). body_verdict A c.args.ty c.args.body.now) found) c.type_body.ensures.verdict

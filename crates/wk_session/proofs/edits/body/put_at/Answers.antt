@@ -5,7 +5,7 @@ use Rattle.wk_check.specs.declared.fault.BodyVerdict.{BodyVerdict}
 use Rattle.wk_check.specs.SpacesLaws.{answers_of}
 use Rattle.wk_check.specs.Verdict.{func_verdict}
 use Rattle.wk_session.specs.Functions.{AreVerdicts}
-use Rattle.wk_session.specs.declared.kept.Kept.{Kept}
+use Rattle.wk_session.specs.declared.cache.Cache.{Cache}
 use Rattle.wk_session.specs.Kept.{uses_of}
 use Rattle.wk_session.proofs.BodyEdits.{body_kept, body_leads, given_set, other_at}
 use Rattle.wk_session.proofs.edits.body.put_at.Goals as goal
@@ -14,13 +14,13 @@ pub index_mut-requires : goal.index_mut-requires
 index_mut-requires c =
     let m = c.args.parts.now in
     let k = c.args.kept.now in
-    omega (arith, c.requires.within, ap (λ (x : Kept). length x.refs.items) c.keep_entry.ensures, ap length c.requires.kept.refs, length-map k.refs.items (λ s. s.keys), length-map m.funcs uses_of)
+    omega (arith, c.requires.within, ap (λ (x : Cache). length x.refs.items) c.keep_entry.ensures, ap length c.requires.kept.refs, length-map k.refs.items (λ s. s.keys), length-map m.funcs uses_of)
 
 pub put_verdicts-requires : goal.put_verdicts-requires
 put_verdicts-requires c =
     let m = c.args.parts.now in
     let k = c.args.kept.now in
-    omega (arith, c.requires.within, ap (λ (x : Kept). length x.verdicts.items) c.keep_entry.ensures, ap length c.requires.kept.verdicts, length-map m.funcs (func_verdict (answers_of m)))
+    omega (arith, c.requires.within, ap (λ (x : Cache). length x.verdicts.items) c.keep_entry.ensures, ap length c.requires.kept.verdicts, length-map m.funcs (func_verdict (answers_of m)))
 
 pub returns : goal.returns
 returns c =
@@ -33,12 +33,12 @@ returns c =
     let p = c.in_ok-planned.planned in
     let plan = c.in_ok-planned.ensures.ok in
     let put = c.keep_entry.ensures in
-    let refs = other_at _ _ c.args.entry _ _ (ap (λ (x : Kept). x.refs.items) put) c.replace-unused.ensures.after in
-    let codes = other_at _ _ c.args.entry _ _ (ap (λ (x : Kept). x.pieces.codes.items) put) refl in
-    let same = ap (λ (x : Kept). x.verdicts.items) put in
+    let refs = other_at _ _ c.args.entry _ _ (ap (λ (x : Cache). x.refs.items) put) c.replace-unused.ensures.after in
+    let codes = other_at _ _ c.args.entry _ _ (ap (λ (x : Cache). x.pieces.codes.items) put) refl in
+    let same = ap (λ (x : Cache). x.verdicts.items) put in
     let verdicts = c.put_verdicts.ensures t b n m.funcs (given_set c.args.entry b m.funcs t c.type_at-ty.ensures) (subst (λ (vs : List BodyVerdict). AreVerdicts t b n m.funcs vs p.verdicts) (sym same) plan.verdicts) in
     let kept = body_kept c.args.keep c.args.entry t b m p k _ c.type_at-ty.ensures plan c.requires.kept
-    (ap (λ (x : Kept). x.verdict) put) (ap (λ (x : Kept). x.len) put) (ap (λ (x : Kept). x.types) put) verdicts refs
-    (ap (λ (x : Kept). x.pieces.sections.items) put) codes (ap (λ (x : Kept). x.pieces.codes_len) put) (ap (λ (x : Kept). x.pieces.customs_len) put) in
+    (ap (λ (x : Cache). x.verdict) put) (ap (λ (x : Cache). x.len) put) (ap (λ (x : Cache). x.types) put) verdicts refs
+    (ap (λ (x : Cache). x.pieces.sections.items) put) codes (ap (λ (x : Cache). x.pieces.codes_len) put) (ap (λ (x : Cache). x.pieces.customs_len) put) in
     body_leads c.args.keep c.args.entry t b m p k _ x c.args.code.now c.set-before.new.self c.typed.result p.encoded p.sections is c.in_ok-body.ensures.ok c.type_at-ty.ensures c.set-before.ensures.new plan kept
     (c.typed.ensures ∙ c.in_ok-planned.ensures.typed) refl refl

@@ -3,7 +3,7 @@ use Rattle.std.proofs.lemmas.List.{map-set}
 use Rattle.wk_check.specs.declared.fault.BodyVerdict.{BodyVerdict}
 use Rattle.wk_check.specs.SpacesLaws.{answers_of}
 use Rattle.wk_check.specs.Verdict.{func_verdict}
-use Rattle.wk_session.specs.declared.edits.entry.Verdicts.{Verdicts}
+use Rattle.wk_session.specs.declared.edits.code_entry.Verdicts.{Verdicts}
 use Rattle.wk_session.specs.Functions.{AreVerdicts}
 use Rattle.wk_session.proofs.edits.body.put_verdicts.Goals as goal
 

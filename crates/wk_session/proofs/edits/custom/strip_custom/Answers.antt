@@ -7,7 +7,7 @@ use Rattle.wk_module.specs.Shape.{IsFormed, settle}
 use Rattle.wk_module.specs.ShapeLaws.{filter_formed}
 use Rattle.wk_module.specs.Writing.{encoded, Fits}
 use Rattle.wk_session.specs.declared.edit.Edit.TheVariants as edits
-use Rattle.wk_session.specs.declared.kept.Kept.{Kept}
+use Rattle.wk_session.specs.declared.cache.Cache.{Cache}
 use Rattle.wk_session.specs.Edits.{is_named, without_customs}
 use Rattle.wk_session.specs.Kept.{IsKept, Leads}
 use Rattle.wk_session.specs.Pieces.{customs_size}

@@ -13,7 +13,7 @@ use Rattle.wk_module.specs.Writing.{encoded, list_contents}
 use Rattle.wk_module.specs.WritingLaws.{room}
 use Rattle.wk_check.specs.SpacesLaws.{answers_of}
 use Rattle.wk_session.specs.declared.edit.Edit.TheVariants as edits
-use Rattle.wk_session.specs.declared.kept.Kept.{Kept}
+use Rattle.wk_session.specs.declared.cache.Cache.{Cache}
 use Rattle.wk_session.specs.Edits.{is_large, is_decided}
 use Rattle.wk_session.specs.Judged.{IsGrown}
 use Rattle.wk_session.specs.Kept.{IsKept}
@@ -28,7 +28,7 @@ use Rattle.wk_session.proofs.edits.export.add_export.Goals.{After-len_grown-len,
 pub len_grown-len-requires-clause-sections : goal.len_grown-len-requires-clause-sections
 len_grown-len-requires-clause-sections c = ap length c.requires.kept.pieces.sections
 
-few : (m : Parts) (k : Kept) → IsKept m k → length m.exports + 1 < 2 ^ 32
+few : (m : Parts) (k : Cache) → IsKept m k → length m.exports + 1 < 2 ^ 32
 few m k kept = room m ExportSection (limited-some (length (encoded m)) k.len kept.len)
 
 pub overflow_cast-len : goal.overflow_cast-len

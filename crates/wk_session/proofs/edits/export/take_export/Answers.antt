@@ -12,7 +12,7 @@ use Rattle.wk_module.specs.Writing.{encoded, list_contents}
 use Rattle.wk_module.specs.WritingLaws.{room}
 use Rattle.wk_check.specs.SpacesLaws.{answers_of}
 use Rattle.wk_session.specs.declared.edit.EditFault.{EditFault}
-use Rattle.wk_session.specs.declared.kept.Kept.{Kept}
+use Rattle.wk_session.specs.declared.cache.Cache.{Cache}
 use Rattle.wk_session.specs.Judged.{IsGrown, IsJudged}
 use Rattle.wk_session.specs.Kept.{IsKept}
 use Rattle.wk_session.specs.Pieces.{section_pieces}
@@ -25,10 +25,10 @@ use Rattle.wk_session.proofs.edits.export.take_export.Goals as goal
 use Rattle.wk_session.proofs.edits.export.take_export.Goals.{After-deref, After-keep_shrunk, After-span_of-span}
 
 -- the contents that are kept
-contents_are : (m : Parts) (k : Kept) → IsKept m k → get_or k.pieces.sections.items 7 [] ≡ list_contents written_export m.exports
+contents_are : (m : Parts) (k : Cache) → IsKept m k → get_or k.pieces.sections.items 7 [] ≡ list_contents written_export m.exports
 contents_are m k kept = ap (λ (ps : List (List ℕ)). get_or ps 7 []) kept.pieces.sections
 
-contents_few : (m : Parts) (k : Kept) → IsKept m k → length (list_contents written_export m.exports) ≤ limit
+contents_few : (m : Parts) (k : Cache) → IsKept m k → length (list_contents written_export m.exports) ≤ limit
 contents_few m k kept = omega (arith, section_within 7 m, limited-some (length (encoded m)) k.len kept.len)
 
 pub overflow_cast-count : goal.overflow_cast-count

@@ -1,7 +1,7 @@
 use Rattle.std.proofs.Common.{◌<◌, ◌^◌, List, [], ◌∷◌, ◌++◌, ap, refl, subst, sym, ◌∙◌, arith}
 use Rattle.wk_module.specs.Changes.{with_func}
 use Rattle.wk_check.specs.SpacesLaws.{answers_of}
-use Rattle.wk_session.specs.declared.kept.Kept.{Kept}
+use Rattle.wk_session.specs.declared.cache.Cache.{Cache}
 use Rattle.wk_check.specs.declared.fault.BodyVerdict.{BodyVerdict}
 use Rattle.wk_session.specs.Functions.{AreVerdicts, IsPlanned}
 use Rattle.wk_session.specs.Dependents.{is_retyped_in}
@@ -27,15 +27,15 @@ returns c =
     let put = c.keep_entry.ensures in
     let room = c.reserve_verdict.ensures.rest in
     let refs = one_more _ _ _ _ _ c.push_reserved.ensures.items
-    (ap (λ (x : Kept). x.refs.items) put ∙ ap (λ (x : Kept). x.refs.items) pushed ∙ c.reserve.ensures.items ∙ ap (λ (x : Kept). x.refs.items) room) refl in
+    (ap (λ (x : Cache). x.refs.items) put ∙ ap (λ (x : Cache). x.refs.items) pushed ∙ c.reserve.ensures.items ∙ ap (λ (x : Cache). x.refs.items) room) refl in
     let codes = one_more _ _ _ _ _ c.push_reserved-2.ensures.items
-    (ap (λ (x : Kept). x.pieces.codes.items) put ∙ ap (λ (x : Kept). x.pieces.codes.items) pushed ∙ c.reserve-2.ensures.items ∙ ap (λ (x : Kept). x.pieces.codes.items) room) refl in
-    let same = ap (λ (x : Kept). x.verdicts.items) put ∙ ap (λ (x : Kept). x.verdicts.items) pushed ∙ c.reserve_verdict.ensures.same in
+    (ap (λ (x : Cache). x.pieces.codes.items) put ∙ ap (λ (x : Cache). x.pieces.codes.items) pushed ∙ c.reserve-2.ensures.items ∙ ap (λ (x : Cache). x.pieces.codes.items) room) refl in
+    let same = ap (λ (x : Cache). x.verdicts.items) put ∙ ap (λ (x : Cache). x.verdicts.items) pushed ∙ c.reserve_verdict.ensures.same in
     let verdicts = c.put_verdicts.ensures t b n m.funcs refl (subst (λ (vs : List BodyVerdict). AreVerdicts t b n m.funcs vs p.verdicts) (sym same) plan.verdicts) in
     let kept = func_kept c.args.keep t b m p k _ plan c.requires.kept
-    (ap (λ (x : Kept). x.verdict) put) (ap (λ (x : Kept). x.len) put)
-    (ap (λ (x : Kept). x.types.items) put ∙ c.in_ok-entry.ensures.types ∙ ap (λ (x : Kept). x.types.items ++ t ∷ []) room) verdicts refs
-    (ap (λ (x : Kept). x.pieces.sections.items) put ∙ c.in_ok-entry.ensures.sections) codes
-    (ap (λ (x : Kept). x.pieces.codes_len) put) (ap (λ (x : Kept). x.pieces.customs_len) put ∙ ap (λ (x : Kept). x.pieces.customs_len) pushed ∙ ap (λ (x : Kept). x.pieces.customs_len) room) in
+    (ap (λ (x : Cache). x.verdict) put) (ap (λ (x : Cache). x.len) put)
+    (ap (λ (x : Cache). x.types.items) put ∙ c.in_ok-entry.ensures.types ∙ ap (λ (x : Cache). x.types.items ++ t ∷ []) room) verdicts refs
+    (ap (λ (x : Cache). x.pieces.sections.items) put ∙ c.in_ok-entry.ensures.sections) codes
+    (ap (λ (x : Cache). x.pieces.codes_len) put) (ap (λ (x : Cache). x.pieces.customs_len) put ∙ ap (λ (x : Cache). x.pieces.customs_len) pushed ∙ ap (λ (x : Cache). x.pieces.customs_len) room) in
     func_leads c.args.keep t b m p k _ c.args.code.now c.push_func.new.parts c.typed.result p.encoded p.sections c.in_ok-body.ensures.ok c.in_ok-entry.ensures.pushed plan kept
     (c.typed.ensures ∙ c.in_ok-entry.ensures.typed) refl refl

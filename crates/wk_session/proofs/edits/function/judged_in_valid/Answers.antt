@@ -72,4 +72,4 @@ returns-clause-typed c =
     let m = c.args.parts.now in
     let n = with_func c.args.ty c.args.body.now m in
     let found = c.laws_of_valid_modules.ensures.found m (answers_of n) (valid (goal.at.returns-clause-typed c).In_ok-own) (func_grows m c.args.ty c.args.body.now) in
-    omega (arith, c.judged.ensures.typed, c.requires.fresh, none_retyped (answers_of m) (answers_of n) m.funcs found)
+    omega (arith, c.type_body.ensures.typed, c.requires.fresh, none_retyped (answers_of m) (answers_of n) m.funcs found)

@@ -16,16 +16,16 @@ new_is c =
     let m = c.args.parts.now in
     lent_is (with_func c.args.ty c.args.body.now m) _ _ (c.in_ok-new.ensures ∙ c.of-3.ensures.lists) (types_with c.args.ty c.args.body.now m _ (c.deref-2.ensures.value ∙ c.requires.kept.types))
 
-pub rejudged-requires-clause-grows : goal.rejudged-requires-clause-grows
-rejudged-requires-clause-grows c =
+pub rejudge_bodies-requires-clause-grows : goal.rejudge_bodies-requires-clause-grows
+rejudge_bodies-requires-clause-grows c =
     let m = c.args.parts.now in
-    let at = (goal.at.rejudged-requires-clause-grows c).In_ok-new in
+    let at = (goal.at.rejudge_bodies-requires-clause-grows c).In_ok-new in
     grows_lent m (with_func c.args.ty c.args.body.now m) _ _ (old_is at) (new_is at) (func_grows m c.args.ty c.args.body.now)
 
-pub rejudged-requires-clause-were : goal.rejudged-requires-clause-were
-rejudged-requires-clause-were c =
+pub rejudge_bodies-requires-clause-were : goal.rejudge_bodies-requires-clause-were
+rejudge_bodies-requires-clause-were c =
     let m = c.args.parts.now in
-    verdicts_lent m _ m.funcs _ (old_is (goal.at.rejudged-requires-clause-were c).In_ok-new) c.requires.kept.verdicts
+    verdicts_lent m _ m.funcs _ (old_is (goal.at.rejudge_bodies-requires-clause-were c).In_ok-new) c.requires.kept.verdicts
 
 pub returns-clause-verdicts : goal.returns-clause-verdicts
 returns-clause-verdicts c =
@@ -38,4 +38,4 @@ returns-clause-typed c =
     let m = c.args.parts.now in
     let n = with_func c.args.ty c.args.body.now m in
     let at = (goal.at.returns-clause-typed c).In_ok-new in
-    typed_once _ _ _ _ _ c.requires.fresh c.in_ok-verdicts.ensures.typed c.judged.ensures.typed (count_lent m n _ _ m.funcs (old_is at) (new_is at))
+    typed_once _ _ _ _ _ c.requires.fresh c.in_ok-verdicts.ensures.typed c.type_body.ensures.typed (count_lent m n _ _ m.funcs (old_is at) (new_is at))

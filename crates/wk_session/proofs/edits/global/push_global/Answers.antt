@@ -19,7 +19,7 @@ use Rattle.wk_session.specs.declared.edit.EditFault.{EditFault}
 use Rattle.wk_session.specs.Judged.{IsGrown, IsJudged, IsKnown}
 use Rattle.wk_session.specs.Pieces.{section_piece}
 use Rattle.wk_module.specs.declared.types.Parts.{Parts}
-use Rattle.wk_session.specs.declared.kept.Kept.{Kept}
+use Rattle.wk_session.specs.declared.cache.Cache.{Cache}
 use Rattle.wk_session.specs.Kept.{IsKept}
 use Rattle.wk_module.specs.NumberedLaws.{funcs_numbered}
 use Rattle.wk_session.proofs.Keeping.{others_kept}
@@ -70,7 +70,7 @@ judge_grown-judged-requires-clause-known c =
     let with_globals = subst (λ (gs : List GlobalDef). IfSome known (IsKnown (answers_of m) (record m { globals = gs }))) (sym c.in_ok-push.ensures.ok) c.in_ok-known.ensures.some in
     subst (λ (A : Ref → Found). IfSome known (IsKnown A (record m { globals = c.push.new.self }))) (sym before) with_globals
 
-few : (m : Parts) (k : Kept) → IsKept m k → length m.globals + 1 < 2 ^ 32
+few : (m : Parts) (k : Cache) → IsKept m k → length m.globals + 1 < 2 ^ 32
 few m k kept = room m GlobalSection (limited-some (length (encoded m)) k.len kept.len)
 
 pub new_global-requires : goal.new_global-requires

@@ -20,9 +20,9 @@ finds c =
     before_finds c.args.parts.now c.in_ok-old.old c.deref.result.now is (c.deref.ensures.value ∙ c.requires.kept.types) c.as_slice-imports.ensures
     (c.in_ok-old.ensures ∙ ap (λ (w : SectionLists). record w { imports = take (length is - 1) is }) c.of.ensures.lists)
 
-pub rejudged-requires-clause-were : goal.rejudged-requires-clause-were
-rejudged-requires-clause-were c =
-    c.requires.kept.verdicts ∙ ap (λ (A : Ref → Found). map (func_verdict A) c.args.parts.now.funcs) (sym (finds (goal.at.rejudged-requires-clause-were c).In_ok-old))
+pub rejudge_bodies-requires-clause-were : goal.rejudge_bodies-requires-clause-were
+rejudge_bodies-requires-clause-were c =
+    c.requires.kept.verdicts ∙ ap (λ (A : Ref → Found). map (func_verdict A) c.args.parts.now.funcs) (sym (finds (goal.at.rejudge_bodies-requires-clause-were c).In_ok-old))
 
 pub returns-in-Valid-clause-verdicts : goal.returns-in-Valid-clause-verdicts
 returns-in-Valid-clause-verdicts c =

@@ -10,13 +10,13 @@ use Rattle.wk_session.proofs.session.Session.write.Given.{Over}
 use Rattle.wk_session.proofs.session.Session.write.Goals as goal
 use Rattle.wk_session.proofs.session.Session.write.Goals.{After-parts}
 
-pub kept-codes-requires : goal.kept-codes-requires
-kept-codes-requires g c = c.self.invariant.pieces.codes_len ∙ sym (ap entries_size c.self.invariant.pieces.codes ∙ entries_codes c.self.inside.module.funcs)
+pub of-codes-requires : goal.of-codes-requires
+of-codes-requires g c = c.self.invariant.pieces.codes_len ∙ sym (ap entries_size c.self.invariant.pieces.codes ∙ entries_codes c.self.inside.module.funcs)
 
-form : (g : Over) (c : After-parts g) → encoded_with c.parts.result.now c.kept-codes.result ≡ encoded c.args.self.now
+form : (g : Over) (c : After-parts g) → encoded_with c.parts.result.now c.of-codes.result ≡ encoded c.args.self.now
 form g c =
-    let codes = c.kept-codes.ensures ∙ c.self.invariant.pieces.codes in
-    session_form c.parts.result.now c.self.inside.module c.args.self.now c.kept-codes.result c.parts.ensures.value c.self.view_is codes
+    let codes = c.of-codes.ensures ∙ c.self.invariant.pieces.codes in
+    session_form c.parts.result.now c.self.inside.module c.args.self.now c.of-codes.result c.parts.ensures.value c.self.view_is codes
 
 pub put_module-requires-clause-few : goal.put_module-requires-clause-few
 put_module-requires-clause-few g c =
