@@ -17,26 +17,26 @@ use Rattle.wk_check.specs.SpacesLaws.{answers_of}
 use Rattle.wk_session.specs.Edits.{entry_of}
 use Rattle.wk_draft.specs.Drafts.{AreDrafted, IsSketch, IsDraft}
 use Rattle.wk_body.specs.declared.shifts.Shifts.{Shifts}
-use Rattle.wk_draft.specs.Steps.{unmarked}
+use Rattle.wk_draft.specs.Steps.{deferred_without}
 use Rattle.wk_draft.proofs.SketchTypes.{same_count}
 
 -- an index is that of the same function
-pub entry_same : (s : Shifts) (os : List Func) (marks : List Bool) (x : ℕ) (m d : Parts) → IsSketch s os marks m d → entry_of x m ≡ entry_of x d
-entry_same s os marks x m d h =
+pub entry_same : (s : Shifts) (os : List Func) (deferred : List Bool) (x : ℕ) (m d : Parts) → IsSketch s os deferred m d → entry_of x m ≡ entry_of x d
+entry_same s os deferred x m d h =
     let k = import_count kinds.Func m.imports in
     sym (
     ap (entry_of x) h.rest
-    ∙ ap {B = Option ℕ} (λ (n : ℕ). if nat_le k x && nat_lt (x - k) n then Some (x - k) else None) (same_count s os marks m d h)
+    ∙ ap {B = Option ℕ} (λ (n : ℕ). if nat_le k x && nat_lt (x - k) n then Some (x - k) else None) (same_count s os deferred m d h)
     )
 
--- the function stands aside no more
-drafted_given : (profile : Profile) (A : Ref → Found) (s : Shifts) (b : BodyOf) (i : ℕ) (os : List Func) (marks : List Bool) (fs gs : List Func) → AreDrafted profile A s os marks fs gs
-    → AreDrafted profile A s os (set marks i false) (funcs_given i b fs) (funcs_given i b gs)
+-- the function is deferred no more
+drafted_given : (profile : Profile) (A : Ref → Found) (s : Shifts) (b : BodyOf) (i : ℕ) (os : List Func) (deferred : List Bool) (fs gs : List Func) → AreDrafted profile A s os deferred fs gs
+    → AreDrafted profile A s os (set deferred i false) (funcs_given i b fs) (funcs_given i b gs)
 drafted_given profile A s b i [] [] fs gs h = ap (funcs_given i b) h
-drafted_given profile A s b zero (o ∷ os) (true ∷ marks) (f ∷ fs) (g ∷ gs) h = (ap (λ (x : Func). record x { body = b }) (sym h.0.stands), h.1)
-drafted_given profile A s b zero (o ∷ os) (false ∷ marks) (f ∷ fs) (g ∷ gs) h = (ap (λ (x : Func). record x { body = b }) h.0, h.1)
-drafted_given profile A s b (suc i) (o ∷ os) (true ∷ marks) (f ∷ fs) (g ∷ gs) h = (h.0, drafted_given profile A s b i os marks fs gs h.1)
-drafted_given profile A s b (suc i) (o ∷ os) (false ∷ marks) (f ∷ fs) (g ∷ gs) h = (h.0, drafted_given profile A s b i os marks fs gs h.1)
+drafted_given profile A s b zero (o ∷ os) (true ∷ deferred) (f ∷ fs) (g ∷ gs) h = (ap (λ (x : Func). record x { body = b }) (sym h.0.stands), h.1)
+drafted_given profile A s b zero (o ∷ os) (false ∷ deferred) (f ∷ fs) (g ∷ gs) h = (ap (λ (x : Func). record x { body = b }) h.0, h.1)
+drafted_given profile A s b (suc i) (o ∷ os) (true ∷ deferred) (f ∷ fs) (g ∷ gs) h = (h.0, drafted_given profile A s b i os deferred fs gs h.1)
+drafted_given profile A s b (suc i) (o ∷ os) (false ∷ deferred) (f ∷ fs) (g ∷ gs) h = (h.0, drafted_given profile A s b i os deferred fs gs h.1)
 drafted_given profile A s b i _ _ _ _ h = absurd h
 
 -- what references find is as it was
@@ -44,16 +44,16 @@ answers_given : (i : ℕ) (b : BodyOf) (m : Parts) → answers_of (with_body i b
 answers_given i b m =
     ap (λ (ts : List ℕ). answer_in (record (spaces_of (lists_of m)) { funcs = imported func_in m.imports ++ ts })) (types_given i b m.funcs)
 
-sketch_given : (s : Shifts) (os : List Func) (marks : List Bool) (i : ℕ) (b : BodyOf) (m d : Parts) → IsSketch s os marks m d → IsSketch s os (unmarked (Some i) marks) (with_body i b m) (with_body i b d)
-sketch_given s os marks i b m d h = record {
+sketch_given : (s : Shifts) (os : List Func) (deferred : List Bool) (i : ℕ) (b : BodyOf) (m d : Parts) → IsSketch s os deferred m d → IsSketch s os (deferred_without (Some i) deferred) (with_body i b m) (with_body i b d)
+sketch_given s os deferred i b m d h = record {
   rest = ap (with_body i b) h.rest;
-  funcs = subst (λ (A : Ref → Found). AreDrafted m.profile A s os (set marks i false) (funcs_given i b m.funcs) (funcs_given i b d.funcs)) (sym (answers_given i b m)) (drafted_given m.profile (answers_of m) s b i os marks m.funcs d.funcs h.funcs);
+  funcs = subst (λ (A : Ref → Found). AreDrafted m.profile A s os (set deferred i false) (funcs_given i b m.funcs) (funcs_given i b d.funcs)) (sym (answers_given i b m)) (drafted_given m.profile (answers_of m) s b i os deferred m.funcs d.funcs h.funcs);
 }
 
--- A function with another body, whether its old one stood aside or not. Where none has the entry, nothing changes.
-pub body_sketch : (s : Shifts) (os : List Func) (marks : List Bool) (i : ℕ) (b : BodyOf) (m d : Parts) → IsDraft s os marks m d → IsDraft s os (unmarked (Some i) marks) (with_body i b m) (with_body i b d)
-body_sketch s os marks i b m d h = record {
-  sketch = sketch_given s os marks i b m d h.sketch;
+-- A function with another body, whether its old one was deferred or not. Where none has the entry, nothing changes.
+pub body_sketch : (s : Shifts) (os : List Func) (deferred : List Bool) (i : ℕ) (b : BodyOf) (m d : Parts) → IsDraft s os deferred m d → IsDraft s os (deferred_without (Some i) deferred) (with_body i b m) (with_body i b d)
+body_sketch s os deferred i b m d h = record {
+  sketch = sketch_given s os deferred i b m d h.sketch;
   funcs_from = h.funcs_from;
   globals_from = h.globals_from;
 }

@@ -14,13 +14,13 @@ use Rattle.wk_check.specs.declared.fault.Verdict.TheVariants.{Valid}
 use Rattle.wk_check.specs.Growth.{HasValidBodies}
 use Rattle.wk_check.specs.Verdict.{module_verdict}
 use Rattle.wk_draft.specs.declared.draft.Draft.{Draft}
-use Rattle.wk_draft.specs.Drafts.{IsDraft, aside_room}
+use Rattle.wk_draft.specs.Drafts.{IsDraft, deferred_room}
 use Rattle.wk_draft.specs.Runs.{IsFirst, IsHeld}
 use Rattle.wk_draft.proofs.DraftLengths.{draft_fits}
-use Rattle.wk_draft.proofs.Opened.{all_marks, opened_at}
+use Rattle.wk_draft.proofs.Opened.{all_deferred, opened_at}
 
-pub marked_more : (n : ℕ) → replicate n true ++ true ∷ [] ≡ replicate (n + 1) true
-marked_more n =
+pub all_deferred_more : (n : ℕ) → replicate n true ++ true ∷ [] ≡ replicate (n + 1) true
+all_deferred_more n =
     let next : suc n ≡ n + 1 = omega arith in
     more n ∙ ap (λ (k : ℕ). replicate k true) next
   where
@@ -30,19 +30,19 @@ marked_more n =
 
 module _ (has : HasValidBodies) (m : Parts) (shaped : IsShaped m) (valid : module_verdict m ≡ Valid) where
   -- the parts of the draft are those of its session
-  pub begun : (parts : Parts) (d : Draft) (count len room : ℕ) → d.session ≡ outlined m → parts ≡ d.session → IsFirst parts d.shifts → count ≡ length parts.funcs → d.marks.items ≡ replicate count true
-      → len ≡ length (encoded d.session) → room ≡ aside_room m.funcs → len + room ≤ limit → IsHeld m.funcs m d
-  begun parts d count len room is same first counted marked measured roomy within =
+  pub begun : (parts : Parts) (d : Draft) (count len room : ℕ) → d.session ≡ outlined m → parts ≡ d.session → IsFirst parts d.shifts → count ≡ length parts.funcs → d.deferred.items ≡ replicate count true
+      → len ≡ length (encoded d.session) → room ≡ deferred_room m.funcs → len + room ≤ limit → IsHeld m.funcs m d
+  begun parts d count len room is same first counted deferring measured roomy within =
       let all = same ∙ is in
       let funcs_from = first.funcs_from ∙ ap (λ (p : Parts). import_count kinds.Func p.imports) all in
       let globals_from = first.globals_from ∙ ap (λ (p : Parts). import_count kinds.Global p.imports) all in
       let many : count ≡ length m.funcs = counted ∙ ap (λ (p : Parts). length p.funcs) all ∙ length-map m.funcs outlined_func in
-      let marks : d.marks.items ≡ map (λ (f : Func). true) m.funcs = marked ∙ ap (λ (n : ℕ). replicate n true) many ∙ all_marks m.funcs in
+      let deferred : d.deferred.items ≡ map (λ (f : Func). true) m.funcs = deferring ∙ ap (λ (n : ℕ). replicate n true) many ∙ all_deferred m.funcs in
       let opened = opened_at m valid has shaped.formed d.shifts funcs_from first.funcs_by globals_from first.globals_by in
-      let drafted : IsDraft d.shifts m.funcs d.marks.items m d.session =
-      subst (IsDraft d.shifts m.funcs d.marks.items m) (sym is)
-      (subst (λ (bs : List Bool). IsDraft d.shifts m.funcs bs m (outlined m)) (sym marks) opened) in
+      let drafted : IsDraft d.shifts m.funcs d.deferred.items m d.session =
+      subst (IsDraft d.shifts m.funcs d.deferred.items m) (sym is)
+      (subst (λ (bs : List Bool). IsDraft d.shifts m.funcs bs m (outlined m)) (sym deferred) opened) in
       record {
         draft = drafted;
-        fits = draft_fits d.shifts m.funcs d.marks.items m d.session drafted.sketch shaped.formed.order (omega (arith, measured, roomy, within));
+        fits = draft_fits d.shifts m.funcs d.deferred.items m d.session drafted.sketch shaped.formed.order (omega (arith, measured, roomy, within));
       }

@@ -32,9 +32,9 @@ use Rattle.wk_session.specs.declared.edit.EditFault.{EditFault}
 use Rattle.wk_session.specs.declared.edit.EditFault.TheVariants.{NoSuchFunction, NoSuchExport, NoSuchCustom, IndexOverflow, TooLarge, BadBytes, WouldBreak, Memory}
 use Rattle.wk_session.specs.Edits.{fitting, from_bytes, import_place, entry_of, body_put, with_exports, is_named, without_customs, with_bytes, custom_put, with_custom, without_all_customs, lasting, made}
 use Rattle.wk_session.specs.Imported.{after_import}
-use Rattle.wk_draft.specs.Drafts.{IsDraft, aside_room}
+use Rattle.wk_draft.specs.Drafts.{IsDraft, deferred_room}
 use Rattle.wk_body.specs.declared.shifts.Shifts.{Shifts}
-use Rattle.wk_draft.specs.Steps.{unmarked, marks_after, shifts_after, edit_room, is_unmeasured, HasBytes, Follows}
+use Rattle.wk_draft.specs.Steps.{deferred_without, deferred_after, shifts_after, edit_room, is_unmeasured, HasBytes, Follows}
 use Rattle.wk_draft.proofs.BodySketches.{entry_same, body_sketch}
 use Rattle.wk_draft.proofs.CodeLengths.{CodeIsLeast, written_within, written_expr_within}
 use Rattle.wk_draft.proofs.GrownLengths.{type_grown, func_grown, body_grown, global_grown, export_grown}
@@ -53,12 +53,12 @@ put_in_order name bytes least (c ∷ cs) le order =
     (λ t. order)
     (λ f. (order.0, order.1, put_in_order name bytes c.place cs order.1 order.2))
 
-module _ (keep : Bool) (s : Shifts) (os : List Func) (marks : List Bool) (m d : Parts) where
+module _ (keep : Bool) (s : Shifts) (os : List Func) (deferred : List Bool) (m d : Parts) where
   -- there is room where a refusal by what an edit would break is sure
   abbrev Room : Edit → Type 0
-  Room e = (is_unmeasured e ≡ false) × ((length (encoded d) + aside_room os) + edit_room e ≤ limit)
+  Room e = (is_unmeasured e ≡ false) × ((length (encoded d) + deferred_room os) + edit_room e ≤ limit)
 
-  follows_led : (e : Edit) (r : Result Parts EditFault) → IsLed (Room e) (shifts_after e s) os (marks_after e d marks) r (made keep e m) → Follows keep e s os marks m d r
+  follows_led : (e : Edit) (r : Result Parts EditFault) → IsLed (Room e) (shifts_after e s) os (deferred_after e d deferred) r (made keep e m) → Follows keep e s os deferred m d r
   follows_led e (Ok n) led = led
   follows_led e (Err NoSuchFunction) led = λ sure. led
   follows_led e (Err NoSuchExport) led = λ sure. led
@@ -73,8 +73,8 @@ module _ (keep : Bool) (s : Shifts) (os : List Func) (marks : List Bool) (m d : 
 module _ (keeps : Keeps) (keeps_moved : KeepsMoved) (finds : ValidFinds)
     (moved_formed : (kind : Kind) (from : ℕ) (m : Parts) → are_parts_stuck kind from m ≡ false → IsFormed m → IsFormed (moved_parts kind from m))
     (least : CodeIsLeast)
-    (keep : Bool) (s : Shifts) (os : List Func) (marks : List Bool) (m d : Parts)
-    (h : IsDraft s os marks m d) (shaped : IsShaped d) (fits : Fits m) where
+    (keep : Bool) (s : Shifts) (os : List Func) (deferred : List Bool) (m d : Parts)
+    (h : IsDraft s os deferred m d) (shaped : IsShaped d) (fits : Fits m) where
   same_profile : m.profile ≡ d.profile
   same_profile = sym (ap (λ (p : Parts). p.profile) h.sketch.rest)
 
@@ -83,141 +83,143 @@ module _ (keeps : Keeps) (keeps_moved : KeepsMoved) (finds : ValidFinds)
 
   -- ---- what comes behind
 
-  type_follows : (t : FuncType) → Follows keep (edits.Ty t) s os marks m d (made keep (edits.Ty t) d)
+  type_follows : (t : FuncType) → Follows keep (edits.Ty t) s os deferred m d (made keep (edits.Ty t) d)
   type_follows t =
       let e = edits.Ty t in
-      follows_led keep s os marks m d e (made keep e d)
-      (standing_led (Room keep s os marks m d e) s os marks (with_type t m) (with_type t d) (type_sketch keeps finds s os marks m d h t) order
+      follows_led keep s os deferred m d e (made keep e d)
+      (standing_led (Room keep s os deferred m d e) s os deferred (with_type t m) (with_type t d) (type_sketch keeps finds s os deferred m d h t) order
       (λ r. let room = r.1 in omega (arith, room, type_grown t d)) keep)
 
   func_led : (t : ℕ) (code : List ℕ) → IsBytes code → (r : Result BodyOf ReadFault) → whole_at (all_body_at m.profile) code ≡ r
-      → IsLed (Room keep s os marks m d (edits.Func t code)) s os marks
+      → IsLed (Room keep s os deferred m d (edits.Func t code)) s os deferred
       ((from_bytes r >>= λ b. fitting (settle (with_func t b d))) >>= lasting keep)
       ((from_bytes r >>= λ b. fitting (settle (with_func t b m))) >>= lasting keep)
   func_led t code bytes (Err f) is = refl
   func_led t code bytes (Ok b) is =
       let le = written_within least m.profile code bytes b is in
-      standing_led (Room keep s os marks m d (edits.Func t code)) s os marks (with_func t b m) (with_func t b d) (func_sketch keeps finds s os marks m d h t b) order
+      standing_led (Room keep s os deferred m d (edits.Func t code)) s os deferred (with_func t b m) (with_func t b d) (func_sketch keeps finds s os deferred m d h t b) order
       (λ r. let room = r.1 in omega (arith, room, func_grown t b code d le (omega arith))) keep
 
-  func_follows : (t : ℕ) (code : List ℕ) → IsBytes code → Follows keep (edits.Func t code) s os marks m d (made keep (edits.Func t code) d)
+  func_follows : (t : ℕ) (code : List ℕ) → IsBytes code → Follows keep (edits.Func t code) s os deferred m d (made keep (edits.Func t code) d)
   func_follows t code bytes =
       let e = edits.Func t code in
-      follows_led keep s os marks m d e (made keep e d)
-      (subst (λ (profile : Profile). IsLed (Room keep s os marks m d e) s os marks ((from_bytes (whole_at (all_body_at profile) code) >>= λ b. fitting (settle (with_func t b d))) >>= lasting keep) (made keep e m))
+      follows_led keep s os deferred m d e (made keep e d)
+      (subst (λ (profile : Profile). IsLed (Room keep s os deferred m d e) s os deferred ((from_bytes (whole_at (all_body_at profile) code) >>= λ b. fitting (settle (with_func t b d))) >>= lasting keep) (made keep e m))
       same_profile (func_led t code bytes (whole_at (all_body_at m.profile) code) refl))
 
   global_led : (t : GlobalType) (init : List ℕ) → IsBytes init → (r : Result Instrs ReadFault) → whole_at (all_expr_at m.profile) init ≡ r
-      → IsLed (Room keep s os marks m d (edits.Global t init)) s os marks
+      → IsLed (Room keep s os deferred m d (edits.Global t init)) s os deferred
       ((from_bytes r >>= λ b. fitting (settle (with_global t b d))) >>= lasting keep)
       ((from_bytes r >>= λ b. fitting (settle (with_global t b m))) >>= lasting keep)
   global_led t init bytes (Err f) is = refl
   global_led t init bytes (Ok b) is =
       let le = written_expr_within least m.profile init bytes b is in
-      standing_led (Room keep s os marks m d (edits.Global t init)) s os marks (with_global t b m) (with_global t b d) (global_sketch keeps finds s os marks m d h t b) order
+      standing_led (Room keep s os deferred m d (edits.Global t init)) s os deferred (with_global t b m) (with_global t b d) (global_sketch keeps finds s os deferred m d h t b) order
       (λ r. let room = r.1 in omega (arith, room, global_grown t b init d le)) keep
 
-  global_follows : (t : GlobalType) (init : List ℕ) → IsBytes init → Follows keep (edits.Global t init) s os marks m d (made keep (edits.Global t init) d)
+  global_follows : (t : GlobalType) (init : List ℕ) → IsBytes init → Follows keep (edits.Global t init) s os deferred m d (made keep (edits.Global t init) d)
   global_follows t init bytes =
       let e = edits.Global t init in
-      follows_led keep s os marks m d e (made keep e d)
-      (subst (λ (profile : Profile). IsLed (Room keep s os marks m d e) s os marks ((from_bytes (whole_at (all_expr_at profile) init) >>= λ b. fitting (settle (with_global t b d))) >>= lasting keep) (made keep e m))
+      follows_led keep s os deferred m d e (made keep e d)
+      (subst (λ (profile : Profile). IsLed (Room keep s os deferred m d e) s os deferred ((from_bytes (whole_at (all_expr_at profile) init) >>= λ b. fitting (settle (with_global t b d))) >>= lasting keep) (made keep e m))
       same_profile (global_led t init bytes (whole_at (all_expr_at m.profile) init) refl))
 
-  export_follows : (x : Export) → Follows keep (edits.Export x) s os marks m d (made keep (edits.Export x) d)
+  export_follows : (x : Export) → Follows keep (edits.Export x) s os deferred m d (made keep (edits.Export x) d)
   export_follows x =
       let e = edits.Export x in
-      follows_led keep s os marks m d e (made keep e d)
-      (standing_led (Room keep s os marks m d e) s os marks (with_export x m) (with_export x d) (export_sketch s os marks m d h x) order
+      follows_led keep s os deferred m d e (made keep e d)
+      (standing_led (Room keep s os deferred m d e) s os deferred (with_export x m) (with_export x d) (export_sketch s os deferred m d h x) order
       (λ r. let room = r.1 in omega (arith, room, export_grown x d (omega arith))) keep)
 
   -- ---- another body
 
   given_led : (x i : ℕ) (code : List ℕ) → IsBytes code → (r : Result BodyOf ReadFault) → whole_at (all_body_at m.profile) code ≡ r
-      → IsLed (Room keep s os marks m d (edits.Body x code)) s os (unmarked (Some i) marks)
+      → IsLed (Room keep s os deferred m d (edits.Body x code)) s os (deferred_without (Some i) deferred)
       ((from_bytes r >>= λ b. fitting (settle (with_body i b d))) >>= lasting keep)
       ((from_bytes r >>= λ b. fitting (settle (with_body i b m))) >>= lasting keep)
   given_led x i code bytes (Err f) is = refl
   given_led x i code bytes (Ok b) is =
       let le = written_within least m.profile code bytes b is in
-      standing_led (Room keep s os marks m d (edits.Body x code)) s os (unmarked (Some i) marks) (with_body i b m) (with_body i b d) (body_sketch s os marks i b m d h) order
+      standing_led (Room keep s os deferred m d (edits.Body x code)) s os (deferred_without (Some i) deferred) (with_body i b m) (with_body i b d) (body_sketch s os deferred i b m d h) order
       (λ r. let room = r.1 in omega (arith, room, body_grown x i b code d le)) keep
 
   body_led : (x : ℕ) (code : List ℕ) → IsBytes code → (entry : Option ℕ)
-      → IsLed (Room keep s os marks m d (edits.Body x code)) s os (unmarked entry marks) (body_put entry code d >>= lasting keep) (body_put entry code m >>= lasting keep)
+      → IsLed (Room keep s os deferred m d (edits.Body x code)) s os (deferred_without entry deferred) (body_put entry code d >>= lasting keep) (body_put entry code m >>= lasting keep)
   body_led x code bytes None = refl
   body_led x code bytes (Some i) =
-      subst (λ (profile : Profile). IsLed (Room keep s os marks m d (edits.Body x code)) s os (unmarked (Some i) marks) ((from_bytes (whole_at (all_body_at profile) code) >>= λ b. fitting (settle (with_body i b d))) >>= lasting keep) (body_put (Some i) code m >>= lasting keep))
+      subst (λ (profile : Profile). IsLed (Room keep s os deferred m d (edits.Body x code)) s os (deferred_without (Some i) deferred) ((from_bytes (whole_at (all_body_at profile) code) >>= λ b. fitting (settle (with_body i b d))) >>= lasting keep) (body_put (Some i) code m >>= lasting keep))
       same_profile (given_led x i code bytes (whole_at (all_body_at m.profile) code) refl)
 
-  body_follows : (x : ℕ) (code : List ℕ) → IsBytes code → Follows keep (edits.Body x code) s os marks m d (made keep (edits.Body x code) d)
+  body_follows : (x : ℕ) (code : List ℕ) → IsBytes code → Follows keep (edits.Body x code) s os deferred m d (made keep (edits.Body x code) d)
   body_follows x code bytes =
       let e = edits.Body x code in
-      follows_led keep s os marks m d e (made keep e d)
-      (subst (λ (entry : Option ℕ). IsLed (Room keep s os marks m d e) s os (marks_after e d marks) (made keep e d) (body_put entry code m >>= lasting keep))
-      (sym (entry_same s os marks x m d h.sketch)) (body_led x code bytes (entry_of x d)))
+      follows_led keep s os deferred m d e (made keep e d)
+      (subst (λ (entry : Option ℕ). IsLed (Room keep s os deferred m d e) s os (deferred_after e d deferred) (made keep e d)
+      (body_put entry code m >>= lasting keep))
+      (sym (entry_same s os deferred x m d h.sketch)) (body_led x code bytes (entry_of x d)))
 
   -- ---- exports and customs that go, which are not measured
 
-  exports_led : (name : List ℕ) (es : Option (List Export)) → IsLed (Room keep s os marks m d (edits.Unexport name)) s os marks (with_exports es d >>= lasting keep) (with_exports es m >>= lasting keep)
+  exports_led : (name : List ℕ) (es : Option (List Export)) → IsLed (Room keep s os deferred m d (edits.Unexport name)) s os deferred (with_exports es d >>= lasting keep) (with_exports es m >>= lasting keep)
   exports_led name None = refl
-  exports_led name (Some es) = settled_led (Room keep s os marks m d (edits.Unexport name)) s os marks (record m { exports = es }) (record d { exports = es }) (exports_sketch s os marks m d h es) keep
+  exports_led name (Some es) = settled_led (Room keep s os deferred m d (edits.Unexport name)) s os deferred (record m { exports = es }) (record d { exports = es }) (exports_sketch s os deferred m d h es) keep
 
-  unexport_follows : (name : List ℕ) → Follows keep (edits.Unexport name) s os marks m d (made keep (edits.Unexport name) d)
+  unexport_follows : (name : List ℕ) → Follows keep (edits.Unexport name) s os deferred m d (made keep (edits.Unexport name) d)
   unexport_follows name =
       let e = edits.Unexport name in
-      follows_led keep s os marks m d e (made keep e d)
-      (subst (λ (es : Option (List Export)). IsLed (Room keep s os marks m d e) s os marks (made keep e d) (with_exports es m >>= lasting keep))
+      follows_led keep s os deferred m d e (made keep e d)
+      (subst (λ (es : Option (List Export)). IsLed (Room keep s os deferred m d e) s os deferred (made keep e d) (with_exports es m >>= lasting keep))
       (ap (λ (p : Parts). without_first name p.exports) h.sketch.rest) (exports_led name (without_first name d.exports)))
 
-  strip_led : (name : List ℕ) (b : Bool) → IsLed (Room keep s os marks m d (edits.StripCustom name)) s os marks
+  strip_led : (name : List ℕ) (b : Bool) → IsLed (Room keep s os deferred m d (edits.StripCustom name)) s os deferred
       (cond b (Ok (settle (without_customs name d))) (Err NoSuchCustom) >>= lasting keep)
       (cond b (Ok (settle (without_customs name m))) (Err NoSuchCustom) >>= lasting keep)
   strip_led name false = refl
   strip_led name true =
-      settled_led (Room keep s os marks m d (edits.StripCustom name)) s os marks (without_customs name m) (without_customs name d) (customs_sketch s os marks m d h (filter (λ c. not (is_named name c)))) keep
+      settled_led (Room keep s os deferred m d (edits.StripCustom name)) s os deferred (without_customs name m) (without_customs name d) (customs_sketch s os deferred m d h (filter (λ c. not (is_named name c)))) keep
 
-  strip_follows : (name : List ℕ) → Follows keep (edits.StripCustom name) s os marks m d (made keep (edits.StripCustom name) d)
+  strip_follows : (name : List ℕ) → Follows keep (edits.StripCustom name) s os deferred m d (made keep (edits.StripCustom name) d)
   strip_follows name =
       let e = edits.StripCustom name in
-      follows_led keep s os marks m d e (made keep e d)
-      (subst (λ (b : Bool). IsLed (Room keep s os marks m d e) s os marks (made keep e d) (cond b (Ok (settle (without_customs name m))) (Err NoSuchCustom) >>= lasting keep))
+      follows_led keep s os deferred m d e (made keep e d)
+      (subst (λ (b : Bool). IsLed (Room keep s os deferred m d e) s os deferred (made keep e d) (cond b (Ok (settle (without_customs name m))) (Err NoSuchCustom) >>= lasting keep))
       (ap (λ (p : Parts). list_any (is_named name) p.customs) h.sketch.rest) (strip_led name (list_any (is_named name) d.customs)))
 
-  strip_all_follows : Follows keep edits.StripAll s os marks m d (made keep edits.StripAll d)
+  strip_all_follows : Follows keep edits.StripAll s os deferred m d (made keep edits.StripAll d)
   strip_all_follows =
       let e = edits.StripAll in
-      follows_led keep s os marks m d e (made keep e d)
-      (settled_led (Room keep s os marks m d e) s os marks (without_all_customs m) (without_all_customs d) (customs_sketch s os marks m d h (λ cs. [])) keep)
+      follows_led keep s os deferred m d e (made keep e d)
+      (settled_led (Room keep s os deferred m d e) s os deferred (without_all_customs m) (without_all_customs d) (customs_sketch s os deferred m d h (λ cs. []))
+      keep)
 
   -- ---- what is measured, but not told of
 
-  custom_follows : (name bytes : List ℕ) → Follows keep (edits.SetCustom name bytes) s os marks m d (made keep (edits.SetCustom name bytes) d)
+  custom_follows : (name bytes : List ℕ) → Follows keep (edits.SetCustom name bytes) s os deferred m d (made keep (edits.SetCustom name bytes) d)
   custom_follows name bytes =
       let e = edits.SetCustom name bytes in
-      follows_led keep s os marks m d e (made keep e d)
-      (standing_led (Room keep s os marks m d e) s os marks (with_custom name bytes m) (with_custom name bytes d) (customs_sketch s os marks m d h (custom_put name bytes))
+      follows_led keep s os deferred m d e (made keep e d)
+      (standing_led (Room keep s os deferred m d e) s os deferred (with_custom name bytes m) (with_custom name bytes d) (customs_sketch s os deferred m d h (custom_put name bytes))
       (put_in_order name bytes 0 d.customs (omega arith) order) (λ r. let never = r.0 in absurd cc) keep)
 
-  import_led : (i : Import) (b : Bool) → are_parts_stuck (desc_kind i.desc) (import_place i m) m ≡ b → IsLed (Room keep s os marks m d (edits.Import i)) (shifts_after (edits.Import i) s) os marks
+  import_led : (i : Import) (b : Bool) → are_parts_stuck (desc_kind i.desc) (import_place i m) m ≡ b → IsLed (Room keep s os deferred m d (edits.Import i)) (shifts_after (edits.Import i) s) os deferred
       (cond b (Err IndexOverflow) (fitting (settle (after_import i d))) >>= lasting keep)
       (cond b (Err IndexOverflow) (fitting (settle (after_import i m))) >>= lasting keep)
   import_led i true is = refl
   import_led i false is =
-      standing_led (Room keep s os marks m d (edits.Import i)) (shifts_after (edits.Import i) s) os marks (after_import i m) (after_import i d)
-      (import_after keeps keeps_moved finds moved_formed s os marks i m d h (formed_draft s os marks m d h.sketch shaped.formed) is)
+      standing_led (Room keep s os deferred m d (edits.Import i)) (shifts_after (edits.Import i) s) os deferred (after_import i m) (after_import i d)
+      (import_after keeps keeps_moved finds moved_formed s os deferred i m d h (formed_draft s os deferred m d h.sketch shaped.formed) is)
       order (λ r. let never = r.0 in absurd cc) keep
 
-  import_follows : (i : Import) → Follows keep (edits.Import i) s os marks m d (made keep (edits.Import i) d)
+  import_follows : (i : Import) → Follows keep (edits.Import i) s os deferred m d (made keep (edits.Import i) d)
   import_follows i =
       let e = edits.Import i in
-      follows_led keep s os marks m d e (made keep e d)
-      (subst (λ (b : Bool). IsLed (Room keep s os marks m d e) (shifts_after e s) os marks (cond b (Err IndexOverflow) (fitting (settle (after_import i d))) >>= lasting keep) (made keep e m))
-      (import_stuck_alike finds s os marks i m d h fits) (import_led i (are_parts_stuck (desc_kind i.desc) (import_place i m) m) refl))
+      follows_led keep s os deferred m d e (made keep e d)
+      (subst (λ (b : Bool). IsLed (Room keep s os deferred m d e) (shifts_after e s) os deferred (cond b (Err IndexOverflow) (fitting (settle (after_import i d))) >>= lasting keep) (made keep e m))
+      (import_stuck_alike finds s os deferred i m d h fits) (import_led i (are_parts_stuck (desc_kind i.desc) (import_place i m) m) refl))
 
   -- ---- all edits
 
-  pub follows : (e : Edit) → HasBytes e → Follows keep e s os marks m d (made keep e d)
+  pub follows : (e : Edit) → HasBytes e → Follows keep e s os deferred m d (made keep e d)
   follows (edits.Ty t) bytes = type_follows t
   follows (edits.Import i) bytes = import_follows i
   follows (edits.Func t code) bytes = func_follows t code bytes

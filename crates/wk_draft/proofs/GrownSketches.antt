@@ -1,4 +1,4 @@
--- What comes to a module behind what it has, to its draft too: bodies that stand aside find what they found.
+-- What comes to a module behind what it has, to its draft too: deferred bodies find what they found.
 use Rattle.std.proofs.Common.{◌≡◌, ℕ, Bool, true, false, List, [], ◌∷◌, ◌++◌, ap, ◌∙◌}
 use Rattle.wk_body.specs.declared.references.Ref.{Ref}
 use Rattle.wk_body.specs.declared.types.Profile.{Profile}
@@ -18,7 +18,7 @@ use Rattle.wk_check.specs.Carried.{Agree, Keeps}
 use Rattle.wk_check.specs.Finds.{AreThere, ValidFinds, Grows}
 use Rattle.wk_check.specs.SpacesLaws.{answers_of, type_grows, func_grows, global_grows}
 use Rattle.wk_check.specs.Verdict.{func_verdict}
-use Rattle.wk_draft.specs.Drafts.{IsAside, AreDrafted, IsDraft}
+use Rattle.wk_draft.specs.Drafts.{IsDeferred, AreDrafted, IsDraft}
 use Rattle.wk_body.specs.declared.shifts.Shifts.{Shifts}
 
 -- what is there is found as it was
@@ -27,11 +27,11 @@ all_still A B grows [] there = tt
 all_still A B grows (r ∷ rs) there = (grows r there.0, all_still A B grows rs there.1)
 
 -- one more function behind the others, in both
-drafted_push : (profile : Profile) (A : Ref → Found) (s : Shifts) (x : Func) (os : List Func) (marks : List Bool) (fs gs : List Func) → AreDrafted profile A s os marks fs gs
-    → AreDrafted profile A s os marks (fs ++ x ∷ []) (gs ++ x ∷ [])
+drafted_push : (profile : Profile) (A : Ref → Found) (s : Shifts) (x : Func) (os : List Func) (deferred : List Bool) (fs gs : List Func) → AreDrafted profile A s os deferred fs gs
+    → AreDrafted profile A s os deferred (fs ++ x ∷ []) (gs ++ x ∷ [])
 drafted_push profile A s x [] [] fs gs h = ap (λ (hs : List Func). hs ++ x ∷ []) h
-drafted_push profile A s x (o ∷ os) (true ∷ marks) (f ∷ fs) (g ∷ gs) h = (h.0, drafted_push profile A s x os marks fs gs h.1)
-drafted_push profile A s x (o ∷ os) (false ∷ marks) (f ∷ fs) (g ∷ gs) h = (h.0, drafted_push profile A s x os marks fs gs h.1)
+drafted_push profile A s x (o ∷ os) (true ∷ deferred) (f ∷ fs) (g ∷ gs) h = (h.0, drafted_push profile A s x os deferred fs gs h.1)
+drafted_push profile A s x (o ∷ os) (false ∷ deferred) (f ∷ fs) (g ∷ gs) h = (h.0, drafted_push profile A s x os deferred fs gs h.1)
 drafted_push profile A s x _ _ _ _ h = absurd h
 
 -- ---- where what was there is found as it was
@@ -44,8 +44,8 @@ module _ (keeps : Keeps) (finds : ValidFinds) where
       keeps A B f.ty f.ty f.body (grows _ there.0) (all_still A B grows (refs_of f.body.instrs) there.1) ∙ valid
 
   module _ (profile : Profile) (A B : Ref → Found) (grows : Grows A B) (s : Shifts) where
-    aside_still : (o f g : Func) → IsAside profile A s o f g → IsAside profile B s o f g
-    aside_still o f g h = record {
+    deferred_still : (o f g : Func) → IsDeferred profile A s o f g → IsDeferred profile B s o f g
+    deferred_still o f g h = record {
       is = h.is;
       stands = h.stands;
       code = h.code;
@@ -53,40 +53,41 @@ module _ (keeps : Keeps) (finds : ValidFinds) where
       stub_valid = still_valid A B grows g h.stub_valid;
     }
 
-    drafted_still : (os : List Func) (marks : List Bool) (fs gs : List Func) → AreDrafted profile A s os marks fs gs → AreDrafted profile B s os marks fs gs
+    drafted_still : (os : List Func) (deferred : List Bool) (fs gs : List Func) → AreDrafted profile A s os deferred fs gs
+        → AreDrafted profile B s os deferred fs gs
     drafted_still [] [] fs gs h = h
-    drafted_still (o ∷ os) (true ∷ marks) (f ∷ fs) (g ∷ gs) h = (aside_still o f g h.0, drafted_still os marks fs gs h.1)
-    drafted_still (o ∷ os) (false ∷ marks) (f ∷ fs) (g ∷ gs) h = (h.0, drafted_still os marks fs gs h.1)
+    drafted_still (o ∷ os) (true ∷ deferred) (f ∷ fs) (g ∷ gs) h = (deferred_still o f g h.0, drafted_still os deferred fs gs h.1)
+    drafted_still (o ∷ os) (false ∷ deferred) (f ∷ fs) (g ∷ gs) h = (h.0, drafted_still os deferred fs gs h.1)
     drafted_still _ _ _ _ h = absurd h
 
-  module _ (s : Shifts) (os : List Func) (marks : List Bool) (m d : Parts) (h : IsDraft s os marks m d) where
-    pub type_sketch : (t : FuncType) → IsDraft s os marks (with_type t m) (with_type t d)
+  module _ (s : Shifts) (os : List Func) (deferred : List Bool) (m d : Parts) (h : IsDraft s os deferred m d) where
+    pub type_sketch : (t : FuncType) → IsDraft s os deferred (with_type t m) (with_type t d)
     type_sketch t = record {
       sketch = record {
         rest = ap (with_type t) h.sketch.rest;
-        funcs = drafted_still m.profile (answers_of m) (answers_of (with_type t m)) (type_grows m t) s os marks m.funcs d.funcs h.sketch.funcs;
+        funcs = drafted_still m.profile (answers_of m) (answers_of (with_type t m)) (type_grows m t) s os deferred m.funcs d.funcs h.sketch.funcs;
       };
       funcs_from = h.funcs_from;
       globals_from = h.globals_from;
     }
 
-    pub func_sketch : (t : ℕ) (b : BodyOf) → IsDraft s os marks (with_func t b m) (with_func t b d)
+    pub func_sketch : (t : ℕ) (b : BodyOf) → IsDraft s os deferred (with_func t b m) (with_func t b d)
     func_sketch t b = record {
       sketch = record {
         rest = ap (with_func t b) h.sketch.rest;
         funcs =
-            drafted_push m.profile (answers_of (with_func t b m)) s (record { ty = t; body = b }) os marks m.funcs d.funcs
-            (drafted_still m.profile (answers_of m) (answers_of (with_func t b m)) (func_grows m t b) s os marks m.funcs d.funcs h.sketch.funcs);
+            drafted_push m.profile (answers_of (with_func t b m)) s (record { ty = t; body = b }) os deferred m.funcs d.funcs
+            (drafted_still m.profile (answers_of m) (answers_of (with_func t b m)) (func_grows m t b) s os deferred m.funcs d.funcs h.sketch.funcs);
       };
       funcs_from = h.funcs_from;
       globals_from = h.globals_from;
     }
 
-    pub global_sketch : (t : GlobalType) (e : Instrs) → IsDraft s os marks (with_global t e m) (with_global t e d)
+    pub global_sketch : (t : GlobalType) (e : Instrs) → IsDraft s os deferred (with_global t e m) (with_global t e d)
     global_sketch t e = record {
       sketch = record {
         rest = ap (with_global t e) h.sketch.rest;
-        funcs = drafted_still m.profile (answers_of m) (answers_of (with_global t e m)) (global_grows m t e) s os marks m.funcs d.funcs h.sketch.funcs;
+        funcs = drafted_still m.profile (answers_of m) (answers_of (with_global t e m)) (global_grows m t e) s os deferred m.funcs d.funcs h.sketch.funcs;
       };
       funcs_from = h.funcs_from;
       globals_from = h.globals_from;
@@ -94,15 +95,15 @@ module _ (keeps : Keeps) (finds : ValidFinds) where
 
 -- ---- what no reference finds
 
-module _ (s : Shifts) (os : List Func) (marks : List Bool) (m d : Parts) (h : IsDraft s os marks m d) where
-  pub export_sketch : (e : Export) → IsDraft s os marks (with_export e m) (with_export e d)
+module _ (s : Shifts) (os : List Func) (deferred : List Bool) (m d : Parts) (h : IsDraft s os deferred m d) where
+  pub export_sketch : (e : Export) → IsDraft s os deferred (with_export e m) (with_export e d)
   export_sketch e = record {
     sketch = record { rest = ap (with_export e) h.sketch.rest; funcs = h.sketch.funcs };
     funcs_from = h.funcs_from;
     globals_from = h.globals_from;
   }
 
-  pub exports_sketch : (es : List Export) → IsDraft s os marks (record m { exports = es }) (record d { exports = es })
+  pub exports_sketch : (es : List Export) → IsDraft s os deferred (record m { exports = es }) (record d { exports = es })
   exports_sketch es = record {
     sketch = record { rest = ap (λ (p : Parts). record p { exports = es }) h.sketch.rest; funcs = h.sketch.funcs };
     funcs_from = h.funcs_from;
@@ -110,7 +111,7 @@ module _ (s : Shifts) (os : List Func) (marks : List Bool) (m d : Parts) (h : Is
   }
 
   -- other customs, by a change of those that are there
-  pub customs_sketch : (change : List Custom → List Custom) → IsDraft s os marks (record m { customs = change m.customs }) (record d { customs = change d.customs })
+  pub customs_sketch : (change : List Custom → List Custom) → IsDraft s os deferred (record m { customs = change m.customs }) (record d { customs = change d.customs })
   customs_sketch change = record {
     sketch = record { rest = ap (λ (p : Parts). record p { customs = change p.customs }) h.sketch.rest; funcs = h.sketch.funcs };
     funcs_from = h.funcs_from;

@@ -30,7 +30,7 @@ use Rattle.wk_check.specs.Verdict.{func_verdict}
 use Rattle.wk_session.specs.declared.edit.Edit.TheVariants as edits
 use Rattle.wk_session.specs.Edits.{import_place}
 use Rattle.wk_session.specs.Imported.{after_import}
-use Rattle.wk_draft.specs.Drafts.{IsAside, AreDrafted, IsDraft}
+use Rattle.wk_draft.specs.Drafts.{IsDeferred, AreDrafted, IsDraft}
 use Rattle.wk_body.specs.declared.shifts.Shifts.{Shifts}
 use Rattle.wk_body.specs.Shifts.{shifted_plain}
 use Rattle.wk_draft.specs.Steps.{one_more, shifts_after}
@@ -43,8 +43,8 @@ use Rattle.wk_draft.proofs.ShiftedBodies.{func_shifts_more, global_shifts_more, 
 module _ (profile : Profile) (kind : Kind) (from : ℕ) (A B : Ref → Found) (s t : Shifts)
     (shifts : (is : Instrs) → moved_code kind from (map_plain (shifted_plain s) is) ≡ map_plain (shifted_plain t) is)
     (valid : (f : Func) → func_verdict A f ≡ Valid → func_verdict B (moved_func kind from f) ≡ Valid) where
-  aside_moved : (o f g : Func) → IsCode profile (moved_func kind from f).body → IsAside profile A s o f g → IsAside profile B t o (moved_func kind from f) (moved_func kind from g)
-  aside_moved o f g code h = record {
+  deferred_moved : (o f g : Func) → IsCode profile (moved_func kind from f).body → IsDeferred profile A s o f g → IsDeferred profile B t o (moved_func kind from f) (moved_func kind from g)
+  deferred_moved o f g code h = record {
     is =
         ap (moved_func kind from) h.is
         ∙ ap (λ (is : Instrs). record o { body = record { groups = o.body.groups; instrs = is } }) (shifts o.body.instrs);
@@ -56,11 +56,11 @@ module _ (profile : Profile) (kind : Kind) (from : ℕ) (A B : Ref → Found) (s
     stub_valid = valid g h.stub_valid;
   }
 
-  drafted_moved : (os : List Func) (marks : List Bool) (fs gs : List Func) → AllByRecursion (IsCode profile) (map (λ (f : Func). f.body) (map (moved_func kind from) fs)) → AreDrafted profile A s os marks fs gs
-      → AreDrafted profile B t os marks (map (moved_func kind from) fs) (map (moved_func kind from) gs)
+  drafted_moved : (os : List Func) (deferred : List Bool) (fs gs : List Func) → AllByRecursion (IsCode profile) (map (λ (f : Func). f.body) (map (moved_func kind from) fs)) → AreDrafted profile A s os deferred fs gs
+      → AreDrafted profile B t os deferred (map (moved_func kind from) fs) (map (moved_func kind from) gs)
   drafted_moved [] [] fs gs codes h = ap (map (moved_func kind from)) h
-  drafted_moved (o ∷ os) (true ∷ marks) (f ∷ fs) (g ∷ gs) codes h = (aside_moved o f g codes.0 h.0, drafted_moved os marks fs gs codes.1 h.1)
-  drafted_moved (o ∷ os) (false ∷ marks) (f ∷ fs) (g ∷ gs) codes h = (ap (moved_func kind from) h.0, drafted_moved os marks fs gs codes.1 h.1)
+  drafted_moved (o ∷ os) (true ∷ deferred) (f ∷ fs) (g ∷ gs) codes h = (deferred_moved o f g codes.0 h.0, drafted_moved os deferred fs gs codes.1 h.1)
+  drafted_moved (o ∷ os) (false ∷ deferred) (f ∷ fs) (g ∷ gs) codes h = (ap (moved_func kind from) h.0, drafted_moved os deferred fs gs codes.1 h.1)
   drafted_moved _ _ _ _ codes h = absurd h
 
 -- ---- what an import leaves of bodies
@@ -121,9 +121,9 @@ module _ (keeps : Keeps) (keeps_moved : KeepsMoved) (finds : ValidFinds) where
 
   -- a module whose references have moved is formed, as `moving_of_module` ensures it
   module _ (formed : (kind : Kind) (from : ℕ) (m : Parts) → are_parts_stuck kind from m ≡ false → IsFormed m → IsFormed (moved_parts kind from m)) where
-    pub import_sketch : (s : Shifts) (os : List Func) (marks : List Bool) (i : Import) (m d : Parts) → IsDraft s os marks m d → IsFormed m → are_parts_stuck (desc_kind i.desc) (import_place i m) m ≡ false
-        → IsDraft (shifts_after (edits.Import i) s) os marks (after_import i m) (with_import i (moved_parts (desc_kind i.desc) (import_place i m) d))
-    import_sketch s os marks i m d h shaped free =
+    pub import_sketch : (s : Shifts) (os : List Func) (deferred : List Bool) (i : Import) (m d : Parts) → IsDraft s os deferred m d → IsFormed m → are_parts_stuck (desc_kind i.desc) (import_place i m) m ≡ false
+        → IsDraft (shifts_after (edits.Import i) s) os deferred (after_import i m) (with_import i (moved_parts (desc_kind i.desc) (import_place i m) d))
+    import_sketch s os deferred i m d h shaped free =
         let kind = desc_kind i.desc in
         let from = import_place i m in
         let left : IsLeaving i s m = leaves i i.desc s m h.funcs_from h.globals_from in
@@ -131,16 +131,16 @@ module _ (keeps : Keeps) (keeps_moved : KeepsMoved) (finds : ValidFinds) where
         record {
           sketch = record {
             rest = ap (λ (p : Parts). with_import i (moved_parts kind from p)) h.sketch.rest;
-            funcs = drafted_moved m.profile kind from (answers_of m) (answers_of (after_import i m)) s (one_more kind s) left.shifts left.valid os marks m.funcs d.funcs codes h.sketch.funcs;
+            funcs = drafted_moved m.profile kind from (answers_of m) (answers_of (after_import i m)) s (one_more kind s) left.shifts left.valid os deferred m.funcs d.funcs codes h.sketch.funcs;
           };
           funcs_from = left.funcs_from;
           globals_from = left.globals_from;
         }
 
     -- ... where the draft has it at its own place
-    pub import_after : (s : Shifts) (os : List Func) (marks : List Bool) (i : Import) (m d : Parts) → IsDraft s os marks m d → IsFormed m → are_parts_stuck (desc_kind i.desc) (import_place i m) m ≡ false
-        → IsDraft (shifts_after (edits.Import i) s) os marks (after_import i m) (after_import i d)
-    import_after s os marks i m d h shaped free =
-        subst (λ (from : ℕ). IsDraft (shifts_after (edits.Import i) s) os marks (after_import i m) (with_import i (moved_parts (desc_kind i.desc) from d)))
-        (place_same s os marks m d h.sketch i)
-        (import_sketch s os marks i m d h shaped free)
+    pub import_after : (s : Shifts) (os : List Func) (deferred : List Bool) (i : Import) (m d : Parts) → IsDraft s os deferred m d → IsFormed m → are_parts_stuck (desc_kind i.desc) (import_place i m) m ≡ false
+        → IsDraft (shifts_after (edits.Import i) s) os deferred (after_import i m) (after_import i d)
+    import_after s os deferred i m d h shaped free =
+        subst (λ (from : ℕ). IsDraft (shifts_after (edits.Import i) s) os deferred (after_import i m) (with_import i (moved_parts (desc_kind i.desc) from d)))
+        (place_same s os deferred m d h.sketch i)
+        (import_sketch s os deferred i m d h shaped free)

@@ -3,7 +3,7 @@ pub mod ShiftedLengths
 pub mod DraftLengths
 pub mod GrownLengths
 pub mod CodeLengths
-pub mod AsideCodes
+pub mod DeferredCodes
 pub mod RunSteps
 pub mod Stepping
 pub mod Running

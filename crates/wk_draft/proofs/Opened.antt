@@ -1,4 +1,4 @@
--- A valid module that no edit has changed, and its draft: each body stands aside.
+-- A valid module that no edit has changed, and its draft: each body is deferred.
 use Rattle.std.proofs.Common.{◌≡◌, ℕ, ◌+◌, nat_le, Bool, true, false, cond, List, [], ◌∷◌, length, map, Ok, refl, sym, ap, ◌∙◌, arith}
 use Rattle.std.specs.Prelude.{replicate}
 use Rattle.std.specs.List.{AllByRecursion}
@@ -98,9 +98,9 @@ module _ (profile : Profile) (A : Ref → Found) (s : Shifts) (funcs_by : s.func
     all_drafted fs valid.1 codes.1,
   )
 
-pub all_marks : (fs : List Func) → replicate (length fs) true ≡ map (λ (f : Func). true) fs
-all_marks [] = refl
-all_marks (f ∷ fs) = ap (λ (bs : List Bool). true ∷ bs) (all_marks fs)
+pub all_deferred : (fs : List Func) → replicate (length fs) true ≡ map (λ (f : Func). true) fs
+all_deferred [] = refl
+all_deferred (f ∷ fs) = ap (λ (bs : List Bool). true ∷ bs) (all_deferred fs)
 
 -- ---- the module
 

@@ -1,4 +1,4 @@
--- The room for bodies that stand aside, by their codes.
+-- The room for deferred bodies, by their codes.
 use Rattle.std.proofs.Common.{◌≡◌, ℕ, ◌+◌, ◌*◌, ◌<◌, ◌≤◌, Option, Some, None, List, [], ◌∷◌, length, map, take, get_or, refl, sym, ap, ◌∙◌, arith}
 use Rattle.std.specs.Prelude.{IfSome}
 use Rattle.std.specs.List.{sum_by}
@@ -8,7 +8,7 @@ use Rattle.std.proofs.lemmas.List.Sums.{sum_by_more, sum_by-cons}
 use Rattle.wk_module.specs.declared.types.Func.{Func}
 use Rattle.wk_module.specs.Sizes.{body_size}
 use Rattle.wk_session.specs.Pieces.{code_of}
-use Rattle.wk_draft.specs.Drafts.{aside_room}
+use Rattle.wk_draft.specs.Drafts.{deferred_room}
 
 -- by how many bytes one may grow, its size with it
 abbrev pub grown : List ℕ → ℕ
@@ -28,7 +28,7 @@ one_grown codes i size tripled more total next code within at measured is_triple
     omega (arith, sum_by_more grown codes i code within, same, measured, is_tripled, is_more, is_next, sofar)
 
 pub all_grown : (P : Type 0) (codes : List (List ℕ)) (i total : ℕ) (room : Option ℕ) → length codes ≤ i → total ≡ sum_by grown (take i codes) → SomeIff room P (total + 16)
-    → IfSome room (λ n. (os : List Func) → codes ≡ map code_of os → n ≡ aside_room os)
+    → IfSome room (λ n. (os : List Func) → codes ≡ map code_of os → n ≡ deferred_room os)
 all_grown P codes i total None past is sums = tt
 all_grown P codes i total (Some n) past is sums = λ os are.
     let whole : total ≡ sum_by grown (map code_of os) = is ∙ ap (sum_by grown) (take_all i codes past ∙ are) in

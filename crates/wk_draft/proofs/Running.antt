@@ -69,13 +69,13 @@ module _ (os : List Func) (m : Parts) (d : Draft) (held : IsHeld os m d) where
       let rest = held.draft.sketch.rest in
       let back : m ≡ record d.session { funcs = m.funcs } = sym (ap (λ (p : Parts). record p { funcs = m.funcs }) rest) in
       ap (encoded_with d.session) are
-      ∙ recoded d.session m back (sym (same_types m.profile (answers_of m) d.shifts os d.marks.items m.funcs d.session.funcs held.draft.sketch.funcs))
+      ∙ recoded d.session m back (sym (same_types m.profile (answers_of m) d.shifts os d.deferred.items m.funcs d.session.funcs held.draft.sketch.funcs))
 
   pub written_fits : (news : List (Option (List ℕ))) → with_items (map code_of d.session.funcs) news ≡ map code_of m.funcs → length (encoded_with d.session (with_items (map code_of d.session.funcs) news)) ≤ limit
   written_fits news are = subst (λ (b : List ℕ). length b ≤ limit) (sym (written news are)) held.fits
 
   pub verdict_is : (v : Verdict) → v ≡ module_verdict d.session → v ≡ module_verdict m
-  verdict_is v is = is ∙ sym (same_verdict d.shifts os d.marks.items m d.session held.draft.sketch)
+  verdict_is v is = is ∙ sym (same_verdict d.shifts os d.deferred.items m d.session held.draft.sketch)
 
   pub shaped_is : IsShaped d.session → IsShaped m
-  shaped_is shaped = shaped_draft d.shifts os d.marks.items m d.session held.draft.sketch shaped
+  shaped_is shaped = shaped_draft d.shifts os d.deferred.items m d.session held.draft.sketch shaped

@@ -18,17 +18,17 @@ abbrev pub types_of : List Func → List ℕ
 types_of fs = map (λ (f : Func). f.ty) fs
 
 -- the types of functions that are drafted
-pub same_types : (profile : Profile) (A : Ref → Found) (s : Shifts) (os : List Func) (marks : List Bool) (fs gs : List Func) → AreDrafted profile A s os marks fs gs → types_of gs ≡ types_of fs
+pub same_types : (profile : Profile) (A : Ref → Found) (s : Shifts) (os : List Func) (deferred : List Bool) (fs gs : List Func) → AreDrafted profile A s os deferred fs gs → types_of gs ≡ types_of fs
 same_types profile A s [] [] fs gs h = ap types_of (sym h)
-same_types profile A s (o ∷ os) (true ∷ marks) (f ∷ fs) (g ∷ gs) h =
-    rw (ap (λ (x : Func). x.ty) h.0.stands, same_types profile A s os marks fs gs h.1) refl
-same_types profile A s (o ∷ os) (false ∷ marks) (f ∷ fs) (g ∷ gs) h =
-    rw (ap (λ (x : Func). x.ty) (sym h.0), same_types profile A s os marks fs gs h.1) refl
+same_types profile A s (o ∷ os) (true ∷ deferred) (f ∷ fs) (g ∷ gs) h =
+    rw (ap (λ (x : Func). x.ty) h.0.stands, same_types profile A s os deferred fs gs h.1) refl
+same_types profile A s (o ∷ os) (false ∷ deferred) (f ∷ fs) (g ∷ gs) h =
+    rw (ap (λ (x : Func). x.ty) (sym h.0), same_types profile A s os deferred fs gs h.1) refl
 same_types profile A s _ _ _ _ h = absurd h
 
-module _ (s : Shifts) (os : List Func) (marks : List Bool) (m d : Parts) (h : IsSketch s os marks m d) where
+module _ (s : Shifts) (os : List Func) (deferred : List Bool) (m d : Parts) (h : IsSketch s os deferred m d) where
   types_drafted : types_of d.funcs ≡ types_of m.funcs
-  types_drafted = same_types m.profile (answers_of m) s os marks m.funcs d.funcs h.funcs
+  types_drafted = same_types m.profile (answers_of m) s os deferred m.funcs d.funcs h.funcs
 
   -- how many functions the module defines
   pub same_count : length d.funcs ≡ length m.funcs

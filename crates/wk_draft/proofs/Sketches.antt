@@ -28,24 +28,24 @@ use Rattle.wk_draft.proofs.SketchTypes.{types_of, same_types, same_count, same_a
 -- ---- functions
 
 -- the verdicts of functions that are drafted
-pub verdicts_drafted : (profile : Profile) (A : Ref → Found) (s : Shifts) (os : List Func) (marks : List Bool) (fs gs : List Func) → AreDrafted profile A s os marks fs gs
+pub verdicts_drafted : (profile : Profile) (A : Ref → Found) (s : Shifts) (os : List Func) (deferred : List Bool) (fs gs : List Func) → AreDrafted profile A s os deferred fs gs
     → map (func_verdict A) gs ≡ map (func_verdict A) fs
 verdicts_drafted profile A s [] [] fs gs h = ap (map (func_verdict A)) (sym h)
-verdicts_drafted profile A s (o ∷ os) (true ∷ marks) (f ∷ fs) (g ∷ gs) h =
+verdicts_drafted profile A s (o ∷ os) (true ∷ deferred) (f ∷ fs) (g ∷ gs) h =
     ap (λ (v : BodyVerdict). v ∷ map (func_verdict A) gs) (h.0.stub_valid ∙ sym h.0.valid)
-    ∙ ap (λ (vs : List BodyVerdict). func_verdict A f ∷ vs) (verdicts_drafted profile A s os marks fs gs h.1)
-verdicts_drafted profile A s (o ∷ os) (false ∷ marks) (f ∷ fs) (g ∷ gs) h =
+    ∙ ap (λ (vs : List BodyVerdict). func_verdict A f ∷ vs) (verdicts_drafted profile A s os deferred fs gs h.1)
+verdicts_drafted profile A s (o ∷ os) (false ∷ deferred) (f ∷ fs) (g ∷ gs) h =
     ap (λ (x : Func). func_verdict A x ∷ map (func_verdict A) gs) (sym h.0)
-    ∙ ap (λ (vs : List BodyVerdict). func_verdict A f ∷ vs) (verdicts_drafted profile A s os marks fs gs h.1)
+    ∙ ap (λ (vs : List BodyVerdict). func_verdict A f ∷ vs) (verdicts_drafted profile A s os deferred fs gs h.1)
 verdicts_drafted profile A s _ _ _ _ h = absurd h
 
 -- the bodies of a module are codes where those of its draft are
-codes_drafted : (profile : Profile) (A : Ref → Found) (s : Shifts) (os : List Func) (marks : List Bool) (fs gs : List Func) → AreDrafted profile A s os marks fs gs
+codes_drafted : (profile : Profile) (A : Ref → Found) (s : Shifts) (os : List Func) (deferred : List Bool) (fs gs : List Func) → AreDrafted profile A s os deferred fs gs
     → AllByRecursion (IsCode profile) (map (λ (f : Func). f.body) gs) → AllByRecursion (IsCode profile) (map (λ (f : Func). f.body) fs)
 codes_drafted profile A s [] [] fs gs h all = subst (λ (xs : List Func). AllByRecursion (IsCode profile) (map (λ (f : Func). f.body) xs)) (sym h) all
-codes_drafted profile A s (o ∷ os) (true ∷ marks) (f ∷ fs) (g ∷ gs) h all = (h.0.code, codes_drafted profile A s os marks fs gs h.1 all.1)
-codes_drafted profile A s (o ∷ os) (false ∷ marks) (f ∷ fs) (g ∷ gs) h all =
-    (subst (λ (x : Func). IsCode profile x.body) (sym h.0) all.0, codes_drafted profile A s os marks fs gs h.1 all.1)
+codes_drafted profile A s (o ∷ os) (true ∷ deferred) (f ∷ fs) (g ∷ gs) h all = (h.0.code, codes_drafted profile A s os deferred fs gs h.1 all.1)
+codes_drafted profile A s (o ∷ os) (false ∷ deferred) (f ∷ fs) (g ∷ gs) h all =
+    (subst (λ (x : Func). IsCode profile x.body) (sym h.0) all.0, codes_drafted profile A s os deferred fs gs h.1 all.1)
 codes_drafted profile A s _ _ _ _ h all = absurd h
 
 -- ---- verdicts
@@ -74,15 +74,15 @@ as_empty fs gs same =
     ∙ is_empty_map (λ (f : Func). f.ty) fs
     ∙ sym (is_empty_map (λ (f : Func). f.body) fs)
 
-module _ (s : Shifts) (os : List Func) (marks : List Bool) (m d : Parts) (h : IsSketch s os marks m d) where
+module _ (s : Shifts) (os : List Func) (deferred : List Bool) (m d : Parts) (h : IsSketch s os deferred m d) where
   types_drafted : types_of d.funcs ≡ types_of m.funcs
-  types_drafted = same_types m.profile (answers_of m) s os marks m.funcs d.funcs h.funcs
+  types_drafted = same_types m.profile (answers_of m) s os deferred m.funcs d.funcs h.funcs
 
   -- bodies have the same verdicts
   pub same_verdicts : map (func_verdict (answers_of m)) m.funcs ≡ map (func_verdict (answers_of d)) d.funcs
   same_verdicts =
-      sym (verdicts_drafted m.profile (answers_of m) s os marks m.funcs d.funcs h.funcs)
-      ∙ ap (λ (A : Ref → Found). map (func_verdict A) d.funcs) (sym (same_answers s os marks m d h))
+      sym (verdicts_drafted m.profile (answers_of m) s os deferred m.funcs d.funcs h.funcs)
+      ∙ ap (λ (A : Ref → Found). map (func_verdict A) d.funcs) (sym (same_answers s os deferred m d h))
 
   pub same_verdict : module_verdict m ≡ module_verdict d
   same_verdict =
@@ -107,7 +107,7 @@ module _ (s : Shifts) (os : List Func) (marks : List Bool) (m d : Parts) (h : Is
       ∙ ap (map (settled_custom (is_filled m))) same_customs
 
   -- customs settle alike
-  pub settled_sketch : IsSketch s os marks (settle m) (settle d)
+  pub settled_sketch : IsSketch s os deferred (settle m) (settle d)
   settled_sketch = record {
     rest =
         ap (λ (p : Parts). record p { customs = map (settled_custom (is_filled d)) d.customs }) h.rest
@@ -121,9 +121,9 @@ module _ (s : Shifts) (os : List Func) (marks : List Bool) (m d : Parts) (h : Is
   formed_draft formed =
       let few = (formed.valid CodeSection).0 in
       let profile = ap (λ (p : Parts). p.profile) h.rest in
-      let count = same_count s os marks m d h in
+      let count = same_count s os deferred m d h in
       let types = subst (AreItems IsU32) types_drafted (formed.valid FunctionSection) in
-      let codes = codes_drafted m.profile (answers_of m) s os marks m.funcs d.funcs h.funcs (subst (λ (p : Profile). AllByRecursion (IsCode p) (map (λ (f : Func). f.body) d.funcs)) profile (formed.valid CodeSection).1) in
+      let codes = codes_drafted m.profile (answers_of m) s os deferred m.funcs d.funcs h.funcs (subst (λ (p : Profile). AllByRecursion (IsCode p) (map (λ (f : Func). f.body) d.funcs)) profile (formed.valid CodeSection).1) in
       let room : length (map (λ (f : Func). f.body) m.funcs) < 2 ^ 32 = omega (arith, few, count, length-map d.funcs (λ (f : Func). f.body), length-map m.funcs (λ (f : Func). f.body)) in
       subst IsFormed (ap (λ (p : Parts). record p { funcs = m.funcs }) h.rest)
       (funcs_formed m.funcs d types (subst (λ (p : Profile). AreItems (IsCode p) (map (λ (f : Func). f.body) m.funcs)) (sym profile) (room, codes)) formed)
@@ -135,9 +135,9 @@ module _ (s : Shifts) (os : List Func) (marks : List Bool) (m d : Parts) (h : Is
   }
 
 -- the same of a draft
-pub settled_draft : (s : Shifts) (os : List Func) (marks : List Bool) (m d : Parts) → IsDraft s os marks m d → IsDraft s os marks (settle m) (settle d)
-settled_draft s os marks m d h = record {
-  sketch = settled_sketch s os marks m d h.sketch;
+pub settled_draft : (s : Shifts) (os : List Func) (deferred : List Bool) (m d : Parts) → IsDraft s os deferred m d → IsDraft s os deferred (settle m) (settle d)
+settled_draft s os deferred m d h = record {
+  sketch = settled_sketch s os deferred m d h.sketch;
   funcs_from = h.funcs_from;
   globals_from = h.globals_from;
 }

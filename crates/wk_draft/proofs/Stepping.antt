@@ -16,9 +16,9 @@ use Rattle.wk_session.specs.declared.edit.Work.{Work}
 use Rattle.wk_session.specs.Edits.{made}
 use Rattle.wk_session.specs.Runs.{after_one, is_memory, left_by, reply_of, reply_to}
 use Rattle.wk_draft.specs.declared.draft.Draft.{Draft}
-use Rattle.wk_draft.specs.Drafts.{IsDraft, aside_room}
+use Rattle.wk_draft.specs.Drafts.{IsDraft, deferred_room}
 use Rattle.wk_draft.specs.Runs.{IsAlike, IsHeld, IsStepped}
-use Rattle.wk_draft.specs.Steps.{Follows, IsSure, entry_among, marks_after, replaced, shifts_after, unmarked}
+use Rattle.wk_draft.specs.Steps.{Follows, IsSure, entry_among, deferred_after, replaced_entry, shifts_after, deferred_without}
 use Rattle.wk_draft.proofs.DraftLengths.{draft_fits}
 
 -- ---- what a reply tells of the outcome
@@ -65,53 +65,53 @@ sure_other e n Memory sure = absurd sure
 -- ---- the body that is replaced
 
 -- where a draft's imports are counted, this is the body that an edit replaces
-pub marks_replaced : (e : Edit) (d : Parts) (imported : ℕ) (marks : List Bool) → import_count kinds.Func d.imports ≡ imported
-    → marks_after e d marks ≡ unmarked (replaced e imported (length d.funcs)) marks
-marks_replaced (edits.Ty t) d imported marks counted = refl
-marks_replaced (edits.Import i) d imported marks counted = refl
-marks_replaced (edits.Func t code) d imported marks counted = refl
-marks_replaced (edits.Body x code) d imported marks counted = ap (λ (k : ℕ). unmarked (entry_among x k (length d.funcs)) marks) counted
-marks_replaced (edits.Global t init) d imported marks counted = refl
-marks_replaced (edits.Export x) d imported marks counted = refl
-marks_replaced (edits.Unexport name) d imported marks counted = refl
-marks_replaced (edits.SetCustom name bytes) d imported marks counted = refl
-marks_replaced (edits.StripCustom name) d imported marks counted = refl
-marks_replaced edits.StripAll d imported marks counted = refl
+pub deferred_replaced : (e : Edit) (d : Parts) (imported : ℕ) (deferred : List Bool) → import_count kinds.Func d.imports ≡ imported
+    → deferred_after e d deferred ≡ deferred_without (replaced_entry e imported (length d.funcs)) deferred
+deferred_replaced (edits.Ty t) d imported deferred counted = refl
+deferred_replaced (edits.Import i) d imported deferred counted = refl
+deferred_replaced (edits.Func t code) d imported deferred counted = refl
+deferred_replaced (edits.Body x code) d imported deferred counted = ap (λ (k : ℕ). deferred_without (entry_among x k (length d.funcs)) deferred) counted
+deferred_replaced (edits.Global t init) d imported deferred counted = refl
+deferred_replaced (edits.Export x) d imported deferred counted = refl
+deferred_replaced (edits.Unexport name) d imported deferred counted = refl
+deferred_replaced (edits.SetCustom name bytes) d imported deferred counted = refl
+deferred_replaced (edits.StripCustom name) d imported deferred counted = refl
+deferred_replaced edits.StripAll d imported deferred counted = refl
 
 -- ---- the step
 
 module _ (keep : Bool) (e : Edit) (os : List Func) (m : Parts) (old new : Draft) (held : IsHeld os m old)
-    (follows : Follows keep e old.shifts os old.marks.items m old.session (made keep e old.session)) where
+    (follows : Follows keep e old.shifts os old.deferred.items m old.session (made keep e old.session)) where
   -- what the accepted edit makes of the module
   pub stepped : (w : Work) → Ok w ≡ reply_of keep e false old.session → new.session ≡ after_one keep e false old.session
-      → IsShaped new.session → length (encoded new.session) + aside_room os ≤ limit
-      → new.shifts ≡ shifts_after e old.shifts → new.marks.items ≡ marks_after e old.session old.marks.items
+      → IsShaped new.session → length (encoded new.session) + deferred_room os ≤ limit
+      → new.shifts ≡ shifts_after e old.shifts → new.deferred.items ≡ deferred_after e old.session old.deferred.items
       → IsStepped keep e os m (Ok tt) new
-  stepped w replied is shaped room shifts marks =
+  stepped w replied is shaped room shifts deferred =
       let r = made keep e old.session in
       let makes : r ≡ Ok new.session = accepted_by e old.session r w replied ∙ ap (λ (n : Parts). let q : Result Parts EditFault = Ok n in q) (sym is) in
-      let led = subst (Follows keep e old.shifts os old.marks.items m old.session) makes follows shaped room in
+      let led = subst (Follows keep e old.shifts os old.deferred.items m old.session) makes follows shaped room in
       let p = led.0 in
       let comes : made keep e m ≡ Ok p = led.1 in
-      let drafted : IsDraft new.shifts os new.marks.items p new.session =
-      subst (λ (t : Shifts). IsDraft t os new.marks.items p new.session) (sym shifts)
-      (subst (λ (ms : List Bool). IsDraft (shifts_after e old.shifts) os ms p new.session) (sym marks) led.2) in
+      let drafted : IsDraft new.shifts os new.deferred.items p new.session =
+      subst (λ (t : Shifts). IsDraft t os new.deferred.items p new.session) (sym shifts)
+      (subst (λ (ms : List Bool). IsDraft (shifts_after e old.shifts) os ms p new.session) (sym deferred) led.2) in
       let same_customs : new.session.customs ≡ p.customs = ap (λ (q : Parts). q.customs) drafted.sketch.rest in
-      let fits : Fits p = draft_fits new.shifts os new.marks.items p new.session drafted.sketch (subst (IsInOrderFrom 0) same_customs shaped.formed.order) room in
+      let fits : Fits p = draft_fits new.shifts os new.deferred.items p new.session drafted.sketch (subst (IsInOrderFrom 0) same_customs shaped.formed.order) room in
       let stands : IsHeld os p new = record { draft = drafted; fits = fits } in
       subst (λ (q : Result Parts EditFault). IsHeld os (left_by m q) new × IsAlike {A = Unit {0}} (Ok tt) (reply_to e m q)) (sym comes) (stands, tt)
 
   pub refused : (f : EditFault) → f ≢ Memory → Err f ≡ reply_of keep e (is_memory (Err f)) old.session → new.session ≡ after_one keep e (is_memory (Err f)) old.session
-      → IsSure e (length (encoded old.session) + aside_room os) f → new.shifts ≡ old.shifts → new.marks.items ≡ old.marks.items
+      → IsSure e (length (encoded old.session) + deferred_room os) f → new.shifts ≡ old.shifts → new.deferred.items ≡ old.deferred.items
       → IsStepped keep e os m (Err f) new
-  refused f other replied is sure shifts marks =
+  refused f other replied is sure shifts deferred =
       let r = made keep e old.session in
       let told = refused_by e old.session r f (unforgotten keep e old.session f other replied) in
-      let comes : made keep e m ≡ Err f = subst (Follows keep e old.shifts os old.marks.items m old.session) told.0 follows sure in
+      let comes : made keep e m ≡ Err f = subst (Follows keep e old.shifts os old.deferred.items m old.session) told.0 follows sure in
       let same : new.session ≡ old.session = unforgotten_left keep e old.session new.session f other is ∙ told.1 in
-      let drafted : IsDraft new.shifts os new.marks.items m new.session =
-      subst (λ (t : Shifts). IsDraft t os new.marks.items m new.session) (sym shifts)
-      (subst (λ (ms : List Bool). IsDraft old.shifts os ms m new.session) (sym marks)
-      (subst (IsDraft old.shifts os old.marks.items m) (sym same) held.draft)) in
+      let drafted : IsDraft new.shifts os new.deferred.items m new.session =
+      subst (λ (t : Shifts). IsDraft t os new.deferred.items m new.session) (sym shifts)
+      (subst (λ (ms : List Bool). IsDraft old.shifts os ms m new.session) (sym deferred)
+      (subst (IsDraft old.shifts os old.deferred.items m) (sym same) held.draft)) in
       let stands : IsHeld os m new = record { draft = drafted; fits = held.fits } in
       subst (λ (q : Result Parts EditFault). IsHeld os (left_by m q) new × IsAlike {A = Unit {0}} (Err f) (reply_to e m q)) (sym comes) (stands, refl)

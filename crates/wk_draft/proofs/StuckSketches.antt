@@ -31,7 +31,7 @@ use Rattle.wk_check.specs.Finds.{is_there, AreThere, ValidFinds}
 use Rattle.wk_check.specs.Spaces.{Spaces, answer_in, spaces_of, func_found, global_found, imported, func_in, global_in}
 use Rattle.wk_check.specs.SpacesLaws.{imported_funcs, imported_globals}
 use Rattle.wk_session.specs.Edits.{import_place}
-use Rattle.wk_draft.specs.Drafts.{IsAside, AreDrafted, IsDraft}
+use Rattle.wk_draft.specs.Drafts.{IsDeferred, AreDrafted, IsDraft}
 use Rattle.wk_module.specs.Outlines.{stub}
 use Rattle.wk_body.specs.declared.shifts.Shifts.{Shifts}
 use Rattle.wk_draft.proofs.SketchTypes.{place_same}
@@ -96,27 +96,27 @@ is_func_stuck kind from f = is_code_stuck kind from f.body.instrs
 -- where all that a valid body refers to is there
 module _ (finds : ValidFinds) where
   module _ (profile : Profile) (spaces : Spaces) (small : AreSmall spaces) (s : Shifts) (kind : Kind) (from : ℕ) where
-    aside_free : (o f g : Func) → IsAside profile (answer_in spaces) s o f g → is_func_stuck kind from f ≡ is_func_stuck kind from g
-    aside_free o f g h =
+    deferred_free : (o f g : Func) → IsDeferred profile (answer_in spaces) s o f g → is_func_stuck kind from f ≡ is_func_stuck kind from g
+    deferred_free o f g h =
         code_free spaces small kind from f (finds (answer_in spaces) f.ty f.body h.valid).1
         ∙ sym (ap (is_func_stuck kind from) h.stands ∙ stub_free kind from)
 
-    funcs_stuck : (os : List Func) (marks : List Bool) (fs gs : List Func) → AreDrafted profile (answer_in spaces) s os marks fs gs → list_any (is_func_stuck kind from) fs ≡ list_any (is_func_stuck kind from) gs
+    funcs_stuck : (os : List Func) (deferred : List Bool) (fs gs : List Func) → AreDrafted profile (answer_in spaces) s os deferred fs gs → list_any (is_func_stuck kind from) fs ≡ list_any (is_func_stuck kind from) gs
     funcs_stuck [] [] fs gs h = ap (list_any (is_func_stuck kind from)) h
-    funcs_stuck (o ∷ os) (true ∷ marks) (f ∷ fs) (g ∷ gs) h = rw (aside_free o f g h.0, funcs_stuck os marks fs gs h.1) refl
-    funcs_stuck (o ∷ os) (false ∷ marks) (f ∷ fs) (g ∷ gs) h = rw (ap (is_func_stuck kind from) h.0, funcs_stuck os marks fs gs h.1) refl
+    funcs_stuck (o ∷ os) (true ∷ deferred) (f ∷ fs) (g ∷ gs) h = rw (deferred_free o f g h.0, funcs_stuck os deferred fs gs h.1) refl
+    funcs_stuck (o ∷ os) (false ∷ deferred) (f ∷ fs) (g ∷ gs) h = rw (ap (is_func_stuck kind from) h.0, funcs_stuck os deferred fs gs h.1) refl
     funcs_stuck _ _ _ _ h = absurd h
 
   -- as an import of the kind comes in front of the index `from`
-  pub import_stuck : (s : Shifts) (os : List Func) (marks : List Bool) (m d : Parts) (kind : Kind) (from : ℕ) → IsDraft s os marks m d → Fits m → are_parts_stuck kind from m ≡ are_parts_stuck kind from d
-  import_stuck s os marks m d kind from h fits =
-      let funcs = funcs_stuck m.profile (spaces_of (lists_of m)) (spaces_small m fits) s kind from os marks m.funcs d.funcs h.sketch.funcs in
+  pub import_stuck : (s : Shifts) (os : List Func) (deferred : List Bool) (m d : Parts) (kind : Kind) (from : ℕ) → IsDraft s os deferred m d → Fits m → are_parts_stuck kind from m ≡ are_parts_stuck kind from d
+  import_stuck s os deferred m d kind from h fits =
+      let funcs = funcs_stuck m.profile (spaces_of (lists_of m)) (spaces_small m fits) s kind from os deferred m.funcs d.funcs h.sketch.funcs in
       let lists = ap (are_lists_stuck kind from) h.sketch.rest in
       ap (λ (b : Bool). b || are_lists_stuck kind from m) funcs ∙ ap (λ (b : Bool). list_any (is_func_stuck kind from) d.funcs || b) (sym lists)
 
   -- ... at its place in each
-  pub import_stuck_alike : (s : Shifts) (os : List Func) (marks : List Bool) (i : Import) (m d : Parts) → IsDraft s os marks m d → Fits m
+  pub import_stuck_alike : (s : Shifts) (os : List Func) (deferred : List Bool) (i : Import) (m d : Parts) → IsDraft s os deferred m d → Fits m
       → are_parts_stuck (desc_kind i.desc) (import_place i m) m ≡ are_parts_stuck (desc_kind i.desc) (import_place i d) d
-  import_stuck_alike s os marks i m d h fits =
-      import_stuck s os marks m d (desc_kind i.desc) (import_place i m) h fits
-      ∙ ap (λ (from : ℕ). are_parts_stuck (desc_kind i.desc) from d) (place_same s os marks m d h.sketch i)
+  import_stuck_alike s os deferred i m d h fits =
+      import_stuck s os deferred m d (desc_kind i.desc) (import_place i m) h fits
+      ∙ ap (λ (from : ℕ). are_parts_stuck (desc_kind i.desc) from d) (place_same s os deferred m d h.sketch i)

@@ -51,26 +51,26 @@ pub record IsFirst (m : Parts) (s : Shifts) : Type 0 where
 
 -- m is a module that fits, and d is held as its draft
 pub record IsHeld (os : List Func) (m : Parts) (d : Draft) : Type 0 where
-  pub draft : IsDraft d.shifts os d.marks.items m d.session
+  pub draft : IsDraft d.shifts os d.deferred.items m d.session
   pub fits : Fits m
 
 -- the edit leaves the draft of what it makes of the module, and was answered as the module would answer it
 abbrev pub IsStepped : Bool → Edit → List Func → Parts → Result (Unit {0}) EditFault → Draft → Type 0
 IsStepped keep e os m answer d = IsHeld os (after_one keep e false m) d × IsAlike answer (reply_of keep e false m)
 
--- ---- the codes of bodies that stand aside, where their references stand now, and nothing in the place of any other
+-- ---- the codes of deferred bodies, where their references stand now, and nothing in the place of any other
 
-abbrev pub aside_codes : Shifts → List Func → List Bool → List (Option (List ℕ))
-aside_codes s (o ∷ os) (true ∷ marks) = Some (written_body (shifted_body s o.body)) ∷ aside_codes s os marks
-aside_codes s (o ∷ os) (false ∷ marks) = None ∷ aside_codes s os marks
-aside_codes s _ _ = []
+abbrev pub deferred_codes : Shifts → List Func → List Bool → List (Option (List ℕ))
+deferred_codes s (o ∷ os) (true ∷ deferred) = Some (written_body (shifted_body s o.body)) ∷ deferred_codes s os deferred
+deferred_codes s (o ∷ os) (false ∷ deferred) = None ∷ deferred_codes s os deferred
+deferred_codes s _ _ = []
 
 -- ---- the module that was read
 
 -- the outline of a module that is valid, as its parts and its codes
-pub record IsOutlined (m sketch : Parts) (aside : List (List ℕ)) : Type 0 where
+pub record IsOutlined (m sketch : Parts) (all_codes : List (List ℕ)) : Type 0 where
   pub outline : sketch ≡ outlined m
-  pub codes : aside ≡ map code_of m.funcs
+  pub codes : all_codes ≡ map code_of m.funcs
   pub formed : AllByRecursion (λ (f : Func). IsCode m.profile f.body) m.funcs
   pub shaped : IsShaped m
   pub fits : Fits m
@@ -78,7 +78,7 @@ pub record IsOutlined (m sketch : Parts) (aside : List (List ℕ)) : Type 0 wher
 
 -- ---- a draft of which edits were made
 
--- d is the draft of what the edits make of m, whose bodies stood aside at first; these codes come in the place of stubs, and the edits were
+-- d is the draft of what the edits make of m, whose bodies were deferred at first; these codes come in the place of stubs, and the edits were
 -- answered so
 pub record IsMade (keep : Bool) (m : Parts) (edits : List Edit) (d : Draft) (news : List (Option (List ℕ)))
     (replies : List (Result (Unit {0}) EditFault)) : Type 0 where

@@ -16,27 +16,27 @@ use Rattle.wk_session.specs.declared.edit.Edit.TheVariants as edits
 use Rattle.wk_session.specs.declared.edit.EditFault.{EditFault}
 use Rattle.wk_session.specs.declared.edit.EditFault.TheVariants.{TooLarge, WouldBreak, Memory}
 use Rattle.wk_session.specs.Edits.{entry_of, made}
-use Rattle.wk_draft.specs.Drafts.{IsDraft, aside_room}
+use Rattle.wk_draft.specs.Drafts.{IsDraft, deferred_room}
 
 -- ---- where bodies stand after an edit
 
-abbrev pub unmarked : Option ℕ → List Bool → List Bool
-unmarked None marks = marks
-unmarked (Some entry) marks = set marks entry false
+abbrev pub deferred_without : Option ℕ → List Bool → List Bool
+deferred_without None deferred = deferred
+deferred_without (Some entry) deferred = set deferred entry false
 
 -- which of the functions that a module defines has an index, by how many it imports and how many it defines
 abbrev pub entry_among : ℕ → ℕ → ℕ → Option ℕ
 entry_among x imported defined = if nat_le imported x && nat_lt (x - imported) defined then Some (x - imported) else None
 
 -- ... the one whose body an edit replaces
-abbrev pub replaced : Edit → ℕ → ℕ → Option ℕ
-replaced (edits.Body x code) imported defined = entry_among x imported defined
-replaced _ imported defined = None
+abbrev pub replaced_entry : Edit → ℕ → ℕ → Option ℕ
+replaced_entry (edits.Body x code) imported defined = entry_among x imported defined
+replaced_entry _ imported defined = None
 
--- a body that is replaced stands aside no more
-abbrev pub marks_after : Edit → Parts → List Bool → List Bool
-marks_after (edits.Body x code) d marks = unmarked (entry_of x d) marks
-marks_after _ d marks = marks
+-- a body that is replaced is deferred no more
+abbrev pub deferred_after : Edit → Parts → List Bool → List Bool
+deferred_after (edits.Body x code) d deferred = deferred_without (entry_of x d) deferred
+deferred_after _ d deferred = deferred
 
 abbrev pub one_more : Kind → Shifts → Shifts
 one_more kinds.Func s = record s { funcs_by = s.funcs_by + 1 }
@@ -79,10 +79,10 @@ IsSure e len Memory = ⊥
 IsSure e len (WouldBreak fault) = (is_unmeasured e ≡ false) × (len + edit_room e ≤ limit)
 IsSure e len _ = Unit {0}
 
--- Where the draft d comes to n, and there is room for the bodies that stand aside, the module m comes to one of which n is the draft.
+-- Where the draft d comes to n, and there is room for the deferred bodies, the module m comes to one of which n is the draft.
 -- Where the edit of the draft is refused, so is that of the module, if the refusal is sure.
 abbrev pub Follows : Bool → Edit → Shifts → List Func → List Bool → Parts → Parts → Result Parts EditFault → Type 0
-Follows keep e s os marks m d (Ok n) =
-    IsShaped n → length (encoded n) + aside_room os ≤ limit
-    → ((p : Parts) × (made keep e m ≡ Ok p) × IsDraft (shifts_after e s) os (marks_after e d marks) p n)
-Follows keep e s os marks m d (Err f) = IsSure e (length (encoded d) + aside_room os) f → made keep e m ≡ Err f
+Follows keep e s os deferred m d (Ok n) =
+    IsShaped n → length (encoded n) + deferred_room os ≤ limit
+    → ((p : Parts) × (made keep e m ≡ Ok p) × IsDraft (shifts_after e s) os (deferred_after e d deferred) p n)
+Follows keep e s os deferred m d (Err f) = IsSure e (length (encoded d) + deferred_room os) f → made keep e m ≡ Err f

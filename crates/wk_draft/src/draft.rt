@@ -4,12 +4,12 @@ ghost use Rattle.std.specs.Prelude.{◌≡◌, ◌+◌, true, false, List, IfOk,
 ghost use Rattle.wk_module.specs.declared.types.Func.{Func as FuncOf};
 ghost use Rattle.wk_module.specs.declared.types.Parts.{Parts as PartsOf};
 ghost use Rattle.wk_session.specs.Runs.{after_one, is_memory, reply_of};
-ghost use Rattle.wk_draft.specs.Drafts.{aside_room};
-ghost use Rattle.wk_draft.specs.Steps.{replaced, shifts_after, unmarked};
+ghost use Rattle.wk_draft.specs.Drafts.{deferred_room};
+ghost use Rattle.wk_draft.specs.Steps.{replaced_entry, shifts_after, deferred_without};
 ghost use Rattle.wk_draft.specs.Runs.{IsHeld, IsStepped};
 
 use crate::bytes::bytes_of_edit;
-use crate::room::{has_room, is_sure};
+use crate::size_bound::{has_room, is_sure};
 use wk_bytes::OutOfMemory;
 use wk_check::verdicts_that_keep;
 use wk_list::Shape;
@@ -19,21 +19,21 @@ use wk_session::{Edit, EditFault, Reply, Session};
 /// What an edit is answered of which no work is told: whether it was made, or why it was refused.
 pub type Answer = Result<(), EditFault>;
 
-/// A draft of a module, in which a stub stands in the place of each body that stands aside.
+/// A draft of a module, in which a stub stands in the place of each deferred body.
 #[derive(Drop)]
 pub(crate) struct Draft {
     /// The draft.
     pub(crate) session: Session,
-    /// For each function of the first module, whether its body stands aside.
-    pub(crate) marks: Vec<bool>,
+    /// For each function of the first module, whether its body is deferred.
+    pub(crate) deferred: Vec<bool>,
     /// Where the references of these bodies stand now.
     pub(crate) shifts: Shifts,
 }
 
 // The function whose body an edit replaces, if it does: which of so many that the module defines. Where references stand says how many it
 // imports, so that no line of a script counts all imports.
-fn replaced(edit: &Edit, shifts: Shifts, defined: usize) -> Option<usize>
-    ensures { result ≡ replaced edit.now (shifts.funcs_from + shifts.funcs_by) defined }
+fn replaced_entry(edit: &Edit, shifts: Shifts, defined: usize) -> Option<usize>
+    ensures { result ≡ replaced_entry edit.now (shifts.funcs_from + shifts.funcs_by) defined }
 {
     let Edit::Body { func, .. } = edit else {
         return None;
@@ -46,15 +46,15 @@ fn replaced(edit: &Edit, shifts: Shifts, defined: usize) -> Option<usize>
     Some(index - imported)
 }
 
-// A body that is replaced stands aside no more.
-fn unmark(marks: &mut Vec<bool>, entry: Option<usize>)
-    ensures { marks.new.items ≡ unmarked entry marks.old.items }
+// A body that is replaced is deferred no more.
+fn clear_deferred(deferred: &mut Vec<bool>, entry: Option<usize>)
+    ensures { deferred.new.items ≡ deferred_without entry deferred.old.items }
 {
     let Some(entry) = entry else {
         return;
     };
-    if entry < marks.len() {
-        marks[entry] = false;
+    if entry < deferred.len() {
+        deferred[entry] = false;
     }
 }
 
@@ -97,7 +97,7 @@ pub(crate) fn step(
     edit: &Edit,
     room: usize,
 ) -> Result<Option<Answer>, OutOfMemory>
-    ensures { (os : List FuncOf) (m : PartsOf) → room ≡ aside_room os → IsHeld os m draft.old
+    ensures { (os : List FuncOf) (m : PartsOf) → room ≡ deferred_room os → IsHeld os m draft.old
         → IfOk result (λ r. IfSome r (λ answer. IsStepped keep edit.now os m answer draft.new)) }
 {
     // The proof asks what these say: that verdicts are kept, that what has moved is formed, and that no code is shorter than its written
@@ -108,7 +108,7 @@ pub(crate) fn step(
     written_form_of_code();
     bytes_of_edit(edit);
     let defined = draft.session.parts().funcs.len();
-    let entry = replaced(edit, draft.shifts, defined);
+    let entry = replaced_entry(edit, draft.shifts, defined);
     let len = draft.session.encoded_len();
     match apply(&mut draft.session, keep, edit) {
         Ok(_) => {
@@ -120,7 +120,7 @@ pub(crate) fn step(
             if !has_room(draft.session.encoded_len(), room) {
                 return Ok(None);
             }
-            unmark(&mut draft.marks, entry);
+            clear_deferred(&mut draft.deferred, entry);
             draft.shifts = shifts;
             Ok(Some(Ok(())))
         }

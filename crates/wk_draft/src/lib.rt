@@ -16,17 +16,17 @@
 //! outline. The edits are made on a draft (`specs/Drafts`): the module with a stub for each of its bodies, which a session holds. A stub is valid
 //! under each type that is there, as the body is that it stands for, and both stay so whatever comes to the module. So the draft has the
 //! verdict of the module and answers each edit as the module would (`Follows` of `specs/Steps`), but for its length, which is bounded: where
-//! a module may be too large, or an import would make it invalid, the draft gives up. A body that is replaced stands aside no more. At the
-//! end each body that does is put in its place, with its references where the imports that came have moved them.
+//! a module may be too large, or an import would make it invalid, the draft gives up. A body that is replaced is deferred no more. At the
+//! end each deferred body is put in its place, with its references where the imports that came have moved them.
 #![tactic(auto)]
 
-mod aside;
-mod breaking;
 mod bytes;
 mod draft;
 mod edited;
-mod room;
+mod predict_refusal;
+mod put_back;
 mod run;
+mod size_bound;
 
 pub use draft::Answer;
 pub use edited::Edited;

@@ -15,14 +15,14 @@ ghost use Rattle.wk_check.specs.Verdict.{module_verdict};
 ghost use Rattle.wk_session.specs.declared.edit.Edit.{Edit as EditOf};
 ghost use Rattle.wk_session.specs.Pieces.{code_of};
 ghost use Rattle.wk_session.specs.Runs.{after, replies_of};
-ghost use Rattle.wk_draft.specs.Drafts.{aside_room};
+ghost use Rattle.wk_draft.specs.Drafts.{deferred_room};
 ghost use Rattle.wk_draft.specs.Runs.{AreAlike, IsDrafted, IsFirst, IsHeld, IsMade, IsOutlined, IsRun};
 
-use crate::aside::codes_now;
-use crate::breaking::would_break;
 use crate::draft::{Answer, Draft, step};
 use crate::edited::Edited;
-use crate::room::{aside_room, has_room};
+use crate::predict_refusal::has_breaking_import;
+use crate::put_back::put_back;
+use crate::size_bound::{deferred_room, has_room};
 use std::alloc::Global;
 use wk_bytes::{Items, OutOfMemory, ReadFault, ReadKind};
 use wk_check::{Verdict, judge_bytes, judge_spelled, laws_of_valid_modules};
@@ -72,15 +72,15 @@ fn shifts_of(parts: &Parts) -> Option<Shifts>
     })
 }
 
-// So many marks.
-fn all_marked(alloc: Global, count: usize) -> Result<Vec<bool>, OutOfMemory>
-    ensures { IfOk result (λ marks. marks.items ≡ replicate count true) }
+// So many flags, all set.
+fn defer_all(alloc: Global, count: usize) -> Result<Vec<bool>, OutOfMemory>
+    ensures { IfOk result (λ deferred. deferred.items ≡ replicate count true) }
 {
-    let mut marks = Vec::with_capacity(alloc, count)?;
+    let mut deferred = Vec::with_capacity(alloc, count)?;
     for _ in 0..count {
-        marks.push_reserved(true);
+        deferred.push_reserved(true);
     }
-    Ok(marks)
+    Ok(deferred)
 }
 
 // A session over the draft, or nothing where it is too large.
@@ -94,10 +94,10 @@ fn session_of(alloc: Global, module: Module) -> Result<Option<Session>, OutOfMem
     }
 }
 
-// Has each body of a draft stand aside, or answers `false` where the draft is not valid, has no such room, or imports too many.
+// Defers each body of a draft, or answers `false` where the draft is not valid, has no such room, or imports too many.
 fn begin_draft(alloc: Global, draft: &mut Draft, room: usize) -> Result<bool, OutOfMemory>
     ensures { (m : PartsOf) → draft.old.session ≡ outlined m → IsShaped m
-        → module_verdict m ≡ Verdict.Valid → room ≡ aside_room m.funcs
+        → module_verdict m ≡ Verdict.Valid → room ≡ deferred_room m.funcs
         → IfOk result (λ begun. begun ≡ true → IsHeld m.funcs m draft.new) }
 {
     // The proof asks what this says: bodies of a valid module are valid.
@@ -106,14 +106,14 @@ fn begin_draft(alloc: Global, draft: &mut Draft, room: usize) -> Result<bool, Ou
     let Some(shifts) = shifts_of(parts) else {
         return Ok(false);
     };
-    let marks = all_marked(alloc, parts.funcs.len())?;
+    let deferred = defer_all(alloc, parts.funcs.len())?;
     let Verdict::Valid = draft.session.verdict() else {
         return Ok(false);
     };
     if !has_room(draft.session.encoded_len(), room) {
         return Ok(false);
     }
-    draft.marks = marks;
+    draft.deferred = deferred;
     draft.shifts = shifts;
     Ok(true)
 }
@@ -126,7 +126,7 @@ fn make_edits(
     edits: &[Edit],
     room: usize,
 ) -> Result<Option<Vec<Answer>>, OutOfMemory>
-    ensures { (os : List FuncOf) (m : PartsOf) → room ≡ aside_room os → IsHeld os m draft.old
+    ensures { (os : List FuncOf) (m : PartsOf) → room ≡ deferred_room os → IsHeld os m draft.old
         → IfOk result (λ r. IfSome r (λ replies. IsHeld os (after keep edits.now [] m) draft.new
         × AreAlike replies.items (replies_of keep edits.now [] m))) }
 {
@@ -152,7 +152,7 @@ fn edit_draft(
         → IfOk result (λ r. IfSome r (λ made.
         IsMade keep m edits.now draft.new made.0.items made.1.items)) }
 {
-    let Some(room) = aside_room(&codes) else {
+    let Some(room) = deferred_room(&codes) else {
         return Ok(None);
     };
     if !begin_draft(alloc, draft, room)? {
@@ -161,10 +161,10 @@ fn edit_draft(
     let Some(replies) = make_edits(alloc, draft, keep, edits, room)? else {
         return Ok(None);
     };
-    if draft.marks.len() != codes.len() {
+    if draft.deferred.len() != codes.len() {
         return Ok(None);
     }
-    let Some(codes) = codes_now(alloc, draft, codes)? else {
+    let Some(codes) = put_back(alloc, draft, codes)? else {
         return Ok(None);
     };
     Ok(Some((codes, replies)))
@@ -203,10 +203,10 @@ fn edit_outlined(
     let Some(session) = session_of(alloc, module)? else {
         return Ok(None);
     };
-    // No body stands aside yet.
+    // No body is deferred yet.
     let mut draft = Draft {
         session,
-        marks: Vec::new(alloc),
+        deferred: Vec::new(alloc),
         shifts: Shifts {
             funcs_from: 0,
             funcs_by: 0,
@@ -224,7 +224,7 @@ fn edit_outlined(
 }
 
 // What is left where no draft is made of an outline: its stubs go, and its codes stay, for a session over the whole module.
-fn unmade(verdict: Option<Verdict>, outline: Outline) -> Drafted
+fn give_up(verdict: Option<Verdict>, outline: Outline) -> Drafted
     ensures { (keep : Bool) (m : PartsOf) (edits : List EditOf) → IfSome verdict (λ v. v ≡ module_verdict m)
         → outline.codes.items ≡ map code_of m.funcs → IsDrafted keep m edits result }
 {
@@ -282,7 +282,7 @@ pub fn edit_valid(
         Err(fault) if fault.kind == ReadKind::Memory => return Err(OutOfMemory),
         Err(_) => return Ok(None),
     };
-    if keep && would_break(outline.module.parts(), edits) {
+    if keep && has_breaking_import(outline.module.parts(), edits) {
         drop(outline);
         return Ok(None);
     }
@@ -312,8 +312,8 @@ pub fn edit_outline(
 {
     // The proof asks what this says: the module is shaped and fits.
     reading_of_module(input, profile);
-    if keep && would_break(outline.module.parts(), edits) {
-        return Ok(unmade(None, outline));
+    if keep && has_breaking_import(outline.module.parts(), edits) {
+        return Ok(give_up(None, outline));
     }
     let verdict = match judge_spelled(alloc, input, profile) {
         Ok(verdict) => verdict,
@@ -323,7 +323,7 @@ pub fn edit_outline(
         }
     };
     let Verdict::Valid = verdict else {
-        return Ok(unmade(Some(verdict), outline));
+        return Ok(give_up(Some(verdict), outline));
     };
     match edit_outlined(alloc, outline, edits, keep)? {
         Some(run) => Ok(Drafted::Made(run)),

@@ -28,12 +28,12 @@ returns-in-Some c = λ m at.
 pub returns-in-None : goal.returns-in-None
 returns-in-None c = λ m at. (sym c.in-Valid.is ∙ c.in-Ok.ensures.exact m at, tt)
 
-pub returns-then-would_break : goal.returns-then-would_break
-returns-then-would_break c = λ m at.
+pub returns-then-has_breaking_import : goal.returns-then-has_breaking_import
+returns-then-has_breaking_import c = λ m at.
     let codes = codes_by (module_at c.args.profile c.args.input.now) c.args.outline.module c.args.outline.codes.items (c.requires.0, c.requires.1, c.requires.2, c.requires.3) m at in
-    c.unmade.ensures c.args.keep m c.args.edits.now tt codes
+    c.give_up.ensures c.args.keep m c.args.edits.now tt codes
 
 pub returns-in_default : goal.returns-in_default
 returns-in_default c = λ m at.
     let codes = codes_by (module_at c.args.profile c.args.input.now) c.args.outline.module c.args.outline.codes.items (c.requires.0, c.requires.1, c.requires.2, c.requires.3) m at in
-    c.unmade-in_default.ensures c.args.keep m c.args.edits.now (c.in-Ok.ensures.exact m at) codes
+    c.give_up-in_default.ensures c.args.keep m c.args.edits.now (c.in-Ok.ensures.exact m at) codes

@@ -5,7 +5,7 @@ use Rattle.wk_module.specs.declared.types.Parts.{Parts}
 use Rattle.wk_session.specs.declared.edit.Edit.{Edit}
 use Rattle.wk_session.specs.declared.edit.EditFault.{EditFault}
 use Rattle.wk_session.specs.Runs.{after, replies_of}
-use Rattle.wk_draft.specs.Drafts.{aside_room}
+use Rattle.wk_draft.specs.Drafts.{deferred_room}
 use Rattle.wk_draft.specs.Runs.{AreAlike, IsHeld, IsStepped}
 use Rattle.wk_draft.proofs.RunSteps.{held_more, alike_more}
 use Rattle.wk_draft.proofs.run.make_edits.Goals as goal
@@ -26,7 +26,7 @@ loop-edit-preserved c =
     let es = c.args.edits.now in
     let i = c.loop-edit.edit-index in
     let inv = c.loop-edit.invariant in
-    let stepped : (os : List Func) (m : Parts) → c.args.room ≡ aside_room os → IsHeld os m c.args.draft.now
+    let stepped : (os : List Func) (m : Parts) → c.args.room ≡ deferred_room os → IsHeld os m c.args.draft.now
     → IsStepped c.args.keep c.edit-item.result os (after c.args.keep (take i es) [] m) c.in-Some.answer c.step.new.draft
     = λ os m room is. rw c.in-Some.is at (c.in_ok-answer.ensures os (after c.args.keep (take i es) [] m) room (inv.held os m room is)) in
     record {

@@ -1,6 +1,6 @@
 use Rattle.std.proofs.Common.{◌≡◌, ◌+◌, ◌*◌, length, take}
 use Rattle.std.specs.List.{sum_by}
-use Rattle.wk_draft.proofs.room.aside_room.Given as goal
+use Rattle.wk_draft.proofs.size_bound.deferred_room.Given as goal
 
 abbrev pub invariant-loop-code : goal.invariant-loop-code
 invariant-loop-code l = record {

@@ -1,6 +1,6 @@
 use Rattle.std.proofs.Common.{◌≡◌, ◌-◌, ◌≤◌, ◌++◌, None, vec_len}
 use Rattle.std.specs.Prelude.{replicate}
-use Rattle.wk_draft.proofs.aside.codes_now.Given as goal
+use Rattle.wk_draft.proofs.put_back.put_back.Given as goal
 
 abbrev pub invariant-loop-news : goal.invariant-loop-news
 invariant-loop-news l = record {

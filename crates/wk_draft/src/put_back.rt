@@ -1,4 +1,4 @@
-//! The codes of the bodies that stand aside, as they are put back.
+//! The codes of the deferred bodies, as they are put back.
 
 ghost use Rattle.std.specs.Prelude.{◌≡◌, List, true, length, map, IfOk, IfSome};
 ghost use Rattle.std.specs.List.{AllByRecursion};
@@ -11,7 +11,7 @@ ghost use Rattle.wk_module.specs.declared.types.Parts.{Parts as PartsOf};
 ghost use Rattle.wk_module.specs.Items.{IsCode};
 ghost use Rattle.wk_session.specs.Overlays.{with_items};
 ghost use Rattle.wk_session.specs.Pieces.{code_of};
-ghost use Rattle.wk_draft.specs.Runs.{IsHeld, aside_codes};
+ghost use Rattle.wk_draft.specs.Runs.{IsHeld, deferred_codes};
 
 use crate::draft::Draft;
 use std::alloc::Global;
@@ -27,7 +27,7 @@ fn are_still(shifts: Shifts) -> bool
 }
 
 // A code with its references where they stand now, or nothing where one has no place.
-fn code_now(
+fn renumber_code(
     alloc: Global,
     room: &mut Vec<u8>,
     code: Items<u8>,
@@ -46,25 +46,26 @@ fn code_now(
     Ok(Some(Items::from_vec(Vec::from_slice(alloc, room)?)))
 }
 
-// The codes of the bodies that stand aside, in their places.
-fn codes_aside(
+// The codes of the deferred bodies, in their places.
+fn renumber_codes(
     alloc: Global,
-    marks: &Vec<bool>,
+    deferred: &Vec<bool>,
     codes: Vec<Items<u8>>,
     shifts: Shifts,
 ) -> Result<Option<Vec<Option<Items<u8>>>>, OutOfMemory>
-    requires { length marks.now.items ≡ length codes.items }
+    requires { length deferred.now.items ≡ length codes.items }
     ensures { (profile : ProfileOf) (os : List FuncOf) → codes.items ≡ map code_of os → AllByRecursion (λ o. IsCode profile o.body) os
-        → IfOk result (λ r. IfSome r (λ news. news.items ≡ aside_codes shifts os marks.now.items)) }
+        → IfOk result (λ r. IfSome r (λ news.
+        news.items ≡ deferred_codes shifts os deferred.now.items)) }
 {
     let mut news = Vec::with_capacity(alloc, codes.len())?;
     let mut room = Vec::new(alloc);
     for code in codes {
-        if !marks[news.len()] {
+        if !deferred[news.len()] {
             news.push_reserved(None);
             continue;
         }
-        let Some(code) = code_now(alloc, &mut room, code, shifts)? else {
+        let Some(code) = renumber_code(alloc, &mut room, code, shifts)? else {
             return Ok(None);
         };
         news.push_reserved(Some(code));
@@ -74,19 +75,19 @@ fn codes_aside(
 
 /// The codes that come in the place of those of the draft, one for each function or nothing; or nothing where one can't be put back.
 /// `codes` are those of the first module.
-pub(crate) fn codes_now(
+pub(crate) fn put_back(
     alloc: Global,
     draft: &Draft,
     codes: Vec<Items<u8>>,
 ) -> Result<Option<Vec<Option<Items<u8>>>>, OutOfMemory>
-    requires { length draft.now.marks.items ≡ length codes.items }
+    requires { length draft.now.deferred.items ≡ length codes.items }
     ensures many { IfOk result (λ r. IfSome r (λ news. length news.items ≡ length draft.now.session.funcs)) }
     ensures codes { (profile : ProfileOf) (os : List FuncOf) (m : PartsOf) → codes.items ≡ map code_of os → AllByRecursion (λ o. IsCode profile o.body) os
         → IsHeld os m draft.now
         → IfOk result (λ r. IfSome r (λ news. with_items (map code_of draft.now.session.funcs) news.items ≡ map code_of m.funcs)) }
 {
     let count = draft.session.parts().funcs.len();
-    let Some(mut news) = codes_aside(alloc, &draft.marks, codes, draft.shifts)? else {
+    let Some(mut news) = renumber_codes(alloc, &draft.deferred, codes, draft.shifts)? else {
         return Ok(None);
     };
     if news.len() > count {

@@ -1,10 +1,10 @@
 use Rattle.std.proofs.Common.{◌≡◌, ◌≤◌, true, vec_len, vec_capacity}
 use Rattle.std.specs.Prelude.{replicate}
-use Rattle.wk_draft.proofs.run.all_marked.Given as goal
+use Rattle.wk_draft.proofs.run.defer_all.Given as goal
 
 abbrev pub invariant-loop : goal.invariant-loop
 invariant-loop l = record {
-  items : l.marks.items ≡ replicate l.counter true;
-  len : vec_len l.marks ≡ l.counter;
-  room : l.count ≤ vec_capacity l.marks;
+  items : l.deferred.items ≡ replicate l.counter true;
+  len : vec_len l.deferred ≡ l.counter;
+  room : l.count ≤ vec_capacity l.deferred;
 }

@@ -5,16 +5,16 @@ ghost use Rattle.wk_bytes.specs.Frames.{limit};
 ghost use Rattle.wk_module.specs.declared.types.Func.{Func as FuncOf};
 ghost use Rattle.wk_check.specs.declared.fault.Fault.{Fault as FaultOf};
 ghost use Rattle.wk_session.specs.Pieces.{code_of};
-ghost use Rattle.wk_draft.specs.Drafts.{aside_room};
+ghost use Rattle.wk_draft.specs.Drafts.{deferred_room};
 ghost use Rattle.wk_draft.specs.Steps.{edit_room, IsSure};
 
 use wk_bytes::{Items, LIMIT, leb_len_u32};
 use wk_session::{Edit, EditFault};
 
-/// By how many bytes a module may be longer than its draft, whose bodies that stand aside have these codes at most; or nothing where that
+/// By how many bytes a module may be longer than its draft, whose deferred bodies have these codes at most; or nothing where that
 /// is too much to tell.
-pub(crate) fn aside_room(codes: &Vec<Items<u8>>) -> Option<usize>
-    ensures { IfSome result (λ room. (os : List FuncOf) → codes.now.items ≡ map code_of os → room ≡ aside_room os) }
+pub(crate) fn deferred_room(codes: &Vec<Items<u8>>) -> Option<usize>
+    ensures { IfSome result (λ room. (os : List FuncOf) → codes.now.items ≡ map code_of os → room ≡ deferred_room os) }
 {
     let mut total: usize = 0;
     for code in codes {

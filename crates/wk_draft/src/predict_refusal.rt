@@ -22,7 +22,7 @@ fn may_stand(profile: Profile, ty: &FuncType) -> bool {
 /// Whether an import looks as if it would leave an invalid module, by the types, tables and memories that are there when its turn comes, where
 /// each edit has to leave a valid one. The draft would give up at it, behind the work of all edits in front of it. What comes of the
 /// edits is the same either way.
-pub(crate) fn would_break(parts: &Parts, edits: &[Edit]) -> bool {
+pub(crate) fn has_breaking_import(parts: &Parts, edits: &[Edit]) -> bool {
     let imports = parts.imports.as_slice();
     let mut types = parts.types.len();
     let mut has_table = !parts.tables.is_empty() || import_count(imports, Kind::Table) > 0;

@@ -1,5 +1,5 @@
 use Rattle.wk_draft.proofs.Rooms.{one_grown, all_grown}
-use Rattle.wk_draft.proofs.room.aside_room.Goals as goal
+use Rattle.wk_draft.proofs.size_bound.deferred_room.Goals as goal
 
 pub loop-code-preserved : goal.loop-code-preserved
 loop-code-preserved c = record {

@@ -2,12 +2,12 @@ use Rattle.std.proofs.Common.{rules, ◌≡◌, ◌∙◌, suc, [], ◌∷◌, �
 use Rattle.std.proofs.lemmas.Iterator.Adapters.{YieldsList-from_vec}
 use Rattle.std.proofs.lemmas.Iterator.Consumers.{YieldsList-turn, YieldsList-end}
 use Rattle.std.proofs.lemmas.List.{length_push}
-use Rattle.wk_draft.proofs.AsideCodes.{IsNew, made_none, made_more, made_all}
-use Rattle.wk_draft.proofs.aside.codes_aside.Goals as goal
+use Rattle.wk_draft.proofs.DeferredCodes.{IsNew, made_none, made_more, made_all}
+use Rattle.wk_draft.proofs.put_back.renumber_codes.Goals as goal
 
 pub loop-code-init : goal.loop-code-init
 loop-code-init c = record {
-  made = made_none c.args.shifts c.args.codes.items c.args.marks.now.items c.in_ok-news.news.items c.in_ok-news.ensures.items;
+  made = made_none c.args.shifts c.args.codes.items c.args.deferred.now.items c.in_ok-news.news.items c.in_ok-news.ensures.items;
   len = omega (arith, c.in_ok-news.ensures.len);
   room = omega (arith, c.in_ok-news.ensures.capacity, c.in_ok-news.ensures.exact);
 }
@@ -16,7 +16,7 @@ pub index-requires : goal.index-requires
 index-requires c =
     let all = YieldsList-from_vec {s = c.into_iter-code-iterator.result} c.args.codes.items (search rules) (search rules) in
     let turn = YieldsList-turn all c.loop-code.yielded c.loop-code.code-iterator c.loop-code.yielded_by c.next.result c.next.new.self c.in-Some.code c.in-Some.is c.next.ensures.steps in
-    omega (arith, turn.0, c.loop-code.invariant.len, c.len-in-loop-code.ensures, c.requires, c.args.marks.now.ok.0)
+    omega (arith, turn.0, c.loop-code.invariant.len, c.len-in-loop-code.ensures, c.requires, c.args.deferred.now.ok.0)
 
 pub push_reserved-requires : goal.push_reserved-requires
 push_reserved-requires c =
@@ -28,15 +28,16 @@ pub loop-code-preserved-then-not-index : goal.loop-code-preserved-then-not-index
 loop-code-preserved-then-not-index c =
     let inv = c.loop-code.invariant in
     let i = length c.loop-code.yielded in
-    let marks = c.args.marks.now.items in
+    let deferred = c.args.deferred.now.items in
     let all = YieldsList-from_vec {s = c.into_iter-code-iterator.result} c.args.codes.items (search rules) (search rules) in
     let turn = YieldsList-turn all c.loop-code.yielded c.loop-code.code-iterator c.loop-code.yielded_by c.next.result c.next.new.self c.in-Some.code c.in-Some.is c.next.ensures.steps in
     let place : c.len-in-loop-code.result ≡ i = omega (arith, c.len-in-loop-code.ensures, inv.len) in
     let longer : length (c.loop-code.yielded ++ c.in-Some.code ∷ []) ≡ suc i = omega (arith, length_push c.loop-code.yielded c.in-Some.code) in
-    let mark : c.index.result.now ≡ get_or marks i c.index.result.now = c.index.ensures ∙ ap (λ k. get_or marks k c.index.result.now) place in
+    let flag : c.index.result.now ≡ get_or deferred i c.index.result.now = c.index.ensures ∙ ap (λ k. get_or deferred k c.index.result.now) place in
     record {
-      made = made_more c.args.shifts c.args.codes.items marks i _ c.in-Some.code c.index.result.now None c.loop-code.news.items c.push_reserved.new.self.items
-          c.requires turn.0 longer turn.1 mark c.push_reserved.ensures.items (subst (IsNew c.args.shifts c.in-Some.code None) (sym c.if-not-index.true) refl) inv.made;
+      made = made_more c.args.shifts c.args.codes.items deferred i _ c.in-Some.code c.index.result.now None c.loop-code.news.items
+          c.push_reserved.new.self.items
+          c.requires turn.0 longer turn.1 flag c.push_reserved.ensures.items (subst (IsNew c.args.shifts c.in-Some.code None) (sym c.if-not-index.true) refl) inv.made;
       len = omega (arith, c.push_reserved.ensures.len, inv.len, longer);
       room = omega (arith, c.push_reserved.ensures.capacity, inv.room);
     }
@@ -51,17 +52,17 @@ pub loop-code-preserved : goal.loop-code-preserved
 loop-code-preserved c =
     let inv = c.loop-code.invariant in
     let i = length c.loop-code.yielded in
-    let marks = c.args.marks.now.items in
+    let deferred = c.args.deferred.now.items in
     let new = c.in-Some-2.code in
     let all = YieldsList-from_vec {s = c.into_iter-code-iterator.result} c.args.codes.items (search rules) (search rules) in
     let turn = YieldsList-turn all c.loop-code.yielded c.loop-code.code-iterator c.loop-code.yielded_by c.next.result c.next.new.self c.in-Some.code c.in-Some.is c.next.ensures.steps in
     let place : c.len-in-loop-code.result ≡ i = omega (arith, c.len-in-loop-code.ensures, inv.len) in
     let longer : length (c.loop-code.yielded ++ c.in-Some.code ∷ []) ≡ suc i = omega (arith, length_push c.loop-code.yielded c.in-Some.code) in
-    let mark : c.index.result.now ≡ get_or marks i c.index.result.now = c.index.ensures ∙ ap (λ k. get_or marks k c.index.result.now) place in
+    let flag : c.index.result.now ≡ get_or deferred i c.index.result.now = c.index.ensures ∙ ap (λ k. get_or deferred k c.index.result.now) place in
     let is = rw c.in-Some-2.is at c.in_ok-code.ensures in
     record {
-      made = made_more c.args.shifts c.args.codes.items marks i _ c.in-Some.code c.index.result.now (Some new) c.loop-code.news.items c.push_reserved-in-loop-code.new.self.items
-          c.requires turn.0 longer turn.1 mark c.push_reserved-in-loop-code.ensures.items
+      made = made_more c.args.shifts c.args.codes.items deferred i _ c.in-Some.code c.index.result.now (Some new) c.loop-code.news.items c.push_reserved-in-loop-code.new.self.items
+          c.requires turn.0 longer turn.1 flag c.push_reserved-in-loop-code.ensures.items
           (subst (IsNew c.args.shifts c.in-Some.code (Some new)) (sym c.if-not-index.false) (λ profile b is_code told. ap Some (is profile b is_code told))) inv.made;
       len = omega (arith, c.push_reserved-in-loop-code.ensures.len, inv.len, longer);
       room = omega (arith, c.push_reserved-in-loop-code.ensures.capacity, inv.room);
@@ -71,4 +72,4 @@ pub returns : goal.returns
 returns c =
     let all = YieldsList-from_vec {s = c.into_iter-code-iterator.result} c.args.codes.items (search rules) (search rules) in
     let end = YieldsList-end all c.loop-code.yielded c.loop-code.code-iterator c.loop-code.yielded_by c.next.result c.next.new.self c.in-None.is c.next.ensures.steps in
-    made_all c.args.shifts c.args.codes.items c.args.marks.now.items c.loop-code.news.items (length c.loop-code.yielded) (omega (arith, end.1)) c.loop-code.invariant.made
+    made_all c.args.shifts c.args.codes.items c.args.deferred.now.items c.loop-code.news.items (length c.loop-code.yielded) (omega (arith, end.1)) c.loop-code.invariant.made

@@ -3,8 +3,8 @@ use Rattle.std.specs.Prelude.{replicate}
 use Rattle.wk_check.specs.SpacesLaws.{answers_of}
 use Rattle.wk_session.specs.Overlays.{with_items}
 use Rattle.wk_session.specs.Pieces.{code_of}
-use Rattle.wk_draft.proofs.AsideCodes.{aside_put, filled_none, filled_more}
-use Rattle.wk_draft.proofs.aside.codes_now.Goals as goal
+use Rattle.wk_draft.proofs.DeferredCodes.{deferred_put, filled_none, filled_more}
+use Rattle.wk_draft.proofs.put_back.put_back.Goals as goal
 
 pub loop-news-init : goal.loop-news-init
 loop-news-init c = record {
@@ -38,4 +38,4 @@ returns-clause-codes c = λ profile os m told all held.
     let made = rw c.in-Some.is at c.in_ok-news.ensures in
     let news : c.loop-news.news.items ≡ _ ++ replicate k None = c.loop-news.invariant.filled ∙ ap (λ ns. ns ++ replicate k None) (made profile os told all) in
     ap (with_items (map code_of d.session.funcs)) news
-    ∙ aside_put m.profile (answers_of m) d.shifts os d.marks.items m.funcs d.session.funcs k held.draft.sketch.funcs
+    ∙ deferred_put m.profile (answers_of m) d.shifts os d.deferred.items m.funcs d.session.funcs k held.draft.sketch.funcs
