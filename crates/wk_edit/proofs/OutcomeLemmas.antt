@@ -22,7 +22,7 @@ use Rattle.wk_session.specs.Runs.{is_memory, reply_of, after_one, replies_of, af
 use Rattle.wk_edit.specs.declared.fault.ScriptFault.{ScriptFault}
 use Rattle.wk_edit.specs.declared.fault.Status.{Status}
 use Rattle.wk_edit.specs.declared.fault.RunFault.{RunFault}
-use Rattle.wk_edit.specs.declared.prepared.Prepared.{Prepared}
+use Rattle.wk_edit.specs.declared.prepare.Prepared.{Prepared}
 use Rattle.wk_edit.specs.Script.{script_of}
 use Rattle.wk_edit.specs.ScriptGrammar.{IsScript, IsOnlyScript, IsNoScript, IsFaultOf}
 use Rattle.wk_edit.specs.ReportText.{report_text}

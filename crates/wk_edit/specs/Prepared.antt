@@ -9,11 +9,11 @@ use Rattle.wk_module.specs.Outlines.{outlined}
 use Rattle.wk_module.specs.Reading.{module_at}
 use Rattle.wk_module.specs.Writing.{encoded}
 use Rattle.wk_session.specs.declared.edit.EditFault.{EditFault}
-use Rattle.wk_edit.specs.declared.prepared.Made.{Made}
-use Rattle.wk_edit.specs.declared.prepared.Made.TheVariants.{Nothing, Session, Edited}
-use Rattle.wk_edit.specs.declared.prepared.Opened.{Opened}
-use Rattle.wk_edit.specs.declared.prepared.Opened.TheVariants.{Whole, Outlined}
-use Rattle.wk_edit.specs.declared.prepared.Prepared.{Prepared}
+use Rattle.wk_edit.specs.declared.prepare.EditedModule.{EditedModule}
+use Rattle.wk_edit.specs.declared.prepare.EditedModule.TheVariants.{Nothing, Session, Edited}
+use Rattle.wk_edit.specs.declared.prepare.Opened.{Opened}
+use Rattle.wk_edit.specs.declared.prepare.Opened.TheVariants.{Whole, Outlined}
+use Rattle.wk_edit.specs.declared.prepare.Prepared.{Prepared}
 use Rattle.wk_edit.specs.Outcome.{Outcome, out_of}
 
 -- the module, or bytes that spell it and its outline
@@ -28,7 +28,7 @@ is_made (Ok told) = true
 is_made (Err fault) = false
 
 -- what is written of the module
-abbrev pub made_bytes : Made → List ℕ
+abbrev pub made_bytes : EditedModule → List ℕ
 made_bytes Nothing = []
 made_bytes (Session m) = encoded m
 made_bytes (Edited bytes) = bytes

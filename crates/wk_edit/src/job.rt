@@ -7,23 +7,23 @@ ghost use Rattle.wk_edit.specs.Prepared.{IsPrepared, made_bytes};
 ghost use Rattle.wk_edit.specs.Theorem.{IsReport};
 
 use crate::fault::{RunFault, Status};
-use crate::prepared::{Made, Prepared, prepare};
+use crate::prepare::{EditedModule, Prepared, prepare};
 use std::alloc::Global;
 use wk_bytes::{Out, OutFault, put_all};
 use wk_module::Profile;
 use wk_session::WriteFault;
 
 // Writes the edited module, if there is one.
-fn write_edited<W: Out>(made: &Made, out: &mut W) -> Result<(), WriteFault>
+fn write_edited<W: Out>(made: &EditedModule, out: &mut W) -> Result<(), WriteFault>
     requires { W.failed out.old < 2 ^ 64 - 1 }
     ensures ok { OnOk result (Appends (W.taken out.old) (W.taken out.new) (made_bytes made.now)) }
     ensures err { IfErr result (Leaves (W.taken out.old) (W.taken out.new) (made_bytes made.now)) }
     ensures failures { W.failed out.new ≡ failures_after_write (W.failed out.old) result }
 {
     match made {
-        Made::Nothing => Ok(()),
-        Made::Session(session) => session.write(out),
-        Made::Edited(edited) => edited.write(out),
+        EditedModule::Nothing => Ok(()),
+        EditedModule::Session(session) => session.write(out),
+        EditedModule::Edited(edited) => edited.write(out),
     }
 }
 

@@ -28,7 +28,7 @@ mod lines;
 mod name;
 mod number;
 mod pieces;
-mod prepared;
+mod prepare;
 mod script;
 mod types;
 mod verb;

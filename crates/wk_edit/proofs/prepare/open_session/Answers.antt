@@ -1,4 +1,4 @@
-use Rattle.wk_edit.proofs.prepared.session_over.Goals as goal
+use Rattle.wk_edit.proofs.prepare.open_session.Goals as goal
 
 pub open_judged-requires : goal.open_judged-requires
 open_judged-requires c = λ m at. rw c.in-None-Some.is-1 at (c.requires.judged m at)

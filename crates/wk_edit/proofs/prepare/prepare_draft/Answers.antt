@@ -5,7 +5,7 @@ use Rattle.wk_draft.specs.Runs.{AreAlike}
 use Rattle.wk_edit.specs.Outcome.{run_status}
 use Rattle.wk_edit.specs.ReportText.{report_text}
 use Rattle.wk_edit.proofs.OutcomeLemmas.{spelled_once}
-use Rattle.wk_edit.proofs.prepared.of_draft.Goals as goal
+use Rattle.wk_edit.proofs.prepare.prepare_draft.Goals as goal
 
 pub returns-in-Ok-clause-ok : goal.returns-in-Ok-clause-ok
 returns-in-Ok-clause-ok c = λ keep m edits is.

@@ -1,11 +1,11 @@
 use Rattle.wk_edit.proofs.OutcomeLemmas.{malformed_ok, malformed_means}
-use Rattle.wk_edit.proofs.prepared.prepare.Goals as goal
+use Rattle.wk_edit.proofs.prepare.prepare.Goals as goal
 
 pub returns-in-Err-clause-ok : goal.returns-in-Err-clause-ok
-returns-in-Err-clause-ok c = malformed_ok c.args.keep_valid c.args.profile c.args.input.items c.args.script.now _ c.in-Err.fault c.of_malformed.ensures.ok c.of_malformed.ensures.other c.in-Err.ensures.exact
+returns-in-Err-clause-ok c = malformed_ok c.args.keep_valid c.args.profile c.args.input.items c.args.script.now _ c.in-Err.fault c.prepare_malformed.ensures.ok c.prepare_malformed.ensures.other c.in-Err.ensures.exact
 
 pub returns-in-Err-clause-means : goal.returns-in-Err-clause-means
-returns-in-Err-clause-means c = malformed_means c.args.keep_valid c.args.profile c.args.input.items c.args.script.now _ c.in-Err.fault c.of_malformed.ensures.other c.in-Err.ensures.exact c.in-Err.ensures.is
+returns-in-Err-clause-means c = malformed_means c.args.keep_valid c.args.profile c.args.input.items c.args.script.now _ c.in-Err.fault c.prepare_malformed.ensures.other c.in-Err.ensures.exact c.in-Err.ensures.is
 
 pub returns-in-Ok-clause-ok : goal.returns-in-Ok-clause-ok
 returns-in-Ok-clause-ok c = c.run_script.ensures.ok c.in-Ok.ensures.exact.0 c.args.input.items c.in-Ok.ensures.exact.2 c.in-Ok.ensures.exact.1

@@ -6,7 +6,7 @@ use Rattle.wk_session.specs.Runs.{is_memory}
 use Rattle.wk_draft.specs.Runs.{AreAlike}
 use Rattle.wk_edit.proofs.DraftOutcomes.{all_same}
 use Rattle.wk_edit.proofs.OutcomeLemmas.{ran_made, ran_spelled, ran_report, ran_status, spelled_once}
-use Rattle.wk_edit.proofs.prepared.run_session.Goals as goal
+use Rattle.wk_edit.proofs.prepare.run_session.Goals as goal
 
 pub returns-clause-ok : goal.returns-clause-ok
 returns-clause-ok c =

@@ -33,7 +33,7 @@ use wk_session::{Edit, EditFault, Reply, Session};
 
 /// The edited module, if there is one.
 #[derive(Drop)]
-pub(crate) enum Made {
+pub(crate) enum EditedModule {
     /// None.
     Nothing,
     /// In a session over it.
@@ -46,7 +46,7 @@ pub(crate) enum Made {
 #[derive(Drop)]
 pub(crate) struct Prepared {
     /// The edited module.
-    pub made: Made,
+    pub made: EditedModule,
     /// The report.
     pub text: String,
     /// How the run ends.
@@ -54,7 +54,7 @@ pub(crate) struct Prepared {
 }
 
 // Of an input that spells no module.
-fn of_malformed(alloc: Global, fault: &ReadFault) -> Result<Prepared, RunFault>
+fn prepare_malformed(alloc: Global, fault: &ReadFault) -> Result<Prepared, RunFault>
     ensures ok { IfOk result (IsPrepared (malformed_outcome fault.now)) }
     ensures other { OnOk result (fault.now.kind ≢ ReadKind.Memory) }
     ensures memory { IfErr result (λ e. e ≡ RunFault.Memory) }
@@ -64,14 +64,14 @@ fn of_malformed(alloc: Global, fault: &ReadFault) -> Result<Prepared, RunFault>
     }
     let text = malformed_line(alloc, fault)?;
     Ok(Prepared {
-        made: Made::Nothing,
+        made: EditedModule::Nothing,
         text,
         status: Status::Malformed,
     })
 }
 
 // Of a script that is refused.
-fn of_script(alloc: Global, fault: &ScriptFault) -> Result<Prepared, RunFault>
+fn prepare_script_fault(alloc: Global, fault: &ScriptFault) -> Result<Prepared, RunFault>
     ensures ok { IfOk result (IsPrepared (script_outcome fault.now)) }
     ensures other { OnOk result (fault.now ≢ ScriptFault.Memory) }
     ensures memory { IfErr result (λ e. e ≡ RunFault.Memory) }
@@ -81,7 +81,7 @@ fn of_script(alloc: Global, fault: &ScriptFault) -> Result<Prepared, RunFault>
     }
     let text = refused_script(alloc, fault)?;
     Ok(Prepared {
-        made: Made::Nothing,
+        made: EditedModule::Nothing,
         text,
         status: Status::BadScript,
     })
@@ -139,7 +139,7 @@ fn run_session(
     keep_valid: bool,
 ) -> Result<(String, Status), RunFault>
     ensures ok { IfOk result (λ told. IsPrepared (run_outcome keep_valid session.old edits.now)
-        (record { made = Made.Session session.new; text = told.0; status = told.1 })) }
+        (record { made = EditedModule.Session session.new; text = told.0; status = told.1 })) }
     ensures memory { IfErr result (λ e. e ≡ RunFault.Memory) }
 {
     // The proof asks what these say: the written form of a module spells it, and no other.
@@ -157,7 +157,7 @@ fn run_session(
 }
 
 // Of a run of edits.
-fn of_run(
+fn prepare_run(
     alloc: Global,
     session: Session,
     edits: &[Edit],
@@ -169,7 +169,7 @@ fn of_run(
     let mut session = session;
     match run_session(alloc, &mut session, edits, keep_valid) {
         Ok((text, status)) => Ok(Prepared {
-            made: Made::Session(session),
+            made: EditedModule::Session(session),
             text,
             status,
         }),
@@ -182,7 +182,7 @@ fn of_run(
 }
 
 // Of a run of edits of which the untouched bodies stayed bytes.
-fn of_draft(alloc: Global, run: Run) -> Result<Prepared, RunFault>
+fn prepare_draft(alloc: Global, run: Run) -> Result<Prepared, RunFault>
     ensures ok { (keep : Bool) (m : PartsOf) (edits : List EditOf) → IsRun keep m edits run
         → IfOk result (IsPrepared (run_outcome keep m edits)) }
     ensures memory { IfErr result (λ e. e ≡ RunFault.Memory) }
@@ -198,7 +198,7 @@ fn of_draft(alloc: Global, run: Run) -> Result<Prepared, RunFault>
     let status = status_of(&replies, &verdict);
     match report(alloc, &replies, &verdict) {
         Ok(text) => Ok(Prepared {
-            made: Made::Edited(edited),
+            made: EditedModule::Edited(edited),
             text,
             status,
         }),
@@ -210,7 +210,7 @@ fn of_draft(alloc: Global, run: Run) -> Result<Prepared, RunFault>
 }
 
 // A session over a module whose verdict may be known, and whose codes may be at hand: then it is not judged again, and they are not written.
-fn session_over(
+fn open_session(
     alloc: Global,
     input: &[u8],
     verdict: Option<Verdict>,
@@ -231,7 +231,7 @@ fn session_over(
 }
 
 // Makes the edits on a module that is held whole. Its bytes are let go once it is read.
-fn by_session(
+fn run_whole(
     alloc: Global,
     input: Vec<u8>,
     verdict: Option<Verdict>,
@@ -248,10 +248,10 @@ fn by_session(
         → IfOk result (IsPrepared (run_outcome keep_valid m edits.now)) }
     ensures memory { IfErr result (λ e. e ≡ RunFault.Memory) }
 {
-    let opened = session_over(alloc, &input, verdict, codes, profile);
+    let opened = open_session(alloc, &input, verdict, codes, profile);
     drop(input);
     match opened {
-        Ok(session) => of_run(alloc, session, edits, keep_valid),
+        Ok(session) => prepare_run(alloc, session, edits, keep_valid),
         Err(fault) if fault.kind == ReadKind::Memory => Err(RunFault::Memory),
         // The bytes spell a module.
         Err(_) => unreachable!(),
@@ -302,13 +302,13 @@ fn run_edits(
     ensures memory { IfErr result (λ e. e ≡ RunFault.Memory) }
 {
     let (outline, input) = match opened {
-        Opened::Whole(session) => return of_run(alloc, session, edits, keep_valid),
+        Opened::Whole(session) => return prepare_run(alloc, session, edits, keep_valid),
         Opened::Outlined { outline, input } => (outline, input),
     };
     match edit_outline(alloc, outline, &input, profile, edits, keep_valid)? {
-        Drafted::Made(run) => of_draft(alloc, run),
+        Drafted::Made(run) => prepare_draft(alloc, run),
         Drafted::Unmade { verdict, codes } => {
-            by_session(alloc, input, verdict, codes, edits, keep_valid, profile)
+            run_whole(alloc, input, verdict, codes, edits, keep_valid, profile)
         }
     }
 }
@@ -337,7 +337,7 @@ fn run_script(
         Ok(edits) => run_edits(alloc, opened, &edits, keep_valid, profile),
         Err(fault) => {
             drop(opened);
-            of_script(alloc, &fault)
+            prepare_script_fault(alloc, &fault)
         }
     }
 }
@@ -358,6 +358,6 @@ pub(crate) fn prepare(
 {
     match open(alloc, input, profile) {
         Ok(opened) => run_script(alloc, opened, script, keep_valid, profile),
-        Err(fault) => of_malformed(alloc, &fault),
+        Err(fault) => prepare_malformed(alloc, &fault),
     }
 }

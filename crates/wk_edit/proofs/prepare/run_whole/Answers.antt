@@ -5,17 +5,17 @@ use Rattle.wk_module.specs.Reading.{module_at}
 use Rattle.wk_edit.specs.Outcome.{run_outcome}
 use Rattle.wk_edit.specs.Prepared.{IsPrepared}
 use Rattle.wk_edit.proofs.OutcomeLemmas.{same_module}
-use Rattle.wk_edit.proofs.prepared.by_session.Goals as goal
+use Rattle.wk_edit.proofs.prepare.run_whole.Goals as goal
 
-pub session_over-opened-requires-clause-judged : goal.session_over-opened-requires-clause-judged
-session_over-opened-requires-clause-judged c = λ m at.
+pub open_session-opened-requires-clause-judged : goal.open_session-opened-requires-clause-judged
+open_session-opened-requires-clause-judged c = λ m at.
     c.requires.judged m (subst (λ (b : List ℕ). module_at c.args.profile b ≡ Ok m) c.deref.ensures.value at)
 
-pub session_over-opened-requires-clause-codes : goal.session_over-opened-requires-clause-codes
-session_over-opened-requires-clause-codes c = λ m at.
+pub open_session-opened-requires-clause-codes : goal.open_session-opened-requires-clause-codes
+open_session-opened-requires-clause-codes c = λ m at.
     c.requires.codes m (subst (λ (b : List ℕ). module_at c.args.profile b ≡ Ok m) c.deref.ensures.value at)
 
 pub returns-in-Ok-clause-ok : goal.returns-in-Ok-clause-ok
 returns-in-Ok-clause-ok c = λ m at.
     let same = same_module c.args.profile c.deref.result.now c.args.input.items c.in-Ok.session m c.deref.ensures.value c.in-Ok.ensures at in
-    subst (λ (p : Parts). IfOk c.of_run.result (IsPrepared (run_outcome c.args.keep_valid p c.args.edits.now))) same c.of_run.ensures.ok
+    subst (λ (p : Parts). IfOk c.prepare_run.result (IsPrepared (run_outcome c.args.keep_valid p c.args.edits.now))) same c.prepare_run.ensures.ok

@@ -3,19 +3,19 @@ use Rattle.std.specs.Prelude.{IfOk}
 use Rattle.wk_session.specs.declared.edit.Edit.{Edit}
 use Rattle.wk_session.specs.ToldLaws.{ReadsCode}
 use Rattle.wk_edit.specs.declared.fault.RunFault.{RunFault}
-use Rattle.wk_edit.specs.declared.prepared.Prepared.{Prepared}
+use Rattle.wk_edit.specs.declared.prepare.Prepared.{Prepared}
 use Rattle.wk_edit.specs.Outcome.{outcome_of, run_outcome}
 use Rattle.wk_edit.specs.Prepared.{IsPrepared}
 use Rattle.wk_edit.proofs.OutcomeLemmas.{ran_ok, ran_means, script_ok, script_means}
-use Rattle.wk_edit.proofs.prepared.run_script.Goals as goal
+use Rattle.wk_edit.proofs.prepare.run_script.Goals as goal
 
 pub returns-in-Err-clause-ok : goal.returns-in-Err-clause-ok
 returns-in-Err-clause-ok c = λ m input opened read.
-    script_ok c.args.keep_valid c.args.profile input c.args.script.now _ m c.in-Err.fault c.of_script.ensures.ok c.of_script.ensures.other read c.in-Err.ensures.exact
+    script_ok c.args.keep_valid c.args.profile input c.args.script.now _ m c.in-Err.fault c.prepare_script_fault.ensures.ok c.prepare_script_fault.ensures.other read c.in-Err.ensures.exact
 
 pub returns-in-Err-clause-means : goal.returns-in-Err-clause-means
 returns-in-Err-clause-means c = λ m input opened read is.
-    script_means c.args.keep_valid c.args.profile input c.args.script.now _ m c.in-Err.fault c.of_script.ensures.other is
+    script_means c.args.keep_valid c.args.profile input c.args.script.now _ m c.in-Err.fault c.prepare_script_fault.ensures.other is
     read c.in-Err.ensures.exact c.in-Err.ensures.refused c.in-Err.ensures.fault
 
 pub returns-in-Ok-clause-ok : goal.returns-in-Ok-clause-ok
