@@ -17,7 +17,7 @@ pub mod Spelled
 pub mod Standing
 pub mod Promised
 pub mod Encoding
-pub mod Sheets
+pub mod TokenBuffers
 pub mod EncodedSpells
 pub mod Least
 pub mod GroupLoop
@@ -34,13 +34,13 @@ pub mod OnlyShort
 pub mod WrittenSteps
 pub mod WrittenParts
 pub mod ElseBranch
-pub mod CopyingLoop
+pub mod ReencodeLoop
 pub mod Walking
 pub mod WideWalk
 pub mod TableWalk
 pub mod Immediates
-pub mod BriefTests
-pub mod BriefWalk
+pub mod MinimalTests
+pub mod MinimalWalk
 pub mod OpenBlocks
 pub mod Rewriting
 pub mod RewrittenBody

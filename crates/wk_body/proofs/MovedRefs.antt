@@ -5,8 +5,8 @@ use Rattle.wk_body.specs.declared.references.Ref.{Ref}
 use Rattle.wk_body.specs.declared.references.Ref.TheVariants as refs
 use Rattle.wk_body.specs.declared.types.BlockType.{BlockType}
 use Rattle.wk_body.specs.declared.types.BlockType.TheVariants.{Index}
-use Rattle.wk_body.specs.declared.moves.Moving.{Moving}
-use Rattle.wk_body.specs.declared.moves.Moving.TheVariants as moving
+use Rattle.wk_body.specs.declared.renumber.Moving.{Moving}
+use Rattle.wk_body.specs.declared.renumber.Moving.TheVariants as moving
 use Rattle.wk_body.specs.Instructions.{Plain, Call, GlobalGet, GlobalSet}
 use Rattle.wk_body.specs.Tree.{Instrs, Finish, One, Block, If}
 use Rattle.wk_body.specs.References.{plain_refs, type_refs, refs_of, moved_plain, shift_instrs, IsAmong, AreSame, Gains}

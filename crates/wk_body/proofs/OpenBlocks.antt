@@ -1,17 +1,17 @@
--- Open blocks that are the bits of a number, and are handed over to a reader.
+-- Open blocks that are the bits of a number, and are spilled to a reader.
 use Rattle.std.proofs.Common.{◌≡◌, ℕ, ◌+◌, ◌-◌, ◌*◌, ◌/◌, ◌%◌, ◌<◌, ◌≤◌, Bool, true, false, eqb, inl, inr, Some, List, [], ◌∷◌, ◌++◌, ◌^◌, length, take, drop, reverse, length-take, length-drop, refl, sym, ap, ◌∙◌, arith}
 use Rattle.std.proofs.lemmas.Nat.{pow-add}
 use Rattle.std.proofs.lemmas.List.{length-reverse, reverse-append, take-append-drop, take_at, drop_at}
 use Rattle.std.proofs.Math.Nat.{pow-le-pow_right}
 use Rattle.std.proofs.lemmas.Bool.{cases_eq}
 use Rattle.wk_body.specs.declared.types.Profile.{Profile}
-use Rattle.wk_body.specs.declared.walk.Walk.{Walk}
+use Rattle.wk_body.specs.declared.reencoder.Reencoder.{Reencoder}
 use Rattle.wk_body.specs.Tree.{Close, Otherwise}
 use Rattle.wk_body.specs.Reading.{after, may_else}
-use Rattle.wk_body.specs.Walks.{Behind, GoesOn, Goes, Ends, Parts}
-use Rattle.wk_body.specs.Brief.{bit_of, number_of, blocks_after}
+use Rattle.wk_body.specs.Reencoding.{Behind, GoesOn, Goes, Ends, TakesElse}
+use Rattle.wk_body.specs.Minimal.{bit_of, number_of, blocks_after}
 use Rattle.wk_body.proofs.Rewriting.{close_goes, close_ends}
-use Rattle.wk_body.proofs.BriefWalk.{number_some}
+use Rattle.wk_body.proofs.MinimalWalk.{number_some}
 
 -- the first list, turned, in front of the second
 abbrev pub turn : List Bool → List Bool → List Bool
@@ -117,20 +117,20 @@ closes_kept inner number ks next old closed kinds le is read taken same =
 pub closes_none : (inner : ℕ) (ks old kinds : List Bool) → inner ≤ 1 → inner ≡ number_of ks → old ≡ [] → Ends true (ks ++ old) inner kinds
 closes_none inner ks old kinds le is none = (ks, is, ap (λ (bs : List Bool). bs ++ old) (none_inner inner ks le is) ∙ none)
 
-pub end_goes : (last : Bool) (profile : Profile) (before out : List ℕ) (first from to : Walk) (all kinds : List Bool) (number opcode : ℕ) → opcode ≡ 0x0B → Ends last all number kinds → Behind opcode from to
+pub end_goes : (last : Bool) (profile : Profile) (before out : List ℕ) (first from to : Reencoder) (all kinds : List Bool) (number opcode : ℕ) → opcode ≡ 0x0B → Ends last all number kinds → Behind opcode from to
     → GoesOn profile before first all out from → (next : List Bool) × (number ≡ number_of next) × Goes last profile before first (next ++ kinds) out to
 end_goes false profile before out first from to all kinds number opcode is e b g = (e.0, e.1, close_goes profile before out first from to all (e.0 ++ kinds) opcode is e.2 b g)
 end_goes true profile before out first from to all kinds number opcode is e b g = (e.0, e.1, close_ends profile before out first from to all opcode is e.2 b g)
 
-pub parts_bit : (inner : ℕ) (ks kinds : List Bool) → inner ≡ number_of ks → 1 < inner → inner % 2 ≡ 1 → Parts (ks ++ kinds) (inner - 1) kinds
-parts_bit inner [] kinds is some odd = absurd (omega arith)
-parts_bit inner (true ∷ outer) kinds is some odd = (outer ++ kinds, false ∷ outer, refl, omega arith, refl)
-parts_bit inner (false ∷ outer) kinds is some odd = absurd (omega arith)
+pub else_bit : (inner : ℕ) (ks kinds : List Bool) → inner ≡ number_of ks → 1 < inner → inner % 2 ≡ 1 → TakesElse (ks ++ kinds) (inner - 1) kinds
+else_bit inner [] kinds is some odd = absurd (omega arith)
+else_bit inner (true ∷ outer) kinds is some odd = (outer ++ kinds, false ∷ outer, refl, omega arith, refl)
+else_bit inner (false ∷ outer) kinds is some odd = absurd (omega arith)
 
-pub parts_kept : (inner : ℕ) (ks old kinds : List Bool) → inner ≤ 1 → inner ≡ number_of ks → may_else old ≡ true → after (Otherwise 0) old ≡ Some kinds → Parts (ks ++ old) inner kinds
-parts_kept inner ks [] kinds le is may e = absurd cc
-parts_kept inner ks (false ∷ outer) kinds le is may e = absurd cc
-parts_kept inner ks (true ∷ outer) kinds le is may e =
+pub else_kept : (inner : ℕ) (ks old kinds : List Bool) → inner ≤ 1 → inner ≡ number_of ks → may_else old ≡ true → after (Otherwise 0) old ≡ Some kinds → TakesElse (ks ++ old) inner kinds
+else_kept inner ks [] kinds le is may e = absurd cc
+else_kept inner ks (false ∷ outer) kinds le is may e = absurd cc
+else_kept inner ks (true ∷ outer) kinds le is may e =
     let none = none_inner inner ks le is in
     let same : false ∷ outer ≡ kinds = cc in
     (outer, ks, ap (λ (bs : List Bool). bs ++ true ∷ outer) none, is, ap (λ (bs : List Bool). bs ++ kinds) none ∙ sym same)

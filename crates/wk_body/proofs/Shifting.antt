@@ -5,7 +5,7 @@ use Rattle.std.specs.List.{flat_map}
 use Rattle.std.proofs.lemmas.List.{append-nil, drop-drop, drop_all, drop_more, length-drop}
 use Rattle.wk_bytes.specs.Short.{short}
 use Rattle.wk_body.specs.declared.shifts.Shifts.{Shifts}
-use Rattle.wk_body.specs.TokenLen.{stride, IsBrief}
+use Rattle.wk_body.specs.TokenLen.{stride, IsMinimal}
 use Rattle.wk_body.specs.Tree.{Tok}
 use Rattle.wk_body.specs.Written.{tok_bytes}
 use Rattle.wk_body.specs.ShiftSteps.{AreIntegers, IsReferring, shifted_tok, IsTokInRange, AreToksInRange, between, Shifting}
@@ -152,7 +152,7 @@ module _ (s : Shifts) (all : List Tok) (goal code out : List ℕ) (run at : ℕ)
 
   -- ---- a token that is as short as it may be
 
-  brief_by : (n : Next) (opcode len x y : ℕ) → at + 2 < length code → opcode ≡ get_or code at 0 → x ≡ get_or code (at + 1) 0 → y ≡ get_or code (at + 2) 0 → len ≡ stride opcode → len ≤ 3 → IsBrief len x y
+  brief_by : (n : Next) (opcode len x y : ℕ) → at + 2 < length code → opcode ≡ get_or code at 0 → x ≡ get_or code (at + 1) 0 → y ≡ get_or code (at + 2) 0 → len ≡ stride opcode → len ≤ 3 → IsMinimal len x y
       → (tok_bytes (shifted_tok s n.token) ≡ tok_bytes n.token) × (length (tok_bytes n.token) ≡ len)
   brief_by n opcode len x y lt there first second is few brief =
       let later = flat_map tok_bytes n.others in
@@ -181,7 +181,7 @@ module _ (s : Shifts) (all : List Tok) (goal code out : List ℕ) (run at : ℕ)
       more : (n : ℕ) → 0 < n → n ≡ suc (n - 1)
       more n h = omega arith
 
-  pub brief_step : (opcode len x y end : ℕ) → at + 2 < length code → run ≤ at → opcode ≡ get_or code at 0 → x ≡ get_or code (at + 1) 0 → y ≡ get_or code (at + 2) 0 → len ≡ stride opcode → len ≤ 3 → IsBrief len x y → end ≡ at + len
+  pub brief_step : (opcode len x y end : ℕ) → at + 2 < length code → run ≤ at → opcode ≡ get_or code at 0 → x ≡ get_or code (at + 1) 0 → y ≡ get_or code (at + 2) 0 → len ≡ stride opcode → len ≤ 3 → IsMinimal len x y → end ≡ at + len
       → Shifting s all goal code out run at → Shifting s all goal code out run end
   brief_step opcode len x y end lt le there first second is few brief to w =
       let n = next_of (omega arith) w in

@@ -12,14 +12,14 @@ use Rattle.wk_body.specs.declared.numeric.NumericOp.TheVariants.{I32Eqz}
 use Rattle.wk_body.specs.MemoryOps.{memory_opcode}
 use Rattle.wk_body.specs.Numeric.{numeric_opcode}
 use Rattle.wk_body.specs.Instructions.{form_of}
-use Rattle.wk_body.specs.TokenLen.{brief_len, stride, IsBrief}
+use Rattle.wk_body.specs.TokenLen.{min_len, stride, IsMinimal}
 use Rattle.wk_body.proofs.ByteTables.{below, row_at}
 
 -- ---- the tables
 
-pub length_at : (b : ℕ) → b < 256 → get_or LENGTHS b 0 ≡ brief_len b
+pub length_at : (b : ℕ) → b < 256 → get_or LENGTHS b 0 ≡ min_len b
 unfolding form_of
-length_at b h = row_at LENGTHS brief_len refl b h
+length_at b h = row_at LENGTHS min_len refl b h
 
 pub stride_at : (b : ℕ) → b < 256 → get_or STRIDES b 0 ≡ stride b
 unfolding form_of
@@ -47,7 +47,7 @@ numeric_stride op = refl
 clear : (n mask i : ℕ) → bit_at mask i ≡ 1 → bit_and n mask / 2 ^ i ≡ 0 → bit_at n i ≡ 0
 clear n mask i set none = omega (arith, bit_at_and n mask i, set, ap (λ (m : ℕ). m % 2) none)
 
-brief_bytes : (len x y : ℕ) → len ≤ 3 → x < 256 → y < 256 → bit_and (x + y * 256) (get_or MORE len 0) < len → IsBrief len x y
+brief_bytes : (len x y : ℕ) → len ≤ 3 → x < 256 → y < 256 → bit_and (x + y * 256) (get_or MORE len 0) < len → IsMinimal len x y
 brief_bytes zero x y le p q h = absurd (omega arith)
 brief_bytes (suc zero) x y le p q h = (omega arith, λ l. absurd (omega arith), λ l. absurd (omega arith))
 brief_bytes (suc (suc zero)) x y le p q h = (omega arith, λ l. omega (arith, clear (x + y * 256) 0x80 7 refl (omega arith)), λ l. absurd (omega arith))
@@ -55,7 +55,7 @@ brief_bytes (suc (suc (suc zero))) x y le p q h =
     (omega arith, λ l. omega (arith, clear (x + y * 256) 0x8080 7 refl (omega arith)), λ l. omega (arith, clear (x + y * 256) 0x8080 15 refl (omega arith)))
 brief_bytes (suc (suc (suc (suc n)))) x y le p q h = absurd (omega arith)
 
-pub brief_test : (len x y both place limit : ℕ) → len ≤ 3 → x < 256 → y < 256 → both ≡ x + y * 256 → place ≡ len → limit ≡ len → ltb (bit_and both (get_or MORE place 0)) limit ≡ true → IsBrief len x y
+pub brief_test : (len x y both place limit : ℕ) → len ≤ 3 → x < 256 → y < 256 → both ≡ x + y * 256 → place ≡ len → limit ≡ len → ltb (bit_and both (get_or MORE place 0)) limit ≡ true → IsMinimal len x y
 brief_test len x y both place limit le p q is at to e =
     let small = ltb-true (bit_and both (get_or MORE place 0)) limit e in
     brief_bytes len x y le p q (rw (is, at, to) at small)

@@ -11,22 +11,22 @@ use Rattle.wk_bytes.specs.ShortLaws.{short-more, short-some, short-least, short-
 use Rattle.wk_bytes.specs.Span.{byte_at, u32_at, signed_at, word_at}
 use Rattle.wk_bytes.specs.SpanLaws.{IsBytes-before, IsBytes-after}
 use Rattle.wk_bytes.specs.PieceLaws.{u32_at-again, signed_at-again, word_at-again}
-use Rattle.wk_body.specs.declared.layout.Layout.{Layout}
-use Rattle.wk_body.specs.declared.layout.Layout.TheVariants as layouts
+use Rattle.wk_body.specs.declared.immediate_kind.ImmediateKind.{ImmediateKind}
+use Rattle.wk_body.specs.declared.immediate_kind.ImmediateKind.TheVariants as imms
 use Rattle.wk_body.specs.declared.types.Profile.{Profile}
 use Rattle.wk_body.specs.declared.types.Profile.TheVariants.{Core}
-use Rattle.wk_body.specs.declared.walk.Walk.{Walk}
+use Rattle.wk_body.specs.declared.reencoder.Reencoder.{Reencoder}
 use Rattle.wk_body.specs.Instructions.{form_of}
-use Rattle.wk_body.specs.Layouts.{layout_in}
+use Rattle.wk_body.specs.ImmediateKinds.{imm_kind_in}
 use Rattle.wk_body.specs.Reading.{reserved_at}
-use Rattle.wk_body.specs.Brief.{IsWideIndex, IsWideNumber, IsWide}
-use Rattle.wk_body.specs.Walks.{Passes, Keeps, PassesPlain, Behind, GoesOn, BlocksPass}
+use Rattle.wk_body.specs.Minimal.{IsWideIndex, IsWideNumber, IsWide}
+use Rattle.wk_body.specs.Reencoding.{Passes, Keeps, PassesPlain, Behind, GoesOn, BlocksPass}
 use Rattle.wk_body.proofs.Immediates.{nothing_passed, reserved_passed, index_passed, index_reserved_passed, memarg_passed, signed32_passed, signed64_passed, word32_passed, word64_passed}
 use Rattle.wk_body.proofs.OnlyShort.{word_only}
-use Rattle.wk_body.proofs.OpenBlocks.{parts_bit}
+use Rattle.wk_body.proofs.OpenBlocks.{else_bit}
 use Rattle.wk_body.proofs.Rewriting.{plain_goes, else_stays}
 use Rattle.wk_body.proofs.Walking.{passed}
-use Rattle.wk_body.proofs.BriefWalk.{later, unsigned_passed, in_both, Steps}
+use Rattle.wk_body.proofs.MinimalWalk.{later, unsigned_passed, in_both, Steps}
 
 -- ---- integers of two bytes
 
@@ -35,7 +35,7 @@ two_bytes bytes n i m second next within =
     let k : i + 1 ≡ m = omega (arith, second, next) in
     drop_more bytes n 0 (omega (arith, second)) ∙ ap (λ (j : ℕ). get_or bytes n 0 ∷ drop j bytes) (sym second) ∙ ap (λ (r : List ℕ). get_or bytes n 0 ∷ r) (drop_more bytes i 0 within) ∙ ap (λ (j : ℕ). get_or bytes n 0 ∷ get_or bytes i 0 ∷ drop j bytes) k
 
-unsigned_wide : (out : List ℕ) (w : Walk) (n i m : ℕ) → i ≡ n + 1 → m ≡ n + 2 → i < length w.cursor.rest → IsWideIndex (get_or w.cursor.rest n 0) (get_or w.cursor.rest i 0)
+unsigned_wide : (out : List ℕ) (w : Reencoder) (n i m : ℕ) → i ≡ n + 1 → m ≡ n + 2 → i < length w.cursor.rest → IsWideIndex (get_or w.cursor.rest n 0) (get_or w.cursor.rest i 0)
     → (v : ℕ) × Passes u32_at v (short v) out (later w n) out (later w m)
 unsigned_wide out w n i m second next within b =
     let x = get_or w.cursor.rest n 0 in
@@ -70,7 +70,7 @@ spelled N x y bits wide b =
           (joinS (x - 128) (pos y -ℤ pos 128), (b.0, b.1, bits, pos y -ℤ pos 128, inr (le, b.2, omega arith, refl), refl), ap is_lastS z ∙ le-ltb k 64 most)
     ]
 
-signed_wide : (N : ℕ) (out : List ℕ) (w : Walk) (n i m : ℕ) → 7 < N → 64 ≤ 2 ^ (N - 7 - 1) → i ≡ n + 1 → m ≡ n + 2 → i < length w.cursor.rest → IsWideNumber (get_or w.cursor.rest n 0) (get_or w.cursor.rest i 0)
+signed_wide : (N : ℕ) (out : List ℕ) (w : Reencoder) (n i m : ℕ) → 7 < N → 64 ≤ 2 ^ (N - 7 - 1) → i ≡ n + 1 → m ≡ n + 2 → i < length w.cursor.rest → IsWideNumber (get_or w.cursor.rest n 0) (get_or w.cursor.rest i 0)
     → (z : ℤ) × Passes (signed_at N) z (short_signed z) out (later w n) out (later w m)
 signed_wide N out w n i m bits wide second next within b =
     let x = get_or w.cursor.rest n 0 in
@@ -83,7 +83,7 @@ signed_wide N out w n i m bits wide second next within b =
 
 -- ---- words, and a reserved byte
 
-word_wide : (size : ℕ) (w : Walk) (n m : ℕ) → IsBytes w.cursor.rest → m ≡ n + size → m ≤ length w.cursor.rest → (word : ℕ) × Keeps (word_at size) word (little_bytes size word) (later w n) (later w m)
+word_wide : (size : ℕ) (w : Reencoder) (n m : ℕ) → IsBytes w.cursor.rest → m ≡ n + size → m ≤ length w.cursor.rest → (word : ℕ) × Keeps (word_at size) word (little_bytes size word) (later w n) (later w m)
 word_wide size w n m fits next within =
     let here = drop n w.cursor.rest in
     let piece = take size here in
@@ -98,7 +98,7 @@ reserved_read : (end x : ℕ) (rest : List ℕ) → x ≡ 0 → reserved_at end 
 unfolding reserved_at byte_at
 reserved_read end x rest is = rw is refl
 
-reserved_wide : (w : Walk) (n m : ℕ) → m ≡ n + 1 → n < length w.cursor.rest → get_or w.cursor.rest n 0 ≡ 0 → Keeps reserved_at 0 (0x00 ∷ []) (later w n) (later w m)
+reserved_wide : (w : Reencoder) (n m : ℕ) → m ≡ n + 1 → n < length w.cursor.rest → get_or w.cursor.rest n 0 ≡ 0 → Keeps reserved_at 0 (0x00 ∷ []) (later w n) (later w m)
 reserved_wide w n m next within is =
     let parts : drop n w.cursor.rest ≡ get_or w.cursor.rest n 0 ∷ drop m w.cursor.rest = drop_more w.cursor.rest n 0 within ∙ ap (λ (k : ℕ). get_or w.cursor.rest n 0 ∷ drop k w.cursor.rest) (sym next) in
     let read : reserved_at w.cursor.end (drop n w.cursor.rest) ≡ Ok (0, drop m w.cursor.rest) = ap (reserved_at w.cursor.end) parts ∙ reserved_read w.cursor.end (get_or w.cursor.rest n 0) (drop m w.cursor.rest) is in
@@ -106,80 +106,86 @@ reserved_wide w n m next within is =
 
 -- ---- an instruction
 
-module _ (profile : Profile) (opcode : ℕ) (out : List ℕ) (w : Walk) (n size z : ℕ) (fits : IsBytes w.cursor.rest) (within : n + size ≤ length w.cursor.rest) (there : n + 3 < length w.cursor.rest → z ≡ get_or w.cursor.rest (n + 3) 0) where
-  wide_behind : (o : Option Layout) → o ≡ layout_in (form_of Core opcode) → IsWide o size (get_or w.cursor.rest (n + 1) 0) (get_or w.cursor.rest (n + 2) 0) z
+module _ (profile : Profile) (opcode : ℕ) (out : List ℕ) (w : Reencoder) (n size z : ℕ) (fits : IsBytes w.cursor.rest) (within : n + size ≤ length w.cursor.rest) (there : n + 3 < length w.cursor.rest → z ≡ get_or w.cursor.rest (n + 3) 0) where
+  wide_behind : (o : Option ImmediateKind) → o ≡ imm_kind_in (form_of Core opcode)
+      → IsWide o size (get_or w.cursor.rest (n + 1) 0) (get_or w.cursor.rest (n + 2) 0) z
       → PassesPlain profile opcode out (later w (n + 1)) out (later w (n + size))
-  wide_behind (Some layouts.Reserved) e b =
-      reserved_passed profile opcode layouts.Reserved (in_both profile opcode layouts.Reserved e) 0 out (later w (n + 1)) (later w (n + size)) refl
+  wide_behind (Some imms.Reserved) e b =
+      reserved_passed profile opcode imms.Reserved (in_both profile opcode imms.Reserved e) 0 out (later w (n + 1)) (later w (n + size)) refl
       (reserved_wide w (n + 1) (n + size) (omega (arith, b.0)) (omega (arith, b.0, within)) b.1)
-  wide_behind (Some layouts.Index) e b =
+  wide_behind (Some imms.Index) e b =
       let p = unsigned_wide out w (n + 1) (n + 2) (n + size) (omega arith) (omega (arith, b.0)) (omega (arith, b.0, within)) b.1 in
-      index_passed profile opcode layouts.Index (in_both profile opcode layouts.Index e) p.0 out out (later w (n + 1)) (later w (n + size)) refl p.1
-  wide_behind (Some layouts.IndexReserved) e b =
-      index_reserved_passed profile opcode layouts.IndexReserved (in_both profile opcode layouts.IndexReserved e) (get_or w.cursor.rest (n + 1) 0) 0 out out (later w (n + 1)) (later w (n + 2)) (later w (n + size)) refl
+      index_passed profile opcode imms.Index (in_both profile opcode imms.Index e) p.0 out out (later w (n + 1)) (later w (n + size)) refl p.1
+  wide_behind (Some imms.IndexReserved) e b =
+      index_reserved_passed profile opcode imms.IndexReserved (in_both profile opcode imms.IndexReserved e) (get_or w.cursor.rest (n + 1) 0) 0 out out (later w (n + 1)) (later w (n + 2)) (later w (n + size)) refl
       (unsigned_passed out w (n + 1) (n + 2) (omega arith) (omega (arith, b.0, within)) b.1)
       (reserved_wide w (n + 2) (n + size) (omega (arith, b.0)) (omega (arith, b.0, within)) b.2)
-  wide_behind (Some layouts.Memarg) e b =
+  wide_behind (Some imms.Memarg) e b =
       let four : n + 3 < length w.cursor.rest = omega (arith, b.0, within) in
       let q = unsigned_wide out w (n + 2) (n + 3) (n + size) (omega arith) (omega (arith, b.0)) four (subst (λ (z : ℕ). IsWideIndex (get_or w.cursor.rest (n + 2) 0) z) (there four) b.2) in
-      memarg_passed profile opcode layouts.Memarg (in_both profile opcode layouts.Memarg e) (get_or w.cursor.rest (n + 1) 0) q.0 out out out (later w (n + 1)) (later w (n + 2)) (later w (n + size)) refl
+      memarg_passed profile opcode imms.Memarg (in_both profile opcode imms.Memarg e) (get_or w.cursor.rest (n + 1) 0) q.0 out out out (later w (n + 1)) (later w (n + 2)) (later w (n + size)) refl
       (unsigned_passed out w (n + 1) (n + 2) (omega arith) (omega (arith, b.0, within)) b.1) q.1
-  wide_behind (Some layouts.Signed32) e b =
+  wide_behind (Some imms.Signed32) e b =
       let p = signed_wide 32 out w (n + 1) (n + 2) (n + size) (omega arith) (omega arith) (omega arith) (omega (arith, b.0)) (omega (arith, b.0, within)) b.1 in
-      signed32_passed profile opcode layouts.Signed32 (in_both profile opcode layouts.Signed32 e) p.0 out out (later w (n + 1)) (later w (n + size)) refl p.1
-  wide_behind (Some layouts.Signed64) e b =
+      signed32_passed profile opcode imms.Signed32 (in_both profile opcode imms.Signed32 e) p.0 out out (later w (n + 1)) (later w (n + size)) refl p.1
+  wide_behind (Some imms.Signed64) e b =
       let p = signed_wide 64 out w (n + 1) (n + 2) (n + size) (omega arith) (omega arith) (omega arith) (omega (arith, b.0)) (omega (arith, b.0, within)) b.1 in
-      signed64_passed profile opcode layouts.Signed64 (in_both profile opcode layouts.Signed64 e) p.0 out out (later w (n + 1)) (later w (n + size)) refl p.1
-  wide_behind (Some layouts.Word32) e b =
+      signed64_passed profile opcode imms.Signed64 (in_both profile opcode imms.Signed64 e) p.0 out out (later w (n + 1)) (later w (n + size)) refl p.1
+  wide_behind (Some imms.Word32) e b =
       let p = word_wide 4 w (n + 1) (n + size) fits (omega (arith, b)) within in
-      word32_passed profile opcode layouts.Word32 (in_both profile opcode layouts.Word32 e) p.0 out (later w (n + 1)) (later w (n + size)) refl p.1
-  wide_behind (Some layouts.Word64) e b =
+      word32_passed profile opcode imms.Word32 (in_both profile opcode imms.Word32 e) p.0 out (later w (n + 1)) (later w (n + size)) refl p.1
+  wide_behind (Some imms.Word64) e b =
       let p = word_wide 8 w (n + 1) (n + size) fits (omega (arith, b)) within in
-      word64_passed profile opcode layouts.Word64 (in_both profile opcode layouts.Word64 e) p.0 out (later w (n + 1)) (later w (n + size)) refl p.1
+      word64_passed profile opcode imms.Word64 (in_both profile opcode imms.Word64 e) p.0 out (later w (n + 1)) (later w (n + size)) refl p.1
   wide_behind _ e b = absurd b
 
 -- no other token begins with an opcode of such an instruction
-unlike : (opcode other size x y z : ℕ) → (IsWide (layout_in (form_of Core other)) size x y z → ⊥) → IsWide (layout_in (form_of Core opcode)) size x y z → opcode ≡ other → ⊥
-unlike opcode other size x y z none is e = none (subst (λ (o : ℕ). IsWide (layout_in (form_of Core o)) size x y z) e is)
+unlike : (opcode other size x y z : ℕ) → (IsWide (imm_kind_in (form_of Core other)) size x y z → ⊥) → IsWide (imm_kind_in (form_of Core opcode)) size x y z → opcode ≡ other → ⊥
+unlike opcode other size x y z none is e = none (subst (λ (o : ℕ). IsWide (imm_kind_in (form_of Core o)) size x y z) e is)
 
-none_else : (size x y z : ℕ) → IsWide (layout_in (form_of Core 0x05)) size x y z → ⊥
+none_else : (size x y z : ℕ) → IsWide (imm_kind_in (form_of Core 0x05)) size x y z → ⊥
 unfolding form_of
 none_else size x y z is = is
 
-none_end : (size x y z : ℕ) → IsWide (layout_in (form_of Core 0x0B)) size x y z → ⊥
+none_end : (size x y z : ℕ) → IsWide (imm_kind_in (form_of Core 0x0B)) size x y z → ⊥
 unfolding form_of
 none_end size x y z is = is
 
-none_block : (size x y z : ℕ) → IsWide (layout_in (form_of Core 0x02)) size x y z → ⊥
+none_block : (size x y z : ℕ) → IsWide (imm_kind_in (form_of Core 0x02)) size x y z → ⊥
 unfolding form_of
 none_block size x y z is = is
 
-none_loop : (size x y z : ℕ) → IsWide (layout_in (form_of Core 0x03)) size x y z → ⊥
+none_loop : (size x y z : ℕ) → IsWide (imm_kind_in (form_of Core 0x03)) size x y z → ⊥
 unfolding form_of
 none_loop size x y z is = is
 
-none_if : (size x y z : ℕ) → IsWide (layout_in (form_of Core 0x04)) size x y z → ⊥
+none_if : (size x y z : ℕ) → IsWide (imm_kind_in (form_of Core 0x04)) size x y z → ⊥
 unfolding form_of
 none_if size x y z is = is
 
 -- ---- tokens
 
-wide_step : (w : Walk) (n opcode size x y z : ℕ) (ks below : List Bool) → IsBytes w.cursor.rest → n + 2 < length w.cursor.rest → n + size ≤ length w.cursor.rest
+wide_step : (w : Reencoder) (n opcode size x y z : ℕ) (ks below : List Bool) → IsBytes w.cursor.rest → n + 2 < length w.cursor.rest
+    → n + size ≤ length w.cursor.rest
     → opcode ≡ get_or w.cursor.rest n 0 → x ≡ get_or w.cursor.rest (n + 1) 0 → y ≡ get_or w.cursor.rest (n + 2) 0 → (n + 3 < length w.cursor.rest → z ≡ get_or w.cursor.rest (n + 3) 0)
-    → IsWide (layout_in (form_of Core opcode)) size x y z → Steps w n (n + size) ks ks below
+    → IsWide (imm_kind_in (form_of Core opcode)) size x y z → Steps w n (n + size) ks ks below
 wide_step w n opcode size x y z ks below fits more within is first second third b profile before out start g =
-    let here : IsWide (layout_in (form_of Core opcode)) size (get_or w.cursor.rest (n + 1) 0) (get_or w.cursor.rest (n + 2) 0) z = rw (sym first, sym second) b in
+    let here : IsWide (imm_kind_in (form_of Core opcode)) size (get_or w.cursor.rest (n + 1) 0) (get_or w.cursor.rest (n + 2) 0) z = rw (sym first, sym second) b in
     let behind : Behind opcode (later w n) (later w (n + 1)) =
-    record { parts = drop_more w.cursor.rest n 0 (omega arith) ∙ ap (λ (o : ℕ). o ∷ drop (n + 1) w.cursor.rest) (sym is); same_end = refl; same_run = refl } in
+    record {
+      parts = drop_more w.cursor.rest n 0 (omega arith) ∙ ap (λ (o : ℕ). o ∷ drop (n + 1) w.cursor.rest) (sym is);
+      same_end = refl;
+      same_pending = refl;
+    } in
     plain_goes profile before out out start (later w n) (later w (n + 1)) (later w (n + size)) (ks ++ below) (ks ++ below) opcode
     (unlike opcode 0x0B size x y z (none_end size x y z) b) (unlike opcode 0x05 size x y z (none_else size x y z) b) (unlike opcode 0x02 size x y z (none_block size x y z) b)
     (unlike opcode 0x03 size x y z (none_loop size x y z) b) (unlike opcode 0x04 size x y z (none_if size x y z) b)
-    refl behind (wide_behind profile opcode out w n size z fits within third (layout_in (form_of Core opcode)) refl here) g
+    refl behind (wide_behind profile opcode out w n size z fits within third (imm_kind_in (form_of Core opcode)) refl here) g
 
 -- such an instruction more is passed
-pub wide_on : (w : Walk) (bytes : List ℕ) (n opcode size blocks x y z : ℕ) (ks below : List Bool) → bytes ≡ w.cursor.rest → IsBytes w.cursor.rest → n + 2 < length bytes → n + size ≤ length bytes
+pub wide_on : (w : Reencoder) (bytes : List ℕ) (n opcode size blocks x y z : ℕ) (ks below : List Bool) → bytes ≡ w.cursor.rest → IsBytes w.cursor.rest → n + 2 < length bytes → n + size ≤ length bytes
     → opcode ≡ get_or bytes n 0 → x ≡ get_or bytes (n + 1) 0 → y ≡ get_or bytes (n + 2) 0 → (n + 3 < length bytes → z ≡ get_or bytes (n + 3) 0)
-    → IsWide (layout_in (form_of Core opcode)) size x y z → BlocksPass w (later w n) blocks ks below → BlocksPass w (later w (n + size)) blocks ks below
+    → IsWide (imm_kind_in (form_of Core opcode)) size x y z → BlocksPass w (later w n) blocks ks below → BlocksPass w (later w (n + size)) blocks ks below
 wide_on w bytes n opcode size blocks x y z ks below same fits more within is first second third b h =
     let t = wide_step w n opcode size x y z h.0 below fits (omega (arith, more, ap length same)) (omega (arith, within, ap length same))
     (is ∙ ap (λ (bs : List ℕ). get_or bs n 0) same) (first ∙ ap (λ (bs : List ℕ). get_or bs (n + 1) 0) same) (second ∙ ap (λ (bs : List ℕ). get_or bs (n + 2) 0) same)
@@ -187,15 +193,15 @@ wide_on w bytes n opcode size blocks x y z ks below same fits more within is fir
     (h.0, h.1, λ profile before out first g. t profile before out first (h.2 profile before out first g))
 
 -- an else whose branch holds something
-pub else_on : (w : Walk) (bytes : List ℕ) (n blocks : ℕ) (ks below : List Bool) → bytes ≡ w.cursor.rest → n + 2 < length bytes → get_or bytes n 0 ≡ 0x05 → (get_or bytes (n + 1) 0 ≡ 0x0B → ⊥)
+pub else_on : (w : Reencoder) (bytes : List ℕ) (n blocks : ℕ) (ks below : List Bool) → bytes ≡ w.cursor.rest → n + 2 < length bytes → get_or bytes n 0 ≡ 0x05 → (get_or bytes (n + 1) 0 ≡ 0x0B → ⊥)
     → 1 < blocks → blocks % 2 ≡ 1 → BlocksPass w (later w n) blocks ks below → BlocksPass w (later w (n + 1)) (blocks - 1) ks below
 else_on w bytes n blocks ks below same within is full some odd h =
     let rest = w.cursor.rest in
     let few : n + 2 < length rest = omega (arith, within, ap length same) in
     let here : get_or rest n 0 ≡ 0x05 = ap (λ (bs : List ℕ). get_or bs n 0) (sym same) ∙ is in
     let behind : Behind 0x05 (later w n) (later w (n + 1)) =
-    record { parts = drop_more rest n 0 (omega (arith, few)) ∙ ap (λ (o : ℕ). o ∷ drop (n + 1) rest) here; same_end = refl; same_run = refl } in
-    let p = parts_bit blocks h.0 below h.1 some odd in
+    record { parts = drop_more rest n 0 (omega (arith, few)) ∙ ap (λ (o : ℕ). o ∷ drop (n + 1) rest) here; same_end = refl; same_pending = refl } in
+    let p = else_bit blocks h.0 below h.1 some odd in
     let other : get_or rest (n + 1) 0 ≡ 0x0B → ⊥ = λ e. full (ap (λ (bs : List ℕ). get_or bs (n + 1) 0) same ∙ e) in (
       p.1,
       p.3,
@@ -206,23 +212,23 @@ else_on w bytes n blocks ks below same within is full some odd h =
     )
 
 -- nops
-nop_step : (w : Walk) (n m : ℕ) (ks below : List Bool) → m ≡ n + 1 → n < length w.cursor.rest → get_or w.cursor.rest n 0 ≡ 0x01 → Steps w n m ks ks below
+nop_step : (w : Reencoder) (n m : ℕ) (ks below : List Bool) → m ≡ n + 1 → n < length w.cursor.rest → get_or w.cursor.rest n 0 ≡ 0x01 → Steps w n m ks ks below
 unfolding form_of
 nop_step w n m ks below next within is profile before out start g =
     let parts : drop n w.cursor.rest ≡ 0x01 ∷ drop m w.cursor.rest = drop_more w.cursor.rest n 0 within ∙ ap (λ (o : ℕ). o ∷ drop (n + 1) w.cursor.rest) is ∙ ap (λ (i : ℕ). 0x01 ∷ drop i w.cursor.rest) (sym next) in
-    let behind : Behind 0x01 (later w n) (later w m) = record { parts = parts; same_end = refl; same_run = refl } in
+    let behind : Behind 0x01 (later w n) (later w m) = record { parts = parts; same_end = refl; same_pending = refl } in
     plain_goes profile before out out start (later w n) (later w m) (later w m) (ks ++ below) (ks ++ below) 0x01
     (λ e. omega (arith, e)) (λ e. omega (arith, e)) (λ e. omega (arith, e)) (λ e. omega (arith, e)) (λ e. omega (arith, e))
-    refl behind (nothing_passed profile 0x01 layouts.Nothing (in_both profile 0x01 layouts.Nothing refl) out (later w m) refl) g
+    refl behind (nothing_passed profile 0x01 imms.Nothing (in_both profile 0x01 imms.Nothing refl) out (later w m) refl) g
 
 -- a nop more is passed
-pub nop_on : (w : Walk) (bytes : List ℕ) (n blocks : ℕ) (ks below : List Bool) → bytes ≡ w.cursor.rest → n < length bytes → get_or bytes n 0 ≡ 0x01
+pub nop_on : (w : Reencoder) (bytes : List ℕ) (n blocks : ℕ) (ks below : List Bool) → bytes ≡ w.cursor.rest → n < length bytes → get_or bytes n 0 ≡ 0x01
     → BlocksPass w (later w n) blocks ks below → BlocksPass w (later w (n + 1)) blocks ks below
 nop_on w bytes n blocks ks below same within is h =
     let t = nop_step w n (n + 1) h.0 below refl (omega (arith, within, ap length same)) (ap (λ (bs : List ℕ). get_or bs n 0) (sym same) ∙ is) in
     (h.0, h.1, λ profile before out first g. t profile before out first (h.2 profile before out first g))
 
-pub nops_on : (w : Walk) (bytes : List ℕ) (count : ℕ) (profile : Profile) (before out : List ℕ) (first : Walk) (ks : List Bool) → bytes ≡ w.cursor.rest → count ≤ length bytes → ((i : ℕ) → i < count → get_or bytes i 0 ≡ 0x01)
+pub nops_on : (w : Reencoder) (bytes : List ℕ) (count : ℕ) (profile : Profile) (before out : List ℕ) (first : Reencoder) (ks : List Bool) → bytes ≡ w.cursor.rest → count ≤ length bytes → ((i : ℕ) → i < count → get_or bytes i 0 ≡ 0x01)
     → GoesOn profile before first ks out w → GoesOn profile before first ks out (later w count)
 nops_on w bytes zero profile before out first ks same within all g = g
 nops_on w bytes (suc count) profile before out first ks same within all g =

@@ -2,8 +2,8 @@
 use Rattle.std.specs.Prelude.{ℕ, List, codes}
 use Rattle.wk_body.specs.declared.fault.EncodeFault.{EncodeFault}
 use Rattle.wk_body.specs.declared.fault.EncodeFault.TheVariants as encoding
-use Rattle.wk_body.specs.declared.moves.ShiftFault.{ShiftFault}
-use Rattle.wk_body.specs.declared.moves.ShiftFault.TheVariants as shifting
+use Rattle.wk_body.specs.declared.renumber.ShiftFault.{ShiftFault}
+use Rattle.wk_body.specs.declared.renumber.ShiftFault.TheVariants as shifting
 
 -- why there are no bytes
 abbrev pub encode_fault_text : EncodeFault → List ℕ

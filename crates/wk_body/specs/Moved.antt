@@ -2,10 +2,10 @@
 -- without them, by `References` and `Moves`.
 use Rattle.std.specs.Prelude.{◌≡◌, ℕ, Bool, List, [], map, false, IsTrue}
 use Rattle.std.specs.List.{flat_map, AllByRecursion}
-use Rattle.wk_body.specs.declared.moves.Moving.{Moving}
-use Rattle.wk_body.specs.declared.moves.Moving.TheVariants as moving
-use Rattle.wk_body.specs.declared.moves.ShiftFault.{ShiftFault}
-use Rattle.wk_body.specs.declared.moves.ShiftFault.TheVariants as faults
+use Rattle.wk_body.specs.declared.renumber.Moving.{Moving}
+use Rattle.wk_body.specs.declared.renumber.Moving.TheVariants as moving
+use Rattle.wk_body.specs.declared.renumber.ShiftFault.{ShiftFault}
+use Rattle.wk_body.specs.declared.renumber.ShiftFault.TheVariants as faults
 use Rattle.wk_body.specs.declared.token.Token.{Token}
 use Rattle.wk_body.specs.declared.token.Token.TheVariants as kept
 use Rattle.wk_body.specs.Kept.{told, all_told, IsWithin}

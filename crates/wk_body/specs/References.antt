@@ -5,10 +5,10 @@ use Rattle.wk_body.specs.declared.types.BlockType.{BlockType}
 use Rattle.wk_body.specs.declared.types.BlockType.TheVariants.{Index}
 use Rattle.wk_body.specs.declared.references.Ref.{Ref}
 use Rattle.wk_body.specs.declared.references.Ref.TheVariants.{Ty, Func, Global, Table, Memory}
-use Rattle.wk_body.specs.declared.moves.Moving.{Moving}
-use Rattle.wk_body.specs.declared.moves.Moving.TheVariants as moving
-use Rattle.wk_body.specs.declared.moves.ShiftFault.{ShiftFault}
-use Rattle.wk_body.specs.declared.moves.ShiftFault.TheVariants as faults
+use Rattle.wk_body.specs.declared.renumber.Moving.{Moving}
+use Rattle.wk_body.specs.declared.renumber.Moving.TheVariants as moving
+use Rattle.wk_body.specs.declared.renumber.ShiftFault.{ShiftFault}
+use Rattle.wk_body.specs.declared.renumber.ShiftFault.TheVariants as faults
 use Rattle.wk_body.specs.Instructions.{Plain, Call, CallIndirect, GlobalGet, GlobalSet, Access, MemorySize, MemoryGrow}
 use Rattle.wk_body.specs.Tree.{Instrs, Finish, One, Block, If, Tok, Simple, Open, OpenIf, Otherwise, Close}
 use Rattle.wk_body.specs.Bodies.{BodyOf}

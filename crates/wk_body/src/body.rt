@@ -9,7 +9,7 @@ ghost use Rattle.wk_body.specs.References.{refs_of, any_stuck, shift_body};
 ghost use Rattle.wk_body.specs.Bodies.{BodyOf, AreGroups};
 
 use crate::expr::Expr;
-use crate::moves::Moving;
+use crate::renumber::Moving;
 use crate::token::Token;
 use crate::types::LocalGroup;
 use std::alloc::AllocError;

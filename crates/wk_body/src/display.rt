@@ -4,7 +4,7 @@ ghost use Rattle.std.specs.Prelude.{Some};
 ghost use Rattle.wk_body.specs.FaultText.{encode_fault_text, shift_fault_text};
 
 use crate::fault::EncodeFault;
-use crate::moves::ShiftFault;
+use crate::renumber::ShiftFault;
 use std::error::Error;
 use std::fmt;
 

@@ -7,7 +7,7 @@ ghost use Rattle.wk_body.specs.Shape.{IsShaped};
 ghost use Rattle.wk_body.specs.Kept.{IsKept, IsWithin, all_told, tree_kept};
 ghost use Rattle.wk_body.specs.References.{refs_of, any_stuck, shift_instrs};
 
-use crate::moves::{Moving, shift_tokens};
+use crate::renumber::{Moving, shift_tokens};
 use crate::token::Token;
 use std::alloc::AllocError;
 use std::marker::Model;

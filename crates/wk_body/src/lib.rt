@@ -36,31 +36,31 @@
 #![tactic(auto)]
 
 mod body;
-mod brief;
-mod copying;
 mod display;
 mod expr;
 mod fault;
-mod layout;
+mod immediate_kind;
 mod length;
 mod memory;
-mod moves;
+mod minimal_len;
 mod numeric;
 mod numeric_name;
 mod opcode;
 mod operands;
 mod reader;
 mod reading;
+mod reencode;
+mod reencoder;
 mod references;
+mod renumber;
+mod renumber_code;
 mod scratch;
-mod sheet;
-mod shifted;
 mod shifts;
 mod token;
+mod token_buffer;
 mod token_len;
 mod token_reader;
 mod types;
-mod walk;
 mod writing;
 
 pub use body::Body;
@@ -68,10 +68,6 @@ pub use expr::Expr;
 pub use fault::EncodeFault;
 pub use length::{body_len, expr_len};
 pub use memory::MemoryOp;
-pub use moves::{
-    Movement, Moving, ShiftFault, expr_movement, moving_of_code, shift, shift_expr, shift_in_place,
-    shift_index,
-};
 pub use numeric::{NumericOp, NumericType};
 pub use operands::Operands;
 pub use reader::{
@@ -80,8 +76,12 @@ pub use reader::{
 };
 pub use reading::MAX_DEPTH;
 pub use references::{Ref, refs, uses};
+pub use renumber::{
+    Movement, Moving, ShiftFault, expr_movement, moving_of_code, shift, shift_expr, shift_in_place,
+    shift_index,
+};
+pub use renumber_code::{append_shifted, shift_uses};
 pub use scratch::Scratch;
-pub use shifted::{append_shifted, shift_uses};
 pub use shifts::{Shifts, append_shifts};
 pub use token::Token;
 pub use token_reader::{TokenReader, next_groups};

@@ -12,7 +12,7 @@ ghost use Rattle.wk_body.specs.Shifts.{shifted, shifted_body};
 ghost use Rattle.wk_body.specs.ShiftSteps.{IsInteger, AreIntegers, IsReferring, index_after, IsTokInRange, Shifting, ShiftsOn, StaysBehind};
 
 use crate::opcode;
-use crate::token_len::{is_brief, stride};
+use crate::token_len::{is_minimal, stride};
 use crate::writing::put_index;
 use wk_bytes::{Cursor, LIMIT, OutOfMemory};
 
@@ -205,7 +205,7 @@ fn behind_regular(code: &[u8], at: usize) -> Option<usize>
     ensures goes { IfSome result (λ end. (s : Shifts) (out : List ℕ) (run : ℕ) → run ≤ at → ShiftsOn s code.now out run at out run end) }
 {
     let len = stride(code[at]);
-    if is_brief(len, code[at + 1], code[at + 2]) {
+    if is_minimal(len, code[at + 1], code[at + 2]) {
         return Some(at + usize::from(len));
     }
     let count = len.checked_sub(1)?;

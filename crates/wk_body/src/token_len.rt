@@ -5,9 +5,9 @@
 //! hundredths more time.
 
 ghost use Rattle.std.specs.Prelude.{◌≡◌, ◌<◌, ◌≤◌, true};
-ghost use Rattle.wk_body.specs.TokenLen.{brief_len, stride, IsBrief};
+ghost use Rattle.wk_body.specs.TokenLen.{min_len, stride, IsMinimal};
 
-/// By opcode what `brief_len` is, for the walk of `strip`. It is 0 for what has anything but integers behind its opcode, for an `else`,
+/// By opcode what `min_len` is, for the walk of `strip`. It is 0 for what has anything but integers behind its opcode, for an `else`,
 /// and where 1.0 has no token. It is 0 for a `nop` too: where one stands, there are often many, which are counted their own way.
 static LENGTHS: [u8; 256] = [
     1, 0, 2, 2, 2, 0, 0, 0, 0, 0, 0, 1, 2, 2, 0, 1, // 00: unreachable, openers, end, br, br_if, return
@@ -52,8 +52,8 @@ static STRIDES: [u8; 256] = [
 /// How many bytes the token of an opcode has, where it has a byte for each integer and each type, in both profiles.
 #[inline(always)]
 #[tactic(auto, using(crate::proofs::TokenLen::length_at))]
-pub(crate) fn brief_len(opcode: u8) -> u8
-    ensures { result ≡ brief_len opcode }
+pub(crate) fn min_len(opcode: u8) -> u8
+    ensures { result ≡ min_len opcode }
 {
     LENGTHS[usize::from(opcode)]
 }
@@ -73,9 +73,9 @@ static MORE: [u32; 4] = [0, 0, 0x0080, 0x8080];
 
 /// Whether these bytes behind an opcode leave the token that many bytes.
 #[inline(always)]
-pub(crate) fn is_brief(len: u8, x: u8, y: u8) -> bool
+pub(crate) fn is_minimal(len: u8, x: u8, y: u8) -> bool
     requires { len ≤ 3 }
-    ensures { result ≡ true → IsBrief len x y }
+    ensures { result ≡ true → IsMinimal len x y }
 {
     // One test: what is left of the bytes is 0, or at least 128, and no number is below a length of 0.
     let behind = u16::from_le_bytes([x, y]);

@@ -272,7 +272,7 @@ impl TokenReader {
     // A token behind its opcode, which stands at `at`.
     #[tactic(auto, unfolding(crate::specs::Reading::behind_at))]
     #[inline(always)]
-    fn behind(
+    fn finish_token(
         &mut self,
         profile: Profile,
         opcode: u8,
@@ -319,7 +319,7 @@ impl TokenReader {
     {
         let at = cursor.at();
         let opcode = cursor.byte()?;
-        self.behind(profile, opcode, at, cursor)
+        self.finish_token(profile, opcode, at, cursor)
     }
 
     /// The next token of the expression, or none where its end is read: the `end` that closes no block.

@@ -19,15 +19,15 @@ use crate::fault::EncodeFault;
 use crate::length::{body_len, expr_len};
 use crate::operands::Operands;
 use crate::reading::are_bytes;
-use crate::sheet::{ROOM, put_short};
 use crate::token::Token;
+use crate::token_buffer::{CAPACITY, put_short};
 use crate::types::{BlockType, LocalGroup, Profile};
 use byteorder::{ByteOrder, LittleEndian};
 use std::alloc::Global;
 use wk_bytes::{OutOfMemory, put_s32, put_s33, put_s64, put_u32};
 
-/// So many tokens are written on a sheet: fewer are written sooner one by one.
-const FEW: usize = 8;
+/// So many tokens are written into a buffer: fewer are written sooner one by one.
+const BUFFER_FROM: usize = 8;
 
 // Appends a byte where there may be no room.
 #[cold]
@@ -150,61 +150,61 @@ fn put_token(out: &mut Vec<u8>, labels: &[u32], token: &Token) -> Result<(), Out
     put_operands(out, operands)
 }
 
-// The tokens on a sheet, and behind them one that goes to no sheet.
+// The tokens in a buffer, and behind them one that goes to no buffer.
 #[inline(never)]
-fn put_far(
+fn flush_then_put(
     out: &mut Vec<u8>,
-    sheet: &[u8],
+    buf: &[u8],
     labels: &[u32],
     token: &Token,
 ) -> Result<(), OutOfMemory>
     requires { IsWithin (length labels.now) token.now }
-    ensures ok { OnOk result (out.new.items ≡ out.old.items ++ sheet.now ++ tok_bytes (told labels.now token.now)) }
+    ensures ok { OnOk result (out.new.items ≡ out.old.items ++ buf.now ++ tok_bytes (told labels.now token.now)) }
     ensures err { OnErr result (StaysInFront out.old.items out.new.items) }
 {
-    out.extend_from_slice(sheet)?;
+    out.extend_from_slice(buf)?;
     put_token(out, labels, token)
 }
 
-// A token, behind so many bytes of a sheet. The answer is how many stand on it then.
+// A token, behind so many bytes of a buffer. The answer is how many stand in it then.
 #[inline(always)]
-fn put_behind(
+fn buffer_token(
     out: &mut Vec<u8>,
-    sheet: &mut [u8; ROOM],
+    buf: &mut [u8; CAPACITY],
     used: usize,
     labels: &[u32],
     token: &Token,
 ) -> Result<usize, OutOfMemory>
     requires within { IsWithin (length labels.now) token.now }
-    requires inside { used ≤ ROOM }
-    ensures inside { IfOk result (λ end. end ≤ ROOM) }
-    ensures ok { IfOk result (λ end. out.new.items ++ take end sheet.new ≡ out.old.items ++ take used sheet.old ++ tok_bytes (told labels.now token.now)) }
+    requires inside { used ≤ CAPACITY }
+    ensures inside { IfOk result (λ end. end ≤ CAPACITY) }
+    ensures ok { IfOk result (λ end. out.new.items ++ take end buf.new ≡ out.old.items ++ take used buf.old ++ tok_bytes (told labels.now token.now)) }
     ensures front { StaysInFront out.old.items out.new.items }
 {
-    if let Some(end) = put_short(sheet, used, labels, token) {
+    if let Some(end) = put_short(buf, used, labels, token) {
         return Ok(end);
     }
-    put_far(out, &sheet[..used], labels, token)?;
+    flush_then_put(out, &buf[..used], labels, token)?;
     Ok(0)
 }
 
-// Tokens that are gathered on a sheet first.
-fn put_many(out: &mut Vec<u8>, labels: &[u32], tokens: &[Token]) -> Result<(), OutOfMemory>
+// Tokens that are gathered in a buffer first.
+fn put_buffered(out: &mut Vec<u8>, labels: &[u32], tokens: &[Token]) -> Result<(), OutOfMemory>
     requires { AllByRecursion (IsWithin (length labels.now)) tokens.now }
     ensures ok { OnOk result (out.new.items ≡ out.old.items ++ flat_map tok_bytes (all_told labels.now tokens.now)) }
     ensures err { OnErr result (StaysInFront out.old.items out.new.items) }
 {
-    let mut sheet = [0; ROOM];
+    let mut buf = [0; CAPACITY];
     let mut used = 0;
     for token in tokens {
-        used = put_behind(out, &mut sheet, used, labels, token)?;
+        used = buffer_token(out, &mut buf, used, labels, token)?;
     }
-    out.extend_from_slice(&sheet[..used])?;
+    out.extend_from_slice(&buf[..used])?;
     Ok(())
 }
 
-// The same for few tokens, for which no sheet is cleared.
-fn put_few(out: &mut Vec<u8>, labels: &[u32], tokens: &[Token]) -> Result<(), OutOfMemory>
+// The same for few tokens, for which no buffer is cleared.
+fn put_unbuffered(out: &mut Vec<u8>, labels: &[u32], tokens: &[Token]) -> Result<(), OutOfMemory>
     requires { AllByRecursion (IsWithin (length labels.now)) tokens.now }
     ensures ok { OnOk result (out.new.items ≡ out.old.items ++ flat_map tok_bytes (all_told labels.now tokens.now)) }
     ensures err { OnErr result (StaysInFront out.old.items out.new.items) }
@@ -221,10 +221,10 @@ fn put_tokens(out: &mut Vec<u8>, labels: &[u32], tokens: &[Token]) -> Result<(),
     ensures ok { OnOk result (out.new.items ≡ out.old.items ++ flat_map tok_bytes (all_told labels.now tokens.now)) }
     ensures err { OnErr result (StaysInFront out.old.items out.new.items) }
 {
-    if tokens.len() < FEW {
-        return put_few(out, labels, tokens);
+    if tokens.len() < BUFFER_FROM {
+        return put_unbuffered(out, labels, tokens);
     }
-    put_many(out, labels, tokens)
+    put_buffered(out, labels, tokens)
 }
 
 /// Appends the written form of an expression, which spells it. After a refusal what stood in `out` stands at its front.

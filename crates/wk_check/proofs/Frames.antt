@@ -8,8 +8,8 @@ use Rattle.wk_body.specs.declared.types.BlockType.{BlockType}
 use Rattle.wk_body.specs.declared.types.BlockType.TheVariants.{Empty, Value, Index}
 use Rattle.wk_body.specs.declared.types.BlockKind.{BlockKind}
 use Rattle.wk_body.specs.declared.types.BlockKind.TheVariants as kinds
-use Rattle.wk_body.specs.declared.moves.Moving.{Moving}
-use Rattle.wk_body.specs.declared.moves.Moving.TheVariants as moving
+use Rattle.wk_body.specs.declared.renumber.Moving.{Moving}
+use Rattle.wk_body.specs.declared.renumber.Moving.TheVariants as moving
 use Rattle.wk_body.specs.declared.references.Ref.{Ref}
 use Rattle.wk_body.specs.declared.references.Ref.TheVariants as refs
 use Rattle.wk_body.specs.Bodies.{BodyOf}

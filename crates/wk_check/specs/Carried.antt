@@ -1,8 +1,8 @@
 -- Verdicts that are kept: what a body's references find, before and after an edit.
 use Rattle.std.specs.Prelude.{◌≡◌, ℕ, List}
 use Rattle.std.specs.List.{AllByRecursion}
-use Rattle.wk_body.specs.declared.moves.Moving.{Moving}
-use Rattle.wk_body.specs.declared.moves.Moving.TheVariants as moving
+use Rattle.wk_body.specs.declared.renumber.Moving.{Moving}
+use Rattle.wk_body.specs.declared.renumber.Moving.TheVariants as moving
 use Rattle.wk_body.specs.declared.references.Ref.{Ref}
 use Rattle.wk_body.specs.declared.references.Ref.TheVariants.{Func, Global}
 use Rattle.wk_body.specs.declared.references.Ref.TheVariants as refs

@@ -1,7 +1,7 @@
 -- Bodies that have been shifted, as an import comes whose kind moves what stands behind it.
 use Rattle.std.proofs.Common.{◌≡◌, ℕ, ◌+◌, refl, ap, ◌∙◌, arith}
 use Rattle.std.proofs.lemmas.Bool.Decides.{nat_tests}
-use Rattle.wk_body.specs.declared.moves.Moving.TheVariants as moving
+use Rattle.wk_body.specs.declared.renumber.Moving.TheVariants as moving
 use Rattle.wk_body.specs.Instructions.{Plain, Call, GlobalGet, GlobalSet}
 use Rattle.wk_body.specs.References.{map_plain, moved, moved_plain, shift_instrs}
 use Rattle.wk_body.specs.Tree.{Instrs, Finish, One, Block, If}

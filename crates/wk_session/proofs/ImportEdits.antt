@@ -5,7 +5,7 @@ use Rattle.std.proofs.lemmas.List.{length-map}
 use Rattle.std.proofs.lemmas.List.Sums.{sum_by-cons}
 use Rattle.std.proofs.Math.Seq.{take-append_seam}
 use Rattle.wk_bytes.specs.Leb.{◌>>=◌}
-use Rattle.wk_body.specs.declared.moves.Moving.TheVariants as moving
+use Rattle.wk_body.specs.declared.renumber.Moving.TheVariants as moving
 use Rattle.wk_body.specs.declared.references.Ref.{Ref}
 use Rattle.wk_body.specs.declared.references.Ref.TheVariants as refs
 use Rattle.wk_body.specs.Moves.{MoveAlike}

@@ -5,9 +5,9 @@ use Rattle.std.specs.declared.collections.BTreeSet.{BTreeSet}
 use Rattle.std.specs.List.{list_any}
 use Rattle.std.proofs.lemmas.List.{take_more, drop_more, map_push, length-map, length-take-le, get_or_at}
 use Rattle.std.proofs.lemmas.List.Sums.{sum_by-append}
-use Rattle.wk_body.specs.declared.moves.Moving.{Moving}
-use Rattle.wk_body.specs.declared.moves.Moving.TheVariants as moving
-use Rattle.wk_body.specs.declared.moves.Movement.{Movement}
+use Rattle.wk_body.specs.declared.renumber.Moving.{Moving}
+use Rattle.wk_body.specs.declared.renumber.Moving.TheVariants as moving
+use Rattle.wk_body.specs.declared.renumber.Movement.{Movement}
 use Rattle.wk_body.specs.declared.references.Ref.{Ref}
 use Rattle.wk_body.specs.Moves.{MoveAlike}
 use Rattle.wk_body.specs.References.{refs_of, any_stuck, AreSame}

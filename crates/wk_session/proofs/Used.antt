@@ -10,7 +10,7 @@ use Rattle.wk_body.specs.Bodies.{BodyOf}
 use Rattle.wk_body.specs.References.{AreRising, AreSame, refs_of}
 use Rattle.wk_module.specs.declared.types.Func.{Func}
 use Rattle.wk_list.specs.Uses.{in_order}
-use Rattle.wk_body.specs.declared.moves.Moving.{Moving}
+use Rattle.wk_body.specs.declared.renumber.Moving.{Moving}
 use Rattle.wk_body.specs.References.{shift_instrs}
 use Rattle.wk_body.specs.Tree.{Instrs}
 use Rattle.wk_list.specs.UsesLaws.{in_order_is, in_order_same}

@@ -1,7 +1,7 @@
 -- Which code entries and sections depend on an edit, so that they have to be judged or encoded again.
 use Rattle.std.specs.Prelude.{ℕ, ◌+◌, Bool, true, false, not, ◌&&◌, Option, Some, None, List, ◌∷◌, ◌++◌, take, drop, count_by}
 use Rattle.std.specs.List.{list_any}
-use Rattle.wk_body.specs.declared.moves.Moving.TheVariants as moving
+use Rattle.wk_body.specs.declared.renumber.Moving.TheVariants as moving
 use Rattle.wk_body.specs.declared.references.Ref.{Ref}
 use Rattle.wk_body.specs.declared.references.Ref.TheVariants as refs
 use Rattle.wk_body.specs.References.{refs_of}

@@ -1,8 +1,8 @@
 -- Code entries of which an import moves references, and what is kept of them.
 use Rattle.std.specs.Prelude.{◌≡◌, ℕ, false, is_some, List, length, map, count_by, unwrap_or, option_map}
-use Rattle.wk_body.specs.declared.moves.Moving.{Moving}
-use Rattle.wk_body.specs.declared.moves.Moving.TheVariants as moving
-use Rattle.wk_body.specs.declared.moves.Movement.{Movement}
+use Rattle.wk_body.specs.declared.renumber.Moving.{Moving}
+use Rattle.wk_body.specs.declared.renumber.Moving.TheVariants as moving
+use Rattle.wk_body.specs.declared.renumber.Movement.{Movement}
 use Rattle.wk_body.specs.declared.references.Ref.{Ref}
 use Rattle.wk_body.specs.Moves.{movement_of}
 use Rattle.wk_body.specs.References.{shift_body}

@@ -1,7 +1,7 @@
 use Rattle.std.proofs.Common.{◌≡◌, sym, ap, ◌∙◌, arith}
 use Rattle.std.proofs.lemmas.Bool.{not-true, not-false}
 use Rattle.std.proofs.lemmas.Result.{on_ok_weaker}
-use Rattle.wk_body.specs.declared.moves.Movement.{Movement}
+use Rattle.wk_body.specs.declared.renumber.Movement.{Movement}
 use Rattle.wk_module.specs.declared.types.Kind.{Kind}
 use Rattle.wk_module.specs.declared.types.Kind.TheVariants as kinds
 use Rattle.wk_module.specs.Moving.{moved_func, is_code_moving}

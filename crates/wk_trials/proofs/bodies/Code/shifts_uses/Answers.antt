@@ -1,6 +1,6 @@
 use Rattle.std.proofs.Common.{ap, sym, ◌∙◌}
-use Rattle.wk_body.specs.declared.moves.Movement.{Movement}
-use Rattle.wk_body.specs.declared.moves.Moving.TheVariants.{Func}
+use Rattle.wk_body.specs.declared.renumber.Movement.{Movement}
+use Rattle.wk_body.specs.declared.renumber.Moving.TheVariants.{Func}
 use Rattle.wk_body.specs.Moves.{movement_of}
 use Rattle.wk_body.specs.References.{refs_of}
 use Rattle.wk_body.specs.Tree.{Instrs}

@@ -1,5 +1,0 @@
-use Rattle.wk_body.proofs.BriefTests.{wide_index_test}
-use Rattle.wk_body.proofs.brief.is_wide_index.Goals as goal
-
-pub returns-then-both-eq128 : goal.returns-then-both-eq128
-returns-then-both-eq128 c = λ more x y p q is. wide_index_test c.args.both x y c.if-both-eq128.true more p q is
