@@ -31,7 +31,7 @@ use Rattle.wk_module.specs.Formats.{Reader, made_at, taking_all, all_at}
 use Rattle.wk_module.specs.Items.{code_at, IsCode}
 use Rattle.wk_module.specs.ListReading.{IsReading, Rise}
 use Rattle.wk_module.specs.Modules.{SpellsNone}
-use Rattle.wk_module.specs.OutlineReading.{Underway, without_codes, aside, read_aside, code_aside_at, codes_aside_at, stub_of, read_outlined}
+use Rattle.wk_module.specs.OutlineReading.{PartialOutline, without_codes, aside, read_aside, code_aside_at, codes_aside_at, stub_of, read_outlined}
 use Rattle.wk_module.specs.Outlines.{outlined, outlined_func, stub}
 use Rattle.wk_module.specs.Reading.{Progress, at_start, section_end, with_custom, with_lists, section_by, with_section, sections_read, zipped, module_of, joined, module_at}
 use Rattle.wk_module.specs.SectionLaws.{number-of_number}
@@ -116,7 +116,7 @@ fails_under (Err d) f e h = cc
 
 module _ {K : Type 0} (make : BodyOf → K) (profile : Profile) (p : Progress) (s : Section) where
   -- what was read of all but the codes, with the codes that stand aside
-  abbrev beside : Progress → Underway K
+  abbrev beside : Progress → PartialOutline K
   beside q = record { rest = q; codes = map make p.lists.codes }
 
   abbrev StepsAside : Option SectionId → Type 0
@@ -128,7 +128,7 @@ module _ {K : Type 0} (make : BodyOf → K) (profile : Profile) (p : Progress) (
 
   contents_aside : (k : SectionId) → ((x : ContentsOf k) → aside make (with_lists k p x) ≡ beside (with_lists k (without_codes p) x)) → (r : Result (ContentsOf k) ReadFault)
       → ((r >>= λ x. Ok (with_lists k p x)) >>= λ q. Ok (aside make q)) ≡ ((r >>= λ x. Ok (with_lists k (without_codes p) x)) >>= λ q. Ok (beside q))
-  contents_aside k same (Ok x) = ap (λ (u : Underway K). done u) (same x)
+  contents_aside k same (Ok x) = ap (λ (u : PartialOutline K). done u) (same x)
   contents_aside k same (Err e) = refl
 
   by_contents : (k : SectionId) → ((x : ContentsOf k) → aside make (with_lists k p x) ≡ beside (with_lists k (without_codes p) x)) → StepsAside (Some k)
@@ -176,7 +176,7 @@ module _ {K : Type 0} (make : BodyOf → K) (profile : Profile) (p : Progress) (
   some_made (b ∷ bodies) = refl
 
   -- what was read, with those codes
-  abbrev pub with_written : List K → Underway K
+  abbrev pub with_written : List K → PartialOutline K
   with_written codes = record { rest = record (without_codes p) { place = cond (not (is_empty codes)) 10 p.place }; codes = codes }
 
   pub codes_aside : (codes : List K) → s.id ≡ 10 → all_at (codes_aside_at make profile (length p.lists.funcs)) (section_end s) s.contents ≡ Ok codes → read_aside make (with_section profile p s) ≡ Ok (with_written codes)
@@ -184,24 +184,24 @@ module _ {K : Type 0} (make : BodyOf → K) (profile : Profile) (p : Progress) (
       let a = bound codes_read (map make) codes (sym (made_all (map make) (codes_at profile (length p.lists.funcs)) (section_end s) s.contents) ∙ read) in
       let step : read_aside make (with_section profile p s) ≡ Ok (aside make (with_lists CodeSection p a.0)) = rw (codes_step (Ok a.0) is a.1) refl in
       let place : aside make (with_lists CodeSection p a.0) ≡ with_written (map make a.0) = ap (λ (none : Bool). record { rest = record (without_codes p) { place = cond (not none) 10 p.place }; codes = map make a.0 }) (some_made a.0) in
-      step ∙ ap (λ (u : Underway K). done u) (place ∙ ap with_written a.2)
+      step ∙ ap (λ (u : PartialOutline K). done u) (place ∙ ap with_written a.2)
 
   pub codes_aside_fail : (e : ReadFault) → s.id ≡ 10 → FailsAs e e.kind (all_at (codes_aside_at make profile (length p.lists.funcs)) (section_end s) s.contents) → FailsAs e e.kind (read_aside make (with_section profile p s))
   codes_aside_fail e is = fails_on e e.kind (all_at (codes_aside_at make profile (length p.lists.funcs)) (section_end s) s.contents) (read_aside make (with_section profile p s))
       (λ bad. rw (codes_step (Err e) is (fails_under codes_read (map make) e (sym (made_all (map make) (codes_at profile (length p.lists.funcs)) (section_end s) s.contents) ∙ bad))) refl)
 
   -- ... as a call answers it
-  pub section_beside : {X : Type 0} (view : X → Progress) (r : Result X ReadFault) (u : Underway K) → u ≡ aside make p → s.id ≢ 10 → Reads view r (with_section profile u.rest s) → Reads (λ x. record { rest = view x; codes = u.codes }) r (read_aside make (with_section profile p s))
+  pub section_beside : {X : Type 0} (view : X → Progress) (r : Result X ReadFault) (u : PartialOutline K) → u ≡ aside make p → s.id ≢ 10 → Reads view r (with_section profile u.rest s) → Reads (λ x. record { rest = view x; codes = u.codes }) r (read_aside make (with_section profile p s))
   section_beside view r u is other =
-      subst (λ (w : Underway K). Reads view r (with_section profile w.rest s) → Reads (λ x. record { rest = view x; codes = w.codes }) r (read_aside make (with_section profile p s))) (sym is) (reads_aside view r other)
+      subst (λ (w : PartialOutline K). Reads view r (with_section profile w.rest s) → Reads (λ x. record { rest = view x; codes = w.codes }) r (read_aside make (with_section profile p s))) (sym is) (reads_aside view r other)
 
   empty_by : (codes : List K) (n : ℕ) → n ≡ length codes → eqb n 0 ≡ is_empty codes
   empty_by [] n many = rw many refl
   empty_by (c ∷ codes) n many = rw many (ne_eqb (suc (length codes)) 0 (omega arith))
 
-  module _ (u : Underway K) (q : Progress) (funcs : ℕ) (is : u ≡ aside make p) (rest_is : q ≡ u.rest) (code : s.id ≡ 10) (funcs_are : funcs ≡ length q.lists.funcs) where
+  module _ (u : PartialOutline K) (q : Progress) (funcs : ℕ) (is : u ≡ aside make p) (rest_is : q ≡ u.rest) (code : s.id ≡ 10) (funcs_are : funcs ≡ length q.lists.funcs) where
     same_rest : q ≡ without_codes p
-    same_rest = rest_is ∙ ap (λ (w : Underway K). w.rest) is
+    same_rest = rest_is ∙ ap (λ (w : PartialOutline K). w.rest) is
 
     same_funcs : funcs ≡ length p.lists.funcs
     same_funcs = funcs_are ∙ ap (λ (x : Progress). length x.lists.funcs) same_rest
@@ -214,7 +214,7 @@ module _ {K : Type 0} (make : BodyOf → K) (profile : Profile) (p : Progress) (
         let by_test : with_written codes ≡ record { rest = record (without_codes p) { place = cond (not none) 10 p.place }; codes = codes } = ap (λ (b : Bool). record { rest = record (without_codes p) { place = cond (not b) 10 p.place }; codes = codes }) empty in
         let by_rest : record { rest = record (without_codes p) { place = cond (not none) 10 p.place }; codes = codes } ≡ record { rest = record q { place = cond (not none) 10 q.place }; codes = codes } = ap (λ (x : Progress). record { rest = record x { place = cond (not none) 10 x.place }; codes = codes }) (sym same_rest) in
         let by_place : record { rest = record q { place = cond (not none) 10 q.place }; codes = codes } ≡ record { rest = record q { place = place }; codes = codes } = ap (λ (k : ℕ). record { rest = record q { place = k }; codes = codes }) (sym place_is) in
-        codes_aside codes code read_it ∙ ap (λ (w : Underway K). done w) (by_test ∙ by_rest ∙ by_place)
+        codes_aside codes code read_it ∙ ap (λ (w : PartialOutline K). done w) (by_test ∙ by_rest ∙ by_place)
 
     pub section_fails : (e : ReadFault) → FailsAs e e.kind (all_at (codes_aside_at make profile funcs) (section_end s) s.contents) → FailsAs e e.kind (read_aside make (with_section profile p s))
     section_fails e fails = codes_aside_fail e code (subst (λ (k : ℕ). FailsAs e e.kind (all_at (codes_aside_at make profile k) (section_end s) s.contents)) same_funcs fails)
@@ -222,7 +222,7 @@ module _ {K : Type 0} (make : BodyOf → K) (profile : Profile) (p : Progress) (
 -- ---- section after section
 
 -- Of the sections, some are read and the rest come next.
-pub record IsReadSo {K : Type 0} (make : BodyOf → K) (profile : Profile) (left all : List (Result Section ReadFault)) (u : Underway K) : Type 0 where
+pub record IsReadSo {K : Type 0} (make : BodyOf → K) (profile : Profile) (left all : List (Result Section ReadFault)) (u : PartialOutline K) : Type 0 where
   pub so_far : Progress
   pub is_aside : u ≡ aside make so_far
   pub reads : sections_read profile so_far left ≡ sections_read profile at_start all
@@ -240,8 +240,8 @@ module _ {K : Type 0} (make : BodyOf → K) (profile : Profile) (all : List (Res
   abbrev whole : Result Progress ReadFault
   whole = sections_read profile at_start all
 
-  module _ (items left : List (Result Section ReadFault)) (u : Underway K) (so : IsReadSo make profile items all u) where
-    pub one_more : (s : Section) (v : Underway K) → items ≡ Ok s ∷ left → read_aside make (with_section profile so.so_far s) ≡ Ok v → IsReadSo make profile left all v
+  module _ (items left : List (Result Section ReadFault)) (u : PartialOutline K) (so : IsReadSo make profile items all u) where
+    pub one_more : (s : Section) (v : PartialOutline K) → items ≡ Ok s ∷ left → read_aside make (with_section profile so.so_far s) ≡ Ok v → IsReadSo make profile left all v
     unfolding sections_read
     one_more s v first step =
         let a = bound (with_section profile so.so_far s) (aside make) v step in
@@ -272,7 +272,7 @@ module _ {K : Type 0} (make : BodyOf → K) (profile : Profile) (all : List (Res
     unfolding sections_read
     finished first =
         let end : sections_read profile so.so_far items ≡ Ok so.so_far = ap (λ (is : List (Result Section ReadFault)). sections_read profile so.so_far is) first in
-        rw (sym so.reads ∙ end) (ap (λ (v : Underway K). done v) (sym so.is_aside))
+        rw (sym so.reads ∙ end) (ap (λ (v : PartialOutline K). done v) (sym so.is_aside))
 
 -- ---- the module
 
@@ -386,23 +386,23 @@ module _ {K : Type 0} (make : BodyOf → K) (profile : Profile) (b : List ℕ) w
   sections_fail e = fails_on e e.kind (read_aside make progress) (module_at profile b) (λ bad. rw (fails_under progress (aside make) e bad) refl)
 
   -- all that was read, where each code stands aside
-  pub record AreRead (u : Underway K) : Type 0 where
+  pub record AreRead (u : PartialOutline K) : Type 0 where
     pub so_far : Progress
     pub read : progress ≡ Ok so_far
     pub rest : u.rest ≡ without_codes so_far
     pub codes : u.codes ≡ map make so_far.lists.codes
     pub many : length u.codes ≡ length so_far.lists.codes
 
-  pub are_read : (u v : Underway K) → v ≡ u → read_aside make progress ≡ Ok u → AreRead v
+  pub are_read : (u v : PartialOutline K) → v ≡ u → read_aside make progress ≡ Ok u → AreRead v
   are_read u v same e =
       let a = bound progress (aside make) u e in
       let is : v ≡ aside make a.0 = same ∙ sym a.2 in
       record {
         so_far = a.0;
         read = a.1;
-        rest = ap (λ (w : Underway K). w.rest) is;
-        codes = ap (λ (w : Underway K). w.codes) is;
-        many = ap (λ (w : Underway K). length w.codes) is ∙ length-map a.0.lists.codes make;
+        rest = ap (λ (w : PartialOutline K). w.rest) is;
+        codes = ap (λ (w : PartialOutline K). w.codes) is;
+        many = ap (λ (w : PartialOutline K). length w.codes) is ∙ length-map a.0.lists.codes make;
       }
 
   together_is : (p : Progress) → progress ≡ Ok p → module_at profile b ≡ joined profile (length b) p
@@ -413,7 +413,7 @@ module _ {K : Type 0} (make : BodyOf → K) (profile : Profile) (b : List ℕ) w
   abbrev IsTogether : Progress → ℕ → Result Parts ReadFault → Type 0
   IsTogether q n r = (p : Progress) → q ≡ without_codes p → n ≡ length p.lists.codes → Reads (λ d. d) r (read_outlined (joined profile (length b) p))
 
-  module _ (u : Underway K) (r : AreRead u) (n : ℕ) (many : n ≡ length u.codes) where
+  module _ (u : PartialOutline K) (r : AreRead u) (n : ℕ) (many : n ≡ length u.codes) where
     joined_by : (x : Result Parts ReadFault) → IsTogether u.rest n x → Reads (λ d. d) x (read_outlined (joined profile (length b) r.so_far))
     joined_by x together = together r.so_far r.rest (many ∙ r.many)
 

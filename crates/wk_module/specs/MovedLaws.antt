@@ -1,6 +1,6 @@
 -- What stays as it is where an index space moves.
 use Rattle.std.proofs.Common.{◌≡◌, ℕ, List, [], ◌∷◌, map, refl, ap}
-use Rattle.wk_module.specs.declared.moving.MovedLists.{MovedLists}
+use Rattle.wk_module.specs.declared.renumber.MovedLists.{MovedLists}
 use Rattle.wk_module.specs.declared.types.Kind.{Kind}
 use Rattle.wk_module.specs.declared.types.Func.{Func}
 use Rattle.wk_module.specs.declared.types.GlobalDef.{GlobalDef}

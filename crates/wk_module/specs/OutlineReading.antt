@@ -13,22 +13,22 @@ use Rattle.wk_module.specs.Reading.{Progress}
 use Rattle.wk_module.specs.Sections.{codes_at}
 
 -- what was read so far: all but the codes, and what is kept of each code
-pub record Underway (K : Type 0) : Type 0 where
+pub record PartialOutline (K : Type 0) : Type 0 where
   pub rest : Progress
   pub codes : List K
 
-abbrev pub underway : {K : Type 0} → Progress → List K → Underway K
-underway rest codes = record { rest = rest; codes = codes }
+abbrev pub partial : {K : Type 0} → Progress → List K → PartialOutline K
+partial rest codes = record { rest = rest; codes = codes }
 
 abbrev pub without_codes : Progress → Progress
 without_codes p = record p { lists = record p.lists { codes = [] } }
 
 -- what was read so far, where each code stands aside, as what is made of its body
-abbrev pub aside : {K : Type 0} → (BodyOf → K) → Progress → Underway K
+abbrev pub aside : {K : Type 0} → (BodyOf → K) → Progress → PartialOutline K
 aside make p = record { rest = without_codes p; codes = map make p.lists.codes }
 
 -- ... or the first fault
-abbrev pub read_aside : {K : Type 0} → (BodyOf → K) → Result Progress ReadFault → Result (Underway K) ReadFault
+abbrev pub read_aside : {K : Type 0} → (BodyOf → K) → Result Progress ReadFault → Result (PartialOutline K) ReadFault
 read_aside make read = read >>= λ p. Ok (aside make p)
 
 -- a code, as what is made of its body

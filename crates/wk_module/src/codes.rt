@@ -12,7 +12,7 @@ ghost use Rattle.wk_module.specs.Sizes.{body_size, entry_size};
 ghost use Rattle.wk_module.specs.Writing.{section_contents};
 
 use crate::types::Func;
-use crate::writing::{plus, plus_count, plus_u32};
+use crate::vector_write::{plus, plus_count, plus_u32};
 use std::alloc::Global;
 use wk_body::{EncodeFault, append_body, body_len};
 use wk_bytes::{OutOfMemory, put_u32};

@@ -1,4 +1,4 @@
-//! The ways in which items of vectors are spelled. Each is a name alone: `readable` and `writable` say what it does.
+//! The ways in which items of vectors are spelled. Each is a name alone: `item_read` and `item_write` say what it does.
 
 /// Value types (5.3.1).
 pub(crate) struct ValTypes;

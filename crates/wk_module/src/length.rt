@@ -21,7 +21,7 @@ use crate::lists::Lists;
 use crate::module::Module;
 use crate::section_id;
 use crate::types::{Custom, Export, FuncType, Parts};
-use crate::writing::{Writable, list_len, plus, plus_bytes, plus_u32};
+use crate::vector_write::{Writable, list_len, plus, plus_bytes, plus_u32};
 use wk_bytes::{Items, LIMIT, Text};
 
 /// How many bytes the magic and the version are (5.5.15).

@@ -69,12 +69,12 @@ fn measure_codes(alloc: Global, parts: &Parts) -> Result<Vec<u32>, EncodeFault>
     match sizes_of_bodies(alloc, parts.funcs.as_slice()) {
         Ok(sizes) => Ok(sizes),
         Err(EncodeFault::TooLarge) => Err(EncodeFault::TooLarge),
-        Err(EncodeFault::Memory) => Err(unwritten(parts)),
+        Err(EncodeFault::Memory) => Err(unwritten_fault(parts)),
     }
 }
 
 // Why nothing is written where memory is wanted before it is known whether the module fits.
-fn unwritten(parts: &Parts) -> EncodeFault
+fn unwritten_fault(parts: &Parts) -> EncodeFault
     requires { IsInOrderFrom 0 parts.now.customs }
     ensures { Unwritten (encoded parts.now) result }
 {

@@ -3,7 +3,7 @@
 ghost use Rattle.std.specs.Prelude.{◌≡◌};
 ghost use Rattle.wk_module.specs.Shape.{nothing, settle, IsFormed, IsShaped};
 
-use crate::settle::{filled_ids, settled_customs};
+use crate::settle::{filled_ids, settle_customs};
 use crate::types::Parts;
 use std::alloc::Global;
 use std::marker::Model;
@@ -54,7 +54,7 @@ impl Module {
     {
         let filled = filled_ids(&parts);
         let Parts { customs, .. } = parts;
-        let customs = settled_customs(customs, &filled);
+        let customs = settle_customs(customs, &filled);
         Module {
             parts: Parts { customs, ..parts },
         }

@@ -10,12 +10,12 @@ ghost use Rattle.wk_body.specs.Written.{written_body};
 ghost use Rattle.wk_module.specs.declared.types.Parts.{Parts as PartsOf};
 ghost use Rattle.wk_module.specs.Formats.{all_at};
 ghost use Rattle.wk_module.specs.Modules.{SpellsNone};
-ghost use Rattle.wk_module.specs.OutlineReading.{aside, code_aside_at, codes_aside_at, read_aside, read_outlined, stub_of, underway, without_codes};
+ghost use Rattle.wk_module.specs.OutlineReading.{aside, code_aside_at, codes_aside_at, read_aside, read_outlined, stub_of, partial, without_codes};
 ghost use Rattle.wk_module.specs.Outlines.{outlined, stub};
 ghost use Rattle.wk_module.specs.Reading.{Progress, at_start, joined, module_at, section_end, sections_read, with_section};
 
 use crate::module::Module;
-use crate::reader::{SoFar, place_behind, reading_of_module};
+use crate::module_read::{PartialModule, place_behind, reading_of_module};
 use crate::section_id;
 use crate::section_reader::CodeReader;
 use crate::types::{Func, Parts};
@@ -39,7 +39,7 @@ pub struct Outline {
 }
 
 /// What is kept of a body that is read, in the place of its tokens.
-pub(crate) trait Kept {
+pub(crate) trait Keep {
     /// What that is.
     type Item: Drop;
 
@@ -66,7 +66,7 @@ pub(crate) trait Kept {
 // The written form.
 struct WrittenForm;
 
-impl Kept for WrittenForm {
+impl Keep for WrittenForm {
     type Item = Items<u8>;
 
     ghost use Rattle.wk_body.specs.Written.{written_body};
@@ -86,7 +86,7 @@ impl Kept for WrittenForm {
 
 // What is kept of the next code.
 #[tactic(auto, unfolding(crate::specs::Formats::made_at, crate::specs::Items::code_at))]
-fn next_kept<K: Kept>(
+fn next_kept<K: Keep>(
     alloc: Global,
     scratch: &mut Scratch,
     profile: Profile,
@@ -101,7 +101,7 @@ fn next_kept<K: Kept>(
 // What is kept of each code of the code section, where that many functions were declared. Room for a few is made once the first is
 // read; else it grows with the codes and not with the number.
 #[tactic(auto, using(crate::proofs::VectorReading::goes_on, crate::proofs::VectorReading::stops, crate::proofs::VectorReading::is_done, crate::proofs::Outlining::opened_front))]
-fn read_codes<K: Kept>(
+fn read_codes<K: Keep>(
     alloc: Global,
     scratch: &mut Scratch,
     profile: Profile,
@@ -124,16 +124,16 @@ fn read_codes<K: Kept>(
 }
 
 // Reads one more section. Of what was read so far nothing is said after a refusal.
-fn read_section<K: Kept>(
+fn read_section<K: Keep>(
     alloc: Global,
     scratch: &mut Scratch,
     profile: Profile,
     section: &RawSection<'_>,
-    so_far: &mut SoFar,
+    so_far: &mut PartialModule,
     kept: &mut Vec<K::Item>,
 ) -> Result<(), ReadFault>
-    ensures { (p : Progress) → underway so_far.old kept.old.items ≡ aside K.kept p
-        → Reads (λ u. underway so_far.new kept.new.items) result (read_aside K.kept (with_section profile p (raw_view section.now))) }
+    ensures { (p : Progress) → partial so_far.old kept.old.items ≡ aside K.kept p
+        → Reads (λ u. partial so_far.new kept.new.items) result (read_aside K.kept (with_section profile p (raw_view section.now))) }
 {
     if section.id != section_id::CODE {
         return so_far.read_section(alloc, scratch, profile, section);
@@ -145,17 +145,17 @@ fn read_section<K: Kept>(
 }
 
 // Reads each section of an input, from the first on.
-fn read_each_section<K: Kept>(
+fn read_each_section<K: Keep>(
     alloc: Global,
     scratch: &mut Scratch,
     bytes: &[u8],
     profile: Profile,
-    so_far: &mut SoFar,
+    so_far: &mut PartialModule,
     kept: &mut Vec<K::Item>,
 ) -> Result<(), ReadFault>
     requires first { so_far.old ≡ at_start }
     requires none { kept.old.items ≡ [] }
-    ensures { Reads (λ u. underway so_far.new kept.new.items) result
+    ensures { Reads (λ u. partial so_far.new kept.new.items) result
         (read_aside K.kept (sections_read profile at_start (sections_of bytes.now))) }
 {
     for section in Sections::new(bytes) {
@@ -165,15 +165,15 @@ fn read_each_section<K: Kept>(
 }
 
 // Section after section: all but the codes, and what is kept of each.
-fn read_sections<K: Kept>(
+fn read_sections<K: Keep>(
     alloc: Global,
     bytes: &[u8],
     profile: Profile,
-) -> Result<(SoFar, Vec<K::Item>), ReadFault>
-    ensures { Reads (λ u. underway u.0 u.1.items) result (read_aside K.kept (sections_read profile at_start (sections_of bytes.now))) }
+) -> Result<(PartialModule, Vec<K::Item>), ReadFault>
+    ensures { Reads (λ u. partial u.0 u.1.items) result (read_aside K.kept (sections_read profile at_start (sections_of bytes.now))) }
 {
     let mut scratch = Scratch::new(alloc);
-    let mut so_far = SoFar::new(alloc, profile);
+    let mut so_far = PartialModule::new(alloc, profile);
     let mut kept = Vec::new(alloc);
     let read = read_each_section::<K>(alloc, &mut scratch, bytes, profile, &mut so_far, &mut kept);
     drop(scratch);
@@ -207,10 +207,10 @@ fn stubs(alloc: Global, profile: Profile, indices: &[u32]) -> Result<Items<Func>
 }
 
 // The parts of the module of all that was read of an input with that many bytes, and of that many codes.
-fn together(
+fn finish_outline(
     alloc: Global,
     profile: Profile,
-    so_far: SoFar,
+    so_far: PartialModule,
     codes: usize,
     len: u32,
 ) -> Result<Parts, ReadFault>
@@ -237,7 +237,7 @@ fn together(
 /// # Errors
 ///
 /// As [`read_outline`] says.
-pub(crate) fn read_apart<K: Kept>(
+pub(crate) fn read_apart<K: Keep>(
     alloc: Global,
     bytes: &[u8],
     profile: Profile,
@@ -251,7 +251,7 @@ pub(crate) fn read_apart<K: Kept>(
     // The proof asks for what this says of modules.
     reading_of_module(bytes, profile);
     let (so_far, kept) = read_sections::<K>(alloc, bytes, profile)?;
-    let parts = together(alloc, profile, so_far, kept.len(), bytes.len() as u32)?;
+    let parts = finish_outline(alloc, profile, so_far, kept.len(), bytes.len() as u32)?;
     Ok((Module::of(parts), kept))
 }
 

@@ -16,9 +16,9 @@ ghost use Rattle.wk_module.specs.Reading.{section_end};
 ghost use Rattle.wk_module.specs.Sections.{codes_at, no_lists};
 
 use crate::lists::Lists;
-use crate::reader::SoFar;
-use crate::reading::{Readable, at_end};
+use crate::module_read::PartialModule;
 use crate::section_id;
+use crate::vector_read::{Readable, at_end};
 use std::alloc::Global;
 use std::marker::Model;
 use wk_body::{Body, Profile, Scratch, reading_of_code, written_form_of_code};
@@ -27,7 +27,7 @@ use wk_bytes::{Cursor, RawSection, ReadFault, ReadKind, Sections};
 /// The lists of a module of which some sections are read, and the sections that are left.
 #[derive(Debug, Drop)]
 pub struct SectionReader<'a> {
-    so_far: SoFar,
+    so_far: PartialModule,
     left: Sections<'a>,
     profile: Profile,
 }
@@ -54,7 +54,7 @@ fn are_bytes(bytes: &[u8])
     ensures { IsBytes bytes.now }
 {}
 
-impl SoFar {
+impl PartialModule {
     // Reads one more section, and keeps nothing of a custom one.
     #[tactic(auto, unfolding(crate::specs::ListReading::listed_by))]
     fn read_listed(
@@ -153,7 +153,7 @@ impl<'a> SectionReader<'a> {
         ensures { result ≡ record { profile = profile; lists = no_lists; left = sections_of bytes.now } }
     {
         SectionReader {
-            so_far: SoFar::new(alloc, profile),
+            so_far: PartialModule::new(alloc, profile),
             left: Sections::new(bytes),
             profile,
         }
@@ -285,7 +285,7 @@ impl<'a> SectionReader<'a> {
 /// The lists of a module of which some sections were read, without the bytes that they were read of.
 #[derive(Debug, Drop)]
 pub struct OwnedLists {
-    so_far: SoFar,
+    so_far: PartialModule,
     profile: Profile,
 }
 

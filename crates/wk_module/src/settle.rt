@@ -28,18 +28,18 @@ pub(crate) fn filled_ids(parts: &Parts) -> [bool; 12]
 }
 
 /// The custom sections, each at its settled place.
-pub(crate) fn settled_customs(customs: Items<Custom>, filled: &[bool]) -> Items<Custom>
+pub(crate) fn settle_customs(customs: Items<Custom>, filled: &[bool]) -> Items<Custom>
     ensures { result ≡ map (settled_custom (λ id. slice_index_or filled.now id false)) customs }
 {
     let mut customs = customs.into_vec();
     for custom in customs.iter_mut() {
-        custom.place = lowered(custom.place, filled);
+        custom.place = lower_place(custom.place, filled);
     }
     Items::from_vec(customs)
 }
 
 /// The greatest id up to a place whose section is filled, or 0.
-fn lowered(place: u8, filled: &[bool]) -> u8
+fn lower_place(place: u8, filled: &[bool]) -> u8
     ensures { result ≡ lowered_id (λ id. slice_index_or filled.now id false) place }
 {
     let mut id = place;

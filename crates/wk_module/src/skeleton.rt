@@ -11,8 +11,8 @@ ghost use Rattle.wk_module.specs.Reading.{module_at};
 
 use crate::codes::codes_len_by;
 use crate::module::Module;
-use crate::outline::{Kept, read_apart};
-use crate::reader::reading_of_module;
+use crate::module_read::reading_of_module;
+use crate::outline::{Keep, read_apart};
 use std::alloc::Global;
 use wk_body::{Profile, Scratch};
 use wk_bytes::{Cursor, ReadFault, ReadKind};
@@ -31,7 +31,7 @@ pub struct Skeleton {
 // How long the written form is.
 struct WrittenLen;
 
-impl Kept for WrittenLen {
+impl Keep for WrittenLen {
     type Item = u32;
 
     ghost use Rattle.wk_module.specs.Sizes.{body_size};

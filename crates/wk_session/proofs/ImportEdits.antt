@@ -11,7 +11,7 @@ use Rattle.wk_body.specs.declared.references.Ref.TheVariants as refs
 use Rattle.wk_body.specs.Moves.{MoveAlike}
 use Rattle.wk_body.specs.References.{refs_of}
 use Rattle.wk_body.specs.LengthsLaws.{limited_some}
-use Rattle.wk_module.specs.declared.moving.MovedLists.{MovedLists}
+use Rattle.wk_module.specs.declared.renumber.MovedLists.{MovedLists}
 use Rattle.wk_module.specs.declared.types.Func.{Func}
 use Rattle.wk_module.specs.declared.types.GlobalType.{GlobalType}
 use Rattle.wk_module.specs.declared.types.Import.{Import}

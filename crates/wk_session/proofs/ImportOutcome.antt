@@ -3,7 +3,7 @@ use Rattle.std.proofs.Common.{◌≡◌, ℕ, Bool, List, map, Err, Global, ap, 
 use Rattle.std.specs.Prelude.{◌≢◌, option_map}
 use Rattle.std.specs.declared.collections.BTreeSet.{BTreeSet}
 use Rattle.wk_body.specs.declared.references.Ref.{Ref}
-use Rattle.wk_module.specs.declared.moving.MovedLists.{MovedLists}
+use Rattle.wk_module.specs.declared.renumber.MovedLists.{MovedLists}
 use Rattle.wk_module.specs.declared.types.Import.{Import}
 use Rattle.wk_module.specs.declared.types.Kind.{Kind}
 use Rattle.wk_module.specs.declared.types.Parts.{Parts}

@@ -4,7 +4,7 @@ use Rattle.wk_body.specs.declared.fault.EncodeFault.{EncodeFault}
 use Rattle.wk_body.specs.declared.fault.EncodeFault.TheVariants as encoding
 use Rattle.wk_body.specs.Lengths.{limited}
 use Rattle.wk_body.specs.LengthsLaws.{limited_none}
-use Rattle.wk_module.specs.declared.moving.MovedLists.{MovedLists}
+use Rattle.wk_module.specs.declared.renumber.MovedLists.{MovedLists}
 use Rattle.wk_module.specs.declared.types.Func.{Func}
 use Rattle.wk_module.specs.declared.types.Import.{Import}
 use Rattle.wk_module.specs.declared.types.Kind.{Kind}

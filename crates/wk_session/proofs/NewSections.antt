@@ -1,6 +1,6 @@
 -- The sections that an import makes anew.
 use Rattle.std.proofs.Common.{◌≡◌, ℕ, Bool, true, false, if◌then◌else◌, Option, Some, None, List, set, is_some, refl, sym, ap, ◌∙◌, arith}
-use Rattle.wk_module.specs.declared.moving.MovedLists.{MovedLists}
+use Rattle.wk_module.specs.declared.renumber.MovedLists.{MovedLists}
 use Rattle.wk_module.specs.Sections.{SectionLists, of_number}
 use Rattle.wk_module.specs.Writing.{contents_by}
 use Rattle.wk_session.specs.declared.pieces.NewSections.{NewSections}

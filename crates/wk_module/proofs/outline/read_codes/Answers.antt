@@ -11,14 +11,14 @@ use Rattle.wk_module.proofs.outline.read_codes.Goals as goal
 pub returns-in_err-codes : goal.returns-in_err-codes
 returns-in_err-codes g c =
     let p = err_from_is_err_and c.from_residual.result c.from_residual.ensures.1 in
-    rw (p.1, p.2) (not_opened g.K.Kept.kept c.args.profile c.args.funcs (section_end (raw_view c.args.section.now)) c.args.section.now.contents.now c.in_err-codes.field-0.0 (c.in_err-codes.ensures.read c.args.profile))
+    rw (p.1, p.2) (not_opened g.K.Keep.kept c.args.profile c.args.funcs (section_end (raw_view c.args.section.now)) c.args.section.now.contents.now c.in_err-codes.field-0.0 (c.in_err-codes.ensures.read c.args.profile))
 
 pub returns-in_err-code : goal.returns-in_err-code
 returns-in_err-code g c =
     let p = err_from_is_err_and c.from_residual-in_err-code.result c.from_residual-in_err-code.ensures.1 in
     let e = c.in_err-code.field-0.0 in
-    let read = code_aside_at g.K.Kept.kept c.args.profile in
-    let codes = codes_aside_at g.K.Kept.kept c.args.profile c.args.funcs in
+    let read = code_aside_at g.K.Keep.kept c.args.profile in
+    let codes = codes_aside_at g.K.Keep.kept c.args.profile c.args.funcs in
     let before = c.loop.codes in
     let end = section_end (raw_view c.args.section.now) in
     let bytes = c.args.section.now.contents.now in
