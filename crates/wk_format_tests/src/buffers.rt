@@ -1,4 +1,4 @@
-//! Long bodies: what is written over the ends of a sheet, with integers at the borders of their lengths.
+//! Long bodies: what is written over the ends of a buffer, with integers at the borders of their lengths.
 
 use std::alloc::{AllocError, Global};
 use std::test::Fail;
@@ -55,7 +55,7 @@ fn wrong_front(alloc: Global) -> Result<Option<u32>, AllocError> {
 }
 
 #[test]
-fn writes_over_the_end_of_a_sheet(rt: HostRuntime) -> Result<(), Fail> {
+fn writes_over_the_end_of_a_buffer(rt: HostRuntime) -> Result<(), Fail> {
     assert_eq!(rt; wrong_front(rt.alloc())?, None);
     Ok(())
 }
