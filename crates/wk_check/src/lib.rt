@@ -41,7 +41,7 @@
 //! sections.
 #![tactic(auto)]
 
-mod carry;
+mod carry_verdict;
 mod constant;
 mod control;
 mod display;
@@ -52,7 +52,7 @@ mod fast_extended;
 mod fast_path;
 mod fault;
 mod incremental;
-mod judge_bytes;
+mod judge_encoded;
 mod judging;
 mod locals;
 mod meter;
@@ -67,14 +67,14 @@ mod streaming;
 mod typing;
 mod whole;
 
-pub use carry::{carry, carry_moved, first_code_fault, verdicts_that_keep};
+pub use carry_verdict::{carry, carry_moved, first_code_fault, verdicts_that_keep};
 pub use env::{Answer, Env};
 pub use fault::{BodyVerdict, Fault, FaultKind, Place, Verdict};
 pub use incremental::{
     laws_of_valid_modules, verdict_with_body, verdict_with_export, verdict_with_func,
     verdict_with_global, verdict_with_import, verdict_with_type,
 };
-pub use judge_bytes::{judge_bytes, judge_spelled};
+pub use judge_encoded::{judge_bytes, judge_spelled};
 pub use judging::{judge, judge_around};
 pub use meter::{Meter, declarative_rules, judge_body};
 pub use whole::Whole;

@@ -3,7 +3,7 @@ use Rattle.wk_body.specs.Vectors.{items_at}
 use Rattle.wk_module.specs.Items.{code_at}
 use Rattle.wk_module.specs.Listed.{listed}
 use Rattle.wk_check.proofs.JudgedCodes.{rest_judged, all_judged}
-use Rattle.wk_check.proofs.judge_bytes.fault_of_codes.Given as goal
+use Rattle.wk_check.proofs.judge_encoded.fault_of_codes.Given as goal
 
 abbrev pub invariant-loop-index : goal.invariant-loop-index
 invariant-loop-index l = record {

@@ -6,7 +6,7 @@ use Rattle.wk_module.specs.ListReading.{IsReading, AreListsOfModule}
 use Rattle.wk_module.specs.Reading.{module_at}
 use Rattle.wk_check.specs.Spelled.{judged, codes_judged}
 use Rattle.wk_check.proofs.JudgedCodes.{codes_fail, codes_read, judged_in_parts, told_codes}
-use Rattle.wk_check.proofs.judge_bytes.judge_from_code.Goals as goal
+use Rattle.wk_check.proofs.judge_encoded.judge_from_code.Goals as goal
 
 pub fault_of_section-requires-clause-spelled : goal.fault_of_section-requires-clause-spelled
 fault_of_section-requires-clause-spelled c = λ known.

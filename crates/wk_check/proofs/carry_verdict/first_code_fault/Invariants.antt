@@ -1,7 +1,7 @@
 use Rattle.std.proofs.Common.{◌≡◌, drop, map}
 use Rattle.wk_check.specs.Flaws.{first_in}
 use Rattle.wk_check.specs.Items.{body_flaw}
-use Rattle.wk_check.proofs.carry.first_code_fault.Given as goal
+use Rattle.wk_check.proofs.carry_verdict.first_code_fault.Given as goal
 
 abbrev pub invariant-loop-index : goal.invariant-loop-index
 invariant-loop-index l =

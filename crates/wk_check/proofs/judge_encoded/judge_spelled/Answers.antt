@@ -2,7 +2,7 @@ use Rattle.std.proofs.Common.{Ok}
 use Rattle.wk_module.specs.Reading.{module_at}
 use Rattle.wk_check.proofs.JudgedCodes.{judged_as, told_meaning}
 use Rattle.wk_check.proofs.Valid.{read_exactly}
-use Rattle.wk_check.proofs.judge_bytes.judge_spelled.Goals as goal
+use Rattle.wk_check.proofs.judge_encoded.judge_spelled.Goals as goal
 
 pub returns-in-Ok-clause-exact : goal.returns-in-Ok-clause-exact
 returns-in-Ok-clause-exact c = λ m at. judged_as (module_at c.args.profile c.args.bytes.now) m c.in-Ok.verdict c.in-Ok.ensures at

@@ -2,7 +2,7 @@ use Rattle.std.proofs.Common.{sym, ◌∙◌}
 use Rattle.wk_bytes.specs.Raw.{raw_view}
 use Rattle.wk_module.specs.Listed.{listed}
 use Rattle.wk_check.proofs.JudgedCodes.{judged_as_opened}
-use Rattle.wk_check.proofs.judge_bytes.fault_of_section.Goals as goal
+use Rattle.wk_check.proofs.judge_encoded.fault_of_section.Goals as goal
 
 pub fault_of_codes-fault-requires-clause-spelled : goal.fault_of_codes-fault-requires-clause-spelled
 fault_of_codes-fault-requires-clause-spelled c = λ known.

@@ -7,7 +7,7 @@ use Rattle.wk_module.specs.Listed.{listed}
 use Rattle.wk_module.proofs.CodesApart.{code_not_taken}
 use Rattle.wk_check.specs.Spelled.{fault_read, opened_judged}
 use Rattle.wk_check.proofs.JudgedCodes.{section_begins, fault_stays, body_step, body_stops, section_stops, section_judged, section_goes_on, code_is_read, code_not_read}
-use Rattle.wk_check.proofs.judge_bytes.fault_of_codes.Goals as goal
+use Rattle.wk_check.proofs.judge_encoded.fault_of_codes.Goals as goal
 
 pub returns-in_err-next_code : goal.returns-in_err-next_code
 returns-in_err-next_code c =
