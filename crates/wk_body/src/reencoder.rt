@@ -60,7 +60,7 @@ fn respell_signed(out: &mut Vec<u8>, pending: &[u8], left: usize, n: i64) -> Opt
 }
 
 impl<'a> Reencoder<'a> {
-    // The same, of its own.
+    // The same reencoder, as a copy of its own.
     #[inline(always)]
     pub(crate) fn ahead(&self) -> Reencoder<'a>
         ensures { result ≡ self.now }

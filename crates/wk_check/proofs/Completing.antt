@@ -14,12 +14,12 @@ use Rattle.wk_body.specs.Reading.{after}
 use Rattle.wk_body.specs.TokenReading.{MayStand}
 use Rattle.wk_check.specs.declared.fault.FaultKind.{FaultKind}
 use Rattle.wk_check.specs.declared.stacks.FrameKind.{FrameKind}
-use Rattle.wk_check.specs.declared.stacks.FrameKind.TheVariants as frames
+use Rattle.wk_check.specs.declared.stacks.FrameKind.TheVariants as frame_kinds
 use Rattle.wk_check.specs.Answers.{Found}
 use Rattle.wk_check.specs.Own.{Own, pushed, fresh, ended}
 use Rattle.wk_check.specs.Effects.{results_of, effect_of}
 use Rattle.wk_check.specs.Typing.{after_effect, is_finish, else_count, count, entered, begun, label_types, typed, code_result}
-use Rattle.wk_check.specs.Levels.{Level, Blocks, blocks, with_own, with_top, opened, frame_of, labels_of, enter_block, end_then, end_inner, end_block, step}
+use Rattle.wk_check.specs.Levels.{Level, Blocks, blocks, with_own, with_top, opened, frame_kind_of, labels_of, enter_block, end_then, end_inner, end_block, step}
 use Rattle.wk_check.specs.Moves.{body_of}
 
 module _ (A : Ref → Found) (locals : ℕ → Option ValType) (final : List ValType) where
@@ -58,7 +58,7 @@ module _ (A : Ref → Found) (locals : ℕ → Option ValType) (final : List Val
 
   -- what stands behind the else of a block that so began: only an if has one
   abbrev pub Second : List (List ValType) → FrameKind → BlockType → Instrs → Type 0
-  Second labels frames.If bt other = IsBranch labels bt other
+  Second labels frame_kinds.If bt other = IsBranch labels bt other
   Second labels _ bt other = Unit {0}
 
   -- what is left to do in the open blocks, the innermost first, has no fault
@@ -73,7 +73,7 @@ module _ (A : Ref → Found) (locals : ℕ → Option ValType) (final : List Val
 
   -- as many blocks are open for the reader as stand in the outermost one, which is the body
   abbrev pub Matches : List Bool → Level → List Level → Type 0
-  Matches [] l [] = l.kind ≡ frames.Body
+  Matches [] l [] = l.kind ≡ frame_kinds.Body
   Matches [] l (m ∷ ls) = ⊥
   Matches (k ∷ ks) l [] = ⊥
   Matches (k ∷ ks) l (m ∷ ls) = Matches ks m ls
@@ -98,7 +98,7 @@ module _ (A : Ref → Found) (locals : ℕ → Option ValType) (final : List Val
   -- the algorithm goes from a branch to the next one: the block stays open for both
   matches_then : (k : Bool) (ks : List Bool) (l m : Level) (ls : List Level) (new : Blocks) → end_then A (blocks l (m ∷ ls)) ≡ Ok new → Matches ks m ls → Matches (k ∷ ks) new.inner new.outer
   matches_then k ks l m ls new e h =
-      let a = bind_ok (ended (results_of A l.block) l.own) (λ u. Ok (blocks (opened A frames.Else l.block) (m ∷ ls))) new e in
+      let a = bind_ok (ended (results_of A l.block) l.own) (λ u. Ok (blocks (opened A frame_kinds.Else l.block) (m ∷ ls))) new e in
       let is = ok_is {E = FaultKind} _ _ a.2 in
       subst (λ (b : Blocks). Matches (k ∷ ks) b.inner b.outer) is h
 
@@ -111,16 +111,16 @@ module _ (A : Ref → Found) (locals : ℕ → Option ValType) (final : List Val
 
   -- a block is closed for both
   matches_end : (o : FrameKind) (ks : List Bool) (l m : Level) (ls : List Level) (new : Blocks) → end_block A o (blocks l (m ∷ ls)) ≡ Ok new → Matches ks m ls → Matches ks new.inner new.outer
-  matches_end frames.Body ks l m ls new e h = matches_inner ks l m ls new e h
-  matches_end frames.Block ks l m ls new e h = matches_inner ks l m ls new e h
-  matches_end frames.Loop ks l m ls new e h = matches_inner ks l m ls new e h
-  matches_end frames.Else ks l m ls new e h = matches_inner ks l m ls new e h
-  matches_end frames.If ks l m ls new e h =
+  matches_end frame_kinds.Body ks l m ls new e h = matches_inner ks l m ls new e h
+  matches_end frame_kinds.Block ks l m ls new e h = matches_inner ks l m ls new e h
+  matches_end frame_kinds.Loop ks l m ls new e h = matches_inner ks l m ls new e h
+  matches_end frame_kinds.Else ks l m ls new e h = matches_inner ks l m ls new e h
+  matches_end frame_kinds.If ks l m ls new e h =
       let a = bind_ok (end_then A (blocks l (m ∷ ls))) (λ b. end_inner A b.inner b.outer) new e in
-      let c = bind_ok (ended (results_of A l.block) l.own) (λ u. Ok (blocks (opened A frames.Else l.block) (m ∷ ls))) a.0 a.1 in
+      let c = bind_ok (ended (results_of A l.block) l.own) (λ u. Ok (blocks (opened A frame_kinds.Else l.block) (m ∷ ls))) a.0 a.1 in
       let is = ok_is {E = FaultKind} _ _ c.2 in
-      let e2 : end_inner A (opened A frames.Else l.block) (m ∷ ls) ≡ Ok new = subst (λ (b : Blocks). end_inner A b.inner b.outer ≡ Ok new) (sym is) a.2 in
-      matches_inner ks (opened A frames.Else l.block) m ls new e2 h
+      let e2 : end_inner A (opened A frame_kinds.Else l.block) (m ∷ ls) ≡ Ok new = subst (λ (b : Blocks). end_inner A b.inner b.outer ≡ Ok new) (sym is) a.2 in
+      matches_inner ks (opened A frame_kinds.Else l.block) m ls new e2 h
 
   -- one token, with the algorithm's blocks taken apart
   matches_after : (ks next : List Bool) (t : Tok) (l : Level) (ls : List Level) (new : Blocks) → Matches ks l ls → after t ks ≡ Some next → MayStand t ks → step A locals final t (blocks l ls) ≡ Ok new → Matches next new.inner new.outer
@@ -130,9 +130,9 @@ module _ (A : Ref → Found) (locals : ℕ → Option ValType) (final : List Val
       let same = subst (λ (b : Blocks). Matches ks b.inner b.outer) is (matches_own ks l ls a.0 h) in
       subst (λ (z : List Bool). Matches z new.inner new.outer) (some_is _ _ e) same
   matches_after ks next (Open kind bt skip) l ls new h e may r =
-      subst (λ (z : List Bool). Matches z new.inner new.outer) (some_is _ _ e) (matches_enter false ks false (frame_of kind) bt (blocks l ls) new r h)
+      subst (λ (z : List Bool). Matches z new.inner new.outer) (some_is _ _ e) (matches_enter false ks false (frame_kind_of kind) bt (blocks l ls) new r h)
   matches_after ks next (OpenIf bt skip) l ls new h e may r =
-      subst (λ (z : List Bool). Matches z new.inner new.outer) (some_is _ _ e) (matches_enter true ks true frames.If bt (blocks l ls) new r h)
+      subst (λ (z : List Bool). Matches z new.inner new.outer) (some_is _ _ e) (matches_enter true ks true frame_kinds.If bt (blocks l ls) new r h)
   matches_after [] next (Otherwise skip) l ls new h e may r = absurd may
   matches_after (k ∷ ks) next (Otherwise skip) l [] new h e may r = absurd h
   matches_after (k ∷ ks) next (Otherwise skip) l (m ∷ ls) new h e may r =
@@ -174,33 +174,33 @@ module _ (A : Ref → Found) (locals : ℕ → Option ValType) (final : List Val
   -- a block or a loop in front
   block_back : (kind : BlockKind) (bt : BlockType) (skip : ℕ) (l : Level) (ls : List Level) (new : Blocks) → step A locals final (Open kind bt skip) (blocks l ls) ≡ Ok new → (xs : List Part) → Completes xs new.inner new.outer → Completes (before (Open kind bt skip) xs) l ls
   block_back kind bt skip l ls new r [] c = absurd c
-  block_back kind bt skip l ls new r (x ∷ []) c = absurd (nested_back false (frame_of kind) bt l ls new r (x ∷ []) c).2
+  block_back kind bt skip l ls new r (x ∷ []) c = absurd (nested_back false (frame_kind_of kind) bt l ls new r (x ∷ []) c).2
   block_back kinds.Block bt skip l ls new r (x ∷ y ∷ ys) c =
-      let n = nested_back false frames.Block bt l ls new r (x ∷ y ∷ ys) c in
+      let n = nested_back false frame_kinds.Block bt l ls new r (x ∷ y ∷ ys) c in
       lead_on y ys l ls (pushed (results_of A bt) n.0) (Block kinds.Block bt x.rest y.rest) (λ t h. (n.0, n.2.0, n.1, n.2.1, n.2.2, h)) n.2.4
   block_back kinds.Loop bt skip l ls new r (x ∷ y ∷ ys) c =
-      let n = nested_back false frames.Loop bt l ls new r (x ∷ y ∷ ys) c in
+      let n = nested_back false frame_kinds.Loop bt l ls new r (x ∷ y ∷ ys) c in
       lead_on y ys l ls (pushed (results_of A bt) n.0) (Block kinds.Loop bt x.rest y.rest) (λ t h. (n.0, n.2.0, n.1, n.2.1, n.2.2, h)) n.2.4
 
   -- an if in front
   if_back : (bt : BlockType) (skip : ℕ) (l : Level) (ls : List Level) (new : Blocks) → step A locals final (OpenIf bt skip) (blocks l ls) ≡ Ok new → (xs : List Part) → Completes xs new.inner new.outer → Completes (before (OpenIf bt skip) xs) l ls
   if_back bt skip l ls new r [] c = absurd c
-  if_back bt skip l ls new r (x ∷ []) c = absurd (nested_back true frames.If bt l ls new r (x ∷ []) c).2
+  if_back bt skip l ls new r (x ∷ []) c = absurd (nested_back true frame_kinds.If bt l ls new r (x ∷ []) c).2
   if_back bt skip l ls new r (x ∷ y ∷ ys) c =
-      let n = nested_back true frames.If bt l ls new r (x ∷ y ∷ ys) c in
+      let n = nested_back true frame_kinds.If bt l ls new r (x ∷ y ∷ ys) c in
       let d = n.2.3 in
       lead_on y ys l ls (pushed (results_of A bt) n.0) (If bt x.rest x.other y.rest) (λ t h. (n.0, n.2.0, d.0, n.1, n.2.1, n.2.2, d.1, d.2, h)) n.2.4
 
   -- a branch will do for the else of any block
   second_of : (labels : List (List ValType)) (o : FrameKind) (bt : BlockType) (other : Instrs) → IsBranch labels bt other → Second labels o bt other
-  second_of labels frames.If bt other h = h
-  second_of labels frames.Body bt other h = tt
-  second_of labels frames.Block bt other h = tt
-  second_of labels frames.Loop bt other h = tt
-  second_of labels frames.Else bt other h = tt
+  second_of labels frame_kinds.If bt other h = h
+  second_of labels frame_kinds.Body bt other h = tt
+  second_of labels frame_kinds.Block bt other h = tt
+  second_of labels frame_kinds.Loop bt other h = tt
+  second_of labels frame_kinds.Else bt other h = tt
 
   -- what is left to do at the end of a branch, where an else branch is still to come
-  branch_back : (l m : Level) (ls : List Level) (x : Part) (xs : List Part) → ended (results_of A l.block) l.own ≡ Ok tt → Completes (x ∷ xs) (opened A frames.Else l.block) (m ∷ ls) → Completes (record { rest = Finish; other = x.rest } ∷ xs) l (m ∷ ls)
+  branch_back : (l m : Level) (ls : List Level) (x : Part) (xs : List Part) → ended (results_of A l.block) l.own ≡ Ok tt → Completes (x ∷ xs) (opened A frame_kinds.Else l.block) (m ∷ ls) → Completes (record { rest = Finish; other = x.rest } ∷ xs) l (m ∷ ls)
   branch_back l m ls x [] e c = absurd c
   branch_back l m ls x (y ∷ ys) e c =
       (l.own, refl, e, second_of (labels_of A (blocks m ls)) l.kind l.block x.rest (c.0, c.1, c.2), c.4)
@@ -209,7 +209,7 @@ module _ (A : Ref → Found) (locals : ℕ → Option ValType) (final : List Val
   else_back : (skip : ℕ) (l m : Level) (ls : List Level) (new : Blocks) → end_then A (blocks l (m ∷ ls)) ≡ Ok new → (xs : List Part) → Completes xs new.inner new.outer → Completes (before (Otherwise skip) xs) l (m ∷ ls)
   else_back skip l m ls new r [] c = absurd c
   else_back skip l m ls new r (x ∷ xs) c =
-      let a = bind_ok (ended (results_of A l.block) l.own) (λ u. Ok (blocks (opened A frames.Else l.block) (m ∷ ls))) new r in
+      let a = bind_ok (ended (results_of A l.block) l.own) (λ u. Ok (blocks (opened A frame_kinds.Else l.block) (m ∷ ls))) new r in
       let is = ok_is {E = FaultKind} _ _ a.2 in
       branch_back l m ls x xs a.1 (subst (λ (b : Blocks). Completes (x ∷ xs) b.inner b.outer) (sym is) c)
 
@@ -223,17 +223,17 @@ module _ (A : Ref → Found) (locals : ℕ → Option ValType) (final : List Val
 
   -- an end in front, of a block that so began
   end_of_back : (o : FrameKind) (bt : BlockType) (s : Own) (m : Level) (ls : List Level) (new : Blocks) → end_block A o (blocks (record { kind = o; block = bt; own = s }) (m ∷ ls)) ≡ Ok new → (xs : List Part) → Completes xs new.inner new.outer → Completes (before Close xs) (record { kind = o; block = bt; own = s }) (m ∷ ls)
-  end_of_back frames.Body bt s m ls new r xs c = inner_back (record { kind = frames.Body; block = bt; own = s }) m ls new r tt xs c
-  end_of_back frames.Block bt s m ls new r xs c = inner_back (record { kind = frames.Block; block = bt; own = s }) m ls new r tt xs c
-  end_of_back frames.Loop bt s m ls new r xs c = inner_back (record { kind = frames.Loop; block = bt; own = s }) m ls new r tt xs c
-  end_of_back frames.Else bt s m ls new r xs c = inner_back (record { kind = frames.Else; block = bt; own = s }) m ls new r tt xs c
-  end_of_back frames.If bt s m ls new r xs c =
-      let l : Level = record { kind = frames.If; block = bt; own = s } in
+  end_of_back frame_kinds.Body bt s m ls new r xs c = inner_back (record { kind = frame_kinds.Body; block = bt; own = s }) m ls new r tt xs c
+  end_of_back frame_kinds.Block bt s m ls new r xs c = inner_back (record { kind = frame_kinds.Block; block = bt; own = s }) m ls new r tt xs c
+  end_of_back frame_kinds.Loop bt s m ls new r xs c = inner_back (record { kind = frame_kinds.Loop; block = bt; own = s }) m ls new r tt xs c
+  end_of_back frame_kinds.Else bt s m ls new r xs c = inner_back (record { kind = frame_kinds.Else; block = bt; own = s }) m ls new r tt xs c
+  end_of_back frame_kinds.If bt s m ls new r xs c =
+      let l : Level = record { kind = frame_kinds.If; block = bt; own = s } in
       let a = bind_ok (end_then A (blocks l (m ∷ ls))) (λ b. end_inner A b.inner b.outer) new r in
-      let d = bind_ok (ended (results_of A bt) s) (λ u. Ok (blocks (opened A frames.Else bt) (m ∷ ls))) a.0 a.1 in
+      let d = bind_ok (ended (results_of A bt) s) (λ u. Ok (blocks (opened A frame_kinds.Else bt) (m ∷ ls))) a.0 a.1 in
       let is = ok_is {E = FaultKind} _ _ d.2 in
-      let e : end_inner A (opened A frames.Else bt) (m ∷ ls) ≡ Ok new = subst (λ (b : Blocks). end_inner A b.inner b.outer ≡ Ok new) (sym is) a.2 in
-      branch_back l m ls (record { rest = Finish; other = Finish }) xs d.1 (inner_back (opened A frames.Else bt) m ls new e tt xs c)
+      let e : end_inner A (opened A frame_kinds.Else bt) (m ∷ ls) ≡ Ok new = subst (λ (b : Blocks). end_inner A b.inner b.outer ≡ Ok new) (sym is) a.2 in
+      branch_back l m ls (record { rest = Finish; other = Finish }) xs d.1 (inner_back (opened A frame_kinds.Else bt) m ls new e tt xs c)
 
   -- one token in front, with the algorithm's blocks taken apart
   back : (ks next : List Bool) (t : Tok) (l : Level) (ls : List Level) (new : Blocks) → Matches ks l ls → after t ks ≡ Some next → MayStand t ks → step A locals final t (blocks l ls) ≡ Ok new → (xs : List Part) → Completes xs new.inner new.outer → Completes (before t xs) l ls

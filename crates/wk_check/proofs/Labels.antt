@@ -7,7 +7,7 @@ use Rattle.wk_body.specs.declared.types.BlockType.{BlockType}
 use Rattle.wk_body.specs.declared.types.BlockType.TheVariants.{Empty}
 use Rattle.wk_body.specs.declared.references.Ref.{Ref}
 use Rattle.wk_check.specs.declared.stacks.FrameKind.{FrameKind}
-use Rattle.wk_check.specs.declared.stacks.FrameKind.TheVariants as frames
+use Rattle.wk_check.specs.declared.stacks.FrameKind.TheVariants as frame_kinds
 use Rattle.wk_check.specs.Answers.{Found}
 use Rattle.wk_check.specs.Effects.{same_types}
 use Rattle.wk_check.specs.Levels.{Level, Blocks, level_label, outer_labels, labels_of}
@@ -27,11 +27,11 @@ label_at A b n r e = label_in A (b.inner ∷ b.outer) n ∙ ap (label_found A) (
 
 -- a block of no types takes none, whatever opened it
 none_at : (A : Ref → Found) (o : FrameKind) → level_label A o Empty ≡ []
-none_at A frames.Body = refl
-none_at A frames.Block = refl
-none_at A frames.Loop = refl
-none_at A frames.If = refl
-none_at A frames.Else = refl
+none_at A frame_kinds.Body = refl
+none_at A frame_kinds.Block = refl
+none_at A frame_kinds.Loop = refl
+none_at A frame_kinds.If = refl
+none_at A frame_kinds.Else = refl
 
 pub label_none : (A : Ref → Found) (b : Blocks) (n : ℕ) (o : FrameKind) → Some (o, Empty) ≡ head_at b n → slice_get (labels_of A b) n ≡ Some []
 label_none A b n o e = label_at A b n (Some (o, Empty)) e ∙ ap Some (none_at A o)

@@ -27,8 +27,8 @@ use Rattle.wk_body.specs.TokenReading.{TokenReading, NextRead, MayStand}
 use Rattle.wk_body.specs.Tree.{Tok, Simple, Open, OpenIf, Otherwise, Close}
 use Rattle.wk_body.proofs.Table.{numeric_of-opcode}
 use Rattle.wk_body.proofs.TokenSteps.{plain_token}
-use Rattle.wk_check.specs.declared.stacks.FrameKind.TheVariants as frames
-use Rattle.wk_check.specs.declared.fast_blocks.Peek.{Peek}
+use Rattle.wk_check.specs.declared.stacks.FrameKind.TheVariants as frame_kinds
+use Rattle.wk_check.specs.declared.fast_blocks.FastStep.{FastStep}
 use Rattle.wk_check.specs.declared.step.Function.{Function}
 use Rattle.wk_check.specs.declared.stop.Stop.{Stop}
 use Rattle.wk_check.specs.Answers.{Found}
@@ -214,21 +214,21 @@ token_is profile ks from mid opcode t rest front is =
     ap (token_at profile ks from.end) (byte_at-takes from.end from.rest opcode mid.rest front.0) ∙ subst (λ (end : ℕ). behind_at profile ks at opcode end mid.rest ≡ Ok (t, rest)) front.1 (is at)
 
 module _ (A : Ref → Found) (locals : ℕ → Option ValType) (final : List ValType) (profile : Profile) (old new : TokenReading) (from mid to : Span) (b next : Blocks) where
-  pub block_taken : (byte_at from.end from.rest ≡ Ok (0x02, mid.rest)) × (mid.end ≡ from.end) → IsOpened A false frames.Block profile old new mid to b next → IsTaken A locals final profile old new from to b next
+  pub block_taken : (byte_at from.end from.rest ≡ Ok (0x02, mid.rest)) × (mid.end ≡ from.end) → IsOpened A false frame_kinds.Block profile old new mid to b next → IsTaken A locals final profile old new from to b next
   block_taken front o = record {
     token = kept.Block o.block 0;
     read = record { read = token_is profile old.kinds from mid 0x02 (Open kinds.Block o.block 0) to.rest front (λ at. block_at profile old.kinds at mid.end mid.rest to.rest o.block o.shallow o.read); same_end = o.same_end ∙ front.1; kinds = rw o.kinds refl; within = tt; stands = tt };
     typed = o.typed;
   }
 
-  pub loop_taken : (byte_at from.end from.rest ≡ Ok (0x03, mid.rest)) × (mid.end ≡ from.end) → IsOpened A false frames.Loop profile old new mid to b next → IsTaken A locals final profile old new from to b next
+  pub loop_taken : (byte_at from.end from.rest ≡ Ok (0x03, mid.rest)) × (mid.end ≡ from.end) → IsOpened A false frame_kinds.Loop profile old new mid to b next → IsTaken A locals final profile old new from to b next
   loop_taken front o = record {
     token = kept.Loop o.block 0;
     read = record { read = token_is profile old.kinds from mid 0x03 (Open kinds.Loop o.block 0) to.rest front (λ at. loop_at profile old.kinds at mid.end mid.rest to.rest o.block o.shallow o.read); same_end = o.same_end ∙ front.1; kinds = rw o.kinds refl; within = tt; stands = tt };
     typed = o.typed;
   }
 
-  pub if_taken : (byte_at from.end from.rest ≡ Ok (0x04, mid.rest)) × (mid.end ≡ from.end) → IsOpened A true frames.If profile old new mid to b next → IsTaken A locals final profile old new from to b next
+  pub if_taken : (byte_at from.end from.rest ≡ Ok (0x04, mid.rest)) × (mid.end ≡ from.end) → IsOpened A true frame_kinds.If profile old new mid to b next → IsTaken A locals final profile old new from to b next
   if_taken front o = record {
     token = kept.If o.block 0;
     read = record { read = token_is profile old.kinds from mid 0x04 (OpenIf o.block 0) to.rest front (λ at. if_at profile old.kinds at mid.end mid.rest to.rest o.block o.shallow o.read); same_end = o.same_end ∙ front.1; kinds = rw o.kinds refl; within = tt; stands = tt };
@@ -256,7 +256,7 @@ module _ (A : Ref → Found) (locals : ℕ → Option ValType) (final : List Val
 -- ---- calls that say what is at the front
 
 -- what holds where a call finds something holds in other words
-pub peek_where : {X Y : Type 0} (peek : Peek) (told : Result Peek Stop) → (X → Y) → IfOk told (λ t. t ≡ peek → X) → IfOk told (λ t. t ≡ peek → Y)
+pub peek_where : {X Y : Type 0} (peek : FastStep) (told : Result FastStep Stop) → (X → Y) → IfOk told (λ t. t ≡ peek → X) → IfOk told (λ t. t ≡ peek → Y)
 peek_where peek (Ok t) f h = λ yes. f (h yes)
 peek_where peek (Err e) f h = h
 

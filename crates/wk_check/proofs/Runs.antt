@@ -8,12 +8,12 @@ use Rattle.wk_body.specs.declared.types.BlockKind.TheVariants as kinds
 use Rattle.wk_body.specs.declared.references.Ref.{Ref}
 use Rattle.wk_body.specs.Tree.{Instrs, Finish, One, Block, If, Tok, Open, OpenIf, Otherwise, Close, flatten, else_part}
 use Rattle.wk_check.specs.declared.stacks.FrameKind.{FrameKind}
-use Rattle.wk_check.specs.declared.stacks.FrameKind.TheVariants as frames
+use Rattle.wk_check.specs.declared.stacks.FrameKind.TheVariants as frame_kinds
 use Rattle.wk_check.specs.Answers.{Found}
 use Rattle.wk_check.specs.Own.{Own, at_token, pushed, ended}
 use Rattle.wk_check.specs.Effects.{results_of, effect_of}
 use Rattle.wk_check.specs.Typing.{after_effect, is_finish, else_count, count, entered, begun, label_types, typed}
-use Rattle.wk_check.specs.Levels.{Level, Blocks, blocks, with_own, opened, frame_of, level_label, labels_of, end_block, end_inner, run}
+use Rattle.wk_check.specs.Levels.{Level, Blocks, blocks, with_own, opened, frame_kind_of, level_label, labels_of, end_block, end_inner, run}
 use Rattle.wk_check.proofs.Binds.{bind_ext, at_bind, at_bind2}
 
 -- the same after a part that both have
@@ -42,21 +42,21 @@ module _ (A : Ref → Found) (locals : ℕ → Option ValType) (final : List Val
       ∙ at_bind kb (ended ts s2) (λ u. blocks (with_own l (pushed ts s)) ls) (run A locals final (kb + 1) behind)
       ∙ bind_under (at_token kb (ended ts s2)) _ _ _ (λ u. hr (kb + 1) n after (with_own l (pushed ts s)) ls (omega arith)))
 
-  kind_runs : (kind : BlockKind) (bt : BlockType) (inside rest : Instrs) → Follows inside → Follows rest → NestedFollows (frame_of kind) (label_types A kind bt) bt inside rest
-  kind_runs kinds.Block bt inside rest hi hr = nested_runs frames.Block bt inside rest (λ b. refl) hi hr
-  kind_runs kinds.Loop bt inside rest hi hr = nested_runs frames.Loop bt inside rest (λ b. refl) hi hr
+  kind_runs : (kind : BlockKind) (bt : BlockType) (inside rest : Instrs) → Follows inside → Follows rest → NestedFollows (frame_kind_of kind) (label_types A kind bt) bt inside rest
+  kind_runs kinds.Block bt inside rest hi hr = nested_runs frame_kinds.Block bt inside rest (λ b. refl) hi hr
+  kind_runs kinds.Loop bt inside rest hi hr = nested_runs frame_kinds.Loop bt inside rest (λ b. refl) hi hr
 
   -- the end of an if's then branch, the else branch with its end, and what comes after it
   abbrev ElseFollows : List Tok → ℕ → Instrs → Type 0
-  ElseFollows other n second = (bt : BlockType) (k : ℕ) (after : List Tok) (s2 : Own) (m : Level) (ls : List Level) → run A locals final k (other ++ (Close ∷ after)) (blocks (with_own (opened A frames.If bt) s2) (m ∷ ls)) ≡ (at_token k (ended (results_of A bt) s2) >>= λ u. typed A locals final (results_of A bt ∷ labels_of A (blocks m ls)) (k + n) second (begun A bt) >>= λ s3. at_token (k + n + count second) (ended (results_of A bt) s3) >>= λ v. run A locals final (k + n + count second + 1) after (blocks (with_own m (pushed (results_of A bt) m.own)) ls))
+  ElseFollows other n second = (bt : BlockType) (k : ℕ) (after : List Tok) (s2 : Own) (m : Level) (ls : List Level) → run A locals final k (other ++ (Close ∷ after)) (blocks (with_own (opened A frame_kinds.If bt) s2) (m ∷ ls)) ≡ (at_token k (ended (results_of A bt) s2) >>= λ u. typed A locals final (results_of A bt ∷ labels_of A (blocks m ls)) (k + n) second (begun A bt) >>= λ s3. at_token (k + n + count second) (ended (results_of A bt) s3) >>= λ v. run A locals final (k + n + count second + 1) after (blocks (with_own m (pushed (results_of A bt) m.own)) ls))
 
   written_else : (skip : ℕ) (second : Instrs) → Follows second → ElseFollows (Otherwise skip ∷ flatten second) 1 second
   written_else skip second hs bt k after s2 m ls =
       let ts = results_of A bt in
       let kb = k + 1 + count second in
-      at_bind k (ended ts s2) (λ u. blocks (opened A frames.Else bt) (m ∷ ls)) (run A locals final (k + 1) (flatten second ++ (Close ∷ after)))
+      at_bind k (ended ts s2) (λ u. blocks (opened A frame_kinds.Else bt) (m ∷ ls)) (run A locals final (k + 1) (flatten second ++ (Close ∷ after)))
       ∙ bind_ext (at_token k (ended ts s2)) _ _ (λ u.
-      hs (k + 1) kb (Close ∷ after) (opened A frames.Else bt) (m ∷ ls) refl
+      hs (k + 1) kb (Close ∷ after) (opened A frame_kinds.Else bt) (m ∷ ls) refl
       ∙ bind_ext (typed A locals final (ts ∷ labels_of A (blocks m ls)) (k + 1) second (begun A bt)) _ _ (λ s3. at_bind kb (ended ts s3) (λ v. blocks (with_own m (pushed ts m.own)) ls) (run A locals final (kb + 1) after)))
 
   -- an else branch without instructions is not written
@@ -64,7 +64,7 @@ module _ (A : Ref → Found) (locals : ℕ → Option ValType) (final : List Val
   no_else bt k after s2 m ls =
       let ts = results_of A bt in
       let e : k ≡ k + 0 + 0 = omega arith in
-      let b = blocks (opened A frames.Else bt) (m ∷ ls) in
+      let b = blocks (opened A frame_kinds.Else bt) (m ∷ ls) in
       at_bind2 k (ended ts s2) b (λ z. end_inner A z.inner z.outer) (run A locals final (k + 1) after)
       ∙ bind_ext (at_token k (ended ts s2)) _ _ (λ u. at_bind k (ended ts (begun A bt)) (λ v. blocks (with_own m (pushed ts m.own)) ls) (run A locals final (k + 1) after))
       ∙ ap (λ n. at_token k (ended ts s2) >>= λ u. at_token n (ended ts (begun A bt)) >>= λ v. run A locals final (n + 1) after (blocks (with_own m (pushed ts m.own)) ls)) e
@@ -87,9 +87,9 @@ module _ (A : Ref → Found) (locals : ℕ → Option ValType) (final : List Val
       let labels = ts ∷ labels_of A (blocks l ls) in
       let split : (((flatten first ++ other) ++ (Close ∷ flatten rest)) ++ after) ≡ (flatten first ++ (other ++ (Close ∷ behind))) = append_assoc (flatten first ++ other) (Close ∷ flatten rest) after ∙ append_assoc (flatten first) other (Close ∷ behind) in
       ap (λ ts. run A locals final k (OpenIf bt (length (flatten first ++ other)) ∷ ts) (blocks l ls)) split
-      ∙ at_bind k m (λ s. blocks (opened A frames.If bt) (with_own l s ∷ ls)) (run A locals final (k + 1) (flatten first ++ (other ++ (Close ∷ behind))))
+      ∙ at_bind k m (λ s. blocks (opened A frame_kinds.If bt) (with_own l s ∷ ls)) (run A locals final (k + 1) (flatten first ++ (other ++ (Close ∷ behind))))
       ∙ bind_under (at_token k m) _ _ _ (λ s1.
-      hf (k + 1) ka (other ++ (Close ∷ behind)) (opened A frames.If bt) (with_own l s1 ∷ ls) refl
+      hf (k + 1) ka (other ++ (Close ∷ behind)) (opened A frame_kinds.If bt) (with_own l s1 ∷ ls) refl
       ∙ bind_under (typed A locals final labels (k + 1) first (begun A bt)) _ _ _ (λ s2.
       else_runs second hs bt ka behind s2 (with_own l s1) ls
       ∙ bind_under (at_token ka (ended ts s2)) _ _ _ (λ u.
@@ -107,7 +107,7 @@ module _ (A : Ref → Found) (locals : ℕ → Option ValType) (final : List Val
   runs (Block kind bt inside rest) k n after l ls e =
       let m = entered A false bt l.own in
       ap (λ ts. run A locals final k (Open kind bt (length (flatten inside)) ∷ ts) (blocks l ls)) (append_assoc (flatten inside) (Close ∷ flatten rest) after)
-      ∙ at_bind k m (λ s. blocks (opened A (frame_of kind) bt) (with_own l s ∷ ls)) (run A locals final (k + 1) (flatten inside ++ (Close ∷ (flatten rest ++ after))))
+      ∙ at_bind k m (λ s. blocks (opened A (frame_kind_of kind) bt) (with_own l s ∷ ls)) (run A locals final (k + 1) (flatten inside ++ (Close ∷ (flatten rest ++ after))))
       ∙ bind_under (at_token k m) _ _ _ (λ s. kind_runs kind bt inside rest (runs inside) (runs rest) k n after l s ls (omega arith))
   runs (If bt first second rest) k n after l ls e =
       if_runs bt first second rest (runs first) (runs second) (runs rest) k n after l ls e

@@ -9,7 +9,7 @@ use Rattle.wk_body.specs.declared.references.Ref.{Ref}
 use Rattle.wk_body.specs.Tree.{Tok, Simple, Open, OpenIf, Otherwise, Close}
 use Rattle.wk_check.specs.declared.fault.FaultKind.{FaultKind}
 use Rattle.wk_check.specs.declared.stacks.FrameKind.{FrameKind}
-use Rattle.wk_check.specs.declared.stacks.FrameKind.TheVariants as frames
+use Rattle.wk_check.specs.declared.stacks.FrameKind.TheVariants as frame_kinds
 use Rattle.wk_check.specs.Answers.{Found}
 use Rattle.wk_check.specs.Own.{Own, TokenFault, at_token, pushed, ended}
 use Rattle.wk_check.specs.Effects.{params_of, results_of, effect_of}
@@ -40,12 +40,12 @@ with_top s b = blocks (with_own b.inner s) b.outer
 abbrev pub opened : (Ref → Found) → FrameKind → BlockType → Level
 opened A o bt = record { kind = o; block = bt; own = begun A bt }
 
-abbrev pub frame_of : BlockKind → FrameKind
-frame_of kinds.Block = frames.Block
-frame_of kinds.Loop = frames.Loop
+abbrev pub frame_kind_of : BlockKind → FrameKind
+frame_kind_of kinds.Block = frame_kinds.Block
+frame_kind_of kinds.Loop = frame_kinds.Loop
 
 abbrev pub level_label : (Ref → Found) → FrameKind → BlockType → List ValType
-level_label A frames.Loop bt = params_of A bt
+level_label A frame_kinds.Loop bt = params_of A bt
 level_label A _ bt = results_of A bt
 
 abbrev pub outer_labels : (Ref → Found) → List Level → List (List ValType)
@@ -61,7 +61,7 @@ enter_block A test o bt b = entered A test bt b.inner.own >>= λ s. Ok (blocks (
 
 -- the end of a then branch that has an else branch
 abbrev pub end_then : (Ref → Found) → Blocks → Result Blocks FaultKind
-end_then A b = ended (results_of A b.inner.block) b.inner.own >>= λ u. Ok (blocks (opened A frames.Else b.inner.block) b.outer)
+end_then A b = ended (results_of A b.inner.block) b.inner.own >>= λ u. Ok (blocks (opened A frame_kinds.Else b.inner.block) b.outer)
 
 -- the end of a block that stands in another; the outermost one stays
 abbrev pub end_inner : (Ref → Found) → Level → List Level → Result Blocks FaultKind
@@ -71,15 +71,15 @@ end_inner A l (m ∷ ls) =
 
 -- an end, which for an if without an else ends an empty else branch too
 abbrev pub end_block : (Ref → Found) → FrameKind → Blocks → Result Blocks FaultKind
-end_block A frames.If b = end_then A b >>= λ b'. end_inner A b'.inner b'.outer
+end_block A frame_kinds.If b = end_then A b >>= λ b'. end_inner A b'.inner b'.outer
 end_block A _ b = end_inner A b.inner b.outer
 
 -- what a token does to the open blocks
 abbrev pub step : (Ref → Found) → (ℕ → Option ValType) → List ValType → Tok → Blocks → Result Blocks FaultKind
 step A locals final (Simple p) b =
     (effect_of A locals final (labels_of A b) p >>= λ e. after_effect e b.inner.own) >>= λ s. Ok (with_top s b)
-step A locals final (Open kind bt skip) b = enter_block A false (frame_of kind) bt b
-step A locals final (OpenIf bt skip) b = enter_block A true frames.If bt b
+step A locals final (Open kind bt skip) b = enter_block A false (frame_kind_of kind) bt b
+step A locals final (OpenIf bt skip) b = enter_block A true frame_kinds.If bt b
 step A locals final (Otherwise skip) b = end_then A b
 step A locals final Close b = end_block A b.inner.kind b
 

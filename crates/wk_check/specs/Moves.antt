@@ -9,7 +9,7 @@ use Rattle.wk_check.specs.declared.stop.Stop.TheVariants as stops
 use Rattle.wk_check.specs.declared.stop.Growth.{Growth}
 use Rattle.wk_check.specs.declared.stop.Growth.TheVariants as growths
 use Rattle.wk_check.specs.declared.stacks.FrameKind.{FrameKind}
-use Rattle.wk_check.specs.declared.stacks.FrameKind.TheVariants as frames
+use Rattle.wk_check.specs.declared.stacks.FrameKind.TheVariants as frame_kinds
 use Rattle.wk_check.specs.Slots.{Slot}
 use Rattle.wk_check.specs.Own.{Own, TokenFault, ended, popped_one, pushed_one, stopped, fresh, is_empty}
 use Rattle.wk_check.specs.Effects.{Effect}
@@ -21,7 +21,7 @@ pushed_on x b = with_top (pushed_one x b.inner.own) b
 
 -- a body, or an expression, as it begins
 abbrev pub body_of : BlockType → Blocks
-body_of bt = blocks (record { kind = frames.Body; block = bt; own = fresh }) []
+body_of bt = blocks (record { kind = frame_kinds.Body; block = bt; own = fresh }) []
 
 abbrev pub ctrl_pushed : FrameKind → BlockType → Blocks → Blocks
 ctrl_pushed o bt b = blocks (record { kind = o; block = bt; own = fresh }) (b.inner ∷ b.outer)
@@ -38,7 +38,7 @@ abbrev pub unreachable_on : Blocks → Blocks
 unreachable_on b = with_top stopped b
 
 abbrev pub else_begun : Blocks → Blocks
-else_begun b = blocks (record { kind = frames.Else; block = b.inner.block; own = fresh }) b.outer
+else_begun b = blocks (record { kind = frame_kinds.Else; block = b.inner.block; own = fresh }) b.outer
 
 abbrev pub own_is_empty : Blocks → Bool
 own_is_empty b = is_empty b.inner.own.items

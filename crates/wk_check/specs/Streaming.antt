@@ -21,8 +21,8 @@ use Rattle.wk_check.specs.declared.fault.BodyVerdict.TheVariants.{Valid}
 use Rattle.wk_check.specs.declared.stacks.FrameKind.{FrameKind}
 use Rattle.wk_check.specs.declared.step.Function.{Function}
 use Rattle.wk_check.specs.declared.stop.Stop.{Stop}
-use Rattle.wk_check.specs.declared.streaming.Step.{Step}
-use Rattle.wk_check.specs.declared.streaming.Step.TheVariants as steps
+use Rattle.wk_check.specs.declared.streaming.TokenOutcome.{TokenOutcome}
+use Rattle.wk_check.specs.declared.streaming.TokenOutcome.TheVariants as outcomes
 use Rattle.wk_check.specs.Answers.{Found}
 use Rattle.wk_check.specs.Effects.{local_type}
 use Rattle.wk_check.specs.Levels.{Blocks, enter_block, end_then, end_block, step}
@@ -130,7 +130,7 @@ pub record IsClosed (A : Ref → Found) (old new : TokenReading) (b next : Block
   pub typed : end_block A b.inner.kind b ≡ Ok next
 
 -- what came of a token: it was typed, or it is the end that closes no block
-abbrev pub GoesOn : (Ref → Found) → (ℕ → Option ValType) → List ValType → Profile → Step → TokenReading → TokenReading → Span → Span → Blocks → Blocks → Type 0
-GoesOn A locals final profile steps.On old new from to b next = IsTaken A locals final profile old new from to b next
-GoesOn A locals final profile steps.End old new from to b next = NextRead profile old new from to None × (next ≡ b)
+abbrev pub GoesOn : (Ref → Found) → (ℕ → Option ValType) → List ValType → Profile → TokenOutcome → TokenReading → TokenReading → Span → Span → Blocks → Blocks → Type 0
+GoesOn A locals final profile outcomes.On old new from to b next = IsTaken A locals final profile old new from to b next
+GoesOn A locals final profile outcomes.End old new from to b next = NextRead profile old new from to None × (next ≡ b)
 GoesOn A locals final profile _ old new from to b next = Unit {0}

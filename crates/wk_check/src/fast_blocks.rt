@@ -16,9 +16,9 @@ use crate::stop::{Growth, Stop, to_registers};
 use wk_bytes::Cursor;
 use wk_module::{BlockType, TokenReader, ValType};
 
-/// What is at the front.
+/// What the fast path came to at the front.
 #[derive(Clone, Copy, Debug, PartialEq, Eq)]
-pub(crate) enum Peek {
+pub(crate) enum FastStep {
     /// A token, which was typed.
     Token,
     /// The end that closes no block.
@@ -76,19 +76,19 @@ pub(crate) fn fast_open<E: Env>(
     reader: &mut TokenReader,
     s: &mut Stacks,
     cursor: &mut Cursor<'_>,
-) -> Result<Peek, Stop>
-    ensures taken { (profile : Profile) → IfOk result (λ p. p ≡ Peek.Token → IsOpened (E.answers env.now) test kind profile reader.old reader.new cursor.old cursor.new s.old s.new) }
-    ensures left { IfOk result (λ p. p ≡ Peek.Other → (s.new ≡ s.old) × (reader.new ≡ reader.old)) }
-    ensures never { IfOk result (λ p. p ≡ Peek.Last → ⊥) }
+) -> Result<FastStep, Stop>
+    ensures taken { (profile : Profile) → IfOk result (λ p. p ≡ FastStep.Token → IsOpened (E.answers env.now) test kind profile reader.old reader.new cursor.old cursor.new s.old s.new) }
+    ensures left { IfOk result (λ p. p ≡ FastStep.Other → (s.new ≡ s.old) × (reader.new ≡ reader.old)) }
+    ensures never { IfOk result (λ p. p ≡ FastStep.Last → ⊥) }
 {
     let Some(block) = short_type(cursor) else {
-        return Ok(Peek::Other);
+        return Ok(FastStep::Other);
     };
     if !reader.open_block(test) {
-        return Ok(Peek::Other);
+        return Ok(FastStep::Other);
     }
     enter_short(env, test, kind, block, s)?;
-    Ok(Peek::Token)
+    Ok(FastStep::Token)
 }
 
 // The end of a then branch that has a type or operands, out of line.
@@ -105,22 +105,22 @@ pub(crate) fn fast_else<E: Env>(
     env: &E,
     reader: &mut TokenReader,
     s: &mut Stacks,
-) -> Result<Peek, Stop>
-    ensures taken { IfOk result (λ p. p ≡ Peek.Token → IsParted (E.answers env.now) reader.old reader.new s.old s.new) }
-    ensures left { IfOk result (λ p. p ≡ Peek.Other → (s.new ≡ s.old) × (reader.new ≡ reader.old)) }
-    ensures never { IfOk result (λ p. p ≡ Peek.Last → ⊥) }
+) -> Result<FastStep, Stop>
+    ensures taken { IfOk result (λ p. p ≡ FastStep.Token → IsParted (E.answers env.now) reader.old reader.new s.old s.new) }
+    ensures left { IfOk result (λ p. p ≡ FastStep.Other → (s.new ≡ s.old) × (reader.new ≡ reader.old)) }
+    ensures never { IfOk result (λ p. p ≡ FastStep.Last → ⊥) }
 {
     if !reader.part_block() {
-        return Ok(Peek::Other);
+        return Ok(FastStep::Other);
     }
     if let BlockType::Empty = s.block()
         && s.is_clear()
     {
         s.begin_else();
-        return Ok(Peek::Token);
+        return Ok(FastStep::Token);
     }
     end_then_typed(env, s)?;
-    Ok(Peek::Token)
+    Ok(FastStep::Token)
 }
 
 // The end of a block that has a type or operands, out of line, whose answer goes in registers.
@@ -137,23 +137,23 @@ pub(crate) fn fast_end<E: Env>(
     env: &E,
     reader: &mut TokenReader,
     s: &mut Stacks,
-) -> Result<Peek, Stop>
-    ensures taken { IfOk result (λ p. p ≡ Peek.Token → IsClosed (E.answers env.now) reader.old reader.new s.old s.new) }
-    ensures last { IfOk result (λ p. p ≡ Peek.Last → (reader.old.kinds ≡ []) × (s.new ≡ s.old)) }
-    ensures never { IfOk result (λ p. p ≡ Peek.Other → ⊥) }
+) -> Result<FastStep, Stop>
+    ensures taken { IfOk result (λ p. p ≡ FastStep.Token → IsClosed (E.answers env.now) reader.old reader.new s.old s.new) }
+    ensures last { IfOk result (λ p. p ≡ FastStep.Last → (reader.old.kinds ≡ []) × (s.new ≡ s.old)) }
+    ensures never { IfOk result (λ p. p ≡ FastStep.Other → ⊥) }
 {
     if !reader.close_block() {
-        return Ok(Peek::Last);
+        return Ok(FastStep::Last);
     }
     let is_bare = s.is_clear() && !s.is_outermost();
     if let BlockType::Empty = s.block()
         && is_bare
     {
         s.pop_ctrl();
-        return Ok(Peek::Token);
+        return Ok(FastStep::Token);
     }
     match end_block_typed(env, s)? {
-        Growth::Made => Ok(Peek::Token),
+        Growth::Made => Ok(FastStep::Token),
         Growth::Refused => Err(Stop::Memory),
     }
 }

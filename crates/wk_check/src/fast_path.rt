@@ -29,7 +29,7 @@ ghost use Rattle.wk_check.specs.Streaming.{IsAlone, HasIndex, HasReserved, HasSi
 
 use crate::control::{branch, branch_if, call_in_line, call_indirect_in_line};
 use crate::env::Env;
-use crate::fast_blocks::{Peek, fast_else, fast_end, fast_open};
+use crate::fast_blocks::{FastStep, fast_else, fast_end, fast_open};
 use crate::fault::FaultKind;
 use crate::operands::{apply_polymorphic, drop_top, pop_val, push_val, select};
 use crate::stacks::{FrameKind, Stacks};
@@ -408,14 +408,18 @@ fn type_operator<E: Env>(
     }
 }
 
-// What is at the front where a token was typed, or is left to others.
+// What the fast path came to, by whether a token was typed.
 #[inline(always)]
-fn token_if(taken: bool) -> Peek
-    ensures yes { result ≡ Peek.Token → taken ≡ true }
-    ensures no { result ≡ Peek.Other → taken ≡ false }
-    ensures never { result ≡ Peek.Last → ⊥ }
+fn token_if(taken: bool) -> FastStep
+    ensures yes { result ≡ FastStep.Token → taken ≡ true }
+    ensures no { result ≡ FastStep.Other → taken ≡ false }
+    ensures never { result ≡ FastStep.Last → ⊥ }
 {
-    if taken { Peek::Token } else { Peek::Other }
+    if taken {
+        FastStep::Token
+    } else {
+        FastStep::Other
+    }
 }
 
 /// Types the token at the front, if it is one of those that are typed from their bytes. Else the reader and the open blocks are as
@@ -427,13 +431,13 @@ pub(crate) fn type_fast<E: Env>(
     reader: &mut TokenReader,
     s: &mut Stacks,
     cursor: &mut Cursor<'_>,
-) -> Result<Peek, Stop>
-    ensures taken { (profile : Profile) → IfOk result (λ p. p ≡ Peek.Token → IsTaken (E.answers env.now) (local_type f.now.locals.params f.now.locals.groups) f.now.results.now profile reader.old reader.new cursor.old cursor.new s.old s.new) }
-    ensures last { (profile : Profile) → IfOk result (λ p. p ≡ Peek.Last → NextRead profile reader.old reader.new cursor.old cursor.new None × (s.new ≡ s.old)) }
-    ensures left { IfOk result (λ p. p ≡ Peek.Other → (s.new ≡ s.old) × (reader.new ≡ reader.old)) }
+) -> Result<FastStep, Stop>
+    ensures taken { (profile : Profile) → IfOk result (λ p. p ≡ FastStep.Token → IsTaken (E.answers env.now) (local_type f.now.locals.params f.now.locals.groups) f.now.results.now profile reader.old reader.new cursor.old cursor.new s.old s.new) }
+    ensures last { (profile : Profile) → IfOk result (λ p. p ≡ FastStep.Last → NextRead profile reader.old reader.new cursor.old cursor.new None × (s.new ≡ s.old)) }
+    ensures left { IfOk result (λ p. p ≡ FastStep.Other → (s.new ≡ s.old) × (reader.new ≡ reader.old)) }
 {
     let Ok(opcode) = cursor.byte() else {
-        return Ok(Peek::Other);
+        return Ok(FastStep::Other);
     };
     match opcode {
         0x02 => fast_open(env, false, FrameKind::Block, reader, s, cursor),

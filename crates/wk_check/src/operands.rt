@@ -194,8 +194,8 @@ fn unop_slow(s: &mut Stacks, operand: ValType, given: ValType) -> Result<Growth,
     to_registers(unop_in_steps(s, operand, given))
 }
 
-/// Pops an operand and pushes a result. Where an operand that fits is there, the result takes its place: that is a pop and a push
-/// without a look for room.
+/// Pops an operand and pushes a result: a unop, and all of that shape, as tests, conversions, loads, `local.tee` and `memory.grow`.
+/// Where an operand that fits is there, the result takes its place: that is a pop and a push without a look for room.
 #[inline(always)]
 pub(crate) fn unop(s: &mut Stacks, operand: ValType, given: ValType) -> Result<(), Stop>
     ensures { Steps (on_top (after_effect (Takes (operand ∷ []) (given ∷ []))) s.old) result s.new }
@@ -233,7 +233,8 @@ fn binop_slow(s: &mut Stacks, operand: ValType, given: ValType) -> Result<Growth
     to_registers(binop_in_steps(s, operand, given))
 }
 
-/// Pops two operands of one type and pushes a result. Where two that fit are there, the result takes the place of the first.
+/// Pops two operands of one type and pushes a result: a binop or a relation. Where two that fit are there, the result takes the place
+/// of the first.
 #[inline(always)]
 pub(crate) fn binop(s: &mut Stacks, operand: ValType, given: ValType) -> Result<(), Stop>
     ensures { Steps

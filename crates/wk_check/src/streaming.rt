@@ -8,7 +8,7 @@ ghost use Rattle.wk_check.specs.Streaming.{IsTyped, IsValidBody, GoesOn};
 
 use crate::control::{check_end, check_known, params, results};
 use crate::env::Env;
-use crate::fast_blocks::Peek;
+use crate::fast_blocks::FastStep;
 use crate::fast_extended::{fast_open_indexed, fast_sign_extend};
 use crate::fast_path::type_fast;
 use crate::locals::{Locals, put_ends, put_first};
@@ -62,7 +62,7 @@ fn verdict_of_fault(fault: &ReadFault) -> Result<bool, OutOfMemory>
 
 // What one token came to. (It goes in a register.)
 #[derive(Clone, Copy, Debug, PartialEq, Eq)]
-enum Step {
+enum TokenOutcome {
     // It was typed.
     On,
     // It is the end that closes no block.
@@ -81,7 +81,7 @@ fn read_and_type<E: Env>(
     profile: Profile,
     stream: &mut Stream,
     cursor: &mut Cursor<'_>,
-) -> Step
+) -> TokenOutcome
     ensures { GoesOn (E.answers env.now) (local_type f.now.locals.params f.now.locals.groups) f.now.results.now profile result stream.old.reader stream.new.reader cursor.old cursor.new stream.old.stacks stream.new.stacks }
 {
     let Stream { reader, stacks } = stream;
@@ -91,14 +91,14 @@ fn read_and_type<E: Env>(
     *cursor = ahead;
     match next {
         Ok(Some(token)) => match type_token(env, f, reader.labels(), stacks, &token) {
-            Ok(()) => Step::On,
-            Err(Stop::Fault(_)) => Step::Wrong,
-            Err(Stop::Memory) => Step::Memory,
+            Ok(()) => TokenOutcome::On,
+            Err(Stop::Fault(_)) => TokenOutcome::Wrong,
+            Err(Stop::Memory) => TokenOutcome::Memory,
         },
-        Ok(None) => Step::End,
+        Ok(None) => TokenOutcome::End,
         Err(fault) => match fault.kind {
-            ReadKind::Memory => Step::Memory,
-            _ => Step::Wrong,
+            ReadKind::Memory => TokenOutcome::Memory,
+            _ => TokenOutcome::Wrong,
         },
     }
 }
@@ -111,7 +111,7 @@ fn type_extended<E: Env>(
     profile: Profile,
     stream: &mut Stream,
     cursor: &mut Cursor<'_>,
-) -> Step
+) -> TokenOutcome
     requires { profile ≡ Profile.Extended }
     ensures { GoesOn (E.answers env.now) (local_type f.now.locals.params f.now.locals.groups) f.now.results.now profile result stream.old.reader stream.new.reader cursor.old cursor.new stream.old.stacks stream.new.stacks }
 {
@@ -120,11 +120,11 @@ fn type_extended<E: Env>(
     match fast_open_indexed(env, f, reader, stacks, &mut ahead) {
         Ok(true) => {
             *cursor = ahead;
-            return Step::On;
+            return TokenOutcome::On;
         }
         Ok(false) => {}
-        Err(Stop::Fault(_)) => return Step::Wrong,
-        Err(Stop::Memory) => return Step::Memory,
+        Err(Stop::Fault(_)) => return TokenOutcome::Wrong,
+        Err(Stop::Memory) => return TokenOutcome::Memory,
     }
     read_and_type(env, f, profile, stream, cursor)
 }
@@ -139,7 +139,7 @@ fn type_slow<E: Env>(
     profile: Profile,
     stream: &mut Stream,
     cursor: &mut Cursor<'_>,
-) -> Step
+) -> TokenOutcome
     ensures { GoesOn (E.answers env.now) (local_type f.now.locals.params f.now.locals.groups) f.now.results.now profile result stream.old.reader stream.new.reader cursor.old cursor.new stream.old.stacks stream.new.stacks }
 {
     if profile == Profile::Core {
@@ -149,11 +149,11 @@ fn type_slow<E: Env>(
     match fast_sign_extend(env, f, &mut stream.stacks, &mut ahead) {
         Ok(true) => {
             *cursor = ahead;
-            return Step::On;
+            return TokenOutcome::On;
         }
         Ok(false) => {}
-        Err(Stop::Fault(_)) => return Step::Wrong,
-        Err(Stop::Memory) => return Step::Memory,
+        Err(Stop::Fault(_)) => return TokenOutcome::Wrong,
+        Err(Stop::Memory) => return TokenOutcome::Memory,
     }
     type_extended(env, f, profile, stream, cursor)
 }
@@ -180,33 +180,33 @@ fn type_expr<E: Env>(
         let mut next = ahead.ahead();
         let Stream { reader, stacks } = stream;
         match type_fast(env, f, reader, stacks, &mut next) {
-            Ok(Peek::Token) => {
+            Ok(FastStep::Token) => {
                 ahead = next;
                 continue;
             }
-            Ok(Peek::Last) => {
+            Ok(FastStep::Last) => {
                 let Ok(()) = check_end(stacks, f.results) else {
                     return Ok(false);
                 };
                 *cursor = next;
                 return Ok(true);
             }
-            Ok(Peek::Other) => {}
+            Ok(FastStep::Other) => {}
             Err(Stop::Fault(_)) => return Ok(false),
             Err(Stop::Memory) => return Err(OutOfMemory),
         }
         let mut next = ahead.ahead();
         match type_slow(env, f, profile, stream, &mut next) {
-            Step::On => ahead = next,
-            Step::End => {
+            TokenOutcome::On => ahead = next,
+            TokenOutcome::End => {
                 let Ok(()) = check_end(&mut stream.stacks, f.results) else {
                     return Ok(false);
                 };
                 *cursor = next;
                 return Ok(true);
             }
-            Step::Wrong => return Ok(false),
-            Step::Memory => return Err(OutOfMemory),
+            TokenOutcome::Wrong => return Ok(false),
+            TokenOutcome::Memory => return Err(OutOfMemory),
         }
     }
 }

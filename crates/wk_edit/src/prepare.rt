@@ -53,7 +53,7 @@ pub(crate) struct Prepared {
     pub status: Status,
 }
 
-// Of an input that spells no module.
+// What is to be written of an input that spells no module.
 fn prepare_malformed(alloc: Global, fault: &ReadFault) -> Result<Prepared, RunFault>
     ensures ok { IfOk result (IsPrepared (malformed_outcome fault.now)) }
     ensures other { OnOk result (fault.now.kind ≢ ReadKind.Memory) }
@@ -70,7 +70,7 @@ fn prepare_malformed(alloc: Global, fault: &ReadFault) -> Result<Prepared, RunFa
     })
 }
 
-// Of a script that is refused.
+// What is to be written of a script that is refused.
 fn prepare_script_fault(alloc: Global, fault: &ScriptFault) -> Result<Prepared, RunFault>
     ensures ok { IfOk result (IsPrepared (script_outcome fault.now)) }
     ensures other { OnOk result (fault.now ≢ ScriptFault.Memory) }
@@ -156,7 +156,7 @@ fn run_session(
     Ok((text, status))
 }
 
-// Of a run of edits.
+// What is to be written of a run of edits.
 fn prepare_run(
     alloc: Global,
     session: Session,
@@ -181,7 +181,7 @@ fn prepare_run(
     }
 }
 
-// Of a run of edits of which the untouched bodies stayed bytes.
+// What is to be written of a run of edits of which the untouched bodies stayed bytes.
 fn prepare_draft(alloc: Global, run: Run) -> Result<Prepared, RunFault>
     ensures ok { (keep : Bool) (m : PartsOf) (edits : List EditOf) → IsRun keep m edits run
         → IfOk result (IsPrepared (run_outcome keep m edits)) }

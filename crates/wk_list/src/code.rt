@@ -12,7 +12,7 @@ ghost use Rattle.wk_list.specs.Taken.{Leaves, PutsOut, failed_after};
 ghost use Rattle.wk_list.specs.CodeText.{code_line, group_text, locals_text, entry_head, entry_text, entries_text, expr_text, code_start, code_text};
 ghost use Rattle.wk_list.specs.TokenText.{tok_text, toks_text, toks_length};
 
-use crate::fast_line::{Line, NAME_LIMIT, put_line_fast};
+use crate::fast_line::{Line, NAME_LIMIT, write_line};
 use crate::fault::ListFault;
 use crate::headers::{contents_start, section_end};
 use crate::line_buffer::CAPACITY;
@@ -70,7 +70,7 @@ fn list_long_line<W: Out>(
     spill(text, out)
 }
 
-// The line of a token, behind so many bytes of a buffer, on which names may reach so far. Its end is how many stand on it then.
+// The line of a token, behind so many bytes of a buffer, in which names may reach so far. Its end is how many stand in it then.
 #[inline(always)]
 fn list_token<W: Out>(
     labels: &[u32],
@@ -95,7 +95,7 @@ fn list_token<W: Out>(
     ensures err { OnErr result (TakesFront (W.taken out.old) (W.taken out.new) (text.old.items ++ take used buf.old ++ code_line at depth (tok_text (told labels.now token.now)))) }
     ensures failures { W.failed out.new ≡ failed_after (W.failed out.old) result }
 {
-    if let Some(line) = put_line_fast(buf, used, labels, token, at, depth, *reach) {
+    if let Some(line) = write_line(buf, used, labels, token, at, depth, *reach) {
         return Ok(line);
     }
     list_long_line(&buf[..used], labels, token, at, depth, text, out)?;

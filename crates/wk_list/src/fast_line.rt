@@ -215,7 +215,7 @@ fn write_front(buf: &mut [u8; CAPACITY], used: usize, at: u32, depth: usize) -> 
 /// which lie in the pool, and where its name would reach too far.
 #[inline(always)]
 #[tactic(auto, unfolding(crate::specs::CodeText::code_line))]
-pub(crate) fn put_line_fast(
+pub(crate) fn write_line(
     buf: &mut [u8; CAPACITY],
     used: usize,
     labels: &[u32],

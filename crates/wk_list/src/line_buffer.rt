@@ -1,4 +1,4 @@
-//! A buffer of lines: an array that short lines are written on, one behind the other, before they go behind the text together. What
+//! A buffer of lines: an array that short lines are written to, one behind the other, before they go behind the text together. What
 //! is asked of each piece of them is where it starts; room is asked for once a line.
 
 ghost use Rattle.std.specs.Prelude.{◌≡◌, ◌≤◌, ◌+◌, ◌++◌, length, take, replicate, decimal};

@@ -1,5 +1,5 @@
 use Rattle.wk_check.specs.Effects.{local_type}
-use Rattle.wk_check.specs.declared.fast_blocks.Peek.TheVariants.{Token, Last}
+use Rattle.wk_check.specs.declared.fast_blocks.FastStep.TheVariants.{Token, Last}
 use Rattle.wk_check.proofs.Opcodes.{taken, peek_where, block_taken, loop_taken, if_taken, else_taken, end_taken, last_end}
 use Rattle.wk_check.proofs.fast_path.type_fast.Goals as goal
 

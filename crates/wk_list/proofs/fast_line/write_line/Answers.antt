@@ -1,6 +1,6 @@
 use Rattle.std.proofs.Common.{◌++◌, List, ℕ, take, ap, ◌∙◌, append_assoc, arith}
 use Rattle.wk_list.proofs.Pieces.{front_stays, if_none_known}
-use Rattle.wk_list.proofs.fast_line.put_line_fast.Goals as goal
+use Rattle.wk_list.proofs.fast_line.write_line.Goals as goal
 
 pub returns-in_err-end-clause-none : goal.returns-in_err-end-clause-none
 returns-in_err-end-clause-none c =
