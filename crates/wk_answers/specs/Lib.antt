@@ -1,3 +1,8 @@
+-- What `sections` prints: a line for each section that the bytes hold, and for a fault.
 pub mod Listing
-pub mod RefusalLaws
+-- What `validate` prints, its status, and what both mean.
 pub mod Validation
+-- ---- laws, for those who read proofs
+
+-- A refusal, unless for want of memory, is the fault that the definition of reading gives.
+pub mod RefusalLaws

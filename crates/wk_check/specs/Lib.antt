@@ -1,26 +1,64 @@
+-- ---- what code sees of a module
+
+-- What a reference finds in a module, as in a context (3.1.1).
 pub mod Answers
-pub mod Carried
-pub mod ConstantRules
-pub mod Constants
-pub mod Cuts
-pub mod Derives
-pub mod DerivesLaws
-pub mod Effects
-pub mod Finds
-pub mod Flaws
-pub mod Growth
-pub mod Items
-pub mod Levels
-pub mod Locals
-pub mod Moves
-pub mod Own
-pub mod Slots
+-- The index spaces of a module (2.5.1), imports first, and what references find in them.
 pub mod Spaces
-pub mod SpacesLaws
-pub mod Spelled
-pub mod Streaming
+-- ---- typing
+
+-- The type of an operand, or any type where code can't be reached.
+pub mod Slots
+-- The operand stack of one block: pops, pushes, the check at its end, and their faults.
+pub mod Own
+-- What each instruction takes and gives, by its immediates (3.3.1 to 3.3.5); block types.
+pub mod Effects
+-- The typing of instruction sequences (3.3), and the verdict of a body (3.4.1).
 pub mod Typing
-pub mod Valid
+-- Constant expressions (3.3.7.2), and what is wrong with one.
+pub mod Constants
+-- ---- the declarative rules
+
+-- The standard's rules: types of instruction sequences (3.3), and valid bodies (3.4.1).
+pub mod Derives
+-- A sequence has a type exactly where its two parts have types that meet (3.3.6).
+pub mod DerivesLaws
+-- Constant expressions (3.3.7.2) by these rules.
+pub mod ConstantRules
+-- ---- verdicts of modules
+
+-- What is wrong with each item of a module's sections (3.2, 3.4).
+pub mod Items
+-- The first of many flaws, by section and item.
+pub mod Flaws
+-- The verdict of a module (3.4.10): valid, or its first fault.
 pub mod Verdict
+-- Valid modules (3.4.10), with bodies and constant expressions by the declarative rules.
+pub mod Valid
+-- The verdict of the module that bytes encode, or the fault of reading it.
+pub mod Spelled
+-- The texts of verdicts and of their faults, `V1` to `V21`.
 pub mod VerdictText
+-- ---- what keeps a verdict
+
+-- A body keeps its verdict where its references find what they found, moved or not.
+pub mod Carried
+-- References that find something, as all references of a valid body do.
+pub mod Finds
+-- What references find in a module that gets one more item or one more import.
+pub mod SpacesLaws
+-- What is known of a valid module and its bodies, and of a table or memory that is one too many.
+pub mod Growth
+-- ---- what fast paths and loops keep: steps, for those who read proofs
+
+-- The open blocks, each with its operand stack, and what one token does to them.
+pub mod Levels
+-- One operand stack, cut by the control frames into the stacks of the open blocks.
+pub mod Cuts
+-- The locals of a function by groups, and where each group ends.
+pub mod Locals
+-- The steps of the operand stack and the control frames, and what their calls answer.
+pub mod Moves
+-- Bodies that are typed while they are read, token by token.
+pub mod Streaming
+-- What is counted of a module's imports, once for all references.
 pub mod Whole

@@ -1,3 +1,8 @@
+-- A draft of a module: a stub stands for each body that no edit has replaced.
 pub mod Drafts
-pub mod Steps
+-- What edits of a draft give of its module: the bytes, the verdict and the replies.
 pub mod Runs
+-- ---- steps, for those who read proofs
+
+-- What one edit of a draft says of the same edit of its module.
+pub mod Steps

@@ -1,4 +1,8 @@
+-- What the arguments of a call ask for: the profile, the listing, flags and names.
 pub mod Asked
-pub mod Meanings
-pub mod Outputs
+-- What each call has to tell, by its arguments: a result code, bytes and a text.
 pub mod Told
+-- What a call leaves in the memory that it is given, and the result that it returns.
+pub mod Outputs
+-- What the answers mean, in terms of the grammars, the verdict and the main theorem.
+pub mod Meanings
