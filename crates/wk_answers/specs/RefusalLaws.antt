@@ -1,4 +1,4 @@
--- What a refused reading says of what bytes spell.
+-- A refusal, unless for want of memory, is the fault that the definition of reading gives.
 use Rattle.std.proofs.Common.{◌≡◌, ◌≢◌, Result, Err, refl}
 use Rattle.wk_bytes.specs.declared.fault.ReadKind.{ReadKind}
 use Rattle.wk_bytes.specs.declared.fault.ReadKind.TheVariants as kinds

@@ -1,5 +1,5 @@
--- Tokens that are as short as they may be: instructions that have a byte for each of their integers, ends, and openers of blocks whose
--- type has one byte.
+-- Tokens that are as short as they may be, and whose integers do not have a byte each (`TokenLen` has those that do): integers of two
+-- bytes, words, a `br_table` of labels of a byte each, openers of blocks whose type has one byte. And open blocks as the bits of a number.
 use Rattle.std.specs.Prelude.{◌≡◌, ℕ, ◌+◌, ◌*◌, ◌/◌, ◌<◌, ◌≤◌, ◌⊎◌, ◌==◌, if◌then◌else◌, Bool, true, false, List, [], ◌∷◌, Option, Some, length, get_or}
 use Rattle.wk_body.specs.declared.types.Profile.TheVariants.{Core}
 use Rattle.wk_body.specs.declared.types.ValType.{ValType}
@@ -17,7 +17,7 @@ IsWideIndex x y = (128 ≤ x) × (x < 256) × (0 < y) × (y < 128)
 abbrev pub IsWideNumber : ℕ → ℕ → Type 0
 IsWideNumber x y = (128 ≤ x) × (x < 256) × (y < 128) × (y ≡ 0 → 192 ≤ x) × (y ≡ 127 → x < 192)
 
--- an instruction that isn't of those above has that many bytes, and each of its integers is as short as it may be, where these bytes
+-- an instruction whose integers do not have a byte each has that many bytes, and each of its integers is as short as it may be, where these bytes
 -- stand behind its opcode
 abbrev pub IsWide : Option ImmediateKind → ℕ → ℕ → ℕ → ℕ → Type 0
 IsWide (Some imms.Reserved) len x y z = (len ≡ 2) × (x ≡ 0)

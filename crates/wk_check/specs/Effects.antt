@@ -1,4 +1,4 @@
--- What each instruction that holds no others asks of its immediates, takes and gives (3.3).
+-- What each instruction that holds no others asks of its immediates, takes and gives (3.3); the parameters and results of block types.
 use Rattle.std.specs.Prelude.{ℕ, ◌-◌, ◌^◌, Bool, true, false, if◌then◌else◌, nat_lt, List, [], ◌∷◌, ◌++◌, Result, Ok, Err, Option, Some, None, is_some, slice_get, length}
 use Rattle.wk_bytes.specs.Leb.{◌>>=◌}
 use Rattle.wk_body.specs.declared.types.ValType.{ValType}

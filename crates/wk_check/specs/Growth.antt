@@ -1,4 +1,4 @@
--- What is known of a valid module, and of one that has more.
+-- What is known of a valid module, of one that has more or one export less, and of a table or a memory that is one too many.
 use Rattle.std.specs.Prelude.{◌≡◌, ℕ, Option, Some, None, List, [], ◌∷◌, map, remove}
 use Rattle.std.specs.List.{AllByRecursion}
 use Rattle.wk_body.specs.declared.references.Ref.{Ref}

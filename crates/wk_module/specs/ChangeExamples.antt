@@ -1,4 +1,4 @@
--- Each change on a small module: what is added comes last, and of what is named the first is meant.
+-- Changes of a small module, all but those by a type or a global: what is added comes last, and of what is named the first is meant.
 use Rattle.std.proofs.Common.{◌≡◌, ℕ, [], ◌∷◌, Some, None, refl}
 use Rattle.wk_body.specs.declared.types.Profile.TheVariants.{Core}
 use Rattle.wk_body.specs.declared.types.ValType.TheVariants.{I32}

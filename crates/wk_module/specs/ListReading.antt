@@ -1,4 +1,5 @@
--- The lists of a module as they are read where its custom sections are let go, and which sections may still come.
+-- The lists of a module as they are read where its custom sections are let go, which sections may still come, and what reading a whole
+-- module says of its bytes (`IsReading`).
 use Rattle.std.specs.Prelude.{◌≡◌, ◌==◌, ℕ, max, if◌then◌else◌, Option, Some, None, List, [], ◌∷◌, length, Result, Ok, Err}
 use Rattle.wk_bytes.specs.declared.raw.RawSection.{RawSection}
 use Rattle.wk_bytes.specs.declared.fault.ReadKind.{ReadKind}

@@ -1,4 +1,4 @@
--- The lists that are lent, as those of sections.
+-- The lists that are lent, as those of sections; that each has fewer than 2^32 items; and the ids of sections that hold lists.
 use Rattle.std.specs.Prelude.{◌<◌, ◌≤◌, ◌≢◌, ◌^◌, ℕ, List, [], length}
 use Rattle.wk_module.specs.declared.lists.Lists.{Lists}
 use Rattle.wk_module.specs.declared.types.Parts.{Parts}

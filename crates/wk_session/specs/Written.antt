@@ -1,4 +1,4 @@
--- What a write that failed leaves.
+-- What a write that failed leaves, and how failures are counted.
 use Rattle.std.specs.Prelude.{◌≡◌, ℕ, ◌+◌, Option, List, Result, Ok, Err}
 use Rattle.wk_bytes.specs.Taken.{TakesFront}
 use Rattle.wk_session.specs.declared.write.WriteFault.{WriteFault}

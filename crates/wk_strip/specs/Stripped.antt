@@ -1,4 +1,4 @@
--- Modules without their customs.
+-- Modules without their custom sections, or with those of one name.
 use Rattle.std.specs.Prelude.{◌≡◌, ℕ, Bool, false, Option, Some, None, List, Ok, filter}
 use Rattle.std.specs.Str.{bytes_eq}
 use Rattle.wk_bytes.specs.Frames.{Frame, SpellsFraming}
