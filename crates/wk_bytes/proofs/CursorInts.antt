@@ -10,7 +10,8 @@ one_u32 : (x : ℕ) → x < 128 → SpellsU 32 (x ∷ []) x
 one_u32 x small = (small, omega arith, refl)
 
 pub short_u32 : (old new : Span) (x n : ℕ) → x < 128 → old.rest ≡ x ∷ new.rest → n ≡ x → u32_at old.end old.rest ≡ Ok (n, new.rest)
-short_u32 old new x n small parts is = ap (u32_at old.end) parts ∙ u32_at-again old.end (x ∷ []) x new.rest (one_u32 x small) ∙ ap (λ m. Ok (m, new.rest)) (sym is)
+short_u32 old new x n small parts is = ap (u32_at old.end) parts ∙ u32_at-again old.end (x ∷ []) x new.rest (one_u32 x small)
+    ∙ ap (λ m. Ok (m, new.rest)) (sym is)
 
 pub short_u32-spelled : (old new : Span) (x n : ℕ) → x < 128 → old.rest ≡ x ∷ new.rest → n ≡ x → (b : List ℕ) × SpellsU 32 b n × (old.rest ≡ b ++ new.rest)
 short_u32-spelled old new x n small parts is = (x ∷ [], (omega (arith, is, small), omega (arith, is, small), is), parts)
@@ -33,12 +34,15 @@ width_range N (inr (inr is)) = (omega arith, omega arith)
 one_signed : (N x : ℕ) → IsWidth N → x < 64 → SpellsS N (x ∷ []) (pos x)
 one_signed N x width small = inl (small, below_64 N x width small, refl)
 
-pub short_signed : (N : ℕ) (old new : Span) (x : ℕ) (z : ℤ) → IsWidth N → x < 64 → old.rest ≡ x ∷ new.rest → z ≡ pos x → signed_at N old.end old.rest ≡ Ok (z, new.rest)
+pub short_signed : (N : ℕ) (old new : Span) (x : ℕ) (z : ℤ) → IsWidth N → x < 64 → old.rest ≡ x ∷ new.rest → z ≡ pos x
+    → signed_at N old.end old.rest ≡ Ok (z, new.rest)
 short_signed N old new x z width small parts is =
     ap (signed_at N old.end) parts ∙ signed_at-again N old.end (x ∷ []) (pos x) new.rest (one_signed N x width small) ∙ ap (λ m. Ok (m, new.rest)) (sym is)
 
-pub short_signed-spelled : (N : ℕ) (old new : Span) (x : ℕ) (z : ℤ) → IsWidth N → x < 64 → old.rest ≡ x ∷ new.rest → z ≡ pos x → (b : List ℕ) × SpellsS N b z × (old.rest ≡ b ++ new.rest)
+pub short_signed-spelled : (N : ℕ) (old new : Span) (x : ℕ) (z : ℤ) → IsWidth N → x < 64 → old.rest ≡ x ∷ new.rest → z ≡ pos x
+    → (b : List ℕ) × SpellsS N b z × (old.rest ≡ b ++ new.rest)
 short_signed-spelled N old new x z width small parts is = (x ∷ [], subst (SpellsS N (x ∷ [])) (sym is) (one_signed N x width small), parts)
 
-pub no_signed : (N : ℕ) (old : Span) (e : ReadFault) → signed_at N old.end old.rest ≡ Err e → (b rest : List ℕ) (z : ℤ) → SpellsS N b z → old.rest ≡ b ++ rest → ⊥
+pub no_signed : (N : ℕ) (old : Span) (e : ReadFault) → signed_at N old.end old.rest ≡ Err e → (b rest : List ℕ) (z : ℤ) → SpellsS N b z
+    → old.rest ≡ b ++ rest → ⊥
 no_signed N = none_spelled (SpellsS N) (signed_at N) (signed_at-again N)

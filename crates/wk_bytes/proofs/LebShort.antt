@@ -1,5 +1,6 @@
 -- Integers of a few bytes, byte by byte.
-use Rattle.std.proofs.Common.{◌≡◌, ℕ, ◌+◌, ◌-◌, ◌*◌, ◌^◌, ◌<◌, ◌≤◌, ℤ, pos, negsuc, ◌+ℤ◌, ◌-ℤ◌, ◌*ℤ◌, ◌≤ℤ◌, ◌⊎◌, inl, inr, List, [], ◌∷◌, ◌++◌, get_or, length, length-drop, take, drop, Ok, refl, sym, ap, ◌∙◌, arith}
+use Rattle.std.proofs.Common.{◌≡◌, ℕ, ◌+◌, ◌-◌, ◌*◌, ◌^◌, ◌<◌, ◌≤◌, ℤ, pos, negsuc, ◌+ℤ◌, ◌-ℤ◌, ◌*ℤ◌, ◌≤ℤ◌, ◌⊎◌, inl, inr, List, [], ◌∷◌, ◌++◌, get_or, length}
+use Rattle.std.proofs.Common.{length-drop, take, drop, Ok, refl, sym, ap, ◌∙◌, arith}
 use Rattle.std.proofs.lemmas.Bool.{cases_lt}
 use Rattle.std.proofs.lemmas.List.{take-append-drop}
 use Rattle.std.proofs.lemmas.Int.{ints}
@@ -9,7 +10,8 @@ use Rattle.wk_bytes.specs.Leb.{SpellsU, SpellsS, IsLastS, IsSignedOf, joinU, joi
 use Rattle.wk_bytes.specs.LebLaws.{more_spells, uint_again, sint_again}
 
 -- the first five bytes
-pub first_five : (bytes : List ℕ) → 5 ≤ length bytes → take 5 bytes ≡ get_or bytes 0 0 ∷ get_or bytes 1 0 ∷ get_or bytes 2 0 ∷ get_or bytes 3 0 ∷ get_or bytes 4 0 ∷ []
+pub first_five : (bytes : List ℕ) → 5 ≤ length bytes → take 5 bytes
+    ≡ get_or bytes 0 0 ∷ get_or bytes 1 0 ∷ get_or bytes 2 0 ∷ get_or bytes 3 0 ∷ get_or bytes 4 0 ∷ []
 first_five (a ∷ b ∷ c ∷ d ∷ e ∷ rest) long = refl
 first_five _ long = absurd (omega arith)
 
@@ -51,12 +53,14 @@ last_above k N x lt small fits = inl (small, omega (arith, half_power k N lt), o
 pub last_below : (k N x : ℕ) → k < N → 64 ≤ x → x < 128 → 128 ≤ x + 2 ^ k → SpellsS N (x ∷ []) (pos x -ℤ pos 128)
 last_below k N x lt big small fits = inr (big, small, omega (arith, half_power k N lt), refl)
 
-more_signed : (N x : ℕ) (b : List ℕ) (h over : ℕ) → 128 ≤ x → x < 256 → 7 < N → SpellsS (N - 7) b (pos h -ℤ pos over) → SpellsS N (x ∷ b) (pos (joinU (x - 128) h) -ℤ pos (128 * over))
+more_signed : (N x : ℕ) (b : List ℕ) (h over : ℕ) → 128 ≤ x → x < 256 → 7 < N → SpellsS (N - 7) b (pos h -ℤ pos over)
+    → SpellsS N (x ∷ b) (pos (joinU (x - 128) h) -ℤ pos (128 * over))
 more_signed N x b h over high small wide s =
     more_spells IsLastS joinS N x b (pos h -ℤ pos over) (pos (joinU (x - 128) h) -ℤ pos (128 * over)) high small wide s (omega (arith, ints))
 
 -- from the last byte to all of them
-pub two_signed : (N a b over : ℕ) → 128 ≤ a → a < 256 → 7 < N → SpellsS (N - 7) (b ∷ []) (pos b -ℤ pos over) → SpellsS N (a ∷ b ∷ []) (pos (joinU (a - 128) b) -ℤ pos (128 * over))
+pub two_signed : (N a b over : ℕ) → 128 ≤ a → a < 256 → 7 < N → SpellsS (N - 7) (b ∷ []) (pos b -ℤ pos over)
+    → SpellsS N (a ∷ b ∷ []) (pos (joinU (a - 128) b) -ℤ pos (128 * over))
 two_signed N a b over ha fa wide s = more_signed N a (b ∷ []) b over ha fa wide s
 
 pub three_signed : (N a b c over : ℕ) → 128 ≤ a → 128 ≤ b → a < 256 → b < 256 → 14 < N → SpellsS (N - 7 - 7) (c ∷ []) (pos c -ℤ pos over)
@@ -64,13 +68,17 @@ pub three_signed : (N a b c over : ℕ) → 128 ≤ a → 128 ≤ b → a < 256 
 three_signed N a b c over ha hb fa fb wide s =
     more_signed N a (b ∷ c ∷ []) (joinU (b - 128) c) (128 * over) ha fa (omega arith) (two_signed (N - 7) b c over hb fb (omega arith) s)
 
-pub four_signed : (N a b c d over : ℕ) → 128 ≤ a → 128 ≤ b → 128 ≤ c → a < 256 → b < 256 → c < 256 → 21 < N → SpellsS (N - 7 - 7 - 7) (d ∷ []) (pos d -ℤ pos over)
+pub four_signed : (N a b c d over : ℕ) → 128 ≤ a → 128 ≤ b → 128 ≤ c → a < 256 → b < 256 → c < 256 → 21 < N
+    → SpellsS (N - 7 - 7 - 7) (d ∷ []) (pos d -ℤ pos over)
     → SpellsS N (a ∷ b ∷ c ∷ d ∷ []) (pos (joinU (a - 128) (joinU (b - 128) (joinU (c - 128) d))) -ℤ pos (128 * (128 * (128 * over))))
 four_signed N a b c d over ha hb hc fa fb fc wide s =
-    more_signed N a (b ∷ c ∷ d ∷ []) (joinU (b - 128) (joinU (c - 128) d)) (128 * (128 * over)) ha fa (omega arith) (three_signed (N - 7) b c d over hb hc fb fc (omega arith) s)
+    more_signed N a (b ∷ c ∷ d ∷ []) (joinU (b - 128) (joinU (c - 128) d)) (128 * (128 * over)) ha fa (omega arith)
+    (three_signed (N - 7) b c d over hb hc fb fc (omega arith) s)
 
-pub five_signed : (N a b c d e over : ℕ) → 128 ≤ a → 128 ≤ b → 128 ≤ c → 128 ≤ d → a < 256 → b < 256 → c < 256 → d < 256 → 28 < N → SpellsS (N - 7 - 7 - 7 - 7) (e ∷ []) (pos e -ℤ pos over)
-    → SpellsS N (a ∷ b ∷ c ∷ d ∷ e ∷ []) (pos (joinU (a - 128) (joinU (b - 128) (joinU (c - 128) (joinU (d - 128) e)))) -ℤ pos (128 * (128 * (128 * (128 * over)))))
+pub five_signed : (N a b c d e over : ℕ) → 128 ≤ a → 128 ≤ b → 128 ≤ c → 128 ≤ d → a < 256 → b < 256 → c < 256 → d < 256 → 28 < N
+    → SpellsS (N - 7 - 7 - 7 - 7) (e ∷ []) (pos e -ℤ pos over)
+    → SpellsS N (a ∷ b ∷ c ∷ d ∷ e ∷ [])
+    (pos (joinU (a - 128) (joinU (b - 128) (joinU (c - 128) (joinU (d - 128) e)))) -ℤ pos (128 * (128 * (128 * (128 * over)))))
 five_signed N a b c d e over ha hb hc hd fa fb fc fd wide s =
     more_signed N a (b ∷ c ∷ d ∷ e ∷ []) (joinU (b - 128) (joinU (c - 128) (joinU (d - 128) e))) (128 * (128 * (128 * over))) ha fa (omega arith)
     (four_signed (N - 7) b c d e over hb hc hd fb fc fd (omega arith) s)
@@ -109,7 +117,8 @@ five_more a b c d e rest h v ha hb hc hd he fa fb fc fd fe s is =
     (ha, fa, omega arith, _, (hb, fb, omega arith, _, (hc, fc, omega arith, _, (hd, fd, omega arith, _, s5, refl), refl), refl), is)
 
 -- five bytes less the high bit of the fifth, below `high`
-pub five_value : (a b c d e low : ℕ) (high : ℤ) → 128 ≤ a → 128 ≤ b → 128 ≤ c → 128 ≤ d → 128 ≤ e → low ≡ joinU (a - 128) (joinU (b - 128) (joinU (c - 128) (joinU (d - 128) e))) - 2 ^ 35
+pub five_value : (a b c d e low : ℕ) (high : ℤ) → 128 ≤ a → 128 ≤ b → 128 ≤ c → 128 ≤ d → 128 ≤ e
+    → low ≡ joinU (a - 128) (joinU (b - 128) (joinU (c - 128) (joinU (d - 128) e))) - 2 ^ 35
     → (high *ℤ pos (2 ^ 35)) +ℤ pos low ≡ five_below a b c d e high
 five_value a b c d e low (pos n) ha hb hc hd he is = omega (arith, ints)
 five_value a b c d e low (negsuc n) ha hb hc hd he is = omega (arith, ints)
@@ -124,4 +133,5 @@ pub after_five : (bytes rest : List ℕ) (k : ℕ) → 5 ≤ length bytes → re
 after_five bytes rest k long is =
     let all : length bytes - 5 ≡ length (drop 5 bytes) = sym (length-drop 5 bytes) in
     let same : rest ≡ drop 5 bytes = is ∙ ap (λ (n : ℕ). take n (drop 5 bytes)) all ∙ take-length (drop 5 bytes) in
-    take-add 5 k bytes ∙ ap (λ (b : List ℕ). b ++ take k (drop 5 bytes)) (first_five bytes long) ∙ ap (λ (b : List ℕ). get_or bytes 0 0 ∷ get_or bytes 1 0 ∷ get_or bytes 2 0 ∷ get_or bytes 3 0 ∷ get_or bytes 4 0 ∷ take k b) (sym same)
+    take-add 5 k bytes ∙ ap (λ (b : List ℕ). b ++ take k (drop 5 bytes)) (first_five bytes long)
+    ∙ ap (λ (b : List ℕ). get_or bytes 0 0 ∷ get_or bytes 1 0 ∷ get_or bytes 2 0 ∷ get_or bytes 3 0 ∷ get_or bytes 4 0 ∷ take k b) (sym same)

@@ -1,5 +1,6 @@
 -- Eight bytes of an integer as a word, the lowest first: whether more come after each, and their seven bits put side by side.
-use Rattle.std.proofs.Common.{◌≡◌, ℕ, ◌+◌, ◌-◌, ◌*◌, ◌/◌, ◌^◌, ◌<◌, ◌≤◌, ℤ, pos, negsuc, ◌+ℤ◌, ◌*ℤ◌, List, [], ◌∷◌, ◌++◌, get_or, length, take, bit_and, refl, sym, ap, ◌∙◌, arith}
+use Rattle.std.proofs.Common.{◌≡◌, ℕ, ◌+◌, ◌-◌, ◌*◌, ◌/◌, ◌^◌, ◌<◌, ◌≤◌, ℤ, pos, negsuc, ◌+ℤ◌, ◌*ℤ◌, List, [], ◌∷◌, ◌++◌, get_or, length, take, bit_and, refl}
+use Rattle.std.proofs.Common.{sym, ap, ◌∙◌, arith}
 use Rattle.std.specs.Prelude.{FitsSigned}
 use Rattle.std.specs.Int.{w64}
 use Rattle.std.proofs.lemmas.Int.{ints}
@@ -47,8 +48,10 @@ low_16 b c small = and_mask (b + 65536 * c) 16 ∙ omega arith
 even_bytes : (b c d e f g h : ℕ) → b < 256 → c < 256 → d < 256 → e < 256 → f < 256 → g < 256 → h < 256
     → bit_and (b + 256 * (c + 256 * (d + 256 * (e + 256 * (f + 256 * (g + 256 * h)))))) 0x00FF00FF00FF00FF ≡ b + 65536 * (d + 65536 * (f + 65536 * h))
 even_bytes b c d e f g h fb fc fd fe ff fg fh =
-    let lanes : b + 256 * (c + 256 * (d + 256 * (e + 256 * (f + 256 * (g + 256 * h))))) ≡ b + 256 * c + 65536 * (d + 256 * e + 65536 * (f + 256 * g + 65536 * (h + 256 * 0))) = omega arith in
-    let first = lanes_16 (b + 256 * c) (d + 256 * e + 65536 * (f + 256 * g + 65536 * (h + 256 * 0))) 255 (255 + 65536 * (255 + 65536 * 255)) (omega arith) (omega arith) in
+    let lanes : b + 256 * (c + 256 * (d + 256 * (e + 256 * (f + 256 * (g + 256 * h)))))
+    ≡ b + 256 * c + 65536 * (d + 256 * e + 65536 * (f + 256 * g + 65536 * (h + 256 * 0))) = omega arith in
+    let first = lanes_16 (b + 256 * c) (d + 256 * e + 65536 * (f + 256 * g + 65536 * (h + 256 * 0))) 255 (255 + 65536 * (255 + 65536 * 255))
+    (omega arith) (omega arith) in
     let second = lanes_16 (d + 256 * e) (f + 256 * g + 65536 * (h + 256 * 0)) 255 (255 + 65536 * 255) (omega arith) (omega arith) in
     let third = lanes_16 (f + 256 * g) (h + 256 * 0) 255 255 (omega arith) (omega arith) in
     rw (lanes, first, second, third, low_8 b c fb, low_8 d e fd, low_8 f g ff, low_8 h 0 fh) refl
@@ -59,7 +62,8 @@ pub in_twos : (a b c d e f g h word : ℕ) → a < 128 → b < 128 → c < 128 �
 in_twos a b c d e f g h word fa fb fc fd fe ff fg fh is =
     let after : word / 256 ≡ b + 256 * (c + 256 * (d + 256 * (e + 256 * (f + 256 * (g + 256 * h))))) = omega arith in
     let even : bit_and (word / 256) 0x00FF00FF00FF00FF ≡ b + 65536 * (d + 65536 * (f + 65536 * h)) =
-    ap (λ (n : ℕ). bit_and n 0x00FF00FF00FF00FF) after ∙ even_bytes b c d e f g h (omega arith) (omega arith) (omega arith) (omega arith) (omega arith) (omega arith) (omega arith)
+    ap (λ (n : ℕ). bit_and n 0x00FF00FF00FF00FF) after ∙ even_bytes b c d e f g h (omega arith) (omega arith) (omega arith) (omega arith) (omega arith)
+    (omega arith) (omega arith)
     in
     omega (arith, even, is)
 
@@ -69,7 +73,8 @@ pub in_fours : (p q r s twos : ℕ) → p < 16384 → q < 16384 → r < 16384 �
 in_fours p q r s twos fp fq fr fs is =
     let after : twos / 65536 ≡ q + 65536 * r + 2 ^ 32 * (s + 65536 * 0) = omega arith in
     let lanes = lanes_32 (q + 65536 * r) (s + 65536 * 0) 65535 65535 (omega arith) (omega arith) in
-    let even : bit_and (twos / 65536) 0x0000FFFF0000FFFF ≡ q + 2 ^ 32 * s = ap (λ (n : ℕ). bit_and n 0x0000FFFF0000FFFF) after ∙ lanes ∙ rw (low_16 q r (omega arith), low_16 s 0 (omega arith)) refl in
+    let even : bit_and (twos / 65536) 0x0000FFFF0000FFFF ≡ q + 2 ^ 32 * s =
+    ap (λ (n : ℕ). bit_and n 0x0000FFFF0000FFFF) after ∙ lanes ∙ rw (low_16 q r (omega arith), low_16 s 0 (omega arith)) refl in
     omega (arith, even, is)
 
 -- and all eight
@@ -83,17 +88,185 @@ pub all_more : (a b c d e f g h word : ℕ) → a < 256 → b < 256 → c < 256 
     → bit_and word 0x8080808080808080 ≡ 0x8080808080808080
     → (128 ≤ a) × (128 ≤ b) × (128 ≤ c) × (128 ≤ d) × (128 ≤ e) × (128 ≤ f) × (128 ≤ g) × (128 ≤ h)
 all_more a b c d e f g h word fa fb fc fd fe ff fg fh is high =
-    let at_a = lanes_8 a (b + 256 * (c + 256 * (d + 256 * (e + 256 * (f + 256 * (g + 256 * (h))))))) 128 (128 + 256 * (128 + 256 * (128 + 256 * (128 + 256 * (128 + 256 * (128 + 256 * (128))))))) fa (omega arith) in
-    let at_b = lanes_8 b (c + 256 * (d + 256 * (e + 256 * (f + 256 * (g + 256 * (h)))))) 128 (128 + 256 * (128 + 256 * (128 + 256 * (128 + 256 * (128 + 256 * (128)))))) fb (omega arith) in
-    let at_c = lanes_8 c (d + 256 * (e + 256 * (f + 256 * (g + 256 * (h))))) 128 (128 + 256 * (128 + 256 * (128 + 256 * (128 + 256 * (128))))) fc (omega arith) in
+    let at_a = lanes_8 a (b + 256 * (c + 256 * (d + 256 * (e + 256 * (f + 256 * (g + 256 * (h))))))) 128
+    (128 + 256 * (128 + 256 * (128 + 256 * (128 + 256 * (128 + 256 * (128 + 256 * (128))))))) fa (omega arith) in
+    let at_b = lanes_8 b (c + 256 * (d + 256 * (e + 256 * (f + 256 * (g + 256 * (h)))))) 128
+    (128 + 256 * (128 + 256 * (128 + 256 * (128 + 256 * (128 + 256 * (128)))))) fb (omega arith) in
+    let at_c = lanes_8 c (d + 256 * (e + 256 * (f + 256 * (g + 256 * (h))))) 128 (128 + 256 * (128 + 256 * (128 + 256 * (128 + 256 * (128))))) fc
+    (omega arith) in
     let at_d = lanes_8 d (e + 256 * (f + 256 * (g + 256 * (h)))) 128 (128 + 256 * (128 + 256 * (128 + 256 * (128)))) fd (omega arith) in
     let at_e = lanes_8 e (f + 256 * (g + 256 * (h))) 128 (128 + 256 * (128 + 256 * (128))) fe (omega arith) in
     let at_f = lanes_8 f (g + 256 * (h)) 128 (128 + 256 * (128)) ff (omega arith) in
     let at_g = lanes_8 g (h) 128 (128) fg (omega arith) in
-    let bits : 0x8080808080808080 ≡ bit_and a 128 + 256 * (bit_and b 128 + 256 * (bit_and c 128 + 256 * (bit_and d 128 + 256 * (bit_and e 128 + 256 * (bit_and f 128 + 256 * (bit_and g 128 + 256 * (bit_and h 128))))))) = sym high ∙ ap (λ (n : ℕ). bit_and n 0x8080808080808080) is ∙ rw (at_a, at_b, at_c, at_d, at_e, at_f, at_g) refl in
-    (omega (arith, bits, and_le_l a 128, and_le_r a 128, and_le_l b 128, and_le_r b 128, and_le_l c 128, and_le_r c 128, and_le_l d 128, and_le_r d 128, and_le_l e 128, and_le_r e 128, and_le_l f 128, and_le_r f 128, and_le_l g 128, and_le_r g 128, and_le_l h 128, and_le_r h 128), omega (arith, bits, and_le_l a 128, and_le_r a 128, and_le_l b 128, and_le_r b 128, and_le_l c 128, and_le_r c 128, and_le_l d 128, and_le_r d 128, and_le_l e 128, and_le_r e 128, and_le_l f 128, and_le_r f 128, and_le_l g 128, and_le_r g 128, and_le_l h 128, and_le_r h 128), omega (arith, bits, and_le_l a 128, and_le_r a 128, and_le_l b 128, and_le_r b 128, and_le_l c 128, and_le_r c 128, and_le_l d 128, and_le_r d 128, and_le_l e 128, and_le_r e 128, and_le_l f 128, and_le_r f 128, and_le_l g 128, and_le_r g 128, and_le_l h 128, and_le_r h 128), omega (arith, bits, and_le_l a 128, and_le_r a 128, and_le_l b 128, and_le_r b 128, and_le_l c 128, and_le_r c 128, and_le_l d 128, and_le_r d 128, and_le_l e 128, and_le_r e 128, and_le_l f 128, and_le_r f 128, and_le_l g 128, and_le_r g 128, and_le_l h 128, and_le_r h 128), omega (arith, bits, and_le_l a 128, and_le_r a 128, and_le_l b 128, and_le_r b 128, and_le_l c 128, and_le_r c 128, and_le_l d 128, and_le_r d 128, and_le_l e 128, and_le_r e 128, and_le_l f 128, and_le_r f 128, and_le_l g 128, and_le_r g 128, and_le_l h 128, and_le_r h 128), omega (arith, bits, and_le_l a 128, and_le_r a 128, and_le_l b 128, and_le_r b 128, and_le_l c 128, and_le_r c 128, and_le_l d 128, and_le_r d 128, and_le_l e 128, and_le_r e 128, and_le_l f 128, and_le_r f 128, and_le_l g 128, and_le_r g 128, and_le_l h 128, and_le_r h 128), omega (arith, bits, and_le_l a 128, and_le_r a 128, and_le_l b 128, and_le_r b 128, and_le_l c 128, and_le_r c 128, and_le_l d 128, and_le_r d 128, and_le_l e 128, and_le_r e 128, and_le_l f 128, and_le_r f 128, and_le_l g 128, and_le_r g 128, and_le_l h 128, and_le_r h 128), omega (arith, bits, and_le_l a 128, and_le_r a 128, and_le_l b 128, and_le_r b 128, and_le_l c 128, and_le_r c 128, and_le_l d 128, and_le_r d 128, and_le_l e 128, and_le_r e 128, and_le_l f 128, and_le_r f 128, and_le_l g 128, and_le_r g 128, and_le_l h 128, and_le_r h 128))
+    let bits : 0x8080808080808080
+    ≡ bit_and a 128 + 256 * (bit_and b 128
+    + 256 * (bit_and c 128 + 256
+    * (bit_and d 128 + 256 * (bit_and e 128 + 256 * (bit_and f 128 + 256 * (bit_and g 128 + 256 * (bit_and h 128))))))) =
+    sym high ∙ ap (λ (n : ℕ). bit_and n 0x8080808080808080) is ∙ rw (at_a, at_b, at_c, at_d, at_e, at_f, at_g) refl in (
+      omega (
+        arith,
+        bits,
+        and_le_l a 128,
+        and_le_r a 128,
+        and_le_l b 128,
+        and_le_r b 128,
+        and_le_l c 128,
+        and_le_r c 128,
+        and_le_l d 128,
+        and_le_r d 128,
+        and_le_l e 128,
+        and_le_r e 128,
+        and_le_l f 128,
+        and_le_r f 128,
+        and_le_l g 128,
+        and_le_r g 128,
+        and_le_l h 128,
+        and_le_r h 128,
+      ),
+      omega (
+        arith,
+        bits,
+        and_le_l a 128,
+        and_le_r a 128,
+        and_le_l b 128,
+        and_le_r b 128,
+        and_le_l c 128,
+        and_le_r c 128,
+        and_le_l d 128,
+        and_le_r d 128,
+        and_le_l e 128,
+        and_le_r e 128,
+        and_le_l f 128,
+        and_le_r f 128,
+        and_le_l g 128,
+        and_le_r g 128,
+        and_le_l h 128,
+        and_le_r h 128,
+      ),
+      omega (
+        arith,
+        bits,
+        and_le_l a 128,
+        and_le_r a 128,
+        and_le_l b 128,
+        and_le_r b 128,
+        and_le_l c 128,
+        and_le_r c 128,
+        and_le_l d 128,
+        and_le_r d 128,
+        and_le_l e 128,
+        and_le_r e 128,
+        and_le_l f 128,
+        and_le_r f 128,
+        and_le_l g 128,
+        and_le_r g 128,
+        and_le_l h 128,
+        and_le_r h 128,
+      ),
+      omega (
+        arith,
+        bits,
+        and_le_l a 128,
+        and_le_r a 128,
+        and_le_l b 128,
+        and_le_r b 128,
+        and_le_l c 128,
+        and_le_r c 128,
+        and_le_l d 128,
+        and_le_r d 128,
+        and_le_l e 128,
+        and_le_r e 128,
+        and_le_l f 128,
+        and_le_r f 128,
+        and_le_l g 128,
+        and_le_r g 128,
+        and_le_l h 128,
+        and_le_r h 128,
+      ),
+      omega (
+        arith,
+        bits,
+        and_le_l a 128,
+        and_le_r a 128,
+        and_le_l b 128,
+        and_le_r b 128,
+        and_le_l c 128,
+        and_le_r c 128,
+        and_le_l d 128,
+        and_le_r d 128,
+        and_le_l e 128,
+        and_le_r e 128,
+        and_le_l f 128,
+        and_le_r f 128,
+        and_le_l g 128,
+        and_le_r g 128,
+        and_le_l h 128,
+        and_le_r h 128,
+      ),
+      omega (
+        arith,
+        bits,
+        and_le_l a 128,
+        and_le_r a 128,
+        and_le_l b 128,
+        and_le_r b 128,
+        and_le_l c 128,
+        and_le_r c 128,
+        and_le_l d 128,
+        and_le_r d 128,
+        and_le_l e 128,
+        and_le_r e 128,
+        and_le_l f 128,
+        and_le_r f 128,
+        and_le_l g 128,
+        and_le_r g 128,
+        and_le_l h 128,
+        and_le_r h 128,
+      ),
+      omega (
+        arith,
+        bits,
+        and_le_l a 128,
+        and_le_r a 128,
+        and_le_l b 128,
+        and_le_r b 128,
+        and_le_l c 128,
+        and_le_r c 128,
+        and_le_l d 128,
+        and_le_r d 128,
+        and_le_l e 128,
+        and_le_r e 128,
+        and_le_l f 128,
+        and_le_r f 128,
+        and_le_l g 128,
+        and_le_r g 128,
+        and_le_l h 128,
+        and_le_r h 128,
+      ),
+      omega (
+        arith,
+        bits,
+        and_le_l a 128,
+        and_le_r a 128,
+        and_le_l b 128,
+        and_le_r b 128,
+        and_le_l c 128,
+        and_le_r c 128,
+        and_le_l d 128,
+        and_le_r d 128,
+        and_le_l e 128,
+        and_le_r e 128,
+        and_le_l f 128,
+        and_le_r f 128,
+        and_le_l g 128,
+        and_le_r g 128,
+        and_le_l h 128,
+        and_le_r h 128,
+      ),
+    )
 
-word_less : (a b c d e f g h word : ℕ) → word ≡ word_of (128 + a) (128 + b) (128 + c) (128 + d) (128 + e) (128 + f) (128 + g) (128 + h) → word - 0x8080808080808080 ≡ word_of a b c d e f g h
+word_less : (a b c d e f g h word : ℕ) → word ≡ word_of (128 + a) (128 + b) (128 + c) (128 + d) (128 + e) (128 + f) (128 + g) (128 + h)
+    → word - 0x8080808080808080 ≡ word_of a b c d e f g h
 word_less a b c d e f g h word is = omega (arith, is)
 
 back : (n : ℕ) → 128 ≤ n → 128 + (n - 128) ≡ n
@@ -108,8 +281,10 @@ eight_value a b c d e f g h low (negsuc n) is = omega (arith, ints)
 abbrev pub EightMore : List ℕ → ℕ → Type 0
 EightMore bytes low = (low < 2 ^ 56) × ((rest : List ℕ) (z : ℤ) → SpellsS 8 rest z → SpellsS 64 (take 8 bytes ++ rest) (pos low +ℤ (pos (2 ^ 56) *ℤ z)))
 
-pub eight_more : (bytes : List ℕ) (word low : ℕ) → IsBytes bytes → 8 ≤ length bytes → word ≡ little_number 8 bytes → bit_and word 0x8080808080808080 ≡ 0x8080808080808080
-    → ((a b c d e f g h : ℕ) → a < 128 → b < 128 → c < 128 → d < 128 → e < 128 → f < 128 → g < 128 → h < 128 → word - 0x8080808080808080 ≡ word_of a b c d e f g h → low ≡ joined_of a b c d e f g h)
+pub eight_more : (bytes : List ℕ) (word low : ℕ) → IsBytes bytes → 8 ≤ length bytes → word ≡ little_number 8 bytes
+    → bit_and word 0x8080808080808080 ≡ 0x8080808080808080
+    → ((a b c d e f g h : ℕ) → a < 128 → b < 128 → c < 128 → d < 128 → e < 128 → f < 128 → g < 128 → h < 128
+    → word - 0x8080808080808080 ≡ word_of a b c d e f g h → low ≡ joined_of a b c d e f g h)
     → EightMore bytes low
 eight_more (a ∷ b ∷ c ∷ d ∷ e ∷ f ∷ g ∷ h ∷ behind) word low fits long is high joined =
     let fa : a < 256 = fits 0 in
@@ -123,15 +298,44 @@ eight_more (a ∷ b ∷ c ∷ d ∷ e ∷ f ∷ g ∷ h ∷ behind) word low fit
     let word_is : word ≡ word_of a b c d e f g h = omega (arith, is) in
     let m = all_more a b c d e f g h word fa fb fc fd fe ff fg fh word_is high in
     let less : word - 0x8080808080808080 ≡ word_of (a - 128) (b - 128) (c - 128) (d - 128) (e - 128) (f - 128) (g - 128) (h - 128) =
-    word_less (a - 128) (b - 128) (c - 128) (d - 128) (e - 128) (f - 128) (g - 128) (h - 128) word (rw (back a m.0, back b m.1, back c m.2, back d m.3, back e m.4, back f m.5, back g m.6, back h m.7) word_is)
+    word_less (a - 128) (b - 128) (c - 128) (d - 128) (e - 128) (f - 128) (g - 128) (h - 128) word
+    (rw (back a m.0, back b m.1, back c m.2, back d m.3, back e m.4, back f m.5, back g m.6, back h m.7) word_is)
     in
     let low_is : low ≡ joined_of (a - 128) (b - 128) (c - 128) (d - 128) (e - 128) (f - 128) (g - 128) (h - 128) =
-    joined (a - 128) (b - 128) (c - 128) (d - 128) (e - 128) (f - 128) (g - 128) (h - 128) (omega arith) (omega arith) (omega arith) (omega arith) (omega arith) (omega arith) (omega arith) (omega arith) less
+    joined (a - 128) (b - 128) (c - 128) (d - 128) (e - 128) (f - 128) (g - 128) (h - 128) (omega arith) (omega arith) (omega arith) (omega arith)
+    (omega arith) (omega arith) (omega arith) (omega arith) less
     in (
       omega (arith, low_is),
       λ rest z s.
-          let eighth : SpellsS 15 (h ∷ rest) (joinS (h - 128) z) = more_spells IsLastS joinS 15 h rest z _ m.7 fh (omega arith) s refl in
-          (m.0, fa, omega arith, _, (m.1, fb, omega arith, _, (m.2, fc, omega arith, _, (m.3, fd, omega arith, _, (m.4, fe, omega arith, _, (m.5, ff, omega arith, _, (m.6, fg, omega arith, _, eighth, refl), refl), refl), refl), refl), refl), eight_value (a - 128) (b - 128) (c - 128) (d - 128) (e - 128) (f - 128) (g - 128) (h - 128) low z low_is),
+          let eighth : SpellsS 15 (h ∷ rest) (joinS (h - 128) z) = more_spells IsLastS joinS 15 h rest z _ m.7 fh (omega arith) s refl in (
+            m.0,
+            fa,
+            omega arith,
+            _,
+            (
+              m.1,
+              fb,
+              omega arith,
+              _,
+              (
+                m.2,
+                fc,
+                omega arith,
+                _,
+                (
+                  m.3,
+                  fd,
+                  omega arith,
+                  _,
+                  (m.4, fe, omega arith, _, (m.5, ff, omega arith, _, (m.6, fg, omega arith, _, eighth, refl), refl), refl),
+                  refl,
+                ),
+                refl,
+              ),
+              refl,
+            ),
+            eight_value (a - 128) (b - 128) (c - 128) (d - 128) (e - 128) (f - 128) (g - 128) (h - 128) low z low_is,
+          ),
     )
 eight_more _ word low fits long is high joined = absurd (omega arith)
 

@@ -1,7 +1,9 @@
 -- The texts of read faults.
 use Rattle.std.specs.Prelude.{ℕ, List, ◌++◌, codes}
 use Rattle.wk_bytes.specs.declared.fault.ReadKind.{ReadKind}
-use Rattle.wk_bytes.specs.declared.fault.ReadKind.TheVariants.{BadMagic, BadVersion, UnexpectedEnd, IntTooLong, IntTooLarge, UnknownSection, SectionOrder, SectionSize, BadUtf8, BadByte, UnknownOpcode, TooManyLocals, FuncCodeCount, BodySize, TooDeep, LongInput, Memory}
+use Rattle.wk_bytes.specs.declared.fault.ReadKind.TheVariants.{BadMagic, BadVersion, UnexpectedEnd, IntTooLong, IntTooLarge, UnknownSection, SectionOrder}
+use Rattle.wk_bytes.specs.declared.fault.ReadKind.TheVariants.{SectionSize, BadUtf8, BadByte, UnknownOpcode, TooManyLocals, FuncCodeCount, BodySize, TooDeep}
+use Rattle.wk_bytes.specs.declared.fault.ReadKind.TheVariants.{LongInput, Memory}
 use Rattle.wk_bytes.specs.declared.fault.ReadFault.{ReadFault}
 use Rattle.wk_bytes.specs.HexDigits.{hex_digits}
 

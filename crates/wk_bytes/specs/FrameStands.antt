@@ -1,5 +1,6 @@
 -- Each section lies in the input, and each fault of its header and frames stands in it.
-use Rattle.std.proofs.Common.{◌≡◌, ℕ, zero, suc, ◌-◌, ◌<◌, ◌≤◌, max, Bool, true, false, cond, leb, ltb, ◌&&◌, inl, inr, List, [], ◌∷◌, ◌++◌, length, take, Result, Ok, Err, refl, sym, ap, subst, ◌∙◌, append_assoc, length-append, arith}
+use Rattle.std.proofs.Common.{◌≡◌, ℕ, zero, suc, ◌-◌, ◌<◌, ◌≤◌, max, Bool, true, false, cond, leb, ltb, ◌&&◌, inl, inr, List, [], ◌∷◌, ◌++◌, length, take}
+use Rattle.std.proofs.Common.{Result, Ok, Err, refl, sym, ap, subst, ◌∙◌, append_assoc, length-append, arith}
 use Rattle.std.specs.Prelude.{All}
 use Rattle.std.proofs.lemmas.List.Elements.{All-nil, All-cons}
 use Rattle.std.proofs.lemmas.Bool.{ltb-false, ltb-true, false≢true}
@@ -24,11 +25,13 @@ both_true : (a b : Bool) → (a && b) ≡ true → (a ≡ true) × (b ≡ true)
 both_true true b e = (refl, e)
 both_true false b e = absurd cc
 
-id_at-faults : (last end : ℕ) (bytes : List ℕ) (e : ReadFault) → id_at last end bytes ≡ Err e → length bytes ≤ end → Stands (record { rest = bytes; end = end }) e
+id_at-faults : (last end : ℕ) (bytes : List ℕ) (e : ReadFault) → id_at last end bytes ≡ Err e → length bytes ≤ end
+    → Stands (record { rest = bytes; end = end }) e
 unfolding id_at byte_at
 id_at-faults last end [] e h fits = ReadsFront-byte_at.faults end [] e (cc) fits
 id_at-faults last end (x ∷ bytes) e h fits =
-    elim (chosen (ltb 11 x) (Err (fault UnknownSection end (x ∷ bytes))) (cond (ltb 0 x && leb x last) (Err (fault SectionOrder end (x ∷ bytes))) (Ok (x, bytes))) (Err e) h) [
+    elim (chosen (ltb 11 x) (Err (fault UnknownSection end (x ∷ bytes)))
+    (cond (ltb 0 x && leb x last) (Err (fault SectionOrder end (x ∷ bytes))) (Ok (x, bytes))) (Err e) h) [
       | inl p ↦ stands_as UnknownSection end (x ∷ bytes) e (err_is {A = ℕ × List ℕ} _ _ p.1) (ltb-true _ _ p.0)
       | inr p ↦
           elim (chosen (ltb 0 x && leb x last) (Err (fault SectionOrder end (x ∷ bytes))) (Ok (x, bytes)) (Err e) p.1) [
@@ -51,19 +54,22 @@ section_with id end bytes piece = Ok (record { id = id; at = end - length bytes;
 abbrev contents_at : ℕ → ℕ → ℕ → List ℕ → Result (Section × List ℕ) ReadFault
 contents_at id size end bytes = piece_at size end bytes >>= section_with id end bytes
 
-contents_at-takes : (id size end : ℕ) (bytes : List ℕ) (s : Section) (rest : List ℕ) → contents_at id size end bytes ≡ Ok (s, rest) → (front : List ℕ) × (bytes ≡ front ++ rest)
+contents_at-takes : (id size end : ℕ) (bytes : List ℕ) (s : Section) (rest : List ℕ) → contents_at id size end bytes ≡ Ok (s, rest)
+    → (front : List ℕ) × (bytes ≡ front ++ rest)
 contents_at-takes id size end bytes s rest e =
     let a = bind_ok (piece_at size end bytes) (section_with id end bytes) (s, rest) e in
     let t = piece_at-takes size end bytes a.0.0 a.0.1 a.1 in
     let made : Section × List ℕ = (record { id = id; at = end - length bytes; contents = a.0.0 }, a.0.1) in
     (a.0.0, t.0 ∙ ap (λ (y : Section × List ℕ). a.0.0 ++ y.1) (ok_is made (s, rest) a.2))
 
-contents_at-faults : (id size end : ℕ) (bytes : List ℕ) (e : ReadFault) (r : Result (List ℕ × List ℕ) ReadFault) → piece_at size end bytes ≡ r → (r >>= section_with id end bytes) ≡ Err e → length bytes ≤ end → Stands (record { rest = bytes; end = end }) e
+contents_at-faults : (id size end : ℕ) (bytes : List ℕ) (e : ReadFault) (r : Result (List ℕ × List ℕ) ReadFault) → piece_at size end bytes ≡ r
+    → (r >>= section_with id end bytes) ≡ Err e → length bytes ≤ end → Stands (record { rest = bytes; end = end }) e
 contents_at-faults id size end bytes e (Err d) is h fits = (ReadsFront-piece_at size).faults end bytes e (is ∙ cc) fits
 contents_at-faults id size end bytes e (Ok piece) is h fits = absurd cc
 
 ReadsFront-contents_at : (id size : ℕ) → ReadsFront (contents_at id size)
-ReadsFront-contents_at id size = record { takes = contents_at-takes id size; faults = λ end bytes e h fits. contents_at-faults id size end bytes e (piece_at size end bytes) refl h fits }
+ReadsFront-contents_at id size =
+    record { takes = contents_at-takes id size; faults = λ end bytes e h fits. contents_at-faults id size end bytes e (piece_at size end bytes) refl h fits }
 
 pub ReadsFront-section_at : (last : ℕ) → ReadsFront (section_at last)
 unfolding section_at
@@ -72,7 +78,8 @@ ReadsFront-section_at last =
     (λ id. ReadsFront-then u32_at (contents_at id) ReadsFront-u32_at (ReadsFront-contents_at id))
 
 -- a section that was read lies in the input
-section_at-lies : (last : ℕ) (input front bytes : List ℕ) (s : Section) (rest : List ℕ) → input ≡ front ++ bytes → section_at last (length input) bytes ≡ Ok (s, rest) → LiesIn input s
+section_at-lies : (last : ℕ) (input front bytes : List ℕ) (s : Section) (rest : List ℕ) → input ≡ front ++ bytes
+    → section_at last (length input) bytes ≡ Ok (s, rest) → LiesIn input s
 section_at-lies last input front bytes s rest parts e =
     let t = steps_of last (length input) bytes s rest e in
     let one = (id_at-takes last (length input) bytes s.id t.after_id t.ids).0 in
@@ -90,7 +97,8 @@ section_at-lies last input front bytes s rest parts e =
 
 -- ---- all of them
 
-all_then : (k last : ℕ) (input front bytes : List ℕ) (r : Result (Section × List ℕ) ReadFault) → input ≡ front ++ bytes → section_at last (length input) bytes ≡ r
+all_then : (k last : ℕ) (input front bytes : List ℕ) (r : Result (Section × List ℕ) ReadFault) → input ≡ front ++ bytes
+    → section_at last (length input) bytes ≡ r
     → ((s : Section) (rest before : List ℕ) → input ≡ before ++ rest → All (ItemStands input) (sections_within k (max last s.id) (length input) rest))
     → All (ItemStands input) (each_then (λ s rest. sections_within k (max last s.id) (length input) rest) r)
 all_then k last input front bytes (Ok y) parts is more =
@@ -100,13 +108,16 @@ all_then k last input front bytes (Ok y) parts is more =
 all_then k last input front bytes (Err e) parts is more =
     let fits : length bytes ≤ length input = omega (arith, ap length parts, length-append front bytes) in
     let stood = (ReadsFront-section_at last).faults (length input) bytes e is fits in
-    All-cons (ItemStands input) (Err e) [] (inr (inr (Stands-later front (whole input) (record { rest = bytes; end = length input }) e parts refl (omega arith) stood))) (All-nil (ItemStands input))
+    All-cons (ItemStands input) (Err e) []
+    (inr (inr (Stands-later front (whole input) (record { rest = bytes; end = length input }) e parts refl (omega arith) stood)))
+    (All-nil (ItemStands input))
 
 all_within : (k last : ℕ) (input front bytes : List ℕ) → input ≡ front ++ bytes → All (ItemStands input) (sections_within k last (length input) bytes)
 all_within zero last input front bytes parts = All-nil (ItemStands input)
 all_within (suc k) last input front [] parts = All-nil (ItemStands input)
 all_within (suc k) last input front (x ∷ bytes) parts =
-    all_then k last input front (x ∷ bytes) (section_at last (length input) (x ∷ bytes)) parts refl (λ s rest before behind. all_within k (max last s.id) input before rest behind)
+    all_then k last input front (x ∷ bytes) (section_at last (length input) (x ∷ bytes)) parts refl
+    (λ s rest before behind. all_within k (max last s.id) input before rest behind)
 
 pub sections_from-stand : (last : ℕ) (input front bytes : List ℕ) → input ≡ front ++ bytes → All (ItemStands input) (sections_from last (length input) bytes)
 unfolding sections_from
@@ -121,11 +132,13 @@ half_differs half piece rest bytes parts long other = (
   λ e. false≢true (sym other ∙ (bytes_eq-Decides piece half).1 (sym (take_at piece rest (length half) long) ∙ ap (take (length half)) (sym parts) ∙ e)),
 )
 
-second_faults : (input first rest : List ℕ) (e : ReadFault) (r : Result (List ℕ × List ℕ) ReadFault) → input ≡ first ++ rest → length first ≡ 4 → piece_at 4 (length input) rest ≡ r
+second_faults : (input first rest : List ℕ) (e : ReadFault) (r : Result (List ℕ × List ℕ) ReadFault) → input ≡ first ++ rest → length first ≡ 4
+    → piece_at 4 (length input) rest ≡ r
     → (r >>= second_then (length input)) ≡ Err e → Stands (whole input) e
 second_faults input first rest e (Err d) parts four is h =
     let fits : length rest ≤ length input = omega (arith, ap length parts, length-append first rest) in
-    Stands-later first (whole input) (record { rest = rest; end = length input }) e parts refl (omega arith) ((ReadsFront-piece_at 4).faults (length input) rest e (is ∙ cc) fits)
+    Stands-later first (whole input) (record { rest = rest; end = length input }) e parts refl (omega arith)
+    ((ReadsFront-piece_at 4).faults (length input) rest e (is ∙ cc) fits)
 second_faults input first rest e (Ok second) parts four is h =
     elim (chosen (bytes_eq second.0 version) (Ok (record { rest = second.1; end = length input })) (Err (record { kind = BadVersion; at = 4 })) (Err e) h) [
       | inl p ↦ absurd cc
@@ -141,11 +154,13 @@ second_faults input first rest e (Ok second) parts four is h =
           subst (Stands (whole input)) (err_is {A = Span} _ _ p.1) stood
     ]
 
-first_faults : (input : List ℕ) (e : ReadFault) (r : Result (List ℕ × List ℕ) ReadFault) → piece_at 4 (length input) input ≡ r → (r >>= first_then (length input)) ≡ Err e → Stands (whole input) e
+first_faults : (input : List ℕ) (e : ReadFault) (r : Result (List ℕ × List ℕ) ReadFault) → piece_at 4 (length input) input ≡ r
+    → (r >>= first_then (length input)) ≡ Err e → Stands (whole input) e
 first_faults input e (Err d) is h = (ReadsFront-piece_at 4).faults (length input) input e (is ∙ cc) (omega arith)
 first_faults input e (Ok first) is h =
     let t = piece_at-takes 4 (length input) input first.0 first.1 is in
-    elim (chosen (bytes_eq first.0 magic) (piece_at 4 (length input) first.1 >>= second_then (length input)) (Err (record { kind = BadMagic; at = 0 })) (Err e) h) [
+    elim (chosen (bytes_eq first.0 magic) (piece_at 4 (length input) first.1 >>= second_then (length input)) (Err (record { kind = BadMagic; at = 0 }))
+    (Err e) h) [
       | inl p ↦ second_faults input first.0 first.1 e (piece_at 4 (length input) first.1) t.0 t.1 refl p.1
       | inr p ↦
           let stood : Stands (whole input) (record { kind = BadMagic; at = 0 }) = record {

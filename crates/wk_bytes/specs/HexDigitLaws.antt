@@ -1,5 +1,6 @@
 -- The digits are those that a format of a fixed width writes.
-use Rattle.std.proofs.Common.{◌≡◌, ℕ, zero, suc, ◌+◌, ◌-◌, ◌/◌, ◌%◌, ◌^◌, ◌<◌, ◌≤◌, false, inl, inr, List, [], ◌∷◌, ◌++◌, length, replicate, refl, sym, ap, ◌∙◌, append_assoc, append-nil, arith}
+use Rattle.std.proofs.Common.{◌≡◌, ℕ, zero, suc, ◌+◌, ◌-◌, ◌/◌, ◌%◌, ◌^◌, ◌<◌, ◌≤◌, false, inl, inr, List, [], ◌∷◌, ◌++◌, length, replicate, refl, sym, ap, ◌∙◌}
+use Rattle.std.proofs.Common.{append_assoc, append-nil, arith}
 use Rattle.std.proofs.Math.Nat.{pow-suc, eq-zero-or-pos}
 use Rattle.std.proofs.lemmas.List.{replicate_more}
 use Rattle.std.proofs.lemmas.Bool.{ne_eqb}
@@ -43,10 +44,12 @@ filled (suc k) (suc j) n acc room small = elim (eq-zero-or-pos (n / 16)) [
       let g : ℕ = hex_digit (n % 16) in
       let first : written (suc (suc j)) n acc ≡ written (suc j) (n / 16) (g ∷ acc) = rw (ne_eqb (n / 16) 0 (omega arith)) refl in
       let rest = filled k j (n / 16) (g ∷ acc) (omega arith) (omega (arith, pow-suc 16 (suc k))) in
-      let count : suc (suc k) + length acc - length (written (suc j) (n / 16) (g ∷ acc)) ≡ suc k + length (g ∷ acc) - length (written (suc j) (n / 16) (g ∷ acc)) = omega arith in
+      let count : suc (suc k) + length acc - length (written (suc j) (n / 16) (g ∷ acc))
+      ≡ suc k + length (g ∷ acc) - length (written (suc j) (n / 16) (g ∷ acc)) = omega arith in
       rw first (record {
         few = omega (arith, rest.few);
-        same = ap (λ (m : ℕ). replicate m 48 ++ written (suc j) (n / 16) (g ∷ acc)) count ∙ rest.same ∙ sym (append_assoc (hex_digits (suc k) (n / 16)) (g ∷ []) acc);
+        same = ap (λ (m : ℕ). replicate m 48 ++ written (suc j) (n / 16) (g ∷ acc)) count ∙ rest.same
+            ∙ sym (append_assoc (hex_digits (suc k) (n / 16)) (g ∷ []) acc);
       })
 ]
 

@@ -14,7 +14,8 @@ use Rattle.wk_bytes.specs.Pieces.{SpellsByte, SpellsPiece, SpellsWord, SpellsNam
 
 module _ {Y : Type 0} (Spells : List ℕ → Y → Type 0) (read : ℕ → List ℕ → Result (Y × List ℕ) ReadFault) where
   -- where it refuses, no front is a spelling
-  pub none_spelled : ((end : ℕ) (b : List ℕ) (y : Y) (rest : List ℕ) → Spells b y → read end (b ++ rest) ≡ Ok (y, rest)) → (old : Span) (e : ReadFault) → read old.end old.rest ≡ Err e → (b rest : List ℕ) (y : Y) → Spells b y → old.rest ≡ b ++ rest → ⊥
+  pub none_spelled : ((end : ℕ) (b : List ℕ) (y : Y) (rest : List ℕ) → Spells b y → read end (b ++ rest) ≡ Ok (y, rest)) → (old : Span) (e : ReadFault)
+      → read old.end old.rest ≡ Err e → (b rest : List ℕ) (y : Y) → Spells b y → old.rest ≡ b ++ rest → ⊥
   none_spelled again old e refused b rest y spelled parts =
       not_both (read old.end old.rest) e (y, rest) refused (ap (read old.end) parts ∙ again old.end b y rest spelled)
 
@@ -25,8 +26,10 @@ module _ {Y : Type 0} (Spells : List ℕ → Y → Type 0) (read : ℕ → List 
       (append_cancel_right a b x (e ∙ ap (λ (z : List ℕ). b ++ z) (sym after)), ap (λ (p : Y × List ℕ). p.0) both)
 
   -- a call that gives what it gives takes a spelling
-  pub Gives-spelling : {X : Type 0} (view : X → Y) → ((end : ℕ) (bytes : List ℕ) (y : Y) (rest : List ℕ) → read end bytes ≡ Ok (y, rest) → (b : List ℕ) × Spells b y × (bytes ≡ b ++ rest))
-      → ((end : ℕ) (b : List ℕ) (y : Y) (rest : List ℕ) → Spells b y → read end (b ++ rest) ≡ Ok (y, rest)) → (old new : Span) (result : Result X ReadFault) → Gives view read old result new → TakesSpelling view Spells old result new
+  pub Gives-spelling : {X : Type 0} (view : X → Y)
+      → ((end : ℕ) (bytes : List ℕ) (y : Y) (rest : List ℕ) → read end bytes ≡ Ok (y, rest) → (b : List ℕ) × Spells b y × (bytes ≡ b ++ rest))
+      → ((end : ℕ) (b : List ℕ) (y : Y) (rest : List ℕ) → Spells b y → read end (b ++ rest) ≡ Ok (y, rest))
+      → (old new : Span) (result : Result X ReadFault) → Gives view read old result new → TakesSpelling view Spells old result new
   Gives-spelling view found again old new (Ok x) given =
       let f = found old.end old.rest (view x) new.rest given.0 in
       (f.0, f.1, f.2, given.1)
@@ -43,7 +46,8 @@ byte_at-again end b x rest s = rw s refl
 
 -- ---- a piece
 
-pub piece_at-found : (n end : ℕ) (bytes piece rest : List ℕ) → piece_at n end bytes ≡ Ok (piece, rest) → (b : List ℕ) × SpellsPiece n b piece × (bytes ≡ b ++ rest)
+pub piece_at-found : (n end : ℕ) (bytes piece rest : List ℕ) → piece_at n end bytes ≡ Ok (piece, rest)
+    → (b : List ℕ) × SpellsPiece n b piece × (bytes ≡ b ++ rest)
 piece_at-found n end bytes piece rest e = let t = piece_at-takes n end bytes piece rest e in (piece, (refl, t.1), t.0)
 
 pub piece_at-spelled : (n end : ℕ) (b piece rest : List ℕ) → SpellsPiece n b piece → piece_at n end (b ++ rest) ≡ Ok (piece, rest)
@@ -52,7 +56,8 @@ piece_at-spelled n end b piece rest s =
 
 -- ---- a word
 
-pub word_at-found : (n end : ℕ) (bytes : List ℕ) (w : ℕ) (rest : List ℕ) → word_at n end bytes ≡ Ok (w, rest) → (b : List ℕ) × SpellsWord n b w × (bytes ≡ b ++ rest)
+pub word_at-found : (n end : ℕ) (bytes : List ℕ) (w : ℕ) (rest : List ℕ) → word_at n end bytes ≡ Ok (w, rest)
+    → (b : List ℕ) × SpellsWord n b w × (bytes ≡ b ++ rest)
 word_at-found n end bytes w rest e = let t = word_at-takes n end bytes w rest e in (t.0, (t.2, t.3), t.1)
 
 pub word_at-again : (n end : ℕ) (b : List ℕ) (w : ℕ) (rest : List ℕ) → SpellsWord n b w → word_at n end (b ++ rest) ≡ Ok (w, rest)
@@ -61,7 +66,8 @@ word_at-again n end b w rest s = rw (piece_at-spelled n end b b rest (refl, s.0)
 
 -- ---- an integer
 
-pub u32_at-found : (end : ℕ) (bytes : List ℕ) (n : ℕ) (rest : List ℕ) → IsBytes bytes → u32_at end bytes ≡ Ok (n, rest) → (b : List ℕ) × SpellsU 32 b n × (bytes ≡ b ++ rest)
+pub u32_at-found : (end : ℕ) (bytes : List ℕ) (n : ℕ) (rest : List ℕ) → IsBytes bytes → u32_at end bytes ≡ Ok (n, rest)
+    → (b : List ℕ) × SpellsU 32 b n × (bytes ≡ b ++ rest)
 unfolding u32_at
 u32_at-found end bytes n rest fits e = uint_spells 32 bytes n rest fits (placed_ok (uint_at 32 bytes) end bytes (n, rest) e)
 
@@ -69,7 +75,8 @@ pub u32_at-again : (end : ℕ) (b : List ℕ) (n : ℕ) (rest : List ℕ) → Sp
 unfolding u32_at
 u32_at-again end b n rest s = rw (uint_again 32 b n rest s) refl
 
-pub signed_at-found : (N end : ℕ) (bytes : List ℕ) (z : ℤ) (rest : List ℕ) → IsBytes bytes → signed_at N end bytes ≡ Ok (z, rest) → (b : List ℕ) × SpellsS N b z × (bytes ≡ b ++ rest)
+pub signed_at-found : (N end : ℕ) (bytes : List ℕ) (z : ℤ) (rest : List ℕ) → IsBytes bytes → signed_at N end bytes ≡ Ok (z, rest)
+    → (b : List ℕ) × SpellsS N b z × (bytes ≡ b ++ rest)
 unfolding signed_at
 signed_at-found N end bytes z rest fits e = sint_spells N bytes z rest fits (placed_ok (sint_at N bytes) end bytes (z, rest) e)
 
@@ -79,7 +86,8 @@ signed_at-again N end b z rest s = rw (sint_again N b z rest s) refl
 
 -- ---- a name
 
-pub name_at-found : (end : ℕ) (bytes text rest : List ℕ) → IsBytes bytes → name_at end bytes ≡ Ok (text, rest) → (b : List ℕ) × SpellsName b text × (bytes ≡ b ++ rest)
+pub name_at-found : (end : ℕ) (bytes text rest : List ℕ) → IsBytes bytes → name_at end bytes ≡ Ok (text, rest)
+    → (b : List ℕ) × SpellsName b text × (bytes ≡ b ++ rest)
 name_at-found end bytes text rest fits e =
     let t = name_at-steps end bytes text rest e in
     let counted = u32_at-found end bytes t.size t.after_size fits t.sizes in
@@ -93,7 +101,8 @@ pub name_at-again : (end : ℕ) (b text rest : List ℕ) → SpellsName b text �
 unfolding name_at
 name_at-again end b text rest s =
     let parts : b ++ rest ≡ s.size ++ (text ++ rest) = ap (λ c. c ++ rest) s.parts ∙ append_assoc s.size text rest in
-    ap (name_at end) parts ∙ rw (u32_at-again end s.size (length text) (text ++ rest) s.counts, piece_at-again end text rest, is_utf8-from_IsUtf8 text s.utf8) refl
+    ap (name_at end) parts ∙ rw
+    (u32_at-again end s.size (length text) (text ++ rest) s.counts, piece_at-again end text rest, is_utf8-from_IsUtf8 text s.utf8) refl
 
 -- ---- no spelling begins another
 

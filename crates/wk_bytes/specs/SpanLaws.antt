@@ -1,5 +1,6 @@
 -- What each reader takes from the front, and what its faults are.
-use Rattle.std.proofs.Common.{◌≡◌, ℤ, ℕ, ◌+◌, ◌-◌, ◌<◌, ◌≤◌, true, cond, leb, ltb, inl, inr, List, [], ◌∷◌, ◌++◌, length, take, drop, Result, Ok, Err, Option, refl, sym, ap, ◌∙◌, length-append, arith}
+use Rattle.std.proofs.Common.{◌≡◌, ℤ, ℕ, ◌+◌, ◌-◌, ◌<◌, ◌≤◌, true, cond, leb, ltb, inl, inr, List, [], ◌∷◌, ◌++◌, length, take, drop, Result, Ok, Err, Option}
+use Rattle.std.proofs.Common.{refl, sym, ap, ◌∙◌, length-append, arith}
 use Rattle.std.proofs.lemmas.Bool.{cases_lt, leb-true, le-leb}
 use Rattle.std.proofs.lemmas.List.{take-append-drop, take_at, drop_at, get_or-append-add, get_or_append_left, get_or_past, length-take-le}
 use Rattle.std.specs.Str.{is_utf8}
@@ -35,7 +36,8 @@ pub placed_ok : {A : Type 0} (r : Result A ReadKind) (end : ℕ) (bytes : List �
 placed_ok (Ok y) end bytes x e = cc
 placed_ok (Err k) end bytes x e = absurd cc
 
-pub placed_err : {A : Type 0} (r : Result A ReadKind) (end : ℕ) (bytes : List ℕ) (e : ReadFault) → placed r end bytes ≡ Err e → (kind : ReadKind) × (r ≡ Err kind) × (fault kind end bytes ≡ e)
+pub placed_err : {A : Type 0} (r : Result A ReadKind) (end : ℕ) (bytes : List ℕ) (e : ReadFault) → placed r end bytes ≡ Err e
+    → (kind : ReadKind) × (r ≡ Err kind) × (fault kind end bytes ≡ e)
 placed_err (Ok y) end bytes e h = absurd cc
 placed_err (Err k) end bytes e h = (k, refl, cc)
 
@@ -54,10 +56,12 @@ IsBytes-before front later bytes e fits i =
 -- ---- what is taken
 
 module _ {V : Type 0} (last : ℕ → ℕ → Option V) (join : ℕ → V → V) where
-  pub int_by-takes : (N : ℕ) (bytes : List ℕ) (v : V) (rest : List ℕ) → int_by last join N bytes ≡ Ok (v, rest) → (x : ℕ) × (front : List ℕ) × (bytes ≡ x ∷ (front ++ rest))
+  pub int_by-takes : (N : ℕ) (bytes : List ℕ) (v : V) (rest : List ℕ) → int_by last join N bytes ≡ Ok (v, rest)
+      → (x : ℕ) × (front : List ℕ) × (bytes ≡ x ∷ (front ++ rest))
   int_by-takes N [] v rest e = absurd cc
   int_by-takes N (x ∷ bytes) v rest e =
-      elim (chosen (ltb x 128) (or_fail (last N x) IntTooLarge >>= λ w. Ok (w, bytes)) (cond (leb N 7) (Err IntTooLong) (int_by last join (N - 7) bytes >>= (λ h. Ok (join (x - 128) h.0, h.1)))) (Ok (v, rest)) e) [
+      elim (chosen (ltb x 128) (or_fail (last N x) IntTooLarge >>= λ w. Ok (w, bytes))
+      (cond (leb N 7) (Err IntTooLong) (int_by last join (N - 7) bytes >>= (λ h. Ok (join (x - 128) h.0, h.1)))) (Ok (v, rest)) e) [
         | inl p ↦
             let a = bind_ok (or_fail (last N x) IntTooLarge) (λ w. Ok (w, bytes)) (v, rest) p.1 in
             (x, [], ap (λ (b : List ℕ). x ∷ b) (rest_is a.0 v bytes rest a.2))
@@ -72,11 +76,13 @@ module _ {V : Type 0} (last : ℕ → ℕ → Option V) (join : ℕ → V → V)
             ]
       ]
 
-pub u32_at-takes : (end : ℕ) (bytes : List ℕ) (n : ℕ) (rest : List ℕ) → u32_at end bytes ≡ Ok (n, rest) → (x : ℕ) × (front : List ℕ) × (bytes ≡ x ∷ (front ++ rest))
+pub u32_at-takes : (end : ℕ) (bytes : List ℕ) (n : ℕ) (rest : List ℕ) → u32_at end bytes ≡ Ok (n, rest)
+    → (x : ℕ) × (front : List ℕ) × (bytes ≡ x ∷ (front ++ rest))
 unfolding u32_at uint_at
 u32_at-takes end bytes n rest e = int_by-takes lastU joinU 32 bytes n rest (placed_ok (uint_at 32 bytes) end bytes (n, rest) e)
 
-pub signed_at-takes : (N end : ℕ) (bytes : List ℕ) (z : ℤ) (rest : List ℕ) → signed_at N end bytes ≡ Ok (z, rest) → (x : ℕ) × (front : List ℕ) × (bytes ≡ x ∷ (front ++ rest))
+pub signed_at-takes : (N end : ℕ) (bytes : List ℕ) (z : ℤ) (rest : List ℕ) → signed_at N end bytes ≡ Ok (z, rest)
+    → (x : ℕ) × (front : List ℕ) × (bytes ≡ x ∷ (front ++ rest))
 unfolding signed_at sint_at
 signed_at-takes N end bytes z rest e = int_by-takes lastS joinS N bytes z rest (placed_ok (sint_at N bytes) end bytes (z, rest) e)
 
@@ -114,7 +120,8 @@ piece_at-again end piece rest =
     rw (long, take_at piece rest (length piece) refl, drop_at piece rest (length piece) refl) refl
 
 -- a word is read of its piece
-pub word_at-takes : (n end : ℕ) (bytes : List ℕ) (w : ℕ) (rest : List ℕ) → word_at n end bytes ≡ Ok (w, rest) → (piece : List ℕ) × (bytes ≡ piece ++ rest) × (length piece ≡ n) × (w ≡ little_number n piece)
+pub word_at-takes : (n end : ℕ) (bytes : List ℕ) (w : ℕ) (rest : List ℕ) → word_at n end bytes ≡ Ok (w, rest)
+    → (piece : List ℕ) × (bytes ≡ piece ++ rest) × (length piece ≡ n) × (w ≡ little_number n piece)
 unfolding word_at
 word_at-takes n end bytes w rest e =
     let p = bind_ok (piece_at n end bytes) (λ p. Ok (little_number n p.0, p.1)) (w, rest) e in

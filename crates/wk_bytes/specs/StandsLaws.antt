@@ -1,5 +1,6 @@
 -- What a reader of bytes hands up of a fault that stands.
-use Rattle.std.proofs.Common.{◌≡◌, ℕ, ◌+◌, ◌-◌, ◌<◌, ◌≤◌, cond, leb, inl, inr, List, [], ◌∷◌, ◌++◌, length, take, drop, Result, Ok, Err, Option, refl, sym, ap, subst, ◌∙◌, append_assoc, length-append, arith}
+use Rattle.std.proofs.Common.{◌≡◌, ℕ, ◌+◌, ◌-◌, ◌<◌, ◌≤◌, cond, leb, inl, inr, List, [], ◌∷◌, ◌++◌, length, take, drop, Result, Ok, Err, Option, refl, sym, ap}
+use Rattle.std.proofs.Common.{subst, ◌∙◌, append_assoc, length-append, arith}
 use Rattle.std.proofs.lemmas.Bool.{false≢true}
 use Rattle.std.proofs.lemmas.List.{take-append-le, append-nil}
 use Rattle.std.specs.Prelude.{IfErr}
@@ -7,7 +8,9 @@ use Rattle.std.specs.Str.{is_utf8}
 use Rattle.std.proofs.lemmas.Str.{is_utf8-from_IsUtf8}
 use Rattle.byteorder.specs.Endian.{little_number}
 use Rattle.wk_bytes.specs.declared.fault.ReadKind.{ReadKind}
-use Rattle.wk_bytes.specs.declared.fault.ReadKind.TheVariants.{BadMagic, BadVersion, UnexpectedEnd, IntTooLong, IntTooLarge, UnknownSection, SectionOrder, SectionSize, BadUtf8, BadByte, UnknownOpcode, TooManyLocals, FuncCodeCount, BodySize, TooDeep, LongInput, Memory}
+use Rattle.wk_bytes.specs.declared.fault.ReadKind.TheVariants.{BadMagic, BadVersion, UnexpectedEnd, IntTooLong, IntTooLarge, UnknownSection, SectionOrder}
+use Rattle.wk_bytes.specs.declared.fault.ReadKind.TheVariants.{SectionSize, BadUtf8, BadByte, UnknownOpcode, TooManyLocals, FuncCodeCount, BodySize, TooDeep}
+use Rattle.wk_bytes.specs.declared.fault.ReadKind.TheVariants.{LongInput, Memory}
 use Rattle.wk_bytes.specs.declared.fault.ReadFault.{ReadFault}
 use Rattle.wk_bytes.specs.Leb.{◌>>=◌, IsTooLong, IsTooLarge, IsIntKind, lastU, lastS, uint_at, sint_at}
 use Rattle.wk_bytes.specs.LebLaws.{bind_ok, chosen, uint_wrong, sint_wrong}
@@ -62,15 +65,28 @@ StandsAt-append Memory from later s = absurd s
 -- ---- from a part to the whole
 
 -- a span between other bytes
-pub Stands-within : (front back : List ℕ) (s t : Span) (e : ReadFault) → s.rest ≡ front ++ (t.rest ++ back) → s.end ≡ t.end + length back → length s.rest ≤ s.end → Stands t e → Stands s e
+pub Stands-within : (front back : List ℕ) (s t : Span) (e : ReadFault) → s.rest ≡ front ++ (t.rest ++ back) → s.end ≡ t.end + length back
+    → length s.rest ≤ s.end → Stands t e → Stands s e
 Stands-within front back s t e parts ends fits stood =
     let whole_rest : s.rest ≡ (front ++ stood.skipped) ++ (stood.from ++ back) =
-    parts ∙ ap (λ b. front ++ (b ++ back)) stood.parts ∙ ap (λ b. front ++ b) (append_assoc stood.skipped stood.from back) ∙ sym (append_assoc front stood.skipped (stood.from ++ back)) in
+    parts ∙ ap (λ b. front ++ (b ++ back)) stood.parts ∙ ap (λ b. front ++ b) (append_assoc stood.skipped stood.from back)
+    ∙ sym (append_assoc front stood.skipped (stood.from ++ back)) in
     record {
       skipped = front ++ stood.skipped;
       from = stood.from ++ back;
       parts = whole_rest;
-      place = omega (arith, stood.place, ends, fits, ap length parts, length-append front (t.rest ++ back), length-append t.rest back, length-append front stood.skipped, ap length stood.parts, length-append stood.skipped stood.from);
+      place = omega (
+        arith,
+        stood.place,
+        ends,
+        fits,
+        ap length parts,
+        length-append front (t.rest ++ back),
+        length-append t.rest back,
+        length-append front stood.skipped,
+        ap length stood.parts,
+        length-append stood.skipped stood.from,
+      );
       stands = StandsAt-append e.kind stood.from back stood.stands;
     }
 
@@ -80,7 +96,17 @@ Stands-later front s t e parts ends fits stood = record {
   skipped = front ++ stood.skipped;
   from = stood.from;
   parts = parts ∙ ap (λ b. front ++ b) stood.parts ∙ sym (append_assoc front stood.skipped stood.from);
-  place = omega (arith, stood.place, ends, fits, ap length parts, length-append front t.rest, length-append front stood.skipped, ap length stood.parts, length-append stood.skipped stood.from);
+  place = omega (
+    arith,
+    stood.place,
+    ends,
+    fits,
+    ap length parts,
+    length-append front t.rest,
+    length-append front stood.skipped,
+    ap length stood.parts,
+    length-append stood.skipped stood.from,
+  );
   stands = stood.stands;
 }
 
@@ -89,7 +115,8 @@ pub Stands-contents : (bytes : List ℕ) (s : Section) (e : ReadFault) → LiesI
 Stands-contents bytes s e lies stood = record {
   skipped = lies.before ++ stood.skipped;
   from = stood.from ++ lies.after;
-  parts = lies.parts ∙ ap (λ b. lies.before ++ (b ++ lies.after)) stood.parts ∙ ap (λ b. lies.before ++ b) (append_assoc stood.skipped stood.from lies.after) ∙ sym (append_assoc lies.before stood.skipped (stood.from ++ lies.after));
+  parts = lies.parts ∙ ap (λ b. lies.before ++ (b ++ lies.after)) stood.parts
+      ∙ ap (λ b. lies.before ++ b) (append_assoc stood.skipped stood.from lies.after) ∙ sym (append_assoc lies.before stood.skipped (stood.from ++ lies.after));
   place = omega (arith, stood.place, lies.place, length-append lies.before stood.skipped);
   stands = StandsAt-append e.kind stood.from lies.after stood.stands;
 }
@@ -104,7 +131,8 @@ Stands-at_end kind bytes stands = record { skipped = bytes; from = []; parts = s
 
 -- ---- the same of calls that take memory
 
-pub StandsOrMemory-later : (front : List ℕ) (s t : Span) (e : ReadFault) → s.rest ≡ front ++ t.rest → s.end ≡ t.end → length s.rest ≤ s.end → StandsOrMemory t e → StandsOrMemory s e
+pub StandsOrMemory-later : (front : List ℕ) (s t : Span) (e : ReadFault) → s.rest ≡ front ++ t.rest → s.end ≡ t.end → length s.rest ≤ s.end
+    → StandsOrMemory t e → StandsOrMemory s e
 StandsOrMemory-later front s t e parts ends fits (inl none) = inl none
 StandsOrMemory-later front s t e parts ends fits (inr stood) = inr (Stands-later front s t e parts ends fits stood)
 
@@ -125,18 +153,21 @@ pub record ReadsFront {A : Type 0} (read : ℕ → List ℕ → Result (A × Lis
 
 -- one that reads nothing
 pub ReadsFront-done : {A : Type 0} (x : A) → ReadsFront (λ end bytes. Ok (x, bytes))
-ReadsFront-done {A = A} x = record { takes = λ end bytes y rest e. ([], ap (λ (p : A × List ℕ). p.1) (ok_is (x, bytes) (y, rest) e)); faults = λ end bytes e h fits. absurd cc }
+ReadsFront-done {A = A} x =
+    record { takes = λ end bytes y rest e. ([], ap (λ (p : A × List ℕ). p.1) (ok_is (x, bytes) (y, rest) e)); faults = λ end bytes e h fits. absurd cc }
 
 -- one after another
 module _ {A B : Type 0} (read : ℕ → List ℕ → Result (A × List ℕ) ReadFault) (more : A → ℕ → List ℕ → Result (B × List ℕ) ReadFault) where
-  then_takes : ReadsFront read → ((x : A) → ReadsFront (more x)) → (end : ℕ) (bytes : List ℕ) (y : B) (rest : List ℕ) → (read end bytes >>= λ p. more p.0 end p.1) ≡ Ok (y, rest) → (front : List ℕ) × (bytes ≡ front ++ rest)
+  then_takes : ReadsFront read → ((x : A) → ReadsFront (more x)) → (end : ℕ) (bytes : List ℕ) (y : B) (rest : List ℕ)
+      → (read end bytes >>= λ p. more p.0 end p.1) ≡ Ok (y, rest) → (front : List ℕ) × (bytes ≡ front ++ rest)
   then_takes first second end bytes y rest e =
       let a = bind_ok (read end bytes) (λ p. more p.0 end p.1) (y, rest) e in
       let one = first.takes end bytes a.0.0 a.0.1 a.1 in
       let two = (second a.0.0).takes end a.0.1 y rest a.2 in
       (one.0 ++ two.0, one.1 ∙ ap (λ b. one.0 ++ b) two.1 ∙ sym (append_assoc one.0 two.0 rest))
 
-  then_faults : ReadsFront read → ((x : A) → ReadsFront (more x)) → (end : ℕ) (bytes : List ℕ) (e : ReadFault) (r : Result (A × List ℕ) ReadFault) → read end bytes ≡ r → (r >>= λ p. more p.0 end p.1) ≡ Err e → length bytes ≤ end → Stands (record { rest = bytes; end = end }) e
+  then_faults : ReadsFront read → ((x : A) → ReadsFront (more x)) → (end : ℕ) (bytes : List ℕ) (e : ReadFault) (r : Result (A × List ℕ) ReadFault)
+      → read end bytes ≡ r → (r >>= λ p. more p.0 end p.1) ≡ Err e → length bytes ≤ end → Stands (record { rest = bytes; end = end }) e
   then_faults first second end bytes e (Err d) is h fits = first.faults end bytes e (is ∙ cc) fits
   then_faults first second end bytes e (Ok p) is h fits =
       let one = first.takes end bytes p.0 p.1 is in
@@ -151,7 +182,8 @@ module _ {A B : Type 0} (read : ℕ → List ℕ → Result (A × List ℕ) Read
 
 -- ---- each reader
 
-pub stands_as : (kind : ReadKind) (end : ℕ) (bytes : List ℕ) (e : ReadFault) → fault kind end bytes ≡ e → StandsAt kind bytes → Stands (record { rest = bytes; end = end }) e
+pub stands_as : (kind : ReadKind) (end : ℕ) (bytes : List ℕ) (e : ReadFault) → fault kind end bytes ≡ e → StandsAt kind bytes
+    → Stands (record { rest = bytes; end = end }) e
 stands_as kind end bytes e is stands = subst (Stands (record { rest = bytes; end = end })) is (Stands-here kind end bytes stands)
 
 byte_at-faults : (end : ℕ) (bytes : List ℕ) (e : ReadFault) → byte_at end bytes ≡ Err e → length bytes ≤ end → Stands (record { rest = bytes; end = end }) e
@@ -162,7 +194,8 @@ byte_at-faults end (x ∷ bytes) e h fits = absurd cc
 pub ReadsFront-byte_at : ReadsFront byte_at
 ReadsFront-byte_at = record { takes = λ end bytes x rest e. (x ∷ [], byte_at-takes end bytes x rest e); faults = byte_at-faults }
 
-piece_at-faults : (n end : ℕ) (bytes : List ℕ) (e : ReadFault) → piece_at n end bytes ≡ Err e → length bytes ≤ end → Stands (record { rest = bytes; end = end }) e
+piece_at-faults : (n end : ℕ) (bytes : List ℕ) (e : ReadFault) → piece_at n end bytes ≡ Err e → length bytes ≤ end
+    → Stands (record { rest = bytes; end = end }) e
 unfolding piece_at
 piece_at-faults n end bytes e h fits =
     elim (chosen (leb n (length bytes)) (Ok (take n bytes, drop n bytes)) (Err (fault UnexpectedEnd end bytes)) (Err e) h) [
@@ -175,7 +208,8 @@ ReadsFront-piece_at n = record { takes = λ end bytes piece rest e. (piece, (pie
 
 pub ReadsFront-word_at : (n : ℕ) → ReadsFront (word_at n)
 unfolding word_at
-ReadsFront-word_at n = ReadsFront-then (piece_at n) (λ piece end rest. Ok (little_number n piece, rest)) (ReadsFront-piece_at n) (λ piece. ReadsFront-done (little_number n piece))
+ReadsFront-word_at n = ReadsFront-then (piece_at n) (λ piece end rest. Ok (little_number n piece, rest)) (ReadsFront-piece_at n)
+    (λ piece. ReadsFront-done (little_number n piece))
 
 u32_stands : (bytes : List ℕ) (kind : ReadKind) → IsIntKind lastU 32 bytes kind → StandsAt kind bytes
 u32_stands bytes UnexpectedEnd s = tt
@@ -198,14 +232,16 @@ signed_stands N width bytes IntTooLong s = (N, width, s)
 signed_stands N width bytes IntTooLarge s = inr (N, width, s)
 signed_stands N width bytes _ s = absurd s
 
-signed_at-faults : (N : ℕ) → IsWidth N → (end : ℕ) (bytes : List ℕ) (e : ReadFault) → signed_at N end bytes ≡ Err e → length bytes ≤ end → Stands (record { rest = bytes; end = end }) e
+signed_at-faults : (N : ℕ) → IsWidth N → (end : ℕ) (bytes : List ℕ) (e : ReadFault) → signed_at N end bytes ≡ Err e → length bytes ≤ end
+    → Stands (record { rest = bytes; end = end }) e
 unfolding signed_at
 signed_at-faults N width end bytes e h fits =
     let p = placed_err (sint_at N bytes) end bytes e h in
     stands_as p.0 end bytes e p.2 (signed_stands N width bytes p.0 (sint_wrong N bytes p.0 p.1))
 
 pub ReadsFront-signed_at : (N : ℕ) → IsWidth N → ReadsFront (signed_at N)
-ReadsFront-signed_at N width = record { takes = λ end bytes z rest e. let t = signed_at-takes N end bytes z rest e in (t.0 ∷ t.1, t.2); faults = signed_at-faults N width }
+ReadsFront-signed_at N width =
+    record { takes = λ end bytes z rest e. let t = signed_at-takes N end bytes z rest e in (t.0 ∷ t.1, t.2); faults = signed_at-faults N width }
 
 -- the text of a name, behind its size
 abbrev text_at : ℕ → ℕ → List ℕ → Result (List ℕ × List ℕ) ReadFault
@@ -222,14 +258,17 @@ text_at-takes n end bytes text rest e =
       | inr p ↦ absurd cc
     ]
 
-text_at-faults_of : (n end : ℕ) (bytes : List ℕ) (e : ReadFault) (r : Result (List ℕ × List ℕ) ReadFault) → piece_at n end bytes ≡ r → (r >>= λ text. cond (is_utf8 text.0) (Ok text) (Err (fault BadUtf8 end bytes))) ≡ Err e → length bytes ≤ end → Stands (record { rest = bytes; end = end }) e
+text_at-faults_of : (n end : ℕ) (bytes : List ℕ) (e : ReadFault) (r : Result (List ℕ × List ℕ) ReadFault) → piece_at n end bytes ≡ r
+    → (r >>= λ text. cond (is_utf8 text.0) (Ok text) (Err (fault BadUtf8 end bytes))) ≡ Err e → length bytes ≤ end
+    → Stands (record { rest = bytes; end = end }) e
 text_at-faults_of n end bytes e (Err d) is h fits = piece_at-faults n end bytes e (is ∙ cc) fits
 text_at-faults_of n end bytes e (Ok text) is h fits =
     elim (chosen (is_utf8 text.0) (Ok text) (Err (fault BadUtf8 end bytes)) (Err e) h) [
       | inl p ↦ absurd cc
       | inr p ↦
           let t = piece_at-takes n end bytes text.0 text.1 is in
-          stands_as BadUtf8 end bytes e (err_is {A = List ℕ × List ℕ} _ _ p.1) (text.0, text.1, t.0, λ utf8. false≢true (sym p.0 ∙ is_utf8-from_IsUtf8 text.0 utf8))
+          stands_as BadUtf8 end bytes e (err_is {A = List ℕ × List ℕ} _ _ p.1)
+          (text.0, text.1, t.0, λ utf8. false≢true (sym p.0 ∙ is_utf8-from_IsUtf8 text.0 utf8))
     ]
 
 text_at-faults : (n end : ℕ) (bytes : List ℕ) (e : ReadFault) → text_at n end bytes ≡ Err e → length bytes ≤ end → Stands (record { rest = bytes; end = end }) e
@@ -242,6 +281,7 @@ ReadsFront-name_at = ReadsFront-then u32_at text_at ReadsFront-u32_at (λ n. rec
 -- ---- of a call
 
 -- a call that gives what such a reader gives answers faults that stand
-pub Gives-stands : {X Y : Type 0} (view : X → Y) (read : ℕ → List ℕ → Result (Y × List ℕ) ReadFault) (old new : Span) (result : Result X ReadFault) → ReadsFront read → length old.rest ≤ old.end → Gives view read old result new → IfErr result (Stands old)
+pub Gives-stands : {X Y : Type 0} (view : X → Y) (read : ℕ → List ℕ → Result (Y × List ℕ) ReadFault) (old new : Span) (result : Result X ReadFault)
+    → ReadsFront read → length old.rest ≤ old.end → Gives view read old result new → IfErr result (Stands old)
 Gives-stands view read old new (Ok x) reads fits given = tt
 Gives-stands view read old new (Err e) reads fits given = reads.faults old.end old.rest e given.0 fits

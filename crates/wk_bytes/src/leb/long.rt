@@ -13,7 +13,8 @@ const MORE: u64 = 0x8080_8080_8080_8080;
 // of each pair down, by taking away how much too high it stands. A step does for all pairs at once what a sum byte by byte does for one.
 #[inline(always)]
 fn side_by_side(word: u64) -> u64
-    ensures { (a b c d e f g h : ℕ) → a < 128 → b < 128 → c < 128 → d < 128 → e < 128 → f < 128 → g < 128 → h < 128
+    ensures { (a b c d e f g h : ℕ) → a < 128 → b < 128 → c < 128 → d < 128 → e < 128 → f < 128
+        → g < 128 → h < 128
         → word ≡ a + 256 * (b + 256 * (c + 256 * (d + 256 * (e + 256 * (f + 256 * (g + 256 * h))))))
         → result ≡ joinU a (joinU b (joinU c (joinU d (joinU e (joinU f (joinU g h)))))) }
 {
@@ -27,7 +28,9 @@ fn side_by_side(word: u64) -> u64
 fn eight_more(bytes: &[u8]) -> Option<u64>
     requires { 8 ≤ length bytes.now }
     ensures room { IfSome result (λ n. n < 2 ^ 56) }
-    ensures spelling { IfSome result (λ n. (rest : List ℕ) (z : ℤ) → SpellsS 8 rest z → SpellsS 64 (take 8 bytes.now ++ rest) (pos n +ℤ (pos (2 ^ 56) *ℤ z))) }
+    ensures spelling { IfSome result
+        (λ n. (rest : List ℕ) (z : ℤ) → SpellsS 8 rest z
+        → SpellsS 64 (take 8 bytes.now ++ rest) (pos n +ℤ (pos (2 ^ 56) *ℤ z))) }
 {
     let word = LittleEndian::read_u64(bytes);
     if word & MORE != MORE {
@@ -39,7 +42,8 @@ fn eight_more(bytes: &[u8]) -> Option<u64>
 // A signed integer of nine or ten bytes at the front and their number. Of the tenth byte one bit is left, the sign.
 #[inline(always)]
 fn nine_or_ten(bytes: &[u8]) -> Option<(i64, u32)>
-    ensures { IfSome result (λ x. (0 < x.1) × (x.1 ≤ length bytes.now) × SpellsS 64 (take x.1 bytes.now) x.0) }
+    ensures { IfSome result
+        (λ x. (0 < x.1) × (x.1 ≤ length bytes.now) × SpellsS 64 (take x.1 bytes.now) x.0) }
 {
     let [_, _, _, _, _, _, _, _, i, j, ..] = *bytes else {
         return None;
@@ -63,7 +67,8 @@ fn below(a: u8, b: u8, c: u8, d: u8, e: u8, high: i64) -> i64
     requires fourth { 128 ≤ d }
     requires fifth { 128 ≤ e }
     requires room { IsSignedOf 29 high }
-    ensures { (rest : List ℕ) → SpellsS 29 rest high → SpellsS 64 (a ∷ b ∷ c ∷ d ∷ e ∷ rest) result }
+    ensures { (rest : List ℕ) → SpellsS 29 rest high
+        → SpellsS 64 (a ∷ b ∷ c ∷ d ∷ e ∷ rest) result }
 {
     // less the high bit of the fifth byte
     let low = five_bytes(a, b, c, d, e) - 34_359_738_368;
@@ -73,7 +78,9 @@ fn below(a: u8, b: u8, c: u8, d: u8, e: u8, high: i64) -> i64
 // A signed integer of one to three bytes at the front and their number.
 #[inline(always)]
 fn one_to_three(bytes: &[u8]) -> Option<(i64, u32)>
-    ensures { IfSome result (λ x. (0 < x.1) × (x.1 ≤ 3) × (x.1 ≤ length bytes.now) × SpellsS 29 (take x.1 bytes.now) x.0) }
+    ensures { IfSome result
+        (λ x. (0 < x.1) × (x.1 ≤ 3) × (x.1 ≤ length bytes.now)
+        × SpellsS 29 (take x.1 bytes.now) x.0) }
 {
     let [a, b, c, ..] = *bytes else {
         return None;
@@ -93,7 +100,8 @@ fn one_to_three(bytes: &[u8]) -> Option<(i64, u32)>
 // A signed integer of five to eight bytes at the front and their number. Those of five have more bits than 32 mostly, as masks have.
 #[inline(always)]
 fn five_to_eight(bytes: &[u8]) -> Option<(i64, u32)>
-    ensures { IfSome result (λ x. (0 < x.1) × (x.1 ≤ length bytes.now) × SpellsS 64 (take x.1 bytes.now) x.0) }
+    ensures { IfSome result
+        (λ x. (0 < x.1) × (x.1 ≤ length bytes.now) × SpellsS 64 (take x.1 bytes.now) x.0) }
 {
     let &[a, b, c, d, e, ref rest @ ..] = bytes else {
         return None;

@@ -11,7 +11,13 @@ pub returns-then-i-lt128 : goal.returns-then-i-lt128
 returns-then-i-lt128 c =
     let fits : FitsSigned w64 c.above.result = search rules in
     let high_fits : FitsSigned w64 c.one_signed.result = search rules in
-    rw (front_nine c.args.bytes.now c.in-len10-up.len_at_least, to_z-of_z w64 c.above.result fits, c.above.ensures, to_z-of_z w64 c.one_signed.result high_fits) (omega arith, omega (arith, c.in-len10-up.len_at_least), c.in_ok-low.ensures.spelling _ _ (c.one_signed.ensures 8 (omega arith)))
+    rw (
+      front_nine c.args.bytes.now c.in-len10-up.len_at_least,
+      to_z-of_z w64 c.above.result fits,
+      c.above.ensures,
+      to_z-of_z w64 c.one_signed.result high_fits,
+    )
+    (omega arith, omega (arith, c.in-len10-up.len_at_least), c.in_ok-low.ensures.spelling _ _ (c.one_signed.ensures 8 (omega arith)))
 
 pub above-requires-then-j-eq0 : goal.above-requires-then-j-eq0
 above-requires-then-j-eq0 c =
@@ -20,7 +26,9 @@ above-requires-then-j-eq0 c =
       | then-j-eq0-via-then-j-eq0 w ↦ inl w.if-j-eq0.true
       | then-j-eq0-via-else-j-eq0+then-j-eq127 w ↦ inr w.if-j-eq127.true
     ] in
-    rw (to_z-of_z w64 c.two_signed.result high_fits) (fits_above c.in_ok-low.low c.two_signed.result c.in_ok-low.ensures.room (SpellsS-fits 8 (get_or c.args.bytes.now 8 0 ∷ get_or c.args.bytes.now 9 0 ∷ []) _ (c.two_signed.ensures.narrow sign)))
+    rw (to_z-of_z w64 c.two_signed.result high_fits)
+    (fits_above c.in_ok-low.low c.two_signed.result c.in_ok-low.ensures.room
+    (SpellsS-fits 8 (get_or c.args.bytes.now 8 0 ∷ get_or c.args.bytes.now 9 0 ∷ []) _ (c.two_signed.ensures.narrow sign)))
 
 pub returns-then-j-eq0 : goal.returns-then-j-eq0
 returns-then-j-eq0 c =
@@ -30,4 +38,10 @@ returns-then-j-eq0 c =
       | then-j-eq0-via-then-j-eq0 w ↦ inl w.if-j-eq0.true
       | then-j-eq0-via-else-j-eq0+then-j-eq127 w ↦ inr w.if-j-eq127.true
     ] in
-    rw (front_ten c.args.bytes.now c.in-len10-up.len_at_least, to_z-of_z w64 c.above-then-j-eq0.result fits, c.above-then-j-eq0.ensures, to_z-of_z w64 c.two_signed.result high_fits) (omega arith, c.in-len10-up.len_at_least, c.in_ok-low.ensures.spelling _ _ (c.two_signed.ensures.narrow sign))
+    rw (
+      front_ten c.args.bytes.now c.in-len10-up.len_at_least,
+      to_z-of_z w64 c.above-then-j-eq0.result fits,
+      c.above-then-j-eq0.ensures,
+      to_z-of_z w64 c.two_signed.result high_fits,
+    )
+    (omega arith, c.in-len10-up.len_at_least, c.in_ok-low.ensures.spelling _ _ (c.two_signed.ensures.narrow sign))
