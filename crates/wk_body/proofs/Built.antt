@@ -13,7 +13,8 @@ use Rattle.wk_body.specs.Tree.{Instrs, Finish, One, Block, If, Tok, Simple, Open
 use Rattle.wk_body.specs.TreeLaws.{over-append}
 use Rattle.wk_body.specs.Reading.{after}
 use Rattle.wk_body.specs.Kept.{told, all_told, IsWithin}
-use Rattle.wk_body.specs.Building.{Frame, InBlock, InThen, written_frame, written_frames, place_of, toks_of, kind_of, kinds_of, size_of, Built, Good, Adds, IsSimple}
+use Rattle.wk_body.specs.Building.{Frame, InBlock, InThen, written_frame, written_frames, place_of, toks_of, kind_of, kinds_of, size_of, Built, Good, Adds}
+use Rattle.wk_body.specs.Building.{IsSimple}
 
 pub flatten-append : (t s : Instrs) → flatten (append t s) ≡ flatten t ++ flatten s
 flatten-append Finish s = refl
@@ -44,20 +45,25 @@ pub record Grown (old new : Scratch) (token : Token) : Type 0 where
   pub tokens : new.tokens.items ≡ old.tokens.items ++ token ∷ []
   pub labels : new.labels.items ≡ old.labels.items
 
-written-push : (pool : List ℕ) (tokens : List Token) (token : Token) (a b : List Tok) → all_told pool tokens ≡ a → a ++ told pool token ∷ [] ≡ b → all_told pool (tokens ++ token ∷ []) ≡ b
+written-push : (pool : List ℕ) (tokens : List Token) (token : Token) (a b : List Tok) → all_told pool tokens ≡ a → a ++ told pool token ∷ [] ≡ b
+    → all_told pool (tokens ++ token ∷ []) ≡ b
 written-push pool tokens token a b e f = told-push pool tokens token ∙ ap (λ (w : List Tok). w ++ told pool token ∷ []) e ∙ f
 
-grown_adds : (old new : Scratch) (token : Token) (t : Tok) → Grown old new token → told old.labels.items token ≡ t → (frames : List Frame) (current : Instrs) → Built old.labels.items (old.tokens.items ++ token ∷ []) new.blocks.items frames current
+grown_adds : (old new : Scratch) (token : Token) (t : Tok) → Grown old new token → told old.labels.items token ≡ t
+    → (frames : List Frame) (current : Instrs) → Built old.labels.items (old.tokens.items ++ token ∷ []) new.blocks.items frames current
     → (xs : List Part) → over (toks_of new) xs ≡ over (toks_of old) (before t xs)
-grown_adds old new token t g e frames current b xs = rw (g.labels, g.tokens, told-push old.labels.items old.tokens.items token, e) (over-push (toks_of old) t xs)
+grown_adds old new token t g e frames current b xs = rw (g.labels, g.tokens, told-push old.labels.items old.tokens.items token, e)
+    (over-push (toks_of old) t xs)
 
-grown_good : (old new : Scratch) (token : Token) → Grown old new token → (frames : List Frame) (current : Instrs) → Built old.labels.items (old.tokens.items ++ token ∷ []) new.blocks.items frames current → Good new
+grown_good : (old new : Scratch) (token : Token) → Grown old new token → (frames : List Frame) (current : Instrs)
+    → Built old.labels.items (old.tokens.items ++ token ∷ []) new.blocks.items frames current → Good new
 grown_good old new token g frames current b = record { frames = frames; current = current; built = rw (g.labels, g.tokens) b }
 
 grown_size : (old new : Scratch) (token : Token) → Grown old new token → size_of new ≤ size_of old + 1
 grown_size old new token g = rw (g.labels, g.tokens) (omega (arith, length-append old.tokens.items (token ∷ [])))
 
-pub push_adds : (old new : Scratch) (token : Token) → Grown old new token → new.blocks.items ≡ old.blocks.items → Good old → IsSimple (told old.labels.items token) → IsWithin (length old.labels.items) token → Adds old new (told old.labels.items token)
+pub push_adds : (old new : Scratch) (token : Token) → Grown old new token → new.blocks.items ≡ old.blocks.items → Good old
+    → IsSimple (told old.labels.items token) → IsWithin (length old.labels.items) token → Adds old new (told old.labels.items token)
 push_adds old new token g same good simple within =
     let pool = old.labels.items in
     let w : all_told pool (old.tokens.items ++ token ∷ []) ≡ written_frames good.frames ++ flatten (append good.current (One simple.0 Finish)) =
@@ -75,8 +81,10 @@ push_adds old new token g same good simple within =
     }
 
 -- where the next token stands
-next_place : (pool : List ℕ) (tokens : List Token) (frames : List Frame) (current : Instrs) → all_told pool tokens ≡ written_frames frames ++ flatten current → length tokens ≡ length (written_frames frames) + length (flatten current)
-next_place pool tokens frames current e = sym (length-map tokens (told pool)) ∙ ap (length {A = Tok}) e ∙ length-append (written_frames frames) (flatten current)
+next_place : (pool : List ℕ) (tokens : List Token) (frames : List Frame) (current : Instrs)
+    → all_told pool tokens ≡ written_frames frames ++ flatten current → length tokens ≡ length (written_frames frames) + length (flatten current)
+next_place pool tokens frames current e = sym (length-map tokens (told pool)) ∙ ap (length {A = Tok}) e
+    ∙ length-append (written_frames frames) (flatten current)
 
 -- A token that opens a block, and the frame of the block.
 pub record OpensBlock (token : Token) (t : Tok) (o : ℕ → Opened) (frame : Instrs → Frame) : Type 0 where
@@ -93,8 +101,13 @@ opening_adds old new token t o frame opens g more good =
     let frames = frame good.current ∷ good.frames in
     let b : Built pool (old.tokens.items ++ token ∷ []) new.blocks.items frames Finish = record {
       written = written-push pool old.tokens.items token _ _ good.built.written
-          (rw (opens.told_as pool, opens.written good.current) (append_assoc (written_frames good.frames) (flatten good.current) (t ∷ []) ∙ sym (append-nil _)));
-      places = more ∙ rw (good.built.places, next_place pool old.tokens.items good.frames good.current good.built.written, opens.place (length (written_frames good.frames)) good.current) refl;
+          (rw (opens.told_as pool, opens.written good.current)
+          (append_assoc (written_frames good.frames) (flatten good.current) (t ∷ []) ∙ sym (append-nil _)));
+      places = more ∙ rw (
+        good.built.places,
+        next_place pool old.tokens.items good.frames good.current good.built.written,
+        opens.place (length (written_frames good.frames)) good.current,
+      ) refl;
       within = all-push (IsWithin (length pool)) old.tokens.items token good.built.within (opens.within (length pool));
     } in
     record {

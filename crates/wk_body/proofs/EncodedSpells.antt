@@ -64,7 +64,8 @@ type_spells profile Empty h allowed = refl
 type_spells profile (Value t) h allowed = refl
 type_spells profile (types.Index x) h allowed = (allowed, short_signed-spells 33 (pos x) h)
 
-else_spells : (profile : Profile) (second : Instrs) → Spells profile second (enc second) → ((second ≡ Finish) × (else_bytes second (enc second) ≡ [])) ⊎ ((f : List ℕ) × Spells profile second f × (else_bytes second (enc second) ≡ 0x05 ∷ f))
+else_spells : (profile : Profile) (second : Instrs) → Spells profile second (enc second)
+    → ((second ≡ Finish) × (else_bytes second (enc second) ≡ [])) ⊎ ((f : List ℕ) × Spells profile second f × (else_bytes second (enc second) ≡ 0x05 ∷ f))
 else_spells profile Finish s = inl (refl, refl)
 else_spells profile (One p rest) s = inr (enc (One p rest), s, refl)
 else_spells profile (Block kind ty inside rest) s = inr (enc (Block kind ty inside rest), s, refl)
@@ -76,8 +77,17 @@ enc_spells profile (One p rest) h of = (plain_bytes p, enc rest, plain_spells pr
 enc_spells profile (Block kind ty inside rest) h of =
     (type_bytes ty, enc inside, enc rest, type_spells profile ty h.0 of.0, enc_spells profile inside h.1 of.1, enc_spells profile rest h.2 of.2, refl)
 enc_spells profile (If ty first second rest) h of =
-    let other = else_spells profile second (enc_spells profile second h.2 of.2) in
-    (type_bytes ty, enc first, else_bytes second (enc second), enc rest, type_spells profile ty h.0 of.0, enc_spells profile first h.1 of.1, other, enc_spells profile rest h.3 of.3, refl)
+    let other = else_spells profile second (enc_spells profile second h.2 of.2) in (
+      type_bytes ty,
+      enc first,
+      else_bytes second (enc second),
+      enc rest,
+      type_spells profile ty h.0 of.0,
+      enc_spells profile first h.1 of.1,
+      other,
+      enc_spells profile rest h.3 of.3,
+      refl,
+    )
 
 -- ---- expressions and bodies
 
@@ -95,7 +105,8 @@ all_counted : (gs : List LocalGroup) → local_count gs < 2 ^ 32 → AllByRecurs
 all_counted [] few = tt
 all_counted (g ∷ gs) few = (omega arith, all_counted gs (omega arith))
 
-pub body_encoded : (profile : Profile) (b : BodyOf) → AreGroups b.groups → SpellsExpr profile b.instrs (written_expr b.instrs) → SpellsBody profile b (written_body b)
+pub body_encoded : (profile : Profile) (b : BodyOf) → AreGroups b.groups → SpellsExpr profile b.instrs (written_expr b.instrs)
+    → SpellsBody profile b (written_body b)
 body_encoded profile b groups spelled = record {
   locals = written_vector written_group b.groups;
   code = written_expr b.instrs;

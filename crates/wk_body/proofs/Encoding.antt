@@ -25,7 +25,14 @@ enc_flat (If ty first second rest) =
     let inside = flatten first ++ else_part (flatten second) in
     flat_map-cons tok_bytes (OpenIf ty (length inside)) (inside ++ Close ∷ flatten rest)
     ∙ ap (λ (b : List ℕ). 0x04 ∷ (type_bytes ty ++ b)) (flat_map-append tok_bytes inside (Close ∷ flatten rest)
-    ∙ rw (flat_map-append tok_bytes (flatten first) (else_part (flatten second)), else_flat second, enc_flat first, enc_flat second, flat_map-cons tok_bytes Close (flatten rest), enc_flat rest) (append_assoc (enc first) (else_bytes second (enc second)) (0x0B ∷ enc rest)))
+    ∙ rw (
+      flat_map-append tok_bytes (flatten first) (else_part (flatten second)),
+      else_flat second,
+      enc_flat first,
+      enc_flat second,
+      flat_map-cons tok_bytes Close (flatten rest),
+      enc_flat rest,
+    ) (append_assoc (enc first) (else_bytes second (enc second)) (0x0B ∷ enc rest)))
 
 -- the tokens of an expression are written as it is
 pub tokens_written : (t : Instrs) → flat_map tok_bytes (tokens_of t) ≡ written_expr t

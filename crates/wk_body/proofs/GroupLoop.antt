@@ -1,5 +1,5 @@
 -- The loop that reads local groups.
-use Rattle.std.proofs.Common.{◌≡◌, ℕ, suc, ◌+◌, ◌<◌, ◌≤◌, ◌^◌, List, [], ◌∷◌, ◌++◌, Result, Ok, Err, refl, sym, ap, ◌∙◌, append_assoc}
+use Rattle.std.proofs.Common.{◌≡◌, ℕ, suc, ◌+◌, ◌-◌, ◌<◌, ◌≤◌, ◌^◌, List, [], ◌∷◌, ◌++◌, Result, Ok, Err, refl, sym, ap, ◌∙◌, append_assoc, arith}
 use Rattle.std.proofs.lemmas.Bool.{lt-ltb, le-ltb}
 use Rattle.std.proofs.lemmas.List.{append-nil}
 use Rattle.wk_bytes.specs.declared.fault.ReadKind.TheVariants.{TooManyLocals}
@@ -23,46 +23,59 @@ pub record InGroups (groups : List LocalGroup) (left sum : ℕ) (from to : Span)
   pub reads : whole ≡ with_groups groups (groups_at left sum to.end to.rest)
   pub same_end : to.end ≡ from.end
 
-pub groups_end : (groups : List LocalGroup) (left sum : ℕ) (from to : Span) (whole : Groups) → left ≡ 0 → InGroups groups left sum from to whole → whole ≡ Ok (groups, to.rest)
+pub groups_end : (groups : List LocalGroup) (left sum : ℕ) (from to : Span) (whole : Groups) → left ≡ 0 → InGroups groups left sum from to whole
+    → whole ≡ Ok (groups, to.rest)
 unfolding groups_at
 groups_end groups left sum from to whole none i =
     i.reads ∙ ap (λ (n : ℕ). with_groups groups (groups_at n sum to.end to.rest)) none ∙ ap (λ (gs : List LocalGroup). Ok (gs, to.rest)) (append-nil groups)
 
 -- no count of locals stands there
-pub groups_uncounted : (groups : List LocalGroup) (left n sum : ℕ) (from to : Span) (whole : Groups) (e : ReadFault) → left ≡ suc n → InGroups groups left sum from to whole → u32_at to.end to.rest ≡ Err e → whole ≡ Err e
+pub groups_uncounted : (groups : List LocalGroup) (all i sum : ℕ) (from to : Span) (whole : Groups) (e : ReadFault) → i < all
+    → InGroups groups (all - i) sum from to whole → u32_at to.end to.rest ≡ Err e → whole ≡ Err e
 unfolding groups_at
-groups_uncounted groups left n sum from to whole e more i bad =
-    i.reads ∙ ap (λ (k : ℕ). with_groups groups (groups_at k sum to.end to.rest)) more ∙ rw bad refl
+groups_uncounted groups all i sum from to whole e lt g bad =
+    let more : all - i ≡ suc (all - (i + 1)) = omega arith in
+    g.reads ∙ ap (λ (k : ℕ). with_groups groups (groups_at k sum to.end to.rest)) more ∙ rw bad refl
 
 -- the count makes too many
-pub groups_too_many : (groups : List LocalGroup) (left n sum count : ℕ) (from to : Span) (rest : List ℕ) (whole : Groups) → left ≡ suc n → InGroups groups left sum from to whole → u32_at to.end to.rest ≡ Ok (count, rest) → 2 ^ 32 ≤ sum + count → whole ≡ Err (fault TooManyLocals to.end to.rest)
+pub groups_too_many : (groups : List LocalGroup) (all i sum count : ℕ) (from to : Span) (rest : List ℕ) (whole : Groups) → i < all
+    → InGroups groups (all - i) sum from to whole → u32_at to.end to.rest ≡ Ok (count, rest) → 2 ^ 32 ≤ sum + count
+    → whole ≡ Err (fault TooManyLocals to.end to.rest)
 unfolding groups_at
-groups_too_many groups left n sum count from to rest whole more i counted many =
-    i.reads ∙ ap (λ (k : ℕ). with_groups groups (groups_at k sum to.end to.rest)) more ∙ rw (counted, le-ltb (sum + count) (2 ^ 32) many) refl
+groups_too_many groups all i sum count from to rest whole lt g counted many =
+    let more : all - i ≡ suc (all - (i + 1)) = omega arith in
+    g.reads ∙ ap (λ (k : ℕ). with_groups groups (groups_at k sum to.end to.rest)) more ∙ rw (counted, le-ltb (sum + count) (2 ^ 32) many) refl
 
 -- no type stands behind the count
-pub groups_untyped : (groups : List LocalGroup) (left n sum count : ℕ) (from to mid : Span) (whole : Groups) (e : ReadFault) → left ≡ suc n → InGroups groups left sum from to whole → u32_at to.end to.rest ≡ Ok (count, mid.rest) → mid.end ≡ to.end → sum + count < 2 ^ 32
+pub groups_untyped : (groups : List LocalGroup) (all i sum count : ℕ) (from to mid : Span) (whole : Groups) (e : ReadFault) → i < all
+    → InGroups groups (all - i) sum from to whole → u32_at to.end to.rest ≡ Ok (count, mid.rest) → mid.end ≡ to.end → sum + count < 2 ^ 32
     → valtype_at mid.end mid.rest ≡ Err e → whole ≡ Err e
 unfolding groups_at
-groups_untyped groups left n sum count from to mid whole e more i counted same few bad =
+groups_untyped groups all i sum count from to mid whole e lt g counted same few bad =
+    let more : all - i ≡ suc (all - (i + 1)) = omega arith in
     let untyped : valtype_at to.end mid.rest ≡ Err e = ap (λ (end : ℕ). valtype_at end mid.rest) (sym same) ∙ bad in
-    i.reads ∙ ap (λ (k : ℕ). with_groups groups (groups_at k sum to.end to.rest)) more ∙ rw (counted, lt-ltb (sum + count) (2 ^ 32) few, untyped) refl
+    g.reads ∙ ap (λ (k : ℕ). with_groups groups (groups_at k sum to.end to.rest)) more ∙ rw (counted, lt-ltb (sum + count) (2 ^ 32) few, untyped) refl
 
 -- one group more in front of what is read
-one_group : (groups : List LocalGroup) (g : LocalGroup) (read : Groups) → with_groups groups (read >>= λ gs. Ok (g ∷ gs.0, gs.1)) ≡ with_groups (groups ++ g ∷ []) read
+one_group : (groups : List LocalGroup) (g : LocalGroup) (read : Groups)
+    → with_groups groups (read >>= λ gs. Ok (g ∷ gs.0, gs.1)) ≡ with_groups (groups ++ g ∷ []) read
 one_group groups g (Ok x) = ap (λ (gs : List LocalGroup). Ok (gs, x.1)) (sym (append_assoc groups (g ∷ []) x.0))
 one_group groups g (Err e) = refl
 
-pub groups_go_on : (groups : List LocalGroup) (left n sum count : ℕ) (ty : ValType) (from to mid new : Span) (whole : Groups) → left ≡ suc n → InGroups groups left sum from to whole → u32_at to.end to.rest ≡ Ok (count, mid.rest) → mid.end ≡ to.end → sum + count < 2 ^ 32
-    → valtype_at mid.end mid.rest ≡ Ok (ty, new.rest) → new.end ≡ mid.end → InGroups (groups ++ record { count = count; ty = ty } ∷ []) n (sum + count) from new whole
+pub groups_go_on : (groups : List LocalGroup) (all i sum count : ℕ) (ty : ValType) (from to mid new : Span) (whole : Groups) → i < all
+    → InGroups groups (all - i) sum from to whole → u32_at to.end to.rest ≡ Ok (count, mid.rest) → mid.end ≡ to.end → sum + count < 2 ^ 32
+    → valtype_at mid.end mid.rest ≡ Ok (ty, new.rest) → new.end ≡ mid.end
+    → InGroups (groups ++ record { count = count; ty = ty } ∷ []) (all - (i + 1)) (sum + count) from new whole
 unfolding groups_at
-groups_go_on groups left n sum count ty from to mid new whole more i counted same few typed on =
+groups_go_on groups all i sum count ty from to mid new whole lt g counted same few typed on =
+    let more : all - i ≡ suc (all - (i + 1)) = omega arith in
     let typed_there : valtype_at to.end mid.rest ≡ Ok (ty, new.rest) = ap (λ (end : ℕ). valtype_at end mid.rest) (sym same) ∙ typed in
     let ends : new.end ≡ to.end = on ∙ same in
     record {
       reads =
-          i.reads ∙ ap (λ (k : ℕ). with_groups groups (groups_at k sum to.end to.rest)) more
-          ∙ rw (counted, lt-ltb (sum + count) (2 ^ 32) few, typed_there) (one_group groups (record { count = count; ty = ty }) (groups_at n (sum + count) to.end new.rest))
-          ∙ ap (λ (end : ℕ). with_groups (groups ++ record { count = count; ty = ty } ∷ []) (groups_at n (sum + count) end new.rest)) (sym ends);
-      same_end = ends ∙ i.same_end;
+          g.reads ∙ ap (λ (k : ℕ). with_groups groups (groups_at k sum to.end to.rest)) more
+          ∙ rw (counted, lt-ltb (sum + count) (2 ^ 32) few, typed_there)
+          (one_group groups (record { count = count; ty = ty }) (groups_at (all - (i + 1)) (sum + count) to.end new.rest))
+          ∙ ap (λ (end : ℕ). with_groups (groups ++ record { count = count; ty = ty } ∷ []) (groups_at (all - (i + 1)) (sum + count) end new.rest)) (sym ends);
+      same_end = ends ∙ g.same_end;
     }

@@ -1,5 +1,6 @@
 -- The loops that pass over an integer, and over several.
-use Rattle.std.proofs.Common.{◌≡◌, ℕ, suc, ◌+◌, ◌-◌, ◌<◌, ◌≤◌, List, [], ◌∷◌, ◌++◌, length, drop, get_or, refl, sym, ap, subst, ◌∙◌, arith, append_assoc, length-append}
+use Rattle.std.proofs.Common.{◌≡◌, ℕ, suc, ◌+◌, ◌-◌, ◌<◌, ◌≤◌, List, [], ◌∷◌, ◌++◌, length, drop, get_or, refl, sym, ap, subst, ◌∙◌, arith, append_assoc}
+use Rattle.std.proofs.Common.{length-append}
 use Rattle.std.proofs.lemmas.List.{drop_more, drop_all}
 use Rattle.wk_body.specs.ShiftSteps.{IsInteger, AreIntegers}
 use Rattle.wk_body.proofs.Shifting.{behind_bytes}
@@ -29,7 +30,8 @@ module _ (front later code : List ℕ) (at end : ℕ) where
   pub integer_ends : end < length code → get_or code end 0 < 128 → InInteger front later code at end → at + length front ≡ end + 1
   integer_ends lt small i = omega (arith, i.place, ends_by i.left i.integer i.ahead lt small)
 
-  more_by : (left : List ℕ) → IsInteger left → drop end code ≡ left ++ later → at + length front ≡ end + length left → end < length code → 128 ≤ get_or code end 0 → InInteger front later code at (end + 1)
+  more_by : (left : List ℕ) → IsInteger left → drop end code ≡ left ++ later → at + length front ≡ end + length left → end < length code
+      → 128 ≤ get_or code end 0 → InInteger front later code at (end + 1)
   more_by [] h e place lt large = absurd h
   more_by (x ∷ []) h e place lt large =
       let f : get_or code end 0 ∷ drop (end + 1) code ≡ x ∷ later = sym (drop_more code end 0 lt) ∙ e in
@@ -60,7 +62,8 @@ pub record InIntegers (front later code : List ℕ) (at count end : ℕ) : Type 
   pub ahead : drop end code ≡ left ++ later
   pub place : at + length front ≡ end + length left
 
-pub integers_begin : (front later code : List ℕ) (at count : ℕ) → AreIntegers count front → drop at code ≡ front ++ later → InIntegers front later code at (count - 0) at
+pub integers_begin : (front later code : List ℕ) (at count : ℕ) → AreIntegers count front → drop at code ≡ front ++ later
+    → InIntegers front later code at (count - 0) at
 integers_begin front later code at count h e =
     let all : count - 0 ≡ count = omega arith in
     rw all (record { left = front; integers = h; ahead = e; place = refl })
@@ -83,7 +86,13 @@ module _ (front later code : List ℕ) (at count : ℕ) where
         others = some.1;
         integer = some.2;
         ahead = ahead;
-        then = record { left = some.1; integers = some.3; ahead = behind_bytes end code some.0 (some.1 ++ later) ahead; place = omega (arith, i.place, ap length some.4, length-append some.0 some.1) };
+        then = record {
+          left = some.1;
+          integers = some.3;
+          ahead = behind_bytes end code some.0 (some.1 ++ later) ahead;
+          place =
+              omega (arith, i.place, ap length some.4, length-append some.0 some.1);
+        };
       }
 
   pub integers_one : (i end : ℕ) → i < count → InIntegers front later code at (count - i) end → One (count - (i + 1)) end

@@ -1,5 +1,6 @@
 -- The bytes of integers and of types, of which the last alone is below 128.
-use Rattle.std.proofs.Common.{◌≡◌, ℕ, zero, suc, ◌+◌, ◌*◌, ◌/◌, ◌%◌, ◌<◌, ◌≤◌, ℤ, pos, negsuc, false, inl, inr, List, [], ◌∷◌, ◌++◌, length, refl, sym, ap, subst, ◌∙◌, arith, append_assoc}
+use Rattle.std.proofs.Common.{◌≡◌, ℕ, zero, suc, ◌+◌, ◌*◌, ◌/◌, ◌%◌, ◌<◌, ◌≤◌, ℤ, pos, negsuc, false, inl, inr, List, [], ◌∷◌, ◌++◌, length, refl, sym, ap}
+use Rattle.std.proofs.Common.{subst, ◌∙◌, arith, append_assoc}
 use Rattle.std.specs.List.{flat_map}
 use Rattle.std.proofs.lemmas.Bool.{cases_Bool, cases_lt, ltb-false}
 use Rattle.std.proofs.lemmas.List.{append-nil}
@@ -77,7 +78,8 @@ two_integers a b h k = (a, b, h, one_integer b k, refl)
 
 pub labels_integers : (labels : List ℕ) (other : ℕ) → AreIntegers (suc (length labels)) (flat_map short labels ++ short other)
 labels_integers [] other = one_integer (short other) (short_integer other)
-labels_integers (x ∷ xs) other = (short x, flat_map short xs ++ short other, short_integer x, labels_integers xs other, append_assoc (short x) (flat_map short xs) (short other))
+labels_integers (x ∷ xs) other =
+    (short x, flat_map short xs ++ short other, short_integer x, labels_integers xs other, append_assoc (short x) (flat_map short xs) (short other))
 
 pub groups_integers : (gs : List LocalGroup) → AreIntegers (2 * length gs) (flat_map written_group gs)
 groups_integers [] = refl
@@ -101,7 +103,8 @@ one_byte (y ∷ []) later rest x h e small = (cc, cc)
 one_byte (y ∷ z ∷ b) later rest x h e small = let same : y ≡ x = cc in absurd (omega (arith, same, h.0, small))
 
 -- so many of them, where these bytes are their first ones
-pub brief_integers : (n : ℕ) (b later rest : List ℕ) (x y : ℕ) → n ≤ 2 → AreIntegers n b → b ++ later ≡ x ∷ y ∷ rest → (0 < n → x < 128) → (1 < n → y < 128) → length b ≡ n
+pub brief_integers : (n : ℕ) (b later rest : List ℕ) (x y : ℕ) → n ≤ 2 → AreIntegers n b → b ++ later ≡ x ∷ y ∷ rest → (0 < n → x < 128)
+    → (1 < n → y < 128) → length b ≡ n
 brief_integers zero b later rest x y few h e first second = ap length h
 brief_integers (suc zero) b later rest x y few h e first second =
     let whole : b ≡ h.0 = h.4 ∙ ap (λ (c : List ℕ). h.0 ++ c) h.3 ∙ append-nil h.0 in

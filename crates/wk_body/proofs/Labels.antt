@@ -1,5 +1,6 @@
 -- The pool of labels grows, and tokens mean what they meant.
-use Rattle.std.proofs.Common.{◌≡◌, ℕ, zero, suc, ◌+◌, ◌-◌, ◌<◌, ◌≤◌, List, [], ◌∷◌, ◌++◌, length, take, drop, Some, Result, Ok, Err, refl, sym, ap, ◌∙◌, append_assoc, arith, length-append}
+use Rattle.std.proofs.Common.{◌≡◌, ℕ, zero, suc, ◌+◌, ◌-◌, ◌<◌, ◌≤◌, List, [], ◌∷◌, ◌++◌, length, take, drop, Some, Result, Ok, Err, refl, sym, ap, ◌∙◌}
+use Rattle.std.proofs.Common.{append_assoc, arith, length-append}
 use Rattle.std.specs.List.{AllByRecursion}
 use Rattle.std.proofs.lemmas.List.{append-nil, take-append-le, drop-append-le, drop_at, length-drop, length-map, take_all}
 use Rattle.wk_bytes.specs.declared.fault.ReadFault.{ReadFault}
@@ -18,75 +19,26 @@ use Rattle.wk_body.specs.Reading.{labels_at, after}
 use Rattle.wk_body.specs.Building.{Good, Adds, Labelled, ReadsLabels, ReadsPlain, toks_of, kinds_of, size_of}
 
 pub told-grow : (pool more : List ℕ) (t : Token) → IsWithin (length pool) t → told (pool ++ more) t ≡ told pool t
-told-grow pool more kept.Unreachable h = refl
-told-grow pool more kept.Nop h = refl
-told-grow pool more (kept.Block ty skip) h = refl
-told-grow pool more (kept.Loop ty skip) h = refl
-told-grow pool more (kept.If ty skip) h = refl
-told-grow pool more (kept.Else skip) h = refl
-told-grow pool more kept.End h = refl
-told-grow pool more (kept.Br label) h = refl
-told-grow pool more (kept.BrIf label) h = refl
 told-grow pool more (kept.BrTable start len other) h =
-    ap (λ (ls : List ℕ). Simple (BrTable ls other)) (ap (take len) (drop-append-le start pool more (omega (arith, h))) ∙ take-append-le len (drop start pool) more (omega (arith, h, length-drop start pool)))
-told-grow pool more kept.Return h = refl
-told-grow pool more (kept.Call x) h = refl
-told-grow pool more (kept.CallIndirect x) h = refl
-told-grow pool more kept.Drop h = refl
-told-grow pool more kept.Select h = refl
-told-grow pool more (kept.LocalGet x) h = refl
-told-grow pool more (kept.LocalSet x) h = refl
-told-grow pool more (kept.LocalTee x) h = refl
-told-grow pool more (kept.GlobalGet x) h = refl
-told-grow pool more (kept.GlobalSet x) h = refl
-told-grow pool more (kept.Access op align offset) h = refl
-told-grow pool more kept.MemorySize h = refl
-told-grow pool more kept.MemoryGrow h = refl
-told-grow pool more (kept.I32Const z) h = refl
-told-grow pool more (kept.I64Const z) h = refl
-told-grow pool more (kept.F32Const word) h = refl
-told-grow pool more (kept.F64Const word) h = refl
-told-grow pool more (kept.Numeric op) h = refl
+    ap (λ (ls : List ℕ). Simple (BrTable ls other))
+    (ap (take len) (drop-append-le start pool more (omega (arith, h)))
+    ∙ take-append-le len (drop start pool) more (omega (arith, h, length-drop start pool)))
+told-grow pool more t h = refl
 
 pub all_told-grow : (pool more : List ℕ) (ts : List Token) → AllByRecursion (IsWithin (length pool)) ts → all_told (pool ++ more) ts ≡ all_told pool ts
 all_told-grow pool more [] h = refl
 all_told-grow pool more (t ∷ ts) h = let e = told-grow pool more t h.0 in let f = all_told-grow pool more ts h.1 in cc
 
 pub within-more : (m n : ℕ) (t : Token) → m ≤ n → IsWithin m t → IsWithin n t
-within-more m n kept.Unreachable le h = h
-within-more m n kept.Nop le h = h
-within-more m n (kept.Block ty skip) le h = h
-within-more m n (kept.Loop ty skip) le h = h
-within-more m n (kept.If ty skip) le h = h
-within-more m n (kept.Else skip) le h = h
-within-more m n kept.End le h = h
-within-more m n (kept.Br label) le h = h
-within-more m n (kept.BrIf label) le h = h
 within-more m n (kept.BrTable start len other) le h = omega (arith, h)
-within-more m n kept.Return le h = h
-within-more m n (kept.Call x) le h = h
-within-more m n (kept.CallIndirect x) le h = h
-within-more m n kept.Drop le h = h
-within-more m n kept.Select le h = h
-within-more m n (kept.LocalGet x) le h = h
-within-more m n (kept.LocalSet x) le h = h
-within-more m n (kept.LocalTee x) le h = h
-within-more m n (kept.GlobalGet x) le h = h
-within-more m n (kept.GlobalSet x) le h = h
-within-more m n (kept.Access op align offset) le h = h
-within-more m n kept.MemorySize le h = h
-within-more m n kept.MemoryGrow le h = h
-within-more m n (kept.I32Const z) le h = h
-within-more m n (kept.I64Const z) le h = h
-within-more m n (kept.F32Const word) le h = h
-within-more m n (kept.F64Const word) le h = h
-within-more m n (kept.Numeric op) le h = h
+within-more m n t le h = h
 
 all_within-more : (m n : ℕ) (ts : List Token) → m ≤ n → AllByRecursion (IsWithin m) ts → AllByRecursion (IsWithin n) ts
 all_within-more m n [] le h = tt
 all_within-more m n (t ∷ ts) le h = (within-more m n t le h.0, all_within-more m n ts le h.1)
 
-pub more_labels : (old new : Scratch) (labels : List ℕ) → Good old → new.tokens.items ≡ old.tokens.items → new.labels.items ≡ old.labels.items ++ labels → new.blocks.items ≡ old.blocks.items → Labelled old new labels
+pub more_labels : (old new : Scratch) (labels : List ℕ) → Good old → new.tokens.items ≡ old.tokens.items → new.labels.items ≡ old.labels.items ++ labels
+    → new.blocks.items ≡ old.blocks.items → Labelled old new labels
 more_labels old new labels good t l b =
     let same : toks_of new ≡ toks_of old = rw (t, l) (all_told-grow old.labels.items labels old.tokens.items good.built.within) in
     record {
@@ -96,7 +48,8 @@ more_labels old new labels good t l b =
         built = record {
           written = same ∙ good.built.written;
           places = b ∙ good.built.places;
-          within = rw (t, l) (all_within-more (length old.labels.items) (length (old.labels.items ++ labels)) old.tokens.items (omega (arith, length-append old.labels.items labels)) good.built.within);
+          within = rw (t, l) (all_within-more (length old.labels.items) (length (old.labels.items ++ labels)) old.tokens.items
+              (omega (arith, length-append old.labels.items labels)) good.built.within);
         };
       };
       toks = same;
@@ -108,22 +61,22 @@ no_labels : (b : Scratch) → Good b → Labelled b b []
 no_labels b good = more_labels b b [] good refl (sym (append-nil b.labels.items)) refl
 
 labels-then : (a b c : Scratch) (xs ys : List ℕ) → Labelled a b xs → Labelled b c ys → Labelled a c (xs ++ ys)
-labels-then a b c xs ys p q = record { good = q.good; toks = q.toks ∙ p.toks; kinds = q.kinds ∙ p.kinds; pool = q.pool ∙ ap (λ (w : List ℕ). w ++ ys) p.pool ∙ append_assoc a.labels.items xs ys }
+labels-then a b c xs ys p q =
+    record {
+      good = q.good;
+      toks = q.toks ∙ p.toks;
+      kinds = q.kinds ∙ p.kinds;
+      pool =
+          q.pool ∙ ap (λ (w : List ℕ). w ++ ys) p.pool ∙ append_assoc a.labels.items xs ys;
+    }
 
 -- ---- the loop over labels
 
 abbrev pub with_front : List ℕ → Result (List ℕ × List ℕ) ReadFault → Result (List ℕ × List ℕ) ReadFault
 with_front front read = read >>= λ x. Ok (front ++ x.0, x.1)
 
--- so many labels are left, of those that `whole` reads from the cursor `from`
-pub record InLabels (fn now : Scratch) (left : ℕ) (from at : Span) (whole : Result (List ℕ × List ℕ) ReadFault) : Type 0 where
-  pub labels : List ℕ
-  pub labelled : Labelled fn now labels
-  pub same_end : at.end ≡ from.end
-  pub reads : with_front labels (items_at u32_at left from.end at.rest) ≡ whole
-  pub size : length labels + length at.rest ≤ length from.rest
-
-pub regroup : (front : List ℕ) (n : ℕ) (read : Result (List ℕ × List ℕ) ReadFault) → with_front front (read >>= λ x. Ok (n ∷ x.0, x.1)) ≡ with_front (front ++ n ∷ []) read
+pub regroup : (front : List ℕ) (n : ℕ) (read : Result (List ℕ × List ℕ) ReadFault)
+    → with_front front (read >>= λ x. Ok (n ∷ x.0, x.1)) ≡ with_front (front ++ n ∷ []) read
 regroup front n (Ok x) = ap (λ (ns : List ℕ). Ok (ns, x.1)) (simp append_assoc)
 regroup front n (Err f) = refl
 
@@ -131,36 +84,70 @@ pub front-nil : (read : Result (List ℕ × List ℕ) ReadFault) → with_front 
 front-nil (Ok x) = refl
 front-nil (Err f) = refl
 
-pub labels_begin : (b : Scratch) (count : ℕ) (from : Span) → Good b → InLabels b b (count - 0) from from (items_at u32_at count from.end from.rest)
-labels_begin b count from good = let k : count - 0 ≡ count = omega arith in record { labels = []; labelled = no_labels b good; same_end = refl; reads = rw k (front-nil (items_at u32_at count from.end from.rest)); size = omega arith }
+-- so many labels are left behind these, of those that `whole` reads from the cursor `from`
+pub record LabelsLeft (labels : List ℕ) (left : ℕ) (from at : Span) (whole : Result (List ℕ × List ℕ) ReadFault) : Type 0 where
+  pub reads : with_front labels (items_at u32_at left at.end at.rest) ≡ whole
+  pub same_end : at.end ≡ from.end
 
-pub labels_go_on : (fn now next : Scratch) (count i n : ℕ) (from at to : Span) (whole : Result (List ℕ × List ℕ) ReadFault) → i < count → (u32_at at.end at.rest ≡ Ok (n, to.rest)) × (to.end ≡ at.end) → Labelled now next (n ∷ [])
-    → InLabels fn now (count - i) from at whole → InLabels fn next (count - (i + 1)) from to whole
-labels_go_on fn now next count i n from at to whole lt e l g =
+pub labels_start : (labels : List ℕ) (count : ℕ) (from : Span) → labels ≡ []
+    → LabelsLeft labels (count - 0) from from (items_at u32_at count from.end from.rest)
+labels_start labels count from none = let k : count - 0 ≡ count = omega arith in
+    record { reads = rw (k, none) (front-nil (items_at u32_at count from.end from.rest)); same_end = refl }
+
+pub labels_more : (labels : List ℕ) (count i n : ℕ) (from at to : Span) (whole : Result (List ℕ × List ℕ) ReadFault) → i < count
+    → (u32_at at.end at.rest ≡ Ok (n, to.rest)) × (to.end ≡ at.end)
+    → LabelsLeft labels (count - i) from at whole → LabelsLeft (labels ++ n ∷ []) (count - (i + 1)) from to whole
+labels_more labels count i n from at to whole lt e g =
     let k : count - i ≡ suc (count - (i + 1)) = omega arith in
-    let read : u32_at from.end at.rest ≡ Ok (n, to.rest) = ap (λ (end : ℕ). u32_at end at.rest) (sym g.same_end) ∙ e.0 in
-    let one : with_front g.labels (items_at u32_at (count - i) from.end at.rest) ≡ with_front (g.labels ++ n ∷ []) (items_at u32_at (count - (i + 1)) from.end to.rest) =
-    rw (k, read) (regroup g.labels n (items_at u32_at (count - (i + 1)) from.end to.rest)) in
+    let one : with_front labels (items_at u32_at (count - i) at.end at.rest)
+    ≡ with_front (labels ++ n ∷ []) (items_at u32_at (count - (i + 1)) at.end to.rest) =
+    rw (k, e.0) (regroup labels n (items_at u32_at (count - (i + 1)) at.end to.rest)) in
     record {
-      labels = g.labels ++ n ∷ [];
-      labelled = labels-then fn now next g.labels (n ∷ []) g.labelled l;
-      same_end = e.1 ∙ g.same_end;
-      reads = sym one ∙ g.reads;
-      size = omega (arith, g.size, u32_at-shorter at.end at.rest n to.rest e.0, length-append g.labels (n ∷ []));
+      reads = ap (λ (end : ℕ). with_front (labels ++ n ∷ []) (items_at u32_at (count - (i + 1)) end to.rest)) e.1 ∙ sym one ∙ g.reads;
+      same_end =
+          e.1 ∙ g.same_end;
     }
 
-pub labels_fail : (fn now : Scratch) (e : ReadFault) (count i : ℕ) (from at : Span) (whole : Result (List ℕ × List ℕ) ReadFault) → i < count → u32_at at.end at.rest ≡ Err e → InLabels fn now (count - i) from at whole → whole ≡ Err e
-labels_fail fn now e count i from at whole lt h g =
+pub labels_stop : (labels : List ℕ) (e : ReadFault) (count i : ℕ) (from at : Span) (whole : Result (List ℕ × List ℕ) ReadFault) → i < count
+    → u32_at at.end at.rest ≡ Err e → LabelsLeft labels (count - i) from at whole → whole ≡ Err e
+labels_stop labels e count i from at whole lt h g =
     let k : count - i ≡ suc (count - (i + 1)) = omega arith in
-    let read : u32_at from.end at.rest ≡ Err e = ap (λ (end : ℕ). u32_at end at.rest) (sym g.same_end) ∙ h in
-    let one : with_front g.labels (items_at u32_at (count - i) from.end at.rest) ≡ Err e = rw (k, read) refl in
+    let one : with_front labels (items_at u32_at (count - i) at.end at.rest) ≡ Err e = rw (k, h) refl in
     sym g.reads ∙ one
 
-pub labels_end : (fn now : Scratch) (count i : ℕ) (from at : Span) → count ≤ i → InLabels fn now (count - i) from at (items_at u32_at count from.end from.rest) → ReadsLabels (items_at u32_at count from.end from.rest) fn now from at
-labels_end fn now count i from at le g =
+pub labels_done : (labels : List ℕ) (count i : ℕ) (from at : Span) (whole : Result (List ℕ × List ℕ) ReadFault) → count ≤ i
+    → LabelsLeft labels (count - i) from at whole → (whole ≡ Ok (labels, at.rest)) × (at.end ≡ from.end)
+labels_done labels count i from at whole le g =
     let k : count - i ≡ 0 = omega arith in
-    let one : with_front g.labels (items_at u32_at (count - i) from.end at.rest) ≡ Ok (g.labels, at.rest) = rw k (ap (λ (ns : List ℕ). Ok (ns, at.rest)) (append-nil g.labels)) in
-    record { labels = g.labels; is = sym g.reads ∙ one; same_end = g.same_end; labelled = g.labelled; size = g.size }
+    let one : with_front labels (items_at u32_at (count - i) at.end at.rest) ≡ Ok (labels, at.rest) =
+    rw k (ap (λ (ns : List ℕ). Ok (ns, at.rest)) (append-nil labels)) in
+    (sym g.reads ∙ one, g.same_end)
+
+-- so many labels are left, and the others are in the pool
+pub record InLabels (fn now : Scratch) (left : ℕ) (from at : Span) (whole : Result (List ℕ × List ℕ) ReadFault) : Type 0 where
+  pub labels : List ℕ
+  pub labelled : Labelled fn now labels
+  pub ahead : LabelsLeft labels left from at whole
+  pub size : length labels + length at.rest ≤ length from.rest
+
+pub labels_begin : (b : Scratch) (count : ℕ) (from : Span) → Good b → InLabels b b (count - 0) from from (items_at u32_at count from.end from.rest)
+labels_begin b count from good = record { labels = []; labelled = no_labels b good; ahead = labels_start [] count from refl; size = omega arith }
+
+pub labels_go_on : (fn now next : Scratch) (count i n : ℕ) (from at to : Span) (whole : Result (List ℕ × List ℕ) ReadFault) → i < count
+    → (u32_at at.end at.rest ≡ Ok (n, to.rest)) × (to.end ≡ at.end) → Labelled now next (n ∷ [])
+    → InLabels fn now (count - i) from at whole → InLabels fn next (count - (i + 1)) from to whole
+labels_go_on fn now next count i n from at to whole lt e l g = record {
+  labels = g.labels ++ n ∷ [];
+  labelled = labels-then fn now next g.labels (n ∷ []) g.labelled l;
+  ahead = labels_more g.labels count i n from at to whole lt e g.ahead;
+  size = omega (arith, g.size, u32_at-shorter at.end at.rest n to.rest e.0, length-append g.labels (n ∷ []));
+}
+
+pub labels_end : (fn now : Scratch) (count i : ℕ) (from at : Span) → count ≤ i
+    → InLabels fn now (count - i) from at (items_at u32_at count from.end from.rest) → ReadsLabels (items_at u32_at count from.end from.rest) fn now from at
+labels_end fn now count i from at le g =
+    let done = labels_done g.labels count i from at _ le g.ahead in
+    record { labels = g.labels; is = done.0; same_end = done.1; labelled = g.labelled; size = g.size }
 
 -- ---- a token with labels
 
@@ -171,37 +158,66 @@ items_length (suc n) end bytes x e =
     let b = bind_ok (items_at u32_at n end a.0.1) (λ xs. Ok (a.0.0 ∷ xs.0, xs.1)) x a.2 in
     sym (ap (λ (r : List ℕ × List ℕ). length r.0) (ok_is (a.0.0 ∷ b.0.0, b.0.1) x b.2)) ∙ ap suc (items_length n end a.0.1 b.0 b.1)
 
-table_within : (old new : Scratch) (labels : List ℕ) (start count : ℕ) → start ≡ length old.labels.items → length labels ≡ count → Labelled old new labels → start + count ≤ length new.labels.items
+table_within : (old new : Scratch) (labels : List ℕ) (start count : ℕ) → start ≡ length old.labels.items → length labels ≡ count
+    → Labelled old new labels → start + count ≤ length new.labels.items
 table_within old new labels start count h n l = omega (arith, ap (length {A = ℕ}) l.pool, length-append old.labels.items labels)
 
-table_told : (old new : Scratch) (labels : List ℕ) (start count other : ℕ) → start ≡ length old.labels.items → length labels ≡ count → Labelled old new labels → told new.labels.items (kept.BrTable start count other) ≡ Simple (BrTable labels other)
+table_told : (old new : Scratch) (labels : List ℕ) (start count other : ℕ) → start ≡ length old.labels.items → length labels ≡ count
+    → Labelled old new labels → told new.labels.items (kept.BrTable start count other) ≡ Simple (BrTable labels other)
 table_told old new labels start count other h n l =
-    ap (λ (ls : List ℕ). Simple (BrTable ls other)) (rw (l.pool, h, drop_at old.labels.items labels (length old.labels.items) refl) (take_all count labels (omega arith)))
+    ap (λ (ls : List ℕ). Simple (BrTable ls other))
+    (rw (l.pool, h, drop_at old.labels.items labels (length old.labels.items) refl) (take_all count labels (omega arith)))
 
-pub table_fits : (old new : Scratch) (start count : ℕ) (from to : Span) → start ≡ length old.labels.items → ReadsLabels (items_at u32_at count from.end from.rest) old new from to → start + count ≤ length new.labels.items
-table_fits old new start count from to h r = table_within old new r.labels start count h (items_length count from.end from.rest (r.labels, to.rest) r.is) r.labelled
+pub table_fits : (old new : Scratch) (start count : ℕ) (from to : Span) → start ≡ length old.labels.items
+    → ReadsLabels (items_at u32_at count from.end from.rest) old new from to → start + count ≤ length new.labels.items
+table_fits old new start count from to h r = table_within old new r.labels start count h
+    (items_length count from.end from.rest (r.labels, to.rest) r.is) r.labelled
 
-pub table_reads : (old mid new : Scratch) (start count other : ℕ) (from counted labelled to : Span) → start ≡ length old.labels.items → (u32_at from.end from.rest ≡ Ok (count, counted.rest)) × (counted.end ≡ from.end)
-    → ReadsLabels (items_at u32_at count counted.end counted.rest) old mid counted labelled → (u32_at labelled.end labelled.rest ≡ Ok (other, to.rest)) × (to.end ≡ labelled.end)
-    → Adds mid new (told mid.labels.items (kept.BrTable start count other)) → ReadsPlain (labels_at from.end from.rest) old new from to
+pub labels_read : (from counted labelled to : Span) (labels : List ℕ) (count other : ℕ)
+    → (u32_at from.end from.rest ≡ Ok (count, counted.rest)) × (counted.end ≡ from.end)
+    → (items_at u32_at count counted.end counted.rest ≡ Ok (labels, labelled.rest)) × (labelled.end ≡ counted.end)
+    → (u32_at labelled.end labelled.rest ≡ Ok (other, to.rest)) × (to.end ≡ labelled.end) → labels_at from.end from.rest ≡ Ok ((labels, other), to.rest)
 unfolding labels_at vector_at
+labels_read from counted labelled to labels count other e f g =
+    let items : items_at u32_at count from.end counted.rest ≡ Ok (labels, labelled.rest) =
+    ap (λ (end : ℕ). items_at u32_at count end counted.rest) (sym e.1) ∙ f.0 in
+    let last : u32_at from.end labelled.rest ≡ Ok (other, to.rest) = ap (λ (end : ℕ). u32_at end labelled.rest) (sym (f.1 ∙ e.1)) ∙ g.0 in
+    rw (e.0, items, last) refl
+
+pub table_reads : (old mid new : Scratch) (start count other : ℕ) (from counted labelled to : Span) → start ≡ length old.labels.items
+    → (u32_at from.end from.rest ≡ Ok (count, counted.rest)) × (counted.end ≡ from.end)
+    → ReadsLabels (items_at u32_at count counted.end counted.rest) old mid counted labelled
+    → (u32_at labelled.end labelled.rest ≡ Ok (other, to.rest)) × (to.end ≡ labelled.end)
+    → Adds mid new (told mid.labels.items (kept.BrTable start count other)) → ReadsPlain (labels_at from.end from.rest) old new from to
 table_reads old mid new start count other from counted labelled to h e r f a =
     let n = items_length count counted.end counted.rest (r.labels, labelled.rest) r.is in
     let same = table_told old mid r.labels start count other h n r.labelled in
     let end : labelled.end ≡ from.end = r.same_end ∙ e.1 in
-    let items : items_at u32_at count from.end counted.rest ≡ Ok (r.labels, labelled.rest) = ap (λ (end : ℕ). items_at u32_at count end counted.rest) (sym e.1) ∙ r.is in
-    let last : u32_at from.end labelled.rest ≡ Ok (other, to.rest) = ap (λ (end : ℕ). u32_at end labelled.rest) (sym end) ∙ f.0 in
-    let sizes : size_of mid ≡ size_of old + length r.labels = omega (arith, ap (length {A = ℕ}) r.labelled.pool, length-append old.labels.items r.labels, sym (length-map mid.tokens.items (told mid.labels.items)) ∙ ap (length {A = Tok}) r.labelled.toks ∙ length-map old.tokens.items (told old.labels.items)) in
+    let sizes : size_of mid ≡ size_of old + length r.labels =
+    omega (
+      arith,
+      ap (length {A = ℕ}) r.labelled.pool,
+      length-append old.labels.items r.labels,
+      sym (length-map mid.tokens.items (told mid.labels.items)) ∙ ap (length {A = Tok}) r.labelled.toks
+          ∙ length-map old.tokens.items (told old.labels.items),
+    ) in
     record {
       labels = r.labels;
       other = other;
-      is = rw (e.0, items, last) refl;
+      is = labels_read from counted labelled to r.labels count other e (r.is, r.same_end) f;
       same_end = f.1 ∙ end;
       step = record {
         good = a.good;
-        parts = λ xs. a.parts xs ∙ ap (λ (t : Tok). over (toks_of mid) (before t xs)) same ∙ ap (λ (ts : List Tok). over ts (before (Simple (BrTable r.labels other)) xs)) r.labelled.toks;
+        parts = λ xs. a.parts xs ∙ ap (λ (t : Tok). over (toks_of mid) (before t xs)) same
+            ∙ ap (λ (ts : List Tok). over ts (before (Simple (BrTable r.labels other)) xs)) r.labelled.toks;
         kinds = ap Some (sym r.labelled.kinds) ∙ ap (λ (t : Tok). after t (kinds_of mid)) (sym same) ∙ a.kinds;
-        size = omega (arith, a.size, r.size, u32_at-shorter from.end from.rest count counted.rest e.0, u32_at-shorter labelled.end labelled.rest other to.rest f.0);
+        size = omega (
+          arith,
+          a.size,
+          r.size,
+          u32_at-shorter from.end from.rest count counted.rest e.0,
+          u32_at-shorter labelled.end labelled.rest other to.rest f.0,
+        );
       };
     }
 
@@ -211,16 +227,21 @@ pub table_count_fails : (from : Span) (e : ReadFault) → u32_at from.end from.r
 unfolding labels_at vector_at
 table_count_fails from e h = rw h refl
 
-pub table_labels_fail : (from counted : Span) (count : ℕ) (e : ReadFault) → (u32_at from.end from.rest ≡ Ok (count, counted.rest)) × (counted.end ≡ from.end) → items_at u32_at count counted.end counted.rest ≡ Err e → labels_at from.end from.rest ≡ Err e
+pub table_labels_fail : (from counted : Span) (count : ℕ) (e : ReadFault)
+    → (u32_at from.end from.rest ≡ Ok (count, counted.rest)) × (counted.end ≡ from.end) → items_at u32_at count counted.end counted.rest ≡ Err e
+    → labels_at from.end from.rest ≡ Err e
 unfolding labels_at vector_at
 table_labels_fail from counted count e c h =
     let items : items_at u32_at count from.end counted.rest ≡ Err e = ap (λ (end : ℕ). items_at u32_at count end counted.rest) (sym c.1) ∙ h in
     rw (c.0, items) refl
 
-pub table_other_fails : (old mid : Scratch) (from counted labelled : Span) (count : ℕ) (e : ReadFault) → (u32_at from.end from.rest ≡ Ok (count, counted.rest)) × (counted.end ≡ from.end)
-    → ReadsLabels (items_at u32_at count counted.end counted.rest) old mid counted labelled → u32_at labelled.end labelled.rest ≡ Err e → labels_at from.end from.rest ≡ Err e
+pub table_other_fails : (old mid : Scratch) (from counted labelled : Span) (count : ℕ) (e : ReadFault)
+    → (u32_at from.end from.rest ≡ Ok (count, counted.rest)) × (counted.end ≡ from.end)
+    → ReadsLabels (items_at u32_at count counted.end counted.rest) old mid counted labelled → u32_at labelled.end labelled.rest ≡ Err e
+    → labels_at from.end from.rest ≡ Err e
 unfolding labels_at vector_at
 table_other_fails old mid from counted labelled count e c r h =
-    let items : items_at u32_at count from.end counted.rest ≡ Ok (r.labels, labelled.rest) = ap (λ (end : ℕ). items_at u32_at count end counted.rest) (sym c.1) ∙ r.is in
+    let items : items_at u32_at count from.end counted.rest ≡ Ok (r.labels, labelled.rest) =
+    ap (λ (end : ℕ). items_at u32_at count end counted.rest) (sym c.1) ∙ r.is in
     let last : u32_at from.end labelled.rest ≡ Err e = ap (λ (end : ℕ). u32_at end labelled.rest) (sym (r.same_end ∙ c.1)) ∙ h in
     rw (c.0, items, last) refl

@@ -27,14 +27,16 @@ same_front x a b bytes e le = omega (arith, ap length e, le)
 
 -- ---- vectors, of whose items no spelling is shorter than what is written
 
-module _ {A : Type 0} (SpellsItem : List ℕ → A → Type 0) (written : A → List ℕ) (each : (x : A) (b : List ℕ) → SpellsItem b x → length (written x) ≤ length b) where
+module _ {A : Type 0} (SpellsItem : List ℕ → A → Type 0) (written : A → List ℕ)
+    (each : (x : A) (b : List ℕ) → SpellsItem b x → length (written x) ≤ length b) where
   pub items_least : (xs : List A) (b : List ℕ) → SpellsItems SpellsItem b xs → length (flat_map written xs) ≤ length b
   items_least [] b s = omega arith
   items_least (x ∷ xs) b s = both_least (written x) (flat_map written xs) s.0 s.1 b s.2 (each x s.0 s.3) (items_least xs s.1 s.4)
 
   pub vector_least : (xs : List A) (b : List ℕ) → SpellsVector SpellsItem b xs → length (written_vector written xs) ≤ length b
   vector_least xs b s =
-      both_least (short (length xs)) (flat_map written xs) s.count s.items b s.parts (short-least 32 (length xs) s.count s.counts) (items_least xs s.items s.spelled)
+      both_least (short (length xs)) (flat_map written xs) s.count s.items b s.parts (short-least 32 (length xs) s.count s.counts)
+      (items_least xs s.items s.spelled)
 
 -- ---- instructions that hold no others
 
@@ -47,7 +49,8 @@ immediates_least Reserved b s = omega (arith, ap length s)
 immediates_least (Index x) b s = index_least x b s
 immediates_least (IndexReserved x) b s = both_least (short x) (0x00 ∷ []) s.0 (0x00 ∷ []) b s.2 (index_least x s.0 s.1) (omega arith)
 immediates_least (Labels labels other) b s =
-    both_least (written_vector short labels) (short other) s.0 s.1 b s.4 (vector_least (SpellsU 32) short index_least labels s.0 s.2) (index_least other s.1 s.3)
+    both_least (written_vector short labels) (short other) s.0 s.1 b s.4 (vector_least (SpellsU 32) short index_least labels s.0 s.2)
+    (index_least other s.1 s.3)
 immediates_least (Memarg align offset) b s = both_least (short align) (short offset) s.0 s.1 b s.4 (index_least align s.0 s.2) (index_least offset s.1 s.3)
 immediates_least (Signed bits z) b s = short_signed-least bits z b s
 immediates_least (Word size word) b s = omega (arith, length-bytes_low_first 0 size word, s.0)
@@ -104,7 +107,8 @@ enc_least profile (If ty first second rest) b s =
       enc_least profile rest s.3 s.7,
     )
 
-pub else_least : (profile : Profile) (second : Instrs) (d : List ℕ) → ((second ≡ Finish) × (d ≡ [])) ⊎ ((f : List ℕ) × Spells profile second f × (d ≡ 0x05 ∷ f)) → length (else_bytes second (enc second)) ≤ length d
+pub else_least : (profile : Profile) (second : Instrs) (d : List ℕ)
+    → ((second ≡ Finish) × (d ≡ [])) ⊎ ((f : List ℕ) × Spells profile second f × (d ≡ 0x05 ∷ f)) → length (else_bytes second (enc second)) ≤ length d
 else_least profile second d (inl none) = rw none.0 (omega arith)
 else_least profile second d (inr some) = omega (arith, ap length some.2, else_short second (enc second), enc_least profile second some.0 some.1)
 

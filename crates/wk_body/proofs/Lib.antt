@@ -29,7 +29,6 @@ pub mod MovedTrees
 pub mod Unmoved
 pub mod RefSets
 pub mod MovedRefs
-pub mod ShiftedCode
 pub mod OnlyShort
 pub mod WrittenSteps
 pub mod WrittenParts

@@ -31,7 +31,8 @@ wide_index_test both x y left more p q is =
       | inr ne ↦ (g.0, p, omega (arith, ne), g.1)
     ]
 
-pub wide_number_test : (both x y : ℕ) → bit_and both 0x8080 ≡ 0x0080 → (both / 64 ≡ 2 → ⊥) → not (eqb (both / 64) 511) ≡ true → x < 256 → y < 256 → both ≡ x + y * 256 → IsWideNumber x y
+pub wide_number_test : (both x y : ℕ) → bit_and both 0x8080 ≡ 0x0080 → (both / 64 ≡ 2 → ⊥) → not (eqb (both / 64) 511) ≡ true → x < 256 → y < 256
+    → both ≡ x + y * 256 → IsWideNumber x y
 wide_number_test both x y left above below p q is =
     let g = goes_on both x y p q is left in
     (g.0, p, g.1, λ e. omega (arith, g.0, is, e, above), λ e. omega (arith, p, is, e, unlike (both / 64) 511 below))

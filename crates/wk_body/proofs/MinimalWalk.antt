@@ -1,5 +1,6 @@
 -- A walk that passes over tokens that are as short as they may be.
-use Rattle.std.proofs.Common.{◌≡◌, ℕ, ◌+◌, ◌-◌, ◌^◌, ◌<◌, ◌≤◌, Bool, true, ltb, ℤ, pos, ◌-ℤ◌, inl, inr, List, [], ◌∷◌, length, get_or, drop, Option, Some, Ok, Err, refl, sym, ap, subst, ◌∙◌, arith, cond, ◌++◌, false, ◌/◌, ◌*◌, ◌⊎◌, eqb, length-append}
+use Rattle.std.proofs.Common.{◌≡◌, ℕ, ◌+◌, ◌-◌, ◌^◌, ◌<◌, ◌≤◌, Bool, true, ltb, ℤ, pos, ◌-ℤ◌, inl, inr, List, [], ◌∷◌, length, get_or, drop, Option, Some, Ok}
+use Rattle.std.proofs.Common.{Err, refl, sym, ap, subst, ◌∙◌, arith, cond, ◌++◌, false, ◌/◌, ◌*◌, ◌⊎◌, eqb, length-append}
 use Rattle.std.proofs.lemmas.Bool.{cases_lt, cases_eq, ne_eqb, le-leb, lt-ltb, le-ltb}
 use Rattle.std.proofs.lemmas.List.{drop_more, drop_at}
 use Rattle.wk_bytes.specs.declared.fault.ReadKind.TheVariants.{TooDeep}
@@ -44,7 +45,8 @@ pub unsigned_passed : (out : List ℕ) (w : Reencoder) (n m : ℕ) → m ≡ n +
 unsigned_passed out w n m next within low =
     let x = get_or w.cursor.rest n 0 in
     let parts : drop n w.cursor.rest ≡ x ∷ drop m w.cursor.rest = drop_more w.cursor.rest n 0 within ∙ ap (λ (k : ℕ). x ∷ drop k w.cursor.rest) (sym next) in
-    let read : u32_at w.cursor.end (drop n w.cursor.rest) ≡ Ok (x, drop m w.cursor.rest) = ap (u32_at w.cursor.end) parts ∙ u32_at-again w.cursor.end (x ∷ []) x (drop m w.cursor.rest) (low, omega arith, refl) in
+    let read : u32_at w.cursor.end (drop n w.cursor.rest) ≡ Ok (x, drop m w.cursor.rest) =
+    ap (u32_at w.cursor.end) parts ∙ u32_at-again w.cursor.end (x ∷ []) x (drop m w.cursor.rest) (low, omega arith, refl) in
     passed u32_at x (short x) (x ∷ []) out (later w n) (later w m) (read, refl) parts refl (sym (short-last x low))
 
 spelled : (N x : ℕ) → 64 ≤ 2 ^ (N - 1) → x < 128 → (z : ℤ) × SpellsS N (x ∷ []) z
@@ -60,7 +62,8 @@ signed_passed N out w n m wide next within low =
     let x = get_or w.cursor.rest n 0 in
     let s = spelled N x wide low in
     let parts : drop n w.cursor.rest ≡ x ∷ drop m w.cursor.rest = drop_more w.cursor.rest n 0 within ∙ ap (λ (k : ℕ). x ∷ drop k w.cursor.rest) (sym next) in
-    let read : signed_at N w.cursor.end (drop n w.cursor.rest) ≡ Ok (s.0, drop m w.cursor.rest) = ap (signed_at N w.cursor.end) parts ∙ signed_at-again N w.cursor.end (x ∷ []) s.0 (drop m w.cursor.rest) s.1 in
+    let read : signed_at N w.cursor.end (drop n w.cursor.rest) ≡ Ok (s.0, drop m w.cursor.rest) =
+    ap (signed_at N w.cursor.end) parts ∙ signed_at-again N w.cursor.end (x ∷ []) s.0 (drop m w.cursor.rest) s.1 in
     let long : length (x ∷ []) ≡ length (short_signed s.0) = omega (arith, short_signed-least N s.0 (x ∷ []) s.1, short_signed-some s.0) in
     (s.0, passed (signed_at N) s.0 (short_signed s.0) (x ∷ []) out (later w n) (later w m) (read, refl) parts refl (short_signed-only N s.0 (x ∷ []) s.1 long))
 
@@ -88,35 +91,42 @@ few (Some imms.Memarg) = omega arith
 few _ = omega arith
 
 pub few_bytes : (opcode : ℕ) → min_len opcode ≤ 3
-few_bytes opcode = cond_few (eqb opcode 0x0B) 1 _ (omega arith) (cond_few (eqb opcode 0x01) 0 _ (omega arith) (cond_few (eqb opcode 0x02) 2 _ (omega arith) (cond_few (eqb opcode 0x03) 2 _ (omega arith) (cond_few (eqb opcode 0x04) 2 _ (omega arith) (few (imm_kind_in (form_of Core opcode)))))))
+few_bytes opcode = cond_few (eqb opcode 0x0B) 1 _ (omega arith)
+    (cond_few (eqb opcode 0x01) 0 _ (omega arith)
+    (cond_few (eqb opcode 0x02) 2 _ (omega arith)
+    (cond_few (eqb opcode 0x03) 2 _ (omega arith) (cond_few (eqb opcode 0x04) 2 _ (omega arith) (few (imm_kind_in (form_of Core opcode)))))))
   where
     cond_few : (b : Bool) (n m : ℕ) → n ≤ 3 → m ≤ 3 → cond b n m ≤ 3
     cond_few true n m p q = p
     cond_few false n m p q = q
 
 module _ (profile : Profile) (opcode : ℕ) (out : List ℕ) (w : Reencoder) (n : ℕ) (within : n + 2 < length w.cursor.rest) where
-  behind_passed : (o : Option ImmediateKind) → o ≡ imm_kind_in (form_of Core opcode) → IsMinimal (plain_len o) (get_or w.cursor.rest (n + 1) 0) (get_or w.cursor.rest (n + 2) 0)
+  behind_passed : (o : Option ImmediateKind) → o ≡ imm_kind_in (form_of Core opcode)
+      → IsMinimal (plain_len o) (get_or w.cursor.rest (n + 1) 0) (get_or w.cursor.rest (n + 2) 0)
       → PassesPlain profile opcode out (later w (n + 1)) out (later w (n + plain_len o))
-  behind_passed (Some imms.Nothing) e b = nothing_passed profile opcode imms.Nothing (in_both profile opcode imms.Nothing e) out (later w (n + 1)) refl
+  behind_passed (Some imms.Nothing) e b = nothing_passed profile opcode (in_both profile opcode imms.Nothing e) out (later w (n + 1))
   behind_passed (Some imms.Index) e b =
-      index_passed profile opcode imms.Index (in_both profile opcode imms.Index e) (get_or w.cursor.rest (n + 1) 0) out out (later w (n + 1)) (later w (n + 2)) refl
+      index_passed profile opcode (in_both profile opcode imms.Index e) (get_or w.cursor.rest (n + 1) 0) out out (later w (n + 1)) (later w (n + 2))
       (unsigned_passed out w (n + 1) (n + 2) (omega arith) (omega arith) (b.1 (omega arith)))
   behind_passed (Some imms.Signed32) e b =
       let s = signed_passed 32 out w (n + 1) (n + 2) (omega arith) (omega arith) (omega arith) (b.1 (omega arith)) in
-      signed32_passed profile opcode imms.Signed32 (in_both profile opcode imms.Signed32 e) s.0 out out (later w (n + 1)) (later w (n + 2)) refl s.1
+      signed32_passed profile opcode (in_both profile opcode imms.Signed32 e) s.0 out out (later w (n + 1)) (later w (n + 2)) s.1
   behind_passed (Some imms.Signed64) e b =
       let s = signed_passed 64 out w (n + 1) (n + 2) (omega arith) (omega arith) (omega arith) (b.1 (omega arith)) in
-      signed64_passed profile opcode imms.Signed64 (in_both profile opcode imms.Signed64 e) s.0 out out (later w (n + 1)) (later w (n + 2)) refl s.1
+      signed64_passed profile opcode (in_both profile opcode imms.Signed64 e) s.0 out out (later w (n + 1)) (later w (n + 2)) s.1
   behind_passed (Some imms.Memarg) e b =
-      memarg_passed profile opcode imms.Memarg (in_both profile opcode imms.Memarg e) (get_or w.cursor.rest (n + 1) 0) (get_or w.cursor.rest (n + 2) 0) out out out (later w (n + 1)) (later w (n + 2)) (later w (n + 3)) refl
-      (unsigned_passed out w (n + 1) (n + 2) (omega arith) (omega arith) (b.1 (omega arith))) (unsigned_passed out w (n + 2) (n + 3) (omega arith) (omega arith) (b.2 (omega arith)))
+      memarg_passed profile opcode (in_both profile opcode imms.Memarg e) (get_or w.cursor.rest (n + 1) 0) (get_or w.cursor.rest (n + 2) 0) out out out
+      (later w (n + 1)) (later w (n + 2)) (later w (n + 3))
+      (unsigned_passed out w (n + 1) (n + 2) (omega arith) (omega arith) (b.1 (omega arith)))
+      (unsigned_passed out w (n + 2) (n + 3) (omega arith) (omega arith) (b.2 (omega arith)))
   behind_passed _ e b = absurd (omega (arith, b.0))
 
 -- none of these begins such an instruction
 module _ (opcode : ℕ) (some : 0 < plain_len (imm_kind_in (form_of Core opcode))) where
   no_else : opcode ≡ 0x05 → ⊥
   unfolding form_of
-  no_else e = let none : plain_len (imm_kind_in (form_of Core 0x05)) ≡ 0 = refl in omega (arith, none, ap (λ (o : ℕ). plain_len (imm_kind_in (form_of Core o))) e, some)
+  no_else e = let none : plain_len (imm_kind_in (form_of Core 0x05)) ≡ 0 = refl in
+      omega (arith, none, ap (λ (o : ℕ). plain_len (imm_kind_in (form_of Core o))) e, some)
 
 -- ---- tokens
 
@@ -130,13 +140,15 @@ short_type profile ks e end x rest few (inr (I64, is)) = (Value I64, rw (lt-ltb 
 short_type profile ks e end x rest few (inr (F32, is)) = (Value F32, rw (lt-ltb (length ks) depth_limit few, is) refl, ap (λ (b : ℕ). b ∷ []) is)
 short_type profile ks e end x rest few (inr (F64, is)) = (Value F64, rw (lt-ltb (length ks) depth_limit few, is) refl, ap (λ (b : ℕ). b ∷ []) is)
 
-type_passed : (profile : Profile) (ks : List Bool) (e : ReadFault) (out : List ℕ) (w : Reencoder) (n m : ℕ) → m ≡ n + 1 → n < length w.cursor.rest → length ks < depth_limit → IsShortType (get_or w.cursor.rest n 0)
+type_passed : (profile : Profile) (ks : List Bool) (e : ReadFault) (out : List ℕ) (w : Reencoder) (n m : ℕ) → m ≡ n + 1 → n < length w.cursor.rest
+    → length ks < depth_limit → IsShortType (get_or w.cursor.rest n 0)
     → (ty : BlockType) × Passes (type_here profile ks e) ty (type_bytes ty) out (later w n) out (later w m)
 type_passed profile ks e out w n m next within few is =
     let x = get_or w.cursor.rest n 0 in
     let parts : drop n w.cursor.rest ≡ x ∷ drop m w.cursor.rest = drop_more w.cursor.rest n 0 within ∙ ap (λ (k : ℕ). x ∷ drop k w.cursor.rest) (sym next) in
     let t = short_type profile ks e w.cursor.end x (drop m w.cursor.rest) few is in
-    let read : type_here profile ks e w.cursor.end (drop n w.cursor.rest) ≡ Ok (t.0, drop m w.cursor.rest) = ap (type_here profile ks e w.cursor.end) parts ∙ t.1 in
+    let read : type_here profile ks e w.cursor.end (drop n w.cursor.rest) ≡ Ok (t.0, drop m w.cursor.rest) =
+    ap (type_here profile ks e w.cursor.end) parts ∙ t.1 in
     (t.0, passed (type_here profile ks e) t.0 (type_bytes t.0) (x ∷ []) out (later w n) (later w m) (read, refl) parts refl t.2)
 
 -- numbers of blocks
@@ -146,7 +158,8 @@ number_some (k ∷ ks) = omega (arith, number_some ks)
 
 pub number_long : (ks : List Bool) → 2 ^ length ks ≤ number_of ks
 number_long [] = omega arith
-number_long (k ∷ ks) = let long : length (k ∷ ks) ≡ length ks + 1 = omega arith in omega (arith, number_long ks, pow-add 2 (length ks) 1, ap (λ (i : ℕ). 2 ^ i) long)
+number_long (k ∷ ks) = let long : length (k ∷ ks) ≡ length ks + 1 = omega arith in
+    omega (arith, number_long ks, pow-add 2 (length ks) 1, ap (λ (i : ℕ). 2 ^ i) long)
 
 pub few_blocks : (ks below : List Bool) → number_of ks ≤ 2 ^ 62 → length below + 64 ≤ depth_limit → length (ks ++ below) < depth_limit
 few_blocks ks below small room =
@@ -158,31 +171,40 @@ few_blocks ks below small room =
 -- the blocks open behind a token that passes
 abbrev pub Steps : Reencoder → ℕ → ℕ → List Bool → List Bool → List Bool → Type 0
 Steps w n m ks next below =
-    (profile : Profile) (before out : List ℕ) (first : Reencoder) → GoesOn profile before first (ks ++ below) out (later w n) → GoesOn profile before first (next ++ below) out (later w m)
+    (profile : Profile) (before out : List ℕ) (first : Reencoder) → GoesOn profile before first (ks ++ below) out (later w n)
+    → GoesOn profile before first (next ++ below) out (later w m)
 
-module _ (w : Reencoder) (n : ℕ) (ks below : List Bool) (within : n + 2 < length w.cursor.rest) (small : number_of ks ≤ 2 ^ 62) (room : length below + 64 ≤ depth_limit) where
+module _ (w : Reencoder) (n : ℕ) (ks below : List Bool) (within : n + 2 < length w.cursor.rest) (small : number_of ks ≤ 2 ^ 62)
+    (room : length below + 64 ≤ depth_limit) where
   at_opcode : Behind (get_or w.cursor.rest n 0) (later w n) (later w (n + 1))
   at_opcode = record { parts = drop_more w.cursor.rest n 0 (omega arith); same_end = refl; same_pending = refl }
 
   block_step : get_or w.cursor.rest n 0 ≡ 0x02 → IsShortType (get_or w.cursor.rest (n + 1) 0) → Steps w n (n + 2) ks (false ∷ ks) below
   block_step is ty profile before out first g =
       let at = w.cursor.end - length (drop n w.cursor.rest) in
-      let t = type_passed profile (ks ++ below) (record { kind = TooDeep; at = at }) out w (n + 1) (n + 2) (omega arith) (omega arith) (few_blocks ks below small room) ty in
-      block_goes profile before out out first (later w n) (later w (n + 1)) (later w (n + 2)) (ks ++ below) (false ∷ (ks ++ below)) (get_or w.cursor.rest n 0) at t.0 refl t.1 g is refl at_opcode
+      let t = type_passed profile (ks ++ below) (record { kind = TooDeep; at = at }) out w (n + 1) (n + 2) (omega arith) (omega arith)
+      (few_blocks ks below small room) ty in
+      block_goes profile before out out first (later w n) (later w (n + 1)) (later w (n + 2)) (ks ++ below) (false ∷ (ks ++ below))
+      (get_or w.cursor.rest n 0) at t.0 refl t.1 g is refl at_opcode
 
   loop_step : get_or w.cursor.rest n 0 ≡ 0x03 → IsShortType (get_or w.cursor.rest (n + 1) 0) → Steps w n (n + 2) ks (false ∷ ks) below
   loop_step is ty profile before out first g =
       let at = w.cursor.end - length (drop n w.cursor.rest) in
-      let t = type_passed profile (ks ++ below) (record { kind = TooDeep; at = at }) out w (n + 1) (n + 2) (omega arith) (omega arith) (few_blocks ks below small room) ty in
-      loop_goes profile before out out first (later w n) (later w (n + 1)) (later w (n + 2)) (ks ++ below) (false ∷ (ks ++ below)) (get_or w.cursor.rest n 0) at t.0 refl t.1 g is refl at_opcode
+      let t = type_passed profile (ks ++ below) (record { kind = TooDeep; at = at }) out w (n + 1) (n + 2) (omega arith) (omega arith)
+      (few_blocks ks below small room) ty in
+      loop_goes profile before out out first (later w n) (later w (n + 1)) (later w (n + 2)) (ks ++ below) (false ∷ (ks ++ below))
+      (get_or w.cursor.rest n 0) at t.0 refl t.1 g is refl at_opcode
 
   if_step : get_or w.cursor.rest n 0 ≡ 0x04 → IsShortType (get_or w.cursor.rest (n + 1) 0) → Steps w n (n + 2) ks (true ∷ ks) below
   if_step is ty profile before out first g =
       let at = w.cursor.end - length (drop n w.cursor.rest) in
-      let t = type_passed profile (ks ++ below) (record { kind = TooDeep; at = at }) out w (n + 1) (n + 2) (omega arith) (omega arith) (few_blocks ks below small room) ty in
-      if_goes profile before out out first (later w n) (later w (n + 1)) (later w (n + 2)) (ks ++ below) (true ∷ (ks ++ below)) (get_or w.cursor.rest n 0) at t.0 refl t.1 g is refl at_opcode
+      let t = type_passed profile (ks ++ below) (record { kind = TooDeep; at = at }) out w (n + 1) (n + 2) (omega arith) (omega arith)
+      (few_blocks ks below small room) ty in
+      if_goes profile before out out first (later w n) (later w (n + 1)) (later w (n + 2)) (ks ++ below) (true ∷ (ks ++ below))
+      (get_or w.cursor.rest n 0) at t.0 refl t.1 g is refl at_opcode
 
-  plain_step : (get_or w.cursor.rest n 0 ≡ 0x0B → ⊥) → (get_or w.cursor.rest n 0 ≡ 0x02 → ⊥) → (get_or w.cursor.rest n 0 ≡ 0x03 → ⊥) → (get_or w.cursor.rest n 0 ≡ 0x04 → ⊥) → (o : Option ImmediateKind) → o ≡ imm_kind_in (form_of Core (get_or w.cursor.rest n 0))
+  plain_step : (get_or w.cursor.rest n 0 ≡ 0x0B → ⊥) → (get_or w.cursor.rest n 0 ≡ 0x02 → ⊥) → (get_or w.cursor.rest n 0 ≡ 0x03 → ⊥)
+      → (get_or w.cursor.rest n 0 ≡ 0x04 → ⊥) → (o : Option ImmediateKind) → o ≡ imm_kind_in (form_of Core (get_or w.cursor.rest n 0))
       → IsMinimal (plain_len o) (get_or w.cursor.rest (n + 1) 0) (get_or w.cursor.rest (n + 2) 0) → Steps w n (n + plain_len o) ks ks below
   plain_step n0 n2 n3 n4 o is b profile before out first g =
       let opcode = get_or w.cursor.rest n 0 in
@@ -190,7 +212,8 @@ module _ (w : Reencoder) (n : ℕ) (ks below : List Bool) (within : n + 2 < leng
       plain_goes profile before out out first (later w n) (later w (n + 1)) (later w (n + plain_len o)) (ks ++ below) (ks ++ below) opcode
       n0 (no_else opcode some) n2 n3 n4 refl at_opcode (behind_passed profile opcode out w n within o is b) g
 
-end_step : (w : Reencoder) (n : ℕ) (k : Bool) (ks below : List Bool) → n + 2 < length w.cursor.rest → get_or w.cursor.rest n 0 ≡ 0x0B → Steps w n (n + 1) (k ∷ ks) ks below
+end_step : (w : Reencoder) (n : ℕ) (k : Bool) (ks below : List Bool) → n + 2 < length w.cursor.rest → get_or w.cursor.rest n 0 ≡ 0x0B
+    → Steps w n (n + 1) (k ∷ ks) ks below
 end_step w n k ks below within is profile before out first g =
     close_goes profile before out first (later w n) (later w (n + 1)) (k ∷ (ks ++ below)) (ks ++ below) (get_or w.cursor.rest n 0) is refl
     (record { parts = drop_more w.cursor.rest n 0 (omega arith); same_end = refl; same_pending = refl }) g
@@ -199,7 +222,8 @@ end_step w n k ks below within is profile before out first g =
 abbrev pub Passed : Reencoder → ℕ → ℕ → ℕ → List Bool → List Bool → Type 0
 Passed w n m number ks below = (next : List Bool) × (number ≡ number_of next) × Steps w n m ks next below
 
-end_passed : (w : Reencoder) (n : ℕ) (ks below : List Bool) → n + 2 < length w.cursor.rest → get_or w.cursor.rest n 0 ≡ 0x0B → 0 < number_of ks / 2 → Passed w n (n + 1) (number_of ks / 2) ks below
+end_passed : (w : Reencoder) (n : ℕ) (ks below : List Bool) → n + 2 < length w.cursor.rest → get_or w.cursor.rest n 0 ≡ 0x0B → 0 < number_of ks / 2
+    → Passed w n (n + 1) (number_of ks / 2) ks below
 end_passed w n [] below within is some = absurd (omega arith)
 end_passed w n (k ∷ ks) below within is some = (ks, halved k, end_step w n k ks below within is)
   where
@@ -207,7 +231,8 @@ end_passed w n (k ∷ ks) below within is some = (ks, halved k, end_step w n k k
     halved true = omega arith
     halved false = omega arith
 
-pub token_passed : (w : Reencoder) (n opcode len number : ℕ) (ks below : List Bool) → n + 2 < length w.cursor.rest → number_of ks ≤ 2 ^ 62 → length below + 64 ≤ depth_limit
+pub token_passed : (w : Reencoder) (n opcode len number : ℕ) (ks below : List Bool) → n + 2 < length w.cursor.rest → number_of ks ≤ 2 ^ 62
+    → length below + 64 ≤ depth_limit
     → opcode ≡ get_or w.cursor.rest n 0 → len ≡ min_len opcode → number ≡ blocks_after opcode (number_of ks) → 0 < number
     → IsMinimal len (get_or w.cursor.rest (n + 1) 0) (get_or w.cursor.rest (n + 2) 0)
     → ((opcode ≡ 0x02) ⊎ ((opcode ≡ 0x03) ⊎ (opcode ≡ 0x04)) → IsShortType (get_or w.cursor.rest (n + 1) 0))
@@ -225,17 +250,20 @@ token_passed w n opcode len number ks below within small room there long blocks 
           | inl e ↦
               let l : len ≡ 2 = long ∙ ap min_len e in
               let m : number ≡ 2 * number_of ks = blocks ∙ ap (λ (o : ℕ). blocks_after o (number_of ks)) e in
-              subst (λ (k : ℕ). Passed w n (n + k) number ks below) (sym l) (false ∷ ks, omega (arith, m), block_step w n ks below within small room (sym there ∙ e) (ty (inl e)))
+              subst (λ (k : ℕ). Passed w n (n + k) number ks below) (sym l)
+              (false ∷ ks, omega (arith, m), block_step w n ks below within small room (sym there ∙ e) (ty (inl e)))
           | inr n2 ↦ elim (cases_eq opcode 0x03) [
             | inl e ↦
                 let l : len ≡ 2 = long ∙ ap min_len e in
                 let m : number ≡ 2 * number_of ks = blocks ∙ ap (λ (o : ℕ). blocks_after o (number_of ks)) e in
-                subst (λ (k : ℕ). Passed w n (n + k) number ks below) (sym l) (false ∷ ks, omega (arith, m), loop_step w n ks below within small room (sym there ∙ e) (ty (inr (inl e))))
+                subst (λ (k : ℕ). Passed w n (n + k) number ks below) (sym l)
+                (false ∷ ks, omega (arith, m), loop_step w n ks below within small room (sym there ∙ e) (ty (inr (inl e))))
             | inr n3 ↦ elim (cases_eq opcode 0x04) [
               | inl e ↦
                   let l : len ≡ 2 = long ∙ ap min_len e in
                   let m : number ≡ 2 * number_of ks + 1 = blocks ∙ ap (λ (o : ℕ). blocks_after o (number_of ks)) e in
-                  subst (λ (k : ℕ). Passed w n (n + k) number ks below) (sym l) (true ∷ ks, omega (arith, m), if_step w n ks below within small room (sym there ∙ e) (ty (inr (inr e))))
+                  subst (λ (k : ℕ). Passed w n (n + k) number ks below) (sym l)
+                  (true ∷ ks, omega (arith, m), if_step w n ks below within small room (sym there ∙ e) (ty (inr (inr e))))
               | inr n4 ↦
                   let e0 : eqb opcode 0x0B ≡ false = ne_eqb opcode 0x0B n0 in
                   let e1 : eqb opcode 0x01 ≡ false = ne_eqb opcode 0x01 n1 in
@@ -247,8 +275,12 @@ token_passed w n opcode len number ks below within small room there long blocks 
                   let l : len ≡ plain_len o = long ∙ same ∙ ap (λ (x : ℕ). plain_len (imm_kind_in (form_of Core x))) there in
                   let kept : blocks_after opcode (number_of ks) ≡ number_of ks = rw (e0, e2, e3, e4) refl in
                   let here = subst (λ (k : ℕ). IsMinimal k (get_or w.cursor.rest (n + 1) 0) (get_or w.cursor.rest (n + 2) 0)) l b in
-                  subst (λ (k : ℕ). Passed w n (n + k) number ks below) (sym l)
-                  (ks, blocks ∙ kept, plain_step w n ks below within small room (λ e. n0 (there ∙ e)) (λ e. n2 (there ∙ e)) (λ e. n3 (there ∙ e)) (λ e. n4 (there ∙ e)) o refl here)
+                  subst (λ (k : ℕ). Passed w n (n + k) number ks below) (sym l) (
+                    ks,
+                    blocks ∙ kept,
+                    plain_step w n ks below within small room (λ e. n0 (there ∙ e)) (λ e. n2 (there ∙ e)) (λ e. n3 (there ∙ e))
+                        (λ e. n4 (there ∙ e)) o refl here,
+                  )
             ]
           ]
         ]
@@ -256,23 +288,28 @@ token_passed w n opcode len number ks below within small room there long blocks 
     ]
 
 -- a token more is passed
-pub passed_on : (w : Reencoder) (bytes : List ℕ) (n opcode len size blocks number : ℕ) (ks below : List Bool) → bytes ≡ w.cursor.rest → n + 2 < length bytes → blocks ≤ 2 ^ 62 → length below + 64 ≤ depth_limit
-    → opcode ≡ get_or bytes n 0 → len ≡ min_len opcode → number ≡ blocks_after opcode blocks → 0 < number → IsMinimal len (get_or bytes (n + 1) 0) (get_or bytes (n + 2) 0)
+pub passed_on : (w : Reencoder) (bytes : List ℕ) (n opcode len size blocks number : ℕ) (ks below : List Bool) → bytes ≡ w.cursor.rest
+    → n + 2 < length bytes → blocks ≤ 2 ^ 62 → length below + 64 ≤ depth_limit
+    → opcode ≡ get_or bytes n 0 → len ≡ min_len opcode → number ≡ blocks_after opcode blocks → 0 < number
+    → IsMinimal len (get_or bytes (n + 1) 0) (get_or bytes (n + 2) 0)
     → ((opcode ≡ 0x02) ⊎ ((opcode ≡ 0x03) ⊎ (opcode ≡ 0x04)) → IsShortType (get_or bytes (n + 1) 0)) → size ≡ len
     → BlocksPass w (later w n) blocks ks below → BlocksPass w (later w (n + size)) number ks below
 passed_on w bytes n opcode len size blocks number ks below same within small room there long after some b ty sized h =
-    let t = token_passed w n opcode len number h.0 below (omega (arith, ap length same)) (omega (arith, h.1)) room (there ∙ ap (λ (bs : List ℕ). get_or bs n 0) same) long
+    let t = token_passed w n opcode len number h.0 below (omega (arith, ap length same)) (omega (arith, h.1)) room
+    (there ∙ ap (λ (bs : List ℕ). get_or bs n 0) same) long
     (after ∙ ap (blocks_after opcode) h.1) some
     (subst (λ (bs : List ℕ). IsMinimal len (get_or bs (n + 1) 0) (get_or bs (n + 2) 0)) same b)
     (subst (λ (bs : List ℕ). (opcode ≡ 0x02) ⊎ ((opcode ≡ 0x03) ⊎ (opcode ≡ 0x04)) → IsShortType (get_or bs (n + 1) 0)) same ty) in
-    let all : BlocksPass w (later w (n + len)) number ks below = (t.0, t.1, λ profile before out first g. t.2 profile before out first (h.2 profile before out first g)) in
+    let all : BlocksPass w (later w (n + len)) number ks below =
+    (t.0, t.1, λ profile before out first g. t.2 profile before out first (h.2 profile before out first g)) in
     subst (λ (k : ℕ). BlocksPass w (later w (n + k)) number ks below) (sym sized) all
 
 -- so many bytes, and these blocks
 pub counted_on : (w : Reencoder) (n size number step blocks : ℕ) (ks below : List Bool) → step ≡ size → blocks ≡ number
     → BlocksPass w (later w (n + size)) number ks below → BlocksPass w (later w (n + step)) blocks ks below
 counted_on w n size number step blocks ks below sized numbered h =
-    subst (λ (k : ℕ). BlocksPass w (later w (n + k)) blocks ks below) (sym sized) (subst (λ (b : ℕ). BlocksPass w (later w (n + size)) b ks below) (sym numbered) h)
+    subst (λ (k : ℕ). BlocksPass w (later w (n + k)) blocks ks below) (sym sized)
+    (subst (λ (b : ℕ). BlocksPass w (later w (n + size)) b ks below) (sym numbered) h)
 
 -- ---- the bytes that are taken
 

@@ -28,13 +28,28 @@ type_moved kind from ty = refl
 
 pub refs_moved : (kind : Moving) (from : ℕ) (t : Instrs) → refs_of (shift_instrs kind from t) ≡ map (moved_ref kind from) (refs_of t)
 refs_moved kind from Finish = refl
-refs_moved kind from (One p rest) = rw (plain_moved kind from p, refs_moved kind from rest) (sym (map-append (moved_ref kind from) (plain_refs p) (refs_of rest)))
+refs_moved kind from (One p rest) = rw (plain_moved kind from p, refs_moved kind from rest)
+    (sym (map-append (moved_ref kind from) (plain_refs p) (refs_of rest)))
 refs_moved kind from (Block k ty inside rest) =
     let move = moved_ref kind from in
-    rw (refs_moved kind from inside, refs_moved kind from rest, map-append move (type_refs ty) (refs_of inside ++ refs_of rest), map-append move (refs_of inside) (refs_of rest), type_moved kind from ty) refl
+    rw (
+      refs_moved kind from inside,
+      refs_moved kind from rest,
+      map-append move (type_refs ty) (refs_of inside ++ refs_of rest),
+      map-append move (refs_of inside) (refs_of rest),
+      type_moved kind from ty,
+    ) refl
 refs_moved kind from (If ty first second rest) =
     let move = moved_ref kind from in
-    rw (refs_moved kind from first, refs_moved kind from second, refs_moved kind from rest, map-append move (type_refs ty) (refs_of first ++ (refs_of second ++ refs_of rest)), map-append move (refs_of first) (refs_of second ++ refs_of rest), map-append move (refs_of second) (refs_of rest), type_moved kind from ty) refl
+    rw (
+      refs_moved kind from first,
+      refs_moved kind from second,
+      refs_moved kind from rest,
+      map-append move (type_refs ty) (refs_of first ++ (refs_of second ++ refs_of rest)),
+      map-append move (refs_of first) (refs_of second ++ refs_of rest),
+      map-append move (refs_of second) (refs_of rest),
+      type_moved kind from ty,
+    ) refl
 
 -- ---- the same references, moved
 
@@ -69,7 +84,10 @@ own_type moving.Func from ty = refl
 own_type moving.Global from ty = refl
 
 -- what a function refers to after the move, by what it refers to before
-pub uses_moved : (kind : Moving) (from : ℕ) (ty : ℕ) (t : Instrs) (keys now : List Ref) → AreSame keys (refs.Ty ty ∷ refs_of t) → AreSame now (map (moved_ref kind from) keys) → AreSame now (refs.Ty ty ∷ refs_of (shift_instrs kind from t))
+pub uses_moved : (kind : Moving) (from : ℕ) (ty : ℕ) (t : Instrs) (keys now : List Ref) → AreSame keys (refs.Ty ty ∷ refs_of t)
+    → AreSame now (map (moved_ref kind from) keys) → AreSame now (refs.Ty ty ∷ refs_of (shift_instrs kind from t))
 uses_moved kind from ty t keys now before same =
-    let is : map (moved_ref kind from) (refs.Ty ty ∷ refs_of t) ≡ refs.Ty ty ∷ refs_of (shift_instrs kind from t) = rw (own_type kind from ty, refs_moved kind from t) refl in
-    same_then now (map (moved_ref kind from) keys) (refs.Ty ty ∷ refs_of (shift_instrs kind from t)) same (subst (AreSame (map (moved_ref kind from) keys)) is (same_moved (moved_ref kind from) keys (refs.Ty ty ∷ refs_of t) before))
+    let is : map (moved_ref kind from) (refs.Ty ty ∷ refs_of t) ≡ refs.Ty ty ∷ refs_of (shift_instrs kind from t) =
+    rw (own_type kind from ty, refs_moved kind from t) refl in
+    same_then now (map (moved_ref kind from) keys) (refs.Ty ty ∷ refs_of (shift_instrs kind from t)) same
+    (subst (AreSame (map (moved_ref kind from) keys)) is (same_moved (moved_ref kind from) keys (refs.Ty ty ∷ refs_of t) before))

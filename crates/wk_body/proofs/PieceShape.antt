@@ -13,7 +13,8 @@ use Rattle.wk_body.specs.declared.types.BlockType.{BlockType}
 use Rattle.wk_body.specs.declared.types.BlockType.TheVariants.{Empty, Value}
 use Rattle.wk_body.specs.declared.types.BlockType.TheVariants as types
 use Rattle.wk_body.specs.Vectors.{SpellsItems}
-use Rattle.wk_body.specs.Instructions.{Plain, plain_opcode, Immediates, Nothing, Reserved, Index, IndexReserved, Labels, Memarg, Signed, Word, immediates, Allows}
+use Rattle.wk_body.specs.Instructions.{Plain, plain_opcode, Immediates, Nothing, Reserved, Index, IndexReserved, Labels, Memarg, Signed, Word, immediates}
+use Rattle.wk_body.specs.Instructions.{Allows}
 use Rattle.wk_body.specs.Spelling.{SpellsImmediates, SpellsPlain, SpellsType}
 use Rattle.wk_body.specs.Shape.{IsU32, AreInRange, IsTypeInRange, AllowsType}
 
@@ -31,7 +32,8 @@ immediates_in_range Nothing b fits s = tt
 immediates_in_range Reserved b fits s = tt
 immediates_in_range (Index x) b fits s = SpellsU-below 32 b x s
 immediates_in_range (IndexReserved x) b fits s = SpellsU-below 32 s.0 x s.1
-immediates_in_range (Labels labels other) b fits s = (SpellsU-below 32 s.2.count (length labels) s.2.counts, labels_in_range labels s.2.items s.2.spelled, SpellsU-below 32 s.1 other s.3)
+immediates_in_range (Labels labels other) b fits s =
+    (SpellsU-below 32 s.2.count (length labels) s.2.counts, labels_in_range labels s.2.items s.2.spelled, SpellsU-below 32 s.1 other s.3)
 immediates_in_range (Memarg align offset) b fits s = (SpellsU-below 32 s.0 align s.2, SpellsU-below 32 s.1 offset s.3)
 immediates_in_range (Signed bits z) b fits s = SpellsS-fits bits b z s
 immediates_in_range (Word size w) b fits s = word_in_range size b w fits s

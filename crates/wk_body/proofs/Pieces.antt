@@ -1,5 +1,6 @@
 -- What the readers of single pieces read is spelled so, and what is spelled so is read.
-use Rattle.std.proofs.Common.{◌≡◌, ℕ, zero, suc, ◌+◌, ◌-◌, ◌^◌, ◌<◌, ◌≤◌, ℤ, pos, negsuc, false, cond, ltb, eqb, List, [], ◌∷◌, ◌++◌, length, Option, Some, None, Result, Ok, Err, refl, sym, ap, subst, ◌∙◌, append_assoc, arith, ◌⊎◌, inl, inr}
+use Rattle.std.proofs.Common.{◌≡◌, ℕ, zero, suc, ◌+◌, ◌-◌, ◌^◌, ◌<◌, ◌≤◌, ℤ, pos, negsuc, false, cond, ltb, eqb, List, [], ◌∷◌, ◌++◌, length, Option, Some}
+use Rattle.std.proofs.Common.{None, Result, Ok, Err, refl, sym, ap, subst, ◌∙◌, append_assoc, arith, ◌⊎◌, inl, inr}
 use Rattle.std.proofs.lemmas.Bool.{ltb-true, lt-ltb, eqb-true, ne_eqb, cases_lt}
 use Rattle.wk_bytes.specs.declared.fault.ReadKind.TheVariants.{BadByte, TooManyLocals}
 use Rattle.wk_bytes.specs.declared.fault.ReadFault.{ReadFault}
@@ -20,7 +21,9 @@ use Rattle.wk_body.specs.declared.types.LocalGroup.{LocalGroup}
 use Rattle.wk_body.specs.Bodies.{local_count}
 use Rattle.wk_body.specs.ValTypes.{valtype_byte, SpellsValType, valtype_of, valtype_at}
 use Rattle.wk_body.specs.Vectors.{SpellsItems, SpellsVector, items_at, vector_at}
-use Rattle.wk_body.specs.Instructions.{Plain, Unreachable, Nop, Br, BrIf, BrTable, Return, Call, CallIndirect, Drop, Select, LocalGet, LocalSet, LocalTee, GlobalGet, GlobalSet, Access, MemorySize, MemoryGrow, I32Const, I64Const, F32Const, F64Const, Numeric, plain_opcode, Immediates, Labels, immediates, Form, Alone, WithReserved, WithIndex, WithIndexReserved, WithLabels, WithMemarg, WithSigned, WithWord, last_opcode, form_of}
+use Rattle.wk_body.specs.Instructions.{Plain, Br, BrIf, BrTable, Call, CallIndirect, LocalGet, LocalSet, LocalTee, GlobalGet, GlobalSet, Access, MemorySize}
+use Rattle.wk_body.specs.Instructions.{MemoryGrow, I32Const, I64Const, F32Const, F64Const, plain_opcode, Immediates, Labels, immediates, Form, Alone}
+use Rattle.wk_body.specs.Instructions.{WithReserved, WithIndex, WithIndexReserved, WithLabels, WithMemarg, WithSigned, WithWord, last_opcode, form_of}
 use Rattle.wk_body.specs.Spelling.{SpellsImmediates, SpellsPlain, SpellsType, SpellsGroup}
 use Rattle.wk_body.specs.Reading.{reserved_at, labels_at, behind_form, plain_at, index_of, index_at, or_value, type_at, groups_at}
 use Rattle.wk_body.proofs.Table.{Makes, form_of-makes, form_for, form_of-for, no_opcode}
@@ -36,7 +39,8 @@ pub record Took {A : Type 0} (S : A → List ℕ → Type 0) (bytes : List ℕ) 
 abbrev pub TookBy : {A : Type 0} → (List ℕ → A → Type 0) → List ℕ → A × List ℕ → Type 0
 TookBy Spells = Took (λ v b. Spells b v)
 
-pub took : {A : Type 0} (S : A → List ℕ → Type 0) (bytes : List ℕ) (x : A × List ℕ) (front : List ℕ) → IsBytes bytes → S x.0 front → bytes ≡ front ++ x.1 → Took S bytes x
+pub took : {A : Type 0} (S : A → List ℕ → Type 0) (bytes : List ℕ) (x : A × List ℕ) (front : List ℕ) → IsBytes bytes → S x.0 front
+    → bytes ≡ front ++ x.1 → Took S bytes x
 took S bytes x front fits s e = record { front = front; spelled = s; parts = e; rest_fits = IsBytes-after front x.1 bytes e fits }
 
 -- one after another
@@ -69,9 +73,11 @@ reserved_at-again end rest = refl
 
 module _ {A : Type 0} (Spells : List ℕ → A → Type 0) (read : ℕ → List ℕ → Result (A × List ℕ) ReadFault) where
   pub items_take : ((end : ℕ) (bytes : List ℕ) (x : A × List ℕ) → IsBytes bytes → read end bytes ≡ Ok x → TookBy Spells bytes x)
-      → (n end : ℕ) (bytes : List ℕ) (x : List A × List ℕ) → IsBytes bytes → items_at read n end bytes ≡ Ok x → TookBy (SpellsItems Spells) bytes x × (length x.0 ≡ n)
+      → (n end : ℕ) (bytes : List ℕ) (x : List A × List ℕ) → IsBytes bytes → items_at read n end bytes ≡ Ok x
+      → TookBy (SpellsItems Spells) bytes x × (length x.0 ≡ n)
   items_take takes zero end bytes x fits e =
-      subst (λ (r : List A × List ℕ). TookBy (SpellsItems Spells) bytes r × (length r.0 ≡ 0)) (ok_is ([], bytes) x e) (took (λ v b. SpellsItems Spells b v) bytes ([], bytes) [] fits refl refl, refl)
+      subst (λ (r : List A × List ℕ). TookBy (SpellsItems Spells) bytes r × (length r.0 ≡ 0)) (ok_is ([], bytes) x e)
+      (took (λ v b. SpellsItems Spells b v) bytes ([], bytes) [] fits refl refl, refl)
   items_take takes (suc n) end bytes x fits e =
       let a = bind_ok (read end bytes) (λ y. items_at read n end y.1 >>= λ ys. Ok (y.0 ∷ ys.0, ys.1)) x e in
       let b = bind_ok (items_at read n end a.0.1) (λ ys. Ok (a.0.0 ∷ ys.0, ys.1)) x a.2 in
@@ -96,7 +102,14 @@ module _ {A : Type 0} (Spells : List ℕ → A → Type 0) (read : ℕ → List 
       let more = items_take takes a.0.0 end a.0.1 x one.rest_fits a.2 in
       record {
         front = one.front ++ more.0.front;
-        spelled = record { count = one.front; items = more.0.front; parts = refl; counts = subst (SpellsU 32 one.front) (sym more.1) one.spelled; spelled = more.0.spelled };
+        spelled = record {
+          count = one.front;
+          items = more.0.front;
+          parts = refl;
+          counts =
+              subst (SpellsU 32 one.front) (sym more.1) one.spelled;
+          spelled = more.0.spelled;
+        };
         parts = joined one.front more.0.front x.1 a.0.1 bytes one.parts more.0.parts;
         rest_fits = more.0.rest_fits;
       }
@@ -105,13 +118,15 @@ module _ {A : Type 0} (Spells : List ℕ → A → Type 0) (read : ℕ → List 
       → (xs : List A) (end : ℕ) (front rest : List ℕ) → SpellsItems Spells front xs → items_at read (length xs) end (front ++ rest) ≡ Ok (xs, rest)
   items_again again [] end front rest s = rw s refl
   items_again again (x ∷ xs) end front rest s =
-      ap (items_at read (suc (length xs)) end) (regrouped s.0 s.1 rest front s.2) ∙ rw (again end s.0 x (s.1 ++ rest) s.3, items_again again xs end s.1 rest s.4) refl
+      ap (items_at read (suc (length xs)) end) (regrouped s.0 s.1 rest front s.2)
+      ∙ rw (again end s.0 x (s.1 ++ rest) s.3, items_again again xs end s.1 rest s.4) refl
 
   pub vector_again : ((end : ℕ) (b : List ℕ) (y : A) (rest : List ℕ) → Spells b y → read end (b ++ rest) ≡ Ok (y, rest))
       → (xs : List A) (end : ℕ) (front rest : List ℕ) → SpellsVector Spells front xs → vector_at read end (front ++ rest) ≡ Ok (xs, rest)
   unfolding vector_at
   vector_again again xs end front rest s =
-      ap (vector_at read end) (regrouped s.count s.items rest front s.parts) ∙ rw (u32_at-again end s.count (length xs) (s.items ++ rest) s.counts, items_again again xs end s.items rest s.spelled) refl
+      ap (vector_at read end) (regrouped s.count s.items rest front s.parts)
+      ∙ rw (u32_at-again end s.count (length xs) (s.items ++ rest) s.counts, items_again again xs end s.items rest s.spelled) refl
 
 -- ---- value types
 
@@ -139,7 +154,8 @@ valtype_takes end bytes x fits e =
     let b = bind_ok (or_fail (valtype_of a.0.0) (fault BadByte end bytes)) (λ t. Ok (t, a.0.1)) x a.2 in
     let is = valtype_of-byte a.0.0 b.0 (or_fail_ok (valtype_of a.0.0) (fault BadByte end bytes) b.0 b.1) in
     subst (TookBy SpellsValType bytes) (ok_is (b.0, a.0.1) x b.2)
-    (took (λ v b. SpellsValType b v) bytes (b.0, a.0.1) (valtype_byte b.0 ∷ []) fits refl (byte_at-takes end bytes a.0.0 a.0.1 a.1 ∙ ap (λ (c : ℕ). c ∷ a.0.1) is))
+    (took (λ v b. SpellsValType b v) bytes (b.0, a.0.1) (valtype_byte b.0 ∷ []) fits refl
+    (byte_at-takes end bytes a.0.0 a.0.1 a.1 ∙ ap (λ (c : ℕ). c ∷ a.0.1) is))
 
 pub valtype_again : (end : ℕ) (front : List ℕ) (t : ValType) (rest : List ℕ) → SpellsValType front t → valtype_at end (front ++ rest) ≡ Ok (t, rest)
 unfolding valtype_at byte_at
@@ -154,7 +170,8 @@ index_of-ok : (z : ℤ) (e : ReadFault) (x : ℕ) → index_of z e ≡ Ok x → 
 index_of-ok (pos n) e x h = ap pos (ok_is n x h)
 index_of-ok (negsuc n) e x h = absurd cc
 
-index_takes : (profile : Profile) (end : ℕ) (bytes : List ℕ) (x : BlockType × List ℕ) → IsBytes bytes → index_at profile end bytes ≡ Ok x → Took (SpellsType profile) bytes x
+index_takes : (profile : Profile) (end : ℕ) (bytes : List ℕ) (x : BlockType × List ℕ) → IsBytes bytes → index_at profile end bytes ≡ Ok x
+    → Took (SpellsType profile) bytes x
 unfolding index_at
 index_takes Core end bytes x fits e = absurd cc
 index_takes Extended end bytes x fits e =
@@ -165,11 +182,13 @@ index_takes Extended end bytes x fits e =
     subst (Took (SpellsType Extended) bytes) (ok_is (types.Index b.0, a.0.1) x b.2)
     (took (SpellsType Extended) bytes (types.Index b.0, a.0.1) f.0 fits (refl, subst (SpellsS 33 f.0) is f.1) f.2)
 
-or_value-ok : (o : Option ValType) (rest : List ℕ) (otherwise : Result (BlockType × List ℕ) ReadFault) (x : BlockType × List ℕ) → or_value o rest otherwise ≡ Ok x → ((t : ValType) × (o ≡ Some t) × ((Value t, rest) ≡ x)) ⊎ (otherwise ≡ Ok x)
+or_value-ok : (o : Option ValType) (rest : List ℕ) (otherwise : Result (BlockType × List ℕ) ReadFault) (x : BlockType × List ℕ)
+    → or_value o rest otherwise ≡ Ok x → ((t : ValType) × (o ≡ Some t) × ((Value t, rest) ≡ x)) ⊎ (otherwise ≡ Ok x)
 or_value-ok (Some t) rest otherwise x e = inl (t, refl, ok_is (Value t, rest) x e)
 or_value-ok None rest otherwise x e = inr e
 
-pub type_takes : (profile : Profile) (end : ℕ) (bytes : List ℕ) (x : BlockType × List ℕ) → IsBytes bytes → type_at profile end bytes ≡ Ok x → Took (SpellsType profile) bytes x
+pub type_takes : (profile : Profile) (end : ℕ) (bytes : List ℕ) (x : BlockType × List ℕ) → IsBytes bytes → type_at profile end bytes ≡ Ok x
+    → Took (SpellsType profile) bytes x
 unfolding type_at
 type_takes profile end bytes x fits e =
     let a = bind_ok (byte_at end bytes) (λ y. cond (eqb y.0 0x40) (Ok (Empty, y.1)) (or_value (valtype_of y.0) y.1 (index_at profile end bytes))) x e in
@@ -181,7 +200,8 @@ type_takes profile end bytes x fits e =
       | inr p ↦ elim (or_value-ok (valtype_of a.0.0) a.0.1 (index_at profile end bytes) x p.1) [
         | inl q ↦
             subst (Took (SpellsType profile) bytes) q.2
-            (took (SpellsType profile) bytes (Value q.0, a.0.1) (valtype_byte q.0 ∷ []) fits refl (parts ∙ ap (λ (c : ℕ). c ∷ a.0.1) (valtype_of-byte a.0.0 q.0 q.1)))
+            (took (SpellsType profile) bytes (Value q.0, a.0.1) (valtype_byte q.0 ∷ []) fits refl
+            (parts ∙ ap (λ (c : ℕ). c ∷ a.0.1) (valtype_of-byte a.0.0 q.0 q.1)))
         | inr q ↦ index_takes profile end bytes x fits q
       ]
     ]
@@ -196,8 +216,14 @@ first_of_index (b ∷ []) x (inr s) =
 first_of_index (b ∷ c ∷ front) x s = (b, c ∷ front, refl, inr s.0)
 
 no_valtype : (b : ℕ) → (b < 64) ⊎ (128 ≤ b) → (eqb b 0x40 ≡ false) × (valtype_of b ≡ None)
-no_valtype b (inl low) = (ne_eqb b 0x40 (λ h. omega arith), rw (ne_eqb b 0x7F (λ h. omega arith), ne_eqb b 0x7E (λ h. omega arith), ne_eqb b 0x7D (λ h. omega arith), ne_eqb b 0x7C (λ h. omega arith)) refl)
-no_valtype b (inr high) = (ne_eqb b 0x40 (λ h. omega arith), rw (ne_eqb b 0x7F (λ h. omega arith), ne_eqb b 0x7E (λ h. omega arith), ne_eqb b 0x7D (λ h. omega arith), ne_eqb b 0x7C (λ h. omega arith)) refl)
+no_valtype b (inl low) = (
+  ne_eqb b 0x40 (λ h. omega arith),
+  rw (ne_eqb b 0x7F (λ h. omega arith), ne_eqb b 0x7E (λ h. omega arith), ne_eqb b 0x7D (λ h. omega arith), ne_eqb b 0x7C (λ h. omega arith)) refl,
+)
+no_valtype b (inr high) = (
+  ne_eqb b 0x40 (λ h. omega arith),
+  rw (ne_eqb b 0x7F (λ h. omega arith), ne_eqb b 0x7E (λ h. omega arith), ne_eqb b 0x7D (λ h. omega arith), ne_eqb b 0x7C (λ h. omega arith)) refl,
+)
 
 index_first : (end b : ℕ) (later : List ℕ) → (b < 64) ⊎ (128 ≤ b) → type_at Extended end (b ∷ later) ≡ index_at Extended end (b ∷ later)
 unfolding type_at byte_at
@@ -209,7 +235,8 @@ index_again : (end x : ℕ) (front rest : List ℕ) → SpellsS 33 front (pos x)
 unfolding index_at
 index_again end x front rest s = rw (signed_at-again 33 end front (pos x) rest s) refl
 
-pub type_again : (profile : Profile) (end : ℕ) (t : BlockType) (front rest : List ℕ) → SpellsType profile t front → type_at profile end (front ++ rest) ≡ Ok (t, rest)
+pub type_again : (profile : Profile) (end : ℕ) (t : BlockType) (front rest : List ℕ) → SpellsType profile t front
+    → type_at profile end (front ++ rest) ≡ Ok (t, rest)
 unfolding type_at byte_at
 type_again profile end Empty front rest s = rw s refl
 type_again profile end (Value I32) front rest s = rw s refl
@@ -228,9 +255,11 @@ type_again profile end (types.Index x) front rest s =
 
 -- so many groups from the front, behind groups that declare so many locals
 abbrev pub TookGroups : ℕ → ℕ → List ℕ → List LocalGroup × List ℕ → Type 0
-TookGroups n sum bytes x = (front : List ℕ) × SpellsItems SpellsGroup front x.0 × (bytes ≡ front ++ x.1) × IsBytes x.1 × (length x.0 ≡ n) × (sum < 2 ^ 32 → sum + local_count x.0 < 2 ^ 32)
+TookGroups n sum bytes x = (front : List ℕ) × SpellsItems SpellsGroup front x.0 × (bytes ≡ front ++ x.1) × IsBytes x.1 × (length x.0 ≡ n)
+    × (sum < 2 ^ 32 → sum + local_count x.0 < 2 ^ 32)
 
-one_more : (n sum count : ℕ) (ty : ValType) (a b bytes behind middle : List ℕ) (x y : List LocalGroup × List ℕ) → SpellsU 32 a count → bytes ≡ a ++ behind → SpellsValType b ty → behind ≡ b ++ middle → sum + count < 2 ^ 32
+one_more : (n sum count : ℕ) (ty : ValType) (a b bytes behind middle : List ℕ) (x y : List LocalGroup × List ℕ) → SpellsU 32 a count
+    → bytes ≡ a ++ behind → SpellsValType b ty → behind ≡ b ++ middle → sum + count < 2 ^ 32
     → TookGroups n (sum + count) middle x → (record { count = count; ty = ty } ∷ x.0, x.1) ≡ y → TookGroups (suc n) sum bytes y
 one_more n sum count ty a b bytes behind middle x y counts first types second below more is =
     subst (TookGroups (suc n) sum bytes) is (
@@ -246,19 +275,27 @@ pub groups_take : (n sum end : ℕ) (bytes : List ℕ) (x : List LocalGroup × L
 unfolding groups_at
 groups_take zero sum end bytes x fits e = subst (TookGroups 0 sum bytes) (ok_is ([], bytes) x e) ([], refl, refl, fits, refl, λ h. omega arith)
 groups_take (suc n) sum end bytes x fits e =
-    let a = bind_ok (u32_at end bytes) (λ count. cond (ltb (sum + count.0) (2 ^ 32)) (valtype_at end count.1 >>= λ ty. groups_at n (sum + count.0) end ty.1 >>= λ gs. Ok (record { count = count.0; ty = ty.0 } ∷ gs.0, gs.1)) (Err (fault TooManyLocals end bytes))) x e in
-    elim (chosen (ltb (sum + a.0.0) (2 ^ 32)) (valtype_at end a.0.1 >>= λ ty. groups_at n (sum + a.0.0) end ty.1 >>= λ gs. Ok (record { count = a.0.0; ty = ty.0 } ∷ gs.0, gs.1)) (Err (fault TooManyLocals end bytes)) (Ok x) a.2) [
+    let a = bind_ok (u32_at end bytes)
+    (λ count. cond (ltb (sum + count.0) (2 ^ 32))
+    (valtype_at end count.1 >>= λ ty. groups_at n (sum + count.0) end ty.1 >>= λ gs. Ok (record { count = count.0; ty = ty.0 } ∷ gs.0, gs.1))
+    (Err (fault TooManyLocals end bytes))) x e in
+    elim (chosen (ltb (sum + a.0.0) (2 ^ 32))
+    (valtype_at end a.0.1 >>= λ ty. groups_at n (sum + a.0.0) end ty.1 >>= λ gs. Ok (record { count = a.0.0; ty = ty.0 } ∷ gs.0, gs.1))
+    (Err (fault TooManyLocals end bytes)) (Ok x) a.2) [
       | inl p ↦
-          let b = bind_ok (valtype_at end a.0.1) (λ ty. groups_at n (sum + a.0.0) end ty.1 >>= λ gs. Ok (record { count = a.0.0; ty = ty.0 } ∷ gs.0, gs.1)) x p.1 in
+          let b = bind_ok (valtype_at end a.0.1)
+          (λ ty. groups_at n (sum + a.0.0) end ty.1 >>= λ gs. Ok (record { count = a.0.0; ty = ty.0 } ∷ gs.0, gs.1)) x p.1 in
           let c = bind_ok (groups_at n (sum + a.0.0) end b.0.1) (λ gs. Ok (record { count = a.0.0; ty = b.0.0 } ∷ gs.0, gs.1)) x b.2 in
           let counts = u32_takes end bytes a.0 fits a.1 in
           let ty = valtype_takes end a.0.1 b.0 counts.rest_fits b.1 in
           let more = groups_take n (sum + a.0.0) end b.0.1 c.0 ty.rest_fits c.1 in
-          one_more n sum a.0.0 b.0.0 counts.front ty.front bytes a.0.1 b.0.1 c.0 x counts.spelled counts.parts ty.spelled ty.parts (ltb-true _ _ p.0) more (ok_is (record { count = a.0.0; ty = b.0.0 } ∷ c.0.0, c.0.1) x c.2)
+          one_more n sum a.0.0 b.0.0 counts.front ty.front bytes a.0.1 b.0.1 c.0 x counts.spelled counts.parts ty.spelled ty.parts
+          (ltb-true _ _ p.0) more (ok_is (record { count = a.0.0; ty = b.0.0 } ∷ c.0.0, c.0.1) x c.2)
       | inr p ↦ absurd cc
     ]
 
-pub groups_again : (gs : List LocalGroup) (sum end : ℕ) (front rest : List ℕ) → SpellsItems SpellsGroup front gs → sum + local_count gs < 2 ^ 32 → groups_at (length gs) sum end (front ++ rest) ≡ Ok (gs, rest)
+pub groups_again : (gs : List LocalGroup) (sum end : ℕ) (front rest : List ℕ) → SpellsItems SpellsGroup front gs → sum + local_count gs < 2 ^ 32
+    → groups_at (length gs) sum end (front ++ rest) ≡ Ok (gs, rest)
 unfolding groups_at
 groups_again [] sum end front rest s few = rw s refl
 groups_again (g ∷ gs) sum end front rest s few =
@@ -282,7 +319,8 @@ IsBehind x p a = (plain_opcode p ≡ x) × SpellsImmediates (immediates p) a
 is_behind : (x : ℕ) (p : Plain) (i : Immediates) (a : List ℕ) → (plain_opcode p ≡ x) × (immediates p ≡ i) → SpellsImmediates i a → IsBehind x p a
 is_behind x p i a m s = (m.0, subst (λ (j : Immediates). SpellsImmediates j a) (sym m.1) s)
 
-labels_take : (end : ℕ) (bytes : List ℕ) (x : (List ℕ × ℕ) × List ℕ) → IsBytes bytes → labels_at end bytes ≡ Ok x → Took (λ v a. SpellsImmediates (Labels v.0 v.1) a) bytes x
+labels_take : (end : ℕ) (bytes : List ℕ) (x : (List ℕ × ℕ) × List ℕ) → IsBytes bytes → labels_at end bytes ≡ Ok x
+    → Took (λ v a. SpellsImmediates (Labels v.0 v.1) a) bytes x
 unfolding labels_at
 labels_take end bytes x fits e =
     let ls = bind_ok (vector_at u32_at end bytes) (λ ls. u32_at end ls.1 >>= λ other. Ok ((ls.0, other.0), other.1)) x e in
@@ -292,7 +330,8 @@ labels_take end bytes x fits e =
     let all : List ℕ = one.front ++ two.front in
     let Labelled = λ (v : List ℕ × ℕ) (a : List ℕ). SpellsImmediates (Labels v.0 v.1) a in
     subst (Took Labelled bytes) (ok_is ((ls.0.0, o.0.0), o.0.1) x o.2)
-    (took Labelled bytes ((ls.0.0, o.0.0), o.0.1) all fits (one.front, two.front, one.spelled, two.spelled, refl {a = all}) (joined one.front two.front o.0.1 ls.0.1 bytes one.parts two.parts))
+    (took Labelled bytes ((ls.0.0, o.0.0), o.0.1) all fits (one.front, two.front, one.spelled, two.spelled, refl {a = all})
+    (joined one.front two.front o.0.1 ls.0.1 bytes one.parts two.parts))
 
 behind_takes : (f : Form) (x end : ℕ) (rest : List ℕ) (y : Plain × List ℕ) → Makes x f → IsBytes rest → behind_form f end rest ≡ Ok y → Took (IsBehind x) rest y
 unfolding behind_form
@@ -300,23 +339,27 @@ behind_takes (Alone p) x end rest y m fits e =
     subst (Took (IsBehind x) rest) (ok_is (p, rest) y e) (took (IsBehind x) rest (p, rest) [] fits (is_behind x p _ [] m refl) refl)
 behind_takes (WithReserved p) x end rest y m fits e =
     let z = bind_ok (reserved_at end rest) (λ z. Ok (p, z.1)) y e in
-    subst (Took (IsBehind x) rest) (ok_is (p, z.0.1) y z.2) (took (IsBehind x) rest (p, z.0.1) (0 ∷ []) fits (is_behind x p _ (0 ∷ []) m refl) (reserved_at-takes end rest z.0 z.1))
+    subst (Took (IsBehind x) rest) (ok_is (p, z.0.1) y z.2)
+    (took (IsBehind x) rest (p, z.0.1) (0 ∷ []) fits (is_behind x p _ (0 ∷ []) m refl) (reserved_at-takes end rest z.0 z.1))
 behind_takes (WithIndex make) x end rest y m fits e =
     let n = bind_ok (u32_at end rest) (λ n. Ok (make n.0, n.1)) y e in
     let one = u32_takes end rest n.0 fits n.1 in
-    subst (Took (IsBehind x) rest) (ok_is (make n.0.0, n.0.1) y n.2) (took (IsBehind x) rest (make n.0.0, n.0.1) one.front fits (is_behind x (make n.0.0) _ one.front (m n.0.0) one.spelled) one.parts)
+    subst (Took (IsBehind x) rest) (ok_is (make n.0.0, n.0.1) y n.2)
+    (took (IsBehind x) rest (make n.0.0, n.0.1) one.front fits (is_behind x (make n.0.0) _ one.front (m n.0.0) one.spelled) one.parts)
 behind_takes (WithIndexReserved make) x end rest y m fits e =
     let n = bind_ok (u32_at end rest) (λ n. reserved_at end n.1 >>= λ z. Ok (make n.0, z.1)) y e in
     let z = bind_ok (reserved_at end n.0.1) (λ z. Ok (make n.0.0, z.1)) y n.2 in
     let one = u32_takes end rest n.0 fits n.1 in
     let all : List ℕ = one.front ++ 0 ∷ [] in
     subst (Took (IsBehind x) rest) (ok_is (make n.0.0, z.0.1) y z.2)
-    (took (IsBehind x) rest (make n.0.0, z.0.1) all fits (is_behind x (make n.0.0) _ all (m n.0.0) (one.front, one.spelled, refl {a = all})) (joined one.front (0 ∷ []) z.0.1 n.0.1 rest one.parts (reserved_at-takes end n.0.1 z.0 z.1)))
+    (took (IsBehind x) rest (make n.0.0, z.0.1) all fits (is_behind x (make n.0.0) _ all (m n.0.0) (one.front, one.spelled, refl {a = all}))
+    (joined one.front (0 ∷ []) z.0.1 n.0.1 rest one.parts (reserved_at-takes end n.0.1 z.0 z.1)))
 behind_takes (WithLabels make) x end rest y m fits e =
     let ls = bind_ok (labels_at end rest) (λ ls. Ok (make ls.0.0 ls.0.1, ls.1)) y e in
     let one = labels_take end rest ls.0 fits ls.1 in
     subst (Took (IsBehind x) rest) (ok_is (make ls.0.0.0 ls.0.0.1, ls.0.1) y ls.2)
-    (took (IsBehind x) rest (make ls.0.0.0 ls.0.0.1, ls.0.1) one.front fits (is_behind x (make ls.0.0.0 ls.0.0.1) _ one.front (m ls.0.0.0 ls.0.0.1) one.spelled) one.parts)
+    (took (IsBehind x) rest (make ls.0.0.0 ls.0.0.1, ls.0.1) one.front fits
+    (is_behind x (make ls.0.0.0 ls.0.0.1) _ one.front (m ls.0.0.0 ls.0.0.1) one.spelled) one.parts)
 behind_takes (WithMemarg make) x end rest y m fits e =
     let n = bind_ok (u32_at end rest) (λ n. u32_at end n.1 >>= λ o. Ok (make n.0 o.0, o.1)) y e in
     let o = bind_ok (u32_at end n.0.1) (λ o. Ok (make n.0.0 o.0, o.1)) y n.2 in
@@ -324,17 +367,22 @@ behind_takes (WithMemarg make) x end rest y m fits e =
     let two = u32_takes end n.0.1 o.0 one.rest_fits o.1 in
     let all : List ℕ = one.front ++ two.front in
     subst (Took (IsBehind x) rest) (ok_is (make n.0.0 o.0.0, o.0.1) y o.2)
-    (took (IsBehind x) rest (make n.0.0 o.0.0, o.0.1) all fits (is_behind x (make n.0.0 o.0.0) _ all (m n.0.0 o.0.0) (one.front, two.front, one.spelled, two.spelled, refl {a = all})) (joined one.front two.front o.0.1 n.0.1 rest one.parts two.parts))
+    (took (IsBehind x) rest (make n.0.0 o.0.0, o.0.1) all fits
+    (is_behind x (make n.0.0 o.0.0) _ all (m n.0.0 o.0.0) (one.front, two.front, one.spelled, two.spelled, refl {a = all}))
+    (joined one.front two.front o.0.1 n.0.1 rest one.parts two.parts))
 behind_takes (WithSigned bits make) x end rest y m fits e =
     let z = bind_ok (signed_at bits end rest) (λ z. Ok (make z.0, z.1)) y e in
     let f = signed_at-found bits end rest z.0.0 z.0.1 fits z.1 in
-    subst (Took (IsBehind x) rest) (ok_is (make z.0.0, z.0.1) y z.2) (took (IsBehind x) rest (make z.0.0, z.0.1) f.0 fits (is_behind x (make z.0.0) _ f.0 (m z.0.0) f.1) f.2)
+    subst (Took (IsBehind x) rest) (ok_is (make z.0.0, z.0.1) y z.2)
+    (took (IsBehind x) rest (make z.0.0, z.0.1) f.0 fits (is_behind x (make z.0.0) _ f.0 (m z.0.0) f.1) f.2)
 behind_takes (WithWord size make) x end rest y m fits e =
     let w = bind_ok (word_at size end rest) (λ w. Ok (make w.0, w.1)) y e in
     let f = word_at-found size end rest w.0.0 w.0.1 w.1 in
-    subst (Took (IsBehind x) rest) (ok_is (make w.0.0, w.0.1) y w.2) (took (IsBehind x) rest (make w.0.0, w.0.1) f.0 fits (is_behind x (make w.0.0) _ f.0 (m w.0.0) f.1) f.2)
+    subst (Took (IsBehind x) rest) (ok_is (make w.0.0, w.0.1) y w.2)
+    (took (IsBehind x) rest (make w.0.0, w.0.1) f.0 fits (is_behind x (make w.0.0) _ f.0 (m w.0.0) f.1) f.2)
 
-pub plain_takes : (profile : Profile) (e : ReadFault) (opcode end : ℕ) (rest : List ℕ) (x : Plain × List ℕ) → IsBytes rest → plain_at profile e opcode end rest ≡ Ok x → Took (SpellsPlain profile) (opcode ∷ rest) x
+pub plain_takes : (profile : Profile) (e : ReadFault) (opcode end : ℕ) (rest : List ℕ) (x : Plain × List ℕ) → IsBytes rest
+    → plain_at profile e opcode end rest ≡ Ok x → Took (SpellsPlain profile) (opcode ∷ rest) x
 unfolding plain_at
 plain_takes profile e opcode end rest x fits h =
     let f = bind_ok (or_fail (form_of profile opcode) e) (λ f. behind_form f end rest) x h in
@@ -357,11 +405,13 @@ reserved_behind : (p : Plain) (end : ℕ) (a rest : List ℕ) → a ≡ 0 ∷ []
 unfolding behind_form
 reserved_behind p end a rest s = rw (s, reserved_at-again end rest) refl
 
-signed_behind : (bits : ℕ) (make : ℤ → Plain) (z : ℤ) (end : ℕ) (a rest : List ℕ) → SpellsS bits a z → behind_form (WithSigned bits make) end (a ++ rest) ≡ Ok (make z, rest)
+signed_behind : (bits : ℕ) (make : ℤ → Plain) (z : ℤ) (end : ℕ) (a rest : List ℕ) → SpellsS bits a z
+    → behind_form (WithSigned bits make) end (a ++ rest) ≡ Ok (make z, rest)
 unfolding behind_form
 signed_behind bits make z end a rest s = rw (signed_at-again bits end a z rest s) refl
 
-word_behind : (size : ℕ) (make : ℕ → Plain) (w end : ℕ) (a rest : List ℕ) → SpellsWord size a w → behind_form (WithWord size make) end (a ++ rest) ≡ Ok (make w, rest)
+word_behind : (size : ℕ) (make : ℕ → Plain) (w end : ℕ) (a rest : List ℕ) → SpellsWord size a w
+    → behind_form (WithWord size make) end (a ++ rest) ≡ Ok (make w, rest)
 unfolding behind_form
 word_behind size make w end a rest s = rw (word_at-again size end a w rest s) refl
 
@@ -371,20 +421,15 @@ alone_behind p end a rest s = rw s refl
 
 behind_again : (p : Plain) (end : ℕ) (a rest : List ℕ) → SpellsImmediates (immediates p) a → behind_form (form_for p) end (a ++ rest) ≡ Ok (p, rest)
 unfolding behind_form labels_at
-behind_again Unreachable end a rest s = alone_behind Unreachable end a rest s
-behind_again Nop end a rest s = alone_behind Nop end a rest s
 behind_again (Br label) end a rest s = index_behind Br label end a rest s
 behind_again (BrIf label) end a rest s = index_behind BrIf label end a rest s
 behind_again (BrTable labels other) end a rest s =
     ap (behind_form (WithLabels BrTable) end) (regrouped s.0 s.1 rest a s.4)
     ∙ rw (vector_again (SpellsU 32) u32_at u32_at-again labels end s.0 (s.1 ++ rest) s.2, u32_at-again end s.1 other rest s.3) refl
-behind_again Return end a rest s = alone_behind Return end a rest s
 behind_again (Call x) end a rest s = index_behind Call x end a rest s
 behind_again (CallIndirect x) end a rest s =
     ap (behind_form (WithIndexReserved CallIndirect) end) (regrouped s.0 (0 ∷ []) rest a s.2)
     ∙ rw (u32_at-again end s.0 x (0 ∷ rest) s.1, reserved_at-again end rest) refl
-behind_again Drop end a rest s = alone_behind Drop end a rest s
-behind_again Select end a rest s = alone_behind Select end a rest s
 behind_again (LocalGet x) end a rest s = index_behind LocalGet x end a rest s
 behind_again (LocalSet x) end a rest s = index_behind LocalSet x end a rest s
 behind_again (LocalTee x) end a rest s = index_behind LocalTee x end a rest s
@@ -399,7 +444,7 @@ behind_again (I32Const z) end a rest s = signed_behind 32 I32Const z end a rest 
 behind_again (I64Const z) end a rest s = signed_behind 64 I64Const z end a rest s
 behind_again (F32Const word) end a rest s = word_behind 4 F32Const word end a rest s
 behind_again (F64Const word) end a rest s = word_behind 8 F64Const word end a rest s
-behind_again (Numeric op) end a rest s = alone_behind (Numeric op) end a rest s
+behind_again p end a rest s = alone_behind p end a rest s
 
 -- The opcode at the front of a plain instruction, and what is behind it
 pub record Headed (profile : Profile) (p : Plain) (front : List ℕ) : Type 0 where

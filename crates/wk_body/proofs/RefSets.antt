@@ -89,8 +89,10 @@ by_place k x xs Less h p r = (
   λ a. elim a [ inl e ↦ among_right r (x ∷ xs) (k ∷ []) (inl e) | inr b ↦ among_left r (x ∷ xs) (k ∷ []) b ],
   λ a. elim (among_parts r (x ∷ xs) (k ∷ []) a) [ inl b ↦ inr b | inr b ↦ elim b [ inl e ↦ inl e | inr never ↦ absurd never ] ],
 )
-by_place k x xs Equal h p r =
-    (λ a. among_left r (x ∷ xs) (k ∷ []) a, λ a. elim (among_parts r (x ∷ xs) (k ∷ []) a) [ inl b ↦ b | inr b ↦ elim b [ inl e ↦ inl (e ∙ h) | inr never ↦ absurd never ] ])
+by_place k x xs Equal h p r = (
+  λ a. among_left r (x ∷ xs) (k ∷ []) a,
+  λ a. elim (among_parts r (x ∷ xs) (k ∷ []) a) [ inl b ↦ b | inr b ↦ elim b [ inl e ↦ inl (e ∙ h) | inr never ↦ absurd never ] ],
+)
 by_place k x xs Greater h p r = (λ a. elim a [ inl e ↦ inl e | inr b ↦ inr ((p r).0 b) ], λ a. elim a [ inl e ↦ inl e | inr b ↦ inr ((p r).1 b) ])
 
 pub same_insert : (k : Ref) (ks : List Ref) → AreSame (insert_key cmp ks k) (ks ++ k ∷ [])
@@ -109,7 +111,11 @@ same_more k xs old new p g r =
     )
 
 pub gains_none : (old new : List Ref) → new ≡ old → Gains old new []
-gains_none old new e = record { rising = λ h. subst AreRising (sym e) h; same = subst (λ (ks : List Ref). AreSame new ks) (e ∙ sym (append-nil old)) (same_self new) }
+gains_none old new e = record {
+  rising = λ h. subst AreRising (sym e) h;
+  same =
+      subst (λ (ks : List Ref). AreSame new ks) (e ∙ sym (append-nil old)) (same_self new);
+}
 
 pub gains_then : (a b c xs ys : List Ref) → Gains a b xs → Gains b c ys → Gains a c (xs ++ ys)
 gains_then a b c xs ys p q = record {
@@ -174,13 +180,16 @@ named_takes_none t false h = refl
 collects_then : (a b c xs ys : List Ref) (i j k : Bool) → Collects a i b j xs → Collects b j c k ys → Collects a i c k (xs ++ ys)
 collects_then a b c xs ys i j k p q = record {
   rising = λ h. q.rising (p.rising h);
-  same = subst (AreSame (beside c k)) (append_assoc (beside a i) xs ys) (same_then (beside c k) (beside b j ++ ys) ((beside a i ++ xs) ++ ys) q.same (same_front (beside b j) (beside a i ++ xs) ys p.same));
+  same = subst (AreSame (beside c k)) (append_assoc (beside a i) xs ys)
+      (same_then (beside c k) (beside b j ++ ys) ((beside a i ++ xs) ++ ys) q.same (same_front (beside b j) (beside a i ++ xs) ys p.same));
 }
 
-pub collects_token : (old new : List Ref) (was is : Bool) (front : List Token) (t : Token) → Collects [] false old was (flat_map tok_refs (all_told [] front)) → Collects old was new is (tok_refs (told [] t))
+pub collects_token : (old new : List Ref) (was is : Bool) (front : List Token) (t : Token)
+    → Collects [] false old was (flat_map tok_refs (all_told [] front)) → Collects old was new is (tok_refs (told [] t))
     → Collects [] false new is (flat_map tok_refs (all_told [] (front ++ t ∷ [])))
 collects_token old new was is front t p q =
-    rw (map-append (told []) front (t ∷ []), flat_map-append tok_refs (all_told [] front) (told [] t ∷ []), append-nil (tok_refs (told [] t))) (collects_then [] old new (flat_map tok_refs (all_told [] front)) (tok_refs (told [] t)) false was is p q)
+    rw (map-append (told []) front (t ∷ []), flat_map-append tok_refs (all_told [] front) (told [] t ∷ []), append-nil (tok_refs (told [] t)))
+    (collects_then [] old new (flat_map tok_refs (all_told [] front)) (tok_refs (told [] t)) false was is p q)
 
 -- the memory is put in at the end
 pub gains_memory : (keys new rs : List Ref) → Collects [] false keys true rs → Gains keys new (Memory ∷ []) → Gains [] new rs

@@ -1,12 +1,14 @@
 -- What the token at an offset is to a walk that passes over it while references move.
-use Rattle.std.proofs.Common.{◌≡◌, ℕ, suc, ◌+◌, ◌<◌, ◌^◌, ◌⊎◌, inl, inr, Option, Some, List, [], ◌∷◌, ◌++◌, length, drop, get_or, refl, sym, ap, subst, ◌∙◌, arith}
+use Rattle.std.proofs.Common.{◌≡◌, ℕ, suc, ◌+◌, ◌<◌, ◌^◌, ◌⊎◌, inl, inr, Option, Some, List, [], ◌∷◌, ◌++◌, length, drop, get_or, refl, sym, ap, subst, ◌∙◌}
+use Rattle.std.proofs.Common.{arith}
 use Rattle.std.proofs.lemmas.List.{drop_more}
 use Rattle.byteorder.specs.Endian.{little_bytes}
 use Rattle.byteorder.specs.Numbers.{length-bytes_low_first}
 use Rattle.wk_bytes.specs.Short.{short, short_signed}
 use Rattle.wk_body.specs.declared.shifts.Shifts.{Shifts}
 use Rattle.wk_body.specs.declared.types.BlockKind.TheVariants as kinds
-use Rattle.wk_body.specs.Instructions.{Plain, BrTable, Call, GlobalGet, GlobalSet, Access, F32Const, F64Const, Numeric, plain_opcode, Immediates, Nothing, Reserved, Index, IndexReserved, Labels, Memarg, Signed, Word, immediates, form_of}
+use Rattle.wk_body.specs.Instructions.{Plain, BrTable, Call, GlobalGet, GlobalSet, Access, F32Const, F64Const, Numeric, plain_opcode, Immediates, Nothing}
+use Rattle.wk_body.specs.Instructions.{Reserved, Index, IndexReserved, Labels, Memarg, Signed, Word, immediates, form_of}
 use Rattle.wk_body.specs.Shape.{AreInRange}
 use Rattle.wk_body.specs.Tree.{Tok, Simple, Open, OpenIf, Otherwise, Close}
 use Rattle.wk_body.specs.Vectors.{written_vector}
@@ -60,11 +62,15 @@ pub record IsReference (t : Tok) : Type 0 where
 abbrev pub Sort : Tok → Type 0
 Sort t = IsRegular t ⊎ (IsTable t ⊎ (IsWord t ⊎ IsReference t))
 
-regular : (t : Tok) (opcode : ℕ) (behind : List ℕ) (count : ℕ) → tok_bytes t ≡ opcode ∷ behind → stride opcode ≡ suc count → AreIntegers count behind → ((s : Shifts) → shifted_tok s t ≡ t) → Sort t
-regular t opcode behind count bytes long integers stays = inl (record { opcode = opcode; behind = behind; bytes = bytes; count = count; long = long; integers = integers; stays = stays })
+regular : (t : Tok) (opcode : ℕ) (behind : List ℕ) (count : ℕ) → tok_bytes t ≡ opcode ∷ behind → stride opcode ≡ suc count → AreIntegers count behind
+    → ((s : Shifts) → shifted_tok s t ≡ t) → Sort t
+regular t opcode behind count bytes long integers stays = inl
+    (record { opcode = opcode; behind = behind; bytes = bytes; count = count; long = long; integers = integers; stays = stays })
 
-word : (t : Tok) (opcode size : ℕ) (behind : List ℕ) → tok_bytes t ≡ opcode ∷ behind → IsSized opcode size → length behind ≡ size → ((s : Shifts) → shifted_tok s t ≡ t) → Sort t
-word t opcode size behind bytes sized long stays = inr (inr (inl (record { opcode = opcode; size = size; behind = behind; bytes = bytes; sized = sized; long = long; stays = stays })))
+word : (t : Tok) (opcode size : ℕ) (behind : List ℕ) → tok_bytes t ≡ opcode ∷ behind → IsSized opcode size → length behind ≡ size
+    → ((s : Shifts) → shifted_tok s t ≡ t) → Sort t
+word t opcode size behind bytes sized long stays =
+    inr (inr (inl (record { opcode = opcode; size = size; behind = behind; bytes = bytes; sized = sized; long = long; stays = stays })))
 
 zero_byte : IsInteger (0x00 ∷ [])
 zero_byte = omega arith
@@ -101,8 +107,10 @@ plain_sort : (p : Plain) → AreInRange (immediates p) → Sort (Simple p)
 unfolding form_of
 plain_sort (BrTable labels other) r = inr (inl (record { labels = labels; other = other; bytes = refl; few = r.0; stays = λ s. refl }))
 plain_sort (Call x) r = inr (inr (inr (record { opcode = 0x10; index = x; bytes = refl; small = r; refers = inl refl; moves = λ s. refl; fits = λ s h. h })))
-plain_sort (GlobalGet x) r = inr (inr (inr (record { opcode = 0x23; index = x; bytes = refl; small = r; refers = inr (inl refl); moves = λ s. refl; fits = λ s h. h })))
-plain_sort (GlobalSet x) r = inr (inr (inr (record { opcode = 0x24; index = x; bytes = refl; small = r; refers = inr (inr refl); moves = λ s. refl; fits = λ s h. h })))
+plain_sort (GlobalGet x) r =
+    inr (inr (inr (record { opcode = 0x23; index = x; bytes = refl; small = r; refers = inr (inl refl); moves = λ s. refl; fits = λ s h. h })))
+plain_sort (GlobalSet x) r =
+    inr (inr (inr (record { opcode = 0x24; index = x; bytes = refl; small = r; refers = inr (inr refl); moves = λ s. refl; fits = λ s h. h })))
 plain_sort (F32Const w) r = word (Simple (F32Const w)) 0x43 4 (little_bytes 4 w) refl (inl (refl, refl)) (length-bytes_low_first 0 4 w) (λ s. refl)
 plain_sort (F64Const w) r = word (Simple (F64Const w)) 0x44 8 (little_bytes 8 w) refl (inr (refl, refl)) (length-bytes_low_first 0 8 w) (λ s. refl)
 plain_sort (Access op align offset) r = regular_plain (Access op align offset) tt (memory_stride op) (λ s. refl)
@@ -111,8 +119,10 @@ plain_sort p r = regular_plain p tt refl (λ s. refl)
 
 pub sort : (t : Tok) → IsTokInRange t → Sort t
 sort (Simple p) r = plain_sort p r
-sort (Open kinds.Block ty skip) r = regular (Open kinds.Block ty skip) 0x02 (type_bytes ty) 1 refl refl (one_integer (type_bytes ty) (type_integer ty)) (λ s. refl)
-sort (Open kinds.Loop ty skip) r = regular (Open kinds.Loop ty skip) 0x03 (type_bytes ty) 1 refl refl (one_integer (type_bytes ty) (type_integer ty)) (λ s. refl)
+sort (Open kinds.Block ty skip) r = regular (Open kinds.Block ty skip) 0x02 (type_bytes ty) 1 refl refl (one_integer (type_bytes ty) (type_integer ty))
+    (λ s. refl)
+sort (Open kinds.Loop ty skip) r = regular (Open kinds.Loop ty skip) 0x03 (type_bytes ty) 1 refl refl (one_integer (type_bytes ty) (type_integer ty))
+    (λ s. refl)
 sort (OpenIf ty skip) r = regular (OpenIf ty skip) 0x04 (type_bytes ty) 1 refl refl (one_integer (type_bytes ty) (type_integer ty)) (λ s. refl)
 sort (Otherwise skip) r = regular (Otherwise skip) 0x05 [] 0 refl refl refl (λ s. refl)
 sort Close r = regular Close 0x0B [] 0 refl refl refl (λ s. refl)
@@ -149,7 +159,8 @@ word_is_none opcode size count (inl d) long = let none : stride opcode ≡ 0 = a
 word_is_none opcode size count (inr d) long = let none : stride opcode ≡ 0 = ap stride d.0 in omega (arith, long, none)
 
 -- the opcode at an offset, and what stands behind it
-pub front_at : (code : List ℕ) (at opcode other : ℕ) (bytes behind later : List ℕ) → at < length code → opcode ≡ get_or code at 0 → drop at code ≡ bytes ++ later → bytes ≡ other ∷ behind → (opcode ≡ other) × (drop (at + 1) code ≡ behind ++ later)
+pub front_at : (code : List ℕ) (at opcode other : ℕ) (bytes behind later : List ℕ) → at < length code → opcode ≡ get_or code at 0
+    → drop at code ≡ bytes ++ later → bytes ≡ other ∷ behind → (opcode ≡ other) × (drop (at + 1) code ≡ behind ++ later)
 front_at code at opcode other bytes behind later lt there ahead is =
     let e : get_or code at 0 ∷ drop (at + 1) code ≡ other ∷ (behind ++ later) = sym (drop_more code at 0 lt) ∙ ahead ∙ ap (λ (b : List ℕ). b ++ later) is in
     (there ∙ cc, cc)
@@ -159,11 +170,13 @@ module _ (code : List ℕ) (at opcode : ℕ) (result : Option ℕ) (lt : at < le
   abbrev Found : Tok → List ℕ → Type 0
   Found t later = IsTokInRange t → drop at code ≡ tok_bytes t ++ later → result ≡ Some (at + length (tok_bytes t))
 
-  abbrev found_behind : (t : Tok) (other : ℕ) (behind : List ℕ) → tok_bytes t ≡ other ∷ behind → result ≡ Some (at + 1 + length behind) → result ≡ Some (at + length (tok_bytes t))
+  abbrev found_behind : (t : Tok) (other : ℕ) (behind : List ℕ) → tok_bytes t ≡ other ∷ behind → result ≡ Some (at + 1 + length behind)
+      → result ≡ Some (at + length (tok_bytes t))
   found_behind t other behind bytes e = e ∙ ap Some (omega (arith, ap length bytes))
 
   pub regular_found : (opcode ≡ 0x0E → ⊥) → (opcode ≡ 0x43 → ⊥) → (opcode ≡ 0x44 → ⊥)
-      → ((count : ℕ) (front later : List ℕ) → stride opcode ≡ suc count → AreIntegers count front → drop (at + 1) code ≡ front ++ later → result ≡ Some (at + 1 + length front)) → (t : Tok) (later : List ℕ) → Found t later
+      → ((count : ℕ) (front later : List ℕ) → stride opcode ≡ suc count → AreIntegers count front → drop (at + 1) code ≡ front ++ later
+      → result ≡ Some (at + 1 + length front)) → (t : Tok) (later : List ℕ) → Found t later
   regular_found no_table no_word no_other exact t later r ahead =
       elim (sort t r) [
         | inl f ↦
@@ -183,7 +196,9 @@ module _ (code : List ℕ) (at opcode : ℕ) (result : Option ℕ) (lt : at < le
       no_words first second other size same (inr d) = second (same ∙ d.0)
 
   pub table_found : opcode ≡ 0x0E
-      → ((labels : List ℕ) (other : ℕ) (later : List ℕ) → length labels < 2 ^ 32 → drop (at + 1) code ≡ (written_vector short labels ++ short other) ++ later → result ≡ Some (at + 1 + length (written_vector short labels ++ short other)))
+      → ((labels : List ℕ) (other : ℕ) (later : List ℕ) → length labels < 2 ^ 32
+      → drop (at + 1) code ≡ (written_vector short labels ++ short other) ++ later
+      → result ≡ Some (at + 1 + length (written_vector short labels ++ short other)))
       → (t : Tok) (later : List ℕ) → Found t later
   table_found is exact t later r ahead =
       elim (sort t r) [

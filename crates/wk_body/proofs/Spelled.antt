@@ -64,7 +64,8 @@ expr_shaped profile t bytes fits s = record {
 tree_allowed : (profile : Profile) (t : Instrs) (bytes : List ℕ) → Spells profile t bytes → IsOf profile t
 tree_allowed profile Finish bytes s = tt
 tree_allowed profile (One p rest) bytes s = (plain_allowed profile p s.0 s.2, tree_allowed profile rest s.1 s.3)
-tree_allowed profile (Block kind ty inside rest) bytes s = (type_allowed profile ty s.0 s.3, tree_allowed profile inside s.1 s.4, tree_allowed profile rest s.2 s.5)
+tree_allowed profile (Block kind ty inside rest) bytes s =
+    (type_allowed profile ty s.0 s.3, tree_allowed profile inside s.1 s.4, tree_allowed profile rest s.2 s.5)
 tree_allowed profile (If ty first second rest) bytes s = (
   type_allowed profile ty s.0 s.4,
   tree_allowed profile first s.1 s.5,
@@ -99,7 +100,15 @@ pub expr_alike : SpellAlike SpellsExpr
 expr_alike t bytes s = record { front = s.front; spelled = tree_alike t s.front s.spelled; whole = s.whole; shallow = s.shallow }
 
 pub body_alike : SpellAlike SpellsBody
-body_alike b bytes s = record { locals = s.locals; code = s.code; parts = s.parts; grouped = s.grouped; spelled = expr_alike b.instrs s.code s.spelled; groups = s.groups }
+body_alike b bytes s = record {
+  locals = s.locals;
+  code = s.code;
+  parts = s.parts;
+  grouped = s.grouped;
+  spelled =
+      expr_alike b.instrs s.code s.spelled;
+  groups = s.groups;
+}
 
 -- ---- each in one way
 

@@ -1,6 +1,7 @@
 -- The table of instructions from both sides: the form of an opcode makes the instructions of that opcode, and each
 -- instruction has the form of its opcode.
-use Rattle.std.proofs.Common.{◌≡◌, ℕ, zero, suc, ◌+◌, ◌-◌, ◌<◌, ◌≤◌, ℤ, Bool, true, false, cond, ltb, leb, eqb, inl, inr, List, [], ◌∷◌, Option, Some, None, refl, sym, ap, subst, ◌∙◌, arith}
+use Rattle.std.proofs.Common.{◌≡◌, ℕ, zero, suc, ◌+◌, ◌-◌, ◌<◌, ◌≤◌, ℤ, Bool, true, false, cond, ltb, leb, eqb, inl, inr, List, [], ◌∷◌, Option, Some, None}
+use Rattle.std.proofs.Common.{refl, sym, ap, subst, ◌∙◌, arith}
 use Rattle.std.specs.Prelude.{slice_get, ◌&&◌, ◌||◌, not, is_some}
 use Rattle.std.specs.List.{AllByRecursion}
 use Rattle.std.proofs.lemmas.Bool.{ltb-true, ltb-false, leb-true, eqb-true, ne_eqb, le-ltb, le-leb, lt-leb, and_parts, cases_lt}
@@ -13,7 +14,10 @@ use Rattle.wk_body.specs.declared.numeric.NumericOp.{NumericOp}
 use Rattle.wk_body.specs.Numeric.{numeric_opcode, numeric_ops, numeric_of}
 use Rattle.wk_body.specs.MemoryOps.{memory_opcode, memory_ops, memory_of}
 use Rattle.wk_body.specs.OpcodeLaws.{any_form-memory, any_form-numeric}
-use Rattle.wk_body.specs.Instructions.{Plain, Unreachable, Nop, Br, BrIf, BrTable, Return, Call, CallIndirect, Drop, Select, LocalGet, LocalSet, LocalTee, GlobalGet, GlobalSet, Access, MemorySize, MemoryGrow, I32Const, I64Const, F32Const, F64Const, Numeric, plain_opcode, Nothing, Reserved, Index, IndexReserved, Labels, Memarg, Signed, Word, immediates, Form, Alone, WithReserved, WithIndex, WithIndexReserved, WithLabels, WithMemarg, WithSigned, WithWord, rows, find_row, numeric_form, memory_form, any_form, last_opcode, form_of, Allows}
+use Rattle.wk_body.specs.Instructions.{Plain, Br, BrIf, BrTable, Call, CallIndirect, LocalGet, LocalSet, LocalTee, GlobalGet, GlobalSet, Access, MemorySize}
+use Rattle.wk_body.specs.Instructions.{MemoryGrow, I32Const, I64Const, F32Const, F64Const, Numeric, plain_opcode, Nothing, Reserved, Index, IndexReserved}
+use Rattle.wk_body.specs.Instructions.{Labels, Memarg, Signed, Word, immediates, Form, Alone, WithReserved, WithIndex, WithIndexReserved, WithLabels}
+use Rattle.wk_body.specs.Instructions.{WithMemarg, WithSigned, WithWord, rows, find_row, numeric_form, memory_form, any_form, last_opcode, form_of, Allows}
 use Rattle.wk_body.proofs.ByteTables.{all_below, below}
 
 -- ---- the opcode of an instruction that an opcode finds
@@ -62,15 +66,19 @@ module _ (P : ℕ → Form → Type 0) where
         | inr p ↦ of_row rs x f all.1 p.1
       ]
 
-  of_numeric : ((op : NumericOp) → P (numeric_opcode op) (Alone (Numeric op))) → (x : ℕ) (o : Option NumericOp) (f : Form) → ((op : NumericOp) → o ≡ Some op → numeric_opcode op ≡ x) → numeric_form o ≡ Some f → P x f
+  of_numeric : ((op : NumericOp) → P (numeric_opcode op) (Alone (Numeric op))) → (x : ℕ) (o : Option NumericOp) (f : Form)
+      → ((op : NumericOp) → o ≡ Some op → numeric_opcode op ≡ x) → numeric_form o ≡ Some f → P x f
   of_numeric each x None f is e = absurd cc
   of_numeric each x (Some op) f is e = subst (P x) (some_is (Alone (Numeric op)) f e) (subst (λ (y : ℕ). P y (Alone (Numeric op))) (is op refl) (each op))
 
-  of_memory : ((op : MemoryOp) → P (memory_opcode op) (WithMemarg (Access op))) → (x : ℕ) (o : Option MemoryOp) (f : Form) → ((op : MemoryOp) → o ≡ Some op → memory_opcode op ≡ x) → memory_form o ≡ Some f → P x f
+  of_memory : ((op : MemoryOp) → P (memory_opcode op) (WithMemarg (Access op))) → (x : ℕ) (o : Option MemoryOp) (f : Form)
+      → ((op : MemoryOp) → o ≡ Some op → memory_opcode op ≡ x) → memory_form o ≡ Some f → P x f
   of_memory each x None f is e = absurd cc
-  of_memory each x (Some op) f is e = subst (P x) (some_is (WithMemarg (Access op)) f e) (subst (λ (y : ℕ). P y (WithMemarg (Access op))) (is op refl) (each op))
+  of_memory each x (Some op) f is e = subst (P x) (some_is (WithMemarg (Access op)) f e)
+      (subst (λ (y : ℕ). P y (WithMemarg (Access op))) (is op refl) (each op))
 
-  of_opcode : OfRows rows → ((op : NumericOp) → P (numeric_opcode op) (Alone (Numeric op))) → ((op : MemoryOp) → P (memory_opcode op) (WithMemarg (Access op))) → (x : ℕ) (f : Form) → any_form x ≡ Some f → P x f
+  of_opcode : OfRows rows → ((op : NumericOp) → P (numeric_opcode op) (Alone (Numeric op)))
+      → ((op : MemoryOp) → P (memory_opcode op) (WithMemarg (Access op))) → (x : ℕ) (f : Form) → any_form x ≡ Some f → P x f
   of_opcode all numeric memory x f e =
       elim (chosen (leb 0x45 x) (numeric_form (numeric_of x)) (cond (leb 0x28 x && leb x 0x3E) (memory_form (memory_of x)) (find_row rows x)) (Some f) e) [
         | inl p ↦ of_numeric numeric x (numeric_of x) f (numeric_of-opcode x) p.1
@@ -162,7 +170,13 @@ HasWidth (WithSigned bits make) = IsWidth bits
 HasWidth _ = Unit {0}
 
 rows_have_width : OfRows (λ x f. HasWidth f) rows
-rows_have_width = (tt, (tt, (tt, (tt, (tt, (tt, (tt, (tt, (tt, (tt, (tt, (tt, (tt, (tt, (tt, (tt, (tt, (inl refl, (inr (inr refl), (tt, (tt, tt)))))))))))))))))))))
+rows_have_width = (
+  tt,
+  (
+    tt,
+    (tt, (tt, (tt, (tt, (tt, (tt, (tt, (tt, (tt, (tt, (tt, (tt, (tt, (tt, (tt, (inl refl, (inr (inr refl), (tt, (tt, tt))))))))))))))))))),
+  ),
+)
 
 pub form_of-width : (profile : Profile) (x : ℕ) (f : Form) → form_of profile x ≡ Some f → HasWidth f
 unfolding form_of
@@ -175,16 +189,11 @@ form_of-width profile x f e =
 -- ---- each instruction has the form of its opcode
 
 abbrev pub form_for : Plain → Form
-form_for Unreachable = Alone Unreachable
-form_for Nop = Alone Nop
 form_for (Br label) = WithIndex Br
 form_for (BrIf label) = WithIndex BrIf
 form_for (BrTable labels other) = WithLabels BrTable
-form_for Return = Alone Return
 form_for (Call x) = WithIndex Call
 form_for (CallIndirect x) = WithIndexReserved CallIndirect
-form_for Drop = Alone Drop
-form_for Select = Alone Select
 form_for (LocalGet x) = WithIndex LocalGet
 form_for (LocalSet x) = WithIndex LocalSet
 form_for (LocalTee x) = WithIndex LocalTee
@@ -197,32 +206,12 @@ form_for (I32Const z) = WithSigned 32 I32Const
 form_for (I64Const z) = WithSigned 64 I64Const
 form_for (F32Const word) = WithWord 4 F32Const
 form_for (F64Const word) = WithWord 8 F64Const
-form_for (Numeric op) = Alone (Numeric op)
+form_for p = Alone p
 
 pub any_form-for : (p : Plain) → any_form (plain_opcode p) ≡ Some (form_for p)
-any_form-for Unreachable = refl
-any_form-for Nop = refl
-any_form-for (Br label) = refl
-any_form-for (BrIf label) = refl
-any_form-for (BrTable labels other) = refl
-any_form-for Return = refl
-any_form-for (Call x) = refl
-any_form-for (CallIndirect x) = refl
-any_form-for Drop = refl
-any_form-for Select = refl
-any_form-for (LocalGet x) = refl
-any_form-for (LocalSet x) = refl
-any_form-for (LocalTee x) = refl
-any_form-for (GlobalGet x) = refl
-any_form-for (GlobalSet x) = refl
 any_form-for (Access op align offset) = any_form-memory op
-any_form-for MemorySize = refl
-any_form-for MemoryGrow = refl
-any_form-for (I32Const z) = refl
-any_form-for (I64Const z) = refl
-any_form-for (F32Const word) = refl
-any_form-for (F64Const word) = refl
 any_form-for (Numeric op) = any_form-numeric op
+any_form-for p = refl
 
 pub form_of-for : (profile : Profile) (p : Plain) → Allows profile p → form_of profile (plain_opcode p) ≡ Some (form_for p)
 unfolding form_of
@@ -280,7 +269,8 @@ last_high Core x h = h
 last_high Extended x h = omega arith
 
 -- an opcode that no instruction of the profile has, and that neither opens nor ends a block
-pub form_of-none : (profile : Profile) (x : ℕ) → (x ≡ 0x02 → ⊥) → (x ≡ 0x03 → ⊥) → (x ≡ 0x04 → ⊥) → (x ≡ 0x0B → ⊥) → form_of profile x ≡ None → is_opcode x ≡ false
+pub form_of-none : (profile : Profile) (x : ℕ) → (x ≡ 0x02 → ⊥) → (x ≡ 0x03 → ⊥) → (x ≡ 0x04 → ⊥) → (x ≡ 0x0B → ⊥) → form_of profile x ≡ None
+    → is_opcode x ≡ false
 unfolding form_of
 form_of-none profile x two three four end e =
     elim (chosen (ltb (last_opcode profile) x) None (any_form x) None e) [

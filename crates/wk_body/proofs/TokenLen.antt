@@ -55,7 +55,8 @@ brief_bytes (suc (suc (suc zero))) x y le p q h =
     (omega arith, λ l. omega (arith, clear (x + y * 256) 0x8080 7 refl (omega arith)), λ l. omega (arith, clear (x + y * 256) 0x8080 15 refl (omega arith)))
 brief_bytes (suc (suc (suc (suc n)))) x y le p q h = absurd (omega arith)
 
-pub brief_test : (len x y both place limit : ℕ) → len ≤ 3 → x < 256 → y < 256 → both ≡ x + y * 256 → place ≡ len → limit ≡ len → ltb (bit_and both (get_or MORE place 0)) limit ≡ true → IsMinimal len x y
+pub brief_test : (len x y both place limit : ℕ) → len ≤ 3 → x < 256 → y < 256 → both ≡ x + y * 256 → place ≡ len → limit ≡ len
+    → ltb (bit_and both (get_or MORE place 0)) limit ≡ true → IsMinimal len x y
 brief_test len x y both place limit le p q is at to e =
     let small = ltb-true (bit_and both (get_or MORE place 0)) limit e in
     brief_bytes len x y le p q (rw (is, at, to) at small)

@@ -22,7 +22,13 @@ refs_flat (Block kind ty inside rest) =
 refs_flat (If ty first second rest) =
     let inside = flatten first ++ else_part (flatten second) in
     ap (λ (rs : List Ref). type_refs ty ++ rs) (flat_map-append tok_refs inside (Close ∷ flatten rest)
-    ∙ rw (flat_map-append tok_refs (flatten first) (else_part (flatten second)), else_refs (flatten second), refs_flat first, refs_flat second, refs_flat rest) (append_assoc (refs_of first) (refs_of second) (refs_of rest)))
+    ∙ rw (
+      flat_map-append tok_refs (flatten first) (else_part (flatten second)),
+      else_refs (flatten second),
+      refs_flat first,
+      refs_flat second,
+      refs_flat rest,
+    ) (append_assoc (refs_of first) (refs_of second) (refs_of rest)))
 
 -- the end that closes no block adds none
 pub refs_tokens : (t : Instrs) → flat_map tok_refs (tokens_of t) ≡ refs_of t

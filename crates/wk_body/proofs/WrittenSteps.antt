@@ -14,12 +14,14 @@ simple_step p [] x xs = append_assoc (plain_bytes p) (enc x.rest) (0x0B ∷ [])
 simple_step p (true ∷ ks) x xs = append_assoc (plain_bytes p) (enc x.rest) (else_bytes x.other (enc x.other) ++ 0x0B ∷ to_write ks xs)
 simple_step p (false ∷ ks) x xs = append_assoc (plain_bytes p) (enc x.rest) (0x0B ∷ to_write ks xs)
 
-block_step : (kind : BlockKind) (ty : BlockType) (skip : ℕ) (ks : List Bool) (x y : Part) (ys : List Part) → to_write ks (before (Open kind ty skip) (x ∷ y ∷ ys)) ≡ (kind_byte kind ∷ type_bytes ty) ++ to_write (false ∷ ks) (x ∷ y ∷ ys)
+block_step : (kind : BlockKind) (ty : BlockType) (skip : ℕ) (ks : List Bool) (x y : Part) (ys : List Part)
+    → to_write ks (before (Open kind ty skip) (x ∷ y ∷ ys)) ≡ (kind_byte kind ∷ type_bytes ty) ++ to_write (false ∷ ks) (x ∷ y ∷ ys)
 block_step kind ty skip [] x y ys = simp append_assoc
 block_step kind ty skip (true ∷ ks) x y ys = simp append_assoc
 block_step kind ty skip (false ∷ ks) x y ys = simp append_assoc
 
-if_step : (ty : BlockType) (skip : ℕ) (ks : List Bool) (x y : Part) (ys : List Part) → to_write ks (before (OpenIf ty skip) (x ∷ y ∷ ys)) ≡ (0x04 ∷ type_bytes ty) ++ to_write (true ∷ ks) (x ∷ y ∷ ys)
+if_step : (ty : BlockType) (skip : ℕ) (ks : List Bool) (x y : Part) (ys : List Part)
+    → to_write ks (before (OpenIf ty skip) (x ∷ y ∷ ys)) ≡ (0x04 ∷ type_bytes ty) ++ to_write (true ∷ ks) (x ∷ y ∷ ys)
 if_step ty skip [] x y ys = simp append_assoc
 if_step ty skip (true ∷ ks) x y ys = simp append_assoc
 if_step ty skip (false ∷ ks) x y ys = simp append_assoc
@@ -28,7 +30,8 @@ close_step : (k : Bool) (ks : List Bool) (xs : List Part) → to_write (k ∷ ks
 close_step true ks xs = refl
 close_step false ks xs = refl
 
-pub token_step : (t : Tok) (ks next : List Bool) (xs : List Part) → IsNoElse t → after t ks ≡ Some next → Parted next xs → to_write ks (before t xs) ≡ tok_bytes t ++ to_write next xs
+pub token_step : (t : Tok) (ks next : List Bool) (xs : List Part) → IsNoElse t → after t ks ≡ Some next → Parted next xs
+    → to_write ks (before t xs) ≡ tok_bytes t ++ to_write next xs
 token_step t ks next [] that h parted = absurd (omega (arith, parted))
 token_step (Simple p) ks next (x ∷ xs) that h parted =
     let same : ks ≡ next = cc in
@@ -61,8 +64,10 @@ some_else (If ty first second rest) r not = refl
 no_else : (t : Instrs) (r : List ℕ) → t ≡ Finish → else_bytes t (enc t) ++ r ≡ enc t ++ r
 no_else t r e = rw e refl
 
-pub else_step : (skip : ℕ) (ks : List Bool) (x : Part) (xs : List Part) → x.rest ≢ Finish → to_write (true ∷ ks) (before (Otherwise skip) (x ∷ xs)) ≡ 0x05 ∷ to_write (false ∷ ks) (x ∷ xs)
+pub else_step : (skip : ℕ) (ks : List Bool) (x : Part) (xs : List Part) → x.rest ≢ Finish
+    → to_write (true ∷ ks) (before (Otherwise skip) (x ∷ xs)) ≡ 0x05 ∷ to_write (false ∷ ks) (x ∷ xs)
 else_step skip ks x xs not = some_else x.rest (0x0B ∷ to_write ks xs) not
 
-pub else_gone : (skip : ℕ) (ks : List Bool) (x : Part) (xs : List Part) → x.rest ≡ Finish → to_write (true ∷ ks) (before (Otherwise skip) (x ∷ xs)) ≡ to_write (false ∷ ks) (x ∷ xs)
+pub else_gone : (skip : ℕ) (ks : List Bool) (x : Part) (xs : List Part) → x.rest ≡ Finish
+    → to_write (true ∷ ks) (before (Otherwise skip) (x ∷ xs)) ≡ to_write (false ∷ ks) (x ∷ xs)
 else_gone skip ks x xs e = no_else x.rest (0x0B ∷ to_write ks xs) e

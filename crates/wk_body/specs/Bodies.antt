@@ -35,7 +35,9 @@ pub group_same : (g : LocalGroup) → record { count = g.count; ty = value_or (v
 group_same g = ap (λ (t : ValType). record { count = g.count; ty = t }) (valtype_same g.ty)
 
 abbrev pub coded_group : Coded LocalGroup
-coded_group = code_by (ℕ × ℕ) (coded× coded_ℕ coded_ℕ) (λ g. (g.count, valtype_byte g.ty)) (λ p. record { count = p.0; ty = value_or (valtype_of p.1) }) group_same
+coded_group = code_by (ℕ × ℕ) (coded× coded_ℕ coded_ℕ) (λ g. (g.count, valtype_byte g.ty))
+    (λ p. record { count = p.0; ty = value_or (valtype_of p.1) }) group_same
 
 abbrev pub coded_body : Coded BodyOf
-coded_body = code_by (List LocalGroup × Instrs) (coded× (coded_list coded_group) coded_instrs) (λ b. (b.groups, b.instrs)) (λ p. record { groups = p.0; instrs = p.1 }) (λ _. refl)
+coded_body = code_by (List LocalGroup × Instrs) (coded× (coded_list coded_group) coded_instrs) (λ b. (b.groups, b.instrs))
+    (λ p. record { groups = p.0; instrs = p.1 }) (λ _. refl)

@@ -46,7 +46,8 @@ SpellAlike {V = V} Spells = (v : V) (bytes : List ℕ) → Spells Core v bytes �
 -- Reading takes what is spelled: what it takes from the front is a spelling of what it gives; what is spelled in front is read,
 -- wherever the bytes end and whatever follows; and a fault of it stands in the bytes.
 pub record IsReadAs {V : Type 0} (Spells : V → List ℕ → Type 0) (read : ℕ → List ℕ → Result (V × List ℕ) ReadFault) : Type 0 where
-  pub takes : (end : ℕ) (bytes : List ℕ) (v : V) (rest : List ℕ) → IsBytes bytes → read end bytes ≡ Ok (v, rest) → (front : List ℕ) × Spells v front × (bytes ≡ front ++ rest)
+  pub takes : (end : ℕ) (bytes : List ℕ) (v : V) (rest : List ℕ) → IsBytes bytes → read end bytes ≡ Ok (v, rest)
+      → (front : List ℕ) × Spells v front × (bytes ≡ front ++ rest)
   pub again : (end : ℕ) (v : V) (bytes rest : List ℕ) → Spells v bytes → read end (bytes ++ rest) ≡ Ok (v, rest)
   pub stands : ReadsFront read
 

@@ -3,7 +3,9 @@ use Rattle.std.specs.Prelude.{ℕ, ◌-◌, Bool, Option, None, slice_get, List,
 use Rattle.wk_body.specs.declared.types.ValType.{ValType}
 use Rattle.wk_body.specs.declared.types.ValType.TheVariants.{I32, I64, F32, F64}
 use Rattle.wk_body.specs.declared.memory.MemoryOp.{MemoryOp}
-use Rattle.wk_body.specs.declared.memory.MemoryOp.TheVariants.{I32Load, I64Load, F32Load, F64Load, I32Load8S, I32Load8U, I32Load16S, I32Load16U, I64Load8S, I64Load8U, I64Load16S, I64Load16U, I64Load32S, I64Load32U, I32Store, I64Store, F32Store, F64Store, I32Store8, I32Store16, I64Store8, I64Store16, I64Store32}
+use Rattle.wk_body.specs.declared.memory.MemoryOp.TheVariants.{I32Load, I64Load, F32Load, F64Load, I32Load8S, I32Load8U, I32Load16S, I32Load16U, I64Load8S}
+use Rattle.wk_body.specs.declared.memory.MemoryOp.TheVariants.{I64Load8U, I64Load16S, I64Load16U, I64Load32S, I64Load32U, I32Store, I64Store, F32Store}
+use Rattle.wk_body.specs.declared.memory.MemoryOp.TheVariants.{F64Store, I32Store8, I32Store16, I64Store8, I64Store16, I64Store32}
 
 abbrev pub memory_opcode : MemoryOp → ℕ
 memory_opcode I32Load = 0x28

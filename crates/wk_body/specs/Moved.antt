@@ -9,7 +9,6 @@ use Rattle.wk_body.specs.declared.renumber.ShiftFault.TheVariants as faults
 use Rattle.wk_body.specs.declared.token.Token.{Token}
 use Rattle.wk_body.specs.declared.token.Token.TheVariants as kept
 use Rattle.wk_body.specs.Kept.{told, all_told, IsWithin}
-use Rattle.wk_body.specs.Written.{tok_bytes}
 use Rattle.wk_body.specs.declared.references.Ref.{Ref}
 use Rattle.wk_body.specs.declared.references.Ref.TheVariants.{Func, Global}
 use Rattle.wk_body.specs.References.{tok_refs, map_tok, moved, moved_plain, any_stuck}
@@ -26,10 +25,6 @@ abbrev pub moved_ref : Moving → ℕ → Ref → Ref
 moved_ref moving.Func from (Func x) = Func (moved from x)
 moved_ref moving.Global from (Global x) = Global (moved from x)
 moved_ref kind from r = r
-
--- the written form of kept tokens
-abbrev pub said : List ℕ → List Token → List ℕ
-said pool ts = flat_map tok_bytes (all_told pool ts)
 
 pub record IsMoved (kind : Moving) (from : ℕ) (token moved : Token) : Type 0 where
   pub fits : any_stuck kind from (tok_refs (told [] token)) ≡ false

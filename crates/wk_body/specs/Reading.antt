@@ -1,6 +1,7 @@
 -- Expressions and bodies as they are read, from left to right: what stands at the front and the bytes after it, or the first
 -- fault. The bytes end at that offset.
-use Rattle.std.specs.Prelude.{ℕ, zero, suc, ℤ, pos, negsuc, ◌+◌, ◌-◌, ◌^◌, List, [], ◌∷◌, length, Bool, true, false, Option, Some, None, Result, Ok, Err, nat_lt, nat_le, ◌==◌, if◌then◌else◌}
+use Rattle.std.specs.Prelude.{ℕ, zero, suc, ℤ, pos, negsuc, ◌+◌, ◌-◌, ◌^◌, List, [], ◌∷◌, length, Bool, true, false, Option, Some, None, Result, Ok, Err}
+use Rattle.std.specs.Prelude.{nat_lt, nat_le, ◌==◌, if◌then◌else◌}
 use Rattle.wk_bytes.specs.declared.fault.ReadKind.TheVariants.{UnexpectedEnd, BadByte, UnknownOpcode, TooManyLocals, BodySize, TooDeep}
 use Rattle.wk_bytes.specs.declared.fault.ReadFault.{ReadFault}
 use Rattle.wk_bytes.specs.Fault.{long_input}
@@ -155,7 +156,8 @@ unfoldable pub groups_at : ℕ → ℕ → ℕ → List ℕ → Result (List Loc
 groups_at zero sum end bytes = Ok ([], bytes)
 groups_at (suc n) sum end bytes =
     u32_at end bytes >>= λ count.
-    if nat_lt (sum + count.0) (2 ^ 32) then (valtype_at end count.1 >>= λ ty. groups_at n (sum + count.0) end ty.1 >>= λ gs. Ok (record { count = count.0; ty = ty.0 } ∷ gs.0, gs.1))
+    if nat_lt (sum + count.0)
+    (2 ^ 32) then (valtype_at end count.1 >>= λ ty. groups_at n (sum + count.0) end ty.1 >>= λ gs. Ok (record { count = count.0; ty = ty.0 } ∷ gs.0, gs.1))
     else Err (fault TooManyLocals end bytes)
 
 unfoldable pub body_at : Profile → ℕ → List ℕ → Result (BodyOf × List ℕ) ReadFault

@@ -6,6 +6,7 @@ use Rattle.wk_bytes.specs.declared.fault.ReadFault.{ReadFault}
 use Rattle.wk_body.specs.Reads.{FailsAs}
 
 -- a fault of a step is one of the whole
-pub fails_on : {Y Z : Type 0} (e : ReadFault) (kind : ReadKind) (step : Result Y ReadFault) (whole : Result Z ReadFault) → (step ≡ Err e → whole ≡ Err e) → FailsAs e kind step → FailsAs e kind whole
+pub fails_on : {Y Z : Type 0} (e : ReadFault) (kind : ReadKind) (step : Result Y ReadFault) (whole : Result Z ReadFault)
+    → (step ≡ Err e → whole ≡ Err e) → FailsAs e kind step → FailsAs e kind whole
 fails_on e Memory step whole f h = h
 fails_on e _ step whole f h = f h

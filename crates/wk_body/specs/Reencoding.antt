@@ -83,4 +83,5 @@ TakesElse ks number below = (outer next : List Bool) × (ks ≡ true ∷ outer) 
 abbrev pub BlocksPass : Reencoder → Reencoder → ℕ → List Bool → List Bool → Type 0
 BlocksPass from to number ks below =
     (next : List Bool) × (number ≡ number_of next)
-    × ((profile : Profile) (before out : List ℕ) (first : Reencoder) → GoesOn profile before first (ks ++ below) out from → GoesOn profile before first (next ++ below) out to)
+    × ((profile : Profile) (before out : List ℕ) (first : Reencoder) → GoesOn profile before first (ks ++ below) out from
+    → GoesOn profile before first (next ++ below) out to)

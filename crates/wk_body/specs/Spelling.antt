@@ -12,7 +12,8 @@ use Rattle.wk_body.specs.declared.types.BlockKind.TheVariants as kinds
 use Rattle.wk_body.specs.declared.types.LocalGroup.{LocalGroup}
 use Rattle.wk_body.specs.ValTypes.{valtype_byte, SpellsValType}
 use Rattle.wk_body.specs.Vectors.{SpellsVector}
-use Rattle.wk_body.specs.Instructions.{Plain, plain_opcode, Immediates, Nothing, Reserved, Index, IndexReserved, Labels, Memarg, Signed, Word, immediates, Allows}
+use Rattle.wk_body.specs.Instructions.{Plain, plain_opcode, Immediates, Nothing, Reserved, Index, IndexReserved, Labels, Memarg, Signed, Word, immediates}
+use Rattle.wk_body.specs.Instructions.{Allows}
 use Rattle.wk_body.specs.Tree.{Instrs, Finish, One, Block, If}
 use Rattle.wk_body.specs.Shape.{deep, depth_limit}
 use Rattle.wk_body.specs.Bodies.{BodyOf, AreGroups}
@@ -48,7 +49,8 @@ kind_byte kinds.Loop = 0x03
 abbrev pub Spells : Profile → Instrs → List ℕ → Type 0
 Spells profile Finish bytes = bytes ≡ []
 Spells profile (One p rest) bytes = (a : List ℕ) × (c : List ℕ) × SpellsPlain profile p a × Spells profile rest c × (bytes ≡ a ++ c)
-Spells profile (Block kind ty inside rest) bytes = (a : List ℕ) × (c : List ℕ) × (e : List ℕ) × SpellsType profile ty a × Spells profile inside c × Spells profile rest e × (bytes ≡ kind_byte kind ∷ (a ++ (c ++ 0x0B ∷ e)))
+Spells profile (Block kind ty inside rest) bytes = (a : List ℕ) × (c : List ℕ) × (e : List ℕ) × SpellsType profile ty a × Spells profile inside c
+    × Spells profile rest e × (bytes ≡ kind_byte kind ∷ (a ++ (c ++ 0x0B ∷ e)))
 Spells profile (If ty first second rest) bytes = (a : List ℕ) × (c : List ℕ) × (d : List ℕ) × (e : List ℕ) × SpellsType profile ty a × Spells profile first c
     × (((second ≡ Finish) × (d ≡ [])) ⊎ ((f : List ℕ) × Spells profile second f × (d ≡ 0x05 ∷ f)))
     × Spells profile rest e × (bytes ≡ 0x04 ∷ (a ++ (c ++ (d ++ 0x0B ∷ e))))

@@ -30,7 +30,8 @@ abbrev pub flatten : Instrs → List Tok
 flatten Finish = []
 flatten (One p rest) = Simple p ∷ flatten rest
 flatten (Block kind ty inside rest) = Open kind ty (length (flatten inside)) ∷ (flatten inside ++ Close ∷ flatten rest)
-flatten (If ty first second rest) = OpenIf ty (length (flatten first ++ else_part (flatten second))) ∷ ((flatten first ++ else_part (flatten second)) ++ Close ∷ flatten rest)
+flatten (If ty first second rest) = OpenIf ty (length (flatten first ++ else_part (flatten second)))
+    ∷ ((flatten first ++ else_part (flatten second)) ++ Close ∷ flatten rest)
 
 -- the tokens of an expression, with its end
 abbrev pub tokens_of : Instrs → List Tok

@@ -9,7 +9,10 @@ use Rattle.wk_body.specs.declared.types.BlockType.TheVariants.{Empty, Value}
 use Rattle.wk_body.specs.declared.types.BlockType.TheVariants as types
 use Rattle.wk_body.specs.declared.types.BlockKind.TheVariants as kinds
 use Rattle.wk_body.specs.ValTypes.{valtype_byte, valtype_of}
-use Rattle.wk_body.specs.Instructions.{Plain, Unreachable, Nop, Br, BrIf, BrTable, Return, Call, CallIndirect, Drop, Select, LocalGet, LocalSet, LocalTee, GlobalGet, GlobalSet, Access, MemorySize, MemoryGrow, I32Const, I64Const, F32Const, F64Const, Numeric, plain_opcode, Immediates, Nothing, Reserved, Index, IndexReserved, Labels, Memarg, Signed, Word, immediates, Form, Alone, WithReserved, WithIndex, WithIndexReserved, WithLabels, WithMemarg, WithSigned, WithWord, any_form}
+use Rattle.wk_body.specs.Instructions.{Plain, Unreachable, Nop, Br, BrIf, BrTable, Return, Call, CallIndirect, Drop, Select, LocalGet, LocalSet, LocalTee}
+use Rattle.wk_body.specs.Instructions.{GlobalGet, GlobalSet, Access, MemorySize, MemoryGrow, I32Const, I64Const, F32Const, F64Const, Numeric, plain_opcode}
+use Rattle.wk_body.specs.Instructions.{Immediates, Nothing, Reserved, Index, IndexReserved, Labels, Memarg, Signed, Word, immediates, Form, Alone, WithReserved}
+use Rattle.wk_body.specs.Instructions.{WithIndex, WithIndexReserved, WithLabels, WithMemarg, WithSigned, WithWord, any_form}
 use Rattle.wk_body.specs.OpcodeLaws.{any_form-numeric, any_form-memory}
 use Rattle.wk_body.specs.Tree.{Instrs, Tok, Simple, Open, OpenIf, Otherwise, Close, tokens_of, tree_of}
 use Rattle.wk_body.specs.TreeLaws.{tree_of-flatten}

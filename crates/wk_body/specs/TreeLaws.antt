@@ -1,7 +1,8 @@
 -- The tokens of a tree give it back.
 use Rattle.std.specs.Prelude.{◌≡◌, List, [], ◌∷◌, ◌++◌}
 use Rattle.std.proofs.Common.{refl, ap, ◌∙◌}
-use Rattle.wk_body.specs.Tree.{Instrs, Finish, One, Block, If, Tok, Simple, Open, OpenIf, Otherwise, Close, else_part, flatten, tokens_of, Part, before, over, first_part, tree_of, append, onto}
+use Rattle.wk_body.specs.Tree.{Instrs, Finish, One, Block, If, Tok, Simple, Open, OpenIf, Otherwise, Close, else_part, flatten, tokens_of, Part, before, over}
+use Rattle.wk_body.specs.Tree.{first_part, tree_of, append, onto}
 
 pub append-Finish : (t : Instrs) → append t Finish ≡ t
 append-Finish Finish = refl
@@ -13,7 +14,9 @@ pub over-append : (a b : List Tok) (xs : List Part) → over (a ++ b) xs ≡ ove
 over-append [] b xs = refl
 over-append (t ∷ ts) b xs = ap (before t) (over-append ts b xs)
 
-over-else : (ts : List Tok) (second : Instrs) (xs : List Part) → over ts (record { rest = Finish; other = Finish } ∷ xs) ≡ record { rest = second; other = Finish } ∷ xs → over (else_part ts) (record { rest = Finish; other = Finish } ∷ xs) ≡ record { rest = Finish; other = second } ∷ xs
+over-else : (ts : List Tok) (second : Instrs) (xs : List Part)
+    → over ts (record { rest = Finish; other = Finish } ∷ xs) ≡ record { rest = second; other = Finish } ∷ xs
+    → over (else_part ts) (record { rest = Finish; other = Finish } ∷ xs) ≡ record { rest = Finish; other = second } ∷ xs
 over-else [] second xs e = ap (before (Otherwise 0)) e
 over-else (t ∷ ts) second xs e = ap (before (Otherwise 0)) e
 
@@ -28,7 +31,8 @@ over-flatten (Block kind ty inside rest) x xs =
 over-flatten (If ty first second rest) x xs =
     let behind = onto rest (x ∷ xs) in
     let alt : over (flatten second) (record { rest = Finish; other = Finish } ∷ behind) ≡ record { rest = second; other = Finish } ∷ behind =
-    over-flatten second (record { rest = Finish; other = Finish }) behind ∙ ap (λ (y : Instrs). record { rest = y; other = Finish } ∷ behind) (append-Finish second) in
+    over-flatten second (record { rest = Finish; other = Finish }) behind
+    ∙ ap (λ (y : Instrs). record { rest = y; other = Finish } ∷ behind) (append-Finish second) in
     ap (before (OpenIf ty 0)) (over-append (flatten first ++ else_part (flatten second)) (Close ∷ flatten rest) (x ∷ xs)
     ∙ ap (λ (ys : List Part). over (flatten first ++ else_part (flatten second)) (before Close ys)) (over-flatten rest x xs)
     ∙ over-append (flatten first) (else_part (flatten second)) (before Close behind)

@@ -125,7 +125,8 @@ fn plus(total: Option<u32>, more: u64) -> Option<u32>
 // be half of the loop.)
 fn tokens_len(labels: &[u32], tokens: &[Token]) -> u64
     requires { AllByRecursion (IsWithin (length labels.now)) tokens.now }
-    ensures { result ≡ min (length (flat_map tok_bytes (all_told labels.now tokens.now))) (2 ^ 64 - 1) }
+    ensures { result
+        ≡ min (length (flat_map tok_bytes (all_told labels.now tokens.now))) (2 ^ 64 - 1) }
 {
     let mut total: u64 = 0;
     for token in tokens {

@@ -26,7 +26,8 @@ fn opens(opcode: u8) -> bool
 // Whether the byte behind an opcode is a block type, where the opcode opens a block.
 #[inline(always)]
 fn has_type(opcode: u8, x: u8) -> bool
-    ensures { result ≡ true → (opcode ≡ 0x02) ⊎ ((opcode ≡ 0x03) ⊎ (opcode ≡ 0x04)) → IsShortType x }
+    ensures { result ≡ true → (opcode ≡ 0x02) ⊎ ((opcode ≡ 0x03) ⊎ (opcode ≡ 0x04))
+        → IsShortType x }
 {
     !opens(opcode) || x == 0x40 || (0x7C <= x && x <= 0x7F)
 }
@@ -81,7 +82,8 @@ pub(crate) fn number_of(blocks: &[bool]) -> u64
 pub(crate) fn may_skip(opcode: u8, len: u8, x: u8, y: u8, after: u64) -> bool
     requires { len ≤ 3 }
     ensures minimal { result ≡ true → IsMinimal len x y }
-    ensures ty { result ≡ true → (opcode ≡ 0x02) ⊎ ((opcode ≡ 0x03) ⊎ (opcode ≡ 0x04)) → IsShortType x }
+    ensures ty { result ≡ true → (opcode ≡ 0x02) ⊎ ((opcode ≡ 0x03) ⊎ (opcode ≡ 0x04))
+        → IsShortType x }
     ensures some { result ≡ true → 0 < after }
     ensures small { result ≡ true → after ≤ 2 ^ 62 }
 {
@@ -100,7 +102,8 @@ fn is_wide_index(both: u16) -> bool
 // of the first.
 #[inline(always)]
 fn is_wide_number(both: u16) -> bool
-    ensures { result ≡ true → (x y : ℕ) → x < 256 → y < 256 → both ≡ x + y * 256 → IsWideNumber x y }
+    ensures { result ≡ true → (x y : ℕ) → x < 256 → y < 256 → both ≡ x + y * 256
+        → IsWideNumber x y }
 {
     if both & 0x8080 != 0x0080 {
         return false;
@@ -112,7 +115,8 @@ fn is_wide_number(both: u16) -> bool
 // and the first is one alone.
 #[inline(always)]
 fn is_wide_second(both: u16, z: u8) -> bool
-    ensures { result ≡ true → (x y : ℕ) → x < 256 → y < 256 → both ≡ x + y * 256 → (x < 128) × IsWideIndex y z }
+    ensures { result ≡ true → (x y : ℕ) → x < 256 → y < 256 → both ≡ x + y * 256
+        → (x < 128) × IsWideIndex y z }
 {
     both & 0x8080 == 0x8000 && 0 < z && z < 0x80
 }
@@ -121,7 +125,8 @@ fn is_wide_second(both: u16, z: u8) -> bool
 // first lowest, and a third stand behind its opcode and leave it as short as it may be. It is 0 where they don't tell.
 #[inline(always)]
 fn wide_len(opcode: u8, both: u16, z: u8) -> usize
-    ensures { 0 < result → (x y : ℕ) → x < 256 → y < 256 → both ≡ x + y * 256 → IsWide (imm_kind_in (form_of Core opcode)) result x y z }
+    ensures { 0 < result → (x y : ℕ) → x < 256 → y < 256 → both ≡ x + y * 256
+        → IsWide (imm_kind_in (form_of Core opcode)) result x y z }
 {
     let Some(kind) = imm_kind(Profile::Core, opcode) else {
         return 0;

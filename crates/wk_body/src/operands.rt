@@ -42,7 +42,8 @@ impl Token {
         ensures opcode { result.0 ≡ tok_opcode (told labels.now self.now) }
         ensures counted { AreCounted result.1 }
         ensures operands { operands_of result.1 ≡ tok_operands (told labels.now self.now) }
-        ensures bytes { tok_bytes (told labels.now self.now) ≡ result.0 ∷ operand_bytes (operands_of result.1) }
+        ensures bytes { tok_bytes (told labels.now self.now)
+            ≡ result.0 ∷ operand_bytes (operands_of result.1) }
     {
         match *self {
             Token::Unreachable => (opcode::UNREACHABLE, Operands::Nothing),

@@ -67,7 +67,9 @@ pub(crate) fn groups_of(
     cursor: &mut Cursor<'_>,
 ) -> Result<(), ReadFault>
     ensures { MatchResult result
-        (λ _. (groups_at count 0 cursor.old.end cursor.old.rest ≡ Ok (groups.new.items, cursor.new.rest)) × (cursor.new.end ≡ cursor.old.end))
+        (λ _. (groups_at count 0 cursor.old.end cursor.old.rest
+        ≡ Ok (groups.new.items, cursor.new.rest))
+        × (cursor.new.end ≡ cursor.old.end))
         (λ e. FailsAs e e.kind (groups_at count 0 cursor.old.end cursor.old.rest)) }
 {
     groups.clear();
@@ -260,8 +262,10 @@ pub fn one_spelling_of_code()
 pub fn reading_of_code()
     ensures expr { (profile : Profile) → IsReadAs (SpellsExpr profile) (expr_at profile) }
     ensures body { (profile : Profile) → IsAllReadAs (SpellsBody profile) (all_body_at profile) }
-    ensures all_expr { (profile : Profile) → IsAllReadAs (SpellsExpr profile) (all_expr_at profile) }
-    ensures expr_shape { (profile : Profile) (t : Instrs) (bytes : List ℕ) → IsBytes bytes → SpellsExpr profile t bytes → IsShaped t × IsOf profile t }
+    ensures all_expr { (profile : Profile)
+        → IsAllReadAs (SpellsExpr profile) (all_expr_at profile) }
+    ensures expr_shape { (profile : Profile) (t : Instrs) (bytes : List ℕ) → IsBytes bytes
+        → SpellsExpr profile t bytes → IsShaped t × IsOf profile t }
     ensures never_memory_expr { (profile : Profile) → NeverMemory (all_expr_at profile) }
     ensures never_memory_body { (profile : Profile) → NeverMemory (all_body_at profile) }
 {}

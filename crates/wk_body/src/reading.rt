@@ -94,7 +94,9 @@ pub(crate) fn block_type(profile: Profile, cursor: &mut Cursor<'_>) -> Result<Bl
 fn memory_of(opcode: u8, cursor: &mut Cursor<'_>) -> Result<Token, ReadFault>
     requires low { 0x28 ≤ opcode }
     requires high { opcode ≤ 0x3E }
-    ensures read { (profile : Profile) (e : ReadFault) → Parses (λ x. told [] x) (tok_at (plain_at profile e opcode)) cursor.old result cursor.new }
+    ensures read { (profile : Profile) (e : ReadFault)
+        → Parses (λ x. told [] x) (tok_at (plain_at profile e opcode)) cursor.old result
+        cursor.new }
     ensures within { IfOk result (IsWithin 0) }
 {
     let Some(op) = MemoryOp::from_opcode(opcode) else {
@@ -110,7 +112,8 @@ fn memory_of(opcode: u8, cursor: &mut Cursor<'_>) -> Result<Token, ReadFault>
 #[tactic(auto, unfolding(crate::specs::Reading::plain_at, crate::specs::Reading::behind_form, crate::specs::Instructions::form_of))]
 #[inline(always)]
 fn long_of(cursor: &mut Cursor<'_>) -> Result<Token, ReadFault>
-    ensures read { (profile : Profile) (e : ReadFault) → Parses (λ x. told [] x) (tok_at (plain_at profile e 0x42)) cursor.old result cursor.new }
+    ensures read { (profile : Profile) (e : ReadFault)
+        → Parses (λ x. told [] x) (tok_at (plain_at profile e 0x42)) cursor.old result cursor.new }
     ensures within { IfOk result (IsWithin 0) }
 {
     Ok(Token::I64Const(cursor.s64()?))
@@ -120,7 +123,8 @@ fn long_of(cursor: &mut Cursor<'_>) -> Result<Token, ReadFault>
 #[tactic(auto, unfolding(crate::specs::Reading::plain_at, crate::specs::Reading::behind_form, crate::specs::Instructions::form_of))]
 #[inline(always)]
 fn double_of(cursor: &mut Cursor<'_>) -> Result<Token, ReadFault>
-    ensures read { (profile : Profile) (e : ReadFault) → Parses (λ x. told [] x) (tok_at (plain_at profile e 0x44)) cursor.old result cursor.new }
+    ensures read { (profile : Profile) (e : ReadFault)
+        → Parses (λ x. told [] x) (tok_at (plain_at profile e 0x44)) cursor.old result cursor.new }
     ensures within { IfOk result (IsWithin 0) }
 {
     Ok(Token::F64Const(cursor.word64()?))
@@ -147,7 +151,9 @@ pub(crate) fn simple_of(
     cursor: &mut Cursor<'_>,
 ) -> Result<Token, ReadFault>
     requires { opcode ≢ 0x0E }
-    ensures read { Parses (λ x. told [] x) (tok_at (plain_at profile (record { kind = UnknownOpcode; at = at }) opcode)) cursor.old result cursor.new }
+    ensures read { Parses (λ x. told [] x)
+        (tok_at (plain_at profile (record { kind = UnknownOpcode; at = at }) opcode)) cursor.old
+        result cursor.new }
     ensures within { IfOk result (IsWithin 0) }
 {
     match opcode {
@@ -196,7 +202,8 @@ pub(crate) fn simple_of(
 fn labels_of(scratch: &mut Scratch, count: u32, cursor: &mut Cursor<'_>) -> Result<(), ReadFault>
     requires { Good scratch.old }
     ensures { MatchResult result
-        (λ _. ReadsLabels (items_at u32_at count cursor.old.end cursor.old.rest) scratch.old scratch.new cursor.old cursor.new)
+        (λ _. ReadsLabels (items_at u32_at count cursor.old.end cursor.old.rest) scratch.old
+        scratch.new cursor.old cursor.new)
         (λ e. FailsAs e e.kind (items_at u32_at count cursor.old.end cursor.old.rest)) }
 {
     for _ in 0..count {
@@ -212,7 +219,8 @@ fn table_of(scratch: &mut Scratch, cursor: &mut Cursor<'_>) -> Result<(), ReadFa
     requires good { Good scratch.old }
     requires room { size_of scratch.old + length cursor.old.rest < 2 ^ 31 }
     ensures { MatchResult result
-        (λ _. ReadsPlain (labels_at cursor.old.end cursor.old.rest) scratch.old scratch.new cursor.old cursor.new)
+        (λ _. ReadsPlain (labels_at cursor.old.end cursor.old.rest) scratch.old scratch.new
+        cursor.old cursor.new)
         (λ e. FailsAs e e.kind (labels_at cursor.old.end cursor.old.rest)) }
 {
     let start = scratch.labels.len() as u32;
@@ -233,7 +241,9 @@ fn opening_of(
     at: u32,
     cursor: &mut Cursor<'_>,
 ) -> Result<BlockType, ReadFault>
-    ensures { Parses (λ x. x) (type_here profile (kinds_of scratch.now) (record { kind = TooDeep; at = at })) cursor.old result cursor.new }
+    ensures { Parses (λ x. x)
+        (type_here profile (kinds_of scratch.now) (record { kind = TooDeep; at = at })) cursor.old
+        result cursor.new }
 {
     if scratch.depth() < MAX_DEPTH {
         block_type(profile, cursor)
@@ -257,8 +267,11 @@ fn token_behind(
     requires good { Good scratch.old }
     requires room { size_of scratch.old + length cursor.old.rest < 2 ^ 31 }
     ensures { MatchResult result
-        (λ last. ReadsToken (behind_at profile (kinds_of scratch.old) at opcode cursor.old.end cursor.old.rest) last scratch.old scratch.new (suc (length cursor.old.rest)) cursor.old.end cursor.new)
-        (λ e. FailsAs e e.kind (behind_at profile (kinds_of scratch.old) at opcode cursor.old.end cursor.old.rest)) }
+        (λ last. ReadsToken
+        (behind_at profile (kinds_of scratch.old) at opcode cursor.old.end cursor.old.rest) last
+        scratch.old scratch.new (suc (length cursor.old.rest)) cursor.old.end cursor.new)
+        (λ e. FailsAs e e.kind
+        (behind_at profile (kinds_of scratch.old) at opcode cursor.old.end cursor.old.rest)) }
 {
     match opcode {
         opcode::END => Ok(scratch.close()?),
@@ -308,8 +321,10 @@ fn token_of(
     requires good { Good scratch.old }
     requires room { size_of scratch.old + length cursor.old.rest < 2 ^ 31 }
     ensures { MatchResult result
-        (λ last. ReadsToken (token_at profile (kinds_of scratch.old) cursor.old.end cursor.old.rest) last scratch.old scratch.new (length cursor.old.rest) cursor.old.end cursor.new)
-        (λ e. FailsAs e e.kind (token_at profile (kinds_of scratch.old) cursor.old.end cursor.old.rest)) }
+        (λ last. ReadsToken (token_at profile (kinds_of scratch.old) cursor.old.end cursor.old.rest)
+        last scratch.old scratch.new (length cursor.old.rest) cursor.old.end cursor.new)
+        (λ e. FailsAs e e.kind
+        (token_at profile (kinds_of scratch.old) cursor.old.end cursor.old.rest)) }
 {
     let at = cursor.at();
     let opcode = cursor.byte()?;

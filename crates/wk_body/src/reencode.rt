@@ -33,7 +33,9 @@ use wk_bytes::{Cursor, ReadFault};
 // Writes the pending bytes in front of a block type, and the type.
 #[inline(never)]
 fn respell_type(out: &mut Vec<u8>, pending: &[u8], left: usize, ty: BlockType) -> Option<()>
-    ensures { IfSome result (λ _. out.new.items ≡ (out.old.items ++ take (length pending.now - left) pending.now) ++ type_bytes ty) }
+    ensures { IfSome result
+        (λ _. out.new.items
+        ≡ (out.old.items ++ take (length pending.now - left) pending.now) ++ type_bytes ty) }
 {
     write_pending(out, pending, left)?;
     put_type(out, ty).ok()
@@ -48,7 +50,9 @@ fn pass_type(
     coder: &mut Reencoder<'_>,
     out: &mut Vec<u8>,
 ) -> Option<BlockType>
-    ensures { IfSome result (λ ty. PassesType profile reader.now.kinds at ty out.old.items coder.old out.new.items coder.new) }
+    ensures { IfSome result
+        (λ ty. PassesType profile reader.now.kinds at ty out.old.items coder.old out.new.items
+        coder.new) }
 {
     // The proof asks what this says: each byte is below 256.
     are_bytes(coder.cursor.rest());
@@ -66,7 +70,8 @@ fn pass_type(
 
 // Opens the blocks that are the bits of a number, above those that the reader has.
 fn spill(inner: u64, reader: &mut TokenReader) -> Option<()>
-    ensures { IfSome result (λ _. (ks : List Bool) → inner ≡ number_of ks → reader.new.kinds ≡ ks ++ reader.old.kinds) }
+    ensures { IfSome result
+        (λ _. (ks : List Bool) → inner ≡ number_of ks → reader.new.kinds ≡ ks ++ reader.old.kinds) }
 {
     let mut turned: u64 = 1;
     let mut left = inner;
@@ -115,7 +120,8 @@ fn has_room(reader: &TokenReader) -> bool
 fn skip_minimal(inner: u64, reader: &TokenReader, coder: &mut Reencoder<'_>) -> u64
     requires { inner ≤ 2 ^ 62 }
     ensures small { result ≤ 2 ^ 62 }
-    ensures goes { (ks : List Bool) → inner ≡ number_of ks → BlocksPass coder.old coder.new result ks reader.now.kinds }
+    ensures goes { (ks : List Bool) → inner ≡ number_of ks
+        → BlocksPass coder.old coder.new result ks reader.now.kinds }
 {
     if !begins_minimal(coder.cursor.rest()) || !has_room(reader) {
         return inner;
@@ -256,7 +262,10 @@ fn pass_token(
     ensures small { IfSome result (λ _. inner.new ≤ 2 ^ 62) }
     ensures goes { (before : List ℕ) (from : Reencoder) (ks : List Bool) → inner.old ≡ number_of ks
         → GoesOn profile before from (ks ++ reader.old.kinds) out.old.items coder.old
-        → IfSome result (λ last. (next : List Bool) × (inner.new ≡ number_of next) × Goes last profile before from (next ++ reader.new.kinds) out.new.items coder.new) }
+        → IfSome result
+        (λ last. (next : List Bool) × (inner.new ≡ number_of next)
+        × Goes last profile before from (next ++ reader.new.kinds) out.new.items
+        coder.new) }
 {
     let at = coder.cursor.at();
     let left = coder.cursor.rest().len();
@@ -293,8 +302,10 @@ fn pass_expr(
     coder: &mut Reencoder<'_>,
     out: &mut Vec<u8>,
 ) -> Option<()>
-    ensures { IfSome result (λ _. (t : Instrs)
-        × Passes (expr_at profile) t (written_expr t) out.old.items coder.old out.new.items coder.new) }
+    ensures { IfSome result
+        (λ _. (t : Instrs)
+        × Passes (expr_at profile) t (written_expr t) out.old.items coder.old out.new.items
+        coder.new) }
 {
     reader.begin();
     let mut inner: u64 = 1;
@@ -325,7 +336,9 @@ fn pass_valtype(coder: &mut Reencoder<'_>) -> Option<ValType>
 // So many local groups. It stands apart and has a copy of its own: where there are many, no cursor lies in memory.
 #[inline(never)]
 fn pass_groups(count: u32, coder: &mut Reencoder<'_>, out: &mut Vec<u8>) -> Option<()>
-    ensures { IfSome result (λ _. (groups : List LocalGroup) × PassesGroups count groups out.old.items coder.old out.new.items coder.new) }
+    ensures { IfSome result
+        (λ _. (groups : List LocalGroup)
+        × PassesGroups count groups out.old.items coder.old out.new.items coder.new) }
 {
     let mut own = coder.ahead();
     let mut declared: u32 = 0;
@@ -343,8 +356,10 @@ fn pass_groups(count: u32, coder: &mut Reencoder<'_>, out: &mut Vec<u8>) -> Opti
 
 // The local groups of a body.
 fn pass_locals(coder: &mut Reencoder<'_>, out: &mut Vec<u8>) -> Option<()>
-    ensures { IfSome result (λ _. (groups : List LocalGroup)
-        × Passes local_groups_at groups (written_vector written_group groups) out.old.items coder.old out.new.items coder.new) }
+    ensures { IfSome result
+        (λ _. (groups : List LocalGroup)
+        × Passes local_groups_at groups (written_vector written_group groups) out.old.items
+        coder.old out.new.items coder.new) }
 {
     let count = coder.pass_u32(out)?;
     // A copy is lent: else the reencoder would lie in memory for all tokens behind.
@@ -363,8 +378,9 @@ fn walk_body<'a>(
     out: &mut Vec<u8>,
 ) -> Option<&'a [u8]>
     requires { out.old.items ≡ [] }
-    ensures { IfSome result (λ pending. (b : BodyOf)
-        × (all_body_at profile cursor.now.end cursor.now.rest ≡ Ok b) × (out.new.items ++ pending.now ≡ written_body b)) }
+    ensures { IfSome result
+        (λ pending. (b : BodyOf) × (all_body_at profile cursor.now.end cursor.now.rest ≡ Ok b)
+        × (out.new.items ++ pending.now ≡ written_body b)) }
 {
     let mut coder = Reencoder {
         cursor: cursor.ahead(),
@@ -385,8 +401,9 @@ fn rewrite(
     cursor: &Cursor<'_>,
     out: &mut Vec<u8>,
 ) -> Option<()>
-    ensures { IfSome result (λ _. (b : BodyOf)
-        × (all_body_at profile cursor.now.end cursor.now.rest ≡ Ok b) × (out.new.items ≡ written_body b)) }
+    ensures { IfSome result
+        (λ _. (b : BodyOf) × (all_body_at profile cursor.now.end cursor.now.rest ≡ Ok b)
+        × (out.new.items ≡ written_body b)) }
 {
     out.clear();
     out.reserve(cursor.rest().len()).ok()?;
@@ -417,7 +434,8 @@ impl Scratch {
         profile: Profile,
     ) -> Result<&[u8], ReadFault>
         ensures exact { MatchResult result
-            (λ written. (b : BodyOf) × (all_body_at profile cursor.now.end cursor.now.rest ≡ Ok b) × (written.now ≡ written_body b))
+            (λ written. (b : BodyOf) × (all_body_at profile cursor.now.end cursor.now.rest ≡ Ok b)
+            × (written.now ≡ written_body b))
             (λ e. FailsAs e e.kind (all_body_at profile cursor.now.end cursor.now.rest)) }
         ensures fault { IfErr result (λ e. StandsOrMemory cursor.now e) }
     {
@@ -440,7 +458,8 @@ impl Scratch {
         profile: Profile,
     ) -> Result<&[u8], ReadFault>
         ensures exact { MatchResult result
-            (λ written. (b : BodyOf) × (all_body_at profile cursor.now.end cursor.now.rest ≡ Ok b) × (written.now ≡ written_body b))
+            (λ written. (b : BodyOf) × (all_body_at profile cursor.now.end cursor.now.rest ≡ Ok b)
+            × (written.now ≡ written_body b))
             (λ e. FailsAs e e.kind (all_body_at profile cursor.now.end cursor.now.rest)) }
         ensures fault { IfErr result (λ e. StandsOrMemory cursor.now e) }
     {
@@ -467,7 +486,8 @@ impl Scratch {
         profile: Profile,
     ) -> Result<u32, ReadFault>
         ensures exact { MatchResult result
-            (λ len. (b : BodyOf) × (all_body_at profile cursor.now.end cursor.now.rest ≡ Ok b) × (len ≡ length (written_body b)))
+            (λ len. (b : BodyOf) × (all_body_at profile cursor.now.end cursor.now.rest ≡ Ok b)
+            × (len ≡ length (written_body b)))
             (λ e. FailsAs e e.kind (all_body_at profile cursor.now.end cursor.now.rest)) }
         ensures fault { IfErr result (λ e. StandsOrMemory cursor.now e) }
     {

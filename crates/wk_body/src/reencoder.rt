@@ -35,7 +35,8 @@ pub(crate) struct Reencoder<'a> {
 
 // Writes the pending bytes that lie in front of the last `left` ones.
 pub(crate) fn write_pending(out: &mut Vec<u8>, pending: &[u8], left: usize) -> Option<()>
-    ensures { IfSome result (λ _. out.new.items ≡ out.old.items ++ take (length pending.now - left) pending.now) }
+    ensures { IfSome result
+        (λ _. out.new.items ≡ out.old.items ++ take (length pending.now - left) pending.now) }
 {
     let said = pending.get(..pending.len().checked_sub(left)?)?;
     out.extend_from_slice(said).ok()
@@ -44,7 +45,9 @@ pub(crate) fn write_pending(out: &mut Vec<u8>, pending: &[u8], left: usize) -> O
 // Writes the pending bytes in front of an unsigned integer, and the integer.
 #[inline(never)]
 fn respell_u32(out: &mut Vec<u8>, pending: &[u8], left: usize, n: u32) -> Option<()>
-    ensures { IfSome result (λ _. out.new.items ≡ (out.old.items ++ take (length pending.now - left) pending.now) ++ short n) }
+    ensures { IfSome result
+        (λ _. out.new.items
+        ≡ (out.old.items ++ take (length pending.now - left) pending.now) ++ short n) }
 {
     write_pending(out, pending, left)?;
     put_u32(out, n).ok()
@@ -53,7 +56,9 @@ fn respell_u32(out: &mut Vec<u8>, pending: &[u8], left: usize, n: u32) -> Option
 // Writes the pending bytes in front of a signed integer, and the integer.
 #[inline(never)]
 fn respell_signed(out: &mut Vec<u8>, pending: &[u8], left: usize, n: i64) -> Option<()>
-    ensures { IfSome result (λ _. out.new.items ≡ (out.old.items ++ take (length pending.now - left) pending.now) ++ short_signed n) }
+    ensures { IfSome result
+        (λ _. out.new.items
+        ≡ (out.old.items ++ take (length pending.now - left) pending.now) ++ short_signed n) }
 {
     write_pending(out, pending, left)?;
     put_s64(out, n).ok()
@@ -76,7 +81,8 @@ impl Reencoder<'_> {
     // An unsigned integer.
     #[inline(always)]
     pub(crate) fn pass_u32(&mut self, out: &mut Vec<u8>) -> Option<u32>
-        ensures { IfSome result (λ n. Passes u32_at n (short n) out.old.items self.old out.new.items self.new) }
+        ensures { IfSome result
+            (λ n. Passes u32_at n (short n) out.old.items self.old out.new.items self.new) }
     {
         let left = self.cursor.rest().len();
         let Ok(n) = self.cursor.u32() else {
@@ -93,7 +99,9 @@ impl Reencoder<'_> {
     // A signed integer of 32 bits.
     #[inline(always)]
     fn pass_s32(&mut self, out: &mut Vec<u8>) -> Option<i32>
-        ensures { IfSome result (λ n. Passes (signed_at 32) n (short_signed n) out.old.items self.old out.new.items self.new) }
+        ensures { IfSome result
+            (λ n. Passes (signed_at 32) n (short_signed n) out.old.items self.old out.new.items
+            self.new) }
     {
         let left = self.cursor.rest().len();
         let Ok(n) = self.cursor.s32() else {
@@ -110,7 +118,9 @@ impl Reencoder<'_> {
     // A signed integer of 64 bits.
     #[inline(always)]
     fn pass_s64(&mut self, out: &mut Vec<u8>) -> Option<i64>
-        ensures { IfSome result (λ n. Passes (signed_at 64) n (short_signed n) out.old.items self.old out.new.items self.new) }
+        ensures { IfSome result
+            (λ n. Passes (signed_at 64) n (short_signed n) out.old.items self.old out.new.items
+            self.new) }
     {
         let left = self.cursor.rest().len();
         let Ok(n) = self.cursor.s64() else {
@@ -127,7 +137,8 @@ impl Reencoder<'_> {
     // A word of four bytes.
     #[inline(always)]
     fn pass_word32(&mut self) -> Option<u32>
-        ensures { IfSome result (λ word. Keeps (word_at 4) word (little_bytes 4 word) self.old self.new) }
+        ensures { IfSome result
+            (λ word. Keeps (word_at 4) word (little_bytes 4 word) self.old self.new) }
     {
         // The proof asks what this says: each byte is below 256.
         are_bytes(self.cursor.rest());
@@ -140,7 +151,8 @@ impl Reencoder<'_> {
     // A word of eight bytes.
     #[inline(always)]
     fn pass_word64(&mut self) -> Option<u64>
-        ensures { IfSome result (λ word. Keeps (word_at 8) word (little_bytes 8 word) self.old self.new) }
+        ensures { IfSome result
+            (λ word. Keeps (word_at 8) word (little_bytes 8 word) self.old self.new) }
     {
         // The proof asks what this says: each byte is below 256.
         are_bytes(self.cursor.rest());
@@ -165,8 +177,10 @@ impl Reencoder<'_> {
     // have a byte each take a look at that byte.
     #[inline(never)]
     fn labels_apart(&mut self, count: u32, out: &mut Vec<u8>) -> Option<()>
-        ensures { IfSome result (λ _. (labels : List ℕ)
-            × Passes (items_at u32_at count) labels (flat_map short labels) out.old.items self.old out.new.items self.new) }
+        ensures { IfSome result
+            (λ _. (labels : List ℕ)
+            × Passes (items_at u32_at count) labels (flat_map short labels) out.old.items
+            self.old out.new.items self.new) }
     {
         let mut coder = self.ahead();
         let rest = coder.cursor.rest();
@@ -184,8 +198,10 @@ impl Reencoder<'_> {
     // So many labels. Not this one but a copy is lent to the function that stands apart: else it would lie in memory for all tokens.
     #[inline(always)]
     fn pass_labels(&mut self, count: u32, out: &mut Vec<u8>) -> Option<()>
-        ensures { IfSome result (λ _. (labels : List ℕ)
-            × Passes (items_at u32_at count) labels (flat_map short labels) out.old.items self.old out.new.items self.new) }
+        ensures { IfSome result
+            (λ _. (labels : List ℕ)
+            × Passes (items_at u32_at count) labels (flat_map short labels) out.old.items
+            self.old out.new.items self.new) }
     {
         let mut own = self.ahead();
         own.labels_apart(count, out)?;
@@ -196,8 +212,10 @@ impl Reencoder<'_> {
     // What stands behind the opcode of a `br_table`.
     #[inline(always)]
     fn pass_table(&mut self, out: &mut Vec<u8>) -> Option<()>
-        ensures { IfSome result (λ _. (t : List ℕ × ℕ)
-            × Passes labels_at t (written_vector short t.0 ++ short t.1) out.old.items self.old out.new.items self.new) }
+        ensures { IfSome result
+            (λ _. (t : List ℕ × ℕ)
+            × Passes labels_at t (written_vector short t.0 ++ short t.1) out.old.items self.old
+            out.new.items self.new) }
     {
         let count = self.pass_u32(out)?;
         self.pass_labels(count, out)?;
@@ -213,7 +231,8 @@ impl Reencoder<'_> {
     pub(crate) fn skip_minimal(&mut self, blocks: u64) -> u64
         requires { blocks ≤ 2 ^ 62 }
         ensures small { result ≤ 2 ^ 62 }
-        ensures goes { (ks below : List Bool) → blocks ≡ number_of ks → length below + 64 ≤ depth_limit → BlocksPass self.old self.new result ks below }
+        ensures goes { (ks below : List Bool) → blocks ≡ number_of ks
+            → length below + 64 ≤ depth_limit → BlocksPass self.old self.new result ks below }
     {
         // The proof asks what these say: 32 bits hold the number of bytes, and each byte is below 256.
         self.cursor.at();
@@ -260,7 +279,8 @@ impl Reencoder<'_> {
     #[inline(always)]
     pub(crate) fn pass_nops(&mut self)
         ensures { (profile : Profile) (before out : List ℕ) (from : Reencoder) (ks : List Bool)
-            → GoesOn profile before from ks out self.old → GoesOn profile before from ks out self.new }
+            → GoesOn profile before from ks out self.old
+            → GoesOn profile before from ks out self.new }
     {
         // The proof asks what this says: 32 bits hold the number of bytes.
         self.cursor.at();
@@ -282,7 +302,8 @@ impl Reencoder<'_> {
         opcode: u8,
         out: &mut Vec<u8>,
     ) -> Option<()>
-        ensures { IfSome result (λ _. PassesPlain profile opcode out.old.items self.old out.new.items self.new) }
+        ensures { IfSome result
+            (λ _. PassesPlain profile opcode out.old.items self.old out.new.items self.new) }
     {
         match imm_kind(profile, opcode)? {
             ImmediateKind::Nothing => Some(()),

@@ -98,7 +98,9 @@ fn add_named(found: &mut BTreeSet<Ref>, token: &Token) -> Result<(), OutOfMemory
 // goes by no jump: a jump by the kind of each token would often be foreseen wrongly.)
 #[inline(always)]
 fn add_refs(found: &mut BTreeSet<Ref>, memory: &mut bool, token: &Token) -> Result<(), OutOfMemory>
-    ensures { OnOk result (Collects found.old.keys memory.old found.new.keys memory.new (tok_refs (told [] token.now))) }
+    ensures { OnOk result
+        (Collects found.old.keys memory.old found.new.keys memory.new
+        (tok_refs (told [] token.now))) }
 {
     *memory |= takes_memory(token);
     if may_name(token) {

@@ -84,7 +84,8 @@ impl Movement {
 
     /// That of both.
     pub fn or(self, other: Movement) -> Movement
-        ensures { result ≡ record { moves = self.moves || other.moves; stuck = self.stuck || other.stuck } }
+        ensures { result
+            ≡ record { moves = self.moves || other.moves; stuck = self.stuck || other.stuck } }
     {
         Movement {
             moves: self.moves || other.moves,
@@ -170,7 +171,7 @@ pub(crate) fn shift_tokens(kind: Moving, from: u32, tokens: &mut [Token])
 
 // What moves of a token.
 #[inline(always)]
-pub(crate) fn token_movement(kind: Moving, from: u32, token: &Token) -> Movement
+fn token_movement(kind: Moving, from: u32, token: &Token) -> Movement
     ensures { result ≡ movement_of kind from (tok_refs (told [] token.now)) }
 {
     match (kind, *token) {
@@ -203,7 +204,8 @@ pub fn expr_movement(expr: &Expr, kind: Moving, from: u32) -> Movement
 // An expression with its references moved.
 fn moved_expr(alloc: Global, expr: &Expr, kind: Moving, from: u32) -> Result<Expr, ShiftFault>
     ensures { MatchResult result
-        (λ e. (any_stuck kind from (refs_of expr.now) ≡ false) × (e ≡ shift_instrs kind from expr.now))
+        (λ e. (any_stuck kind from (refs_of expr.now) ≡ false)
+        × (e ≡ shift_instrs kind from expr.now))
         (λ e. IsRefused e (any_stuck kind from (refs_of expr.now))) }
 {
     let (tokens, labels) = expr.tokens();
@@ -222,9 +224,11 @@ fn moved_expr(alloc: Global, expr: &Expr, kind: Moving, from: u32) -> Result<Exp
 /// refused. A body of a profile stays one of it.
 pub fn shift(alloc: Global, body: &Body, kind: Moving, from: u32) -> Result<Body, ShiftFault>
     ensures exact { MatchResult result
-        (λ b. (any_stuck kind from (refs_of body.now.instrs) ≡ false) × (b ≡ shift_body kind from body.now))
+        (λ b. (any_stuck kind from (refs_of body.now.instrs) ≡ false)
+        × (b ≡ shift_body kind from body.now))
         (λ e. IsRefused e (any_stuck kind from (refs_of body.now.instrs))) }
-    ensures profile { IfOk result (λ b. (profile : Profile) → IsOf profile body.now.instrs → IsOf profile b.instrs) }
+    ensures profile { IfOk result
+        (λ b. (profile : Profile) → IsOf profile body.now.instrs → IsOf profile b.instrs) }
 {
     let instrs = moved_expr(alloc, body.expr(), kind, from)?;
     let groups = Vec::from_slice(alloc, body.groups())?;
@@ -235,7 +239,8 @@ pub fn shift(alloc: Global, body: &Body, kind: Moving, from: u32) -> Result<Body
 pub fn shift_in_place(body: &mut Body, kind: Moving, from: u32)
     requires { any_stuck kind from (refs_of body.old.instrs) ≡ false }
     ensures exact { body.new ≡ shift_body kind from body.old }
-    ensures profile { (profile : Profile) → IsOf profile body.old.instrs → IsOf profile body.new.instrs }
+    ensures profile { (profile : Profile) → IsOf profile body.old.instrs
+        → IsOf profile body.new.instrs }
 {
     // The proof asks what this says: what has moved is of the same profile.
     moving_of_code();
@@ -245,9 +250,11 @@ pub fn shift_in_place(body: &mut Body, kind: Moving, from: u32)
 /// The expression after an import of a global was put in at the index `from`, as [`shift`] of a body.
 pub fn shift_expr(alloc: Global, expr: &Expr, from: u32) -> Result<Expr, ShiftFault>
     ensures exact { MatchResult result
-        (λ e. (any_stuck Moving.Global from (refs_of expr.now) ≡ false) × (e ≡ shift_instrs Moving.Global from expr.now))
+        (λ e. (any_stuck Moving.Global from (refs_of expr.now) ≡ false)
+        × (e ≡ shift_instrs Moving.Global from expr.now))
         (λ e. IsRefused e (any_stuck Moving.Global from (refs_of expr.now))) }
-    ensures profile { IfOk result (λ e. (profile : Profile) → IsOf profile expr.now → IsOf profile e) }
+    ensures profile { IfOk result
+        (λ e. (profile : Profile) → IsOf profile expr.now → IsOf profile e) }
 {
     moved_expr(alloc, expr, Moving::Global, from)
 }

@@ -1,21 +1,18 @@
 //! What an import makes of what is kept of a body: what it refers to, and its written form.
 
-ghost use Rattle.std.specs.Prelude.{◌≡◌, ◌++◌, ◌≤◌, ◌∷◌, ℕ, List, [], false, true, drop, length, map, take, IfOk, OnErr, OnOk};
-ghost use Rattle.std.specs.List.{flat_map, AllByRecursion};
-ghost use Rattle.wk_body.specs.Kept.{told, all_told, IsWithin};
-ghost use Rattle.wk_body.specs.Moved.{moved_kept, moved_ref, said};
-ghost use Rattle.wk_body.specs.Moves.{any_moving};
-ghost use Rattle.wk_body.specs.References.{refs_of, tok_refs, is_stuck, any_stuck, shift_body, shift_instrs, AreRising, AreSame};
+ghost use Rattle.std.specs.Prelude.{◌≡◌, ◌++◌, ◌∷◌, ℕ, false, IfOk, OnErr, OnOk};
+ghost use Rattle.wk_body.specs.Instructions.{Plain};
+ghost use Rattle.wk_body.specs.Moved.{moved_ref};
+ghost use Rattle.wk_body.specs.References.{refs_of, moved_plain, is_stuck, any_stuck, shift_body, shift_instrs, AreRising, AreSame};
+ghost use Rattle.wk_body.specs.Shifts.{shifted_plain};
 ghost use Rattle.wk_body.specs.Tree.{Instrs};
 ghost use Rattle.wk_body.specs.Written.{written_body, StaysInFront};
 
 use crate::body::Body;
 use crate::length::groups_len;
-use crate::opcode;
 use crate::references::{Ref, add};
-use crate::renumber::{Moving, next_index, token_movement};
-use crate::token::Token;
-use crate::writing::put_index;
+use crate::renumber::{Moving, next_index};
+use crate::shifts::{Shifts, put_tokens};
 use std::alloc::Global;
 use std::collections::BTreeSet;
 use wk_bytes::OutOfMemory;
@@ -42,7 +39,8 @@ pub fn shift_uses(
 ) -> Result<BTreeSet<Ref>, OutOfMemory>
     requires { any_stuck kind from uses.now.keys ≡ false }
     ensures rising { IfOk result (λ s. AreRising s.keys) }
-    ensures exact { IfOk result (λ s. (own_type : ℕ) (t : Instrs) → AreSame uses.now.keys (Ref.Ty own_type ∷ refs_of t)
+    ensures exact { IfOk result
+        (λ s. (own_type : ℕ) (t : Instrs) → AreSame uses.now.keys (Ref.Ty own_type ∷ refs_of t)
         → AreSame s.keys (Ref.Ty own_type ∷ refs_of (shift_instrs kind from t))) }
 {
     let mut found = BTreeSet::new(alloc);
@@ -52,64 +50,20 @@ pub fn shift_uses(
     Ok(found)
 }
 
-// Appends the written form of a token that moves and has a next. It is no caller of `put_token`, which its callers take in line.
-#[inline(never)]
-fn put_shifted(out: &mut Vec<u8>, kind: Moving, from: u32, token: &Token) -> Result<(), OutOfMemory>
-    requires moves { any_moving kind from (tok_refs (told [] token.now)) ≡ true }
-    requires free { any_stuck kind from (tok_refs (told [] token.now)) ≡ false }
-    ensures ok { (pool : List ℕ) → OnOk result (out.new.items ≡ out.old.items ++ said pool (moved_kept kind from token.now ∷ [])) }
-    ensures err { OnErr result (StaysInFront out.old.items out.new.items) }
+// Where references stand, since one import of a kind came.
+fn one_import(kind: Moving, from: u32) -> Shifts
+    ensures { (p : Plain) → shifted_plain result p ≡ moved_plain kind from p }
 {
-    match (kind, *token) {
-        (Moving::Func, Token::Call(x)) => put_index(out, opcode::CALL, next_index(from, x)),
-        (Moving::Global, Token::GlobalGet(x)) => put_index(
-            out,
-            opcode::GLOBAL_GET,
-            next_index(from, x),
-        ),
-        (Moving::Global, Token::GlobalSet(x)) => put_index(
-            out,
-            opcode::GLOBAL_SET,
-            next_index(from, x),
-        ),
-        _ => unreachable!(),
+    let (funcs_by, globals_by) = match kind {
+        Moving::Func => (1, 0),
+        Moving::Global => (0, 1),
+    };
+    Shifts {
+        funcs_from: from,
+        funcs_by,
+        globals_from: from,
+        globals_by,
     }
-}
-
-// Appends the front of a code and the written form of the tokens behind it, moved. What stands between those that move is copied.
-fn put_shifted_tokens(
-    out: &mut Vec<u8>,
-    labels: &[u32],
-    tokens: &[Token],
-    code: &[u8],
-    head: usize,
-    kind: Moving,
-    from: u32,
-) -> Result<(), OutOfMemory>
-    requires within { AllByRecursion (IsWithin (length labels.now)) tokens.now }
-    requires free { any_stuck kind from (flat_map tok_refs (all_told [] tokens.now)) ≡ false }
-    requires head { head ≤ length code.now }
-    requires code { drop head code.now ≡ said labels.now tokens.now }
-    ensures ok { OnOk result (out.new.items ≡ out.old.items ++ (take head code.now ++ said labels.now (map (moved_kept kind from) tokens.now))) }
-    ensures err { OnErr result (StaysInFront out.old.items out.new.items) }
-{
-    let mut rest = code;
-    let mut run = head;
-    for token in tokens {
-        let left = rest.len();
-        let end = run + token.len_in_loop(labels) as usize;
-        prove!(end <= left);
-        if token_movement(kind, from, token).moves {
-            out.extend_from_slice(&rest[..run])?;
-            put_shifted(out, kind, from, token)?;
-            rest = &rest[end..];
-            run = 0;
-        } else {
-            run = end;
-        }
-    }
-    out.extend_from_slice(rest)?;
-    Ok(())
 }
 
 /// Appends the written form of a body after [`shift`](crate::shift), by the one before, which is `code`. After a refusal what stood in
@@ -123,10 +77,14 @@ pub fn append_shifted(
 ) -> Result<(), OutOfMemory>
     requires free { any_stuck kind from (refs_of body.now.instrs) ≡ false }
     requires code { code.now ≡ written_body body.now }
-    ensures ok { OnOk result (out.new.items ≡ out.old.items ++ written_body (shift_body kind from body.now)) }
+    ensures ok { OnOk result
+        (out.new.items ≡ out.old.items ++ written_body (shift_body kind from body.now)) }
     ensures err { OnErr result (StaysInFront out.old.items out.new.items) }
 {
+    // The proof asks what this says: all numbers of its instructions are in their ranges.
+    body.tokens();
     let head = groups_len(body.groups()) as usize;
-    let (tokens, labels) = body.tokens();
-    put_shifted_tokens(out, labels, tokens, code, head, kind, from)
+    let whole = put_tokens(out, code, head, one_import(kind, from))?;
+    prove!(whole);
+    Ok(())
 }

@@ -51,7 +51,9 @@ fn with_skip(token: Token, n: u32) -> Token
 // Sets the distance of the token at a place to its end.
 fn set_skip(tokens: &mut Vec<Token>, place: usize, n: u32)
     requires { place < length tokens.old.items }
-    ensures { tokens.new.items ≡ set tokens.old.items place (skipping (slice_index_or tokens.old.items place Token.End) n) }
+    ensures { tokens.new.items
+        ≡ set tokens.old.items place
+        (skipping (slice_index_or tokens.old.items place Token.End) n) }
 {
     let token = with_skip(tokens[place], n);
     tokens[place] = token;

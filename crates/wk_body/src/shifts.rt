@@ -34,7 +34,8 @@ pub struct Shifts {
 fn behind_integer(code: &[u8], at: usize) -> Option<usize>
     requires { at ≤ length code.now }
     ensures within { IfSome result (λ end. (at < end) × (end ≤ length code.now)) }
-    ensures exact { (front later : List ℕ) → IsInteger front → drop at code.now ≡ front ++ later → result ≡ Some (at + length front) }
+    ensures exact { (front later : List ℕ) → IsInteger front → drop at code.now ≡ front ++ later
+        → result ≡ Some (at + length front) }
 {
     let mut end = at;
     while end < code.len() {
@@ -52,7 +53,8 @@ fn behind_integer(code: &[u8], at: usize) -> Option<usize>
 fn behind_integers(code: &[u8], at: usize, count: usize) -> Option<usize>
     requires { at ≤ length code.now }
     ensures within { IfSome result (λ end. (at ≤ end) × (end ≤ length code.now)) }
-    ensures exact { (front later : List ℕ) → AreIntegers count front → drop at code.now ≡ front ++ later → result ≡ Some (at + length front) }
+    ensures exact { (front later : List ℕ) → AreIntegers count front
+        → drop at code.now ≡ front ++ later → result ≡ Some (at + length front) }
 {
     let mut end = at;
     for _ in 0..count {
@@ -64,20 +66,25 @@ fn behind_integers(code: &[u8], at: usize, count: usize) -> Option<usize>
 // The index at an offset, and the offset behind it.
 #[inline(always)]
 fn index_at(code: &[u8], at: usize) -> Option<(u32, usize)>
-    requires few { length code.now ≤ LIMIT }
     ensures within { IfSome result (λ found. (at ≤ found.1) × (found.1 ≤ length code.now)) }
-    ensures exact { (x : ℕ) (later : List ℕ) → x < 2 ^ 32 → drop at code.now ≡ short x ++ later → result ≡ Some (x, at + length (short x)) }
+    ensures exact { (x : ℕ) (later : List ℕ) → x < 2 ^ 32 → drop at code.now ≡ short x ++ later
+        → result ≡ Some (x, at + length (short x)) }
 {
-    let mut cursor = Cursor::new(code.get(at..)?);
+    let byte = *code.get(at)?;
+    if byte < 128 {
+        return Some((u32::from(byte), at + 1));
+    }
+    // No index has more than five bytes, and no cursor is over more than a module has.
+    let front = &code[at..code.len().min(at + 5)];
+    let mut cursor = Cursor::new(front);
     let Ok(x) = cursor.u32() else {
         return None;
     };
-    Some((x, code.len() - cursor.rest().len()))
+    Some((x, at + (front.len() - cursor.rest().len())))
 }
 
 // The offset behind the labels of a `br_table` at an offset.
 fn behind_labels(code: &[u8], at: usize) -> Option<usize>
-    requires few { length code.now ≤ LIMIT }
     ensures within { IfSome result (λ end. (at ≤ end) × (end ≤ length code.now)) }
     ensures exact { (labels : List ℕ) (other : ℕ) (later : List ℕ) → length labels < 2 ^ 32
         → drop at code.now ≡ (written_vector short labels ++ short other) ++ later
@@ -91,7 +98,8 @@ fn behind_labels(code: &[u8], at: usize) -> Option<usize>
 fn behind_bytes(code: &[u8], at: usize, size: usize) -> Option<usize>
     requires { at ≤ length code.now }
     ensures within { IfSome result (λ end. (at ≤ end) × (end ≤ length code.now)) }
-    ensures exact { (front later : List ℕ) → length front ≡ size → drop at code.now ≡ front ++ later → result ≡ Some (at + length front) }
+    ensures exact { (front later : List ℕ) → length front ≡ size → drop at code.now ≡ front ++ later
+        → result ≡ Some (at + length front) }
 {
     if code.len() - at < size {
         return None;
@@ -101,12 +109,12 @@ fn behind_bytes(code: &[u8], at: usize, size: usize) -> Option<usize>
 
 // The offset behind a token at an offset, of which nothing moves.
 fn behind_token(code: &[u8], at: usize, opcode: u8) -> Option<usize>
-    requires few { length code.now ≤ LIMIT }
     requires inside { at < length code.now }
     requires opcode { opcode ≡ slice_index code.now at }
     requires still { IsReferring opcode → ⊥ }
     ensures within { IfSome result (λ end. (at < end) × (end ≤ length code.now)) }
-    ensures exact { (t : Tok) (later : List ℕ) → IsTokInRange t → drop at code.now ≡ tok_bytes t ++ later → result ≡ Some (at + length (tok_bytes t)) }
+    ensures exact { (t : Tok) (later : List ℕ) → IsTokInRange t
+        → drop at code.now ≡ tok_bytes t ++ later → result ≡ Some (at + length (tok_bytes t)) }
 {
     let next = at + 1;
     match opcode {
@@ -145,14 +153,18 @@ fn pass_reference(
     opcode: u8,
     shifts: Shifts,
 ) -> Result<bool, OutOfMemory>
-    requires few { length code.now ≤ LIMIT }
     requires inside { at.old < length code.now }
     requires order { run.old ≤ at.old }
     requires opcode { opcode ≡ slice_index code.now at.old }
     requires referring { IsReferring opcode }
-    ensures within { IfOk result (λ done. done ≡ true → (at.old < at.new) × (at.new ≤ length code.now) × (run.new ≤ at.new)) }
-    ensures goes { IfOk result (λ done. done ≡ true → ShiftsOn shifts code.now out.old.items run.old at.old out.new.items run.new at.new) }
-    ensures stays { IfOk result (λ done. done ≡ false → StaysBehind shifts code.now out.old.items run.old at.old) }
+    ensures within { IfOk result
+        (λ done. done ≡ true
+        → (at.old < at.new) × (at.new ≤ length code.now) × (run.new ≤ at.new)) }
+    ensures goes { IfOk result
+        (λ done. done ≡ true
+        → ShiftsOn shifts code.now out.old.items run.old at.old out.new.items run.new at.new) }
+    ensures stays { IfOk result
+        (λ done. done ≡ false → StaysBehind shifts code.now out.old.items run.old at.old) }
     ensures front { StaysInFront out.old.items out.new.items }
 {
     let Some((x, end)) = index_at(code, *at + 1) else {
@@ -178,12 +190,16 @@ fn pass_token(
     at: &mut usize,
     shifts: Shifts,
 ) -> Result<bool, OutOfMemory>
-    requires few { length code.now ≤ LIMIT }
     requires inside { at.old < length code.now }
     requires order { run.old ≤ at.old }
-    ensures within { IfOk result (λ done. done ≡ true → (at.old < at.new) × (at.new ≤ length code.now) × (run.new ≤ at.new)) }
-    ensures goes { IfOk result (λ done. done ≡ true → ShiftsOn shifts code.now out.old.items run.old at.old out.new.items run.new at.new) }
-    ensures stays { IfOk result (λ done. done ≡ false → StaysBehind shifts code.now out.old.items run.old at.old) }
+    ensures within { IfOk result
+        (λ done. done ≡ true
+        → (at.old < at.new) × (at.new ≤ length code.now) × (run.new ≤ at.new)) }
+    ensures goes { IfOk result
+        (λ done. done ≡ true
+        → ShiftsOn shifts code.now out.old.items run.old at.old out.new.items run.new at.new) }
+    ensures stays { IfOk result
+        (λ done. done ≡ false → StaysBehind shifts code.now out.old.items run.old at.old) }
     ensures front { StaysInFront out.old.items out.new.items }
 {
     let opcode = code[*at];
@@ -202,7 +218,9 @@ fn pass_token(
 fn behind_regular(code: &[u8], at: usize) -> Option<usize>
     requires { at + 2 < length code.now }
     ensures within { IfSome result (λ end. (at < end) × (end ≤ length code.now)) }
-    ensures goes { IfSome result (λ end. (s : Shifts) (out : List ℕ) (run : ℕ) → run ≤ at → ShiftsOn s code.now out run at out run end) }
+    ensures goes { IfSome result
+        (λ end. (s : Shifts) (out : List ℕ) (run : ℕ) → run ≤ at
+        → ShiftsOn s code.now out run at out run end) }
 {
     let len = stride(code[at]);
     if is_minimal(len, code[at + 1], code[at + 2]) {
@@ -218,7 +236,8 @@ fn behind_regular(code: &[u8], at: usize) -> Option<usize>
 fn behind_run(code: &[u8], from: usize) -> usize
     requires { from ≤ length code.now }
     ensures within { (from ≤ result) × (result ≤ length code.now) }
-    ensures goes { (s : Shifts) (out : List ℕ) (run : ℕ) → run ≤ from → ShiftsOn s code.now out run from out run result }
+    ensures goes { (s : Shifts) (out : List ℕ) (run : ℕ) → run ≤ from
+        → ShiftsOn s code.now out run from out run result }
 {
     let last = code.len().saturating_sub(2);
     let mut at = from;
@@ -232,17 +251,17 @@ fn behind_run(code: &[u8], from: usize) -> usize
 }
 
 // Appends a code from its tokens on, which begin at `head`, with what stands in front of them.
-fn put_tokens(
+pub(crate) fn put_tokens(
     out: &mut Vec<u8>,
     code: &[u8],
     head: usize,
     shifts: Shifts,
 ) -> Result<bool, OutOfMemory>
-    requires few { length code.now ≤ LIMIT }
-    requires inside { head ≤ length code.now }
+    requires { head ≤ length code.now }
     ensures goes { IfOk result (λ done. done ≡ true → (all : List Tok) (goal : List ℕ)
         → Shifting shifts all goal code.now out.old.items 0 head → out.new.items ≡ goal) }
-    ensures stays { IfOk result (λ done. done ≡ false → StaysBehind shifts code.now out.old.items 0 head) }
+    ensures stays { IfOk result
+        (λ done. done ≡ false → StaysBehind shifts code.now out.old.items 0 head) }
     ensures front { StaysInFront out.old.items out.new.items }
 {
     let mut run = 0;
@@ -264,10 +283,14 @@ fn put_tokens(
 ///
 /// It goes once over the bytes, keeps nothing, and takes them for a written form: of other bytes no more than that is promised.
 pub fn append_shifts(out: &mut Vec<u8>, code: &[u8], shifts: Shifts) -> Result<bool, OutOfMemory>
-    ensures exact { IfOk result (λ done. done ≡ true → (b : BodyOf) → AreGroups b.groups → IsShaped b.instrs → code.now ≡ written_body b
+    ensures exact { IfOk result
+        (λ done. done ≡ true → (b : BodyOf) → AreGroups b.groups → IsShaped b.instrs
+        → code.now ≡ written_body b
         → out.new.items ≡ out.old.items ++ written_body (shifted_body shifts b)) }
-    ensures sure { IfOk result (λ done. done ≡ false → (b : BodyOf) → AreGroups b.groups → IsShaped b.instrs → code.now ≡ written_body b
-        → length code.now ≤ LIMIT → IsShaped (shifted_body shifts b).instrs → ⊥) }
+    ensures sure { IfOk result
+        (λ done. done ≡ false → (b : BodyOf) → AreGroups b.groups → IsShaped b.instrs
+        → code.now ≡ written_body b → length code.now ≤ LIMIT
+        → IsShaped (shifted_body shifts b).instrs → ⊥) }
     ensures front { StaysInFront out.old.items out.new.items }
 {
     if shifts.funcs_by == 0 && shifts.globals_by == 0 {

@@ -172,7 +172,8 @@ fn put_word64(buf: &mut [u8; CAPACITY], at: usize, word: u64) -> usize
 fn put_operands(buf: &mut [u8; CAPACITY], at: usize, operands: Operands<'_>) -> Option<usize>
     requires { at + 10 ≤ CAPACITY }
     ensures few { IfSome result (λ end. end ≤ at + 10) }
-    ensures bytes { IfSome result (λ end. take end buf.new ≡ take at buf.old ++ operand_bytes (operands_of operands.entry)) }
+    ensures bytes { IfSome result
+        (λ end. take end buf.new ≡ take at buf.old ++ operand_bytes (operands_of operands.entry)) }
     ensures none { IfNone result (take at buf.new ≡ take at buf.old) }
 {
     match operands {
@@ -208,7 +209,8 @@ pub(crate) fn put_short(
     requires inside { used ≤ CAPACITY }
     requires within { IsWithin (length labels.now) token.now }
     ensures inside { IfSome result (λ end. end ≤ CAPACITY) }
-    ensures bytes { IfSome result (λ end. take end buf.new ≡ take used buf.old ++ tok_bytes (told labels.now token.now)) }
+    ensures bytes { IfSome result
+        (λ end. take end buf.new ≡ take used buf.old ++ tok_bytes (told labels.now token.now)) }
     ensures none { IfNone result (take used buf.new ≡ take used buf.old) }
 {
     if used > CAPACITY - MAX_TOKEN_LEN {

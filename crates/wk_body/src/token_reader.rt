@@ -63,7 +63,9 @@ fn push_label(labels: &mut Vec<u32>, label: u32) -> Result<(), ReadFault>
 fn labels_into(labels: &mut Vec<u32>, len: u32, cursor: &mut Cursor<'_>) -> Result<(), ReadFault>
     requires { labels.old.items ≡ [] }
     ensures { MatchResult result
-        (λ _. (items_at u32_at len cursor.old.end cursor.old.rest ≡ Ok (labels.new.items, cursor.new.rest)) × (cursor.new.end ≡ cursor.old.end))
+        (λ _. (items_at u32_at len cursor.old.end cursor.old.rest
+        ≡ Ok (labels.new.items, cursor.new.rest))
+        × (cursor.new.end ≡ cursor.old.end))
         (λ e. FailsAs e e.kind (items_at u32_at len cursor.old.end cursor.old.rest)) }
 {
     for _ in 0..len {
@@ -98,7 +100,9 @@ impl TokenReader {
     /// it did; else the reader is as it was. It takes no memory.
     #[inline(always)]
     pub fn open_block(&mut self, is_if: bool) -> bool
-        ensures opened { result ≡ true → (length self.old.kinds < depth_limit) × (self.new.kinds ≡ is_if ∷ self.old.kinds) × (self.new.labels ≡ self.old.labels) }
+        ensures opened { result ≡ true
+            → (length self.old.kinds < depth_limit) × (self.new.kinds ≡ is_if ∷ self.old.kinds)
+            × (self.new.labels ≡ self.old.labels) }
         ensures left { result ≡ false → self.new ≡ self.old }
     {
         if self.blocks.len() < MAX_DEPTH && self.blocks.len() < self.blocks.capacity() {
@@ -111,7 +115,9 @@ impl TokenReader {
     /// Closes the innermost block, for a caller that has read an `end`. Whether there was one; else the reader is as it was.
     #[inline(always)]
     pub fn close_block(&mut self) -> bool
-        ensures closed { result ≡ true → (after Close self.old.kinds ≡ Some self.new.kinds) × (self.new.labels ≡ self.old.labels) }
+        ensures closed { result ≡ true
+            → (after Close self.old.kinds ≡ Some self.new.kinds)
+            × (self.new.labels ≡ self.old.labels) }
         ensures none { result ≡ false → self.old.kinds ≡ [] }
         ensures left { result ≡ false → self.new ≡ self.old }
     {
@@ -123,7 +129,9 @@ impl TokenReader {
     #[inline(always)]
     pub fn part_block(&mut self) -> bool
         ensures may { result ≡ true → may_else self.old.kinds ≡ true }
-        ensures parted { result ≡ true → (after (Otherwise 0) self.old.kinds ≡ Some self.new.kinds) × (self.new.labels ≡ self.old.labels) }
+        ensures parted { result ≡ true
+            → (after (Otherwise 0) self.old.kinds ≡ Some self.new.kinds)
+            × (self.new.labels ≡ self.old.labels) }
         ensures none { result ≡ false → may_else self.old.kinds ≡ false }
         ensures left { result ≡ false → self.new ≡ self.old }
     {
@@ -178,7 +186,9 @@ impl TokenReader {
         at: u32,
         cursor: &mut Cursor<'_>,
     ) -> Result<BlockType, ReadFault>
-        ensures { Parses (λ x. x) (type_here profile self.now.kinds (record { kind = TooDeep; at = at })) cursor.old result cursor.new }
+        ensures { Parses (λ x. x)
+            (type_here profile self.now.kinds (record { kind = TooDeep; at = at })) cursor.old
+            result cursor.new }
     {
         if self.blocks.len() < MAX_DEPTH {
             block_type(profile, cursor)
@@ -236,9 +246,10 @@ impl TokenReader {
     // An else, whose opcode stands at `at`.
     #[inline(always)]
     pub(crate) fn other(&mut self, at: u32) -> Result<Token, ReadFault>
-        ensures { MatchResult result
-            (λ t. StartsElse self.old self.new t)
-            (λ e. FailsAs e e.kind (if may_else self.old.kinds then Ok self.old.kinds else Err (record { kind = UnknownOpcode; at = at }))) }
+        ensures { MatchResult result (λ t. StartsElse self.old self.new t)
+            (λ e. FailsAs e e.kind
+            (if may_else self.old.kinds then Ok self.old.kinds
+            else Err (record { kind = UnknownOpcode; at = at }))) }
     {
         if let Some(true) = self.blocks.pop() {
             self.blocks.push(false)?;
@@ -254,7 +265,9 @@ impl TokenReader {
     #[tactic(auto, unfolding(crate::specs::Reading::plain_at, crate::specs::Reading::behind_form, crate::specs::Instructions::form_of, crate::specs::Reading::labels_at, crate::specs::Vectors::vector_at))]
     #[inline(always)]
     fn table(&mut self, cursor: &mut Cursor<'_>) -> Result<Token, ReadFault>
-        ensures read { (profile : Profile) (e : ReadFault) → Parses (λ x. told self.new.labels x) (tok_at (plain_at profile e 0x0E)) cursor.old result cursor.new }
+        ensures read { (profile : Profile) (e : ReadFault)
+            → Parses (λ x. told self.new.labels x) (tok_at (plain_at profile e 0x0E)) cursor.old
+            result cursor.new }
         ensures within { IfOk result (IsWithin (length self.new.labels)) }
         ensures kinds { IfOk result (λ _. self.new.kinds ≡ self.old.kinds) }
     {
@@ -280,8 +293,10 @@ impl TokenReader {
         cursor: &mut Cursor<'_>,
     ) -> Result<Option<Token>, ReadFault>
         ensures { MatchResult result
-            (λ t. IsNext (behind_at profile self.old.kinds at opcode cursor.old.end cursor.old.rest) self.old self.new cursor.old.end cursor.new t)
-            (λ e. FailsAs e e.kind (behind_at profile self.old.kinds at opcode cursor.old.end cursor.old.rest)) }
+            (λ t. IsNext (behind_at profile self.old.kinds at opcode cursor.old.end cursor.old.rest)
+            self.old self.new cursor.old.end cursor.new t)
+            (λ e. FailsAs e e.kind
+            (behind_at profile self.old.kinds at opcode cursor.old.end cursor.old.rest)) }
     {
         match opcode {
             opcode::END => Ok(self.close()),
@@ -315,7 +330,8 @@ impl TokenReader {
     ) -> Result<Option<Token>, ReadFault>
         ensures exact { MatchResult result
             (λ t. NextRead profile self.old self.new cursor.old cursor.new t)
-            (λ e. FailsAs e e.kind (token_at profile self.old.kinds cursor.old.end cursor.old.rest)) }
+            (λ e. FailsAs e e.kind
+            (token_at profile self.old.kinds cursor.old.end cursor.old.rest)) }
     {
         let at = cursor.at();
         let opcode = cursor.byte()?;
@@ -339,7 +355,8 @@ impl TokenReader {
     ) -> Result<Option<Token>, ReadFault>
         ensures exact { MatchResult result
             (λ t. NextRead profile self.old self.new cursor.old cursor.new t)
-            (λ e. FailsAs e e.kind (token_at profile self.old.kinds cursor.old.end cursor.old.rest)) }
+            (λ e. FailsAs e e.kind
+            (token_at profile self.old.kinds cursor.old.end cursor.old.rest)) }
         ensures left { IfErr result (λ e. cursor.new ≡ cursor.old) }
         ensures fault { IfErr result (λ e. StandsOrMemory cursor.old e) }
     {
@@ -358,7 +375,9 @@ impl TokenReader {
 #[tactic(auto, unfolding(crate::specs::TokenReading::local_groups_at))]
 fn take_groups(groups: &mut Vec<LocalGroup>, cursor: &mut Cursor<'_>) -> Result<(), ReadFault>
     ensures exact { MatchResult result
-        (λ _. (local_groups_at cursor.old.end cursor.old.rest ≡ Ok (groups.new.items, cursor.new.rest)) × (cursor.new.end ≡ cursor.old.end))
+        (λ _. (local_groups_at cursor.old.end cursor.old.rest
+        ≡ Ok (groups.new.items, cursor.new.rest))
+        × (cursor.new.end ≡ cursor.old.end))
         (λ e. FailsAs e e.kind (local_groups_at cursor.old.end cursor.old.rest)) }
 {
     let count = cursor.u32()?;
@@ -373,7 +392,9 @@ fn take_groups(groups: &mut Vec<LocalGroup>, cursor: &mut Cursor<'_>) -> Result<
 /// more, or `Memory` at 0 where a growth was refused. The cursor is as it was, and the room holds anything.
 pub fn next_groups(groups: &mut Vec<LocalGroup>, cursor: &mut Cursor<'_>) -> Result<(), ReadFault>
     ensures exact { MatchResult result
-        (λ _. (local_groups_at cursor.old.end cursor.old.rest ≡ Ok (groups.new.items, cursor.new.rest)) × (cursor.new.end ≡ cursor.old.end))
+        (λ _. (local_groups_at cursor.old.end cursor.old.rest
+        ≡ Ok (groups.new.items, cursor.new.rest))
+        × (cursor.new.end ≡ cursor.old.end))
         (λ e. FailsAs e e.kind (local_groups_at cursor.old.end cursor.old.rest)) }
     ensures only { TakesOnly (λ _. groups.new.items) SpellsGroups cursor.old result cursor.new }
     ensures range { IfOk result (λ _. AreGroups groups.new.items) }

@@ -110,7 +110,8 @@ pub(crate) fn put_index(out: &mut Vec<u8>, opcode: u8, x: u32) -> Result<(), Out
 #[inline(always)]
 fn put_operands(out: &mut Vec<u8>, operands: Operands<'_>) -> Result<(), OutOfMemory>
     requires { AreCounted operands }
-    ensures ok { OnOk result (out.new.items ≡ out.old.items ++ operand_bytes (operands_of operands.entry)) }
+    ensures ok { OnOk result
+        (out.new.items ≡ out.old.items ++ operand_bytes (operands_of operands.entry)) }
     ensures err { OnErr result (StaysInFront out.old.items out.new.items) }
 {
     match operands {
@@ -142,7 +143,8 @@ fn put_operands(out: &mut Vec<u8>, operands: Operands<'_>) -> Result<(), OutOfMe
 #[inline(always)]
 fn put_token(out: &mut Vec<u8>, labels: &[u32], token: &Token) -> Result<(), OutOfMemory>
     requires { IsWithin (length labels.now) token.now }
-    ensures ok { OnOk result (out.new.items ≡ out.old.items ++ tok_bytes (told labels.now token.now)) }
+    ensures ok { OnOk result
+        (out.new.items ≡ out.old.items ++ tok_bytes (told labels.now token.now)) }
     ensures err { OnErr result (StaysInFront out.old.items out.new.items) }
 {
     let (opcode, operands) = token.operands(labels);
@@ -159,7 +161,8 @@ fn flush_then_put(
     token: &Token,
 ) -> Result<(), OutOfMemory>
     requires { IsWithin (length labels.now) token.now }
-    ensures ok { OnOk result (out.new.items ≡ out.old.items ++ buf.now ++ tok_bytes (told labels.now token.now)) }
+    ensures ok { OnOk result
+        (out.new.items ≡ out.old.items ++ buf.now ++ tok_bytes (told labels.now token.now)) }
     ensures err { OnErr result (StaysInFront out.old.items out.new.items) }
 {
     out.extend_from_slice(buf)?;
@@ -178,7 +181,9 @@ fn buffer_token(
     requires within { IsWithin (length labels.now) token.now }
     requires inside { used ≤ CAPACITY }
     ensures inside { IfOk result (λ end. end ≤ CAPACITY) }
-    ensures ok { IfOk result (λ end. out.new.items ++ take end buf.new ≡ out.old.items ++ take used buf.old ++ tok_bytes (told labels.now token.now)) }
+    ensures ok { IfOk result
+        (λ end. out.new.items ++ take end buf.new
+        ≡ out.old.items ++ take used buf.old ++ tok_bytes (told labels.now token.now)) }
     ensures front { StaysInFront out.old.items out.new.items }
 {
     if let Some(end) = put_short(buf, used, labels, token) {
@@ -191,7 +196,8 @@ fn buffer_token(
 // Tokens that are gathered in a buffer first.
 fn put_buffered(out: &mut Vec<u8>, labels: &[u32], tokens: &[Token]) -> Result<(), OutOfMemory>
     requires { AllByRecursion (IsWithin (length labels.now)) tokens.now }
-    ensures ok { OnOk result (out.new.items ≡ out.old.items ++ flat_map tok_bytes (all_told labels.now tokens.now)) }
+    ensures ok { OnOk result
+        (out.new.items ≡ out.old.items ++ flat_map tok_bytes (all_told labels.now tokens.now)) }
     ensures err { OnErr result (StaysInFront out.old.items out.new.items) }
 {
     let mut buf = [0; CAPACITY];
@@ -206,7 +212,8 @@ fn put_buffered(out: &mut Vec<u8>, labels: &[u32], tokens: &[Token]) -> Result<(
 // The same for few tokens, for which no buffer is cleared.
 fn put_unbuffered(out: &mut Vec<u8>, labels: &[u32], tokens: &[Token]) -> Result<(), OutOfMemory>
     requires { AllByRecursion (IsWithin (length labels.now)) tokens.now }
-    ensures ok { OnOk result (out.new.items ≡ out.old.items ++ flat_map tok_bytes (all_told labels.now tokens.now)) }
+    ensures ok { OnOk result
+        (out.new.items ≡ out.old.items ++ flat_map tok_bytes (all_told labels.now tokens.now)) }
     ensures err { OnErr result (StaysInFront out.old.items out.new.items) }
 {
     for token in tokens {
@@ -218,7 +225,8 @@ fn put_unbuffered(out: &mut Vec<u8>, labels: &[u32], tokens: &[Token]) -> Result
 // The tokens of an expression.
 fn put_tokens(out: &mut Vec<u8>, labels: &[u32], tokens: &[Token]) -> Result<(), OutOfMemory>
     requires { AllByRecursion (IsWithin (length labels.now)) tokens.now }
-    ensures ok { OnOk result (out.new.items ≡ out.old.items ++ flat_map tok_bytes (all_told labels.now tokens.now)) }
+    ensures ok { OnOk result
+        (out.new.items ≡ out.old.items ++ flat_map tok_bytes (all_told labels.now tokens.now)) }
     ensures err { OnErr result (StaysInFront out.old.items out.new.items) }
 {
     if tokens.len() < BUFFER_FROM {
@@ -231,7 +239,8 @@ fn put_tokens(out: &mut Vec<u8>, labels: &[u32], tokens: &[Token]) -> Result<(),
 pub fn append_expr(out: &mut Vec<u8>, expr: &Expr) -> Result<(), OutOfMemory>
     ensures ok { OnOk result (out.new.items ≡ out.old.items ++ written_expr expr.now) }
     ensures err { OnErr result (StaysInFront out.old.items out.new.items) }
-    ensures spells { (profile : Profile) → IsOf profile expr.now → SpellsExpr profile expr.now (written_expr expr.now) }
+    ensures spells { (profile : Profile) → IsOf profile expr.now
+        → SpellsExpr profile expr.now (written_expr expr.now) }
 {
     let (tokens, labels) = expr.tokens();
     put_tokens(out, labels, tokens)
@@ -253,7 +262,9 @@ fn put_groups(out: &mut Vec<u8>, groups: &[LocalGroup]) -> Result<(), OutOfMemor
 pub fn append_body(out: &mut Vec<u8>, body: &Body) -> Result<(), OutOfMemory>
     ensures ok { OnOk result (out.new.items ≡ out.old.items ++ written_body body.now) }
     ensures err { OnErr result (StaysInFront out.old.items out.new.items) }
-    ensures spells { OnOk result ((profile : Profile) → IsOf profile body.now.instrs → SpellsBody profile body.now (written_body body.now)) }
+    ensures spells { OnOk result
+        ((profile : Profile) → IsOf profile body.now.instrs
+        → SpellsBody profile body.now (written_body body.now)) }
 {
     let groups = body.groups();
     put_u32(out, groups.len() as u32)?;
@@ -266,8 +277,10 @@ pub fn append_body(out: &mut Vec<u8>, body: &Body) -> Result<(), OutOfMemory>
 /// `TooLarge` is answered exactly where it is longer than 2,147,483,647 bytes, else `Memory` where a growth was refused. What is
 /// written spells the expression in each profile that it belongs to.
 pub fn encode_expr(alloc: Global, expr: &Expr) -> Result<Vec<u8>, EncodeFault>
-    ensures exact { MatchResult result (λ v. (v.items ≡ written_expr expr.now) × Fits v.items) (Unwritten (written_expr expr.now)) }
-    ensures spells { IfOk result (λ v. (profile : Profile) → IsOf profile expr.now → SpellsExpr profile expr.now v.items) }
+    ensures exact { MatchResult result (λ v. (v.items ≡ written_expr expr.now) × Fits v.items)
+        (Unwritten (written_expr expr.now)) }
+    ensures spells { IfOk result
+        (λ v. (profile : Profile) → IsOf profile expr.now → SpellsExpr profile expr.now v.items) }
 {
     let Some(len) = expr_len(expr) else {
         return Err(EncodeFault::TooLarge);
@@ -282,8 +295,11 @@ pub fn encode_expr(alloc: Global, expr: &Expr) -> Result<Vec<u8>, EncodeFault>
 /// `TooLarge` is answered exactly where it is longer than 2,147,483,647 bytes, else `Memory` where a growth was refused. What is
 /// written spells the body in each profile that it belongs to.
 pub fn encode_body(alloc: Global, body: &Body) -> Result<Vec<u8>, EncodeFault>
-    ensures exact { MatchResult result (λ v. (v.items ≡ written_body body.now) × Fits v.items) (Unwritten (written_body body.now)) }
-    ensures spells { IfOk result (λ v. (profile : Profile) → IsOf profile body.now.instrs → SpellsBody profile body.now v.items) }
+    ensures exact { MatchResult result (λ v. (v.items ≡ written_body body.now) × Fits v.items)
+        (Unwritten (written_body body.now)) }
+    ensures spells { IfOk result
+        (λ v. (profile : Profile) → IsOf profile body.now.instrs
+        → SpellsBody profile body.now v.items) }
 {
     let Some(len) = body_len(body) else {
         return Err(EncodeFault::TooLarge);
@@ -298,7 +314,8 @@ pub fn encode_body(alloc: Global, body: &Body) -> Result<Vec<u8>, EncodeFault>
 /// A spelling is the written form exactly where it is as long. So this looks at each token where `encode_body` writes each.
 pub fn code_bytes(alloc: Global, body: &Body, spelled: &[u8]) -> Result<Vec<u8>, EncodeFault>
     requires { (profile : Profile) × SpellsBody profile body.now spelled.now }
-    ensures { MatchResult result (λ v. (v.items ≡ written_body body.now) × Fits v.items) (Unwritten (written_body body.now)) }
+    ensures { MatchResult result (λ v. (v.items ≡ written_body body.now) × Fits v.items)
+        (Unwritten (written_body body.now)) }
 {
     // The proof asks what these two say: each byte is below 256, and a spelling as long as the written form is it.
     are_bytes(spelled);
@@ -315,11 +332,19 @@ pub fn code_bytes(alloc: Global, body: &Body, spelled: &[u8]) -> Result<Vec<u8>,
 /// The laws of the written form: it spells what it is made of, in each profile that this belongs to; no spelling is shorter, and one
 /// that is as long is the same; and that of an expression is made of those of its tokens (`Token::head_len`), one after the other. It does nothing.
 pub fn written_form_of_code()
-    ensures expr { (profile : Profile) (t : Instrs) → IsShaped t → IsOf profile t → SpellsExpr profile t (written_expr t) }
-    ensures body { (profile : Profile) (b : BodyOf) → AreGroups b.groups → IsShaped b.instrs → IsOf profile b.instrs → SpellsBody profile b (written_body b) }
-    ensures least_expr { (profile : Profile) (t : Instrs) (bytes : List ℕ) → SpellsExpr profile t bytes → length (written_expr t) ≤ length bytes }
-    ensures least_body { (profile : Profile) (b : BodyOf) (bytes : List ℕ) → SpellsBody profile b bytes → length (written_body b) ≤ length bytes }
-    ensures only_expr { (profile : Profile) (t : Instrs) (bytes : List ℕ) → IsBytes bytes → SpellsExpr profile t bytes → length bytes ≡ length (written_expr t) → bytes ≡ written_expr t }
-    ensures only_body { (profile : Profile) (b : BodyOf) (bytes : List ℕ) → IsBytes bytes → SpellsBody profile b bytes → length bytes ≡ length (written_body b) → bytes ≡ written_body b }
+    ensures expr { (profile : Profile) (t : Instrs) → IsShaped t → IsOf profile t
+        → SpellsExpr profile t (written_expr t) }
+    ensures body { (profile : Profile) (b : BodyOf) → AreGroups b.groups → IsShaped b.instrs
+        → IsOf profile b.instrs → SpellsBody profile b (written_body b) }
+    ensures least_expr { (profile : Profile) (t : Instrs) (bytes : List ℕ)
+        → SpellsExpr profile t bytes → length (written_expr t) ≤ length bytes }
+    ensures least_body { (profile : Profile) (b : BodyOf) (bytes : List ℕ)
+        → SpellsBody profile b bytes → length (written_body b) ≤ length bytes }
+    ensures only_expr { (profile : Profile) (t : Instrs) (bytes : List ℕ) → IsBytes bytes
+        → SpellsExpr profile t bytes → length bytes ≡ length (written_expr t)
+        → bytes ≡ written_expr t }
+    ensures only_body { (profile : Profile) (b : BodyOf) (bytes : List ℕ) → IsBytes bytes
+        → SpellsBody profile b bytes → length bytes ≡ length (written_body b)
+        → bytes ≡ written_body b }
     ensures tokens { (t : Instrs) → flat_map tok_bytes (tokens_of t) ≡ written_expr t }
 {}

@@ -18,6 +18,8 @@ pub returns-in-Signed32 : goal.returns-in-Signed32
 returns-in-Signed32 c = λ some x y p q is.
     let number = c.is_wide_number.ensures c.if-is_wide_number.true x y p q is in
     elim c.in-Signed32.is [
-      | inl e ↦ subst (λ (o : Option ImmediateKind). IsWide o 3 x y c.args.z) (sym (sym c.imm_kind.ensures ∙ c.in-Some.is ∙ ap (λ (l : ImmediateKind). Some l) e)) (refl, number)
-      | inr e ↦ subst (λ (o : Option ImmediateKind). IsWide o 3 x y c.args.z) (sym (sym c.imm_kind.ensures ∙ c.in-Some.is ∙ ap (λ (l : ImmediateKind). Some l) e)) (refl, number)
+      | inl e ↦ subst (λ (o : Option ImmediateKind). IsWide o 3 x y c.args.z)
+          (sym (sym c.imm_kind.ensures ∙ c.in-Some.is ∙ ap (λ (l : ImmediateKind). Some l) e)) (refl, number)
+      | inr e ↦ subst (λ (o : Option ImmediateKind). IsWide o 3 x y c.args.z)
+          (sym (sym c.imm_kind.ensures ∙ c.in-Some.is ∙ ap (λ (l : ImmediateKind). Some l) e)) (refl, number)
     ]

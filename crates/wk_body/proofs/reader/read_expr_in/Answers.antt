@@ -19,7 +19,8 @@ returns-clause-only c =
 pub returns-clause-profile : goal.returns-clause-profile
 returns-clause-profile c =
     let fits : IsBytes c.args.bytes.now = λ i. omega (arith, c.type_inv.bytes i) in
-    found_expr_of c.args.profile c.args.bytes.now c.expr_whole.result (finds_expr c.args.profile (length c.args.bytes.now) c.args.bytes.now c.expr_whole.result fits (omega arith) (given c))
+    found_expr_of c.args.profile c.args.bytes.now c.expr_whole.result
+    (finds_expr c.args.profile (length c.args.bytes.now) c.args.bytes.now c.expr_whole.result fits (omega arith) (given c))
 
 pub returns-clause-fault : goal.returns-clause-fault
 returns-clause-fault c =

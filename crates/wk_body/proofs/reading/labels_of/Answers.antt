@@ -3,7 +3,7 @@ use Rattle.wk_bytes.specs.Leb.{lastU}
 use Rattle.wk_bytes.specs.Span.{u32_at}
 use Rattle.wk_body.specs.Vectors.{items_at}
 use Rattle.wk_body.proofs.Faults.{fails_int}
-use Rattle.wk_body.proofs.Labels.{labels_begin, labels_go_on, labels_fail, labels_end}
+use Rattle.wk_body.proofs.Labels.{labels_begin, labels_go_on, labels_stop, labels_end}
 use Rattle.wk_body.proofs.reading.labels_of.Goals as goal
 
 pub loop-init : goal.loop-init
@@ -14,7 +14,8 @@ add_label-requires c = c.loop.invariant.labelled.good
 
 pub loop-preserved : goal.loop-preserved
 loop-preserved c =
-    labels_go_on c.args.scratch.now c.loop.scratch c.add_label.new.self c.args.count c.loop.counter c.in_ok-label.label c.args.cursor.now c.loop.cursor c.u32.new.self _
+    labels_go_on c.args.scratch.now c.loop.scratch c.add_label.new.self c.args.count c.loop.counter c.in_ok-label.label c.args.cursor.now c.loop.cursor
+    c.u32.new.self _
     c.loop-test.true c.in_ok-label.ensures.exact c.in_ok-add_label.ensures c.loop.invariant
 
 pub returns-in_err-label : goal.returns-in_err-label
@@ -23,7 +24,8 @@ returns-in_err-label c =
     let whole = items_at u32_at c.args.count c.args.cursor.now.end c.args.cursor.now.rest in
     let e = c.in_err-label.field-0.0 in
     rw (p.1, p.2) (fails_int lastU 32 c.loop.cursor.rest e e.kind whole c.in_err-label.ensures.fault.1
-    (labels_fail c.args.scratch.now c.loop.scratch e c.args.count c.loop.counter c.args.cursor.now c.loop.cursor whole c.loop-test.true c.in_err-label.ensures.exact.0 c.loop.invariant))
+    (labels_stop c.loop.invariant.labels e c.args.count c.loop.counter c.args.cursor.now c.loop.cursor whole c.loop-test.true
+    c.in_err-label.ensures.exact.0 c.loop.invariant.ahead))
 
 pub returns : goal.returns
 returns c = labels_end c.args.scratch.now c.loop.scratch c.args.count c.loop.counter c.args.cursor.now c.loop.cursor c.loop-test.false c.loop.invariant

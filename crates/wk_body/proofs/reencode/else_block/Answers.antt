@@ -8,4 +8,5 @@ returns-then-inner-gt1-clause-takes c = λ ks is.
     else_bit c.args.inner.now ks c.args.reader.now.kinds is c.if-inner-gt1.true odd
 
 pub returns-clause-takes : goal.returns-clause-takes
-returns-clause-takes c = λ ks is. else_kept c.args.inner.now ks c.args.reader.now.kinds c.other.new.self.kinds c.if-inner-gt1.false is c.in-Ok.ensures.may c.in-Ok.ensures.kinds
+returns-clause-takes c = λ ks is. else_kept c.args.inner.now ks c.args.reader.now.kinds c.other.new.self.kinds c.if-inner-gt1.false is
+    c.in-Ok.ensures.may c.in-Ok.ensures.kinds

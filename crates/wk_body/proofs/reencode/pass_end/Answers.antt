@@ -12,10 +12,12 @@ returns-then-not-close_block-clause-ends c = λ ks is.
 pub returns-then-has_room-clause-ends : goal.returns-then-has_room-clause-ends
 returns-then-has_room-clause-ends c = λ ks is.
     let t = c.refill.ensures.taken in
-    closes_kept c.args.inner.now c.refill.result ks t.0 c.args.reader.now.kinds c.close_block.new.self.kinds c.refill.new.reader.kinds c.if-inner-gt1.false is (c.if-not-close_block.ensures.closed refl).0 t.1 t.2
+    closes_kept c.args.inner.now c.refill.result ks t.0 c.args.reader.now.kinds c.close_block.new.self.kinds c.refill.new.reader.kinds
+    c.if-inner-gt1.false is (c.if-not-close_block.ensures.closed refl).0 t.1 t.2
 
 pub returns-else-has_room-clause-ends : goal.returns-else-has_room-clause-ends
 returns-else-has_room-clause-ends c = λ ks is.
     let left = c.close_block.new.self.kinds in
-    closes_kept c.args.inner.now c.args.inner.now ks ks c.args.reader.now.kinds left left c.if-inner-gt1.false is (c.if-not-close_block.ensures.closed refl).0 is
+    closes_kept c.args.inner.now c.args.inner.now ks ks c.args.reader.now.kinds left left c.if-inner-gt1.false is
+    (c.if-not-close_block.ensures.closed refl).0 is
     (sym (ap (λ (bs : List Bool). bs ++ left) (none_inner c.args.inner.now ks c.if-inner-gt1.false is)))

@@ -10,5 +10,8 @@ returns c =
     let n = c.in_ok-count.count in
     let g =
     subst (λ (w : Reencoder). (groups : List LocalGroup) × PassesGroups n groups c.pass_u32.new.out.items w c.pass_groups.new.out.items c.pass_groups.new.coder)
-    c.ahead-own.ensures c.in_ok-pass_groups.ensures in
-    (g.0, locals_passed c.in_ok-count.count g.0 c.args.out.now.items c.pass_u32.new.out.items c.pass_groups.new.out.items c.args.coder.now c.pass_u32.new.self c.pass_groups.new.coder g.1.0 c.in_ok-count.ensures g.1.1)
+    c.ahead-own.ensures c.in_ok-pass_groups.ensures in (
+      g.0,
+      locals_passed c.in_ok-count.count g.0 c.args.out.now.items c.pass_u32.new.out.items c.pass_groups.new.out.items c.args.coder.now
+          c.pass_u32.new.self c.pass_groups.new.coder g.1.0 c.in_ok-count.ensures g.1.1,
+    )

@@ -18,7 +18,8 @@ returns-in_ok-pass_plain-in_default-opcode-clause-goes c = λ before from ks is 
     let n4 : opcode ≡ 0x04 → ⊥ = first_of (search rules, grind arith) in (
       ks,
       is,
-      plain_goes c.args.profile before c.args.out.now.items c.pass_plain-in_default-opcode.new.out.items from at mid c.pass_plain-in_default-opcode.new.self kinds kinds opcode n0 n1 n2 n3 n4 refl
+      plain_goes c.args.profile before c.args.out.now.items c.pass_plain-in_default-opcode.new.out.items from at mid
+          c.pass_plain-in_default-opcode.new.self kinds kinds opcode n0 n1 n2 n3 n4 refl
           (behind_opcode opcode at mid c.in-Ok.ensures.exact refl) c.in_ok-pass_plain-in_default-opcode.ensures g,
     )
 
@@ -28,14 +29,17 @@ returns-in_ok-pass_plain-in-1-clause-goes c = λ before from ks is g.
     let mid : Reencoder = record { cursor = c.byte.new.self; pending = at.pending } in
     let kinds = ks ++ c.args.reader.now.kinds in
     let b : Behind 0x01 at mid = subst (λ (o : ℕ). Behind o at mid) c.in-1.is (behind_opcode c.in-Ok.opcode at mid c.in-Ok.ensures.exact refl) in
-    let one = plain_goes c.args.profile before c.args.out.now.items c.pass_plain.new.out.items from at mid c.pass_plain.new.self kinds kinds 0x01 (λ e. omega (arith, e)) (λ e. omega (arith, e)) (λ e. omega (arith, e)) (λ e. omega (arith, e)) (λ e. omega (arith, e)) refl b c.in_ok-pass_plain-in-1.ensures g in
+    let one = plain_goes c.args.profile before c.args.out.now.items c.pass_plain.new.out.items from at mid c.pass_plain.new.self kinds kinds 0x01
+    (λ e. omega (arith, e)) (λ e. omega (arith, e)) (λ e. omega (arith, e)) (λ e. omega (arith, e))
+    (λ e. omega (arith, e)) refl b c.in_ok-pass_plain-in-1.ensures g in
     (ks, is, c.pass_nops.ensures c.args.profile before c.pass_plain.new.out.items from kinds one)
 
 pub returns-in-11-clause-goes : goal.returns-in-11-clause-goes
 returns-in-11-clause-goes c = λ before from ks is g.
     let at = c.args.coder.now in
     let mid : Reencoder = record { cursor = c.byte.new.self; pending = at.pending } in
-    end_goes c.pass_end.result c.args.profile before c.args.out.now.items from at mid (ks ++ c.args.reader.now.kinds) c.pass_end.new.reader.kinds c.pass_end.new.inner c.in-Ok.opcode c.in-11.is (c.pass_end.ensures.ends ks is)
+    end_goes c.pass_end.result c.args.profile before c.args.out.now.items from at mid
+    (ks ++ c.args.reader.now.kinds) c.pass_end.new.reader.kinds c.pass_end.new.inner c.in-Ok.opcode c.in-11.is (c.pass_end.ensures.ends ks is)
     (behind_opcode c.in-Ok.opcode at mid c.in-Ok.ensures.exact refl) g
 
 pub returns-in_ok-pass_opening-in-2-to-4-clause-goes : goal.returns-in_ok-pass_opening-in-2-to-4-clause-goes

@@ -20,4 +20,5 @@ loop-turned-preserved c = λ ks is.
     subst (λ (bs : List Bool). Opening (c.loop-turned.turned / 2) bs (ks ++ c.args.reader.now.kinds)) (sym kinds) all
 
 pub returns : goal.returns
-returns c = λ ks is. none_open c.loop-turned.turned c.loop-turned.reader.kinds (ks ++ c.args.reader.now.kinds) c.loop-turned-test.false (c.loop-turned.invariant ks is)
+returns c = λ ks is. none_open c.loop-turned.turned c.loop-turned.reader.kinds (ks ++ c.args.reader.now.kinds) c.loop-turned-test.false
+    (c.loop-turned.invariant ks is)

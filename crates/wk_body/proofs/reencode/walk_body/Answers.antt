@@ -12,5 +12,6 @@ returns c =
     let whole : c.rest.result.now ≡ c.ahead.result.rest = c.rest.ensures ∙ ap (λ (s : Span). s.rest) (sym c.ahead.ensures.same) in
     let all : c.pass_expr.new.coder.cursor.rest ≡ [] = c.in-Ok.ensures in
     rw (← c.ahead.ensures.same)
-    (body_walked c.args.profile locals.0 expr.0 c.args.out.now.items c.pass_locals.new.out.items c.pass_expr.new.out.items from c.pass_locals.new.coder c.pass_expr.new.coder
+    (body_walked c.args.profile locals.0 expr.0 c.args.out.now.items c.pass_locals.new.out.items c.pass_expr.new.out.items from c.pass_locals.new.coder
+    c.pass_expr.new.coder
     c.requires whole locals.1 expr.1 all)

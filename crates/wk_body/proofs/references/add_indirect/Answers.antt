@@ -5,4 +5,5 @@ use Rattle.wk_body.proofs.RefSets.{gains_then}
 use Rattle.wk_body.proofs.references.add_indirect.Goals as goal
 
 pub returns : goal.returns
-returns c = on_ok_weaker c.add-2.result (λ g. gains_then c.args.found.now.keys c.add.new.found.keys c.add-2.new.found.keys (Ty c.args.x ∷ []) (Table ∷ []) c.in_ok-add.ensures g) c.add-2.ensures
+returns c = on_ok_weaker c.add-2.result
+    (λ g. gains_then c.args.found.now.keys c.add.new.found.keys c.add-2.new.found.keys (Ty c.args.x ∷ []) (Table ∷ []) c.in_ok-add.ensures g) c.add-2.ensures

@@ -5,4 +5,7 @@ pub returns-in-GlobalGet : goal.returns-in-GlobalGet
 returns-in-GlobalGet c = elim c.in-GlobalGet.is [ inl e ↦ rw e c.add-in-GlobalGet.ensures | inr e ↦ rw e c.add-in-GlobalGet.ensures ]
 
 pub returns-in-Block : goal.returns-in-Block
-returns-in-Block c = elim c.in-Block.is [ inl e ↦ rw e.1 c.add_type.ensures | inr rest ↦ elim rest [ inl e ↦ rw e.1 c.add_type.ensures | inr e ↦ rw e.1 c.add_type.ensures ] ]
+returns-in-Block c = elim c.in-Block.is [
+  | inl e ↦ rw e.1 c.add_type.ensures
+  | inr rest ↦ elim rest [ inl e ↦ rw e.1 c.add_type.ensures | inr e ↦ rw e.1 c.add_type.ensures ]
+]

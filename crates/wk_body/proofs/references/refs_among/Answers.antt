@@ -13,7 +13,8 @@ loop-token-preserved c =
     let ts = c.args.tokens.now in
     let i = c.loop-token.token-index in
     rw (take_more ts i Unreachable c.loop-token-test.true)
-    (collects_token c.loop-token.found.keys c.add_refs.new.found.keys c.loop-token.memory c.add_refs.new.memory (take i ts) (get_or ts i Unreachable) c.loop-token.invariant c.in_ok-add_refs.ensures)
+    (collects_token c.loop-token.found.keys c.add_refs.new.found.keys c.loop-token.memory c.add_refs.new.memory (take i ts)
+    (get_or ts i Unreachable) c.loop-token.invariant c.in_ok-add_refs.ensures)
 
 pub returns : goal.returns
 returns c =

@@ -8,12 +8,14 @@ use Rattle.wk_body.proofs.renumber.moved_expr.Goals as goal
 
 pub of-requires : goal.of-requires
 of-requires c =
-    let k = kept_moved c.args.kind c.args.from c.tokens.result.1.now c.tokens.result.0.now c.in_ok-tokens.tokens.items c.args.expr.now c.tokens.ensures.tokens c.tokens.ensures.within c.tokens.ensures.few c.tokens.ensures.shaped c.in_ok-tokens.ensures in
+    let k = kept_moved c.args.kind c.args.from c.tokens.result.1.now c.tokens.result.0.now c.in_ok-tokens.tokens.items c.args.expr.now
+    c.tokens.ensures.tokens c.tokens.ensures.within c.tokens.ensures.few c.tokens.ensures.shaped c.in_ok-tokens.ensures in
     rw c.in_ok-labels.ensures.items k.0
 
 pub returns : goal.returns
 returns c =
-    let k = kept_moved c.args.kind c.args.from c.tokens.result.1.now c.tokens.result.0.now c.in_ok-tokens.tokens.items c.args.expr.now c.tokens.ensures.tokens c.tokens.ensures.within c.tokens.ensures.few c.tokens.ensures.shaped c.in_ok-tokens.ensures in
+    let k = kept_moved c.args.kind c.args.from c.tokens.result.1.now c.tokens.result.0.now c.in_ok-tokens.tokens.items c.args.expr.now
+    c.tokens.ensures.tokens c.tokens.ensures.within c.tokens.ensures.few c.tokens.ensures.shaped c.in_ok-tokens.ensures in
     (k.2, c.of.ensures ∙ rw c.in_ok-labels.ensures.items k.1)
 
 pub returns-in_err-tokens : goal.returns-in_err-tokens

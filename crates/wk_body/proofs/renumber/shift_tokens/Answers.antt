@@ -10,7 +10,8 @@ pub shift_token-requires : goal.shift_token-requires
 shift_token-requires c =
     let ts = c.args.tokens.now in
     let i = c.loop-token.token-index in
-    rw (c.loop-token.invariant, next_place (moved_kept c.args.kind c.args.from) ts i Unreachable c.loop-token-test.true) (free_at c.args.kind c.args.from ts i Unreachable c.loop-token-test.true c.requires)
+    rw (c.loop-token.invariant, next_place (moved_kept c.args.kind c.args.from) ts i Unreachable c.loop-token-test.true)
+    (free_at c.args.kind c.args.from ts i Unreachable c.loop-token-test.true c.requires)
 
 pub loop-token-preserved : goal.loop-token-preserved
 loop-token-preserved c =
@@ -18,4 +19,5 @@ loop-token-preserved c =
     let i = c.loop-token.token-index in
     let item = get_or now i Unreachable in
     let same = get_or_default now i Unreachable item (rw (sym c.loop-token.auto.tokens) at c.loop-token-test.true) in
-    rw (c.shift_token.ensures) (map_over_more (moved_kept c.args.kind c.args.from) c.args.tokens.now now i item c.loop-token-test.true c.loop-token.invariant same)
+    rw (c.shift_token.ensures)
+    (map_over_more (moved_kept c.args.kind c.args.from) c.args.tokens.now now i item c.loop-token-test.true c.loop-token.invariant same)

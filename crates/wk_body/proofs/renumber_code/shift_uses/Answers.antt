@@ -21,7 +21,8 @@ loop-reference-preserved c =
     let gains : Gains old new (move x ∷ []) = subst (λ (r : Ref). Gains old new (r ∷ [])) c.shifted_ref.ensures c.in_ok-add.ensures in
     record {
       rising = gains.rising was.rising;
-      same = same_step move x rest old new (map move c.args.uses.now.keys) gains (subst (λ (rs : List Ref). AreSame (old ++ map move rs) (map move c.args.uses.now.keys)) steps was.same);
+      same = same_step move x rest old new (map move c.args.uses.now.keys) gains
+          (subst (λ (rs : List Ref). AreSame (old ++ map move rs) (map move c.args.uses.now.keys)) steps was.same);
       free = (or_parts (is_stuck kind from x) (any_stuck kind from rest) (ap (any_stuck kind from) (sym steps) ∙ was.free)).1;
     }
 
@@ -31,5 +32,6 @@ returns-clause-exact c = λ own_type t before.
     let keys = c.loop-reference.found.keys in
     let ended : c.loop-reference.reference-iterator ≡ [] = c.in-None.ensures.steps.0 in
     let same : AreSame keys (map move c.args.uses.now.keys) =
-    subst (λ (rs : List Ref). AreSame rs (map move c.args.uses.now.keys)) (ap (λ (rs : List Ref). keys ++ map move rs) ended ∙ append-nil keys) c.loop-reference.invariant.same in
+    subst (λ (rs : List Ref). AreSame rs (map move c.args.uses.now.keys))
+    (ap (λ (rs : List Ref). keys ++ map move rs) ended ∙ append-nil keys) c.loop-reference.invariant.same in
     uses_moved c.args.kind c.args.from own_type t c.args.uses.now.keys keys before same

@@ -7,5 +7,6 @@ abbrev pub invariant-loop : goal.invariant-loop
 invariant-loop l = record {
   from : l.at ≤ l.end;
   within : l.end ≤ length l.code;
-  goes : (front later : List ℕ) → AreIntegers l.count front → drop l.at l.code ≡ front ++ later → InIntegers front later l.code l.at (l.count - l.counter) l.end;
+  goes : (front later : List ℕ) → AreIntegers l.count front → drop l.at l.code ≡ front ++ later
+      → InIntegers front later l.code l.at (l.count - l.counter) l.end;
 }

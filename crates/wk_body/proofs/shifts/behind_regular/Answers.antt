@@ -15,7 +15,9 @@ returns-then-is_minimal-clause-goes c = λ s out run le all goal w.
     let at = c.args.at in
     let small : get_or code at 0 < 256 = omega (arith, c.type_inv.code at) in
     let few : c.stride-len.result ≤ 3 = omega (arith, c.stride-len.ensures, few_bytes (get_or code at 0) small) in
-    brief_step s all goal code out run at (get_or code at 0) c.stride-len.result (get_or code (at + 1) 0) (get_or code (at + 2) 0) (at + c.from.result) c.requires le refl refl refl c.stride-len.ensures few (c.is_minimal.ensures c.if-is_minimal.true) (ap (λ (n : ℕ). at + n) c.from.ensures) w
+    brief_step s all goal code out run at (get_or code at 0) c.stride-len.result (get_or code (at + 1) 0) (get_or code (at + 2) 0)
+    (at + c.from.result) c.requires le refl refl refl c.stride-len.ensures few (c.is_minimal.ensures c.if-is_minimal.true)
+    (ap (λ (n : ℕ). at + n) c.from.ensures) w
 
 pub returns-clause-goes : goal.returns-clause-goes
 returns-clause-goes c = λ s out run le all goal w.

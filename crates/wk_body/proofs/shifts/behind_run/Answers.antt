@@ -8,5 +8,6 @@ pub loop-at-preserved : goal.loop-at-preserved
 loop-at-preserved c = record {
   from = omega (arith, c.in-Some.ensures.within);
   within = omega (arith, c.in-Some.ensures.within);
-  goes = λ s out run le all goal w. c.in-Some.ensures.goes s out run (omega (arith, c.loop-at.invariant.from)) all goal (c.loop-at.invariant.goes s out run le all goal w);
+  goes = λ s out run le all goal w. c.in-Some.ensures.goes s out run (omega (arith, c.loop-at.invariant.from)) all goal
+      (c.loop-at.invariant.goes s out run le all goal w);
 }

@@ -19,6 +19,8 @@ returns-clause-goes c = λ is all goal w.
     let run = c.args.run.now in
     let at = c.args.at.now in
     let n = next_of s all goal code out run at c.requires.inside w in
-    let still : IsReferring (get_or code at 0) → ⊥ = not_referring (get_or code at 0) c.if-opcode-eq-CALL.false c.if-opcode-eq-GLOBAL_GET.false c.if-opcode-eq-GLOBAL_SET.false in
+    let still : IsReferring (get_or code at 0) → ⊥ = not_referring
+    (get_or code at 0) c.if-opcode-eq-CALL.false c.if-opcode-eq-GLOBAL_GET.false c.if-opcode-eq-GLOBAL_SET.false in
     let end = found_is c.in-Some.end (at + length (tok_bytes n.token)) (c.in-Some.ensures.exact n.token (flat_map tok_bytes n.others) n.here n.ahead) in
-    still_step s all goal code out run at n c.in-Some.end c.requires.order (still_bytes s all goal code out run at n (get_or code at 0) c.requires.inside refl still) end
+    still_step s all goal code out run at n c.in-Some.end c.requires.order
+    (still_bytes s all goal code out run at n (get_or code at 0) c.requires.inside refl still) end

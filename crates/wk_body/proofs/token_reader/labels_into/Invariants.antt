@@ -1,7 +1,7 @@
 use Rattle.std.proofs.Common.{◌-◌}
 use Rattle.wk_bytes.specs.Span.{u32_at}
 use Rattle.wk_body.specs.Vectors.{items_at}
-use Rattle.wk_body.proofs.TokenSteps.{LabelsLeft}
+use Rattle.wk_body.proofs.Labels.{LabelsLeft}
 use Rattle.wk_body.proofs.token_reader.labels_into.Given as goal
 
 abbrev pub invariant-loop : goal.invariant-loop

@@ -21,7 +21,8 @@ pub loop-token-preserved : goal.loop-token-preserved
 loop-token-preserved c =
     let all = c.args.out.now.items ++ flat_map tok_bytes (all_told c.args.labels.now (take c.loop-token.token-index c.args.tokens.now)) in
     let token = get_or c.args.tokens.now c.loop-token.token-index Unreachable in
-    let more = token_more c.loop-token.out.items c.buffer_token.new.out.items (take c.loop-token.used c.loop-token.buf) (take c.in_ok-used.used c.buffer_token.new.buf)
+    let more = token_more c.loop-token.out.items c.buffer_token.new.out.items (take c.loop-token.used c.loop-token.buf)
+    (take c.in_ok-used.used c.buffer_token.new.buf)
     (tok_bytes (told c.args.labels.now token)) all c.loop-token.invariant.written c.in_ok-used.ensures.ok in
     record {
       written = grind (arith, common_steps, more);

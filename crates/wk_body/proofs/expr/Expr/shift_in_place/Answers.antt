@@ -19,18 +19,24 @@ free c =
     ∙ c.requires
 
 -- what is written back
-moved : (c : After-shift_tokens) → take c.self.inside.tokens.len (c.shift_tokens.new.tokens ++ drop (length c.shift_tokens.new.tokens) c.self.inside.tokens.items) ≡ map (moved_kept c.args.kind c.args.from) c.self.inside.tokens.items
+moved : (c : After-shift_tokens) → take c.self.inside.tokens.len
+    (c.shift_tokens.new.tokens ++ drop (length c.shift_tokens.new.tokens) c.self.inside.tokens.items)
+    ≡ map (moved_kept c.args.kind c.args.from) c.self.inside.tokens.items
 moved c =
     let now = c.shift_tokens.new.tokens in
     let len : c.self.inside.tokens.len ≡ length now = sym (c.shift_tokens.auto.tokens ∙ c.deref_mut.ensures.len) in
-    rw len (take-append_seam now (drop (length now) c.self.inside.tokens.items)) ∙ c.shift_tokens.ensures ∙ ap (map (moved_kept c.args.kind c.args.from)) c.deref_mut.ensures.value
+    rw len (take-append_seam now (drop (length now) c.self.inside.tokens.items)) ∙ c.shift_tokens.ensures
+    ∙ ap (map (moved_kept c.args.kind c.args.from)) c.deref_mut.ensures.value
 
-kept : (c : After-shift_tokens) → any_stuck c.args.kind c.args.from (flat_map tok_refs (all_told [] c.self.inside.tokens.items)) ≡ false → let ms = map (moved_kept c.args.kind c.args.from) c.self.inside.tokens.items in IsKept c.self.inside.labels.items ms × (tree_kept c.self.inside.labels.items ms ≡ shift_instrs c.args.kind c.args.from c.args.self.now)
+kept : (c : After-shift_tokens) → any_stuck c.args.kind c.args.from (flat_map tok_refs (all_told [] c.self.inside.tokens.items)) ≡ false
+    → let ms = map (moved_kept c.args.kind c.args.from) c.self.inside.tokens.items in
+    IsKept c.self.inside.labels.items ms × (tree_kept c.self.inside.labels.items ms ≡ shift_instrs c.args.kind c.args.from c.args.self.now)
 kept c none =
     let pool = c.self.inside.labels.items in
     let ts = c.self.inside.tokens.items in
     let was = c.self.invariant in
-    let k = kept_moved c.args.kind c.args.from pool ts (map (moved_kept c.args.kind c.args.from) ts) (tree_kept pool ts) was.written was.within was.few was.shaped (kept_tokens c.args.kind c.args.from ts none) in
+    let k = kept_moved c.args.kind c.args.from pool ts (map (moved_kept c.args.kind c.args.from) ts)
+    (tree_kept pool ts) was.written was.within was.few was.shaped (kept_tokens c.args.kind c.args.from ts none) in
     (k.0, k.1 ∙ ap (shift_instrs c.args.kind c.args.from) c.self.view_is)
 
 pub shift_tokens-requires : goal.shift_tokens-requires

@@ -19,16 +19,19 @@ loop-init c =
     let looked = short_labels count 0 alone out coder most within low in
     let none : 0 + alone ≡ alone = omega arith in
     let here = subst (λ (n : ℕ). LabelsPassed count (count - alone) out coder out (later coder n)) none looked in
-    let taken = subst (λ (w : Reencoder). LabelsPassed count (count - alone) out coder out w) (moved coder c.take.new.self alone c.in-Ok.field-0.now c.in-Ok.ensures.exact) here in
+    let taken = subst (λ (w : Reencoder). LabelsPassed count (count - alone) out coder out w)
+    (moved coder c.take.new.self alone c.in-Ok.field-0.now c.in-Ok.ensures.exact) here in
     subst (λ (w : Reencoder). LabelsPassed count (count - alone) out w out to) c.ahead-coder.ensures taken
 
 pub unreachable-requires : goal.unreachable-requires
 unreachable-requires c =
-    enough c.behind_short-alone.result c.ahead-coder.result.cursor.end c.ahead-coder.result.cursor.rest c.in_default.field-0 (omega (arith, ap length c.rest-rest.ensures, c.min.ensures, c.behind_short-alone.ensures.within)) c.in_default.ensures.exact.0
+    enough c.behind_short-alone.result c.ahead-coder.result.cursor.end c.ahead-coder.result.cursor.rest c.in_default.field-0
+    (omega (arith, ap length c.rest-rest.ensures, c.min.ensures, c.behind_short-alone.ensures.within)) c.in_default.ensures.exact.0
 
 pub loop-preserved : goal.loop-preserved
 loop-preserved c =
-    labels_one c.args.count c.loop.counter c.in_ok-pass_u32.field-0 c.args.out.now.items c.loop.out.items c.pass_u32.new.out.items c.args.self.now c.loop.coder c.pass_u32.new.self c.loop-test.true c.loop.invariant c.in_ok-pass_u32.ensures
+    labels_one c.args.count c.loop.counter c.in_ok-pass_u32.field-0 c.args.out.now.items c.loop.out.items c.pass_u32.new.out.items c.args.self.now
+    c.loop.coder c.pass_u32.new.self c.loop-test.true c.loop.invariant c.in_ok-pass_u32.ensures
 
 pub returns : goal.returns
 returns c = labels_end c.args.count c.loop.counter c.args.out.now.items c.loop.out.items c.args.self.now c.loop.coder c.loop-test.false c.loop.invariant

@@ -16,6 +16,16 @@ returns-else-left-rest c =
     let fits_here : FitsSigned w64 n = search rules in
     let same = ap (λ (z : ℤ). length (short_signed z)) (to_z-of_z w64 c.in-Ok.n fits) in
     let long : length s.0 ≡ length (short_signed n) =
-    omega (arith, same, c.if-left-rest.false, ap length c.rest-left.ensures, ap length c.rest-rest.ensures, c.leb_len_s64.ensures, ap length s.2, length-append s.0 c.s64.new.self.rest) in
+    omega (
+      arith,
+      same,
+      c.if-left-rest.false,
+      ap length c.rest-left.ensures,
+      ap length c.rest-rest.ensures,
+      c.leb_len_s64.ensures,
+      ap length s.2,
+      length-append s.0 c.s64.new.self.rest,
+    ) in
     rw (to_z-of_z w64 n fits_here)
-    (passed (signed_at 64) n (short_signed n) s.0 c.args.out.now.items c.args.self.now (record { cursor = c.s64.new.self; pending = c.args.self.now.pending }) c.in-Ok.ensures.exact s.2 refl (short_signed-only 64 n s.0 s.1 long))
+    (passed (signed_at 64) n (short_signed n) s.0 c.args.out.now.items c.args.self.now
+    (record { cursor = c.s64.new.self; pending = c.args.self.now.pending }) c.in-Ok.ensures.exact s.2 refl (short_signed-only 64 n s.0 s.1 long))

@@ -5,4 +5,5 @@ use Rattle.wk_body.proofs.scratch.Scratch.open_if.Goals as goal
 
 pub returns : goal.returns
 returns c = opening_adds c.args.self.now _ _ _ _ _ (opens_if c.args.ty) (record { tokens = c.in_ok-push.ensures.items; labels = refl })
-    (c.in_ok-push-2.ensures.items ∙ ap (λ (n : ℕ). c.args.self.now.blocks.items ++ Then n ∷ []) (c.len-place.ensures ∙ c.args.self.now.tokens.ok.0)) c.requires.good
+    (c.in_ok-push-2.ensures.items ∙ ap (λ (n : ℕ). c.args.self.now.blocks.items ++ Then n ∷ []) (c.len-place.ensures ∙ c.args.self.now.tokens.ok.0))
+    c.requires.good

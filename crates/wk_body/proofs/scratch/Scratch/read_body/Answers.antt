@@ -5,49 +5,46 @@ use Rattle.wk_body.specs.Written.{Fits}
 use Rattle.wk_body.proofs.Promised.{finds_body, found_body_of, body_stands, body_whole, body_longer, body_refused}
 use Rattle.wk_body.proofs.scratch.Scratch.read_body.Goals as goal
 
-pub returns-in_err-body-clause-only : goal.returns-in_err-body-clause-only
-returns-in_err-body-clause-only c =
+pub returns-in_err-body : goal.returns-in_err-body
+returns-in_err-body c =
     let p = err_from_is_err_and c.from_residual.result c.from_residual.ensures.1 in
     let old = c.args.cursor.now in
     let e = c.in_err-body.field-0.0 in
     let fits : IsBytes old.rest = rw (← c.rest.ensures) c.are_bytes.ensures in
     let few : Fits old.rest = omega (arith, c.at-at.ensures.end, c.at-at.ensures.small) in
-    rw (p.1, p.2) (finds_body c.args.profile old.end old.rest (Err e) fits few (body_refused c.args.profile old c.ahead-ahead.result e c.ahead-ahead.ensures.same c.in_err-body.ensures))
+    let given = body_refused c.args.profile old c.ahead-ahead.result e c.ahead-ahead.ensures.same c.in_err-body.ensures in
+    rw (p.1, p.2) (record {
+      exact = given;
+      only = finds_body c.args.profile old.end old.rest (Err e) fits few given;
+      profile = tt;
+      fault =
+          body_stands c.args.profile old (Err e) c.ahead-ahead.ensures.fits given;
+    })
 
-pub returns-in_err-body-clause-fault : goal.returns-in_err-body-clause-fault
-returns-in_err-body-clause-fault c =
-    let p = err_from_is_err_and c.from_residual.result c.from_residual.ensures.1 in
-    let old = c.args.cursor.now in
-    let e = c.in_err-body.field-0.0 in
-    rw (p.1, p.2) (body_stands c.args.profile old (Err e) c.ahead-ahead.ensures.fits (body_refused c.args.profile old c.ahead-ahead.result e c.ahead-ahead.ensures.same c.in_err-body.ensures))
-
-pub returns-in_err-at_end-clause-only : goal.returns-in_err-at_end-clause-only
-returns-in_err-at_end-clause-only c =
+pub returns-in_err-at_end : goal.returns-in_err-at_end
+returns-in_err-at_end c =
     let p = err_from_is_err_and c.from_residual-in_err-at_end.result c.from_residual-in_err-at_end.ensures.1 in
     let old = c.args.cursor.now in
     let e = c.in_err-at_end.field-0.0 in
     let fits : IsBytes old.rest = rw (← c.rest.ensures) c.are_bytes.ensures in
     let few : Fits old.rest = omega (arith, c.at-at.ensures.end, c.at-at.ensures.small) in
-    rw (p.1, p.2) (finds_body c.args.profile old.end old.rest (Err e) fits few (body_longer c.args.profile old c.ahead-ahead.result c.body_front.new.cursor c.in_ok-body.body e c.ahead-ahead.ensures.same c.in_ok-body.ensures c.in_err-at_end.ensures))
+    let given = body_longer c.args.profile old c.ahead-ahead.result c.body_front.new.cursor c.in_ok-body.body e c.ahead-ahead.ensures.same
+    c.in_ok-body.ensures c.in_err-at_end.ensures in
+    rw (p.1, p.2) (record {
+      exact = given;
+      only = finds_body c.args.profile old.end old.rest (Err e) fits few given;
+      profile = tt;
+      fault =
+          body_stands c.args.profile old (Err e) c.ahead-ahead.ensures.fits given;
+    })
 
-pub returns-in_err-at_end-clause-fault : goal.returns-in_err-at_end-clause-fault
-returns-in_err-at_end-clause-fault c =
-    let p = err_from_is_err_and c.from_residual-in_err-at_end.result c.from_residual-in_err-at_end.ensures.1 in
+pub returns : goal.returns
+returns c =
     let old = c.args.cursor.now in
-    let e = c.in_err-at_end.field-0.0 in
-    rw (p.1, p.2) (body_stands c.args.profile old (Err e) c.ahead-ahead.ensures.fits (body_longer c.args.profile old c.ahead-ahead.result c.body_front.new.cursor c.in_ok-body.body e c.ahead-ahead.ensures.same c.in_ok-body.ensures c.in_err-at_end.ensures))
-
-pub returns-clause-only : goal.returns-clause-only
-returns-clause-only c =
-    let old = c.args.cursor.now in
+    let b = c.in_ok-body.body in
     let fits : IsBytes old.rest = rw (← c.rest.ensures) c.are_bytes.ensures in
     let few : Fits old.rest = omega (arith, c.at-at.ensures.end, c.at-at.ensures.small) in
-    finds_body c.args.profile old.end old.rest (Ok c.in_ok-body.body) fits few (body_whole c.args.profile old c.ahead-ahead.result c.body_front.new.cursor c.in_ok-body.body c.ahead-ahead.ensures.same c.in_ok-body.ensures c.in_ok-at_end.ensures)
-
-pub returns-clause-profile : goal.returns-clause-profile
-returns-clause-profile c =
-    let old = c.args.cursor.now in
-    let fits : IsBytes old.rest = rw (← c.rest.ensures) c.are_bytes.ensures in
-    let few : Fits old.rest = omega (arith, c.at-at.ensures.end, c.at-at.ensures.small) in
-    found_body_of c.args.profile old.rest (Ok c.in_ok-body.body)
-    (finds_body c.args.profile old.end old.rest (Ok c.in_ok-body.body) fits few (body_whole c.args.profile old c.ahead-ahead.result c.body_front.new.cursor c.in_ok-body.body c.ahead-ahead.ensures.same c.in_ok-body.ensures c.in_ok-at_end.ensures))
+    let given = body_whole c.args.profile old c.ahead-ahead.result c.body_front.new.cursor b c.ahead-ahead.ensures.same c.in_ok-body.ensures
+    c.in_ok-at_end.ensures in
+    let found = finds_body c.args.profile old.end old.rest (Ok b) fits few given in
+    record { exact = given; only = found; profile = found_body_of c.args.profile old.rest (Ok b) found; fault = tt }

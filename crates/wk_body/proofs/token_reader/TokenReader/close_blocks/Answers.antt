@@ -9,4 +9,5 @@ returns c =
     let kinds = ap (λ (r : TokenReading). r.kinds) c.self.view_is in
     let blocks = c.self.inside.blocks.items in
     let within : c.args.count ≤ length blocks = omega (arith, c.requires, ap length kinds, length-reverse blocks) in
-    ap (reverse {A = Bool}) c.truncate.ensures.items ∙ left_open blocks c.len.result c.args.count (omega (arith, c.len.ensures)) within ∙ ap (drop c.args.count) kinds
+    ap (reverse {A = Bool}) c.truncate.ensures.items ∙ left_open blocks c.len.result c.args.count (omega (arith, c.len.ensures)) within
+    ∙ ap (drop c.args.count) kinds

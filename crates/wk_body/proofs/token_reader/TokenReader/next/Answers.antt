@@ -7,4 +7,5 @@ use Rattle.wk_body.proofs.token_reader.TokenReader.next.Goals as goal
 pub returns-in-Err-clause-fault : goal.returns-in-Err-clause-fault
 returns-in-Err-clause-fault c =
     let ks = c.args.self.now.kinds in
-    front_stands (token_at c.args.profile ks) (ReadsFront-token_at c.args.profile ks) c.args.cursor.now c.args.cursor.now c.in-Err.fault refl c.ahead-before.ensures.fits c.in-Err.ensures.exact
+    front_stands (token_at c.args.profile ks) (ReadsFront-token_at c.args.profile ks) c.args.cursor.now c.args.cursor.now c.in-Err.fault refl
+    c.ahead-before.ensures.fits c.in-Err.ensures.exact
