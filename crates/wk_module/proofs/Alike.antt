@@ -9,7 +9,8 @@ use Rattle.wk_body.specs.Spelling.{SpellsExpr, SpellsBody}
 use Rattle.wk_body.specs.Vectors.{SpellsItems, SpellsVector}
 use Rattle.wk_module.specs.Formats.{SpellsBoth}
 use Rattle.wk_module.specs.Items.{SpellsInit, SpellsGlobal, SpellsElem, SpellsCode, SpellsData}
-use Rattle.wk_module.specs.Sections.{SectionId, TypeSection, ImportSection, FunctionSection, TableSection, MemorySection, GlobalSection, ExportSection, StartSection, ElementSection, CodeSection, DataSection, number, contents, omitted, SpellsContents}
+use Rattle.wk_module.specs.Sections.{SectionId, TypeSection, ImportSection, FunctionSection, TableSection, MemorySection, GlobalSection, ExportSection}
+use Rattle.wk_module.specs.Sections.{StartSection, ElementSection, CodeSection, DataSection, number, contents, omitted, SpellsContents}
 use Rattle.wk_module.specs.Shape.{lists_of}
 use Rattle.wk_module.specs.Modules.{SpellsSection}
 use Rattle.wk_module.specs.ModuleLaws.{SpellAlike}
@@ -20,17 +21,22 @@ use Rattle.wk_module.specs.ModuleLaws.{SpellAlike}
 abbrev pub Into : {A : Type 0} → (List ℕ → A → Type 0) → (List ℕ → A → Type 0) → Type 0
 Into {A = A} First Second = (b : List ℕ) (x : A) → First b x → Second b x
 
-items_into : {A : Type 0} (First Second : List ℕ → A → Type 0) → Into First Second → (b : List ℕ) (xs : List A) → SpellsItems First b xs → SpellsItems Second b xs
+items_into : {A : Type 0} (First Second : List ℕ → A → Type 0) → Into First Second → (b : List ℕ) (xs : List A) → SpellsItems First b xs
+    → SpellsItems Second b xs
 items_into First Second into b [] s = s
 items_into First Second into b (x ∷ xs) s = (s.0, s.1, s.2, into s.0 x s.3, items_into First Second into s.1 xs s.4)
 
 pub vector_into : {A : Type 0} (First Second : List ℕ → A → Type 0) → Into First Second → Into (SpellsVector First) (SpellsVector Second)
-vector_into First Second into b xs s = record { count = s.count; items = s.items; parts = s.parts; counts = s.counts; spelled = items_into First Second into s.items xs s.spelled }
+vector_into First Second into b xs s =
+    record { count = s.count; items = s.items; parts = s.parts; counts = s.counts; spelled = items_into First Second into s.items xs s.spelled }
 
-pub both_into : {A B : Type 0} (First Second : List ℕ → A → Type 0) (Third Fourth : List ℕ → B → Type 0) → Into First Second → Into Third Fourth → Into (SpellsBoth First Third) (SpellsBoth Second Fourth)
-both_into First Second Third Fourth one two b x s = record { front = s.front; later = s.later; parts = s.parts; first = one s.front x.0 s.first; second = two s.later x.1 s.second }
+pub both_into : {A B : Type 0} (First Second : List ℕ → A → Type 0) (Third Fourth : List ℕ → B → Type 0) → Into First Second → Into Third Fourth
+    → Into (SpellsBoth First Third) (SpellsBoth Second Fourth)
+both_into First Second Third Fourth one two b x s =
+    record { front = s.front; later = s.later; parts = s.parts; first = one s.front x.0 s.first; second = two s.later x.1 s.second }
 
-pub section_into : {A : Type 0} (id : ℕ) (First Second : List ℕ → A → Type 0) → Into First Second → (fs : List Frame) (omitted x : A) → SpellsSection id First omitted fs x → SpellsSection id Second omitted fs x
+pub section_into : {A : Type 0} (id : ℕ) (First Second : List ℕ → A → Type 0) → Into First Second → (fs : List Frame) (omitted x : A)
+    → SpellsSection id First omitted fs x → SpellsSection id Second omitted fs x
 section_into id First Second into [] omitted x s = s
 section_into {A = A} id First Second into (f ∷ fs) omitted x s =
     elim (cases_Bool (f.id == id)) [
@@ -77,7 +83,8 @@ module _ (exprs : body.SpellAlike SpellsExpr) (bodies : body.SpellAlike SpellsBo
     frames = s.frames;
     framing = s.framing;
     sections = λ k.
-        let here = subst (λ (profile : Profile). SpellsSection (number k) (SpellsContents profile k) (omitted k) s.frames (contents (lists_of m) k)) core (s.sections k) in
+        let here = subst (λ (profile : Profile). SpellsSection (number k) (SpellsContents profile k) (omitted k) s.frames (contents (lists_of m) k))
+        core (s.sections k) in
         section_into (number k) (SpellsContents Core k) (SpellsContents Extended k) (contents_alike k) s.frames (omitted k) (contents (lists_of m) k) here;
     customs = s.customs;
   }

@@ -1,5 +1,6 @@
 -- Codes that are read apart from the other lists of their module.
-use Rattle.std.proofs.Common.{◌≡◌, ◌≢◌, ℕ, zero, suc, ◌-◌, ◌≤◌, max, List, [], ◌∷◌, length, eqb, cond, true, Option, Some, None, Result, Ok, Err, refl, sym, ap, ◌∙◌, ◌⊎◌, inl, inr, arith}
+use Rattle.std.proofs.Common.{◌≡◌, ◌≢◌, ℕ, zero, suc, ◌-◌, ◌≤◌, max, List, [], ◌∷◌, length, eqb, cond, true, Option, Some, None, Result, Ok, Err, refl, sym, ap}
+use Rattle.std.proofs.Common.{◌∙◌, ◌⊎◌, inl, inr, arith}
 use Rattle.std.proofs.lemmas.Bool.{cases_lt, lt-ltb, eq-eqb, ne_eqb, eqb-true}
 use Rattle.wk_bytes.specs.declared.fault.ReadKind.TheVariants.{LongInput, FuncCodeCount}
 use Rattle.wk_bytes.specs.declared.fault.ReadFault.{ReadFault}
@@ -36,32 +37,38 @@ behind_is : (last id : ℕ) → 10 ≤ last → MayCome last id → IsBehind (of
 behind_is last id le (inl zero_is) = rw zero_is (inl refl)
 behind_is last id le (inr above) = let is : id ≡ 11 = omega (arith, above.0, above.1, le) in rw is (inr refl)
 
-aside_none : {A : Type 0} (bodies : List BodyOf) (l : SectionLists) (r : Result A ReadFault) → (r >>= λ x. Ok (with_codes bodies l)) ≡ ((r >>= λ x. Ok l) >>= λ q. Ok (with_codes bodies q))
+aside_none : {A : Type 0} (bodies : List BodyOf) (l : SectionLists) (r : Result A ReadFault)
+    → (r >>= λ x. Ok (with_codes bodies l)) ≡ ((r >>= λ x. Ok l) >>= λ q. Ok (with_codes bodies q))
 aside_none bodies l (Ok x) = refl
 aside_none bodies l (Err e) = refl
 
-aside_data : (bodies : List BodyOf) (l : SectionLists) (r : Result (List DataSeg) ReadFault) → (r >>= λ x. Ok (with_contents DataSection x (with_codes bodies l))) ≡ ((r >>= λ x. Ok (with_contents DataSection x l)) >>= λ q. Ok (with_codes bodies q))
+aside_data : (bodies : List BodyOf) (l : SectionLists) (r : Result (List DataSeg) ReadFault)
+    → (r >>= λ x. Ok (with_contents DataSection x (with_codes bodies l))) ≡ ((r >>= λ x. Ok (with_contents DataSection x l)) >>= λ q. Ok (with_codes bodies q))
 aside_data bodies l (Ok x) = refl
 aside_data bodies l (Err e) = refl
 
 module _ (profile : Profile) where
-  aside_by : (bodies : List BodyOf) (l : SectionLists) (s : Section) (k : Option SectionId) → IsBehind k → listed_by profile (with_codes bodies l) s k ≡ (listed_by profile l s k >>= λ q. Ok (with_codes bodies q))
+  aside_by : (bodies : List BodyOf) (l : SectionLists) (s : Section) (k : Option SectionId) → IsBehind k
+      → listed_by profile (with_codes bodies l) s k ≡ (listed_by profile l s k >>= λ q. Ok (with_codes bodies q))
   unfolding listed_by
   aside_by bodies l s k (inl is) = rw is (aside_none bodies l (name_at (section_end s) s.contents))
   aside_by bodies l s k (inr is) = rw is (aside_data bodies l (all_at (contents_at profile (length l.funcs) DataSection) (section_end s) s.contents))
 
-  front_by : (l q : SectionLists) (s : Section) (k : Option SectionId) → IsBehind k → listed_by profile l s k ≡ Ok q → (x : List DataSeg) × (q ≡ record l { datas = x })
+  front_by : (l q : SectionLists) (s : Section) (k : Option SectionId) → IsBehind k → listed_by profile l s k ≡ Ok q
+      → (x : List DataSeg) × (q ≡ record l { datas = x })
   unfolding listed_by
   front_by l q s k (inl is) e =
       let a = bind_ok (name_at (section_end s) s.contents) (λ name. done l) q (rw is at e) in
       (l.datas, sym (ok_is l q a.2))
   front_by l q s k (inr is) e =
-      let a = bind_ok (all_at (contents_at profile (length l.funcs) DataSection) (section_end s) s.contents) (λ x. done (with_contents DataSection x l)) q (rw is at e) in
+      let a = bind_ok (all_at (contents_at profile (length l.funcs) DataSection) (section_end s) s.contents)
+      (λ x. done (with_contents DataSection x l)) q (rw is at e) in
       (a.0, sym (ok_is (with_contents DataSection a.0 l) q a.2))
 
   aside_after : (bodies : List BodyOf) (items : List (Result Section ReadFault)) (r : Result SectionLists ReadFault)
       → ((q : SectionLists) → lists_read profile (with_codes bodies q) items ≡ (lists_read profile q items >>= λ p. Ok (with_codes bodies p)))
-      → ((r >>= λ q. Ok (with_codes bodies q)) >>= λ q. lists_read profile q items) ≡ ((r >>= λ q. lists_read profile q items) >>= λ q. Ok (with_codes bodies q))
+      → ((r >>= λ q. Ok (with_codes bodies q)) >>= λ q. lists_read profile q items)
+      ≡ ((r >>= λ q. lists_read profile q items) >>= λ q. Ok (with_codes bodies q))
   aside_after bodies items (Ok q) more = more q
   aside_after bodies items (Err e) more = refl
 
@@ -76,7 +83,8 @@ module _ (profile : Profile) where
       ∙ aside_after bodies items (with_listed profile l s) (λ q. lists_aside bodies q (max last s.id) items (omega (arith, le)) rise.1)
 
   -- and leave all lists but the data segments
-  lists_front : (l q : SectionLists) (last : ℕ) (items : List (Result Section ReadFault)) → 10 ≤ last → Rise last items → lists_read profile l items ≡ Ok q → (x : List DataSeg) × (q ≡ record l { datas = x })
+  lists_front : (l q : SectionLists) (last : ℕ) (items : List (Result Section ReadFault)) → 10 ≤ last → Rise last items
+      → lists_read profile l items ≡ Ok q → (x : List DataSeg) × (q ≡ record l { datas = x })
   unfolding lists_read
   lists_front l q last [] le rise e = (l.datas, sym (ok_is l q e))
   lists_front l q last (Err f ∷ items) le rise e = absurd cc
@@ -89,7 +97,8 @@ module _ (profile : Profile) where
 -- ---- one code
 
 -- a code that is taken by its size and read
-pub code_by : (profile : Profile) (end : ℕ) (bytes after : List ℕ) (code : Span) (body : BodyOf) → bytes_at end bytes ≡ Ok (code.rest, after) → code.end ≡ end - length after → all_body_at profile code.end code.rest ≡ Ok body → code_at profile end bytes ≡ Ok (body, after)
+pub code_by : (profile : Profile) (end : ℕ) (bytes after : List ℕ) (code : Span) (body : BodyOf) → bytes_at end bytes ≡ Ok (code.rest, after)
+    → code.end ≡ end - length after → all_body_at profile code.end code.rest ≡ Ok body → code_at profile end bytes ≡ Ok (body, after)
 unfolding code_at
 code_by profile end bytes after code body taken place read = rw (taken, ← place, read) refl
 
@@ -99,13 +108,15 @@ unfolding code_at
 code_not_taken profile end bytes e bad = rw bad refl
 
 -- and one that is no body
-pub code_not_read : (profile : Profile) (end : ℕ) (bytes after : List ℕ) (code : Span) (e : ReadFault) → bytes_at end bytes ≡ Ok (code.rest, after) → code.end ≡ end - length after → all_body_at profile code.end code.rest ≡ Err e → code_at profile end bytes ≡ Err e
+pub code_not_read : (profile : Profile) (end : ℕ) (bytes after : List ℕ) (code : Span) (e : ReadFault) → bytes_at end bytes ≡ Ok (code.rest, after)
+    → code.end ≡ end - length after → all_body_at profile code.end code.rest ≡ Err e → code_at profile end bytes ≡ Err e
 unfolding code_at
 code_not_read profile end bytes after code e taken place bad = rw (taken, ← place, bad) refl
 
 -- ---- as many codes as functions
 
-items_many : {A : Type 0} (read : ℕ → List ℕ → Result (A × List ℕ) ReadFault) (n end : ℕ) (bytes : List ℕ) (x : List A × List ℕ) → items_at read n end bytes ≡ Ok x → length x.0 ≡ n
+items_many : {A : Type 0} (read : ℕ → List ℕ → Result (A × List ℕ) ReadFault) (n end : ℕ) (bytes : List ℕ) (x : List A × List ℕ)
+    → items_at read n end bytes ≡ Ok x → length x.0 ≡ n
 items_many {A = A} read zero end bytes x e = sym (ap (λ (y : List A × List ℕ). length y.0) (ok_is _ _ e))
 items_many {A = A} read (suc n) end bytes x e =
     let a = bind_ok (read end bytes) (λ y. items_at read n end y.1 >>= λ ys. done (y.0 ∷ ys.0, ys.1)) x e in
@@ -117,20 +128,23 @@ taken_is end (y, []) x e = ok_is y x e
 taken_is end (y, z ∷ rest) x e = absurd cc
 
 -- as many codes are read as functions were declared
-pub codes_many : (profile : Profile) (funcs end : ℕ) (bytes : List ℕ) (bodies : List BodyOf) → all_at (codes_at profile funcs) end bytes ≡ Ok bodies → length bodies ≡ funcs
+pub codes_many : (profile : Profile) (funcs end : ℕ) (bytes : List ℕ) (bodies : List BodyOf) → all_at (codes_at profile funcs) end bytes ≡ Ok bodies
+    → length bodies ≡ funcs
 unfolding codes_at
 codes_many profile funcs end bytes bodies e =
     let a = bind_ok (codes_at profile funcs end bytes) (taking_all end) bodies e in
     let n = bind_ok (u32_at end bytes) (λ n. cond (eqb n.0 funcs) (items_at (code_at profile) n.0 end n.1) (Err (fault FuncCodeCount end bytes))) a.0 a.1 in
     elim (chosen (eqb n.0.0 funcs) (items_at (code_at profile) n.0.0 end n.0.1) (Err (fault FuncCodeCount end bytes)) (Ok a.0) n.2) [
-      | inl h ↦ ap (λ (bodies' : List BodyOf). length bodies') (sym (taken_is end a.0 bodies a.2)) ∙ items_many (code_at profile) n.0.0 end n.0.1 a.0 h.1 ∙ eqb-true n.0.0 funcs h.0
+      | inl h ↦ ap (λ (bodies' : List BodyOf). length bodies') (sym (taken_is end a.0 bodies a.2))
+          ∙ items_many (code_at profile) n.0.0 end n.0.1 a.0 h.1 ∙ eqb-true n.0.0 funcs h.0
       | inr h ↦ absurd cc
     ]
 
 joined_same : (end : ℕ) (l : SectionLists) → length l.funcs ≡ length l.codes → joined_lists end l ≡ Ok l
 joined_same end l same = rw (eq-eqb (length l.funcs) (length l.codes) same) refl
 
-lacking : (end : ℕ) (l : SectionLists) (funcs : List ℕ) → l.funcs ≡ funcs → l.codes ≡ [] → funcs ≢ [] → joined_lists end l ≡ Err (record { kind = FuncCodeCount; at = end })
+lacking : (end : ℕ) (l : SectionLists) (funcs : List ℕ) → l.funcs ≡ funcs → l.codes ≡ [] → funcs ≢ []
+    → joined_lists end l ≡ Err (record { kind = FuncCodeCount; at = end })
 lacking end l [] is none some = absurd (some refl)
 lacking end l (t ∷ types) is none some = rw (is, none, ne_eqb (suc (length types)) 0 (omega arith)) refl
 
@@ -139,7 +153,9 @@ pub lists_few : (profile : Profile) (l q : SectionLists) (b : List ℕ) → list
 unfolding header_at lists_read
 lists_few profile l q b read =
     elim (cases_lt limit (length b)) [
-      | inl lt ↦ let none : lists_read profile l (sections_of b) ≡ Err (record { kind = LongInput; at = limit }) = rw (lt-ltb limit (length b) lt) refl in absurd (err_ok q (record { kind = LongInput; at = limit }) (sym none ∙ read))
+      | inl lt ↦
+          let none : lists_read profile l (sections_of b) ≡ Err (record { kind = LongInput; at = limit }) = rw (lt-ltb limit (length b) lt) refl in
+          absurd (err_ok q (record { kind = LongInput; at = limit }) (sym none ∙ read))
       | inr le ↦ le
     ]
 
@@ -183,13 +199,17 @@ module _ (profile : Profile) (b : List ℕ) (lists : AreListsOfModule profile b)
       let joined : joined_lists (length b) l ≡ Ok l = rw (none, no_funcs) refl in
       has_read l (rw read joined)
 
-  pub lacks_code : (l : SectionLists) → l.codes ≡ [] → l.funcs ≢ [] → read_lists profile b ≡ Ok l → module_at profile b ≡ Err (record { kind = FuncCodeCount; at = length b })
-  lacks_code l none some read = fails_by (module_at profile b) (record { kind = FuncCodeCount; at = length b }) (lists ∙ rw read (lacking (length b) l l.funcs refl none some))
+  pub lacks_code : (l : SectionLists) → l.codes ≡ [] → l.funcs ≢ [] → read_lists profile b ≡ Ok l
+      → module_at profile b ≡ Err (record { kind = FuncCodeCount; at = length b })
+  lacks_code l none some read = fails_by (module_at profile b) (record { kind = FuncCodeCount; at = length b })
+      (lists ∙ rw read (lacking (length b) l l.funcs refl none some))
 
   -- ---- with a code section
 
-  module _ (l : SectionLists) (s : Section) (behind : List (Result Section ReadFault)) (code_is : s.id ≡ 10) (none : l.codes ≡ []) (rise : Rise 10 behind) (read : read_lists profile b ≡ lists_read profile l (Ok s ∷ behind)) where
-    read_codes : (r : Result (List BodyOf) ReadFault) → codes_of profile (length l.funcs) s ≡ r → read_lists profile b ≡ (r >>= λ bodies. lists_read profile (with_codes bodies l) behind)
+  module _ (l : SectionLists) (s : Section) (behind : List (Result Section ReadFault)) (code_is : s.id ≡ 10) (none : l.codes ≡ [])
+      (rise : Rise 10 behind) (read : read_lists profile b ≡ lists_read profile l (Ok s ∷ behind)) where
+    read_codes : (r : Result (List BodyOf) ReadFault) → codes_of profile (length l.funcs) s ≡ r
+        → read_lists profile b ≡ (r >>= λ bodies. lists_read profile (with_codes bodies l) behind)
     unfolding lists_read listed_by
     read_codes (Ok bodies) codes = read ∙ rw (code_is, codes) refl
     read_codes (Err e) codes = read ∙ rw (code_is, codes) refl
@@ -197,17 +217,20 @@ module _ (profile : Profile) (b : List ℕ) (lists : AreListsOfModule profile b)
     pub codes_fail : (e : ReadFault) → codes_of profile (length l.funcs) s ≡ Err e → module_at profile b ≡ Err e
     codes_fail e bad = lists_fail e (read_codes (Err e) bad)
 
-    read_behind : (bodies : List BodyOf) → codes_of profile (length l.funcs) s ≡ Ok bodies → read_lists profile b ≡ (lists_read profile l behind >>= λ q. Ok (with_codes bodies q))
+    read_behind : (bodies : List BodyOf) → codes_of profile (length l.funcs) s ≡ Ok bodies
+        → read_lists profile b ≡ (lists_read profile l behind >>= λ q. Ok (with_codes bodies q))
     read_behind bodies codes = read_codes (Ok bodies) codes ∙ lists_aside profile bodies l 10 behind (omega arith) rise
 
-    pub behind_fails : (bodies : List BodyOf) (e : ReadFault) → codes_of profile (length l.funcs) s ≡ Ok bodies → lists_read profile l behind ≡ Err e → module_at profile b ≡ Err e
+    pub behind_fails : (bodies : List BodyOf) (e : ReadFault) → codes_of profile (length l.funcs) s ≡ Ok bodies → lists_read profile l behind ≡ Err e
+        → module_at profile b ≡ Err e
     behind_fails bodies e codes bad = lists_fail e (read_behind bodies codes ∙ rw bad refl)
 
     -- the sections behind leave all lists but the data segments
     pub front_stays : (q : SectionLists) → lists_read profile l behind ≡ Ok q → (x : List DataSeg) × (q ≡ record l { datas = x })
     front_stays q ends = lists_front profile l q 10 behind (omega arith) rise ends
 
-    pub read_with_code : (q : SectionLists) (bodies : List BodyOf) → codes_of profile (length l.funcs) s ≡ Ok bodies → lists_read profile l behind ≡ Ok q → HasRead (with_codes bodies q)
+    pub read_with_code : (q : SectionLists) (bodies : List BodyOf) → codes_of profile (length l.funcs) s ≡ Ok bodies
+        → lists_read profile l behind ≡ Ok q → HasRead (with_codes bodies q)
     read_with_code q bodies codes ends =
         let front = front_stays q ends in
         let many : length bodies ≡ length l.funcs = codes_many profile (length l.funcs) (section_end s) s.contents bodies codes in

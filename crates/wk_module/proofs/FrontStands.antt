@@ -18,14 +18,16 @@ abbrev Lie : List ℕ → Front → Type 0
 Lie input f = All (ItemStands input) f.behind × IfSome f.code (LiesIn input)
 
 module _ (profile : Profile) (input : List ℕ) (f : Front) where
-  behind_lists : (items : List (Result Section ReadFault)) (r : Result SectionLists ReadFault) → ((q : SectionLists) → front_read profile q items ≡ Ok f → Lie input f)
+  behind_lists : (items : List (Result Section ReadFault)) (r : Result SectionLists ReadFault)
+      → ((q : SectionLists) → front_read profile q items ≡ Ok f → Lie input f)
       → (r >>= λ q. front_read profile q items) ≡ Ok f → Lie input f
   behind_lists items (Ok q) more e = more q e
   behind_lists items (Err d) more e = absurd cc
 
   by_id : (l : SectionLists) (s : Section) (items : List (Result Section ReadFault)) (is_code : Bool) → LiesIn input s → All (ItemStands input) items
       → ((q : SectionLists) → front_read profile q items ≡ Ok f → Lie input f)
-      → (if is_code then Ok (record { lists = l; code = Some s; behind = items }) else (with_listed profile l s >>= λ q. front_read profile q items)) ≡ Ok f → Lie input f
+      → (if is_code then Ok (record { lists = l; code = Some s; behind = items }) else (with_listed profile l s >>= λ q. front_read profile q items))
+      ≡ Ok f → Lie input f
   by_id l s items true here later more e = let is : record { lists = l; code = Some s; behind = items } ≡ f = cc in subst (Lie input) is (later, here)
   by_id l s items false here later more e = behind_lists items (with_listed profile l s) more e
 

@@ -1,5 +1,6 @@
 -- The formats of the items of a module's lists.
-use Rattle.std.proofs.Common.{◌≡◌, ℕ, ◌+◌, ◌-◌, ◌^◌, ◌<◌, ◌≤◌, Bool, true, false, cond, eqb, List, [], ◌∷◌, ◌++◌, length, Option, Some, None, Result, Ok, Err, refl, sym, ap, ◌∙◌, inl, inr, length-append, arith}
+use Rattle.std.proofs.Common.{◌≡◌, ℕ, ◌+◌, ◌-◌, ◌^◌, ◌<◌, ◌≤◌, Bool, true, false, cond, eqb, List, [], ◌∷◌, ◌++◌, length, Option, Some, None, Result, Ok, Err}
+use Rattle.std.proofs.Common.{refl, sym, ap, ◌∙◌, inl, inr, length-append, arith}
 use Rattle.std.proofs.lemmas.Bool.{eqb-true}
 use Rattle.std.specs.List.{AllByRecursion}
 use Rattle.std.specs.Str.{IsUtf8}
@@ -27,11 +28,18 @@ use Rattle.wk_module.specs.declared.types.Kind.TheVariants as kinds
 use Rattle.wk_module.specs.declared.types.ImportDesc.{ImportDesc}
 use Rattle.wk_module.specs.declared.types.ImportDesc.TheVariants.{Func, Table, Memory, Global}
 use Rattle.wk_module.specs.Formats.{SpellsBoth, both_at, SpellsCoded, coded_at, bytes_at, SpellsBytes}
-use Rattle.wk_module.specs.Types.{written_valtype, SpellsFuncType, func_type, functype_at, written_functype, flag_byte, flag_of, has_max, SpellsBounds, SpellsLimits, without_max, with_max, bounds_at, limits_at, written_bounds, written_limits, IsBound, AreLimits, SpellsTableType, tabletype_at, written_tabletype, SpellsGlobalType, global_type, globaltype_at, written_globaltype, kind_byte, kind_of}
-use Rattle.wk_module.specs.Items.{desc_kind, SpellsDescRest, SpellsDesc, desc_rest_at, desc_at, written_desc_rest, written_desc, IsDesc, SpellsImport, import_of, import_at, written_import, IsImport, SpellsInit, IsInit, SpellsGlobal, global_of, global_at, written_global, IsGlobal, SpellsExport, export_of, export_at, written_export, IsExport, SpellsElem, elem_of, elem_at, written_elem, IsElem, SpellsCode, code_at, written_code, IsCode, SpellsData, data_of, data_at, written_data, IsData}
+use Rattle.wk_module.specs.Types.{written_valtype, SpellsFuncType, func_type, functype_at, written_functype, flag_byte, flag_of, has_max, SpellsBounds}
+use Rattle.wk_module.specs.Types.{SpellsLimits, without_max, with_max, bounds_at, limits_at, written_bounds, written_limits, IsBound, AreLimits}
+use Rattle.wk_module.specs.Types.{SpellsTableType, tabletype_at, written_tabletype, SpellsGlobalType, global_type, globaltype_at, written_globaltype, kind_byte}
+use Rattle.wk_module.specs.Types.{kind_of}
+use Rattle.wk_module.specs.Items.{desc_kind, SpellsDescRest, SpellsDesc, desc_rest_at, desc_at, written_desc_rest, written_desc, IsDesc, SpellsImport}
+use Rattle.wk_module.specs.Items.{import_of, import_at, written_import, IsImport, SpellsInit, IsInit, SpellsGlobal, global_of, global_at, written_global}
+use Rattle.wk_module.specs.Items.{IsGlobal, SpellsExport, export_of, export_at, written_export, IsExport, SpellsElem, elem_of, elem_at, written_elem, IsElem}
+use Rattle.wk_module.specs.Items.{SpellsCode, code_at, written_code, IsCode, SpellsData, data_of, data_at, written_data, IsData}
 use Rattle.wk_module.proofs.Laws.{CodeLaws, IsFormat}
 use Rattle.wk_module.specs.WritingLaws.{short-rises}
-use Rattle.wk_module.proofs.Formats.{IsRest, u32_format, name_format, bytes_format, both_format, made_format, made_front, made_again, made_found, valid_as, vector_format, coded_format, behind_format, keyed_format, read_to, same_read, bytes_parts}
+use Rattle.wk_module.proofs.Formats.{IsRest, u32_format, name_format, bytes_format, both_format, made_format, made_front, made_again, made_found, valid_as}
+use Rattle.wk_module.proofs.Formats.{vector_format, coded_format, behind_format, keyed_format, read_to, same_read, bytes_parts}
 
 -- ---- value types
 
@@ -69,7 +77,8 @@ valtype_format = coded_format valtype_byte valtype_of valtype_of_byte byte_of_va
 pub functype_format : IsFormat IsAny SpellsFuncType functype_at written_functype
 functype_format =
     let types = vector_format valtype_format in
-    made_format func_type (λ t. (t.params, t.results)) (λ x. refl) (λ t. refl) (behind_format 0x60 (valid_as IsAny (λ x any. (all_any x.0, all_any x.1)) (λ x both. tt) (both_format types types)))
+    made_format func_type (λ t. (t.params, t.results)) (λ x. refl) (λ t. refl)
+    (behind_format 0x60 (valid_as IsAny (λ x any. (all_any x.0, all_any x.1)) (λ x both. tt) (both_format types types)))
   where
     all_any : {A : Type 0} (xs : List A) → AllByRecursion IsAny xs
     all_any [] = tt
@@ -101,22 +110,26 @@ SpellsLimitsRest b l = SpellsBounds b l.min l.max
 pair_format : IsFormat (λ (x : ℕ × ℕ). IsU32 x.0 × IsU32 x.1) (SpellsBoth (SpellsU 32) (SpellsU 32)) (both_at u32_at u32_at) (λ x. short x.0 ++ short x.1)
 pair_format = both_format u32_format u32_format
 
-bounds_found : (k : Bool) (end : ℕ) (bytes : List ℕ) (l : Limits) (rest : List ℕ) → IsBytes bytes → bounds_at k end bytes ≡ Ok (l, rest) → (b : List ℕ) × SpellsLimitsRest b l × (bytes ≡ b ++ rest) × (has_max l.max ≡ k)
+bounds_found : (k : Bool) (end : ℕ) (bytes : List ℕ) (l : Limits) (rest : List ℕ) → IsBytes bytes → bounds_at k end bytes ≡ Ok (l, rest)
+    → (b : List ℕ) × SpellsLimitsRest b l × (bytes ≡ b ++ rest) × (has_max l.max ≡ k)
 unfolding bounds_at
 bounds_found false = made_found (λ (l : Limits). has_max l.max) SpellsLimitsRest without_max u32_format (λ b x s. s) false (λ x. refl)
 bounds_found true = made_found (λ (l : Limits). has_max l.max) SpellsLimitsRest with_max pair_format (λ b x s. s) true (λ x. refl)
 
-bounds_again : (end : ℕ) (b : List ℕ) (min : ℕ) (most : Option ℕ) (rest : List ℕ) → SpellsBounds b min most → bounds_at (has_max most) end (b ++ rest) ≡ Ok (record { min = min; max = most }, rest)
+bounds_again : (end : ℕ) (b : List ℕ) (min : ℕ) (most : Option ℕ) (rest : List ℕ) → SpellsBounds b min most
+    → bounds_at (has_max most) end (b ++ rest) ≡ Ok (record { min = min; max = most }, rest)
 unfolding bounds_at
 bounds_again end b min None rest s = made_again without_max u32_at end (b ++ rest) min rest (u32_format.again end b min rest s)
-bounds_again end b min (Some most) rest s = made_again with_max (both_at u32_at u32_at) end (b ++ rest) (min, most) rest (pair_format.again end b (min, most) rest s)
+bounds_again end b min (Some most) rest s = made_again with_max (both_at u32_at u32_at) end (b ++ rest) (min, most) rest
+    (pair_format.again end b (min, most) rest s)
 
 bounds_front : (k : Bool) → ReadsFront (bounds_at k)
 unfolding bounds_at
 bounds_front false = made_front without_max u32_at u32_format.fronts
 bounds_front true = made_front with_max (both_at u32_at u32_at) pair_format.fronts
 
-bounds_spell : (min : ℕ) (most : Option ℕ) → IsU32 min × IsBound most → length (written_bounds min most) < 2 ^ 32 → SpellsBounds (written_bounds min most) min most
+bounds_spell : (min : ℕ) (most : Option ℕ) → IsU32 min × IsBound most → length (written_bounds min most) < 2 ^ 32
+    → SpellsBounds (written_bounds min most) min most
 bounds_spell min None valid fits = u32_format.spells min valid.0 fits
 bounds_spell min (Some most) valid fits = pair_format.spells (min, most) valid fits
 
@@ -147,7 +160,8 @@ tabletype_format = behind_format 0x70 limits_format
 -- ---- global types
 
 pub globaltype_format : IsFormat IsAny SpellsGlobalType globaltype_at written_globaltype
-globaltype_format = made_format global_type (λ t. (t.val, t.mutable)) (λ x. refl) (λ t. refl) (valid_as IsAny (λ x any. (tt, tt)) (λ x both. tt) (both_format valtype_format flag_format))
+globaltype_format = made_format global_type (λ t. (t.val, t.mutable)) (λ x. refl) (λ t. refl)
+    (valid_as IsAny (λ x any. (tt, tt)) (λ x both. tt) (both_format valtype_format flag_format))
 
 -- ---- kinds
 
@@ -159,7 +173,8 @@ kind_of_byte kinds.Global = refl
 
 byte_of_kind : (n : ℕ) (k : Kind) → kind_of n ≡ Some k → n ≡ kind_byte k
 byte_of_kind n k e =
-    elim (chosen (eqb n 0) (Some kinds.Func) (cond (eqb n 1) (Some kinds.Table) (cond (eqb n 2) (Some kinds.Memory) (cond (eqb n 3) (Some kinds.Global) None))) (Some k) e) [
+    elim (chosen (eqb n 0) (Some kinds.Func)
+    (cond (eqb n 1) (Some kinds.Table) (cond (eqb n 2) (Some kinds.Memory) (cond (eqb n 3) (Some kinds.Global) None))) (Some k) e) [
       | inl p ↦ eqb-true n 0 p.0 ∙ ap kind_byte (some_is kinds.Func k p.1)
       | inr p ↦ elim (chosen (eqb n 1) (Some kinds.Table) (cond (eqb n 2) (Some kinds.Memory) (cond (eqb n 3) (Some kinds.Global) None)) (Some k) p.1) [
         | inl q ↦ eqb-true n 1 q.0 ∙ ap kind_byte (some_is kinds.Table k q.1)
@@ -178,7 +193,8 @@ kind_format = coded_format kind_byte kind_of kind_of_byte byte_of_kind
 
 -- ---- imports
 
-desc_found : (k : Kind) (end : ℕ) (bytes : List ℕ) (d : ImportDesc) (rest : List ℕ) → IsBytes bytes → desc_rest_at k end bytes ≡ Ok (d, rest) → (b : List ℕ) × SpellsDescRest b d × (bytes ≡ b ++ rest) × (desc_kind d ≡ k)
+desc_found : (k : Kind) (end : ℕ) (bytes : List ℕ) (d : ImportDesc) (rest : List ℕ) → IsBytes bytes → desc_rest_at k end bytes ≡ Ok (d, rest)
+    → (b : List ℕ) × SpellsDescRest b d × (bytes ≡ b ++ rest) × (desc_kind d ≡ k)
 unfolding desc_rest_at
 desc_found kinds.Func = made_found desc_kind SpellsDescRest Func u32_format (λ b x s. s) kinds.Func (λ x. refl)
 desc_found kinds.Table = made_found desc_kind SpellsDescRest Table tabletype_format (λ b x s. s) kinds.Table (λ x. refl)
@@ -218,19 +234,22 @@ desc_valid b (Memory l) bytes s = limits_format.valid b l bytes s
 desc_valid b (Global t) bytes s = globaltype_format.valid b t bytes s
 
 pub desc_format : IsFormat IsDesc SpellsDesc desc_at written_desc
-desc_format = keyed_format desc_kind (λ d valid. tt) kind_format (record { found = desc_found; again = desc_again; fronts = desc_front; spells = desc_spells; least = desc_least; valid = desc_valid })
+desc_format = keyed_format desc_kind (λ d valid. tt) kind_format
+    (record { found = desc_found; again = desc_again; fronts = desc_front; spells = desc_spells; least = desc_least; valid = desc_valid })
 
 pub import_format : IsFormat IsImport SpellsImport import_at written_import
 import_format =
     made_format import_of (λ i. (i.from, (i.name, i.desc))) (λ x. refl) (λ i. refl)
-    (valid_as (λ x. IsUtf8 x.0 × IsUtf8 x.1.0 × IsDesc x.1.1) (λ x valid. (valid.0, (valid.1, valid.2))) (λ x valid. (valid.0, valid.1.0, valid.1.1)) (both_format name_format (both_format name_format desc_format)))
+    (valid_as (λ x. IsUtf8 x.0 × IsUtf8 x.1.0 × IsDesc x.1.1) (λ x valid. (valid.0, (valid.1, valid.2))) (λ x valid. (valid.0, valid.1.0, valid.1.1))
+    (both_format name_format (both_format name_format desc_format)))
 
 -- ---- exports
 
 pub export_format : IsFormat IsExport SpellsExport export_at written_export
 export_format =
     made_format export_of (λ e. (e.name, (e.kind, e.index))) (λ x. refl) (λ e. refl)
-    (valid_as (λ x. IsUtf8 x.0 × IsU32 x.1.1) (λ x valid. (valid.0, (tt, valid.1))) (λ x valid. (valid.0, valid.1.1)) (both_format name_format (both_format kind_format u32_format)))
+    (valid_as (λ x. IsUtf8 x.0 × IsU32 x.1.1) (λ x valid. (valid.0, (tt, valid.1))) (λ x valid. (valid.0, valid.1.1))
+    (both_format name_format (both_format kind_format u32_format)))
 
 -- ---- of a profile
 
@@ -263,14 +282,16 @@ module _ (profile : Profile) (laws : CodeLaws profile) where
   pub elem_format : IsFormat (IsElem profile) (SpellsElem profile) (elem_at profile) written_elem
   elem_format =
       made_format elem_of (λ e. (e.table, (e.offset, e.funcs))) (λ x. refl) (λ e. refl)
-      (valid_as (λ x. IsU32 x.0 × IsInit profile x.1.0 × AllByRecursion IsU32 x.1.1) (λ x valid. (valid.0, (valid.1, valid.2))) (λ x valid. (valid.0, valid.1.0, valid.1.1)) (both_format u32_format (both_format init_format (vector_format u32_format))))
+      (valid_as (λ x. IsU32 x.0 × IsInit profile x.1.0 × AllByRecursion IsU32 x.1.1) (λ x valid. (valid.0, (valid.1, valid.2)))
+      (λ x valid. (valid.0, valid.1.0, valid.1.1)) (both_format u32_format (both_format init_format (vector_format u32_format))))
 
   -- ---- data segments
 
   pub data_format : IsFormat (IsData profile) (SpellsData profile) (data_at profile) written_data
   data_format =
       made_format data_of (λ d. (d.memory, (d.offset, d.bytes))) (λ x. refl) (λ d. refl)
-      (valid_as (λ x. IsU32 x.0 × IsInit profile x.1.0) (λ x valid. (valid.0, (valid.1, tt))) (λ x valid. (valid.0, valid.1.0)) (both_format u32_format (both_format init_format bytes_format)))
+      (valid_as (λ x. IsU32 x.0 × IsInit profile x.1.0) (λ x valid. (valid.0, (valid.1, tt))) (λ x valid. (valid.0, valid.1.0))
+      (both_format u32_format (both_format init_format bytes_format)))
 
   -- ---- codes
 
@@ -279,7 +300,8 @@ module _ (profile : Profile) (laws : CodeLaws profile) where
   sized_at end code = all_body_at profile (end - length code.1) code.0 >>= λ body. Ok (body, code.1)
 
   -- the steps of reading one
-  code_steps : (end : ℕ) (bytes : List ℕ) (body : BodyOf) (rest : List ℕ) → code_at profile end bytes ≡ Ok (body, rest) → (code : List ℕ) × (bytes_at end bytes ≡ Ok (code, rest)) × (all_body_at profile (end - length rest) code ≡ Ok body)
+  code_steps : (end : ℕ) (bytes : List ℕ) (body : BodyOf) (rest : List ℕ) → code_at profile end bytes ≡ Ok (body, rest)
+      → (code : List ℕ) × (bytes_at end bytes ≡ Ok (code, rest)) × (all_body_at profile (end - length rest) code ≡ Ok body)
   unfolding code_at
   code_steps end bytes body rest e =
       let a = bind_ok (bytes_at end bytes) (sized_at end) (body, rest) e in
@@ -287,12 +309,23 @@ module _ (profile : Profile) (laws : CodeLaws profile) where
       let same = same_read b.0 body a.0.1 rest b.2 in
       (a.0.0, a.1 ∙ ap (read_to a.0.0) same.1, ap (λ (later : List ℕ). all_body_at profile (end - length later) a.0.0) (sym same.1) ∙ b.1 ∙ ap good same.0)
 
-  code_found : (end : ℕ) (bytes : List ℕ) (body : BodyOf) (rest : List ℕ) → IsBytes bytes → code_at profile end bytes ≡ Ok (body, rest) → (b : List ℕ) × SpellsCode profile b body × (bytes ≡ b ++ rest)
+  code_found : (end : ℕ) (bytes : List ℕ) (body : BodyOf) (rest : List ℕ) → IsBytes bytes → code_at profile end bytes ≡ Ok (body, rest)
+      → (b : List ℕ) × SpellsCode profile b body × (bytes ≡ b ++ rest)
   code_found end bytes body rest fits e =
       let m = code_steps end bytes body rest e in
       let f = bytes_format.found end bytes m.0 rest fits m.1 in
-      let fits_code : IsBytes m.0 = IsBytes-after f.1.size m.0 f.0 f.1.parts (IsBytes-before f.0 rest bytes f.2 fits) in
-      (f.0, record { size = f.1.size; code = m.0; parts = f.1.parts; counts = f.1.counts; spelled = laws.body.takes (end - length rest) m.0 body fits_code m.2 }, f.2)
+      let fits_code : IsBytes m.0 = IsBytes-after f.1.size m.0 f.0 f.1.parts (IsBytes-before f.0 rest bytes f.2 fits) in (
+        f.0,
+        record {
+          size = f.1.size;
+          code = m.0;
+          parts = f.1.parts;
+          counts = f.1.counts;
+          spelled =
+              laws.body.takes (end - length rest) m.0 body fits_code m.2;
+        },
+        f.2,
+      )
 
   code_again : (end : ℕ) (b : List ℕ) (body : BodyOf) (rest : List ℕ) → SpellsCode profile b body → code_at profile end (b ++ rest) ≡ Ok (body, rest)
   unfolding code_at
@@ -300,24 +333,33 @@ module _ (profile : Profile) (laws : CodeLaws profile) where
       let sized : SpellsBytes b s.code = record { size = s.size; parts = s.parts; counts = s.counts } in
       rw (bytes_format.again end b s.code rest sized, laws.body.again (end - length rest) body s.code s.spelled) refl
 
-  code_takes : (end : ℕ) (bytes : List ℕ) (body : BodyOf) (rest : List ℕ) → code_at profile end bytes ≡ Ok (body, rest) → (front : List ℕ) × (bytes ≡ front ++ rest)
+  code_takes : (end : ℕ) (bytes : List ℕ) (body : BodyOf) (rest : List ℕ) → code_at profile end bytes ≡ Ok (body, rest)
+      → (front : List ℕ) × (bytes ≡ front ++ rest)
   code_takes end bytes body rest e = let m = code_steps end bytes body rest e in bytes_format.fronts.takes end bytes m.0 rest m.1
 
   -- a fault of the code within the bytes
-  body_stands : (end : ℕ) (bytes code rest : List ℕ) (e : ReadFault) → (size : List ℕ) × (bytes ≡ size ++ (code ++ rest)) → length bytes ≤ end → all_body_at profile (end - length rest) code ≡ Err e → Stands (record { rest = bytes; end = end }) e
+  body_stands : (end : ℕ) (bytes code rest : List ℕ) (e : ReadFault) → (size : List ℕ) × (bytes ≡ size ++ (code ++ rest)) → length bytes ≤ end
+      → all_body_at profile (end - length rest) code ≡ Err e → Stands (record { rest = bytes; end = end }) e
   body_stands end bytes code rest e parts fits h =
-      let long : length bytes ≡ length parts.0 + (length code + length rest) = omega (arith, ap length parts.1, length-append parts.0 (code ++ rest), length-append code rest) in
-      Stands-within parts.0 rest (record { rest = bytes; end = end }) (record { rest = code; end = end - length rest }) e parts.1 (omega arith) fits (laws.body.stands (end - length rest) code e h (omega arith))
+      let long : length bytes ≡ length parts.0 + (length code + length rest) =
+      omega (arith, ap length parts.1, length-append parts.0 (code ++ rest), length-append code rest) in
+      Stands-within parts.0 rest (record { rest = bytes; end = end }) (record { rest = code; end = end - length rest }) e parts.1 (omega arith) fits
+      (laws.body.stands (end - length rest) code e h (omega arith))
 
-  body_fault : (end : ℕ) (bytes code rest : List ℕ) (e : ReadFault) (r : Result BodyOf ReadFault) → (size : List ℕ) × (bytes ≡ size ++ (code ++ rest)) → length bytes ≤ end → all_body_at profile (end - length rest) code ≡ r → (r >>= λ body. read_to body rest) ≡ Err e → Stands (record { rest = bytes; end = end }) e
+  body_fault : (end : ℕ) (bytes code rest : List ℕ) (e : ReadFault) (r : Result BodyOf ReadFault) → (size : List ℕ) × (bytes ≡ size ++ (code ++ rest))
+      → length bytes ≤ end → all_body_at profile (end - length rest) code ≡ r → (r >>= λ body. read_to body rest) ≡ Err e
+      → Stands (record { rest = bytes; end = end }) e
   body_fault end bytes code rest e (Ok body) parts fits is h = absurd cc
   body_fault end bytes code rest e (Err d) parts fits is h = body_stands end bytes code rest e parts fits (is ∙ cc)
 
-  sized_fault : (end : ℕ) (bytes : List ℕ) (e : ReadFault) (r : Result (List ℕ × List ℕ) ReadFault) → bytes_at end bytes ≡ r → (r >>= sized_at end) ≡ Err e → length bytes ≤ end → Stands (record { rest = bytes; end = end }) e
+  sized_fault : (end : ℕ) (bytes : List ℕ) (e : ReadFault) (r : Result (List ℕ × List ℕ) ReadFault) → bytes_at end bytes ≡ r
+      → (r >>= sized_at end) ≡ Err e → length bytes ≤ end → Stands (record { rest = bytes; end = end }) e
   sized_fault end bytes e (Err d) is h fits = bytes_format.fronts.faults end bytes e (is ∙ cc) fits
-  sized_fault end bytes e (Ok code) is h fits = body_fault end bytes code.0 code.1 e (all_body_at profile (end - length code.1) code.0) (bytes_parts end bytes code.0 code.1 is) fits refl h
+  sized_fault end bytes e (Ok code) is h fits = body_fault end bytes code.0 code.1 e (all_body_at profile (end - length code.1) code.0)
+      (bytes_parts end bytes code.0 code.1 is) fits refl h
 
-  code_fault : (end : ℕ) (bytes : List ℕ) (e : ReadFault) → code_at profile end bytes ≡ Err e → length bytes ≤ end → Stands (record { rest = bytes; end = end }) e
+  code_fault : (end : ℕ) (bytes : List ℕ) (e : ReadFault) → code_at profile end bytes ≡ Err e → length bytes ≤ end
+      → Stands (record { rest = bytes; end = end }) e
   unfolding code_at
   code_fault end bytes e h fits = sized_fault end bytes e (bytes_at end bytes) refl h fits
 
@@ -329,11 +371,29 @@ module _ (profile : Profile) (laws : CodeLaws profile) where
     some = λ body. bytes_format.some (written_body body);
     spells = λ body valid fits.
         let sized = bytes_format.spells (written_body body) tt fits in
-        record { size = sized.size; code = written_body body; parts = sized.parts; counts = sized.counts; spelled = laws.body_written body valid.0 valid.1.0 valid.1.1 };
+        record {
+          size = sized.size;
+          code = written_body body;
+          parts = sized.parts;
+          counts = sized.counts;
+          spelled =
+              laws.body_written body valid.0 valid.1.0 valid.1.1;
+        };
     least = λ b body s.
         let code : length (written_body body) ≤ length s.code = laws.body_least body s.code s.spelled in
-        omega (arith, code, length-append (short (length (written_body body))) (written_body body), ap length s.parts, length-append s.size s.code, short-rises (length (written_body body)) (length s.code) code, short-least 32 (length s.code) s.size s.counts);
+        omega (
+          arith,
+          code,
+          length-append (short (length (written_body body))) (written_body body),
+          ap length s.parts,
+          length-append s.size s.code,
+          short-rises (length (written_body body)) (length s.code) code,
+          short-least 32 (length s.code) s.size s.counts,
+        );
     valid = λ b body bytes s.
-        let code = IsBytes-after s.size s.code b s.parts bytes in
-        (s.spelled.groups, laws.expr_shape body.instrs s.spelled.code (IsBytes-after s.spelled.locals s.spelled.code s.code s.spelled.parts code) s.spelled.spelled);
+        let code = IsBytes-after s.size s.code b s.parts bytes in (
+          s.spelled.groups,
+          laws.expr_shape body.instrs s.spelled.code
+              (IsBytes-after s.spelled.locals s.spelled.code s.code s.spelled.parts code) s.spelled.spelled,
+        );
   }

@@ -28,7 +28,8 @@ pub record CodeLaws (profile : Profile) : Type 0 where
 -- fault stands; the written form has a byte, spells the thing, where it is valid and not too long, and is a shortest spelling;
 -- what is spelled is valid.
 pub record IsFormat {A : Type 0} (Valid : A → Type 0) (Spells : List ℕ → A → Type 0) (read : Reader A) (written : A → List ℕ) : Type 0 where
-  pub found : (end : ℕ) (bytes : List ℕ) (x : A) (rest : List ℕ) → IsBytes bytes → read end bytes ≡ Ok (x, rest) → (b : List ℕ) × Spells b x × (bytes ≡ b ++ rest)
+  pub found : (end : ℕ) (bytes : List ℕ) (x : A) (rest : List ℕ) → IsBytes bytes → read end bytes ≡ Ok (x, rest)
+      → (b : List ℕ) × Spells b x × (bytes ≡ b ++ rest)
   pub again : (end : ℕ) (b : List ℕ) (x : A) (rest : List ℕ) → Spells b x → read end (b ++ rest) ≡ Ok (x, rest)
   pub fronts : ReadsFront read
   pub some : (x : A) → 0 < length (written x)
@@ -43,11 +44,14 @@ CountIs _ funcs x = Unit {0}
 
 -- The same of the contents of a section, which may be empty: then they are a count of zero, and are not written.
 pub record IsSection (profile : Profile) (k : SectionId) : Type 0 where
-  pub found : (funcs end : ℕ) (bytes : List ℕ) (x : ContentsOf k) (rest : List ℕ) → IsBytes bytes → contents_at profile funcs k end bytes ≡ Ok (x, rest) → (b : List ℕ) × SpellsContents profile k b x × (bytes ≡ b ++ rest)
-  pub again : (funcs end : ℕ) (b : List ℕ) (x : ContentsOf k) (rest : List ℕ) → CountIs k funcs x → SpellsContents profile k b x → contents_at profile funcs k end (b ++ rest) ≡ Ok (x, rest)
+  pub found : (funcs end : ℕ) (bytes : List ℕ) (x : ContentsOf k) (rest : List ℕ) → IsBytes bytes → contents_at profile funcs k end bytes ≡ Ok (x, rest)
+      → (b : List ℕ) × SpellsContents profile k b x × (bytes ≡ b ++ rest)
+  pub again : (funcs end : ℕ) (b : List ℕ) (x : ContentsOf k) (rest : List ℕ) → CountIs k funcs x → SpellsContents profile k b x
+      → contents_at profile funcs k end (b ++ rest) ≡ Ok (x, rest)
   pub fronts : (funcs : ℕ) → ReadsFront (contents_at profile funcs k)
   pub some : (x : ContentsOf k) → is_full k x ≡ true → 0 < length (written_contents k x)
-  pub spells : (x : ContentsOf k) → is_full k x ≡ true → AreValid profile k x → length (written_contents k x) < 2 ^ 32 → SpellsContents profile k (written_contents k x) x
+  pub spells : (x : ContentsOf k) → is_full k x ≡ true → AreValid profile k x → length (written_contents k x) < 2 ^ 32
+      → SpellsContents profile k (written_contents k x) x
   pub least : (b : List ℕ) (x : ContentsOf k) → SpellsContents profile k b x → length (written_contents k x) ≤ length b
   pub valid : (b : List ℕ) (x : ContentsOf k) → IsBytes b → SpellsContents profile k b x → AreValid profile k x
   pub empty : (b : List ℕ) (x : ContentsOf k) → SpellsContents profile k b x → is_full k x ≡ false → (number k ≢ 8) × SpellsU 32 b 0

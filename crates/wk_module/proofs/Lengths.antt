@@ -1,5 +1,6 @@
 -- Lengths up to the limit, and of pieces.
-use Rattle.std.proofs.Common.{◌≡◌, ℕ, ◌+◌, ◌<◌, ◌≤◌, true, false, Option, Some, None, List, [], ◌∷◌, ◌++◌, length, map, take, get_or, nat_le, eqb, refl, sym, ap, ◌∙◌, ◌==◌, arith, length-append}
+use Rattle.std.proofs.Common.{◌≡◌, ℕ, ◌+◌, ◌<◌, ◌≤◌, true, false, Option, Some, None, List, [], ◌∷◌, ◌++◌, length, map, take, get_or, nat_le, eqb, refl, sym}
+use Rattle.std.proofs.Common.{ap, ◌∙◌, ◌==◌, arith, length-append}
 use Rattle.std.proofs.lemmas.Bool.{eqb-true, eqb-false}
 use Rattle.std.specs.Option.{option_eq}
 use Rattle.std.specs.List.{flat_map, sum_by}
@@ -36,7 +37,8 @@ pub untold : (n : ℕ) → limit < n → None ≡ limited n
 untold n past = sym (cond-false (nat_le n limit) (Some n) None (lt-leb n limit past))
 
 -- one more piece
-pub length_more : {A : Type 0} (f : A → List ℕ) (xs : List A) (i : ℕ) (x : A) → i < length xs → x ≡ get_or xs i x → length (flat_map f (take (i + 1) xs)) ≡ length (flat_map f (take i xs)) + length (f x)
+pub length_more : {A : Type 0} (f : A → List ℕ) (xs : List A) (i : ℕ) (x : A) → i < length xs → x ≡ get_or xs i x
+    → length (flat_map f (take (i + 1) xs)) ≡ length (flat_map f (take i xs)) + length (f x)
 length_more f xs i x within is =
     ap (λ ys. length (flat_map f ys)) (take_more xs i x within ∙ ap (λ y. take i xs ++ y ∷ []) (sym is))
     ∙ (ap length (sym (flat_map_more f [] (take i xs) x)) ∙ length-append (flat_map f (take i xs)) (f x))
@@ -64,7 +66,8 @@ some_length (x ∷ xs) is = omega arith
 -- ---- the contents of sections
 
 -- a list of parts of items is written as the items are
-pub list_contents-map : {A B : Type 0} (written : B → List ℕ) (part : A → B) (xs : List A) → list_contents (λ x. written (part x)) xs ≡ list_contents written (map part xs)
+pub list_contents-map : {A B : Type 0} (written : B → List ℕ) (part : A → B) (xs : List A)
+    → list_contents (λ x. written (part x)) xs ≡ list_contents written (map part xs)
 list_contents-map written part [] = refl
 list_contents-map written part (x ∷ xs) =
     ap (λ (n : ℕ). short n ++ flat_map (λ y. written (part y)) (x ∷ xs)) (sym (length-map (x ∷ xs) part))
@@ -87,7 +90,8 @@ pub few_funcs : (funcs : List Func) → length funcs ≤ length (code_contents f
 few_funcs funcs = omega (arith, count_within CodeSection (map (λ (f : Func). f.body) funcs), length-map funcs (λ (f : Func). f.body))
 
 -- a body that is past the limit takes the code section past it
-pub past_by_body : (funcs : List Func) (i : ℕ) (f : Func) → i < length funcs → f ≡ get_or funcs i f → None ≡ limited (length (written_body f.body)) → limit < length (code_contents funcs)
+pub past_by_body : (funcs : List Func) (i : ℕ) (f : Func) → i < length funcs → f ≡ get_or funcs i f → None ≡ limited (length (written_body f.body))
+    → limit < length (code_contents funcs)
 past_by_body funcs i f within is none =
     omega (
       arith,
@@ -100,12 +104,15 @@ past_by_body funcs i f within is none =
 -- ---- the code section, by the sizes of its bodies
 
 -- the size that stands at an index is that of the body there
-pub size_at : (funcs : List Func) (sizes : List ℕ) (i : ℕ) (f : Func) (size : ℕ) → sizes ≡ body_sizes funcs → i < length funcs → f ≡ get_or funcs i f → size ≡ get_or sizes i size → size ≡ body_size f.body
+pub size_at : (funcs : List Func) (sizes : List ℕ) (i : ℕ) (f : Func) (size : ℕ) → sizes ≡ body_sizes funcs → i < length funcs → f ≡ get_or funcs i f
+    → size ≡ get_or sizes i size → size ≡ body_size f.body
 size_at funcs sizes i f size are within is sized =
-    sized ∙ ap (λ (ns : List ℕ). get_or ns i size) are ∙ get_or-map (λ (g : Func). body_size g.body) funcs i f size within ∙ ap (λ (g : Func). body_size g.body) (sym is)
+    sized ∙ ap (λ (ns : List ℕ). get_or ns i size) are ∙ get_or-map (λ (g : Func). body_size g.body) funcs i f size within
+    ∙ ap (λ (g : Func). body_size g.body) (sym is)
 
 -- one more size
-pub sizes_more : (funcs : List Func) (i : ℕ) (f : Func) (size : ℕ) → i < length funcs → f ≡ get_or funcs i f → size ≡ body_size f.body → body_sizes (take (i + 1) funcs) ≡ body_sizes (take i funcs) ++ size ∷ []
+pub sizes_more : (funcs : List Func) (i : ℕ) (f : Func) (size : ℕ) → i < length funcs → f ≡ get_or funcs i f → size ≡ body_size f.body
+    → body_sizes (take (i + 1) funcs) ≡ body_sizes (take i funcs) ++ size ∷ []
 sizes_more funcs i f size within is sized =
     ap body_sizes (take_more funcs i f within ∙ ap (λ (g : Func). take i funcs ++ g ∷ []) (sym is))
     ∙ (map-append (λ (g : Func). body_size g.body) (take i funcs) (f ∷ []) ∙ ap (λ (n : ℕ). body_sizes (take i funcs) ++ n ∷ []) (sym sized))
@@ -114,7 +121,13 @@ entries_sized : (bodies : List BodyOf) → sum_by entry_size (map body_size bodi
 entries_sized [] = refl
 entries_sized (b ∷ bs) =
     let code = written_body b in
-    omega (arith, sum_by-cons entry_size (body_size b) (map body_size bs), entries_sized bs, length-append (written_code b) (flat_map written_code bs), length-append (short (length code)) code)
+    omega (
+      arith,
+      sum_by-cons entry_size (body_size b) (map body_size bs),
+      entries_sized bs,
+      length-append (written_code b) (flat_map written_code bs),
+      length-append (short (length code)) code,
+    )
 
 -- there are no more bodies than bytes
 pub bodies_few : (sizes : List ℕ) (bodies : List BodyOf) → sizes ≡ map body_size bodies → length sizes ≤ sum_by entry_size sizes
@@ -128,11 +141,13 @@ codes_none (b ∷ bs) is = absurd cc
 pub no_codes : (sizes : List ℕ) (bodies : List BodyOf) → sizes ≡ [] → sizes ≡ map body_size bodies → section_contents CodeSection bodies ≡ []
 no_codes sizes bodies none is = codes_none bodies (sym none ∙ is)
 
-sized_by : (bodies : List BodyOf) → 0 < length bodies → length (section_contents CodeSection bodies) ≡ sum_by entry_size (map body_size bodies) + length (short (length bodies))
+sized_by : (bodies : List BodyOf) → 0 < length bodies → length (section_contents CodeSection bodies)
+    ≡ sum_by entry_size (map body_size bodies) + length (short (length bodies))
 sized_by [] some = absurd (omega (arith, some))
 sized_by (b ∷ bs) some = omega (arith, length-append (short (length (b ∷ bs))) (flat_map written_code (b ∷ bs)), entries_sized (b ∷ bs))
 
-pub codes_sized : (sizes : List ℕ) (bodies : List BodyOf) → 0 < length sizes → sizes ≡ map body_size bodies → length (section_contents CodeSection bodies) ≡ sum_by entry_size sizes + length (short (length sizes))
+pub codes_sized : (sizes : List ℕ) (bodies : List BodyOf) → 0 < length sizes → sizes ≡ map body_size bodies
+    → length (section_contents CodeSection bodies) ≡ sum_by entry_size sizes + length (short (length sizes))
 codes_sized sizes bodies some is =
     let count : length sizes ≡ length bodies = ap length is ∙ length-map bodies body_size in
     omega (arith, sized_by bodies (omega (arith, some, count)), ap (sum_by entry_size) is, ap (λ (n : ℕ). length (short n)) count)
@@ -143,5 +158,6 @@ sizes_of (f ∷ fs) = ap (λ (ns : List ℕ). body_size f.body ∷ ns) (sizes_of
 
 -- the length of the code section by the sizes of bodies
 pub codes_len : (funcs : List Func) (lent sizes : List ℕ) (len : Option ℕ) → lent ≡ sizes → sizes ≡ body_sizes funcs
-    → ((bodies : List BodyOf) → lent ≡ map body_size bodies → len ≡ limited (length (section_contents CodeSection bodies))) → len ≡ limited (length (code_contents funcs))
+    → ((bodies : List BodyOf) → lent ≡ map body_size bodies → len ≡ limited (length (section_contents CodeSection bodies)))
+    → len ≡ limited (length (code_contents funcs))
 codes_len funcs lent sizes len same are told = told (map (λ (f : Func). f.body) funcs) (same ∙ (are ∙ sizes_of funcs))

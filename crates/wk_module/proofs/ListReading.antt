@@ -1,5 +1,6 @@
 -- Lists that are read without custom sections are those of the module that is read.
-use Rattle.std.proofs.Common.{◌≡◌, ◌≢◌, ℕ, zero, suc, All, Bool, true, false, eqb, max, List, [], ◌∷◌, length, Option, Some, None, Result, Ok, Err, IfOk, refl, sym, ap, ◌∙◌, inl, inr, arith, subst}
+use Rattle.std.proofs.Common.{◌≡◌, ◌≢◌, ℕ, zero, suc, All, Bool, true, false, eqb, max, List, [], ◌∷◌, length, Option, Some, None, Result, Ok, Err, IfOk, refl}
+use Rattle.std.proofs.Common.{sym, ap, ◌∙◌, inl, inr, arith, subst}
 use Rattle.std.proofs.lemmas.Bool.{eqb-true}
 use Rattle.std.proofs.lemmas.List.Elements.{All-head, All-tail}
 use Rattle.wk_bytes.specs.declared.fault.ReadKind.{ReadKind}
@@ -28,7 +29,8 @@ use Rattle.wk_module.proofs.ModuleReading.{lists_of-module_of}
 -- ---- one section
 
 module _ (profile : Profile) (p : Progress) (s : Section) where
-  custom_step : (r : Result (List ℕ × List ℕ) ReadFault) → name_at (section_end s) s.contents ≡ r → listed_by profile p.lists s None ≡ (section_by profile p s None >>= λ q. Ok q.lists)
+  custom_step : (r : Result (List ℕ × List ℕ) ReadFault) → name_at (section_end s) s.contents ≡ r
+      → listed_by profile p.lists s None ≡ (section_by profile p s None >>= λ q. Ok q.lists)
   unfolding listed_by section_by custom_at
   custom_step (Ok name) is = rw is refl
   custom_step (Err e) is = rw is refl
@@ -48,7 +50,8 @@ module _ (profile : Profile) (p : Progress) (s : Section) where
   step_listed = step_by (of_number s.id)
 
   -- so does a call that reads it
-  pub reads_listed : {X : Type 0} (view : X → Progress) (r : Result X ReadFault) → Reads view r (with_section profile p s) → Reads (λ x. (view x).lists) r (with_listed profile p.lists s)
+  pub reads_listed : {X : Type 0} (view : X → Progress) (r : Result X ReadFault) → Reads view r (with_section profile p s)
+      → Reads (λ x. (view x).lists) r (with_listed profile p.lists s)
   reads_listed view (Ok x) reads = step_listed ∙ rw reads refl
   reads_listed view (Err e) reads = fails_on e e.kind (with_section profile p s) (with_listed profile p.lists s) (λ bad. step_listed ∙ rw bad refl) reads
 
@@ -58,7 +61,8 @@ bound : {A B : Type 0} (r : Result A ReadFault) (f : A → B) (y : B) → (r >>=
 bound (Ok x) f y e = (x, ok_is (f x) y e)
 bound (Err e) f y h = absurd cc
 
-keeps_by : (profile : Profile) (l q : SectionLists) (s : Section) (k : Option SectionId) → (k ≡ Some CodeSection → ⊥) → listed_by profile l s k ≡ Ok q → q.codes ≡ l.codes
+keeps_by : (profile : Profile) (l q : SectionLists) (s : Section) (k : Option SectionId) → (k ≡ Some CodeSection → ⊥) → listed_by profile l s k ≡ Ok q
+    → q.codes ≡ l.codes
 unfolding listed_by
 keeps_by profile l q s None other e =
     let a = bound (name_at (section_end s) s.contents) (λ name. l) q e in
@@ -70,7 +74,8 @@ keeps_by profile l q s (Some k) other e =
 pub keeps_codes : (profile : Profile) (l q : SectionLists) (s : Section) → s.id ≢ 10 → with_listed profile l s ≡ Ok q → q.codes ≡ l.codes
 keeps_codes profile l q s other e = keeps_by profile l q s (of_number s.id) (λ is. other (number-of_number s.id CodeSection is)) e
 
-pub codes_kept : {X : Type 0} (profile : Profile) (l : SectionLists) (s : Section) (view : X → SectionLists) (r : Result X ReadFault) → Reads view r (with_listed profile l s) → s.id ≢ 10 → IfOk r (λ x. (view x).codes ≡ l.codes)
+pub codes_kept : {X : Type 0} (profile : Profile) (l : SectionLists) (s : Section) (view : X → SectionLists) (r : Result X ReadFault)
+    → Reads view r (with_listed profile l s) → s.id ≢ 10 → IfOk r (λ x. (view x).codes ≡ l.codes)
 codes_kept profile l s view (Ok x) reads other = keeps_codes profile l (view x) s other reads
 codes_kept profile l s view (Err e) reads other = tt
 
@@ -83,7 +88,8 @@ fair_fails e _ read fair is = is
 
 -- behind the code section come sections of greater ids
 pub rise_behind : (last : ℕ) (s : Section) (items : List (Result Section ReadFault)) → s.id ≡ 10 → Rise last (Ok s ∷ items) → Rise 10 items
-rise_behind last s items is rise = subst (λ (n : ℕ). Rise n items) (elim rise.0 [ inl zero_is ↦ absurd (omega (arith, is, zero_is)) | inr above ↦ omega (arith, is, above.0) ]) rise.1
+rise_behind last s items is rise = subst (λ (n : ℕ). Rise n items)
+    (elim rise.0 [ inl zero_is ↦ absurd (omega (arith, is, zero_is)) | inr above ↦ omega (arith, is, above.0) ]) rise.1
 
 -- the same, whatever the fault is
 abbrev AreOrdered : ℕ → List (Result Section ReadFault) → Type 0
@@ -91,7 +97,8 @@ AreOrdered last [] = Unit {0}
 AreOrdered last (Err e ∷ items) = Unit {0}
 AreOrdered last (Ok s ∷ items) = MayCome last s.id × AreOrdered (max last s.id) items
 
-each_ordered : (k last end : ℕ) (bytes : List ℕ) (r : Result (Section × List ℕ) ReadFault) → ((l : ℕ) (rest : List ℕ) → AreOrdered l (sections_within k l end rest)) → section_at last end bytes ≡ r
+each_ordered : (k last end : ℕ) (bytes : List ℕ) (r : Result (Section × List ℕ) ReadFault)
+    → ((l : ℕ) (rest : List ℕ) → AreOrdered l (sections_within k l end rest)) → section_at last end bytes ≡ r
     → AreOrdered last (each_then (λ s rest. sections_within k (max last s.id) end rest) r)
 each_ordered k last end bytes (Ok s) more is =
     let steps = steps_of last end bytes s.0 s.1 is in
@@ -137,18 +144,23 @@ lists_after : (profile : Profile) (items : List (Result Section ReadFault)) (r :
 lists_after profile items (Ok q) more = more q
 lists_after profile items (Err e) more = refl
 
-pub lists_of_sections : (profile : Profile) (p : Progress) (items : List (Result Section ReadFault)) → (sections_read profile p items >>= λ q. Ok q.lists) ≡ lists_read profile p.lists items
+pub lists_of_sections : (profile : Profile) (p : Progress) (items : List (Result Section ReadFault))
+    → (sections_read profile p items >>= λ q. Ok q.lists) ≡ lists_read profile p.lists items
 unfolding sections_read lists_read
 lists_of_sections profile p [] = refl
 lists_of_sections profile p (Err e ∷ items) = refl
 lists_of_sections profile p (Ok s ∷ items) =
-    lists_after profile items (with_section profile p s) (λ q. lists_of_sections profile q items) ∙ ap (λ (r : Result SectionLists ReadFault). r >>= λ l. lists_read profile l items) (sym (step_listed profile p s))
+    lists_after profile items (with_section profile p s) (λ q. lists_of_sections profile q items)
+    ∙ ap (λ (r : Result SectionLists ReadFault). r >>= λ l. lists_read profile l items) (sym (step_listed profile p s))
 
-joined_both : (profile : Profile) (end : ℕ) (p : Progress) (same : Bool) → eqb (length p.lists.funcs) (length p.lists.codes) ≡ same → (joined profile end p >>= λ m. Ok (lists_of m)) ≡ joined_lists end p.lists
-joined_both profile end p true is = rw is (ap (λ (l : SectionLists). done l) (lists_of-module_of profile p (eqb-true (length p.lists.funcs) (length p.lists.codes) is)))
+joined_both : (profile : Profile) (end : ℕ) (p : Progress) (same : Bool) → eqb (length p.lists.funcs) (length p.lists.codes) ≡ same
+    → (joined profile end p >>= λ m. Ok (lists_of m)) ≡ joined_lists end p.lists
+joined_both profile end p true is =
+    rw is (ap (λ (l : SectionLists). done l) (lists_of-module_of profile p (eqb-true (length p.lists.funcs) (length p.lists.codes) is)))
 joined_both profile end p false is = rw is refl
 
-lists_joined : (profile : Profile) (end : ℕ) (r : Result Progress ReadFault) → ((r >>= joined profile end) >>= λ m. Ok (lists_of m)) ≡ ((r >>= λ q. Ok q.lists) >>= joined_lists end)
+lists_joined : (profile : Profile) (end : ℕ) (r : Result Progress ReadFault)
+    → ((r >>= joined profile end) >>= λ m. Ok (lists_of m)) ≡ ((r >>= λ q. Ok q.lists) >>= joined_lists end)
 lists_joined profile end (Ok p) = joined_both profile end p (eqb (length p.lists.funcs) (length p.lists.codes)) refl
 lists_joined profile end (Err e) = refl
 
@@ -156,4 +168,5 @@ lists_joined profile end (Err e) = refl
 pub lists_of_module : (profile : Profile) (b : List ℕ) → AreListsOfModule profile b
 unfolding module_at
 lists_of_module profile b =
-    lists_joined profile (length b) (sections_read profile at_start (sections_of b)) ∙ ap (λ (r : Result SectionLists ReadFault). r >>= joined_lists (length b)) (lists_of_sections profile at_start (sections_of b))
+    lists_joined profile (length b) (sections_read profile at_start (sections_of b))
+    ∙ ap (λ (r : Result SectionLists ReadFault). r >>= joined_lists (length b)) (lists_of_sections profile at_start (sections_of b))

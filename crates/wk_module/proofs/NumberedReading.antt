@@ -17,9 +17,11 @@ use Rattle.wk_module.specs.Listed.{AreNumbered}
 use Rattle.wk_module.specs.ListReading.{listed_by, with_listed}
 use Rattle.wk_module.specs.NumberedLaws.{IsNumbered, numbered_with}
 use Rattle.wk_module.specs.Reading.{section_end}
-use Rattle.wk_module.specs.Sections.{SectionId, TypeSection, ImportSection, FunctionSection, TableSection, MemorySection, GlobalSection, ExportSection, StartSection, ElementSection, CodeSection, DataSection, of_number, SectionLists, ContentsOf, with_contents, contents_at}
+use Rattle.wk_module.specs.Sections.{SectionId, TypeSection, ImportSection, FunctionSection, TableSection, MemorySection, GlobalSection, ExportSection}
+use Rattle.wk_module.specs.Sections.{StartSection, ElementSection, CodeSection, DataSection, of_number, SectionLists, ContentsOf, with_contents, contents_at}
 
-items_counted : {A : Type 0} (read : Reader A) (n end : ℕ) (bytes : List ℕ) (xs : List A) (rest : List ℕ) → items_at read n end bytes ≡ Ok (xs, rest) → length xs ≡ n
+items_counted : {A : Type 0} (read : Reader A) (n end : ℕ) (bytes : List ℕ) (xs : List A) (rest : List ℕ) → items_at read n end bytes ≡ Ok (xs, rest)
+    → length xs ≡ n
 items_counted {A = A} read zero end bytes xs rest e = ap (λ (x : List A × List ℕ). length x.0) (sym (ok_is ([], bytes) (xs, rest) e))
 items_counted {A = A} read (suc n) end bytes xs rest e =
     let a = bind_ok (read end bytes) (λ x. items_at read n end x.1 >>= λ ys. Ok (x.0 ∷ ys.0, ys.1)) (xs, rest) e in
@@ -27,14 +29,16 @@ items_counted {A = A} read (suc n) end bytes xs rest e =
     let whole = ok_is (a.0.0 ∷ b.0.0, b.0.1) (xs, rest) b.2 in
     omega (arith, items_counted read n end a.0.1 b.0.0 b.0.1 b.1, ap (λ (x : List A × List ℕ). length x.0) whole)
 
-vector_numbered : {A : Type 0} (read : Reader A) (end : ℕ) (bytes : List ℕ) (xs : List A) (rest : List ℕ) → IsBytes bytes → vector_at read end bytes ≡ Ok (xs, rest) → length xs < 2 ^ 32
+vector_numbered : {A : Type 0} (read : Reader A) (end : ℕ) (bytes : List ℕ) (xs : List A) (rest : List ℕ) → IsBytes bytes
+    → vector_at read end bytes ≡ Ok (xs, rest) → length xs < 2 ^ 32
 unfolding vector_at
 vector_numbered read end bytes xs rest fits e =
     let a = bind_ok (u32_at end bytes) (λ n. items_at read n.0 end n.1) (xs, rest) e in
     let spelled = u32_at-found end bytes a.0.0 a.0.1 fits a.1 in
     omega (arith, SpellsU-below 32 spelled.0 a.0.0 spelled.1, items_counted read a.0.0 end a.0.1 xs rest a.2)
 
-contents_numbered : (profile : Profile) (funcs : ℕ) (k : SectionId) (end : ℕ) (bytes : List ℕ) (x : ContentsOf k) (rest : List ℕ) → IsBytes bytes → contents_at profile funcs k end bytes ≡ Ok (x, rest) → IsNumbered k x
+contents_numbered : (profile : Profile) (funcs : ℕ) (k : SectionId) (end : ℕ) (bytes : List ℕ) (x : ContentsOf k) (rest : List ℕ) → IsBytes bytes
+    → contents_at profile funcs k end bytes ≡ Ok (x, rest) → IsNumbered k x
 contents_numbered profile funcs TypeSection = vector_numbered functype_at
 contents_numbered profile funcs ImportSection = vector_numbered import_at
 contents_numbered profile funcs FunctionSection = vector_numbered u32_at
@@ -51,7 +55,8 @@ taken_all : {A : Type 0} (end : ℕ) (x y : A) (rest : List ℕ) → taking_all 
 taken_all end x y [] e = ok_is x y e
 taken_all end x y (b ∷ rest) e = absurd cc
 
-numbered_by : (profile : Profile) (l q : SectionLists) (s : Section) (k : Option SectionId) → IsBytes s.contents → AreNumbered l → listed_by profile l s k ≡ Ok q → AreNumbered q
+numbered_by : (profile : Profile) (l q : SectionLists) (s : Section) (k : Option SectionId) → IsBytes s.contents → AreNumbered l
+    → listed_by profile l s k ≡ Ok q → AreNumbered q
 unfolding listed_by
 numbered_by profile l q s None fits few e =
     let a = bind_ok (name_at (section_end s) s.contents) (λ name. Ok l) q e in
@@ -64,7 +69,8 @@ numbered_by profile l q s (Some k) fits few e =
     let here = subst (IsNumbered k) taken (contents_numbered profile (length l.funcs) k (section_end s) s.contents b.0.0 b.0.1 fits b.1) in
     subst AreNumbered (ok_is (with_contents k a.0 l) q a.2) (numbered_with k a.0 l here few)
 
-pub numbered_kept : {X : Type 0} (profile : Profile) (l : SectionLists) (s : Section) (view : X → SectionLists) (r : Result X ReadFault) → Reads view r (with_listed profile l s) → IsBytes s.contents → AreNumbered l
+pub numbered_kept : {X : Type 0} (profile : Profile) (l : SectionLists) (s : Section) (view : X → SectionLists) (r : Result X ReadFault)
+    → Reads view r (with_listed profile l s) → IsBytes s.contents → AreNumbered l
     → IfOk r (λ x. AreNumbered (view x))
 numbered_kept profile l s view (Ok x) reads fits few = numbered_by profile l (view x) s (of_number s.id) fits few reads
 numbered_kept profile l s view (Err e) reads fits few = tt

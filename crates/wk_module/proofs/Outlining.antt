@@ -1,5 +1,6 @@
 -- What is read where each code stands aside, as what is kept of its body.
-use Rattle.std.proofs.Common.{◌≡◌, ◌≢◌, ℕ, zero, suc, Bool, false, not, eqb, cond, List, [], ◌∷◌, length, map, max, Option, Some, None, Result, Ok, Err, refl, sym, ap, subst, ◌∙◌, inl, inr, slice_index_or, arith}
+use Rattle.std.proofs.Common.{◌≡◌, ◌≢◌, ℕ, zero, suc, Bool, false, not, eqb, cond, List, [], ◌∷◌, length, map, max, Option, Some, None, Result, Ok, Err, refl}
+use Rattle.std.proofs.Common.{sym, ap, subst, ◌∙◌, inl, inr, slice_index_or, arith}
 use Rattle.std.proofs.lemmas.Bool.{ne_eqb}
 use Rattle.std.proofs.lemmas.List.{length-map}
 use Rattle.std.specs.List.{AllByRecursion}
@@ -33,9 +34,12 @@ use Rattle.wk_module.specs.ListReading.{IsReading, Rise}
 use Rattle.wk_module.specs.Modules.{SpellsNone}
 use Rattle.wk_module.specs.OutlineReading.{PartialOutline, without_codes, aside, read_aside, code_aside_at, codes_aside_at, stub_of, read_outlined}
 use Rattle.wk_module.specs.Outlines.{outlined, outlined_func, stub}
-use Rattle.wk_module.specs.Reading.{Progress, at_start, section_end, with_custom, with_lists, section_by, with_section, sections_read, zipped, module_of, joined, module_at}
+use Rattle.wk_module.specs.Reading.{Progress, at_start, section_end, with_custom, with_lists, section_by, with_section, sections_read, zipped, module_of}
+use Rattle.wk_module.specs.Reading.{joined, module_at}
 use Rattle.wk_module.specs.SectionLaws.{number-of_number}
-use Rattle.wk_module.specs.Sections.{SectionId, TypeSection, ImportSection, FunctionSection, TableSection, MemorySection, GlobalSection, ExportSection, StartSection, ElementSection, CodeSection, DataSection, of_number, ContentsOf, SectionLists, contents, codes_at, contents_at, AreItems, AreValid}
+use Rattle.wk_module.specs.Sections.{SectionId, TypeSection, ImportSection, FunctionSection, TableSection, MemorySection, GlobalSection, ExportSection}
+use Rattle.wk_module.specs.Sections.{StartSection, ElementSection, CodeSection, DataSection, of_number, ContentsOf, SectionLists, contents, codes_at}
+use Rattle.wk_module.specs.Sections.{contents_at, AreItems, AreValid}
 use Rattle.wk_module.specs.Shape.{lists_of, filled_ids, settled_custom, settle, IsFormed, IsShaped}
 use Rattle.wk_module.proofs.VectorReading.{with_front}
 use Rattle.wk_module.proofs.ListReading.{fair_fails, some_rise}
@@ -63,7 +67,8 @@ module _ {A B : Type 0} (make : A → B) where
   made_behind x (Ok xs) = refl
   made_behind x (Err e) = refl
 
-  made_more : (read : Reader A) (n end : ℕ) (r : Result (A × List ℕ) ReadFault) → ((bytes : List ℕ) → items_at (made_at make read) n end bytes ≡ all_made (items_at read n end bytes))
+  made_more : (read : Reader A) (n end : ℕ) (r : Result (A × List ℕ) ReadFault)
+      → ((bytes : List ℕ) → items_at (made_at make read) n end bytes ≡ all_made (items_at read n end bytes))
       → then_items (made_at make read) n end (one_made r) ≡ all_made (then_items read n end r)
   made_more read n end (Ok x) more = rw (more x.1) (made_behind x.0 (items_at read n end x.1))
   made_more read n end (Err e) more = refl
@@ -90,19 +95,24 @@ nothing_before (Ok x) = refl
 nothing_before (Err e) = refl
 
 -- where the codes begin, they are read aside too
-opened_aside : {K : Type 0} (make : BodyOf → K) (profile : Profile) (funcs end : ℕ) (bytes : List ℕ) (last : ℕ) (rest : List ℕ) → codes_at profile funcs end bytes ≡ items_at (code_at profile) funcs last rest → codes_aside_at make profile funcs end bytes ≡ items_at (code_aside_at make profile) funcs last rest
+opened_aside : {K : Type 0} (make : BodyOf → K) (profile : Profile) (funcs end : ℕ) (bytes : List ℕ) (last : ℕ) (rest : List ℕ)
+    → codes_at profile funcs end bytes ≡ items_at (code_at profile) funcs last rest
+    → codes_aside_at make profile funcs end bytes ≡ items_at (code_aside_at make profile) funcs last rest
 unfolding made_at
 opened_aside make profile funcs end bytes last rest opened = rw opened (sym (made_items make (code_at profile) funcs last rest))
 
 -- ... as a loop begins to read them
-pub opened_front : {K : Type 0} (make : BodyOf → K) (profile : Profile) (funcs end : ℕ) (bytes : List ℕ) (count last : ℕ) (rest : List ℕ) (front : List K) → count ≡ funcs → front ≡ [] → codes_at profile funcs end bytes ≡ items_at (code_at profile) funcs last rest
+pub opened_front : {K : Type 0} (make : BodyOf → K) (profile : Profile) (funcs end : ℕ) (bytes : List ℕ) (count last : ℕ) (rest : List ℕ)
+    (front : List K) → count ≡ funcs → front ≡ [] → codes_at profile funcs end bytes ≡ items_at (code_at profile) funcs last rest
     → with_front front (items_at (code_aside_at make profile) count last rest) ≡ codes_aside_at make profile funcs end bytes
 opened_front make profile funcs end bytes count last rest front all none opened =
     rw (none, all) (nothing_before (items_at (code_aside_at make profile) funcs last rest)) ∙ sym (opened_aside make profile funcs end bytes last rest opened)
 
-pub not_opened : {K : Type 0} (make : BodyOf → K) (profile : Profile) (funcs end : ℕ) (bytes : List ℕ) (e : ReadFault) → FailsAs e e.kind (codes_at profile funcs end bytes) → FailsAs e e.kind (all_at (codes_aside_at make profile funcs) end bytes)
+pub not_opened : {K : Type 0} (make : BodyOf → K) (profile : Profile) (funcs end : ℕ) (bytes : List ℕ) (e : ReadFault)
+    → FailsAs e e.kind (codes_at profile funcs end bytes) → FailsAs e e.kind (all_at (codes_aside_at make profile funcs) end bytes)
 unfolding made_at
-not_opened make profile funcs end bytes e = fails_on e e.kind (codes_at profile funcs end bytes) (all_at (codes_aside_at make profile funcs) end bytes) (λ bad. rw bad refl)
+not_opened make profile funcs end bytes e = fails_on e e.kind (codes_at profile funcs end bytes) (all_at (codes_aside_at make profile funcs) end bytes)
+    (λ bad. rw bad refl)
 
 -- ---- one more section
 
@@ -122,11 +132,13 @@ module _ {K : Type 0} (make : BodyOf → K) (profile : Profile) (p : Progress) (
   abbrev StepsAside : Option SectionId → Type 0
   StepsAside k = read_aside make (section_by profile p s k) ≡ (section_by profile (without_codes p) s k >>= λ q. Ok (beside q))
 
-  custom_aside : (r : Result Custom ReadFault) → ((r >>= λ c. Ok (with_custom p c)) >>= λ q. Ok (aside make q)) ≡ ((r >>= λ c. Ok (with_custom (without_codes p) c)) >>= λ q. Ok (beside q))
+  custom_aside : (r : Result Custom ReadFault) → ((r >>= λ c. Ok (with_custom p c)) >>= λ q. Ok (aside make q))
+      ≡ ((r >>= λ c. Ok (with_custom (without_codes p) c)) >>= λ q. Ok (beside q))
   custom_aside (Ok c) = refl
   custom_aside (Err e) = refl
 
-  contents_aside : (k : SectionId) → ((x : ContentsOf k) → aside make (with_lists k p x) ≡ beside (with_lists k (without_codes p) x)) → (r : Result (ContentsOf k) ReadFault)
+  contents_aside : (k : SectionId) → ((x : ContentsOf k) → aside make (with_lists k p x) ≡ beside (with_lists k (without_codes p) x))
+      → (r : Result (ContentsOf k) ReadFault)
       → ((r >>= λ x. Ok (with_lists k p x)) >>= λ q. Ok (aside make q)) ≡ ((r >>= λ x. Ok (with_lists k (without_codes p) x)) >>= λ q. Ok (beside q))
   contents_aside k same (Ok x) = ap (λ (u : PartialOutline K). done u) (same x)
   contents_aside k same (Err e) = refl
@@ -158,16 +170,19 @@ module _ {K : Type 0} (make : BodyOf → K) (profile : Profile) (p : Progress) (
   steps_aside other = by_id (of_number s.id) (λ is. other (number-of_number s.id CodeSection is))
 
   -- a call that reads one so far as all but the codes go
-  pub reads_aside : {X : Type 0} (view : X → Progress) (r : Result X ReadFault) → s.id ≢ 10 → Reads view r (with_section profile (without_codes p) s) → Reads (λ x. beside (view x)) r (read_aside make (with_section profile p s))
+  pub reads_aside : {X : Type 0} (view : X → Progress) (r : Result X ReadFault) → s.id ≢ 10 → Reads view r (with_section profile (without_codes p) s)
+      → Reads (λ x. beside (view x)) r (read_aside make (with_section profile p s))
   reads_aside view (Ok x) other reads = steps_aside other ∙ rw reads refl
-  reads_aside view (Err e) other reads = fails_on e e.kind (with_section profile (without_codes p) s) (read_aside make (with_section profile p s)) (λ bad. steps_aside other ∙ rw bad refl) reads
+  reads_aside view (Err e) other reads = fails_on e e.kind (with_section profile (without_codes p) s) (read_aside make (with_section profile p s))
+      (λ bad. steps_aside other ∙ rw bad refl) reads
 
   -- ---- the codes
 
   abbrev codes_read : Result (List BodyOf) ReadFault
   codes_read = all_at (contents_at profile (length p.lists.funcs) CodeSection) (section_end s) s.contents
 
-  codes_step : (r : Result (List BodyOf) ReadFault) → s.id ≡ 10 → codes_read ≡ r → with_section profile p s ≡ (r >>= λ bodies. Ok (with_lists CodeSection p bodies))
+  codes_step : (r : Result (List BodyOf) ReadFault) → s.id ≡ 10 → codes_read ≡ r
+      → with_section profile p s ≡ (r >>= λ bodies. Ok (with_lists CodeSection p bodies))
   unfolding section_by
   codes_step r is codes = rw (is, codes) refl
 
@@ -179,45 +194,62 @@ module _ {K : Type 0} (make : BodyOf → K) (profile : Profile) (p : Progress) (
   abbrev pub with_written : List K → PartialOutline K
   with_written codes = record { rest = record (without_codes p) { place = cond (not (is_empty codes)) 10 p.place }; codes = codes }
 
-  pub codes_aside : (codes : List K) → s.id ≡ 10 → all_at (codes_aside_at make profile (length p.lists.funcs)) (section_end s) s.contents ≡ Ok codes → read_aside make (with_section profile p s) ≡ Ok (with_written codes)
+  pub codes_aside : (codes : List K) → s.id ≡ 10 → all_at (codes_aside_at make profile (length p.lists.funcs)) (section_end s) s.contents ≡ Ok codes
+      → read_aside make (with_section profile p s) ≡ Ok (with_written codes)
   codes_aside codes is read =
       let a = bound codes_read (map make) codes (sym (made_all (map make) (codes_at profile (length p.lists.funcs)) (section_end s) s.contents) ∙ read) in
       let step : read_aside make (with_section profile p s) ≡ Ok (aside make (with_lists CodeSection p a.0)) = rw (codes_step (Ok a.0) is a.1) refl in
-      let place : aside make (with_lists CodeSection p a.0) ≡ with_written (map make a.0) = ap (λ (none : Bool). record { rest = record (without_codes p) { place = cond (not none) 10 p.place }; codes = map make a.0 }) (some_made a.0) in
+      let place : aside make (with_lists CodeSection p a.0) ≡ with_written (map make a.0) =
+      ap (λ (none : Bool). record { rest = record (without_codes p) { place = cond (not none) 10 p.place }; codes = map make a.0 }) (some_made a.0) in
       step ∙ ap (λ (u : PartialOutline K). done u) (place ∙ ap with_written a.2)
 
-  pub codes_aside_fail : (e : ReadFault) → s.id ≡ 10 → FailsAs e e.kind (all_at (codes_aside_at make profile (length p.lists.funcs)) (section_end s) s.contents) → FailsAs e e.kind (read_aside make (with_section profile p s))
-  codes_aside_fail e is = fails_on e e.kind (all_at (codes_aside_at make profile (length p.lists.funcs)) (section_end s) s.contents) (read_aside make (with_section profile p s))
-      (λ bad. rw (codes_step (Err e) is (fails_under codes_read (map make) e (sym (made_all (map make) (codes_at profile (length p.lists.funcs)) (section_end s) s.contents) ∙ bad))) refl)
+  pub codes_aside_fail : (e : ReadFault) → s.id ≡ 10 → FailsAs e e.kind
+      (all_at (codes_aside_at make profile (length p.lists.funcs)) (section_end s) s.contents) → FailsAs e e.kind (read_aside make (with_section profile p s))
+  codes_aside_fail e is = fails_on e e.kind (all_at (codes_aside_at make profile (length p.lists.funcs)) (section_end s) s.contents)
+      (read_aside make (with_section profile p s))
+      (λ bad. rw (codes_step (Err e) is
+      (fails_under codes_read (map make) e (sym (made_all (map make) (codes_at profile (length p.lists.funcs)) (section_end s) s.contents) ∙ bad))) refl)
 
   -- ... as a call answers it
-  pub section_beside : {X : Type 0} (view : X → Progress) (r : Result X ReadFault) (u : PartialOutline K) → u ≡ aside make p → s.id ≢ 10 → Reads view r (with_section profile u.rest s) → Reads (λ x. record { rest = view x; codes = u.codes }) r (read_aside make (with_section profile p s))
+  pub section_beside : {X : Type 0} (view : X → Progress) (r : Result X ReadFault) (u : PartialOutline K) → u ≡ aside make p → s.id ≢ 10
+      → Reads view r (with_section profile u.rest s) → Reads (λ x. record { rest = view x; codes = u.codes }) r (read_aside make (with_section profile p s))
   section_beside view r u is other =
-      subst (λ (w : PartialOutline K). Reads view r (with_section profile w.rest s) → Reads (λ x. record { rest = view x; codes = w.codes }) r (read_aside make (with_section profile p s))) (sym is) (reads_aside view r other)
+      subst (λ (w : PartialOutline K). Reads view r (with_section profile w.rest s)
+      → Reads (λ x. record { rest = view x; codes = w.codes }) r (read_aside make (with_section profile p s))) (sym is) (reads_aside view r other)
 
   empty_by : (codes : List K) (n : ℕ) → n ≡ length codes → eqb n 0 ≡ is_empty codes
   empty_by [] n many = rw many refl
   empty_by (c ∷ codes) n many = rw many (ne_eqb (suc (length codes)) 0 (omega arith))
 
-  module _ (u : PartialOutline K) (q : Progress) (funcs : ℕ) (is : u ≡ aside make p) (rest_is : q ≡ u.rest) (code : s.id ≡ 10) (funcs_are : funcs ≡ length q.lists.funcs) where
+  module _ (u : PartialOutline K) (q : Progress) (funcs : ℕ) (is : u ≡ aside make p) (rest_is : q ≡ u.rest) (code : s.id ≡ 10)
+      (funcs_are : funcs ≡ length q.lists.funcs) where
     same_rest : q ≡ without_codes p
     same_rest = rest_is ∙ ap (λ (w : PartialOutline K). w.rest) is
 
     same_funcs : funcs ≡ length p.lists.funcs
     same_funcs = funcs_are ∙ ap (λ (x : Progress). length x.lists.funcs) same_rest
 
-    pub section_made : (place n : ℕ) (none : Bool) (codes : List K) → place ≡ cond (not none) 10 q.place → none ≡ eqb n 0 → n ≡ length codes → all_at (codes_aside_at make profile funcs) (section_end s) s.contents ≡ Ok codes
+    pub section_made : (place n : ℕ) (none : Bool) (codes : List K) → place ≡ cond (not none) 10 q.place → none ≡ eqb n 0 → n ≡ length codes
+        → all_at (codes_aside_at make profile funcs) (section_end s) s.contents ≡ Ok codes
         → read_aside make (with_section profile p s) ≡ Ok (record { rest = record q { place = place }; codes = codes })
     section_made place n none codes place_is none_is many read =
-        let read_it : all_at (codes_aside_at make profile (length p.lists.funcs)) (section_end s) s.contents ≡ Ok codes = subst (λ (k : ℕ). all_at (codes_aside_at make profile k) (section_end s) s.contents ≡ Ok codes) same_funcs read in
+        let read_it : all_at (codes_aside_at make profile (length p.lists.funcs)) (section_end s) s.contents ≡ Ok codes =
+        subst (λ (k : ℕ). all_at (codes_aside_at make profile k) (section_end s) s.contents ≡ Ok codes) same_funcs read in
         let empty : is_empty codes ≡ none = sym (none_is ∙ empty_by codes n many) in
-        let by_test : with_written codes ≡ record { rest = record (without_codes p) { place = cond (not none) 10 p.place }; codes = codes } = ap (λ (b : Bool). record { rest = record (without_codes p) { place = cond (not b) 10 p.place }; codes = codes }) empty in
-        let by_rest : record { rest = record (without_codes p) { place = cond (not none) 10 p.place }; codes = codes } ≡ record { rest = record q { place = cond (not none) 10 q.place }; codes = codes } = ap (λ (x : Progress). record { rest = record x { place = cond (not none) 10 x.place }; codes = codes }) (sym same_rest) in
-        let by_place : record { rest = record q { place = cond (not none) 10 q.place }; codes = codes } ≡ record { rest = record q { place = place }; codes = codes } = ap (λ (k : ℕ). record { rest = record q { place = k }; codes = codes }) (sym place_is) in
+        let by_test : with_written codes ≡ record { rest = record (without_codes p) { place = cond (not none) 10 p.place }; codes = codes } =
+        ap (λ (b : Bool). record { rest = record (without_codes p) { place = cond (not b) 10 p.place }; codes = codes }) empty in
+        let by_rest : record { rest = record (without_codes p) { place = cond (not none) 10 p.place }; codes = codes }
+        ≡ record { rest = record q { place = cond (not none) 10 q.place }; codes = codes } =
+        ap (λ (x : Progress). record { rest = record x { place = cond (not none) 10 x.place }; codes = codes }) (sym same_rest) in
+        let by_place : record { rest = record q { place = cond (not none) 10 q.place }; codes = codes }
+        ≡ record { rest = record q { place = place }; codes = codes } =
+        ap (λ (k : ℕ). record { rest = record q { place = k }; codes = codes }) (sym place_is) in
         codes_aside codes code read_it ∙ ap (λ (w : PartialOutline K). done w) (by_test ∙ by_rest ∙ by_place)
 
-    pub section_fails : (e : ReadFault) → FailsAs e e.kind (all_at (codes_aside_at make profile funcs) (section_end s) s.contents) → FailsAs e e.kind (read_aside make (with_section profile p s))
-    section_fails e fails = codes_aside_fail e code (subst (λ (k : ℕ). FailsAs e e.kind (all_at (codes_aside_at make profile k) (section_end s) s.contents)) same_funcs fails)
+    pub section_fails : (e : ReadFault) → FailsAs e e.kind (all_at (codes_aside_at make profile funcs) (section_end s) s.contents)
+        → FailsAs e e.kind (read_aside make (with_section profile p s))
+    section_fails e fails = codes_aside_fail e code
+        (subst (λ (k : ℕ). FailsAs e e.kind (all_at (codes_aside_at make profile k) (section_end s) s.contents)) same_funcs fails)
 
 -- ---- section after section
 
@@ -228,7 +260,8 @@ pub record IsReadSo {K : Type 0} (make : BodyOf → K) (profile : Profile) (left
   pub reads : sections_read profile so_far left ≡ sections_read profile at_start all
   pub rise : (last : ℕ) × Rise last left
 
-pub begun : {K : Type 0} (make : BodyOf → K) (profile : Profile) (b : List ℕ) (items : List (Result Section ReadFault)) (p : Progress) (codes : List K) → items ≡ sections_of b → p ≡ at_start → codes ≡ [] → IsReadSo make profile items (sections_of b) (record { rest = p; codes = codes })
+pub begun : {K : Type 0} (make : BodyOf → K) (profile : Profile) (b : List ℕ) (items : List (Result Section ReadFault)) (p : Progress) (codes : List K)
+    → items ≡ sections_of b → p ≡ at_start → codes ≡ [] → IsReadSo make profile items (sections_of b) (record { rest = p; codes = codes })
 begun {K = K} make profile b items p codes first new none = record {
   so_far = at_start;
   is_aside = ap (λ (q : Progress). record { rest = q; codes = codes }) new ∙ ap (λ (w : List K). record { rest = at_start; codes = w }) none;
@@ -241,11 +274,13 @@ module _ {K : Type 0} (make : BodyOf → K) (profile : Profile) (all : List (Res
   whole = sections_read profile at_start all
 
   module _ (items left : List (Result Section ReadFault)) (u : PartialOutline K) (so : IsReadSo make profile items all u) where
-    pub one_more : (s : Section) (v : PartialOutline K) → items ≡ Ok s ∷ left → read_aside make (with_section profile so.so_far s) ≡ Ok v → IsReadSo make profile left all v
+    pub one_more : (s : Section) (v : PartialOutline K) → items ≡ Ok s ∷ left → read_aside make (with_section profile so.so_far s) ≡ Ok v
+        → IsReadSo make profile left all v
     unfolding sections_read
     one_more s v first step =
         let a = bound (with_section profile so.so_far s) (aside make) v step in
-        let next : sections_read profile so.so_far items ≡ (with_section profile so.so_far s >>= λ q. sections_read profile q left) = ap (λ (is : List (Result Section ReadFault)). sections_read profile so.so_far is) first in
+        let next : sections_read profile so.so_far items ≡ (with_section profile so.so_far s >>= λ q. sections_read profile q left) =
+        ap (λ (is : List (Result Section ReadFault)). sections_read profile so.so_far is) first in
         record {
           so_far = a.0;
           is_aside = sym a.2;
@@ -256,22 +291,27 @@ module _ {K : Type 0} (make : BodyOf → K) (profile : Profile) (all : List (Res
     stops_at : (e : ReadFault) → sections_read profile so.so_far items ≡ Err e → read_aside make whole ≡ Err e
     stops_at e stop = rw (sym so.reads ∙ stop) refl
 
-    pub stopped : (s : Section) (e : ReadFault) → items ≡ Ok s ∷ left → FailsAs e e.kind (read_aside make (with_section profile so.so_far s)) → FailsAs e e.kind (read_aside make whole)
+    pub stopped : (s : Section) (e : ReadFault) → items ≡ Ok s ∷ left → FailsAs e e.kind (read_aside make (with_section profile so.so_far s))
+        → FailsAs e e.kind (read_aside make whole)
     unfolding sections_read
     stopped s e first =
         fails_on e e.kind (read_aside make (with_section profile so.so_far s)) (read_aside make whole)
-        (λ bad. stops_at e (ap (λ (is : List (Result Section ReadFault)). sections_read profile so.so_far is) first ∙ ap (λ (r : Result Progress ReadFault). r >>= λ q. sections_read profile q left) (fails_under (with_section profile so.so_far s) (aside make) e bad)))
+        (λ bad. stops_at e (ap (λ (is : List (Result Section ReadFault)). sections_read profile so.so_far is) first
+        ∙ ap (λ (r : Result Progress ReadFault). r >>= λ q. sections_read profile q left)
+        (fails_under (with_section profile so.so_far s) (aside make) e bad)))
 
     pub broken : (e : ReadFault) → items ≡ Err e ∷ left → FailsAs e e.kind (read_aside make whole)
     unfolding sections_read
     broken e first =
         let rise = subst (λ (is : List (Result Section ReadFault)). (last : ℕ) × Rise last is) first so.rise in
-        fair_fails e e.kind (read_aside make whole) rise.1 (stops_at e (ap (λ (is : List (Result Section ReadFault)). sections_read profile so.so_far is) first))
+        fair_fails e e.kind (read_aside make whole) rise.1
+        (stops_at e (ap (λ (is : List (Result Section ReadFault)). sections_read profile so.so_far is) first))
 
     pub finished : items ≡ [] → read_aside make whole ≡ Ok u
     unfolding sections_read
     finished first =
-        let end : sections_read profile so.so_far items ≡ Ok so.so_far = ap (λ (is : List (Result Section ReadFault)). sections_read profile so.so_far is) first in
+        let end : sections_read profile so.so_far items ≡ Ok so.so_far =
+        ap (λ (is : List (Result Section ReadFault)). sections_read profile so.so_far is) first in
         rw (sym so.reads ∙ end) (ap (λ (v : PartialOutline K). done v) (sym so.is_aside))
 
 -- ---- the module
@@ -288,7 +328,8 @@ kept_zipped make (t ∷ ts) [] e = absurd (omega arith)
 kept_zipped {K = K} make (t ∷ ts) (b ∷ bs) e = ap (λ (rest : List K). make b ∷ rest) (kept_zipped make ts bs (omega arith))
 
 module _ (profile : Profile) (end : ℕ) (p : Progress) where
-  pub outline_made : (q r : Progress) (n : ℕ) (fs : List Func) → r ≡ q → q ≡ without_codes p → n ≡ length p.lists.codes → length r.lists.funcs ≡ n → fs ≡ map stub_of r.lists.funcs
+  pub outline_made : (q r : Progress) (n : ℕ) (fs : List Func) → r ≡ q → q ≡ without_codes p → n ≡ length p.lists.codes → length r.lists.funcs ≡ n
+      → fs ≡ map stub_of r.lists.funcs
       → read_outlined (joined profile end p) ≡ Ok (record (module_of profile r) { funcs = fs })
   outline_made q r n fs same is many lens fs_are =
       let rest : r ≡ without_codes p = same ∙ is in
@@ -343,7 +384,8 @@ module _ (m : Parts) where
   filled_outlined = rw (types_outlined m.funcs, none_outlined m.funcs) refl
 
   outlined_settled : settle m ≡ m → settle (outlined m) ≡ outlined m
-  outlined_settled still = ap (λ (ids : List Bool). record (outlined m) { customs = map (settled_custom (λ id. slice_index_or ids id false)) m.customs }) filled_outlined
+  outlined_settled still =
+      ap (λ (ids : List Bool). record (outlined m) { customs = map (settled_custom (λ id. slice_index_or ids id false)) m.customs }) filled_outlined
       ∙ ap (λ (n : Parts). record (outlined m) { customs = n.customs }) still
 
 -- what is read of a module, with a stub in the place of each body
@@ -419,16 +461,19 @@ module _ {K : Type 0} (make : BodyOf → K) (profile : Profile) (b : List ℕ) w
 
     pub joined_fails : (e : ReadFault) → IsTogether u.rest n (Err e) → FailsAs e e.kind (module_at profile b)
     joined_fails e together =
-        fails_on e e.kind (read_outlined (joined profile (length b) r.so_far)) (module_at profile b) (λ bad. together_is r.so_far r.read ∙ fails_under (joined profile (length b) r.so_far) outlined e bad) (joined_by (Err e) together)
+        fails_on e e.kind (read_outlined (joined profile (length b) r.so_far)) (module_at profile b)
+        (λ bad. together_is r.so_far r.read ∙ fails_under (joined profile (length b) r.so_far) outlined e bad) (joined_by (Err e) together)
 
     pub joined_outlined : (d : Parts) → IsTogether u.rest n (Ok d) → read_outlined (module_at profile b) ≡ Ok d
     joined_outlined d together = rw (together_is r.so_far r.read) (joined_by (Ok d) together)
 
-    pub outline_is : (d m : Parts) → IsTogether u.rest n (Ok d) → m ≡ d → (o : Parts) × (module_at profile b ≡ Ok o) × (m ≡ outlined o) × (u.codes ≡ map (λ f. make f.body) o.funcs)
+    pub outline_is : (d m : Parts) → IsTogether u.rest n (Ok d) → m ≡ d
+        → (o : Parts) × (module_at profile b ≡ Ok o) × (m ≡ outlined o) × (u.codes ≡ map (λ f. make f.body) o.funcs)
     outline_is d m together same =
         let a = bound (joined profile (length b) r.so_far) outlined d (joined_by (Ok d) together) in
         let j = joined_is profile (length b) r.so_far a.0 a.1 in
-        let codes : map (λ f. make f.body) a.0.funcs ≡ map make r.so_far.lists.codes = ap (λ (o : Parts). map (λ f. make f.body) o.funcs) (sym j.1) ∙ kept_zipped make r.so_far.lists.funcs r.so_far.lists.codes j.0 in
+        let codes : map (λ f. make f.body) a.0.funcs ≡ map make r.so_far.lists.codes =
+        ap (λ (o : Parts). map (λ f. make f.body) o.funcs) (sym j.1) ∙ kept_zipped make r.so_far.lists.funcs r.so_far.lists.codes j.0 in
         (a.0, together_is r.so_far r.read ∙ a.1, same ∙ sym a.2, r.codes ∙ sym codes)
 
 -- ---- the stub
@@ -447,11 +492,14 @@ pub stub_whole : (profile : Profile) → Whole (SpellsBody profile) stub (0 ∷ 
 stub_whole profile = (omega arith, stub_spelled profile)
 
 no_stub : (e : ReadFault) (kind : ReadKind) (r : Result BodyOf ReadFault) → e.kind ≡ kind → FailsAs e kind r → (kind ≢ Memory → ⊥) → e ≡ no_memory
-no_stub e Memory r is fails some = ap (λ (k : ReadKind). let d : ReadFault = record { kind = k; at = e.at } in d) is ∙ ap (λ (n : ℕ). let d : ReadFault = record { kind = Memory; at = n } in d) fails
+no_stub e Memory r is fails some = ap (λ (k : ReadKind). let d : ReadFault = record { kind = k; at = e.at } in d) is
+    ∙ ap (λ (n : ℕ). let d : ReadFault = record { kind = Memory; at = n } in d) fails
 no_stub e _ r is fails some = absurd (some (λ same. absurd cc))
 
 -- a call that reads the stub gives it, or wants memory
-pub stub_read : (profile : Profile) (r : Result BodyOf ReadFault) → Reads (λ b. b) r (whole_at (all_body_at profile) (0 ∷ 0 ∷ 11 ∷ [])) → FindsOnly (λ b. b) (SpellsBody profile) (0 ∷ 0 ∷ 11 ∷ []) r
+pub stub_read : (profile : Profile) (r : Result BodyOf ReadFault) → Reads (λ b. b) r (whole_at (all_body_at profile) (0 ∷ 0 ∷ 11 ∷ []))
+    → FindsOnly (λ b. b) (SpellsBody profile) (0 ∷ 0 ∷ 11 ∷ []) r
     → MatchResult r (λ body. body ≡ stub) (λ e. e ≡ no_memory)
 stub_read profile (Ok b) reads only = sym (only.1 stub (stub_whole profile))
-stub_read profile (Err e) reads only = no_stub e e.kind (whole_at (all_body_at profile) (0 ∷ 0 ∷ 11 ∷ [])) refl reads (λ other. only other stub (stub_whole profile))
+stub_read profile (Err e) reads only = no_stub e e.kind (whole_at (all_body_at profile) (0 ∷ 0 ∷ 11 ∷ [])) refl reads
+    (λ other. only other stub (stub_whole profile))

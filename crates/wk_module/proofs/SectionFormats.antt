@@ -1,5 +1,6 @@
 -- The laws of the contents of each section.
-use Rattle.std.proofs.Common.{◌≡◌, ◌≢◌, ℕ, ◌^◌, ◌<◌, ◌≤◌, Bool, true, false, not, cond, eqb, List, [], ◌∷◌, ◌++◌, length, Option, Some, None, Result, Ok, Err, refl, sym, ap, subst, ◌∙◌, inl, inr, length-append, arith}
+use Rattle.std.proofs.Common.{◌≡◌, ◌≢◌, ℕ, ◌^◌, ◌<◌, ◌≤◌, Bool, true, false, not, cond, eqb, List, [], ◌∷◌, ◌++◌, length, Option, Some, None, Result, Ok, Err}
+use Rattle.std.proofs.Common.{refl, sym, ap, subst, ◌∙◌, inl, inr, length-append, arith}
 use Rattle.std.proofs.lemmas.Bool.{eq-eqb}
 use Rattle.std.proofs.lemmas.List.{append-nil}
 use Rattle.std.specs.List.{AllByRecursion}
@@ -21,16 +22,22 @@ use Rattle.wk_module.specs.declared.types.FuncType.{FuncType}
 use Rattle.wk_module.specs.Formats.{Reader, made_at}
 use Rattle.wk_module.specs.Types.{SpellsFuncType, functype_at, written_functype}
 use Rattle.wk_module.specs.Items.{SpellsCode, code_at, written_code, IsCode}
-use Rattle.wk_module.specs.Sections.{SectionId, TypeSection, ImportSection, FunctionSection, TableSection, MemorySection, GlobalSection, ExportSection, StartSection, ElementSection, CodeSection, DataSection, number, is_some, is_full, SpellsStart, SpellsContents, codes_at, contents_at, written_start, written_contents, IsStart, AreItems, AreValid}
+use Rattle.wk_module.specs.Sections.{SectionId, TypeSection, ImportSection, FunctionSection, TableSection, MemorySection, GlobalSection, ExportSection}
+use Rattle.wk_module.specs.Sections.{StartSection, ElementSection, CodeSection, DataSection, number, is_some, is_full, SpellsStart, SpellsContents, codes_at}
+use Rattle.wk_module.specs.Sections.{contents_at, written_start, written_contents, IsStart, AreItems, AreValid}
 use Rattle.wk_module.proofs.Laws.{CodeLaws, IsFormat, CountIs, IsSection, SectionLaws}
-use Rattle.wk_module.proofs.Formats.{u32_format, made_front, made_steps, made_again, valid_as, items_found, items_again, items_front, vector_made, vector_format, joined, both_parts}
-use Rattle.wk_module.proofs.ItemFormats.{functype_format, limits_format, tabletype_format, import_format, export_format, global_format, elem_format, code_format, data_format}
+use Rattle.wk_module.proofs.Formats.{u32_format, made_front, made_steps, made_again, valid_as, items_found, items_again, items_front, vector_made}
+use Rattle.wk_module.proofs.Formats.{vector_format, joined, both_parts}
+use Rattle.wk_module.proofs.ItemFormats.{functype_format, limits_format, tabletype_format, import_format, export_format, global_format, elem_format}
+use Rattle.wk_module.proofs.ItemFormats.{code_format, data_format}
 
 -- ---- the contents of a section whose type is known
 
 -- the laws of a section, where its contents are of the type X
-record IsContents {X : Type 0} (id : ℕ) (Counts : ℕ → X → Type 0) (full_at : X → Bool) (Valid : X → Type 0) (Spells : List ℕ → X → Type 0) (read : ℕ → Reader X) (written : X → List ℕ) : Type 0 where
-  found : (funcs end : ℕ) (bytes : List ℕ) (x : X) (rest : List ℕ) → IsBytes bytes → read funcs end bytes ≡ Ok (x, rest) → (b : List ℕ) × Spells b x × (bytes ≡ b ++ rest)
+record IsContents {X : Type 0} (id : ℕ) (Counts : ℕ → X → Type 0) (full_at : X → Bool) (Valid : X → Type 0) (Spells : List ℕ → X → Type 0)
+    (read : ℕ → Reader X) (written : X → List ℕ) : Type 0 where
+  found : (funcs end : ℕ) (bytes : List ℕ) (x : X) (rest : List ℕ) → IsBytes bytes → read funcs end bytes ≡ Ok (x, rest)
+      → (b : List ℕ) × Spells b x × (bytes ≡ b ++ rest)
   again : (funcs end : ℕ) (b : List ℕ) (x : X) (rest : List ℕ) → Counts funcs x → Spells b x → read funcs end (b ++ rest) ≡ Ok (x, rest)
   fronts : (funcs : ℕ) → ReadsFront (read funcs)
   some : (x : X) → full_at x ≡ true → 0 < length (written x)
@@ -40,7 +47,8 @@ record IsContents {X : Type 0} (id : ℕ) (Counts : ℕ → X → Type 0) (full_
   empty : (b : List ℕ) (x : X) → Spells b x → full_at x ≡ false → (id ≢ 8) × SpellsU 32 b 0
   full : (b : List ℕ) (x : X) → Spells b x → full_at x ≡ true → id ≢ 8 → SpellsU 32 b 0 → ⊥
 
-section_is : (profile : Profile) (k : SectionId) → IsContents (number k) (CountIs k) (is_full k) (AreValid profile k) (SpellsContents profile k) (λ funcs. contents_at profile funcs k) (written_contents k) → IsSection profile k
+section_is : (profile : Profile) (k : SectionId) → IsContents (number k) (CountIs k) (is_full k) (AreValid profile k) (SpellsContents profile k)
+    (λ funcs. contents_at profile funcs k) (written_contents k) → IsSection profile k
 section_is profile k is = record {
   found = is.found;
   again = is.again;
@@ -76,7 +84,8 @@ module _ {A : Type 0} (Spells : List ℕ → A → Type 0) where
 
 -- ---- sections that are vectors
 
-vector_contents : {A : Type 0} {Valid : List A → Type 0} {Spells : List ℕ → A → Type 0} {read : Reader (List A)} {written : List A → List ℕ} (id : ℕ) → id ≢ 8 → IsFormat Valid (SpellsVector Spells) read written
+vector_contents : {A : Type 0} {Valid : List A → Type 0} {Spells : List ℕ → A → Type 0} {read : Reader (List A)} {written : List A → List ℕ} (id : ℕ)
+    → id ≢ 8 → IsFormat Valid (SpellsVector Spells) read written
     → IsContents id (λ funcs xs. Unit {0}) (λ xs. not (is_empty xs)) Valid (SpellsVector Spells) (λ funcs. read) written
 vector_contents {Spells = Spells} id other of = record {
   found = λ funcs. of.found;
@@ -115,7 +124,8 @@ types_format = valid_as (λ xs. IsU32 (length xs)) (λ xs few. (few, all_any xs)
 
 -- ---- the start section
 
-start_found : (end : ℕ) (bytes : List ℕ) (x : Option ℕ) (rest : List ℕ) → IsBytes bytes → made_at Some u32_at end bytes ≡ Ok (x, rest) → (b : List ℕ) × SpellsStart b x × (bytes ≡ b ++ rest)
+start_found : (end : ℕ) (bytes : List ℕ) (x : Option ℕ) (rest : List ℕ) → IsBytes bytes → made_at Some u32_at end bytes ≡ Ok (x, rest)
+    → (b : List ℕ) × SpellsStart b x × (bytes ≡ b ++ rest)
 start_found end bytes x rest fits e =
     let m = made_steps Some u32_at end bytes x rest e in
     let f = u32_format.found end bytes m.0 rest fits m.1 in
@@ -177,42 +187,50 @@ module _ (profile : Profile) (laws : CodeLaws profile) where
         | inr p ↦ absurd cc
       ]
 
-  codes_found : (funcs end : ℕ) (bytes : List ℕ) (xs : List BodyOf) (rest : List ℕ) → IsBytes bytes → codes_at profile funcs end bytes ≡ Ok (xs, rest) → (b : List ℕ) × SpellsVector (SpellsCode profile) b xs × (bytes ≡ b ++ rest)
+  codes_found : (funcs end : ℕ) (bytes : List ℕ) (xs : List BodyOf) (rest : List ℕ) → IsBytes bytes → codes_at profile funcs end bytes ≡ Ok (xs, rest)
+      → (b : List ℕ) × SpellsVector (SpellsCode profile) b xs × (bytes ≡ b ++ rest)
   codes_found funcs end bytes xs rest fits e =
       let m = codes_steps funcs end bytes xs rest e in
       let count = u32_format.found end bytes m.0 m.1 fits m.2 in
       let items = items_found (code_format profile laws) m.0 end m.1 xs rest (IsBytes-after count.0 m.1 bytes count.2 fits) m.3 in
       vector_made count.0 items.0 bytes m.1 rest m.0 xs count.1 count.2 items.1 items.2 items.3
 
-  codes_again : (funcs end : ℕ) (b : List ℕ) (xs : List BodyOf) (rest : List ℕ) → length xs ≡ funcs → SpellsVector (SpellsCode profile) b xs → codes_at profile funcs end (b ++ rest) ≡ Ok (xs, rest)
+  codes_again : (funcs end : ℕ) (b : List ℕ) (xs : List BodyOf) (rest : List ℕ) → length xs ≡ funcs → SpellsVector (SpellsCode profile) b xs
+      → codes_at profile funcs end (b ++ rest) ≡ Ok (xs, rest)
   unfolding codes_at
   codes_again funcs end b xs rest counts s =
       ap (codes_at profile funcs end) (both_parts b s.count s.items rest s.parts)
-      ∙ rw (u32_format.again end s.count (length xs) (s.items ++ rest) s.counts, eq-eqb (length xs) funcs counts) (items_again (code_format profile laws) end s.items xs rest s.spelled)
+      ∙ rw (u32_format.again end s.count (length xs) (s.items ++ rest) s.counts, eq-eqb (length xs) funcs counts)
+      (items_again (code_format profile laws) end s.items xs rest s.spelled)
 
-  codes_takes : (funcs end : ℕ) (bytes : List ℕ) (xs : List BodyOf) (rest : List ℕ) → codes_at profile funcs end bytes ≡ Ok (xs, rest) → (front : List ℕ) × (bytes ≡ front ++ rest)
+  codes_takes : (funcs end : ℕ) (bytes : List ℕ) (xs : List BodyOf) (rest : List ℕ) → codes_at profile funcs end bytes ≡ Ok (xs, rest)
+      → (front : List ℕ) × (bytes ≡ front ++ rest)
   codes_takes funcs end bytes xs rest e =
       let m = codes_steps funcs end bytes xs rest e in
       let count = u32_format.fronts.takes end bytes m.0 m.1 m.2 in
       let items = (items_front (code_format profile laws) m.0).takes end m.1 xs rest m.3 in
       (count.0 ++ items.0, joined bytes count.0 m.1 items.0 rest count.1 items.1)
 
-  counted_fault : (funcs end : ℕ) (bytes : List ℕ) (e : ReadFault) (r : Result (ℕ × List ℕ) ReadFault) → u32_at end bytes ≡ r → (r >>= counted_at funcs end bytes) ≡ Err e → length bytes ≤ end → Stands (record { rest = bytes; end = end }) e
+  counted_fault : (funcs end : ℕ) (bytes : List ℕ) (e : ReadFault) (r : Result (ℕ × List ℕ) ReadFault) → u32_at end bytes ≡ r
+      → (r >>= counted_at funcs end bytes) ≡ Err e → length bytes ≤ end → Stands (record { rest = bytes; end = end }) e
   counted_fault funcs end bytes e (Err d) is h fits = u32_format.fronts.faults end bytes e (is ∙ cc) fits
   counted_fault funcs end bytes e (Ok n) is h fits =
       elim (chosen (eqb n.0 funcs) (items_at (code_at profile) n.0 end n.1) (Err (fault FuncCodeCount end bytes)) (Err e) h) [
         | inl p ↦
             let count = u32_format.fronts.takes end bytes n.0 n.1 is in
             let fits' : length n.1 ≤ end = omega (arith, ap length count.1, length-append count.0 n.1) in
-            Stands-later count.0 (record { rest = bytes; end = end }) (record { rest = n.1; end = end }) e count.1 refl fits ((items_front (code_format profile laws) n.0).faults end n.1 e p.1 fits')
+            Stands-later count.0 (record { rest = bytes; end = end }) (record { rest = n.1; end = end }) e count.1 refl fits
+            ((items_front (code_format profile laws) n.0).faults end n.1 e p.1 fits')
         | inr p ↦ stands_as FuncCodeCount end bytes e (err_is {A = List BodyOf × List ℕ} _ _ p.1) tt
       ]
 
-  codes_fault : (funcs end : ℕ) (bytes : List ℕ) (e : ReadFault) → codes_at profile funcs end bytes ≡ Err e → length bytes ≤ end → Stands (record { rest = bytes; end = end }) e
+  codes_fault : (funcs end : ℕ) (bytes : List ℕ) (e : ReadFault) → codes_at profile funcs end bytes ≡ Err e → length bytes ≤ end
+      → Stands (record { rest = bytes; end = end }) e
   unfolding codes_at
   codes_fault funcs end bytes e h fits = counted_fault funcs end bytes e (u32_at end bytes) refl h fits
 
-  codes_contents : IsContents 10 (λ funcs xs. length xs ≡ funcs) (λ xs. not (is_empty xs)) (AreItems (IsCode profile)) (SpellsVector (SpellsCode profile)) (codes_at profile) (written_vector written_code)
+  codes_contents : IsContents 10 (λ funcs xs. length xs ≡ funcs) (λ xs. not (is_empty xs)) (AreItems (IsCode profile))
+      (SpellsVector (SpellsCode profile)) (codes_at profile) (written_vector written_code)
   codes_contents =
       let of = items_format (code_format profile laws) in
       record {

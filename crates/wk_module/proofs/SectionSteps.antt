@@ -10,7 +10,8 @@ use Rattle.wk_module.specs.Sections.{SectionLists}
 -- ---- the sections of a module
 
 module _ (profile : Profile) (p : Progress) (items left : List (Result Section ReadFault)) where
-  pub sections_next : (s : Section) (q : Progress) → items ≡ Ok s ∷ left → with_section profile p s ≡ Ok q → sections_read profile p items ≡ sections_read profile q left
+  pub sections_next : (s : Section) (q : Progress) → items ≡ Ok s ∷ left → with_section profile p s ≡ Ok q
+      → sections_read profile p items ≡ sections_read profile q left
   unfolding sections_read
   sections_next s q first step = rw (first, step) refl
 

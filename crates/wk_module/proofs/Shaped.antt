@@ -1,5 +1,6 @@
 -- What is spelled is in shape.
-use Rattle.std.proofs.Common.{◌≡◌, ◌≢◌, ℕ, zero, suc, ◌<◌, ◌≤◌, ◌==◌, max, Bool, true, ◌⊎◌, inl, inr, List, [], ◌∷◌, ◌++◌, map, refl, sym, ap, subst, ◌∙◌, arith}
+use Rattle.std.proofs.Common.{◌≡◌, ◌≢◌, ℕ, zero, suc, ◌<◌, ◌≤◌, ◌==◌, max, Bool, true, ◌⊎◌, inl, inr, List, [], ◌∷◌, ◌++◌, map, refl, sym, ap, subst, ◌∙◌}
+use Rattle.std.proofs.Common.{arith}
 use Rattle.std.proofs.lemmas.Bool.{eqb-true, eqb-false, ne_eqb, cases_Bool}
 use Rattle.std.specs.Str.{IsUtf8}
 use Rattle.wk_bytes.specs.LebLaws.{IsBytes}
@@ -10,12 +11,13 @@ use Rattle.wk_body.specs.declared.types.Profile.{Profile}
 use Rattle.wk_module.specs.declared.types.Custom.{Custom}
 use Rattle.wk_module.specs.declared.types.Parts.{Parts}
 use Rattle.wk_module.specs.Customs.{IsEmptyFrame, SpellsCustoms}
-use Rattle.wk_module.specs.Sections.{SectionId, TypeSection, ImportSection, FunctionSection, TableSection, MemorySection, GlobalSection, ExportSection, StartSection, ElementSection, CodeSection, DataSection, number, ContentsOf, contents, omitted, is_full, SpellsContents, AreValid}
-use Rattle.wk_module.specs.SectionLaws.{number_some}
+use Rattle.wk_module.specs.Sections.{SectionId, number, ContentsOf, contents, omitted, is_full, SpellsContents, AreValid}
+use Rattle.wk_module.specs.SectionLaws.{number_some, has_id}
 use Rattle.wk_module.specs.ShapeLaws.{in_order_lower, omitted_valid}
 use Rattle.wk_module.specs.Shape.{lists_of, is_filled, lowered, settled_custom, IsInOrderFrom, AreNamed, IsShaped}
 use Rattle.wk_module.specs.Modules.{SpellsSection, Spells}
 use Rattle.wk_module.proofs.Laws.{SectionLaws}
+use Rattle.wk_module.proofs.WrittenSections.{filled_is}
 
 -- ---- one section
 
@@ -39,7 +41,8 @@ frames_of_bytes last b (f ∷ fs) fits s =
 
 module _ {A : Type 0} (Spells : List ℕ → A → Type 0) (id : ℕ) where
   -- the same of what bytes spell
-  pub section_of_bytes_keeps : (P : A → Type 0) → ((b : List ℕ) (x : A) → IsBytes b → Spells b x → P x) → (fs : List Frame) (x y : A) → HaveBytes fs → P x → SpellsSection id Spells x fs y → P y
+  pub section_of_bytes_keeps : (P : A → Type 0) → ((b : List ℕ) (x : A) → IsBytes b → Spells b x → P x) → (fs : List Frame) (x y : A) → HaveBytes fs
+      → P x → SpellsSection id Spells x fs y → P y
   section_of_bytes_keeps P spelled [] x y fits p e = subst P (sym e) p
   section_of_bytes_keeps P spelled (f ∷ fs) x y fits p e =
       elim (cases_Bool (f.id == id)) [
@@ -60,7 +63,8 @@ filled_later id last b (f ∷ fs) filled some came framed =
 
 module _ {A : Type 0} (Spells : List ℕ → A → Type 0) (id : ℕ) (full : A → Bool) where
   -- where only a full one is spelled by a frame that is not empty
-  pub section_filled : ((f : Frame) (x : A) → f.id ≡ id → Spells f.contents x → ¬ IsEmptyFrame f → full x ≡ true) → (last : ℕ) (b : List ℕ) (fs : List Frame) (x y : A) → 0 < id → SpellsFrames last b fs
+  pub section_filled : ((f : Frame) (x : A) → f.id ≡ id → Spells f.contents x → ¬ IsEmptyFrame f → full x ≡ true)
+      → (last : ℕ) (b : List ℕ) (fs : List Frame) (x y : A) → 0 < id → SpellsFrames last b fs
       → SpellsSection id Spells x fs y → IsFilledAt id (full y) fs
   section_filled fills last b [] x y some framed e = tt
   section_filled fills last b (f ∷ fs) x y some framed e =
@@ -103,14 +107,16 @@ record AreShaped (passes : ℕ → Bool) (least : ℕ) (cs : List Custom) : Type
   settled : AreSettled passes cs
 
 module _ (passes : ℕ → Bool) where
-  one_more : (place : ℕ) (c : Custom) (cs : List Custom) → c.place ≡ place → place ≤ 11 → (place ≡ 0) ⊎ (passes place ≡ true) → IsUtf8 c.name → AreShaped passes place cs → AreShaped passes place (c ∷ cs)
+  one_more : (place : ℕ) (c : Custom) (cs : List Custom) → c.place ≡ place → place ≤ 11 → (place ≡ 0) ⊎ (passes place ≡ true) → IsUtf8 c.name
+      → AreShaped passes place cs → AreShaped passes place (c ∷ cs)
   one_more place c cs there small is text rest = record {
     order = (omega arith, omega arith, subst (λ (p : ℕ). IsInOrderFrom p cs) (sym there) rest.order);
     names = (text, rest.names);
     settled = (rw there (stays_there passes place is), rest.settled);
   }
 
-  customs_shaped : (last place : ℕ) (b : List ℕ) (fs : List Frame) (cs : List Custom) → place ≤ last → last ≤ 11 → (place ≡ 0) ⊎ (passes place ≡ true) → SpellsFrames last b fs → AreFilled passes fs
+  customs_shaped : (last place : ℕ) (b : List ℕ) (fs : List Frame) (cs : List Custom) → place ≤ last → last ≤ 11 → (place ≡ 0) ⊎ (passes place ≡ true)
+      → SpellsFrames last b fs → AreFilled passes fs
       → SpellsCustoms place fs cs → AreShaped passes place cs
   customs_shaped last place b [] cs le small is framed filled e = subst (AreShaped passes place) (sym e) (record { order = tt; names = tt; settled = tt })
   customs_shaped last place b (f ∷ fs) cs le small is framed filled (inl s) =
@@ -120,9 +126,11 @@ module _ (passes : ℕ → Bool) where
   customs_shaped last place b (f ∷ fs) cs le small is framed filled (inr s) =
       let bound : max last f.id ≤ 11 = elim framed.3 [ inl p ↦ omega arith | inr p ↦ omega arith ] in
       elim s.2 [
-        | inl p ↦ customs_shaped (max last f.id) place framed.1 fs cs (omega arith) bound is framed.5 filled.1 (subst (λ (q : ℕ). SpellsCustoms q fs cs) p.1 s.3)
+        | inl p ↦ customs_shaped (max last f.id) place framed.1 fs cs (omega arith) bound is framed.5 filled.1
+            (subst (λ (q : ℕ). SpellsCustoms q fs cs) p.1 s.3)
         | inr p ↦
-            let rest = customs_shaped (max last f.id) f.id framed.1 fs cs (omega arith) bound (inr (filled.0 s.0 p.0)) framed.5 filled.1 (subst (λ (q : ℕ). SpellsCustoms q fs cs) p.1 s.3) in
+            let rest = customs_shaped (max last f.id) f.id framed.1 fs cs (omega arith) bound (inr (filled.0 s.0 p.0)) framed.5 filled.1
+            (subst (λ (q : ℕ). SpellsCustoms q fs cs) p.1 s.3) in
             let came : place ≤ f.id = elim framed.3 [ inl q ↦ absurd (s.0 q) | inr q ↦ omega arith ] in
             record { order = in_order_lower f.id place cs came rest.order; names = rest.names; settled = rest.settled }
       ]
@@ -130,36 +138,11 @@ module _ (passes : ℕ → Bool) where
 -- ---- the ids
 
 -- each id but 0 is that of a section
-pub known_number : (id : ℕ) → id ≢ 0 → id ≤ 11 → (k : SectionId) × (number k ≡ id)
-known_number zero some small = absurd (some refl)
-known_number (suc zero) some small = (TypeSection, refl)
-known_number (suc (suc zero)) some small = (ImportSection, refl)
-known_number (suc (suc (suc zero))) some small = (FunctionSection, refl)
-known_number (suc (suc (suc (suc zero)))) some small = (TableSection, refl)
-known_number (suc (suc (suc (suc (suc zero))))) some small = (MemorySection, refl)
-known_number (suc (suc (suc (suc (suc (suc zero)))))) some small = (GlobalSection, refl)
-known_number (suc (suc (suc (suc (suc (suc (suc zero))))))) some small = (ExportSection, refl)
-known_number (suc (suc (suc (suc (suc (suc (suc (suc zero)))))))) some small = (StartSection, refl)
-known_number (suc (suc (suc (suc (suc (suc (suc (suc (suc zero))))))))) some small = (ElementSection, refl)
-known_number (suc (suc (suc (suc (suc (suc (suc (suc (suc (suc zero)))))))))) some small = (CodeSection, refl)
-known_number (suc (suc (suc (suc (suc (suc (suc (suc (suc (suc (suc zero))))))))))) some small = (DataSection, refl)
-known_number (suc (suc (suc (suc (suc (suc (suc (suc (suc (suc (suc (suc more)))))))))))) some small = absurd (omega arith)
+known_number : (id : ℕ) → id ≢ 0 → id ≤ 11 → (k : SectionId) × (number k ≡ id)
+known_number id some small = elim (has_id id small) [ inl none ↦ absurd (some none.0) | inr known ↦ (known.0, sym known.1) ]
 
--- the id of a section is filled where the section is full
-pub filled_full : (m : Parts) (k : SectionId) → is_filled m (number k) ≡ is_full k (contents (lists_of m) k)
-filled_full m TypeSection = refl
-filled_full m ImportSection = refl
-filled_full m FunctionSection = refl
-filled_full m TableSection = refl
-filled_full m MemorySection = refl
-filled_full m GlobalSection = refl
-filled_full m ExportSection = refl
-filled_full m StartSection = refl
-filled_full m ElementSection = refl
-filled_full m CodeSection = refl
-filled_full m DataSection = refl
-
-all_filled : (passes : ℕ → Bool) (last : ℕ) (b : List ℕ) (fs : List Frame) → SpellsFrames last b fs → ((k : SectionId) → IsFilledAt (number k) (passes (number k)) fs) → AreFilled passes fs
+all_filled : (passes : ℕ → Bool) (last : ℕ) (b : List ℕ) (fs : List Frame) → SpellsFrames last b fs
+    → ((k : SectionId) → IsFilledAt (number k) (passes (number k)) fs) → AreFilled passes fs
 all_filled passes last b [] framed each = tt
 all_filled passes last b (f ∷ fs) framed each = (
   λ some more.
@@ -183,15 +166,19 @@ module _ (profile : Profile) (sections : SectionLaws profile) where
       ]
 
   -- what a section has that bytes spell, or that is left out, is valid
-  section_valid : (k : SectionId) (fs : List Frame) (x : ContentsOf k) → HaveBytes fs → SpellsSection (number k) (SpellsContents profile k) (omitted k) fs x → AreValid profile k x
-  section_valid k fs x fits e = section_of_bytes_keeps (SpellsContents profile k) (number k) (AreValid profile k) (sections k).valid fs (omitted k) x fits (omitted_valid profile k) e
+  section_valid : (k : SectionId) (fs : List Frame) (x : ContentsOf k) → HaveBytes fs
+      → SpellsSection (number k) (SpellsContents profile k) (omitted k) fs x → AreValid profile k x
+  section_valid k fs x fits e = section_of_bytes_keeps (SpellsContents profile k) (number k) (AreValid profile k) (sections k).valid fs
+      (omitted k) x fits (omitted_valid profile k) e
 
   -- the frames fill the sections of a module that they spell
-  sections_filled : (m : Parts) (b : List ℕ) (fs : List Frame) → SpellsFrames 0 b fs → ((k : SectionId) → SpellsSection (number k) (SpellsContents profile k) (omitted k) fs (contents (lists_of m) k)) → AreFilled (is_filled m) fs
+  sections_filled : (m : Parts) (b : List ℕ) (fs : List Frame) → SpellsFrames 0 b fs
+      → ((k : SectionId) → SpellsSection (number k) (SpellsContents profile k) (omitted k) fs (contents (lists_of m) k)) → AreFilled (is_filled m) fs
   sections_filled m b fs framed spelled =
       all_filled (is_filled m) 0 b fs framed
-      (λ k. subst (λ (filled : Bool). IsFilledAt (number k) filled fs) (sym (filled_full m k))
-      (section_filled (SpellsContents profile k) (number k) (is_full k) (full_frame k) 0 b fs (omitted k) (contents (lists_of m) k) (number_some k) framed (spelled k)))
+      (λ k. subst (λ (filled : Bool). IsFilledAt (number k) filled fs) (sym (filled_is m k))
+      (section_filled (SpellsContents profile k) (number k) (is_full k) (full_frame k) 0 b fs (omitted k) (contents (lists_of m) k)
+      (number_some k) framed (spelled k)))
 
 shaped_by : (b : List ℕ) (m : Parts) → SectionLaws m.profile → IsBytes b → Spells b m → IsShaped m
 shaped_by b m sections fits spelled =
@@ -199,7 +186,8 @@ shaped_by b m sections fits spelled =
     let inner : IsBytes framing.frames = IsBytes-after (magic ++ version) framing.frames b framing.parts fits in
     let have = frames_of_bytes 0 framing.frames spelled.frames inner framing.spelled in
     let filled = sections_filled m.profile sections m framing.frames spelled.frames framing.spelled spelled.sections in
-    let customs = customs_shaped (is_filled m) 0 0 framing.frames spelled.frames m.customs (omega arith) (omega arith) (inl refl) framing.spelled filled spelled.customs in
+    let customs = customs_shaped (is_filled m) 0 0 framing.frames spelled.frames m.customs (omega arith) (omega arith)
+    (inl refl) framing.spelled filled spelled.customs in
     record {
       formed = record {
         valid = λ k. section_valid m.profile sections k spelled.frames (contents (lists_of m) k) have (spelled.sections k);

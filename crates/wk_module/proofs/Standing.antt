@@ -1,5 +1,6 @@
 -- The faults of reading a module stand in its bytes.
-use Rattle.std.proofs.Common.{◌≡◌, ℕ, ◌-◌, ◌≤◌, ◌==◌, ◌⊎◌, cond, List, [], ◌∷◌, ◌++◌, length, length-append, Option, Some, None, Result, Ok, Err, All, refl, sym, ap, subst, ◌∙◌, inl, inr, arith}
+use Rattle.std.proofs.Common.{◌≡◌, ℕ, ◌-◌, ◌≤◌, ◌==◌, ◌⊎◌, cond, List, [], ◌∷◌, ◌++◌, length, length-append, Option, Some, None, Result, Ok, Err, All, refl}
+use Rattle.std.proofs.Common.{sym, ap, subst, ◌∙◌, inl, inr, arith}
 use Rattle.std.specs.Prelude.{IfErr, MatchResult}
 use Rattle.std.proofs.lemmas.List.Elements.{All-head, All-tail}
 use Rattle.wk_bytes.specs.declared.fault.ReadKind.{ReadKind}
@@ -13,7 +14,8 @@ use Rattle.wk_bytes.specs.SpanLaws.{err_is}
 use Rattle.wk_bytes.specs.Frames.{Section, sections_of}
 use Rattle.wk_bytes.specs.FrameStands.{sections_of-stand}
 use Rattle.wk_bytes.specs.Stands.{Stands, StandsIn, StandsOrMemory, LiesIn, ItemStands, contents_of, whole}
-use Rattle.wk_bytes.specs.StandsLaws.{ReadsFront, ReadsFront-name_at, ReadsFront-u32_at, Stands-here, Stands-later, Stands-within, Stands-contents, Stands-at_end, stands_as}
+use Rattle.wk_bytes.specs.StandsLaws.{ReadsFront, ReadsFront-name_at, ReadsFront-u32_at, Stands-here, Stands-later, Stands-within, Stands-contents}
+use Rattle.wk_bytes.specs.StandsLaws.{Stands-at_end, stands_as}
 use Rattle.wk_body.specs.declared.types.Profile.{Profile}
 use Rattle.wk_body.specs.Reads.{FailsAs, Reads}
 use Rattle.wk_module.specs.declared.types.Custom.{Custom}
@@ -22,35 +24,41 @@ use Rattle.wk_module.specs.Customs.{custom_at}
 use Rattle.wk_module.specs.Formats.{Reader, bytes_at, taking_all, all_at}
 use Rattle.wk_module.specs.ListReading.{listed_by, with_listed, lists_read, opened_at}
 use Rattle.wk_module.specs.Sections.{SectionId, ContentsOf, SectionLists, of_number, with_contents, contents_at}
-use Rattle.wk_module.specs.Reading.{Progress, at_start, section_end, with_custom, with_lists, section_by, with_section, sections_read, module_of, joined, module_at}
+use Rattle.wk_module.specs.Reading.{Progress, at_start, section_end, with_custom, with_lists, section_by, with_section, sections_read, module_of, joined}
+use Rattle.wk_module.specs.Reading.{module_at}
 use Rattle.wk_module.proofs.Formats.{bytes_parts}
 use Rattle.wk_module.proofs.Laws.{SectionLaws}
 
 -- ---- contents
 
 module _ {A : Type 0} (read : Reader A) where
-  left_over : (end : ℕ) (bytes : List ℕ) (x : A) (rest : List ℕ) (e : ReadFault) → (front : List ℕ) × (bytes ≡ front ++ rest) → taking_all end (x, rest) ≡ Err e → length bytes ≤ end → Stands (record { rest = bytes; end = end }) e
+  left_over : (end : ℕ) (bytes : List ℕ) (x : A) (rest : List ℕ) (e : ReadFault) → (front : List ℕ) × (bytes ≡ front ++ rest)
+      → taking_all end (x, rest) ≡ Err e → length bytes ≤ end → Stands (record { rest = bytes; end = end }) e
   left_over end bytes x [] e front h fits = absurd cc
   left_over end bytes x (y ∷ rest) e front h fits =
       let is : fault SectionSize end (y ∷ rest) ≡ e = cc in
       Stands-later front.0 (record { rest = bytes; end = end }) (record { rest = y ∷ rest; end = end }) e front.1 refl fits
       (subst (Stands (record { rest = y ∷ rest; end = end })) is (Stands-here SectionSize end (y ∷ rest) (omega arith)))
 
-  all_by : (end : ℕ) (bytes : List ℕ) (e : ReadFault) (r : Result (A × List ℕ) ReadFault) → ReadsFront read → read end bytes ≡ r → (r >>= taking_all end) ≡ Err e → length bytes ≤ end → Stands (record { rest = bytes; end = end }) e
+  all_by : (end : ℕ) (bytes : List ℕ) (e : ReadFault) (r : Result (A × List ℕ) ReadFault) → ReadsFront read → read end bytes ≡ r
+      → (r >>= taking_all end) ≡ Err e → length bytes ≤ end → Stands (record { rest = bytes; end = end }) e
   all_by end bytes e (Err d) fronts is h fits = fronts.faults end bytes e (is ∙ cc) fits
   all_by end bytes e (Ok x) fronts is h fits = left_over end bytes x.0 x.1 e (fronts.takes end bytes x.0 x.1 is) h fits
 
-  pub all_at-stands : ReadsFront read → (end : ℕ) (bytes : List ℕ) (e : ReadFault) → all_at read end bytes ≡ Err e → length bytes ≤ end → Stands (record { rest = bytes; end = end }) e
+  pub all_at-stands : ReadsFront read → (end : ℕ) (bytes : List ℕ) (e : ReadFault) → all_at read end bytes ≡ Err e → length bytes ≤ end
+      → Stands (record { rest = bytes; end = end }) e
   all_at-stands fronts end bytes e h fits = all_by end bytes e (read end bytes) fronts refl h fits
 
 abbrev custom_named : ℕ → List ℕ → List ℕ → Result Custom ReadFault
 custom_named place name bytes = Ok (record { place = place; name = name; bytes = bytes })
 
-custom_by : (place end : ℕ) (bytes : List ℕ) (e : ReadFault) (r : Result (List ℕ × List ℕ) ReadFault) → name_at end bytes ≡ r → (r >>= λ name. custom_named place name.0 name.1) ≡ Err e → length bytes ≤ end → Stands (record { rest = bytes; end = end }) e
+custom_by : (place end : ℕ) (bytes : List ℕ) (e : ReadFault) (r : Result (List ℕ × List ℕ) ReadFault) → name_at end bytes ≡ r
+    → (r >>= λ name. custom_named place name.0 name.1) ≡ Err e → length bytes ≤ end → Stands (record { rest = bytes; end = end }) e
 custom_by place end bytes e (Err d) is h fits = ReadsFront-name_at.faults end bytes e (is ∙ cc) fits
 custom_by place end bytes e (Ok x) is h fits = absurd cc
 
-pub custom_at-stands : (place end : ℕ) (bytes : List ℕ) (e : ReadFault) → custom_at place end bytes ≡ Err e → length bytes ≤ end → Stands (record { rest = bytes; end = end }) e
+pub custom_at-stands : (place end : ℕ) (bytes : List ℕ) (e : ReadFault) → custom_at place end bytes ≡ Err e → length bytes ≤ end
+    → Stands (record { rest = bytes; end = end }) e
 unfolding custom_at
 custom_at-stands place end bytes e h fits = custom_by place end bytes e (name_at end bytes) refl h fits
 
@@ -72,19 +80,24 @@ module _ {P : Type 0} (step : P → Section → Result P ReadFault) (read : P �
     (ends : (p : P) → read p [] ≡ Ok p) (fails : (p : P) (e : ReadFault) (items : List (Result Section ReadFault)) → read p (Err e ∷ items) ≡ Err e)
     (goes : (p : P) (s : Section) (items : List (Result Section ReadFault)) → read p (Ok s ∷ items) ≡ (step p s >>= λ q. read q items))
     (stands : (p : P) (s : Section) (e : ReadFault) → step p s ≡ Err e → Stands (contents_of s) e) where
-  then_stands : (input : List ℕ) (s : Section) (items : List (Result Section ReadFault)) (e : ReadFault) (p : P) (r : Result P ReadFault) → LiesIn input s → step p s ≡ r
+  then_stands : (input : List ℕ) (s : Section) (items : List (Result Section ReadFault)) (e : ReadFault) (p : P) (r : Result P ReadFault)
+      → LiesIn input s → step p s ≡ r
       → ((q : P) → read q items ≡ Err e → StandsIn input e) → (r >>= λ q. read q items) ≡ Err e → StandsIn input e
   then_stands input s items e p (Err d) lies is more h = inr (inr (Stands-contents input s e lies (stands p s e (is ∙ cc))))
   then_stands input s items e p (Ok q) lies is more h = more q h
 
-  pub all_stand : (input : List ℕ) (p : P) (items : List (Result Section ReadFault)) (e : ReadFault) → All (ItemStands input) items → read p items ≡ Err e → StandsIn input e
+  pub all_stand : (input : List ℕ) (p : P) (items : List (Result Section ReadFault)) (e : ReadFault) → All (ItemStands input) items
+      → read p items ≡ Err e → StandsIn input e
   all_stand input p [] e stand h = let no : Ok p ≡ Err e = sym (ends p) ∙ h in absurd cc
-  all_stand input p (Err d ∷ items) e stand h = subst (StandsIn input) (err_is {A = P} d e (sym (fails p d items) ∙ h)) (All-head (ItemStands input) (Err d) items stand)
+  all_stand input p (Err d ∷ items) e stand h = subst (StandsIn input) (err_is {A = P} d e (sym (fails p d items) ∙ h))
+      (All-head (ItemStands input) (Err d) items stand)
   all_stand input p (Ok s ∷ items) e stand h =
-      then_stands input s items e p (step p s) (All-head (ItemStands input) (Ok s) items stand) refl (λ q. all_stand input q items e (All-tail (ItemStands input) (Ok s) items stand)) (sym (goes p s items) ∙ h)
+      then_stands input s items e p (step p s) (All-head (ItemStands input) (Ok s) items stand) refl
+      (λ q. all_stand input q items e (All-tail (ItemStands input) (Ok s) items stand)) (sym (goes p s items) ∙ h)
 
 module _ (profile : Profile) (sections : SectionLaws profile) where
-  contents_stand : {B : Type 0} (funcs : ℕ) (s : Section) (e : ReadFault) (k : SectionId) (f : ContentsOf k → B) → (all_at (contents_at profile funcs k) (section_end s) s.contents >>= λ x. Ok (f x)) ≡ Err e → Stands (contents_of s) e
+  contents_stand : {B : Type 0} (funcs : ℕ) (s : Section) (e : ReadFault) (k : SectionId) (f : ContentsOf k → B)
+      → (all_at (contents_at profile funcs k) (section_end s) s.contents >>= λ x. Ok (f x)) ≡ Err e → Stands (contents_of s) e
   contents_stand funcs s e k f h =
       let read : Reader (ContentsOf k) = contents_at profile funcs k in
       all_at-stands read ((sections k).fronts funcs) (section_end s) s.contents e (failed_before (all_at read (section_end s) s.contents) f e h) (omega arith)
@@ -97,19 +110,25 @@ module _ (profile : Profile) (sections : SectionLaws profile) where
 
   listed_stands : (l : SectionLists) (s : Section) (e : ReadFault) (k : Option SectionId) → listed_by profile l s k ≡ Err e → Stands (contents_of s) e
   unfolding listed_by
-  listed_stands l s e None h = ReadsFront-name_at.faults (section_end s) s.contents e (failed_before (name_at (section_end s) s.contents) (λ name. l) e h) (omega arith)
+  listed_stands l s e None h = ReadsFront-name_at.faults (section_end s) s.contents e
+      (failed_before (name_at (section_end s) s.contents) (λ name. l) e h) (omega arith)
   listed_stands l s e (Some k) h = contents_stand (length l.funcs) s e k (λ x. with_contents k x l) h
 
-  sections_stand : (input : List ℕ) (p : Progress) (items : List (Result Section ReadFault)) (e : ReadFault) → All (ItemStands input) items → sections_read profile p items ≡ Err e → StandsIn input e
+  sections_stand : (input : List ℕ) (p : Progress) (items : List (Result Section ReadFault)) (e : ReadFault) → All (ItemStands input) items
+      → sections_read profile p items ≡ Err e → StandsIn input e
   unfolding sections_read
-  sections_stand = all_stand (with_section profile) (sections_read profile) (λ p. refl) (λ p e items. refl) (λ p s items. refl) (λ p s e. section_stands p s e (of_number s.id))
+  sections_stand = all_stand (with_section profile) (sections_read profile) (λ p. refl) (λ p e items. refl) (λ p s items. refl)
+      (λ p s e. section_stands p s e (of_number s.id))
 
   -- the first fault of reading lists stands in the input in which their sections lie
-  pub lists_stand : (input : List ℕ) (l : SectionLists) (items : List (Result Section ReadFault)) (e : ReadFault) → All (ItemStands input) items → lists_read profile l items ≡ Err e → StandsIn input e
+  pub lists_stand : (input : List ℕ) (l : SectionLists) (items : List (Result Section ReadFault)) (e : ReadFault) → All (ItemStands input) items
+      → lists_read profile l items ≡ Err e → StandsIn input e
   unfolding lists_read
-  lists_stand = all_stand (with_listed profile) (lists_read profile) (λ l. refl) (λ l e items. refl) (λ l s items. refl) (λ l s e. listed_stands l s e (of_number s.id))
+  lists_stand = all_stand (with_listed profile) (lists_read profile) (λ l. refl) (λ l e items. refl) (λ l s items. refl)
+      (λ l s e. listed_stands l s e (of_number s.id))
 
-  module_by : (b : List ℕ) (e : ReadFault) (r : Result Progress ReadFault) → sections_read profile at_start (sections_of b) ≡ r → (r >>= joined profile (length b)) ≡ Err e → StandsIn b e
+  module_by : (b : List ℕ) (e : ReadFault) (r : Result Progress ReadFault) → sections_read profile at_start (sections_of b) ≡ r
+      → (r >>= joined profile (length b)) ≡ Err e → StandsIn b e
   module_by b e (Err d) is h = sections_stand b at_start (sections_of b) e (sections_of-stand b) (is ∙ cc)
   module_by b e (Ok p) is h = joined_stands profile b p e h
 
@@ -132,7 +151,8 @@ memory_or_read {Y = Y} e read fails = by_kind e.kind refl fails
     by_kind _ is there = inr there
 
 -- the fault that is answered stands in the bytes
-told_stands : {Y : Type 0} (b : List ℕ) (e : ReadFault) (read : Result Y ReadFault) → ((d : ReadFault) → read ≡ Err d → StandsIn b d) → FailsAs e e.kind read → StandsIn b e
+told_stands : {Y : Type 0} (b : List ℕ) (e : ReadFault) (read : Result Y ReadFault) → ((d : ReadFault) → read ≡ Err d → StandsIn b d)
+    → FailsAs e e.kind read → StandsIn b e
 told_stands b e read stands fails =
     elim (memory_or_read e read fails) [
       | inl none ↦ inl none
@@ -140,22 +160,26 @@ told_stands b e read stands fails =
     ]
 
 -- the same of an answer
-pub match_stands : {X Y : Type 0} (P : X → Type 0) (b : List ℕ) (r : Result X ReadFault) (read : Result Y ReadFault) → ((e : ReadFault) → read ≡ Err e → StandsIn b e) → MatchResult r P (λ e. FailsAs e e.kind read) → IfErr r (λ e. StandsIn b e)
+pub match_stands : {X Y : Type 0} (P : X → Type 0) (b : List ℕ) (r : Result X ReadFault) (read : Result Y ReadFault)
+    → ((e : ReadFault) → read ≡ Err e → StandsIn b e) → MatchResult r P (λ e. FailsAs e e.kind read) → IfErr r (λ e. StandsIn b e)
 match_stands P b (Ok x) read stands answers = tt
 match_stands P b (Err e) read stands answers = told_stands b e read stands answers
 
-pub answer_stands : {X Y : Type 0} (view : X → Y) (b : List ℕ) (r : Result X ReadFault) (read : Result Y ReadFault) → ((e : ReadFault) → read ≡ Err e → StandsIn b e) → Reads view r read → IfErr r (λ e. StandsIn b e)
+pub answer_stands : {X Y : Type 0} (view : X → Y) (b : List ℕ) (r : Result X ReadFault) (read : Result Y ReadFault)
+    → ((e : ReadFault) → read ≡ Err e → StandsIn b e) → Reads view r read → IfErr r (λ e. StandsIn b e)
 answer_stands view b (Ok x) read stands reads = tt
 answer_stands view b (Err e) read stands reads = told_stands b e read stands reads
 
 -- ---- codes
 
 -- a count that is another one stands at the contents
-pub opened_stands : (funcs end : ℕ) (bytes : List ℕ) (e : ReadFault) → opened_at funcs end bytes ≡ Err e → length bytes ≤ end → Stands (record { rest = bytes; end = end }) e
+pub opened_stands : (funcs end : ℕ) (bytes : List ℕ) (e : ReadFault) → opened_at funcs end bytes ≡ Err e → length bytes ≤ end
+    → Stands (record { rest = bytes; end = end }) e
 unfolding opened_at
 opened_stands funcs end bytes e h fits = opened_by (u32_at end bytes) refl h
   where
-    opened_by : (r : Result (ℕ × List ℕ) ReadFault) → u32_at end bytes ≡ r → (r >>= λ n. cond (n.0 == funcs) (Ok n.1) (Err (fault FuncCodeCount end bytes))) ≡ Err e → Stands (record { rest = bytes; end = end }) e
+    opened_by : (r : Result (ℕ × List ℕ) ReadFault) → u32_at end bytes ≡ r
+        → (r >>= λ n. cond (n.0 == funcs) (Ok n.1) (Err (fault FuncCodeCount end bytes))) ≡ Err e → Stands (record { rest = bytes; end = end }) e
     opened_by (Err d) is h = ReadsFront-u32_at.faults end bytes e (is ∙ cc) fits
     opened_by (Ok n) is h =
         elim (chosen (n.0 == funcs) (Ok n.1) (Err (fault FuncCodeCount end bytes)) (Err e) h) [
@@ -164,14 +188,16 @@ opened_stands funcs end bytes e h fits = opened_by (u32_at end bytes) refl h
         ]
 
 -- a fault behind a size stands in what was left in front of it
-pub behind_size : (old ahead after : Span) (n : ℕ) (e : ReadFault) → ahead ≡ old → (u32_at ahead.end ahead.rest ≡ Ok (n, after.rest)) × (after.end ≡ ahead.end) → length old.rest ≤ old.end → Stands after e → Stands old e
+pub behind_size : (old ahead after : Span) (n : ℕ) (e : ReadFault) → ahead ≡ old
+    → (u32_at ahead.end ahead.rest ≡ Ok (n, after.rest)) × (after.end ≡ ahead.end) → length old.rest ≤ old.end → Stands after e → Stands old e
 behind_size old ahead after n e same size fits stood =
     let is : u32_at old.end old.rest ≡ Ok (n, after.rest) = ap (λ (s : Span). u32_at s.end s.rest) (sym same) ∙ size.0 in
     let front = ReadsFront-u32_at.takes old.end old.rest n after.rest is in
     Stands-later front.0 old after e front.1 (sym (size.1 ∙ ap (λ (s : Span). s.end) same)) fits stood
 
 -- a fault in the bytes of a code stands in what is left of the section
-pub code_stands : (s after code : Span) (e : ReadFault) → bytes_at s.end s.rest ≡ Ok (code.rest, after.rest) → code.end ≡ s.end - length after.rest → length s.rest ≤ s.end → StandsOrMemory code e → StandsOrMemory s e
+pub code_stands : (s after code : Span) (e : ReadFault) → bytes_at s.end s.rest ≡ Ok (code.rest, after.rest) → code.end ≡ s.end - length after.rest
+    → length s.rest ≤ s.end → StandsOrMemory code e → StandsOrMemory s e
 code_stands s after code e taken ends fits (inl none) = inl none
 code_stands s after code e taken ends fits (inr stood) =
     let p = bytes_parts s.end s.rest code.rest after.rest taken in

@@ -1,5 +1,6 @@
 -- Items read one after the other, as a loop reads them.
-use Rattle.std.proofs.Common.{◌≡◌, ℕ, suc, ◌+◌, ◌-◌, ◌<◌, ◌≤◌, List, [], ◌∷◌, ◌++◌, length, get_or, Result, Ok, Err, refl, sym, ap, ◌∙◌, inl, inr, append_assoc, arith}
+use Rattle.std.proofs.Common.{◌≡◌, ℕ, suc, ◌+◌, ◌-◌, ◌<◌, ◌≤◌, List, [], ◌∷◌, ◌++◌, length, get_or, Result, Ok, Err, refl, sym, ap, ◌∙◌, inl, inr, append_assoc}
+use Rattle.std.proofs.Common.{arith}
 use Rattle.std.proofs.lemmas.Bool.{cases_lt, lt-ltb}
 use Rattle.std.proofs.lemmas.List.{append-nil}
 use Rattle.wk_bytes.specs.declared.fault.ReadKind.TheVariants.{LongInput}
@@ -19,7 +20,8 @@ abbrev pub with_front : {A : Type 0} → List A → Result (List A × List ℕ) 
 with_front front read = read >>= λ x. Ok (front ++ x.0, x.1)
 
 module _ {A : Type 0} (read : ℕ → List ℕ → Result (A × List ℕ) ReadFault) where
-  regroup : (front : List A) (x : A) (r : Result (List A × List ℕ) ReadFault) → with_front front (r >>= λ xs. Ok (x ∷ xs.0, xs.1)) ≡ with_front (front ++ x ∷ []) r
+  regroup : (front : List A) (x : A) (r : Result (List A × List ℕ) ReadFault)
+      → with_front front (r >>= λ xs. Ok (x ∷ xs.0, xs.1)) ≡ with_front (front ++ x ∷ []) r
   regroup front x (Ok xs) = ap (λ (ys : List A). done (ys, xs.1)) (simp append_assoc)
   regroup front x (Err f) = refl
 
@@ -29,12 +31,14 @@ module _ {A : Type 0} (read : ℕ → List ℕ → Result (A × List ℕ) ReadFa
       let k : count - i ≡ suc (count - (i + 1)) = omega arith in
       rw (k, h) (regroup front x (items_at read (count - (i + 1)) end after))
 
-  pub stops : (front : List A) (count i end : ℕ) (bytes : List ℕ) (f : ReadFault) → i < count → read end bytes ≡ Err f → with_front front (items_at read (count - i) end bytes) ≡ Err f
+  pub stops : (front : List A) (count i end : ℕ) (bytes : List ℕ) (f : ReadFault) → i < count → read end bytes ≡ Err f
+      → with_front front (items_at read (count - i) end bytes) ≡ Err f
   stops front count i end bytes f lt h =
       let k : count - i ≡ suc (count - (i + 1)) = omega arith in
       rw (k, h) refl
 
-  pub stops_all : (front : List A) (count i end : ℕ) (bytes : List ℕ) (f : ReadFault) (whole : Result (List A × List ℕ) ReadFault) → i < count → with_front front (items_at read (count - i) end bytes) ≡ whole → read end bytes ≡ Err f → whole ≡ Err f
+  pub stops_all : (front : List A) (count i end : ℕ) (bytes : List ℕ) (f : ReadFault) (whole : Result (List A × List ℕ) ReadFault) → i < count
+      → with_front front (items_at read (count - i) end bytes) ≡ whole → read end bytes ≡ Err f → whole ≡ Err f
   stops_all front count i end bytes f whole lt so_far h = sym so_far ∙ stops front count i end bytes f lt h
 
   pub is_done : (front : List A) (count i end : ℕ) (bytes : List ℕ) → count ≤ i → with_front front (items_at read (count - i) end bytes) ≡ Ok (front, bytes)
@@ -59,7 +63,9 @@ pub read_few : (profile : Profile) (p q : Progress) (bytes : List ℕ) → secti
 unfolding header_at sections_read
 read_few profile p q bytes read =
     elim (cases_lt limit (length bytes)) [
-      | inl lt ↦ let none : sections_read profile p (sections_of bytes) ≡ Err (record { kind = LongInput; at = limit }) = rw (lt-ltb limit (length bytes) lt) refl in absurd (err_ok _ q (sym none ∙ read))
+      | inl lt ↦
+          let none : sections_read profile p (sections_of bytes) ≡ Err (record { kind = LongInput; at = limit }) = rw (lt-ltb limit (length bytes) lt) refl in
+          absurd (err_ok _ q (sym none ∙ read))
       | inr le ↦ le
     ]
 

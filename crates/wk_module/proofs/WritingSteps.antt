@@ -1,5 +1,6 @@
 -- Steps of writing a module: ids one after the other, and parts that are no longer than the whole.
-use Rattle.std.proofs.Common.{◌≡◌, ℕ, zero, suc, ◌+◌, ◌<◌, ◌≤◌, List, [], ◌∷◌, ◌++◌, length, drop, get_or, refl, sym, ap, ◌∙◌, arith, add-one, append_assoc, drop-cons, length-append}
+use Rattle.std.proofs.Common.{◌≡◌, ℕ, zero, suc, ◌+◌, ◌<◌, ◌≤◌, List, [], ◌∷◌, ◌++◌, length, drop, get_or, refl, sym, ap, ◌∙◌, arith, add-one, append_assoc}
+use Rattle.std.proofs.Common.{drop-cons, length-append}
 use Rattle.std.proofs.lemmas.Bool.{eq-eqb}
 use Rattle.std.proofs.lemmas.List.FromFn.{get_or-range_with_len}
 use Rattle.std.specs.List.{flat_map}
@@ -17,7 +18,12 @@ custom_le (d ∷ cs) zero c within is =
     let same : length (at_place c.place (written_frame c) c.place) ≡ length (written_frame c) = rw (eq-eqb c.place c.place refl) refl in
     omega (arith, first, same, ap length (customs_at-cons d cs c.place), length-append (at_place d.place (written_frame d) c.place) (customs_at c.place cs))
 custom_le (d ∷ cs) (suc i) c within is =
-    omega (arith, custom_le cs i c (omega arith) is, ap length (customs_at-cons d cs c.place), length-append (at_place d.place (written_frame d) c.place) (customs_at c.place cs))
+    omega (
+      arith,
+      custom_le cs i c (omega arith) is,
+      ap length (customs_at-cons d cs c.place),
+      length-append (at_place d.place (written_frame d) c.place) (customs_at c.place cs),
+    )
 
 -- the ids from one on
 pub drop-ids : (id : ℕ) → id < 12 → drop id ids ≡ id ∷ drop (id + 1) ids
@@ -33,10 +39,14 @@ both_fit m id lt fits =
     omega (arith, le, fits, length-append (section_of m id) (customs_at id m.customs), length-append (magic ++ version) (flat_map (section_and_customs m) ids))
 
 -- one more section, and the customs behind it
-pub one_more : (m : Parts) (id : ℕ) (before between after whole : List ℕ) → id < 12 → between ≡ before ++ section_of m id → after ≡ between ++ customs_at id m.customs → before ++ flat_map (section_and_customs m) (drop id ids) ≡ whole → after ++ flat_map (section_and_customs m) (drop (id + 1) ids) ≡ whole
+pub one_more : (m : Parts) (id : ℕ) (before between after whole : List ℕ) → id < 12 → between ≡ before ++ section_of m id
+    → after ≡ between ++ customs_at id m.customs → before ++ flat_map (section_and_customs m) (drop id ids) ≡ whole
+    → after ++ flat_map (section_and_customs m) (drop (id + 1) ids) ≡ whole
 one_more m id before between after whole lt section customs so_far =
     let later = flat_map (section_and_customs m) (drop (id + 1) ids) in
-    let split : flat_map (section_and_customs m) (drop id ids) ≡ section_of m id ++ customs_at id m.customs ++ later = ap (flat_map (section_and_customs m)) (drop-ids id lt) in
-    let regroup : ((before ++ section_of m id) ++ customs_at id m.customs) ++ later ≡ before ++ (section_of m id ++ customs_at id m.customs ++ later) = simp append_assoc in
+    let split : flat_map (section_and_customs m) (drop id ids) ≡ section_of m id ++ customs_at id m.customs ++ later =
+    ap (flat_map (section_and_customs m)) (drop-ids id lt) in
+    let regroup : ((before ++ section_of m id) ++ customs_at id m.customs) ++ later ≡ before ++ (section_of m id ++ customs_at id m.customs ++ later) =
+    simp append_assoc in
     ap (λ (b : List ℕ). b ++ later) (customs ∙ ap (λ (b : List ℕ). b ++ customs_at id m.customs) section)
     ∙ regroup ∙ ap (λ (b : List ℕ). before ++ b) (sym split) ∙ so_far

@@ -1,5 +1,6 @@
 -- The custom sections, in the frames of the written form.
-use Rattle.std.proofs.Common.{◌≡◌, ◌≢◌, ℕ, zero, suc, ◌+◌, ◌^◌, ◌<◌, ◌≤◌, ◌==◌, Bool, false, inl, inr, List, [], ◌∷◌, ◌++◌, length, map, refl, sym, ap, subst, ◌∙◌, append-nil, append_assoc, length-append, arith}
+use Rattle.std.proofs.Common.{◌≡◌, ◌≢◌, ℕ, zero, suc, ◌+◌, ◌^◌, ◌<◌, ◌≤◌, ◌==◌, Bool, false, inl, inr, List, [], ◌∷◌, ◌++◌, length, map, refl, sym, ap, subst}
+use Rattle.std.proofs.Common.{◌∙◌, append-nil, append_assoc, length-append, arith}
 use Rattle.std.specs.List.{filter, flat_map}
 use Rattle.std.proofs.lemmas.Bool.{ne_eqb, eq-eqb, cases_eq}
 use Rattle.std.proofs.lemmas.List.Elements.{filter-append}
@@ -22,7 +23,13 @@ custom_spells c text fits =
     record { size = short (length c.name); parts = refl; counts = short-spells 32 (length c.name) few; text = text }
 
 pub custom_least : (b : List ℕ) (c : Custom) → SpellsCustom b c → length (written_custom c) ≤ length b
-custom_least b c s = omega (arith, length-append (short (length c.name)) (c.name ++ c.bytes), ap length s.parts, length-append s.size (c.name ++ c.bytes), short-least 32 (length c.name) s.size s.counts)
+custom_least b c s = omega (
+  arith,
+  length-append (short (length c.name)) (c.name ++ c.bytes),
+  ap length s.parts,
+  length-append s.size (c.name ++ c.bytes),
+  short-least 32 (length c.name) s.size s.counts,
+)
 
 -- ---- customs of one place
 
@@ -73,7 +80,8 @@ named_later [] later named = named
 named_later (c ∷ front) later named = named_later front later named.1
 
 -- customs of the place that comes, and then the others
-customs_here : (place : ℕ) (front later : List Custom) (rest : List Frame) → AreAt place front → AreNamed front → AreSmall (map custom_frame front) → SpellsCustoms place rest later
+customs_here : (place : ℕ) (front later : List Custom) (rest : List Frame) → AreAt place front → AreNamed front → AreSmall (map custom_frame front)
+    → SpellsCustoms place rest later
     → SpellsCustoms place (map custom_frame front ++ rest) (front ++ later)
 customs_here place [] later rest at named small spelled = spelled
 customs_here place (c ∷ front) later rest at named small spelled =
@@ -124,7 +132,8 @@ module _ (passes : ℕ → Bool) (all : List Custom) where
       record {
         same = λ q above.
             let apart : p ≢ q = omega arith in
-            left.same q (omega arith) ∙ ap (of_place q) cut.parts ∙ filter-append (λ c. c.place == q) front later ∙ ap (λ (ds : List Custom). ds ++ of_place q later) (of_other p q front apart cut.here);
+            left.same q (omega arith) ∙ ap (of_place q) cut.parts ∙ filter-append (λ c. c.place == q) front later
+            ∙ ap (λ (ds : List Custom). ds ++ of_place q later) (of_other p q front apart cut.here);
         order = cut.above;
         names = named_later front later (subst AreNamed cut.parts left.names);
         settled = settled_later passes front later settled;
@@ -133,11 +142,13 @@ module _ (passes : ℕ → Bool) (all : List Custom) where
   left_here : (p : ℕ) (cs front later : List Custom) → IsCut p cs front later → AreLeft passes all p cs → of_place p all ≡ front
   left_here p cs front later cut left =
       left.same p (omega arith) ∙ ap (of_place p) cut.parts ∙ filter-append (λ c. c.place == p) front later
-      ∙ ap (λ (ds : List Custom). ds ++ of_place p later) (of_same p front cut.here) ∙ ap (λ (ds : List Custom). front ++ ds) (of_above p (suc p) later (omega arith) cut.above)
+      ∙ ap (λ (ds : List Custom). ds ++ of_place p later) (of_same p front cut.here)
+      ∙ ap (λ (ds : List Custom). front ++ ds) (of_above p (suc p) later (omega arith) cut.above)
       ∙ append-nil front
 
   module _ (section : ℕ → List Frame) (each : (p : ℕ) → IsSectionAt passes p (section p)) where
-    pub customs_spelled : (count p place : ℕ) (cs : List Custom) → p + count ≡ 12 → (p ≡ 0 → place ≡ 0) → AreLeft passes all p cs → AreSmall (flat_map (frames_at section all) (up_from p count))
+    pub customs_spelled : (count p place : ℕ) (cs : List Custom) → p + count ≡ 12 → (p ≡ 0 → place ≡ 0) → AreLeft passes all p cs
+        → AreSmall (flat_map (frames_at section all) (up_from p count))
         → SpellsCustoms place (flat_map (frames_at section all) (up_from p count)) cs
     customs_spelled zero p place [] fits first left small = refl
     customs_spelled zero p place (c ∷ cs) fits first left small = absurd (omega (arith, left.order.0, left.order.1))
@@ -153,8 +164,10 @@ module _ (passes : ℕ → Bool) (all : List Custom) where
         append_assoc (section p) (customs_frames p all) rest ∙ ap (λ (fs : List Frame). section p ++ (fs ++ rest)) here in
         let after : AreSmall (map custom_frame front ++ rest) = small_later (section p) _ (subst AreSmall split small) in
         let small_here : AreSmall (map custom_frame front) = small_front (map custom_frame front) rest after in
-        let more = λ (next : ℕ). customs_spelled count (suc p) next later (omega arith) (λ is. absurd (omega arith)) (left_later p cs front later cut.2 left) (small_later (map custom_frame front) rest after) in
+        let more = λ (next : ℕ). customs_spelled count (suc p) next later (omega arith) (λ is. absurd (omega arith))
+        (left_later p cs front later cut.2 left) (small_later (map custom_frame front) rest after) in
         rw (cut.2.parts, split) (elim (each p) [
-          | inl s ↦ rw s.0 (customs_here place front later rest (none_but_first passes place p front s.1 first cut.2.here settled) named small_here (more place))
+          | inl s ↦ rw s.0 (customs_here place front later rest (none_but_first passes place p front s.1 first cut.2.here settled) named small_here
+              (more place))
           | inr s ↦ rw s.1 (inr (λ is. omega arith, p, inr (s.4, sym s.2), customs_here p front later rest cut.2.here named small_here (more p)))
         ])

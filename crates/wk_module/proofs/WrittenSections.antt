@@ -1,18 +1,21 @@
 -- The section of each id, in the frames of the written form.
-use Rattle.std.proofs.Common.{◌≡◌, ◌≢◌, ℕ, zero, suc, ◌+◌, ◌<◌, ◌≤◌, ◌==◌, Bool, true, false, not, if◌then◌else◌, Option, Some, None, ◌⊎◌, inl, inr, List, [], ◌∷◌, ◌++◌, map, refl, sym, subst, ◌∙◌, append-nil, append_assoc, arith}
+use Rattle.std.proofs.Common.{◌≡◌, ◌≢◌, ℕ, zero, suc, ◌+◌, ◌-◌, ◌<◌, ◌≤◌, ◌==◌, Bool, true, false, not, if◌then◌else◌, Option, Some, None, ◌⊎◌, inl, inr, List}
+use Rattle.std.proofs.Common.{[], ◌∷◌, ◌++◌, map, refl, sym, subst, ◌∙◌, append-nil, append_assoc, arith}
 use Rattle.std.specs.List.{filter, flat_map}
-use Rattle.std.proofs.lemmas.Bool.{cases_Bool, cases_eq, ne_eqb, eq-eqb}
+use Rattle.std.proofs.lemmas.Bool.{cases_Bool, cases_lt, cases_eq, ne_eqb, eq-eqb}
 use Rattle.wk_bytes.specs.Frames.{Frame}
 use Rattle.wk_bytes.specs.ListWords.{is_empty}
 use Rattle.wk_module.specs.declared.types.Custom.{Custom}
 use Rattle.wk_module.specs.declared.types.Parts.{Parts}
 use Rattle.wk_module.specs.Customs.{IsEmptyFrame}
-use Rattle.wk_module.specs.Sections.{SectionId, TypeSection, ImportSection, FunctionSection, TableSection, MemorySection, GlobalSection, ExportSection, StartSection, ElementSection, CodeSection, DataSection, number, of_number, ContentsOf, SectionLists, contents, omitted, is_full, is_some, SpellsContents, written_contents}
+use Rattle.wk_module.specs.Sections.{SectionId, TypeSection, ImportSection, FunctionSection, TableSection, MemorySection, GlobalSection, ExportSection}
+use Rattle.wk_module.specs.Sections.{StartSection, ElementSection, CodeSection, DataSection, number, of_number, ContentsOf, SectionLists, contents, omitted}
+use Rattle.wk_module.specs.Sections.{is_full, is_some, SpellsContents, written_contents}
 use Rattle.wk_module.specs.Shape.{lists_of, is_written, is_filled}
 use Rattle.wk_module.specs.Modules.{SpellsSection}
 use Rattle.wk_module.specs.Writing.{framed, section_by, section_of}
 use Rattle.wk_module.proofs.Laws.{SectionLaws}
-use Rattle.wk_module.specs.SectionLaws.{number_some, of_number-number}
+use Rattle.wk_module.specs.SectionLaws.{number_some, of_number-number, has_id}
 use Rattle.wk_module.proofs.WrittenFrames.{frames_bytes, custom_frame, customs_frames, up_from, IsSectionAt, frames_at}
 
 -- ---- ids
@@ -39,32 +42,15 @@ past_ids n = suc (suc (suc (suc (suc (suc (suc (suc (suc (suc (suc (suc n)))))))
 
 -- what holds of 0, of each section's id, and of all greater numbers, holds of every number
 pub every_id : (P : ℕ → Type 0) → P 0 → ((k : SectionId) → P (number k)) → ((n : ℕ) → P (past_ids n)) → (id : ℕ) → P id
-every_id P first section later zero = first
-every_id P first section later (suc zero) = section TypeSection
-every_id P first section later (suc (suc zero)) = section ImportSection
-every_id P first section later (suc (suc (suc zero))) = section FunctionSection
-every_id P first section later (suc (suc (suc (suc zero)))) = section TableSection
-every_id P first section later (suc (suc (suc (suc (suc zero))))) = section MemorySection
-every_id P first section later (suc (suc (suc (suc (suc (suc zero)))))) = section GlobalSection
-every_id P first section later (suc (suc (suc (suc (suc (suc (suc zero))))))) = section ExportSection
-every_id P first section later (suc (suc (suc (suc (suc (suc (suc (suc zero)))))))) = section StartSection
-every_id P first section later (suc (suc (suc (suc (suc (suc (suc (suc (suc zero))))))))) = section ElementSection
-every_id P first section later (suc (suc (suc (suc (suc (suc (suc (suc (suc (suc zero)))))))))) = section CodeSection
-every_id P first section later (suc (suc (suc (suc (suc (suc (suc (suc (suc (suc (suc zero))))))))))) = section DataSection
-every_id P first section later (suc (suc (suc (suc (suc (suc (suc (suc (suc (suc (suc (suc n)))))))))))) = later n
+every_id P first section later id =
+    elim (cases_lt id 12) [
+      | inl small ↦ elim (has_id id (omega arith)) [ inl none ↦ subst P (sym none.0) first | inr known ↦ subst P (sym known.1) (section known.0) ]
+      | inr large ↦ let past : past_ids (id - 12) ≡ id = omega arith in subst P past (later (id - 12))
+    ]
 
 pub filled_is : (m : Parts) (k : SectionId) → is_filled m (number k) ≡ is_written m k
 filled_is m TypeSection = refl
-filled_is m ImportSection = refl
-filled_is m FunctionSection = refl
-filled_is m TableSection = refl
-filled_is m MemorySection = refl
-filled_is m GlobalSection = refl
-filled_is m ExportSection = refl
-filled_is m StartSection = refl
-filled_is m ElementSection = refl
-filled_is m CodeSection = refl
-filled_is m DataSection = refl
+filled_is m k = refl
 
 -- ---- what is not full
 
@@ -113,9 +99,12 @@ bytes_by l (Some k) =
 pub section_bytes : (m : Parts) (id : ℕ) → frames_bytes (section_frames m id) ≡ section_of m id
 section_bytes m id = bytes_by (lists_of m) (of_number id)
 
-module _ (m : Parts) (sections : SectionLaws m.profile) (spelled : (k : SectionId) → is_written m k ≡ true → SpellsContents m.profile k (written_contents k (contents (lists_of m) k)) (contents (lists_of m) k)) where
+module _ (m : Parts) (sections : SectionLaws m.profile)
+    (spelled : (k : SectionId) → is_written m k ≡ true → SpellsContents m.profile k (written_contents k (contents (lists_of m) k))
+    (contents (lists_of m) k)) where
   full_frame : (k : SectionId) → is_written m k ≡ true → ¬ IsEmptyFrame (section_frame k (contents (lists_of m) k))
-  full_frame k full empty = (sections k).full (written_contents k (contents (lists_of m) k)) (contents (lists_of m) k) (spelled k full) full empty.vector empty.none
+  full_frame k full empty = (sections k).full (written_contents k (contents (lists_of m) k)) (contents (lists_of m) k)
+      (spelled k full) full empty.vector empty.none
 
   abbrev IsRight : ℕ → Type 0
   IsRight id = IsSectionAt (is_filled m) id (section_frames m id)
@@ -161,7 +150,8 @@ module _ {A : Type 0} (Spells : List ℕ → A → Type 0) (id : ℕ) where
   section_none [] x y none same = same
   section_none (f ∷ fs) x y none same = rw (ne_eqb f.id id none.0) (section_none fs x y none.1 same)
 
-  section_takes : (f : Frame) (fs : List Frame) (x y : A) → f.id ≡ id → Spells f.contents y → SpellsSection id Spells y fs y → SpellsSection id Spells x (f ∷ fs) y
+  section_takes : (f : Frame) (fs : List Frame) (x y : A) → f.id ≡ id → Spells f.contents y → SpellsSection id Spells y fs y
+      → SpellsSection id Spells x (f ∷ fs) y
   section_takes f fs x y is spelled more = rw (eq-eqb f.id id is) (y, spelled, more)
 
   section_there : (fs later : List Frame) (x y : A) → HasNone id later → IsSpelledBy Spells id x y fs → SpellsSection id Spells x (fs ++ later) y
@@ -180,24 +170,30 @@ module _ (section : ℕ → List Frame) (passes : ℕ → Bool) (customs : List 
   no_frames : (id count p : ℕ) → 0 < id → id < p → HasNone id (flat_map (frames_at section customs) (up_from p count))
   no_frames id zero p some before = tt
   no_frames id (suc count) p some before =
-      none_joined id (frames_at section customs p) (flat_map (frames_at section customs) (up_from (suc p) count)) (no_frames_at id p some (omega arith)) (no_frames id count (suc p) some (omega arith))
+      none_joined id (frames_at section customs p) (flat_map (frames_at section customs) (up_from (suc p) count)) (no_frames_at id p some (omega arith))
+      (no_frames id count (suc p) some (omega arith))
 
   -- the section of one of these ids is spelled by the frames of them all
-  pub section_among : {A : Type 0} (Spells : List ℕ → A → Type 0) (id : ℕ) (x y : A) → 0 < id → IsSpelledBy Spells id x y (section id) → (count p : ℕ) → p ≤ id → id < p + count
+  pub section_among : {A : Type 0} (Spells : List ℕ → A → Type 0) (id : ℕ) (x y : A) → 0 < id → IsSpelledBy Spells id x y (section id) → (count p : ℕ)
+      → p ≤ id → id < p + count
       → SpellsSection id Spells x (flat_map (frames_at section customs) (up_from p count)) y
   section_among Spells id x y some here zero p le lt = absurd (omega arith)
   section_among Spells id x y some here (suc count) p le lt =
       let after = flat_map (frames_at section customs) (up_from (suc p) count) in
       elim (cases_eq p id) [
         | inl is ↦
-            let none = none_joined id (customs_frames p customs) after (no_customs id (filter (λ c. c.place == p) customs) some) (no_frames id count (suc p) some (omega arith)) in
+            let none = none_joined id (customs_frames p customs) after (no_customs id (filter (λ c. c.place == p) customs) some)
+            (no_frames id count (suc p) some (omega arith)) in
             let there : IsSpelledBy Spells id x y (section p) = subst (λ (q : ℕ). IsSpelledBy Spells id x y (section q)) (sym is) here in
-            rw (append_assoc (section p) (customs_frames p customs) after) (section_there Spells id (section p) (customs_frames p customs ++ after) x y none there)
-        | inr other ↦ section_skips Spells id (frames_at section customs p) after x y (no_frames_at id p some other) (section_among Spells id x y some here count (suc p) (omega arith) (omega arith))
+            rw (append_assoc (section p) (customs_frames p customs) after)
+            (section_there Spells id (section p) (customs_frames p customs ++ after) x y none there)
+        | inr other ↦ section_skips Spells id (frames_at section customs p) after x y (no_frames_at id p some other)
+            (section_among Spells id x y some here count (suc p) (omega arith) (omega arith))
       ]
 
 -- what stands at the id of each section
-pub spelled_at : (m : Parts) → ((k : SectionId) → is_written m k ≡ true → SpellsContents m.profile k (written_contents k (contents (lists_of m) k)) (contents (lists_of m) k))
+pub spelled_at : (m : Parts)
+    → ((k : SectionId) → is_written m k ≡ true → SpellsContents m.profile k (written_contents k (contents (lists_of m) k)) (contents (lists_of m) k))
     → (k : SectionId) → IsSpelledBy (SpellsContents m.profile k) (number k) (omitted k) (contents (lists_of m) k) (section_frames m (number k))
 spelled_at m spelled k =
     rw (of_number-number k) (elim (cases_Bool (is_written m k)) [

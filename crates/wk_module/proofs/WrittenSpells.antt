@@ -1,5 +1,6 @@
 -- The written form of a module spells it.
-use Rattle.std.proofs.Common.{◌≡◌, ℕ, zero, suc, ◌+◌, ◌^◌, ◌<◌, ◌≤◌, true, inl, inr, List, [], ◌∷◌, ◌++◌, length, refl, sym, ap, subst, ◌∙◌, length-append, arith}
+use Rattle.std.proofs.Common.{◌≡◌, ℕ, zero, suc, ◌+◌, ◌^◌, ◌<◌, ◌≤◌, true, inl, inr, List, [], ◌∷◌, ◌++◌, length, refl, sym, ap, subst, ◌∙◌, length-append}
+use Rattle.std.proofs.Common.{arith}
 use Rattle.std.specs.List.{flat_map}
 use Rattle.std.proofs.lemmas.Bool.{cases_eq}
 use Rattle.std.proofs.lemmas.Grind.{flat_map-append}
@@ -43,7 +44,8 @@ piece_within f q (suc count) p le lt =
       | inr other ↦ omega (arith, piece_within f q count (suc p) (omega arith) (omega arith))
     ]
 
-short_contents : (m : Parts) (k : SectionId) → is_written m k ≡ true → length (flat_map (section_and_customs m) ids) < 2 ^ 32 → length (written_contents k (contents (lists_of m) k)) < 2 ^ 32
+short_contents : (m : Parts) (k : SectionId) → is_written m k ≡ true → length (flat_map (section_and_customs m) ids) < 2 ^ 32
+    → length (written_contents k (contents (lists_of m) k)) < 2 ^ 32
 short_contents m k full fits =
     let bytes = written_contents k (contents (lists_of m) k) in
     let is : section_of m (number k) ≡ framed (number k) bytes = rw (of_number-number k, full) refl in
@@ -57,18 +59,27 @@ unfolding encoded
 spells_itself m sections shaped fits =
     let bytes : frames_bytes (written_frames m ids) ≡ flat_map (section_and_customs m) ids = written_bytes m ids in
     let parts : encoded m ≡ (magic ++ version) ++ frames_bytes (written_frames m ids) = ap (λ (b : List ℕ). (magic ++ version) ++ b) (sym bytes) in
-    let small : length (frames_bytes (written_frames m ids)) < 2 ^ 32 = omega (arith, fits, ap length parts, length-append (magic ++ version) (frames_bytes (written_frames m ids))) in
+    let small : length (frames_bytes (written_frames m ids)) < 2 ^ 32 =
+    omega (arith, fits, ap length parts, length-append (magic ++ version) (frames_bytes (written_frames m ids))) in
     let all_small = small_all (written_frames m ids) small in
     let spelled : (k : SectionId) → is_written m k ≡ true → SpellsContents m.profile k (written_contents k (contents (lists_of m) k)) (contents (lists_of m) k)
     = λ k full. (sections k).spells (contents (lists_of m) k) full (shaped.formed.valid k) (short_contents m k full (omega (arith, ap length bytes))) in
     let each = section_is m sections spelled in
     let rising = frames_rise (section_frames m) (is_filled m) m.customs each 12 0 0 (omega arith) (omega arith) in
     let settled = parts_settled (is_filled m) m.customs (ap (λ (n : Parts). n.customs) shaped.settled) in
-    let left : AreLeft (is_filled m) m.customs 0 m.customs = record { same = λ q above. refl; order = shaped.formed.order; names = shaped.formed.names; settled = settled } in
+    let left : AreLeft (is_filled m) m.customs 0 m.customs =
+    record { same = λ q above. refl; order = shaped.formed.order; names = shaped.formed.names; settled = settled } in
     record {
       frames = written_frames m ids;
-      framing = record { fits = fits; frames = frames_bytes (written_frames m ids); parts = parts; spelled = frames_spelled 0 (written_frames m ids) rising all_small };
-      sections = λ k. section_among (section_frames m) (is_filled m) m.customs each (SpellsContents m.profile k) (number k) (omitted k) (contents (lists_of m) k) (number_some k) (spelled_at m spelled k) 12 0 (omega arith) (number_most k);
+      framing = record {
+        fits = fits;
+        frames = frames_bytes (written_frames m ids);
+        parts = parts;
+        spelled =
+            frames_spelled 0 (written_frames m ids) rising all_small;
+      };
+      sections = λ k. section_among (section_frames m) (is_filled m) m.customs each (SpellsContents m.profile k) (number k) (omitted k)
+          (contents (lists_of m) k) (number_some k) (spelled_at m spelled k) 12 0 (omega arith) (number_most k);
       customs = customs_spelled (is_filled m) m.customs (section_frames m) each 12 0 0 m.customs refl (λ is. refl) left all_small;
     }
 

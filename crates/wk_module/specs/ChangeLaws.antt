@@ -1,5 +1,6 @@
 -- What each change leaves: the module is formed as before, and without an export it is no longer.
-use Rattle.std.proofs.Common.{◌≡◌, ℕ, zero, suc, ◌+◌, ◌^◌, ◌<◌, ◌≤◌, Bool, true, false, if◌then◌else◌, Option, Some, None, List, [], ◌∷◌, ◌++◌, length, map, take, drop, refl, sym, ap, subst, arith, length-append}
+use Rattle.std.proofs.Common.{◌≡◌, ℕ, zero, suc, ◌+◌, ◌^◌, ◌<◌, ◌≤◌, Bool, true, false, if◌then◌else◌, Option, Some, None, List, [], ◌∷◌, ◌++◌, length, map}
+use Rattle.std.proofs.Common.{take, drop, refl, sym, ap, subst, arith, length-append}
 use Rattle.std.specs.Prelude.{option_map}
 use Rattle.std.specs.List.{AllByRecursion, flat_map}
 use Rattle.std.specs.Str.{bytes_eq}
@@ -16,7 +17,7 @@ use Rattle.wk_module.specs.declared.types.Export.{Export}
 use Rattle.wk_module.specs.declared.types.Parts.{Parts}
 use Rattle.wk_module.specs.Changes.{with_import, with_func, first_given, with_body, with_global, with_export, without_first}
 use Rattle.wk_module.specs.Items.{written_export, IsImport, IsInit, IsExport, IsCode}
-use Rattle.wk_module.specs.Sections.{SectionId, TypeSection, ImportSection, FunctionSection, TableSection, MemorySection, GlobalSection, ExportSection, StartSection, ElementSection, CodeSection, DataSection, contents, with_contents, AreItems}
+use Rattle.wk_module.specs.Sections.{SectionId, ImportSection, FunctionSection, GlobalSection, ExportSection, CodeSection, contents, with_contents, AreItems}
 use Rattle.wk_module.specs.Shape.{lists_of, IsFormed}
 use Rattle.wk_module.specs.ShapeLaws.{valid_with}
 use Rattle.wk_module.specs.Writing.{written_section, encoded}
@@ -42,7 +43,8 @@ import_formed i m room valid f = record {
 
 pub global_formed : (t : GlobalType) (e : Instrs) (m : Parts) → length m.globals + 1 < 2 ^ 32 → IsInit m.profile e → IsFormed m → IsFormed (with_global t e m)
 global_formed t e m room valid f = record {
-  valid = valid_with m.profile GlobalSection (m.globals ++ record { ty = t; init = e } ∷ []) (lists_of m) (items_push _ m.globals (record { ty = t; init = e }) room (f.valid GlobalSection) valid) f.valid;
+  valid = valid_with m.profile GlobalSection (m.globals ++ record { ty = t; init = e } ∷ []) (lists_of m)
+      (items_push _ m.globals (record { ty = t; init = e }) room (f.valid GlobalSection) valid) f.valid;
   order = f.order;
   names = f.names;
 }
@@ -59,7 +61,8 @@ export_formed e m room valid f = exports_formed (m.exports ++ e ∷ []) m (items
 
 -- ---- functions, whose types and codes stand in two sections
 
-pub funcs_formed : (fs : List Func) (m : Parts) → AreItems IsU32 (map (λ f. f.ty) fs) → AreItems (IsCode m.profile) (map (λ f. f.body) fs) → IsFormed m → IsFormed (record m { funcs = fs })
+pub funcs_formed : (fs : List Func) (m : Parts) → AreItems IsU32 (map (λ f. f.ty) fs) → AreItems (IsCode m.profile) (map (λ f. f.body) fs) → IsFormed m
+    → IsFormed (record m { funcs = fs })
 funcs_formed fs m types codes f =
     let bodies = map (λ (g : Func). g.body) fs in
     let indexes = map (λ (g : Func). g.ty) fs in
@@ -73,8 +76,10 @@ funcs_formed fs m types codes f =
 pub func_formed : (t : ℕ) (b : BodyOf) (m : Parts) → length m.funcs + 1 < 2 ^ 32 → IsU32 t → IsCode m.profile b → IsFormed m → IsFormed (with_func t b m)
 func_formed t b m room type_valid body_valid f =
     let func : Func = record { ty = t; body = b } in
-    let types = items_push IsU32 (map (λ (g : Func). g.ty) m.funcs) t (omega (arith, room, length-map m.funcs (λ (g : Func). g.ty))) (f.valid FunctionSection) type_valid in
-    let codes = items_push (IsCode m.profile) (map (λ (g : Func). g.body) m.funcs) b (omega (arith, room, length-map m.funcs (λ (g : Func). g.body))) (f.valid CodeSection) body_valid in
+    let types = items_push IsU32 (map (λ (g : Func). g.ty) m.funcs) t (omega (arith, room, length-map m.funcs (λ (g : Func). g.ty)))
+    (f.valid FunctionSection) type_valid in
+    let codes = items_push (IsCode m.profile) (map (λ (g : Func). g.body) m.funcs) b (omega (arith, room, length-map m.funcs (λ (g : Func). g.body)))
+    (f.valid CodeSection) body_valid in
     funcs_formed (m.funcs ++ func ∷ []) m
     (subst (AreItems IsU32) (sym (map_push (λ (g : Func). g.ty) m.funcs func)) types)
     (subst (AreItems (IsCode m.profile)) (sym (map_push (λ (g : Func). g.body) m.funcs func)) codes)
@@ -90,7 +95,8 @@ types_given zero b (f ∷ fs) = refl
 types_given (suc entry) b [] = refl
 types_given (suc entry) b (f ∷ fs) = ap (λ (ts : List ℕ). f.ty ∷ ts) (types_given entry b fs)
 
-all_given : (V : BodyOf → Type 0) (entry : ℕ) (b : BodyOf) (fs : List Func) → V b → AllByRecursion V (map (λ f. f.body) fs) → AllByRecursion V (map (λ f. f.body) (funcs_given entry b fs))
+all_given : (V : BodyOf → Type 0) (entry : ℕ) (b : BodyOf) (fs : List Func) → V b → AllByRecursion V (map (λ f. f.body) fs)
+    → AllByRecursion V (map (λ f. f.body) (funcs_given entry b fs))
 all_given V zero b [] valid all = tt
 all_given V zero b (f ∷ fs) valid all = (valid, all.1)
 all_given V (suc entry) b [] valid all = tt
@@ -102,8 +108,10 @@ body_formed entry b m valid f =
     let few = (f.valid FunctionSection).0 in
     let same = ap length (types_given entry b m.funcs) in
     funcs_formed given m
-    (subst (AreItems IsU32) (sym (types_given entry b m.funcs)) (f.valid FunctionSection))
-    (omega (arith, few, same, length-map given (λ (g : Func). g.ty), length-map given (λ (g : Func). g.body)), all_given (IsCode m.profile) entry b m.funcs valid (f.valid CodeSection).1)
+    (subst (AreItems IsU32) (sym (types_given entry b m.funcs)) (f.valid FunctionSection)) (
+      omega (arith, few, same, length-map given (λ (g : Func). g.ty), length-map given (λ (g : Func). g.body)),
+      all_given (IsCode m.profile) entry b m.funcs valid (f.valid CodeSection).1,
+    )
     f
 
 -- ---- an export less
@@ -118,17 +126,24 @@ less_more : (e : Export) (es rest : List Export) → IsLess es rest → IsLess (
 less_more e es rest less = record {
   valid = λ all. (all.0, less.valid all.1);
   items = omega (arith, less.items);
-  bytes = omega (arith, less.bytes, length-append (written_export e) (flat_map written_export rest), length-append (written_export e) (flat_map written_export es));
+  bytes = omega (
+    arith,
+    less.bytes,
+    length-append (written_export e) (flat_map written_export rest),
+    length-append (written_export e) (flat_map written_export es),
+  );
 }
 
 some_is : (x y : List Export) → Some x ≡ Some y → x ≡ y
 some_is x y e = cc
 
-less_mapped : (e : Export) (es rest : List Export) (o : Option (List Export)) → ((less : List Export) → o ≡ Some less → IsLess es less) → option_map (λ more. e ∷ more) o ≡ Some rest → IsLess (e ∷ es) rest
+less_mapped : (e : Export) (es rest : List Export) (o : Option (List Export)) → ((less : List Export) → o ≡ Some less → IsLess es less)
+    → option_map (λ more. e ∷ more) o ≡ Some rest → IsLess (e ∷ es) rest
 less_mapped e es rest None h is = absurd cc
 less_mapped e es rest (Some less) h is = subst (IsLess (e ∷ es)) (some_is (e ∷ less) rest is) (less_more e es less (h less refl))
 
-less_by : (e : Export) (es rest : List Export) (named : Bool) (o : Option (List Export)) → ((less : List Export) → o ≡ Some less → IsLess es less) → (if named then Some es else option_map (λ more. e ∷ more) o) ≡ Some rest → IsLess (e ∷ es) rest
+less_by : (e : Export) (es rest : List Export) (named : Bool) (o : Option (List Export)) → ((less : List Export) → o ≡ Some less → IsLess es less)
+    → (if named then Some es else option_map (λ more. e ∷ more) o) ≡ Some rest → IsLess (e ∷ es) rest
 less_by e es rest true o h is =
     subst (IsLess (e ∷ es)) (some_is es rest is)
     (record { valid = λ all. all.1; items = omega arith; bytes = omega (arith, length-append (written_export e) (flat_map written_export es)) })
@@ -138,7 +153,8 @@ is_less : (name : List ℕ) (es rest : List Export) → without_first name es �
 is_less name [] rest is = absurd cc
 is_less name (e ∷ es) rest is = less_by e es rest (bytes_eq e.name name) (without_first name es) (λ less found. is_less name es less found) is
 
-pub without_export_formed : (name : List ℕ) (rest : List Export) (m : Parts) → without_first name m.exports ≡ Some rest → IsFormed m → IsFormed (record m { exports = rest })
+pub without_export_formed : (name : List ℕ) (rest : List Export) (m : Parts) → without_first name m.exports ≡ Some rest → IsFormed m
+    → IsFormed (record m { exports = rest })
 without_export_formed name rest m is f =
     let less = is_less name m.exports rest is in
     let valid = f.valid ExportSection in
@@ -151,21 +167,20 @@ less_section (e ∷ es) (r ∷ rest) less =
     let more = e ∷ es in
     let fewer = r ∷ rest in
     framed_rises 7 7 (written_vector written_export fewer) (written_vector written_export more)
-    (omega (arith, less.bytes, short-rises (length fewer) (length more) less.items, length-append (short (length fewer)) (flat_map written_export fewer), length-append (short (length more)) (flat_map written_export more)))
+    (omega (
+      arith,
+      less.bytes,
+      short-rises (length fewer) (length more) less.items,
+      length-append (short (length fewer)) (flat_map written_export fewer),
+      length-append (short (length more)) (flat_map written_export more),
+    ))
 
-each_section : (m : Parts) (rest : List Export) → IsLess m.exports rest → (k : SectionId) → length (written_section k (contents (lists_of (record m { exports = rest })) k)) ≤ length (written_section k (contents (lists_of m) k))
-each_section m rest less TypeSection = omega arith
-each_section m rest less ImportSection = omega arith
-each_section m rest less FunctionSection = omega arith
-each_section m rest less TableSection = omega arith
-each_section m rest less MemorySection = omega arith
-each_section m rest less GlobalSection = omega arith
+each_section : (m : Parts) (rest : List Export) → IsLess m.exports rest → (k : SectionId)
+    → length (written_section k (contents (lists_of (record m { exports = rest })) k)) ≤ length (written_section k (contents (lists_of m) k))
 each_section m rest less ExportSection = less_section m.exports rest less
-each_section m rest less StartSection = omega arith
-each_section m rest less ElementSection = omega arith
-each_section m rest less CodeSection = omega arith
-each_section m rest less DataSection = omega arith
+each_section m rest less k = omega arith
 
-pub without_export_shorter : (name : List ℕ) (rest : List Export) (m : Parts) → without_first name m.exports ≡ Some rest → length (encoded (record m { exports = rest })) ≤ length (encoded m)
+pub without_export_shorter : (name : List ℕ) (rest : List Export) (m : Parts) → without_first name m.exports ≡ Some rest
+    → length (encoded (record m { exports = rest })) ≤ length (encoded m)
 without_export_shorter name rest m is =
     length-encoded_le (record m { exports = rest }) m refl (each_section m rest (is_less name m.exports rest is))

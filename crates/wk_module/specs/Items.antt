@@ -25,7 +25,8 @@ use Rattle.wk_module.specs.declared.types.Export.{Export}
 use Rattle.wk_module.specs.declared.types.Elem.{Elem}
 use Rattle.wk_module.specs.declared.types.DataSeg.{DataSeg}
 use Rattle.wk_module.specs.Formats.{Reader, SpellsBoth, both_at, SpellsKeyed, keyed_at, made_at, SpellsCoded, coded_at, SpellsBytes, bytes_at, written_bytes}
-use Rattle.wk_module.specs.Types.{SpellsLimits, limits_at, written_limits, AreLimits, SpellsTableType, tabletype_at, written_tabletype, SpellsGlobalType, globaltype_at, written_globaltype, kind_byte, kind_of}
+use Rattle.wk_module.specs.Types.{SpellsLimits, limits_at, written_limits, AreLimits, SpellsTableType, tabletype_at, written_tabletype, SpellsGlobalType}
+use Rattle.wk_module.specs.Types.{globaltype_at, written_globaltype, kind_byte, kind_of}
 
 -- ---- imports (5.5.5): the module's name, the name in it, and what is imported
 

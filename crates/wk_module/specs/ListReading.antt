@@ -61,7 +61,8 @@ pub record IsUnderway (lists : SectionLists) (left : List (Result Section ReadFa
 unfoldable pub front_read : Profile → SectionLists → List (Result Section ReadFault) → Result Front ReadFault
 front_read profile l [] = Ok (record { lists = l; code = None; behind = [] })
 front_read profile l (Err e ∷ items) = Err e
-front_read profile l (Ok s ∷ items) = if s.id == 10 then Ok (record { lists = l; code = Some s; behind = items }) else (with_listed profile l s >>= λ q. front_read profile q items)
+front_read profile l (Ok s ∷ items) = if s.id == 10 then Ok (record { lists = l; code = Some s; behind = items })
+    else (with_listed profile l s >>= λ q. front_read profile q items)
 
 -- where the codes begin, if the count is that of the functions
 unfoldable pub opened_at : ℕ → ℕ → List ℕ → Result (List ℕ) ReadFault
@@ -101,7 +102,8 @@ front_of r s = record { lists = r.lists; code = code_view s; behind = r.left }
 abbrev pub GoesTo : PartlyRead → PartlyRead → Option RawSection → Type 0
 GoesTo old new None = (new.profile ≡ old.profile) × (new.lists.codes ≡ old.lists.codes) × (new.left ≡ []) × (rest_read old ≡ Ok new.lists)
 GoesTo old new (Some s) =
-    (new.profile ≡ old.profile) × (new.lists.codes ≡ old.lists.codes) × (s.id ≡ 10) × (rest_read old ≡ lists_read new.profile new.lists (Ok (raw_view s) ∷ new.left))
+    (new.profile ≡ old.profile) × (new.lists.codes ≡ old.lists.codes) × (s.id ≡ 10)
+    × (rest_read old ≡ lists_read new.profile new.lists (Ok (raw_view s) ∷ new.left))
     × Rise 10 new.left
 
 -- ---- what that has to do with modules

@@ -15,7 +15,8 @@ types_stay kind from [] = refl
 types_stay kind from (f ∷ fs) = ap (λ (ts : List ℕ). f.ty ∷ ts) (types_stay kind from fs)
 
 -- the types of globals
-pub global_types_stay : (kind : Kind) (from : ℕ) (gs : List GlobalDef) → map (λ (g : GlobalDef). g.ty) (map (moved_global kind from) gs) ≡ map (λ (g : GlobalDef). g.ty) gs
+pub global_types_stay : (kind : Kind) (from : ℕ) (gs : List GlobalDef)
+    → map (λ (g : GlobalDef). g.ty) (map (moved_global kind from) gs) ≡ map (λ (g : GlobalDef). g.ty) gs
 global_types_stay kind from [] = refl
 global_types_stay kind from (g ∷ gs) = ap (λ (ts : List GlobalType). g.ty ∷ ts) (global_types_stay kind from gs)
 

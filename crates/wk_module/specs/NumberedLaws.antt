@@ -6,7 +6,9 @@ use Rattle.wk_body.specs.Shape.{IsU32}
 use Rattle.wk_module.specs.declared.types.Parts.{Parts}
 use Rattle.wk_module.specs.Listed.{AreNumbered, listed_with}
 use Rattle.wk_module.specs.SectionLaws.{same_or_other, contents-here, contents-elsewhere}
-use Rattle.wk_module.specs.Sections.{SectionId, TypeSection, ImportSection, FunctionSection, TableSection, MemorySection, GlobalSection, ExportSection, StartSection, ElementSection, CodeSection, DataSection, ContentsOf, SectionLists, contents, no_lists, with_contents, AreValid}
+use Rattle.wk_module.specs.Sections.{SectionId, TypeSection, ImportSection, FunctionSection, TableSection, MemorySection, GlobalSection, ExportSection}
+use Rattle.wk_module.specs.Sections.{StartSection, ElementSection, CodeSection, DataSection, ContentsOf, SectionLists, contents, no_lists, with_contents}
+use Rattle.wk_module.specs.Sections.{AreValid}
 use Rattle.wk_module.specs.Shape.{lists_of, IsFormed}
 
 -- the same of one section. Of the codes, which are no list that is lent, nothing is said.
@@ -74,16 +76,9 @@ numbered_with j x l here few =
 -- what is valid is numbered
 pub valid_numbered : (profile : Profile) (k : SectionId) (x : ContentsOf k) → AreValid profile k x → IsNumbered k x
 valid_numbered profile TypeSection x valid = valid
-valid_numbered profile ImportSection x valid = valid.0
-valid_numbered profile FunctionSection x valid = valid.0
-valid_numbered profile TableSection x valid = valid.0
-valid_numbered profile MemorySection x valid = valid.0
-valid_numbered profile GlobalSection x valid = valid.0
-valid_numbered profile ExportSection x valid = valid.0
 valid_numbered profile StartSection x valid = tt
-valid_numbered profile ElementSection x valid = valid.0
 valid_numbered profile CodeSection x valid = tt
-valid_numbered profile DataSection x valid = valid.0
+valid_numbered profile k x valid = valid.0
 
 -- the lists of a module
 pub module_numbered : (m : Parts) → IsFormed m → AreNumbered (lists_of m)

@@ -2,22 +2,15 @@
 use Rattle.std.proofs.Common.{◌≡◌, ◌≢◌, ◌<◌, ◌≤◌, ℕ, cond, eqb, ◌⊎◌, inl, inr, Option, Some, None, refl, sym, ap, ◌∙◌, arith}
 use Rattle.std.proofs.lemmas.Bool.{cases_Bool, eqb-true, eqb-false}
 use Rattle.wk_bytes.specs.LebLaws.{chosen, some_is}
-use Rattle.wk_module.specs.Sections.{SectionId, TypeSection, ImportSection, FunctionSection, TableSection, MemorySection, GlobalSection, ExportSection, StartSection, ElementSection, CodeSection, DataSection, number, of_number, ContentsOf, SectionLists, contents, omitted, no_lists, pick, with_contents}
+use Rattle.wk_module.specs.Sections.{SectionId, TypeSection, ImportSection, FunctionSection, TableSection, MemorySection, GlobalSection, ExportSection}
+use Rattle.wk_module.specs.Sections.{StartSection, ElementSection, CodeSection, DataSection, number, of_number, ContentsOf, SectionLists, contents, omitted}
+use Rattle.wk_module.specs.Sections.{no_lists, pick, with_contents}
 
 -- ---- ids and numbers
 
 pub of_number-number : (k : SectionId) → of_number (number k) ≡ Some k
 of_number-number TypeSection = refl
-of_number-number ImportSection = refl
-of_number-number FunctionSection = refl
-of_number-number TableSection = refl
-of_number-number MemorySection = refl
-of_number-number GlobalSection = refl
-of_number-number ExportSection = refl
-of_number-number StartSection = refl
-of_number-number ElementSection = refl
-of_number-number CodeSection = refl
-of_number-number DataSection = refl
+of_number-number k = refl
 
 pub of_number-none : (n : ℕ) → n ≡ 0 → of_number n ≡ None
 of_number-none n is = ap of_number is
@@ -26,7 +19,8 @@ pub of_number-is : (n : ℕ) (k : SectionId) → n ≡ number k → of_number n 
 of_number-is n k is = ap of_number is ∙ of_number-number k
 
 -- an id that stands first, or one of the others
-first_or : (n : ℕ) (j k : SectionId) (others : Option SectionId) → cond (eqb n (number j)) (Some j) others ≡ Some k → (others ≡ Some k → n ≡ number k) → n ≡ number k
+first_or : (n : ℕ) (j k : SectionId) (others : Option SectionId) → cond (eqb n (number j)) (Some j) others ≡ Some k → (others ≡ Some k → n ≡ number k)
+    → n ≡ number k
 first_or n j k others e h =
     elim (chosen (eqb n (number j)) (Some j) others (Some k) e) [
       | inl p ↦ eqb-true n (number j) p.0 ∙ ap number (some_is j k p.1)
@@ -97,81 +91,35 @@ same_or_other j k =
 
 pub number_some : (k : SectionId) → 0 < number k
 number_some TypeSection = omega arith
-number_some ImportSection = omega arith
-number_some FunctionSection = omega arith
-number_some TableSection = omega arith
-number_some MemorySection = omega arith
-number_some GlobalSection = omega arith
-number_some ExportSection = omega arith
-number_some StartSection = omega arith
-number_some ElementSection = omega arith
-number_some CodeSection = omega arith
-number_some DataSection = omega arith
+number_some k = omega arith
 
 pub number_most : (k : SectionId) → number k < 12
 number_most TypeSection = omega arith
-number_most ImportSection = omega arith
-number_most FunctionSection = omega arith
-number_most TableSection = omega arith
-number_most MemorySection = omega arith
-number_most GlobalSection = omega arith
-number_most ExportSection = omega arith
-number_most StartSection = omega arith
-number_most ElementSection = omega arith
-number_most CodeSection = omega arith
-number_most DataSection = omega arith
+number_most k = omega arith
 
 -- ---- what each holds
 
 pub pick_same : (k : SectionId) (x old : ContentsOf k) → pick k k x old ≡ x
 pick_same TypeSection x old = refl
-pick_same ImportSection x old = refl
-pick_same FunctionSection x old = refl
-pick_same TableSection x old = refl
-pick_same MemorySection x old = refl
-pick_same GlobalSection x old = refl
-pick_same ExportSection x old = refl
-pick_same StartSection x old = refl
-pick_same ElementSection x old = refl
-pick_same CodeSection x old = refl
-pick_same DataSection x old = refl
+pick_same k x old = refl
 
 pub pick_other : (k j : SectionId) (x : ContentsOf j) (old : ContentsOf k) → j ≢ k → pick k j x old ≡ old
 pick_other TypeSection TypeSection x old other = absurd (other refl)
-pick_other TypeSection _ x old other = refl
 pick_other ImportSection ImportSection x old other = absurd (other refl)
-pick_other ImportSection _ x old other = refl
 pick_other FunctionSection FunctionSection x old other = absurd (other refl)
-pick_other FunctionSection _ x old other = refl
 pick_other TableSection TableSection x old other = absurd (other refl)
-pick_other TableSection _ x old other = refl
 pick_other MemorySection MemorySection x old other = absurd (other refl)
-pick_other MemorySection _ x old other = refl
 pick_other GlobalSection GlobalSection x old other = absurd (other refl)
-pick_other GlobalSection _ x old other = refl
 pick_other ExportSection ExportSection x old other = absurd (other refl)
-pick_other ExportSection _ x old other = refl
 pick_other StartSection StartSection x old other = absurd (other refl)
-pick_other StartSection _ x old other = refl
 pick_other ElementSection ElementSection x old other = absurd (other refl)
-pick_other ElementSection _ x old other = refl
 pick_other CodeSection CodeSection x old other = absurd (other refl)
-pick_other CodeSection _ x old other = refl
 pick_other DataSection DataSection x old other = absurd (other refl)
-pick_other DataSection _ x old other = refl
+pick_other k j x old other = refl
 
 pub contents-with : (j k : SectionId) (x : ContentsOf j) (l : SectionLists) → contents (with_contents j x l) k ≡ pick k j x (contents l k)
 contents-with j TypeSection x l = refl
-contents-with j ImportSection x l = refl
-contents-with j FunctionSection x l = refl
-contents-with j TableSection x l = refl
-contents-with j MemorySection x l = refl
-contents-with j GlobalSection x l = refl
-contents-with j ExportSection x l = refl
-contents-with j StartSection x l = refl
-contents-with j ElementSection x l = refl
-contents-with j CodeSection x l = refl
-contents-with j DataSection x l = refl
+contents-with j k x l = refl
 
 pub contents-here : (k : SectionId) (x : ContentsOf k) (l : SectionLists) → contents (with_contents k x l) k ≡ x
 contents-here k x l = contents-with k k x l ∙ pick_same k x (contents l k)
@@ -181,41 +129,20 @@ contents-elsewhere j k x l other = contents-with j k x l ∙ pick_other k j x (c
 
 pub contents-none : (k : SectionId) → contents no_lists k ≡ omitted k
 contents-none TypeSection = refl
-contents-none ImportSection = refl
-contents-none FunctionSection = refl
-contents-none TableSection = refl
-contents-none MemorySection = refl
-contents-none GlobalSection = refl
-contents-none ExportSection = refl
-contents-none StartSection = refl
-contents-none ElementSection = refl
-contents-none CodeSection = refl
-contents-none DataSection = refl
+contents-none k = refl
 
 -- lists are the same where each section's are
 pub same_lists : (l n : SectionLists) → ((k : SectionId) → contents l k ≡ contents n k) → l ≡ n
-same_lists l n e =
-    let types : l.types ≡ n.types = e TypeSection in
-    let imports : l.imports ≡ n.imports = e ImportSection in
-    let funcs : l.funcs ≡ n.funcs = e FunctionSection in
-    let tables : l.tables ≡ n.tables = e TableSection in
-    let memories : l.memories ≡ n.memories = e MemorySection in
-    let globals : l.globals ≡ n.globals = e GlobalSection in
-    let exports : l.exports ≡ n.exports = e ExportSection in
-    let start : l.start ≡ n.start = e StartSection in
-    let elems : l.elems ≡ n.elems = e ElementSection in
-    let codes : l.codes ≡ n.codes = e CodeSection in
-    let datas : l.datas ≡ n.datas = e DataSection in
-    λ i. record {
-      types = types i;
-      imports = imports i;
-      funcs = funcs i;
-      tables = tables i;
-      memories = memories i;
-      globals = globals i;
-      exports = exports i;
-      start = start i;
-      elems = elems i;
-      codes = codes i;
-      datas = datas i;
-    }
+same_lists l n e = λ i. record {
+  types = e TypeSection i;
+  imports = e ImportSection i;
+  funcs = e FunctionSection i;
+  tables = e TableSection i;
+  memories = e MemorySection i;
+  globals = e GlobalSection i;
+  exports = e ExportSection i;
+  start = e StartSection i;
+  elems = e ElementSection i;
+  codes = e CodeSection i;
+  datas = e DataSection i;
+}

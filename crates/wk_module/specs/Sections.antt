@@ -18,8 +18,11 @@ use Rattle.wk_module.specs.declared.types.Export.{Export}
 use Rattle.wk_module.specs.declared.types.Elem.{Elem}
 use Rattle.wk_module.specs.declared.types.DataSeg.{DataSeg}
 use Rattle.wk_module.specs.Formats.{Reader, made_at}
-use Rattle.wk_module.specs.Types.{SpellsFuncType, functype_at, written_functype, SpellsLimits, limits_at, written_limits, AreLimits, SpellsTableType, tabletype_at, written_tabletype}
-use Rattle.wk_module.specs.Items.{SpellsImport, import_at, written_import, IsImport, SpellsGlobal, global_at, written_global, IsGlobal, SpellsExport, export_at, written_export, IsExport, SpellsElem, elem_at, written_elem, IsElem, SpellsCode, code_at, written_code, IsCode, SpellsData, data_at, written_data, IsData}
+use Rattle.wk_module.specs.Types.{SpellsFuncType, functype_at, written_functype, SpellsLimits, limits_at, written_limits, AreLimits, SpellsTableType}
+use Rattle.wk_module.specs.Types.{tabletype_at, written_tabletype}
+use Rattle.wk_module.specs.Items.{SpellsImport, import_at, written_import, IsImport, SpellsGlobal, global_at, written_global, IsGlobal, SpellsExport, export_at}
+use Rattle.wk_module.specs.Items.{written_export, IsExport, SpellsElem, elem_at, written_elem, IsElem, SpellsCode, code_at, written_code, IsCode, SpellsData}
+use Rattle.wk_module.specs.Items.{data_at, written_data, IsData}
 
 pub data SectionId : Type 0 where
   TypeSection : SectionId
@@ -122,7 +125,20 @@ omitted CodeSection = []
 omitted DataSection = []
 
 abbrev pub no_lists : SectionLists
-no_lists = record { types = []; imports = []; funcs = []; tables = []; memories = []; globals = []; exports = []; start = None; elems = []; codes = []; datas = [] }
+no_lists = record {
+  types = [];
+  imports = [];
+  funcs = [];
+  tables = [];
+  memories = [];
+  globals = [];
+  exports = [];
+  start = None;
+  elems = [];
+  codes =
+      [];
+  datas = [];
+}
 
 -- x where j is k, and else what k held before
 abbrev pub pick : (k j : SectionId) → ContentsOf j → ContentsOf k → ContentsOf k

@@ -4,7 +4,8 @@ use Rattle.std.specs.Str.{IsUtf8}
 use Rattle.wk_body.specs.declared.types.Profile.{Profile}
 use Rattle.wk_module.specs.declared.types.Parts.{Parts}
 use Rattle.wk_module.specs.declared.types.Custom.{Custom}
-use Rattle.wk_module.specs.Sections.{SectionId, TypeSection, ImportSection, FunctionSection, TableSection, MemorySection, GlobalSection, ExportSection, StartSection, ElementSection, CodeSection, DataSection, SectionLists, contents, is_full, AreValid}
+use Rattle.wk_module.specs.Sections.{SectionId, TypeSection, ImportSection, FunctionSection, TableSection, MemorySection, GlobalSection, ExportSection}
+use Rattle.wk_module.specs.Sections.{StartSection, ElementSection, CodeSection, DataSection, SectionLists, contents, is_full, AreValid}
 
 -- the contents of the sections of a module but its custom ones
 abbrev pub lists_of : Parts → SectionLists

@@ -1,5 +1,6 @@
 -- Laws of settling, and what keeps a module shaped.
-use Rattle.std.proofs.Common.{◌≡◌, ℕ, zero, suc, ◌^◌, ◌<◌, ◌≤◌, Bool, true, false, not, inl, inr, List, [], ◌∷◌, ◌++◌, length, map, drop, filter, refl, sym, ap, subst, ◌∙◌, arith}
+use Rattle.std.proofs.Common.{◌≡◌, ℕ, zero, suc, ◌^◌, ◌<◌, ◌≤◌, Bool, true, false, not, inl, inr, List, [], ◌∷◌, ◌++◌, length, map, drop, filter, refl, sym, ap}
+use Rattle.std.proofs.Common.{subst, ◌∙◌, arith}
 use Rattle.std.proofs.lemmas.Bool.{cases_Bool, cases_lt, cond-true, cond-false, cond_both}
 use Rattle.std.proofs.Common.{slice_index_or}
 use Rattle.std.specs.Str.{IsUtf8}
@@ -8,7 +9,7 @@ use Rattle.wk_module.specs.declared.types.Parts.{Parts}
 use Rattle.wk_module.specs.declared.types.Custom.{Custom}
 use Rattle.wk_module.specs.declared.types.FuncType.{FuncType}
 use Rattle.wk_body.specs.declared.types.Profile.{Profile}
-use Rattle.wk_module.specs.Sections.{SectionId, TypeSection, ImportSection, FunctionSection, TableSection, MemorySection, GlobalSection, ExportSection, StartSection, ElementSection, CodeSection, DataSection, ContentsOf, SectionLists, contents, omitted, with_contents, AreValid}
+use Rattle.wk_module.specs.Sections.{SectionId, TypeSection, StartSection, ContentsOf, SectionLists, contents, omitted, with_contents, AreValid}
 use Rattle.wk_module.specs.SectionLaws.{same_or_other, contents-here, contents-elsewhere, contents-none}
 use Rattle.wk_module.specs.Shape.{lists_of, lowered, settled_custom, settle, filled_ids, is_filled, IsInOrderFrom, AreNamed, IsFormed, IsShaped, nothing}
 
@@ -66,7 +67,8 @@ tails : {A : Type 0} (x y : A) (xs ys : List A) → x ∷ xs ≡ y ∷ ys → xs
 tails x y xs ys e = cc
 
 -- where more ids pass, customs that are settled still are
-pub settled_more : (passes more : ℕ → Bool) → ((id : ℕ) → passes id ≡ true → more id ≡ true) → (cs : List Custom) → map (settled_custom passes) cs ≡ cs → map (settled_custom more) cs ≡ cs
+pub settled_more : (passes more : ℕ → Bool) → ((id : ℕ) → passes id ≡ true → more id ≡ true) → (cs : List Custom) → map (settled_custom passes) cs ≡ cs
+    → map (settled_custom more) cs ≡ cs
 settled_more passes more h [] e = refl
 settled_more passes more h (c ∷ cs) e =
     let still = ap (λ (d : Custom). d.place) (heads (settled_custom passes c) c (map (settled_custom passes) cs) cs e) in
@@ -81,7 +83,8 @@ settled-settled passes (c ∷ cs) =
     ap (λ p. record c { place = p } ∷ map (settled_custom passes) (map (settled_custom passes) cs)) (lowered-lowered passes c.place)
     ∙ ap (λ (ds : List Custom). settled_custom passes c ∷ ds) (settled-settled passes cs)
 
-pub settled_in_order : (passes : ℕ → Bool) (least : ℕ) (cs : List Custom) → IsInOrderFrom least cs → IsInOrderFrom (lowered passes least) (map (settled_custom passes) cs)
+pub settled_in_order : (passes : ℕ → Bool) (least : ℕ) (cs : List Custom) → IsInOrderFrom least cs
+    → IsInOrderFrom (lowered passes least) (map (settled_custom passes) cs)
 settled_in_order passes least [] o = tt
 settled_in_order passes least (c ∷ cs) o =
     (lowered_rises passes least c.place o.0, omega (arith, o.1, lowered_le passes c.place), settled_in_order passes c.place cs o.2)
@@ -101,7 +104,8 @@ in_order_filter : (keep : Custom → Bool) (least : ℕ) (cs : List Custom) → 
 in_order_filter keep least [] o = tt
 in_order_filter keep least (c ∷ cs) o =
     let rest = in_order_filter keep c.place cs o.2 in
-    cond_both (keep c) (c ∷ filter keep cs) (filter keep cs) (IsInOrderFrom least) (λ t. (o.0, o.1, rest)) (λ f. in_order_lower c.place least (filter keep cs) o.0 rest)
+    cond_both (keep c) (c ∷ filter keep cs) (filter keep cs) (IsInOrderFrom least) (λ t. (o.0, o.1, rest))
+    (λ f. in_order_lower c.place least (filter keep cs) o.0 rest)
 
 named_filter : (keep : Custom → Bool) (cs : List Custom) → AreNamed cs → AreNamed (filter keep cs)
 named_filter keep [] n = tt
@@ -109,7 +113,8 @@ named_filter keep (c ∷ cs) n =
     let rest = named_filter keep cs n.1 in
     cond_both (keep c) (c ∷ filter keep cs) (filter keep cs) AreNamed (λ t. (n.0, rest)) (λ f. rest)
 
-settled_filter : (passes : ℕ → Bool) (keep : Custom → Bool) (cs : List Custom) → map (settled_custom passes) cs ≡ cs → map (settled_custom passes) (filter keep cs) ≡ filter keep cs
+settled_filter : (passes : ℕ → Bool) (keep : Custom → Bool) (cs : List Custom) → map (settled_custom passes) cs ≡ cs
+    → map (settled_custom passes) (filter keep cs) ≡ filter keep cs
 settled_filter passes keep [] e = refl
 settled_filter passes keep (c ∷ cs) e =
     let first = heads (settled_custom passes c) c (map (settled_custom passes) cs) cs e in
@@ -133,13 +138,15 @@ some_types : (t : FuncType) (ts : List FuncType) → not (is_empty (ts ++ t ∷ 
 some_types t [] = refl
 some_types t (x ∷ ts) = refl
 
-second_more : (a b : Bool) (rest : List Bool) (id : ℕ) → (a ≡ true → b ≡ true) → slice_index_or (false ∷ a ∷ rest) id false ≡ true → slice_index_or (false ∷ b ∷ rest) id false ≡ true
+second_more : (a b : Bool) (rest : List Bool) (id : ℕ) → (a ≡ true → b ≡ true) → slice_index_or (false ∷ a ∷ rest) id false ≡ true
+    → slice_index_or (false ∷ b ∷ rest) id false ≡ true
 second_more a b rest zero h t = t
 second_more a b rest (suc zero) h t = h t
 second_more a b rest (suc (suc id)) h t = t
 
 filled_type : (t : FuncType) (m : Parts) (id : ℕ) → is_filled m id ≡ true → is_filled (record m { types = m.types ++ t ∷ [] }) id ≡ true
-filled_type t m id filled = second_more (not (is_empty m.types)) (not (is_empty (m.types ++ t ∷ []))) (drop 2 (filled_ids m)) id (λ _. some_types t m.types) filled
+filled_type t m id filled = second_more (not (is_empty m.types)) (not (is_empty (m.types ++ t ∷ []))) (drop 2 (filled_ids m)) id
+    (λ _. some_types t m.types) filled
 
 -- ---- other contents of one section
 
@@ -147,10 +154,12 @@ filled_type t m id filled = second_more (not (is_empty m.types)) (not (is_empty 
 abbrev pub AreAllValid : Profile → SectionLists → Type 0
 AreAllValid profile l = (k : SectionId) → AreValid profile k (contents l k)
 
-pub valid_with : (profile : Profile) (j : SectionId) (x : ContentsOf j) (l : SectionLists) → AreValid profile j x → AreAllValid profile l → AreAllValid profile (with_contents j x l)
+pub valid_with : (profile : Profile) (j : SectionId) (x : ContentsOf j) (l : SectionLists) → AreValid profile j x → AreAllValid profile l
+    → AreAllValid profile (with_contents j x l)
 valid_with profile j x l here all k =
     elim (same_or_other j k) [
-      | inl same ↦ subst (λ (i : SectionId). AreValid profile i (contents (with_contents j x l) i)) same (subst (AreValid profile j) (sym (contents-here j x l)) here)
+      | inl same ↦ subst (λ (i : SectionId). AreValid profile i (contents (with_contents j x l) i)) same
+          (subst (AreValid profile j) (sym (contents-here j x l)) here)
       | inr other ↦ subst (AreValid profile k) (sym (contents-elsewhere j k x l other)) (all k)
     ]
 
@@ -161,16 +170,8 @@ types_formed ts m few f = record { valid = valid_with m.profile TypeSection ts (
 -- what a section holds that is left out is valid
 pub omitted_valid : (profile : Profile) (k : SectionId) → AreValid profile k (omitted k)
 omitted_valid profile TypeSection = omega arith
-omitted_valid profile ImportSection = (omega arith, tt)
-omitted_valid profile FunctionSection = (omega arith, tt)
-omitted_valid profile TableSection = (omega arith, tt)
-omitted_valid profile MemorySection = (omega arith, tt)
-omitted_valid profile GlobalSection = (omega arith, tt)
-omitted_valid profile ExportSection = (omega arith, tt)
 omitted_valid profile StartSection = tt
-omitted_valid profile ElementSection = (omega arith, tt)
-omitted_valid profile CodeSection = (omega arith, tt)
-omitted_valid profile DataSection = (omega arith, tt)
+omitted_valid profile k = (omega arith, tt)
 
 nothing_valid : (profile : Profile) (k : SectionId) → AreValid profile k (contents (lists_of (nothing profile)) k)
 nothing_valid profile k = subst (AreValid profile k) (sym (contents-none k)) (omitted_valid profile k)
@@ -216,7 +217,8 @@ filter_shaped keep m s =
 pub settle-type : (t : FuncType) (m : Parts) → settle m ≡ m → settle (record m { types = m.types ++ t ∷ [] }) ≡ record m { types = m.types ++ t ∷ [] }
 settle-type t m settled =
     let more : Parts = record m { types = m.types ++ t ∷ [] } in
-    ap (λ (cs : List Custom). record more { customs = cs }) (settled_more (is_filled m) (is_filled more) (filled_type t m) m.customs (ap (λ (n : Parts). n.customs) settled))
+    ap (λ (cs : List Custom). record more { customs = cs })
+    (settled_more (is_filled m) (is_filled more) (filled_type t m) m.customs (ap (λ (n : Parts). n.customs) settled))
 
 -- a module with one more custom of the greatest place is formed
 pub push_formed : (c : Custom) (m : Parts) → c.place ≡ 11 → IsUtf8 c.name → IsFormed m → IsFormed (record m { customs = m.customs ++ c ∷ [] })

@@ -1,5 +1,6 @@
 -- Laws of the written form: its parts have bytes, how long it is, and by which parts.
-use Rattle.std.proofs.Common.{◌≡◌, ◌≢◌, ℕ, zero, suc, ◌+◌, ◌/◌, ◌^◌, ◌<◌, ◌≤◌, ◌==◌, Bool, true, false, inl, inr, Option, Some, None, List, [], ◌∷◌, ◌++◌, length, map, get_or, filter, if◌then◌else◌, refl, sym, ap, ◌∙◌, arith, length-append}
+use Rattle.std.proofs.Common.{◌≡◌, ◌≢◌, ℕ, zero, suc, ◌+◌, ◌/◌, ◌^◌, ◌<◌, ◌≤◌, ◌==◌, Bool, true, false, inl, inr, Option, Some, None, List, [], ◌∷◌, ◌++◌}
+use Rattle.std.proofs.Common.{length, map, get_or, filter, if◌then◌else◌, refl, sym, ap, ◌∙◌, arith, length-append}
 use Rattle.std.proofs.lemmas.Bool.{cases_Bool, cases_eq, cases_lt, cond_both, eq-eqb, ne_eqb}
 use Rattle.std.proofs.lemmas.List.{append-nil, length-map}
 use Rattle.std.proofs.lemmas.List.Folds.{length-flat_map-take, flat_map-map}
@@ -26,12 +27,15 @@ use Rattle.wk_module.specs.Formats.{written_bytes}
 use Rattle.wk_module.specs.Types.{written_functype, written_tabletype, written_limits, kind_byte}
 use Rattle.wk_module.specs.Items.{written_import, written_desc, written_global, written_export, written_elem, written_code, written_data}
 use Rattle.wk_module.specs.Customs.{written_custom}
-use Rattle.wk_module.specs.Sections.{SectionId, TypeSection, ImportSection, FunctionSection, TableSection, MemorySection, GlobalSection, ExportSection, StartSection, ElementSection, CodeSection, DataSection, number, of_number, ContentsOf, SectionLists, contents, item_count, is_full, written_contents}
+use Rattle.wk_module.specs.Sections.{SectionId, TypeSection, ImportSection, FunctionSection, TableSection, MemorySection, GlobalSection, ExportSection}
+use Rattle.wk_module.specs.Sections.{StartSection, ElementSection, CodeSection, DataSection, number, of_number, ContentsOf, SectionLists, contents, item_count}
+use Rattle.wk_module.specs.Sections.{is_full, written_contents}
 use Rattle.wk_module.specs.SectionLaws.{number_most, of_number-number, number-of_number}
 use Rattle.wk_module.specs.Shape.{lists_of, is_filled, settled_custom, settle, IsInOrderFrom}
 use Rattle.wk_module.specs.ShapeLaws.{settled_in_order}
 use Rattle.wk_module.specs.Sizes.{framed_size, section_size, whole_size}
-use Rattle.wk_module.specs.Writing.{framed, list_contents, section_contents, written_section, section_by, contents_by, section_of, customs_at, section_and_customs, ids, encoded, Fits}
+use Rattle.wk_module.specs.Writing.{framed, list_contents, section_contents, written_section, section_by, contents_by, section_of, customs_at}
+use Rattle.wk_module.specs.Writing.{section_and_customs, ids, encoded, Fits}
 
 -- ---- no written form is empty
 
@@ -61,7 +65,8 @@ some_data d = omega (arith, length-append (short d.memory) (written_expr d.offse
 
 -- ---- lists end to end
 
-pub length-flat_map_le : {A : Type 0} (f g : A → List ℕ) → ((x : A) → length (f x) ≤ length (g x)) → (xs : List A) → length (flat_map f xs) ≤ length (flat_map g xs)
+pub length-flat_map_le : {A : Type 0} (f g : A → List ℕ) → ((x : A) → length (f x) ≤ length (g x)) → (xs : List A)
+    → length (flat_map f xs) ≤ length (flat_map g xs)
 length-flat_map_le f g le [] = omega arith
 length-flat_map_le f g le (x ∷ xs) = omega (arith, le x, length-flat_map_le f g le xs, length-append (f x) (flat_map f xs), length-append (g x) (flat_map g xs))
 
@@ -74,7 +79,14 @@ length_le_flat_map f some (x ∷ xs) = omega (arith, some x, length_le_flat_map 
 length-flat_map_both : {A : Type 0} (f g : A → List ℕ) (xs : List A) → length (flat_map (λ x. f x ++ g x) xs) ≡ length (flat_map f xs) + length (flat_map g xs)
 length-flat_map_both f g [] = omega arith
 length-flat_map_both f g (x ∷ xs) =
-    omega (arith, length-flat_map_both f g xs, length-append (f x) (flat_map f xs), length-append (g x) (flat_map g xs), length-append (f x) (g x), length-append (f x ++ g x) (flat_map (λ x. f x ++ g x) xs))
+    omega (
+      arith,
+      length-flat_map_both f g xs,
+      length-append (f x) (flat_map f xs),
+      length-append (g x) (flat_map g xs),
+      length-append (f x) (g x),
+      length-append (f x ++ g x) (flat_map (λ x. f x ++ g x) xs),
+    )
 
 length-flat_map_same : {A : Type 0} (f g : A → List ℕ) → ((x : A) → f x ≡ g x) → (xs : List A) → length (flat_map f xs) ≡ length (flat_map g xs)
 length-flat_map_same f g same [] = refl
@@ -129,7 +141,8 @@ pub framed_rises : (i j : ℕ) (a b : List ℕ) → length a ≤ length b → le
 framed_rises i j a b le = omega (arith, length-framed i a, length-framed j b, short-rises (length a) (length b) le)
 
 -- a section of no contents is left out
-left_out : (k : SectionId) (x : ContentsOf k) (full : Bool) → is_full k x ≡ full → length (if full then written_contents k x else []) ≡ 0 → (if full then framed (number k) (written_contents k x) else []) ≡ []
+left_out : (k : SectionId) (x : ContentsOf k) (full : Bool) → is_full k x ≡ full → length (if full then written_contents k x else []) ≡ 0
+    → (if full then framed (number k) (written_contents k x) else []) ≡ []
 left_out k x true is none = absurd (omega (arith, some_contents k x is, none))
 left_out k x false is none = refl
 
@@ -138,11 +151,13 @@ section_none l None none = refl
 section_none l (Some k) none = left_out k (contents l k) (is_full k (contents l k)) refl none
 
 -- any other is framed
-put_in : (k : SectionId) (x : ContentsOf k) (full : Bool) → 0 < length (if full then written_contents k x else []) → (if full then framed (number k) (written_contents k x) else []) ≡ framed (number k) (if full then written_contents k x else [])
+put_in : (k : SectionId) (x : ContentsOf k) (full : Bool) → 0 < length (if full then written_contents k x else [])
+    → (if full then framed (number k) (written_contents k x) else []) ≡ framed (number k) (if full then written_contents k x else [])
 put_in k x true some = refl
 put_in k x false some = absurd (omega arith)
 
-pub section_some : (l : SectionLists) (id : ℕ) (k : Option SectionId) → of_number id ≡ k → 0 < length (contents_by l k) → section_by l k ≡ framed id (contents_by l k)
+pub section_some : (l : SectionLists) (id : ℕ) (k : Option SectionId) → of_number id ≡ k → 0 < length (contents_by l k)
+    → section_by l k ≡ framed id (contents_by l k)
 section_some l id None is some = absurd (omega arith)
 section_some l id (Some k) is some =
     put_in k (contents l k) (is_full k (contents l k)) some ∙ ap (λ (n : ℕ). framed n (section_contents k (contents l k))) (sym (number-of_number id k is))
@@ -150,17 +165,8 @@ section_some l id (Some k) is some =
 -- the lists that are lent have the contents of the module's sections, but for the codes
 by_lent : (l : SectionLists) (k : Option SectionId) → (k ≡ Some CodeSection → ⊥) → contents_by (record l { codes = [] }) k ≡ contents_by l k
 by_lent l None other = refl
-by_lent l (Some TypeSection) other = refl
-by_lent l (Some ImportSection) other = refl
-by_lent l (Some FunctionSection) other = refl
-by_lent l (Some TableSection) other = refl
-by_lent l (Some MemorySection) other = refl
-by_lent l (Some GlobalSection) other = refl
-by_lent l (Some ExportSection) other = refl
-by_lent l (Some StartSection) other = refl
-by_lent l (Some ElementSection) other = refl
 by_lent l (Some CodeSection) other = absurd (other refl)
-by_lent l (Some DataSection) other = refl
+by_lent l (Some k) other = refl
 
 pub contents_by-lent : (l : SectionLists) (id : ℕ) → id ≢ 10 → contents_by (record l { codes = [] }) (of_number id) ≡ contents_by l (of_number id)
 contents_by-lent l id other = by_lent l (of_number id) (λ is. other (number-of_number id CodeSection is))
@@ -185,7 +191,8 @@ at_place_once : (place : ℕ) (piece : List ℕ) (n from : ℕ) → from ≤ pla
 at_place_once place piece zero from le lt = absurd (omega arith)
 at_place_once place piece (suc n) from le lt =
     elim (cases_eq place from) [
-      | inl same ↦ rw (eq-eqb place from same) (ap (λ (later : List ℕ). piece ++ later) (at_place_after place piece n (from + 1) (omega arith)) ∙ append-nil piece)
+      | inl same ↦ rw (eq-eqb place from same)
+          (ap (λ (later : List ℕ). piece ++ later) (at_place_after place piece n (from + 1) (omega arith)) ∙ append-nil piece)
       | inr other ↦ rw (ne_eqb place from other) (at_place_once place piece n (from + 1) (omega arith) (omega arith))
     ]
 
@@ -211,14 +218,18 @@ fewer_customs keep id [] = omega arith
 fewer_customs keep id (c ∷ cs) =
     let rest = fewer_customs keep id cs in
     let first = at_place c.place (written_frame c) id in
-    let with_c : length (customs_at id (c ∷ cs)) ≡ length first + length (customs_at id cs) = ap length (customs_at-cons c cs id) ∙ length-append first (customs_at id cs) in
-    let with_kept : length (customs_at id (c ∷ filter keep cs)) ≡ length first + length (customs_at id (filter keep cs)) = ap length (customs_at-cons c (filter keep cs) id) ∙ length-append first (customs_at id (filter keep cs)) in
-    cond_both (keep c) (c ∷ filter keep cs) (filter keep cs) (λ ds. length (customs_at id ds) ≤ length (customs_at id (c ∷ cs))) (λ t. omega (arith, rest, with_c, with_kept)) (λ f. omega (arith, rest, with_c))
+    let with_c : length (customs_at id (c ∷ cs)) ≡ length first + length (customs_at id cs) =
+    ap length (customs_at-cons c cs id) ∙ length-append first (customs_at id cs) in
+    let with_kept : length (customs_at id (c ∷ filter keep cs)) ≡ length first + length (customs_at id (filter keep cs)) =
+    ap length (customs_at-cons c (filter keep cs) id) ∙ length-append first (customs_at id (filter keep cs)) in
+    cond_both (keep c) (c ∷ filter keep cs) (filter keep cs) (λ ds. length (customs_at id ds) ≤ length (customs_at id (c ∷ cs)))
+    (λ t. omega (arith, rest, with_c, with_kept)) (λ f. omega (arith, rest, with_c))
 
 -- ---- modules
 
 -- The length of a written form: where the customs stand makes no difference.
-pub length-encoded : (m : Parts) → IsInOrderFrom 0 m.customs → length (encoded m) ≡ 8 + length (flat_map (section_of m) ids) + length (flat_map written_frame m.customs)
+pub length-encoded : (m : Parts) → IsInOrderFrom 0 m.customs
+    → length (encoded m) ≡ 8 + length (flat_map (section_of m) ids) + length (flat_map written_frame m.customs)
 unfolding encoded
 length-encoded m o =
     let both = length-flat_map_both (section_of m) (λ id. customs_at id m.customs) ids in
@@ -229,8 +240,19 @@ pub length-encoded_filter : (keep : Custom → Bool) (m : Parts) → length (enc
 unfolding encoded
 length-encoded_filter keep m =
     let fewer : Parts = record m { customs = filter keep m.customs } in
-    let le = length-flat_map_le (section_and_customs fewer) (section_and_customs m) (λ id. omega (arith, fewer_customs keep id m.customs, length-append (section_of m id) (customs_at id m.customs), length-append (section_of m id) (customs_at id (filter keep m.customs)))) ids in
-    omega (arith, le, length-append (magic ++ version) (flat_map (section_and_customs m) ids), length-append (magic ++ version) (flat_map (section_and_customs fewer) ids))
+    let le = length-flat_map_le (section_and_customs fewer) (section_and_customs m)
+    (λ id. omega (
+      arith,
+      fewer_customs keep id m.customs,
+      length-append (section_of m id) (customs_at id m.customs),
+      length-append (section_of m id) (customs_at id (filter keep m.customs)),
+    )) ids in
+    omega (
+      arith,
+      le,
+      length-append (magic ++ version) (flat_map (section_and_customs m) ids),
+      length-append (magic ++ version) (flat_map (section_and_customs fewer) ids),
+    )
 
 -- ---- each piece is no longer than the whole
 
@@ -250,7 +272,8 @@ section_within m k =
     let le = piece_le (section_and_customs m) ids id id (omega (arith, number_most k)) (id_is id (number_most k)) in
     omega (arith, here, le, length-append (section_of m id) (customs_at id m.customs), length-append (magic ++ version) (flat_map (section_and_customs m) ids))
 
-framed_within : (k : SectionId) (x : ContentsOf k) (full : Bool) → length (if full then written_contents k x else []) ≤ length (if full then framed (number k) (written_contents k x) else [])
+framed_within : (k : SectionId) (x : ContentsOf k) (full : Bool)
+    → length (if full then written_contents k x else []) ≤ length (if full then framed (number k) (written_contents k x) else [])
 framed_within k x true = omega (arith, length-framed (number k) (written_contents k x))
 framed_within k x false = omega arith
 
@@ -260,10 +283,12 @@ contents_within m None = omega arith
 contents_within m (Some k) = omega (arith, framed_within k (contents (lists_of m) k) (is_full k (contents (lists_of m) k)), section_within m k)
 
 -- of a custom section
-pub custom_within : (m : Parts) (i : ℕ) (c : Custom) → i < length m.customs → c ≡ get_or m.customs i c → IsInOrderFrom 0 m.customs → length (written_frame c) ≤ length (encoded m)
+pub custom_within : (m : Parts) (i : ℕ) (c : Custom) → i < length m.customs → c ≡ get_or m.customs i c → IsInOrderFrom 0 m.customs
+    → length (written_frame c) ≤ length (encoded m)
 custom_within m i c within is order = omega (arith, piece_le written_frame m.customs i c within is, length-encoded m order)
 
-code_le : (funcs : List Func) (i : ℕ) (f : Func) → i < length funcs → f ≡ get_or funcs i f → length (written_code f.body) ≤ length (section_contents CodeSection (map (λ g. g.body) funcs))
+code_le : (funcs : List Func) (i : ℕ) (f : Func) → i < length funcs → f ≡ get_or funcs i f
+    → length (written_code f.body) ≤ length (section_contents CodeSection (map (λ g. g.body) funcs))
 code_le [] i f within is = absurd (omega arith)
 code_le (g ∷ gs) i f within is =
     let bodies = map (λ (h : Func). h.body) (g ∷ gs) in
@@ -338,7 +363,8 @@ sections_sized m (i ∷ is) =
     ∙ sym (sum_by-cons section_size (contents_size m i) (map (contents_size m) is))
 
 -- The length of a written form is told by the lengths of its parts.
-pub length-encoded_sizes : (m : Parts) → IsInOrderFrom 0 m.customs → length (encoded m) ≡ whole_size (map (contents_size m) ids) (length (flat_map written_frame m.customs))
+pub length-encoded_sizes : (m : Parts) → IsInOrderFrom 0 m.customs
+    → length (encoded m) ≡ whole_size (map (contents_size m) ids) (length (flat_map written_frame m.customs))
 length-encoded_sizes m order =
     length-encoded m order ∙ ap (λ n. 8 + n + length (flat_map written_frame m.customs)) (sections_sized m ids)
 
@@ -354,14 +380,28 @@ length-encoded_settle m order =
 
 -- ---- modules of which one is no longer
 
-by_shorter : (l n : SectionLists) → ((k : SectionId) → length (written_section k (contents l k)) ≤ length (written_section k (contents n k))) → (k : Option SectionId) → length (section_by l k) ≤ length (section_by n k)
+by_shorter : (l n : SectionLists) → ((k : SectionId) → length (written_section k (contents l k)) ≤ length (written_section k (contents n k)))
+    → (k : Option SectionId) → length (section_by l k) ≤ length (section_by n k)
 by_shorter l n each None = omega arith
 by_shorter l n each (Some k) = each k
 
 -- where each section is
-pub length-encoded_le : (m n : Parts) → m.customs ≡ n.customs → ((k : SectionId) → length (written_section k (contents (lists_of m) k)) ≤ length (written_section k (contents (lists_of n) k)))
+pub length-encoded_le : (m n : Parts) → m.customs ≡ n.customs
+    → ((k : SectionId) → length (written_section k (contents (lists_of m) k)) ≤ length (written_section k (contents (lists_of n) k)))
     → length (encoded m) ≤ length (encoded n)
 unfolding encoded
 length-encoded_le m n same each =
-    let le = length-flat_map_le (section_and_customs m) (section_and_customs n) (λ id. omega (arith, by_shorter (lists_of m) (lists_of n) each (of_number id), ap (λ (cs : List Custom). length (customs_at id cs)) same, length-append (section_of m id) (customs_at id m.customs), length-append (section_of n id) (customs_at id n.customs))) ids in
-    omega (arith, le, length-append (magic ++ version) (flat_map (section_and_customs m) ids), length-append (magic ++ version) (flat_map (section_and_customs n) ids))
+    let le = length-flat_map_le (section_and_customs m) (section_and_customs n)
+    (λ id. omega (
+      arith,
+      by_shorter (lists_of m) (lists_of n) each (of_number id),
+      ap (λ (cs : List Custom). length (customs_at id cs)) same,
+      length-append (section_of m id) (customs_at id m.customs),
+      length-append (section_of n id) (customs_at id n.customs),
+    )) ids in
+    omega (
+      arith,
+      le,
+      length-append (magic ++ version) (flat_map (section_and_customs m) ids),
+      length-append (magic ++ version) (flat_map (section_and_customs n) ids),
+    )

@@ -40,7 +40,8 @@ pub(crate) fn codes_len(funcs: &[Func]) -> Option<u32>
 
 /// The same by the sizes of the bodies.
 pub(crate) fn codes_len_by(sizes: &[u32]) -> Option<u32>
-    ensures { (bodies : List BodyOf) → sizes.now ≡ map body_size bodies → result ≡ limited (length (section_contents CodeSection bodies)) }
+    ensures { (bodies : List BodyOf) → sizes.now ≡ map body_size bodies
+        → result ≡ limited (length (section_contents CodeSection bodies)) }
 {
     if sizes.is_empty() {
         return Some(0);
@@ -59,7 +60,8 @@ pub(crate) fn codes_len_by(sizes: &[u32]) -> Option<u32>
 /// `TooLarge` only where the code section has more than 2,147,483,647 bytes, and else `Memory` where a growth is refused.
 pub(crate) fn sizes_of_bodies(alloc: Global, funcs: &[Func]) -> Result<Vec<u32>, EncodeFault>
     ensures ok { IfOk result (λ sizes. sizes.items ≡ body_sizes funcs.now) }
-    ensures too_large { IfErr result (λ e. e ≡ TooLarge → limit < length (code_contents funcs.now)) }
+    ensures too_large { IfErr result
+        (λ e. e ≡ TooLarge → limit < length (code_contents funcs.now)) }
 {
     let mut sizes = Vec::with_capacity(alloc, funcs.len())?;
     for func in funcs {

@@ -119,7 +119,9 @@ pub(crate) fn contents_len_by(parts: &Parts, code_sizes: &[u32], id: u8) -> Opti
 /// How many bytes the written form has of a module with these lists, whose bodies have these sizes, each without the size that stands in
 /// front of it, and with these custom sections; or nothing past 2,147,483,647. It takes no memory.
 pub fn len_of_lists(lists: &Lists<'_>, code_sizes: &[u32], customs: &Items<Custom>) -> Option<u32>
-    ensures { (m : PartsOf) → AreListsOf (listed lists.now) code_sizes.now m → customs.now ≡ m.customs → IsInOrderFrom 0 m.customs → result ≡ limited (length (encoded m)) }
+    ensures { (m : PartsOf) → AreListsOf (listed lists.now) code_sizes.now m
+        → customs.now ≡ m.customs → IsInOrderFrom 0 m.customs
+        → result ≡ limited (length (encoded m)) }
 {
     let mut total = Some(HEADER_LEN);
     for id in 0..=section_id::LAST {
@@ -172,7 +174,8 @@ fn plus_size(total: Option<u32>, contents: usize) -> Option<u32>
 
 /// A length with a section whose contents are so long added, or nothing past the limit.
 fn plus_framed(total: Option<u32>, size: Option<u32>) -> Option<u32>
-    ensures { (id : ℕ) (contents : List ℕ) → size ≡ limited (length contents) → GrowsBy (length (framed id contents)) total result }
+    ensures { (id : ℕ) (contents : List ℕ) → size ≡ limited (length contents)
+        → GrowsBy (length (framed id contents)) total result }
 {
     let size = size?;
     plus_size(total, size as usize)
@@ -180,7 +183,8 @@ fn plus_framed(total: Option<u32>, size: Option<u32>) -> Option<u32>
 
 /// A length with the section of an id added whose contents are so long, which is left out where it has none.
 fn plus_contents(total: Option<u32>, size: Option<u32>, id: u8) -> Option<u32>
-    ensures { (l : SectionLists) → size ≡ limited (length (contents_by l (of_number id))) → GrowsBy (length (section_by l (of_number id))) total result }
+    ensures { (l : SectionLists) → size ≡ limited (length (contents_by l (of_number id)))
+        → GrowsBy (length (section_by l (of_number id))) total result }
 {
     if size == Some(0) {
         return total;
@@ -203,7 +207,8 @@ fn plus_section(total: Option<u32>, parts: &Parts, code: Option<u32>, id: u8) ->
 
 /// A length with the section of an id added, by lists that are lent and the sizes of bodies.
 fn plus_lent(total: Option<u32>, lists: &Lists<'_>, code_sizes: &[u32], id: u8) -> Option<u32>
-    ensures { (m : PartsOf) → AreListsOf (listed lists.now) code_sizes.now m → GrowsBy (length (section_of m id)) total result }
+    ensures { (m : PartsOf) → AreListsOf (listed lists.now) code_sizes.now m
+        → GrowsBy (length (section_of m id)) total result }
 {
     let size = if id == section_id::CODE {
         codes_len_by(code_sizes)
@@ -227,7 +232,8 @@ fn plus_sections(total: Option<u32>, parts: &Parts, code: Option<u32>) -> Option
 
 /// A length with the custom sections added.
 fn plus_customs(total: Option<u32>, customs: &Items<Custom>) -> Option<u32>
-    ensures { GrowsBy (length (flat_map (λ c. framed 0 (written_custom c)) customs.now)) total result }
+    ensures { GrowsBy (length (flat_map (λ c. framed 0 (written_custom c)) customs.now)) total
+        result }
 {
     let mut all = total;
     for custom in customs.as_slice() {

@@ -31,7 +31,8 @@ pub struct Measures {
 /// `TooLarge` where the written form has more than 2,147,483,647 bytes, and else `Memory` where a growth is refused.
 pub fn measure(alloc: Global, module: &Module) -> Result<Measures, EncodeFault>
     ensures { MatchResult result
-        (λ m. (m.bodies.items ≡ body_sizes «module».now.funcs) × (m.codes ≡ length (code_contents «module».now.funcs))
+        (λ m. (m.bodies.items ≡ body_sizes «module».now.funcs)
+        × (m.codes ≡ length (code_contents «module».now.funcs))
         × (m.whole ≡ length (encoded «module».now)) × Fits «module».now)
         (Unwritten (encoded «module».now)) }
 {
@@ -42,7 +43,8 @@ pub fn measure(alloc: Global, module: &Module) -> Result<Measures, EncodeFault>
 pub(crate) fn measure_parts(alloc: Global, parts: &Parts) -> Result<Measures, EncodeFault>
     requires { IsInOrderFrom 0 parts.now.customs }
     ensures { MatchResult result
-        (λ m. (m.bodies.items ≡ body_sizes parts.now.funcs) × (m.codes ≡ length (code_contents parts.now.funcs))
+        (λ m. (m.bodies.items ≡ body_sizes parts.now.funcs)
+        × (m.codes ≡ length (code_contents parts.now.funcs))
         × (m.whole ≡ length (encoded parts.now)) × Fits parts.now)
         (Unwritten (encoded parts.now)) }
 {

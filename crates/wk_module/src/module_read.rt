@@ -73,7 +73,8 @@ impl Model for PartialModule {
 // Reads a custom section that stands at a place.
 #[tactic(auto, unfolding(crate::specs::Customs::custom_at))]
 fn read_custom(alloc: Global, place: u8, section: &RawSection<'_>) -> Result<Custom, ReadFault>
-    ensures { Reads (λ c. c) result (custom_at place (section_end (raw_view section.now)) section.now.contents.now) }
+    ensures { Reads (λ c. c) result
+        (custom_at place (section_end (raw_view section.now)) section.now.contents.now) }
 {
     let mut cursor = section.cursor();
     let name = read_name(alloc, &mut cursor)?;
@@ -87,7 +88,9 @@ fn read_custom(alloc: Global, place: u8, section: &RawSection<'_>) -> Result<Cus
 // Reads the start section, which is one index.
 #[tactic(auto, unfolding(crate::specs::Formats::made_at))]
 fn read_start(profile: Profile, section: &RawSection<'_>) -> Result<Option<u32>, ReadFault>
-    ensures { Reads (λ x. x) result (all_at (contents_at profile 0 StartSection) (section_end (raw_view section.now)) section.now.contents.now) }
+    ensures { Reads (λ x. x) result
+        (all_at (contents_at profile 0 StartSection) (section_end (raw_view section.now))
+        section.now.contents.now) }
 {
     let mut cursor = section.cursor();
     let index = cursor.u32()?;
@@ -104,7 +107,9 @@ fn read_codes(
     funcs: usize,
     section: &RawSection<'_>,
 ) -> Result<Items<Body>, ReadFault>
-    ensures { Reads (λ x. x) result (all_at (contents_at profile funcs CodeSection) (section_end (raw_view section.now)) section.now.contents.now) }
+    ensures { Reads (λ x. x) result
+        (all_at (contents_at profile funcs CodeSection) (section_end (raw_view section.now))
+        section.now.contents.now) }
 {
     let mut codes = CodeReader::open(section, funcs)?;
     let mut bodies = Items::new(alloc);
@@ -147,7 +152,8 @@ impl PartialModule {
     ) -> Result<(), ReadFault>
         requires low { 1 ≤ section.now.id }
         requires high { section.now.id ≤ 5 }
-        ensures { Reads (λ u. self.new) result (with_section profile self.old (raw_view section.now)) }
+        ensures { Reads (λ u. self.new) result
+            (with_section profile self.old (raw_view section.now)) }
     {
         let full = match section.id {
             section_id::TYPE => {
@@ -186,7 +192,8 @@ impl PartialModule {
     ) -> Result<(), ReadFault>
         requires low { 6 ≤ section.now.id }
         requires high { section.now.id ≤ 11 }
-        ensures { Reads (λ u. self.new) result (with_section profile self.old (raw_view section.now)) }
+        ensures { Reads (λ u. self.new) result
+            (with_section profile self.old (raw_view section.now)) }
     {
         let full = match section.id {
             section_id::GLOBAL => {
@@ -228,7 +235,8 @@ impl PartialModule {
         profile: Profile,
         section: &RawSection<'_>,
     ) -> Result<(), ReadFault>
-        ensures { Reads (λ u. self.new) result (with_section profile self.old (raw_view section.now)) }
+        ensures { Reads (λ u. self.new) result
+            (with_section profile self.old (raw_view section.now)) }
     {
         match section.id {
             section_id::TYPE..=section_id::MEMORY => self.read_low_section(
@@ -361,7 +369,8 @@ pub fn read_in(alloc: Global, bytes: &[u8], profile: Profile) -> Result<Module, 
     ensures exact { Reads (λ m. m) result (module_at profile bytes.now) }
     ensures found { IfOk result (λ m. Spells bytes.now m) }
     ensures profile { IfOk result (λ m. m.profile ≡ profile) }
-    ensures only { IfOk result (λ m. (n : Lists) → n.profile ≡ profile → Spells bytes.now n → n ≡ m) }
+    ensures only { IfOk result
+        (λ m. (n : Lists) → n.profile ≡ profile → Spells bytes.now n → n ≡ m) }
     ensures fits { IfOk result (λ m. Fits m) }
     ensures refused { IfErr result (λ e. e.kind ≢ ReadKind.Memory → SpellsNone profile bytes.now) }
     ensures fault { IfErr result (λ e. StandsIn bytes.now e) }
@@ -377,9 +386,11 @@ pub fn read(alloc: Global, bytes: &[u8]) -> Result<Module, ReadFault>
     ensures exact { Reads (λ m. m) result (module_at Profile.Core bytes.now) }
     ensures found { IfOk result (λ m. Spells bytes.now m) }
     ensures profile { IfOk result (λ m. m.profile ≡ Profile.Core) }
-    ensures only { IfOk result (λ m. (n : Lists) → n.profile ≡ Profile.Core → Spells bytes.now n → n ≡ m) }
+    ensures only { IfOk result
+        (λ m. (n : Lists) → n.profile ≡ Profile.Core → Spells bytes.now n → n ≡ m) }
     ensures fits { IfOk result (λ m. Fits m) }
-    ensures refused { IfErr result (λ e. e.kind ≢ ReadKind.Memory → SpellsNone Profile.Core bytes.now) }
+    ensures refused { IfErr result
+        (λ e. e.kind ≢ ReadKind.Memory → SpellsNone Profile.Core bytes.now) }
     ensures fault { IfErr result (λ e. StandsIn bytes.now e) }
 {
     read_in(alloc, bytes, Profile::Core)

@@ -46,7 +46,8 @@ pub fn encode(alloc: Global, module: &Module) -> Result<Vec<u8>, EncodeFault>
     ensures memory { IfErr result (λ e. e ≡ Memory → Fits «module».now) }
     // Where the module fits, its written form spells it, and no other of its profile.
     ensures spells { Fits «module».now → Spells (encoded «module».now) «module».now }
-    ensures alone { (n : Seen) → Fits «module».now → n.profile ≡ («module».now).profile → Spells (encoded «module».now) n → n ≡ «module».now }
+    ensures alone { (n : Seen) → Fits «module».now → n.profile ≡ («module».now).profile
+        → Spells (encoded «module».now) n → n ≡ «module».now }
 {
     // The proof asks for what these two say of modules.
     written_form_of_module();
@@ -71,7 +72,8 @@ pub fn written_form_of_module()
 pub fn encode_section(alloc: Global, lists: &Lists<'_>, id: u8) -> Result<Vec<u8>, EncodeFault>
     requires { IsListId id }
     ensures { MatchResult result
-        (λ bytes. (bytes.items ≡ contents_by (listed lists.now) (of_number id)) × FewBytes bytes.items)
+        (λ bytes. (bytes.items ≡ contents_by (listed lists.now) (of_number id))
+        × FewBytes bytes.items)
         (Unwritten (contents_by (listed lists.now) (of_number id))) }
 {
     let Some(len) = lists.contents_len(id) else {
@@ -161,7 +163,8 @@ fn put_contents(
 ) -> Result<(), OutOfMemory>
     requires sizes { code_sizes.now ≡ body_sizes parts.now.funcs }
     requires fits { length (contents_by (lists_of parts.now) (of_number id)) ≤ limit }
-    ensures { OnOk result (bytes.new.items ≡ bytes.old.items ++ contents_by (lists_of parts.now) (of_number id)) }
+    ensures { OnOk result
+        (bytes.new.items ≡ bytes.old.items ++ contents_by (lists_of parts.now) (of_number id)) }
 {
     match id {
         section_id::FUNCTION => put_list::<FuncIndices>(parts.funcs.as_slice(), bytes),
@@ -212,7 +215,8 @@ fn put_custom(custom: &Custom, bytes: &mut Vec<u8>) -> Result<(), OutOfMemory>
 // Appends a custom section.
 fn put_custom_section(custom: &Custom, bytes: &mut Vec<u8>) -> Result<(), OutOfMemory>
     requires { length (framed 0 (written_custom custom.now)) ≤ limit }
-    ensures { OnOk result (bytes.new.items ≡ bytes.old.items ++ framed 0 (written_custom custom.now)) }
+    ensures { OnOk result
+        (bytes.new.items ≡ bytes.old.items ++ framed 0 (written_custom custom.now)) }
 {
     let Some(size) = custom_len(custom) else {
         unreachable!()

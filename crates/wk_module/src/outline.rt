@@ -59,7 +59,8 @@ pub(crate) trait Keep {
         code: &Cursor<'_>,
     ) -> Result<Self::Item, ReadFault>
         ensures { MatchResult result
-            (λ x. (b : BodyOf) × (all_body_at profile code.now.end code.now.rest ≡ Ok b) × (x ≡ kept b))
+            (λ x. (b : BodyOf) × (all_body_at profile code.now.end code.now.rest ≡ Ok b)
+            × (x ≡ kept b))
             (λ e. FailsAs e e.kind (all_body_at profile code.now.end code.now.rest)) };
 }
 
@@ -108,7 +109,9 @@ fn read_codes<K: Keep>(
     funcs: usize,
     section: &RawSection<'_>,
 ) -> Result<Vec<K::Item>, ReadFault>
-    ensures { Reads (λ x. x.items) result (all_at (codes_aside_at K.kept profile funcs) (section_end (raw_view section.now)) section.now.contents.now) }
+    ensures { Reads (λ x. x.items) result
+        (all_at (codes_aside_at K.kept profile funcs) (section_end (raw_view section.now))
+        section.now.contents.now) }
 {
     let mut codes = CodeReader::open(section, funcs)?;
     let mut kept = Vec::new(alloc);
@@ -133,7 +136,8 @@ fn read_section<K: Keep>(
     kept: &mut Vec<K::Item>,
 ) -> Result<(), ReadFault>
     ensures { (p : Progress) → partial so_far.old kept.old.items ≡ aside K.kept p
-        → Reads (λ u. partial so_far.new kept.new.items) result (read_aside K.kept (with_section profile p (raw_view section.now))) }
+        → Reads (λ u. partial so_far.new kept.new.items) result
+        (read_aside K.kept (with_section profile p (raw_view section.now))) }
 {
     if section.id != section_id::CODE {
         return so_far.read_section(alloc, scratch, profile, section);
@@ -170,7 +174,8 @@ fn read_sections<K: Keep>(
     bytes: &[u8],
     profile: Profile,
 ) -> Result<(PartialModule, Vec<K::Item>), ReadFault>
-    ensures { Reads (λ u. partial u.0 u.1.items) result (read_aside K.kept (sections_read profile at_start (sections_of bytes.now))) }
+    ensures { Reads (λ u. partial u.0 u.1.items) result
+        (read_aside K.kept (sections_read profile at_start (sections_of bytes.now))) }
 {
     let mut scratch = Scratch::new(alloc);
     let mut so_far = PartialModule::new(alloc, profile);
@@ -214,7 +219,8 @@ fn finish_outline(
     codes: usize,
     len: u32,
 ) -> Result<Parts, ReadFault>
-    ensures { (p : Progress) → so_far ≡ without_codes p → codes ≡ length p.lists.codes → Reads (λ d. d) result (read_outlined (joined profile len p)) }
+    ensures { (p : Progress) → so_far ≡ without_codes p → codes ≡ length p.lists.codes
+        → Reads (λ d. d) result (read_outlined (joined profile len p)) }
 {
     if so_far.indices.len() != codes {
         drop(so_far);
@@ -243,7 +249,8 @@ pub(crate) fn read_apart<K: Keep>(
     profile: Profile,
 ) -> Result<(Module, Vec<K::Item>), ReadFault>
     ensures exact { MatchResult result
-        (λ r. (m : PartsOf) × (module_at profile bytes.now ≡ Ok m) × (r.0 ≡ outlined m) × (r.1.items ≡ map (λ f. K.kept f.body) m.funcs))
+        (λ r. (m : PartsOf) × (module_at profile bytes.now ≡ Ok m) × (r.0 ≡ outlined m)
+        × (r.1.items ≡ map (λ f. K.kept f.body) m.funcs))
         (λ e. FailsAs e e.kind (module_at profile bytes.now)) }
     ensures refused { IfErr result (λ e. e.kind ≢ ReadKind.Memory → SpellsNone profile bytes.now) }
     ensures fault { IfErr result (λ e. StandsIn bytes.now e) }
@@ -266,7 +273,8 @@ pub(crate) fn read_apart<K: Keep>(
 /// `Memory` at 0.
 pub fn read_outline(alloc: Global, bytes: &[u8], profile: Profile) -> Result<Outline, ReadFault>
     ensures exact { MatchResult result
-        (λ o. (m : PartsOf) × (module_at profile bytes.now ≡ Ok m) × (o.«module» ≡ outlined m) × (o.codes.items ≡ map (λ f. written_body f.body) m.funcs))
+        (λ o. (m : PartsOf) × (module_at profile bytes.now ≡ Ok m) × (o.«module» ≡ outlined m)
+        × (o.codes.items ≡ map (λ f. written_body f.body) m.funcs))
         (λ e. FailsAs e e.kind (module_at profile bytes.now)) }
     ensures refused { IfErr result (λ e. e.kind ≢ ReadKind.Memory → SpellsNone profile bytes.now) }
     ensures fault { IfErr result (λ e. StandsIn bytes.now e) }

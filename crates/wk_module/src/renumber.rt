@@ -72,16 +72,21 @@ trait Movable: Drop {
 
     // What moves of it.
     fn movement(&self, kind: Kind, from: u32) -> Movement
-        ensures { result ≡ record { moves = moves kind from self.now; stuck = stuck kind from self.now } };
+        ensures { result
+            ≡ record { moves = moves kind from self.now; stuck = stuck kind from self.now } };
 
     // It, moved, in memory of its own.
     fn shift_item(&self, alloc: Global, kind: Kind, from: u32) -> Result<Self, ShiftFault>
-        ensures { MatchResult result (λ x. x ≡ moved kind from self.now) (λ e. MayRefuse e (stuck kind from self.now)) };
+        ensures { MatchResult result (λ x. x ≡ moved kind from self.now)
+            (λ e. MayRefuse e (stuck kind from self.now)) };
 }
 
 // What moves of an index that names something of a kind.
 fn index_movement(kind: Kind, from: u32, named: Kind, x: u32) -> Movement
-    ensures { result ≡ record { moves = is_index_moving kind from named x; stuck = is_index_stuck kind from named x } }
+    ensures { result ≡ record {
+      moves = is_index_moving kind from named x;
+      stuck = is_index_stuck kind from named x;
+    } }
 {
     if kind == named {
         Movement::of_index(from, x)
@@ -92,7 +97,8 @@ fn index_movement(kind: Kind, from: u32, named: Kind, x: u32) -> Movement
 
 // An index that names something of a kind, moved.
 fn shifted_index(kind: Kind, from: u32, named: Kind, x: u32) -> Result<u32, ShiftFault>
-    ensures { MatchResult result (λ y. y ≡ moved_index kind from named x) (λ e. (e ≡ Overflow) × (is_index_stuck kind from named x ≡ true)) }
+    ensures { MatchResult result (λ y. y ≡ moved_index kind from named x)
+        (λ e. (e ≡ Overflow) × (is_index_stuck kind from named x ≡ true)) }
 {
     if kind == named {
         shift_index(from, x)
@@ -103,7 +109,10 @@ fn shifted_index(kind: Kind, from: u32, named: Kind, x: u32) -> Result<u32, Shif
 
 // What moves of an initialiser or an offset.
 fn offset_movement(kind: Kind, from: u32, expr: &Expr) -> Movement
-    ensures { result ≡ record { moves = is_expr_moving kind from expr.now; stuck = is_expr_stuck kind from expr.now } }
+    ensures { result ≡ record {
+      moves = is_expr_moving kind from expr.now;
+      stuck = is_expr_stuck kind from expr.now;
+    } }
 {
     match kind {
         Kind::Global => expr_movement(expr, Moving::Global, from),
@@ -113,7 +122,8 @@ fn offset_movement(kind: Kind, from: u32, expr: &Expr) -> Movement
 
 // An initialiser or an offset, moved.
 fn shifted_offset(alloc: Global, kind: Kind, from: u32, expr: &Expr) -> Result<Expr, ShiftFault>
-    ensures { MatchResult result (λ e. e ≡ moved_expr kind from expr.now) (λ e. MayRefuse e (is_expr_stuck kind from expr.now)) }
+    ensures { MatchResult result (λ e. e ≡ moved_expr kind from expr.now)
+        (λ e. MayRefuse e (is_expr_stuck kind from expr.now)) }
 {
     match kind {
         Kind::Global => shift_expr(alloc, expr, from),
@@ -139,7 +149,8 @@ fn shifted_items<T: Movable>(
     kind: Kind,
     from: u32,
 ) -> Result<Items<T>, ShiftFault>
-    ensures { MatchResult result (λ v. v ≡ map (T.moved kind from) items.now) (λ e. MayRefuse e (list_any (T.stuck kind from) items.now)) }
+    ensures { MatchResult result (λ v. v ≡ map (T.moved kind from) items.now)
+        (λ e. MayRefuse e (list_any (T.stuck kind from) items.now)) }
 {
     let mut shifted = Vec::with_capacity(alloc, items.len())?;
     for item in items {
@@ -156,7 +167,8 @@ fn shifted_if<T: Movable>(
     kind: Kind,
     from: u32,
 ) -> Result<Option<Items<T>>, ShiftFault>
-    ensures { MatchResult result (λ v. v ≡ some_if moves (map (T.moved kind from) items.now)) (λ e. MayRefuse e (list_any (T.stuck kind from) items.now)) }
+    ensures { MatchResult result (λ v. v ≡ some_if moves (map (T.moved kind from) items.now))
+        (λ e. MayRefuse e (list_any (T.stuck kind from) items.now)) }
 {
     if !moves {
         return Ok(None);
@@ -267,7 +279,10 @@ impl Movable for DataSeg {
 
 // What moves of the start function.
 fn start_movement(start: Option<u32>, kind: Kind, from: u32) -> Movement
-    ensures { result ≡ record { moves = is_start_moving kind from start; stuck = is_start_stuck kind from start } }
+    ensures { result ≡ record {
+      moves = is_start_moving kind from start;
+      stuck = is_start_stuck kind from start;
+    } }
 {
     match start {
         Some(x) => index_movement(kind, from, Kind::Func, x),
@@ -277,7 +292,8 @@ fn start_movement(start: Option<u32>, kind: Kind, from: u32) -> Movement
 
 // The index of the start function, where it moves.
 fn shifted_start(start: Option<u32>, kind: Kind, from: u32) -> Result<Option<u32>, ShiftFault>
-    ensures { MatchResult result (λ v. v ≡ start_if_moving kind from start) (λ e. (e ≡ Overflow) × (is_start_stuck kind from start ≡ true)) }
+    ensures { MatchResult result (λ v. v ≡ start_if_moving kind from start)
+        (λ e. (e ≡ Overflow) × (is_start_stuck kind from start ≡ true)) }
 {
     match start {
         Some(x) if kind == Kind::Func && from <= x => Ok(Some(shift_index(from, x)?)),
@@ -316,7 +332,8 @@ fn shifted_lists(
     found: &Movements,
 ) -> Result<MovedLists, ShiftFault>
     requires { found.now ≡ lists_movements kind from parts.now }
-    ensures { MatchResult result (λ v. v ≡ moved_lists kind from parts.now) (λ e. MayRefuse e (are_lists_stuck kind from parts.now)) }
+    ensures { MatchResult result (λ v. v ≡ moved_lists kind from parts.now)
+        (λ e. MayRefuse e (are_lists_stuck kind from parts.now)) }
 {
     Ok(MovedLists {
         globals: shifted_if(
@@ -370,9 +387,14 @@ pub fn shift_lists(
 /// over the others, are those of the module whose references have moved; and a function whose code holds nothing that moves stays.
 /// It does nothing.
 pub fn moving_of_module()
-    ensures formed { (kind : KindOf) (from : ℕ) (m : PartsOf) → are_parts_stuck kind from m ≡ false → IsFormed m → IsFormed (moved_parts kind from m) }
-    ensures lists { (kind : KindOf) (from : ℕ) (m : PartsOf) → with_lists (moved_lists kind from m) m ≡ record (moved_parts kind from m) { funcs = m.funcs } }
-    ensures funcs { (kind : KindOf) (from : ℕ) (f : FuncOf) → is_code_moving kind from f.body.instrs ≡ false → (moved_func kind from f ≡ f) × (is_code_stuck kind from f.body.instrs ≡ false) }
+    ensures formed { (kind : KindOf) (from : ℕ) (m : PartsOf) → are_parts_stuck kind from m ≡ false
+        → IsFormed m → IsFormed (moved_parts kind from m) }
+    ensures lists { (kind : KindOf) (from : ℕ) (m : PartsOf)
+        → with_lists (moved_lists kind from m) m
+        ≡ record (moved_parts kind from m) { funcs = m.funcs } }
+    ensures funcs { (kind : KindOf) (from : ℕ) (f : FuncOf)
+        → is_code_moving kind from f.body.instrs ≡ false
+        → (moved_func kind from f ≡ f) × (is_code_stuck kind from f.body.instrs ≡ false) }
 {
     moving_of_code();
 }

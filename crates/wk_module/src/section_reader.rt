@@ -64,8 +64,10 @@ impl PartialModule {
         profile: Profile,
         section: &RawSection<'_>,
     ) -> Result<(), ReadFault>
-        ensures read { Reads (λ u. self.new.lists) result (with_listed profile self.old.lists (raw_view section.now)) }
-        ensures codes { section.now.id ≢ 10 → IfOk result (λ u. self.new.lists.codes ≡ self.old.lists.codes) }
+        ensures read { Reads (λ u. self.new.lists) result
+            (with_listed profile self.old.lists (raw_view section.now)) }
+        ensures codes { section.now.id ≢ 10
+            → IfOk result (λ u. self.new.lists.codes ≡ self.old.lists.codes) }
         ensures few { AreNumbered self.old.lists → IfOk result (λ u. AreNumbered self.new.lists) }
     {
         are_bytes(section.contents);
@@ -150,7 +152,8 @@ impl PartialModule {
 impl<'a> SectionReader<'a> {
     /// The sections of these bytes, of which none is read yet. It takes no memory.
     pub fn new(alloc: Global, bytes: &'a [u8], profile: Profile) -> SectionReader<'a>
-        ensures { result ≡ record { profile = profile; lists = no_lists; left = sections_of bytes.now } }
+        ensures { result
+            ≡ record { profile = profile; lists = no_lists; left = sections_of bytes.now } }
     {
         SectionReader {
             so_far: PartialModule::new(alloc, profile),
@@ -165,8 +168,10 @@ impl<'a> SectionReader<'a> {
         alloc: Global,
         scratch: &mut Scratch,
     ) -> Result<(SectionReader<'a>, Option<RawSection<'a>>), ReadFault>
-        ensures exact { Reads (λ r. front_of r.0 r.1) result (front_read self.entry.profile self.entry.lists self.entry.left) }
-        ensures goes { MatchResult result (λ r. GoesTo self.entry r.0 r.1) (λ e. FailsAs e e.kind (rest_read self.entry)) }
+        ensures exact { Reads (λ r. front_of r.0 r.1) result
+            (front_read self.entry.profile self.entry.lists self.entry.left) }
+        ensures goes { MatchResult result (λ r. GoesTo self.entry r.0 r.1)
+            (λ e. FailsAs e e.kind (rest_read self.entry)) }
     {
         let SectionReader {
             mut so_far,
@@ -223,11 +228,16 @@ impl<'a> SectionReader<'a> {
         alloc: Global,
         scratch: &mut Scratch,
     ) -> Result<(SectionReader<'a>, Option<RawSection<'a>>), ReadFault>
-        ensures exact { Reads (λ r. front_of r.0 r.1) result (front_read self.entry.profile self.entry.lists self.entry.left) }
-        ensures goes { MatchResult result (λ r. GoesTo self.entry r.0 r.1) (λ e. FailsAs e e.kind (rest_read self.entry)) }
+        ensures exact { Reads (λ r. front_of r.0 r.1) result
+            (front_read self.entry.profile self.entry.lists self.entry.left) }
+        ensures goes { MatchResult result (λ r. GoesTo self.entry r.0 r.1)
+            (λ e. FailsAs e e.kind (rest_read self.entry)) }
         ensures within { (input : List ℕ) → All (ItemStands input) self.entry.left
-            → IfOk result (λ r. All (ItemStands input) r.0.left × IfSome r.1 (λ s. LiesIn input (raw_view s))) }
-        ensures fault { (input : List ℕ) → All (ItemStands input) self.entry.left → IfErr result (λ e. StandsIn input e) }
+            → IfOk result
+            (λ r. All (ItemStands input) r.0.left
+            × IfSome r.1 (λ s. LiesIn input (raw_view s))) }
+        ensures fault { (input : List ℕ) → All (ItemStands input) self.entry.left
+            → IfErr result (λ e. StandsIn input e) }
     {
         // The proof asks for what these two say of expressions and bodies.
         reading_of_code();
@@ -252,7 +262,8 @@ impl<'a> SectionReader<'a> {
         ensures read { Reads (λ r. r.lists) result (rest_read self.entry) }
         ensures profile { IfOk result (λ r. r.profile ≡ self.entry.profile) }
         ensures left { IfOk result (λ r. r.left ≡ []) }
-        ensures fault { (input : List ℕ) → All (ItemStands input) self.entry.left → IfErr result (λ e. StandsIn input e) }
+        ensures fault { (input : List ℕ) → All (ItemStands input) self.entry.left
+            → IfErr result (λ e. StandsIn input e) }
     {
         // The proof asks for what these two say of expressions and bodies.
         reading_of_code();
@@ -340,12 +351,19 @@ impl<'a> CodeReader<'a> {
     /// contents, where it is another one.
     #[tactic(auto, unfolding(crate::specs::Sections::codes_at, crate::specs::ListReading::opened_at))]
     pub fn open(section: &RawSection<'a>, funcs: usize) -> Result<CodeReader<'a>, ReadFault>
-        ensures read { (profile : Profile) → MatchResult result
-            (λ r. codes_at profile funcs (section_end (raw_view section.now)) section.now.contents.now ≡ items_at (code_at profile) funcs r.end r.rest)
-            (λ e. FailsAs e e.kind (codes_at profile funcs (section_end (raw_view section.now)) section.now.contents.now)) }
+        ensures read { (profile : Profile)
+            → MatchResult result
+            (λ r. codes_at profile funcs (section_end (raw_view section.now))
+            section.now.contents.now
+            ≡ items_at (code_at profile) funcs r.end r.rest)
+            (λ e. FailsAs e e.kind
+            (codes_at profile funcs (section_end (raw_view section.now))
+            section.now.contents.now)) }
         ensures exact { MatchResult result
-            (λ r. opened_at funcs (section_end (raw_view section.now)) section.now.contents.now ≡ Ok r.rest)
-            (λ e. opened_at funcs (section_end (raw_view section.now)) section.now.contents.now ≡ Err e) }
+            (λ r. opened_at funcs (section_end (raw_view section.now)) section.now.contents.now
+            ≡ Ok r.rest)
+            (λ e. opened_at funcs (section_end (raw_view section.now)) section.now.contents.now
+            ≡ Err e) }
         ensures end { IfOk result (λ r. r.end ≡ section_end (raw_view section.now)) }
         ensures few { IfOk result (λ r. funcs < 2 ^ 32) }
         ensures stands { IfErr result (λ e. Stands (contents_of (raw_view section.now)) e) }
@@ -416,9 +434,9 @@ impl<'a> CodeReader<'a> {
     ///
     /// `SectionSize` at the first byte that is left over.
     pub fn end(&self) -> Result<(), ReadFault>
-        ensures exact { MatchResult result
-            (λ u. self.now.rest ≡ [])
-            (λ e. (e ≡ fault ReadKind.SectionSize self.now.end self.now.rest) × (self.now.rest ≢ [])) }
+        ensures exact { MatchResult result (λ u. self.now.rest ≡ [])
+            (λ e. (e ≡ fault ReadKind.SectionSize self.now.end self.now.rest)
+            × (self.now.rest ≢ [])) }
         ensures stands { IfErr result (λ e. Stands self.now e) }
     {
         at_end(&self.cursor)

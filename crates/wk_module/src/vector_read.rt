@@ -62,9 +62,9 @@ pub(crate) fn read_vector<F: Readable>(
 
 /// What was read took all of a section's contents.
 pub(crate) fn at_end(cursor: &Cursor<'_>) -> Result<(), ReadFault>
-    ensures { MatchResult result
-        (λ _. cursor.now.rest ≡ [])
-        (λ e. (e ≡ fault ReadKind.SectionSize cursor.now.end cursor.now.rest) × (cursor.now.rest ≢ [])) }
+    ensures { MatchResult result (λ _. cursor.now.rest ≡ [])
+        (λ e. (e ≡ fault ReadKind.SectionSize cursor.now.end cursor.now.rest)
+        × (cursor.now.rest ≢ [])) }
 {
     if !cursor.rest().is_empty() {
         return Err(cursor.fault(ReadKind::SectionSize));
@@ -79,7 +79,9 @@ pub(crate) fn read_contents<F: Readable>(
     profile: Profile,
     section: &RawSection<'_>,
 ) -> Result<Items<F::Item>, ReadFault>
-    ensures { Reads (λ x. x) result (all_at (vector_at (F.read_at profile)) (section_end (raw_view section.now)) section.now.contents.now) }
+    ensures { Reads (λ x. x) result
+        (all_at (vector_at (F.read_at profile)) (section_end (raw_view section.now))
+        section.now.contents.now) }
 {
     let mut cursor = section.cursor();
     let items = read_vector::<F>(alloc, scratch, profile, &mut cursor)?;

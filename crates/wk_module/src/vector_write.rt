@@ -54,7 +54,8 @@ pub(crate) fn plus_u32(total: Option<u32>, n: u32) -> Option<u32>
 
 /// A length with a count added, where at least as many bytes are in it already.
 pub(crate) fn plus_count(total: Option<u32>, count: usize) -> Option<u32>
-    ensures { (n : ℕ) → total ≡ limited n → count ≤ n → result ≡ limited (n + length (short count)) }
+    ensures { (n : ℕ) → total ≡ limited n → count ≤ n
+        → result ≡ limited (n + length (short count)) }
 {
     if count > LIMIT {
         return None;
@@ -86,7 +87,8 @@ pub(crate) fn put_vector<F: Writable>(
     bytes: &mut Vec<u8>,
 ) -> Result<(), OutOfMemory>
     requires { length (written_vector F.written items.now) ≤ limit }
-    ensures { OnOk result (bytes.new.items ≡ bytes.old.items ++ written_vector F.written items.now) }
+    ensures { OnOk result
+        (bytes.new.items ≡ bytes.old.items ++ written_vector F.written items.now) }
 {
     put_u32(bytes, items.len() as u32)?;
     for item in items {

@@ -19,4 +19,5 @@ returns c =
     let funcs = c.args.funcs.now in
     let all = ap (λ (fs : List Func). limited (length (codes_of fs))) (take_all c.loop-func.func-index funcs (omega arith)) in
     let few = length_le_flat_map (λ (f : Func). written_code f.body) (λ (f : Func). some_code f.body) funcs in
-    c.plus_count.ensures (length (codes_of funcs)) (c.loop-func.invariant ∙ all) few ∙ ap limited (sym (codes_long funcs (some_length funcs (sym c.if-is_empty.ensures))))
+    c.plus_count.ensures (length (codes_of funcs)) (c.loop-func.invariant ∙ all) few
+    ∙ ap limited (sym (codes_long funcs (some_length funcs (sym c.if-is_empty.ensures))))

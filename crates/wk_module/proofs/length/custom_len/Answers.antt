@@ -7,4 +7,10 @@ pub returns : goal.returns
 returns c =
     let custom = c.args.custom.now in
     c.named_len.ensures
-    ∙ ap limited (omega (arith, c.len.ensures, length-append (short (length custom.name)) custom.name, length-append (short (length custom.name)) (custom.name ++ custom.bytes), length-append custom.name custom.bytes))
+    ∙ ap limited (omega (
+      arith,
+      c.len.ensures,
+      length-append (short (length custom.name)) custom.name,
+      length-append (short (length custom.name)) (custom.name ++ custom.bytes),
+      length-append custom.name custom.bytes,
+    ))

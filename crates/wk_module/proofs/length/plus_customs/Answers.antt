@@ -11,4 +11,5 @@ loop-custom-preserved c =
     let within : c.loop-custom.custom-index < length customs = omega (arith, ap length c.as_slice-custom-items.ensures) in
     let is = rw c.as_slice-custom-items.ensures at c.custom-item.is in
     let more = length_more written_frame customs c.loop-custom.custom-index c.custom-item.result within is in
-    λ n h. c.plus_framed-all.ensures 0 (written_custom c.custom-item.result) c.custom_len.ensures _ (c.loop-custom.invariant n h) ∙ ap limited (omega (arith, more))
+    λ n h. c.plus_framed-all.ensures 0 (written_custom c.custom-item.result) c.custom_len.ensures _ (c.loop-custom.invariant n h)
+    ∙ ap limited (omega (arith, more))

@@ -17,7 +17,8 @@ loop-body-init c = record {
 pub bounds-indices-len : goal.bounds-indices-len
 bounds-indices-len c =
     let all = YieldsList-from_vec {s = c.into_iter-body-iterator.result} c.args.bodies (search rules) (search rules) in
-    let turn = YieldsList-turn all c.loop-body.yielded c.loop-body.body-iterator c.loop-body.yielded_by c.next.result c.next.new.self c.in-Some.body c.in-Some.is c.next.ensures.steps in
+    let turn = YieldsList-turn all c.loop-body.yielded c.loop-body.body-iterator c.loop-body.yielded_by c.next.result c.next.new.self c.in-Some.body
+    c.in-Some.is c.next.ensures.steps in
     omega (arith, turn.0, c.loop-body.invariant.len, c.len.ensures, c.requires, ap length c.as_slice-indices.ensures)
 
 pub loop-body-preserved : goal.loop-body-preserved
@@ -27,7 +28,8 @@ loop-body-preserved c =
     let yielded = c.loop-body.yielded in
     let body = c.in-Some.body in
     let all = YieldsList-from_vec {s = c.into_iter-body-iterator.result} c.args.bodies (search rules) (search rules) in
-    let turn = YieldsList-turn all yielded c.loop-body.body-iterator c.loop-body.yielded_by c.next.result c.next.new.self body c.in-Some.is c.next.ensures.steps in
+    let turn = YieldsList-turn all yielded c.loop-body.body-iterator c.loop-body.yielded_by c.next.result c.next.new.self body c.in-Some.is
+    c.next.ensures.steps in
     let within : length yielded < length indices = omega (arith, turn.0, c.requires, ap length c.as_slice-indices.ensures) in
     let place : c.len.result ≡ length yielded = omega (arith, c.len.ensures, inv.len) in
     record {
@@ -39,7 +41,8 @@ loop-body-preserved c =
 pub returns : goal.returns
 returns c =
     let all = YieldsList-from_vec {s = c.into_iter-body-iterator.result} c.args.bodies (search rules) (search rules) in
-    let end = YieldsList-end all c.loop-body.yielded c.loop-body.body-iterator c.loop-body.yielded_by c.next.result c.next.new.self c.in-None.is c.next.ensures.steps in
+    let end = YieldsList-end all c.loop-body.yielded c.loop-body.body-iterator c.loop-body.yielded_by c.next.result c.next.new.self c.in-None.is
+    c.next.ensures.steps in
     let whole = sym (map-id c.loop-body.yielded) ∙ end.0 in
     c.from_vec.ensures ∙ c.loop-body.invariant.made ∙ ap (λ (bodies : List BodyOf). zipped c.as_slice-indices.result.now bodies) whole
     ∙ ap (λ (indices : List ℕ). zipped indices c.args.bodies) c.as_slice-indices.ensures

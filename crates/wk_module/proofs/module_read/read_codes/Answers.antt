@@ -18,4 +18,5 @@ returns-in_err-next c =
     let end = section_end (raw_view c.args.section.now) in
     let bytes = c.args.section.now.contents.now in
     let stop = stops_all read c.loop.bodies c.args.funcs c.loop.counter before.end before.rest e (codes end bytes) c.loop-test.true c.loop.invariant.reads in
-    rw (p.1, p.2) (fails_on e e.kind (read before.end before.rest) (all_at codes end bytes) (λ bad. all_fails codes end bytes e (stop bad)) c.in_err-next.ensures.read)
+    rw (p.1, p.2) (fails_on e e.kind (read before.end before.rest) (all_at codes end bytes)
+    (λ bad. all_fails codes end bytes e (stop bad)) c.in_err-next.ensures.read)

@@ -9,6 +9,7 @@ use Rattle.wk_module.proofs.module_read.read_codes.Given as goal
 
 abbrev pub invariant-loop : goal.invariant-loop
 invariant-loop l = record {
-  reads : with_front l.bodies (items_at (code_at l.profile) (l.funcs - l.counter) l.codes.end l.codes.rest) ≡ codes_at l.profile l.funcs (section_end (raw_view l.section)) l.section.contents.now;
+  reads : with_front l.bodies (items_at (code_at l.profile) (l.funcs - l.counter) l.codes.end l.codes.rest)
+      ≡ codes_at l.profile l.funcs (section_end (raw_view l.section)) l.section.contents.now;
   end : l.codes.end ≡ section_end (raw_view l.section);
 }

@@ -17,7 +17,8 @@ refused_laws : (c : goal.After-from_residual) → SectionLaws c.args.profile
 refused_laws c =
     let reading = c.reading_of_code.ensures in
     let written = c.written_form_of_code.ensures in
-    section_laws c.args.profile (code_laws reading.expr reading.body reading.expr_shape written.expr written.body written.least_expr written.least_body c.args.profile)
+    section_laws c.args.profile
+    (code_laws reading.expr reading.body reading.expr_shape written.expr written.body written.least_expr written.least_body c.args.profile)
 
 pub returns-in_err-read_parts-clause-refused : goal.returns-in_err-read_parts-clause-refused
 returns-in_err-read_parts-clause-refused c =
@@ -27,7 +28,8 @@ returns-in_err-read_parts-clause-refused c =
 pub returns-in_err-read_parts-clause-fault : goal.returns-in_err-read_parts-clause-fault
 returns-in_err-read_parts-clause-fault c =
     let p = err_from_is_err_and c.from_residual.result c.from_residual.ensures.1 in
-    rw (p.1, p.2) (answer_stands (λ (m : Parts). m) c.args.bytes.now (Err c.in_err-read_parts.field-0.0) (module_at c.args.profile c.args.bytes.now) (module_stands c.args.profile (refused_laws c) c.args.bytes.now) c.in_err-read_parts.ensures)
+    rw (p.1, p.2) (answer_stands (λ (m : Parts). m) c.args.bytes.now (Err c.in_err-read_parts.field-0.0) (module_at c.args.profile c.args.bytes.now)
+    (module_stands c.args.profile (refused_laws c) c.args.bytes.now) c.in_err-read_parts.ensures)
 
 -- ---- an answer
 
@@ -35,8 +37,10 @@ shaped_of : (c : goal.In_ok-read_parts) → IsShaped c.in_ok-read_parts.field-0
 shaped_of c =
     let reading = c.reading_of_code.ensures in
     let written = c.written_form_of_code.ensures in
-    let laws = section_laws c.args.profile (code_laws reading.expr reading.body reading.expr_shape written.expr written.body written.least_expr written.least_body c.args.profile) in
-    let found = module_found c.args.profile laws c.args.bytes.now c.in_ok-read_parts.field-0 (λ i. omega (arith, c.type_inv.bytes i)) c.in_ok-read_parts.ensures in
+    let laws = section_laws c.args.profile
+    (code_laws reading.expr reading.body reading.expr_shape written.expr written.body written.least_expr written.least_body c.args.profile) in
+    let found = module_found c.args.profile laws c.args.bytes.now c.in_ok-read_parts.field-0
+    (λ i. omega (arith, c.type_inv.bytes i)) c.in_ok-read_parts.ensures in
     shaped c.args.profile laws c.args.bytes.now c.in_ok-read_parts.field-0 found.1 (λ i. omega (arith, c.type_inv.bytes i)) found.0
 
 pub of-requires : goal.of-requires
@@ -46,12 +50,14 @@ laws_of : (c : goal.After-of) → SectionLaws c.args.profile
 laws_of c =
     let reading = c.reading_of_code.ensures in
     let written = c.written_form_of_code.ensures in
-    section_laws c.args.profile (code_laws reading.expr reading.body reading.expr_shape written.expr written.body written.least_expr written.least_body c.args.profile)
+    section_laws c.args.profile
+    (code_laws reading.expr reading.body reading.expr_shape written.expr written.body written.least_expr written.least_body c.args.profile)
 
 -- the answer is what reading gives
 exact_of : (c : goal.After-of) → module_at c.args.profile c.args.bytes.now ≡ Ok c.of.result
 exact_of c =
-    let found = module_found c.args.profile (laws_of c) c.args.bytes.now c.in_ok-read_parts.field-0 (λ i. omega (arith, c.type_inv.bytes i)) c.in_ok-read_parts.ensures in
+    let found = module_found c.args.profile (laws_of c) c.args.bytes.now c.in_ok-read_parts.field-0
+    (λ i. omega (arith, c.type_inv.bytes i)) c.in_ok-read_parts.ensures in
     let is = shaped c.args.profile (laws_of c) c.args.bytes.now c.in_ok-read_parts.field-0 found.1 (λ i. omega (arith, c.type_inv.bytes i)) found.0 in
     read_settled c.args.profile c.args.bytes.now c.in_ok-read_parts.field-0 c.of.result c.in_ok-read_parts.ensures is.settled c.of.ensures
 

@@ -15,13 +15,15 @@ use Rattle.wk_module.proofs.Shaped.{shaped}
 use Rattle.wk_module.proofs.Standing.{module_stands}
 use Rattle.wk_module.proofs.module_read.reading_of_module.Goals as goal
 
-reading_is : (profile : Profile) (laws : SectionLaws profile) (b : List ℕ) (r : Result Parts ReadFault) → IsBytes b → module_at profile b ≡ r → IsReading profile b r
+reading_is : (profile : Profile) (laws : SectionLaws profile) (b : List ℕ) (r : Result Parts ReadFault) → IsBytes b → module_at profile b ≡ r
+    → IsReading profile b r
 reading_is profile laws b (Ok m) fits is =
     let found = module_found profile laws b m fits is in
     (found.1, found.0, answer_only profile laws b (Ok m) is, shaped profile laws b m found.1 fits found.0)
 reading_is profile laws b (Err e) fits is = (module_none profile laws b e is, module_stands profile laws b e is)
 
-fits_read : (profile : Profile) (laws : SectionLaws profile) (b : List ℕ) (r : Result Parts ReadFault) → IsBytes b → module_at profile b ≡ r → IfOk r (λ m. Fits m)
+fits_read : (profile : Profile) (laws : SectionLaws profile) (b : List ℕ) (r : Result Parts ReadFault) → IsBytes b → module_at profile b ≡ r
+    → IfOk r (λ m. Fits m)
 fits_read profile laws b (Ok m) fits is = let found = module_found profile laws b m fits is in fits_spelled profile laws b m found.1 found.0
 fits_read profile laws b (Err e) fits is = tt
 
@@ -29,7 +31,8 @@ pub returns : goal.returns
 returns c =
     let reading = c.reading_of_code.ensures in
     let written = c.written_form_of_code.ensures in
-    let laws = section_laws c.args.profile (code_laws reading.expr reading.body reading.expr_shape written.expr written.body written.least_expr written.least_body c.args.profile) in
+    let laws = section_laws c.args.profile
+    (code_laws reading.expr reading.body reading.expr_shape written.expr written.body written.least_expr written.least_body c.args.profile) in
     record {
       is = reading_is c.args.profile laws c.args.bytes.now (module_at c.args.profile c.args.bytes.now) (λ i. omega (arith, c.type_inv.bytes i)) refl;
       fits = fits_read c.args.profile laws c.args.bytes.now (module_at c.args.profile c.args.bytes.now) (λ i. omega (arith, c.type_inv.bytes i)) refl;

@@ -9,5 +9,7 @@ returns c =
     let reading = c.reading_of_code.ensures in
     let written = c.written_form_of_code.ensures in
     record {
-      spells = λ m shaped fits. written_spells m.profile (section_laws m.profile (code_laws reading.expr reading.body reading.expr_shape written.expr written.body written.least_expr written.least_body m.profile)) m refl shaped fits;
+      spells = λ m shaped fits. written_spells m.profile
+          (section_laws m.profile (code_laws reading.expr reading.body reading.expr_shape written.expr written.body written.least_expr
+          written.least_body m.profile)) m refl shaped fits;
     }

@@ -2,7 +2,8 @@ use Rattle.std.proofs.Common.{refl, ◌∙◌, arith}
 use Rattle.std.proofs.lemmas.Result.{err_from_is_err_and}
 use Rattle.wk_module.specs.OutlineReading.{partial}
 use Rattle.wk_module.specs.Reading.{at_start}
-use Rattle.wk_module.proofs.Outlining.{sections_fail, are_read, joined_fails, joined_outlined, outline_is, outline_formed, outline_settled, fault_refused, fault_stands}
+use Rattle.wk_module.proofs.Outlining.{sections_fail, are_read, joined_fails, joined_outlined, outline_is, outline_formed, outline_settled, fault_refused}
+use Rattle.wk_module.proofs.Outlining.{fault_stands}
 use Rattle.wk_module.proofs.VectorReading.{read_few}
 use Rattle.wk_module.proofs.outline.read_apart.Goals as goal
 
@@ -36,26 +37,30 @@ pub returns-in_err-parts-clause-exact : goal.returns-in_err-parts-clause-exact
 returns-in_err-parts-clause-exact g c =
     let p = err_from_is_err_and c.from_residual-in_err-parts.result c.from_residual-in_err-parts.ensures.1 in
     let r = are_read g.K.Keep.kept c.args.profile c.args.bytes.now (partial c.in_ok-so_far.so_far c.in_ok-so_far.kept.items) _ refl c.in_ok-so_far.ensures in
-    rw (p.1, p.2) (joined_fails g.K.Keep.kept c.args.profile c.args.bytes.now _ r c.len.result (c.len.ensures ∙ c.in_ok-so_far.kept.ok.0) c.in_err-parts.field-0.0 c.in_err-parts.ensures)
+    rw (p.1, p.2) (joined_fails g.K.Keep.kept c.args.profile c.args.bytes.now _ r c.len.result
+    (c.len.ensures ∙ c.in_ok-so_far.kept.ok.0) c.in_err-parts.field-0.0 c.in_err-parts.ensures)
 
 pub returns-in_err-parts-clause-refused : goal.returns-in_err-parts-clause-refused
 returns-in_err-parts-clause-refused g c =
     let p = err_from_is_err_and c.from_residual-in_err-parts.result c.from_residual-in_err-parts.ensures.1 in
     let r = are_read g.K.Keep.kept c.args.profile c.args.bytes.now (partial c.in_ok-so_far.so_far c.in_ok-so_far.kept.items) _ refl c.in_ok-so_far.ensures in
-    let fails = joined_fails g.K.Keep.kept c.args.profile c.args.bytes.now _ r c.len.result (c.len.ensures ∙ c.in_ok-so_far.kept.ok.0) c.in_err-parts.field-0.0 c.in_err-parts.ensures in
+    let fails = joined_fails g.K.Keep.kept c.args.profile c.args.bytes.now _ r c.len.result
+    (c.len.ensures ∙ c.in_ok-so_far.kept.ok.0) c.in_err-parts.field-0.0 c.in_err-parts.ensures in
     rw (p.1, p.2) (fault_refused c.args.profile c.args.bytes.now c.reading_of_module.ensures.is c.in_err-parts.field-0.0 fails)
 
 pub returns-in_err-parts-clause-fault : goal.returns-in_err-parts-clause-fault
 returns-in_err-parts-clause-fault g c =
     let p = err_from_is_err_and c.from_residual-in_err-parts.result c.from_residual-in_err-parts.ensures.1 in
     let r = are_read g.K.Keep.kept c.args.profile c.args.bytes.now (partial c.in_ok-so_far.so_far c.in_ok-so_far.kept.items) _ refl c.in_ok-so_far.ensures in
-    let fails = joined_fails g.K.Keep.kept c.args.profile c.args.bytes.now _ r c.len.result (c.len.ensures ∙ c.in_ok-so_far.kept.ok.0) c.in_err-parts.field-0.0 c.in_err-parts.ensures in
+    let fails = joined_fails g.K.Keep.kept c.args.profile c.args.bytes.now _ r c.len.result
+    (c.len.ensures ∙ c.in_ok-so_far.kept.ok.0) c.in_err-parts.field-0.0 c.in_err-parts.ensures in
     rw (p.1, p.2) (fault_stands c.args.profile c.args.bytes.now c.reading_of_module.ensures.is c.in_err-parts.field-0.0 fails)
 
 pub of-requires : goal.of-requires
 of-requires g c =
     let r = are_read g.K.Keep.kept c.args.profile c.args.bytes.now (partial c.in_ok-so_far.so_far c.in_ok-so_far.kept.items) _ refl c.in_ok-so_far.ensures in
-    let read = joined_outlined g.K.Keep.kept c.args.profile c.args.bytes.now _ r c.len.result (c.len.ensures ∙ c.in_ok-so_far.kept.ok.0) c.in_ok-parts.parts c.in_ok-parts.ensures in
+    let read = joined_outlined g.K.Keep.kept c.args.profile c.args.bytes.now _ r c.len.result
+    (c.len.ensures ∙ c.in_ok-so_far.kept.ok.0) c.in_ok-parts.parts c.in_ok-parts.ensures in
     outline_formed c.args.profile c.args.bytes.now c.reading_of_module.ensures.is c.in_ok-parts.parts read
 
 pub returns-clause-exact : goal.returns-clause-exact
@@ -64,4 +69,5 @@ returns-clause-exact g c =
     let many = c.len.ensures ∙ c.in_ok-so_far.kept.ok.0 in
     let read = joined_outlined g.K.Keep.kept c.args.profile c.args.bytes.now _ r c.len.result many c.in_ok-parts.parts c.in_ok-parts.ensures in
     let settled = outline_settled c.args.profile c.args.bytes.now c.reading_of_module.ensures.is c.in_ok-parts.parts read in
-    outline_is g.K.Keep.kept c.args.profile c.args.bytes.now _ r c.len.result many c.in_ok-parts.parts c.of.result c.in_ok-parts.ensures (c.of.ensures ∙ settled)
+    outline_is g.K.Keep.kept c.args.profile c.args.bytes.now _ r c.len.result many c.in_ok-parts.parts c.of.result c.in_ok-parts.ensures
+    (c.of.ensures ∙ settled)

@@ -8,6 +8,7 @@ use Rattle.wk_module.proofs.outline.read_codes.Given as goal
 
 abbrev pub invariant-loop : goal.invariant-loop
 invariant-loop g l = record {
-  reads : with_front l.kept.items (items_at (code_aside_at g.K.Keep.kept l.profile) (l.funcs - l.counter) l.codes.end l.codes.rest) ≡ codes_aside_at g.K.Keep.kept l.profile l.funcs (section_end (raw_view l.section)) l.section.contents.now;
+  reads : with_front l.kept.items (items_at (code_aside_at g.K.Keep.kept l.profile) (l.funcs - l.counter) l.codes.end l.codes.rest)
+      ≡ codes_aside_at g.K.Keep.kept l.profile l.funcs (section_end (raw_view l.section)) l.section.contents.now;
   end : l.codes.end ≡ section_end (raw_view l.section);
 }

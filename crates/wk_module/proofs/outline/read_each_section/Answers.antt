@@ -12,7 +12,8 @@ pub loop-section-init : goal.loop-section-init
 loop-section-init g c = record {
   can = tt;
   ends = tt;
-  so = begun g.K.Keep.kept c.args.profile c.args.bytes.now _ c.args.so_far.now c.args.kept.now.items (c.into_iter-section-iterator.ensures.into_iter_gives ∙ c.new-section-items.ensures.items) c.requires.first c.requires.none;
+  so = begun g.K.Keep.kept c.args.profile c.args.bytes.now _ c.args.so_far.now c.args.kept.now.items
+      (c.into_iter-section-iterator.ensures.into_iter_gives ∙ c.new-section-items.ensures.items) c.requires.first c.requires.none;
 }
 
 pub returns-in_err-section : goal.returns-in_err-section
@@ -28,7 +29,8 @@ loop-section-preserved g c =
     record {
       can = tt;
       ends = tt;
-      so = one_more g.K.Keep.kept c.args.profile (sections_of c.args.bytes.now) _ _ _ so (raw_view c.in_ok-section.field-0) (partial c.read_section.new.so_far c.read_section.new.kept.items) first (c.in_ok-read_section.ensures so.so_far so.is_aside);
+      so = one_more g.K.Keep.kept c.args.profile (sections_of c.args.bytes.now) _ _ _ so (raw_view c.in_ok-section.field-0)
+          (partial c.read_section.new.so_far c.read_section.new.kept.items) first (c.in_ok-read_section.ensures so.so_far so.is_aside);
     }
 
 pub returns-in_err-read_section : goal.returns-in_err-read_section
@@ -36,7 +38,8 @@ returns-in_err-read_section g c =
     let p = err_from_is_err_and c.from_residual-in_err-read_section.result c.from_residual-in_err-read_section.ensures.1 in
     let so = c.loop-section.invariant.so in
     let first = c.in-Some.ensures.steps ∙ ap (λ (r : Result RawSection ReadFault). item_view r ∷ c.next.new.self) c.in_ok-section.was in
-    rw (p.1, p.2) (stopped g.K.Keep.kept c.args.profile (sections_of c.args.bytes.now) _ _ _ so (raw_view c.in_ok-section.field-0) c.in_err-read_section.field-0.0 first (c.in_err-read_section.ensures so.so_far so.is_aside))
+    rw (p.1, p.2) (stopped g.K.Keep.kept c.args.profile (sections_of c.args.bytes.now) _ _ _ so
+    (raw_view c.in_ok-section.field-0) c.in_err-read_section.field-0.0 first (c.in_err-read_section.ensures so.so_far so.is_aside))
 
 pub returns : goal.returns
 returns g c = finished g.K.Keep.kept c.args.profile (sections_of c.args.bytes.now) _ [] _ c.loop-section.invariant.so c.in-None.ensures.steps.0

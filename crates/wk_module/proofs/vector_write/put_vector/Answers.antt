@@ -8,7 +8,12 @@ use Rattle.wk_module.proofs.vector_write.put_vector.Goals as goal
 pub overflow_cast-items : goal.overflow_cast-items
 overflow_cast-items g c =
     let items = c.args.items.now in
-    omega (arith, c.requires, length_le_flat_map g.F.Writable.written g.met.F.Writable.some items, length-append (short (length items)) (flat_map g.F.Writable.written items))
+    omega (
+      arith,
+      c.requires,
+      length_le_flat_map g.F.Writable.written g.met.F.Writable.some items,
+      length-append (short (length items)) (flat_map g.F.Writable.written items),
+    )
 
 pub put-requires : goal.put-requires
 put-requires g c =

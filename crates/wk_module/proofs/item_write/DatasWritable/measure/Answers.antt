@@ -10,4 +10,9 @@ returns c =
     let d = c.args.item.now in
     let bytes = ap (λ (b : List ℕ). length (written_bytes b)) c.as_slice.ensures in
     λ n h. c.plus_bytes.ensures _ (c.plus_expr-total.ensures _ (c.plus_u32.ensures n h))
-    ∙ ap limited (omega (arith, bytes, length-append (short d.memory) (written_expr d.offset ++ written_bytes d.bytes), length-append (written_expr d.offset) (written_bytes d.bytes)))
+    ∙ ap limited (omega (
+      arith,
+      bytes,
+      length-append (short d.memory) (written_expr d.offset ++ written_bytes d.bytes),
+      length-append (written_expr d.offset) (written_bytes d.bytes),
+    ))

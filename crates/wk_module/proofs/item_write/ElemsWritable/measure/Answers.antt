@@ -10,4 +10,9 @@ returns c =
     let e = c.args.item.now in
     let funcs = ap (λ (fs : List ℕ). length (written_vector short fs)) c.as_slice.ensures in
     λ n h. c.plus_vector.ensures _ (c.plus_expr-total.ensures _ (c.plus_u32.ensures n h))
-    ∙ ap limited (omega (arith, funcs, length-append (short e.table) (written_expr e.offset ++ written_vector short e.funcs), length-append (written_expr e.offset) (written_vector short e.funcs)))
+    ∙ ap limited (omega (
+      arith,
+      funcs,
+      length-append (short e.table) (written_expr e.offset ++ written_vector short e.funcs),
+      length-append (written_expr e.offset) (written_vector short e.funcs),
+    ))

@@ -10,4 +10,10 @@ returns c =
     let from = ap (λ (b : List ℕ). length (written_bytes b)) (c.as_bytes.ensures.value ∙ c.as_str.ensures.value) in
     let name = ap (λ (b : List ℕ). length (written_bytes b)) (c.as_bytes-2.ensures.value ∙ c.as_str-2.ensures.value) in
     λ n h. c.plus_desc.ensures _ (c.plus_bytes-total-2.ensures _ (c.plus_bytes-total.ensures n h))
-    ∙ ap limited (omega (arith, from, name, length-append (written_bytes i.from) (written_bytes i.name ++ written_desc i.desc), length-append (written_bytes i.name) (written_desc i.desc)))
+    ∙ ap limited (omega (
+      arith,
+      from,
+      name,
+      length-append (written_bytes i.from) (written_bytes i.name ++ written_desc i.desc),
+      length-append (written_bytes i.name) (written_desc i.desc),
+    ))

@@ -17,4 +17,9 @@ returns-in_err-section c =
     let first = c.in-Some.ensures.steps ∙ ap (λ (r : Result RawSection ReadFault). item_view r ∷ c.next.new.self) c.in_err-section.was in
     let rise = subst (λ (is : List (Result Section ReadFault)). (last : ℕ) × Rise last is) first so.rise in
     let lists = lists_break c.args.profile c.loop-section.self.lists c.loop-section.left c.next.new.self e first in
-    rw (p.1, p.2) (record { read = fair_fails e e.kind (lists_read c.args.profile c.args.self.now.lists c.args.left.now) rise.1 (sym so.reads ∙ lists); underway = tt; left = tt })
+    rw (p.1, p.2) (record {
+      read = fair_fails e e.kind (lists_read c.args.profile c.args.self.now.lists c.args.left.now) rise.1
+          (sym so.reads ∙ lists);
+      underway = tt;
+      left = tt;
+    })

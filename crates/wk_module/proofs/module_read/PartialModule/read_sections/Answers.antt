@@ -39,7 +39,8 @@ returns-in_err-read_section c =
     let first = c.in-Some.ensures.steps ∙ ap (λ (r : Result RawSection ReadFault). item_view r ∷ c.next.new.self) c.in_ok-section.was in
     let stop = sections_stop c.args.profile c.loop-section.self c.loop-section.section-iterator c.next.new.self s e first in
     let whole = sections_read c.args.profile c.args.self.now (sections_of c.args.bytes.now) in
-    rw (p.1, p.2) (fails_on e e.kind (with_section c.args.profile c.loop-section.self s) whole (λ bad. sym c.loop-section.invariant.left ∙ stop bad) c.in_err-read_section.ensures)
+    rw (p.1, p.2) (fails_on e e.kind (with_section c.args.profile c.loop-section.self s) whole
+    (λ bad. sym c.loop-section.invariant.left ∙ stop bad) c.in_err-read_section.ensures)
 
 pub loop-section-preserved : goal.loop-section-preserved
 loop-section-preserved c =
@@ -50,6 +51,7 @@ loop-section-preserved c =
     record {
       can = tt;
       ends = tt;
-      left = sym (sections_next c.args.profile c.loop-section.self c.loop-section.section-iterator c.next.new.self s c.read_section.new.self first c.in_ok-read_section.ensures) ∙ so.left;
+      left = sym (sections_next c.args.profile c.loop-section.self c.loop-section.section-iterator c.next.new.self s c.read_section.new.self first
+          c.in_ok-read_section.ensures) ∙ so.left;
       rise = (max rise.0 s.id, rise.1.1);
     }

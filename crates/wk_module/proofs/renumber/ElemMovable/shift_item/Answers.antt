@@ -12,4 +12,5 @@ returns-in_err-shifted_items c =
     let funcs = list_any (is_index_stuck c.args.kind c.args.from Func) e.funcs in
     let p = err_from_is_err_and c.from_residual-in_err-shifted_items.result c.from_residual-in_err-shifted_items.ensures.1 in
     let r = c.in_err-shifted_items.field-0.0 in
-    rw (p.1, p.2) (refused_right r (is_index_stuck c.args.kind c.args.from Table e.table) _ (refused_right r (is_expr_stuck c.args.kind c.args.from e.offset) funcs (rw (sym c.as_slice.ensures) c.in_err-shifted_items.ensures)))
+    rw (p.1, p.2) (refused_right r (is_index_stuck c.args.kind c.args.from Table e.table) _
+    (refused_right r (is_expr_stuck c.args.kind c.args.from e.offset) funcs (rw (sym c.as_slice.ensures) c.in_err-shifted_items.ensures)))
