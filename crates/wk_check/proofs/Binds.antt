@@ -12,11 +12,13 @@ pub bind_assoc : {A B C E : Type 0} (m : Result A E) (f : A → Result B E) (g :
 bind_assoc (Ok x) f g = refl
 bind_assoc (Err e) f g = refl
 
-pub at_bind : {A B C : Type 0} (k : ℕ) (m : Result A FaultKind) (f : A → B) (g : B → Result C TokenFault) → (at_token k (m >>= λ x. Ok (f x)) >>= g) ≡ (at_token k m >>= λ x. g (f x))
+pub at_bind : {A B C : Type 0} (k : ℕ) (m : Result A FaultKind) (f : A → B) (g : B → Result C TokenFault)
+    → (at_token k (m >>= λ x. Ok (f x)) >>= g) ≡ (at_token k m >>= λ x. g (f x))
 at_bind k (Ok x) f g = refl
 at_bind k (Err e) f g = refl
 
 -- two checks at one token
-pub at_bind2 : {A B C D : Type 0} (k : ℕ) (m : Result A FaultKind) (x : B) (f : B → Result C FaultKind) (g : C → Result D TokenFault) → (at_token k ((m >>= λ u. Ok x) >>= f) >>= g) ≡ (at_token k m >>= λ u. at_token k (f x) >>= g)
+pub at_bind2 : {A B C D : Type 0} (k : ℕ) (m : Result A FaultKind) (x : B) (f : B → Result C FaultKind) (g : C → Result D TokenFault)
+    → (at_token k ((m >>= λ u. Ok x) >>= f) >>= g) ≡ (at_token k m >>= λ u. at_token k (f x) >>= g)
 at_bind2 k (Ok u) x f g = refl
 at_bind2 k (Err e) x f g = refl

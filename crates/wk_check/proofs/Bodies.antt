@@ -33,7 +33,14 @@ length_flatten (Block kind bt inside rest) =
     omega (arith, length_flatten inside, length_flatten rest, length-append (flatten inside) (Close ∷ flatten rest))
 length_flatten (If bt first second rest) =
     let other = else_part (flatten second) in
-    omega (arith, length_flatten first, length_else second (length_flatten second), length_flatten rest, length-append (flatten first) other, length-append (flatten first ++ other) (Close ∷ flatten rest))
+    omega (
+      arith,
+      length_flatten first,
+      length_else second (length_flatten second),
+      length_flatten rest,
+      length-append (flatten first) other,
+      length-append (flatten first ++ other) (Close ∷ flatten rest),
+    )
 
 -- the last token is the end
 pub length_kept : (pool : List ℕ) (ts : List Token) (is : Instrs) → all_told pool ts ≡ tokens_of is → length ts ≡ count is + 1
@@ -44,7 +51,8 @@ length_kept pool ts is e =
 
 module _ (A : Ref → Found) (locals : ℕ → Option ValType) (bt : BlockType) (is : Instrs) where
   -- the last end leaves the outermost block as it is
-  code_runs : run A locals (results_of A bt) 0 (tokens_of is) (body_of bt) ≡ (typed A locals (results_of A bt) (results_of A bt ∷ []) 0 is fresh >>= λ s. Ok (with_top s (body_of bt)))
+  code_runs : run A locals (results_of A bt) 0 (tokens_of is) (body_of bt)
+      ≡ (typed A locals (results_of A bt) (results_of A bt ∷ []) 0 is fresh >>= λ s. Ok (with_top s (body_of bt)))
   code_runs =
       let b = body_of bt in runs A locals (results_of A bt) is 0 (count is) (Close ∷ []) b.inner [] (omega arith)
 
@@ -56,7 +64,8 @@ module _ (A : Ref → Found) (locals : ℕ → Option ValType) (bt : BlockType) 
         ∙ ap (λ xs. run A locals (results_of A bt) 0 xs start) et
         ∙ ap (λ b. run A locals (results_of A bt) 0 (tokens_of is) b) es
 
-    code_by_run : (r : Result Blocks TokenFault) → run A locals final 0 ts start ≡ r → code_result A locals final is ≡ (r >>= λ b. at_token (count is) (ended final b.inner.own))
+    code_by_run : (r : Result Blocks TokenFault) → run A locals final 0 ts start ≡ r
+        → code_result A locals final is ≡ (r >>= λ b. at_token (count is) (ended final b.inner.own))
     code_by_run r h =
         let end : Blocks → Result (Unit {0}) TokenFault = λ b. at_token (count is) (ended (results_of A bt) b.inner.own) in
         ap (λ xs. code_result A locals xs is) ef
@@ -64,12 +73,14 @@ module _ (A : Ref → Found) (locals : ℕ → Option ValType) (bt : BlockType) 
         ∙ ap (λ m. m >>= end) (sym code_runs ∙ sym same_run ∙ h)
         ∙ ap (λ xs. r >>= λ b. at_token (count is) (ended xs b.inner.own)) (sym ef)
 
-    pub code_fault : (kind : FaultKind) (k : ℕ) → run A locals final 0 ts start ≡ Err (record { kind = kind; token = k }) → code_result A locals final is ≡ Err (record { kind = kind; token = k })
+    pub code_fault : (kind : FaultKind) (k : ℕ) → run A locals final 0 ts start ≡ Err (record { kind = kind; token = k })
+        → code_result A locals final is ≡ Err (record { kind = kind; token = k })
     code_fault kind k h = code_by_run (Err (record { kind = kind; token = k })) h
 
     pub code_valid : (b : Blocks) → run A locals final 0 ts start ≡ Ok b → ended final b.inner.own ≡ Ok tt → code_result A locals final is ≡ Ok tt
     code_valid b h e = code_by_run (Ok b) h ∙ ap (at_token (count is)) e
 
-    pub code_ended : (b : Blocks) (kind : FaultKind) (k : ℕ) → run A locals final 0 ts start ≡ Ok b → ended final b.inner.own ≡ Err kind → k ≡ count is → code_result A locals final is ≡ Err (record { kind = kind; token = k })
+    pub code_ended : (b : Blocks) (kind : FaultKind) (k : ℕ) → run A locals final 0 ts start ≡ Ok b → ended final b.inner.own ≡ Err kind → k ≡ count is
+        → code_result A locals final is ≡ Err (record { kind = kind; token = k })
     code_ended b kind k h e n =
         code_by_run (Ok b) h ∙ ap (at_token (count is)) e ∙ ap (λ m. Err (record { kind = kind; token = m })) (sym n)

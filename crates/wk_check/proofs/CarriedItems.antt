@@ -45,7 +45,8 @@ module _ (index : Kind → ℕ → ℕ) (expr : Instrs → Instrs) where
   carried_data d = record d { memory = index kinds.Memory d.memory; offset = expr d.offset }
 
   module _ (s t : Spaces) (carries : Carries index expr s t) where
-    export_carried : (item : ℕ) (es : List Export) (e : Export) → export_flaw s (take item es) e ≡ None → export_flaw t (take item (map carried_export es)) (carried_export e) ≡ None
+    export_carried : (item : ℕ) (es : List Export) (e : Export) → export_flaw s (take item es) e ≡ None
+        → export_flaw t (take item (map carried_export es)) (carried_export e) ≡ None
     export_carried item es e none =
         let test : Export → Bool = λ d. bytes_eq d.name e.name in
         let p = both_none (index_flaw s e.kind e.index) _ none in
@@ -53,14 +54,18 @@ module _ (index : Kind → ℕ → ℕ) (expr : Instrs → Instrs) where
         ap (list_any test) (take-map carried_export item es) ∙ any_map test carried_export (λ d. refl) (take item es) in
         none_both _ _ (carries.indexes e.kind e.index p.0) (ap (λ (b : Bool). if b then flaw DuplicateExport else None) same ∙ p.1)
 
-    pub exports_carried : (es : List Export) → AreFine (numbered (λ item e. export_flaw s (take item es) e) 0 es) → AreFine (numbered (λ item e. export_flaw t (take item (map carried_export es)) e) 0 (map carried_export es))
+    pub exports_carried : (es : List Export) → AreFine (numbered (λ item e. export_flaw s (take item es) e) 0 es)
+        → AreFine (numbered (λ item e. export_flaw t (take item (map carried_export es)) e) 0 (map carried_export es))
     exports_carried es = fine_map _ _ carried_export (λ item e. export_carried item es e) 0 es
 
     pub start_carried : (o : Option ℕ) → AreFine (start_flaws s o) → AreFine (start_flaws t (carried_start o))
     start_carried None fine = tt
     start_carried (Some x) fine =
-        let p = both_none (within UnknownFunc s.funcs x) (unless StartType (is_start (answer_in s (refs.Func x)))) fine.0 in
-        (none_both _ _ (carries.indexes kinds.Func x p.0) (ap (unless StartType) (carries.starts x (unless_true StartType (is_start (answer_in s (refs.Func x))) p.1))), tt)
+        let p = both_none (within UnknownFunc s.funcs x) (unless StartType (is_start (answer_in s (refs.Func x)))) fine.0 in (
+          none_both _ _ (carries.indexes kinds.Func x p.0)
+              (ap (unless StartType) (carries.starts x (unless_true StartType (is_start (answer_in s (refs.Func x))) p.1))),
+          tt,
+        )
 
     funcs_carried : (xs : List ℕ) → AllByRecursion (λ x. x < length s.funcs) xs → AllByRecursion (λ x. x < length t.funcs) (map (index kinds.Func) xs)
     funcs_carried [] all = tt
@@ -76,7 +81,8 @@ module _ (index : Kind → ℕ → ℕ) (expr : Instrs → Instrs) where
         (none_both _ _ (carries.constants I32 e.offset q.0)
         (ap (unless UnknownFunc) (less_all (length t.funcs) (map (index kinds.Func) e.funcs) (funcs_carried e.funcs inside))))
 
-    pub elems_carried : (es : List Elem) → AreFine (numbered (λ item e. elem_flaw s e) 0 es) → AreFine (numbered (λ item e. elem_flaw t e) 0 (map carried_elem es))
+    pub elems_carried : (es : List Elem) → AreFine (numbered (λ item e. elem_flaw s e) 0 es)
+        → AreFine (numbered (λ item e. elem_flaw t e) 0 (map carried_elem es))
     elems_carried es = fine_map _ _ carried_elem (λ item e. elem_carried e) 0 es
 
     data_carried : (d : DataSeg) → data_flaw s d ≡ None → data_flaw t (carried_data d) ≡ None
@@ -84,5 +90,6 @@ module _ (index : Kind → ℕ → ℕ) (expr : Instrs → Instrs) where
         let p = both_none (within UnknownMemory s.memories d.memory) (constant_flaw (answer_in s) I32 d.offset) none in
         none_both _ _ (carries.indexes kinds.Memory d.memory p.0) (carries.constants I32 d.offset p.1)
 
-    pub datas_carried : (ds : List DataSeg) → AreFine (numbered (λ item d. data_flaw s d) 0 ds) → AreFine (numbered (λ item d. data_flaw t d) 0 (map carried_data ds))
+    pub datas_carried : (ds : List DataSeg) → AreFine (numbered (λ item d. data_flaw s d) 0 ds)
+        → AreFine (numbered (λ item d. data_flaw t d) 0 (map carried_data ds))
     datas_carried ds = fine_map _ _ carried_data (λ item d. data_carried d) 0 ds

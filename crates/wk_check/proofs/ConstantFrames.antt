@@ -24,7 +24,8 @@ use Rattle.wk_check.proofs.All.{front, back, both}
 use Rattle.wk_check.proofs.Frames.{GoesTogether, count_mapped, same_typed, same_effect, stays, moved_effect, type_stays}
 use Rattle.wk_check.proofs.ValidFinds.{all_there}
 
-module _ (f : Plain → Plain) (g : Ref → Ref) (A1 A2 : Ref → Found) (goes : GoesTogether f g A1 A2) (constants : (p : Plain) → AllByRecursion (λ r. A2 (g r) ≡ A1 r) (plain_refs p) → is_constant A2 (f p) ≡ is_constant A1 p) where
+module _ (f : Plain → Plain) (g : Ref → Ref) (A1 A2 : Ref → Found) (goes : GoesTogether f g A1 A2)
+    (constants : (p : Plain) → AllByRecursion (λ r. A2 (g r) ≡ A1 r) (plain_refs p) → is_constant A2 (f p) ≡ is_constant A1 p) where
   same_varying : (is : Instrs) (k : ℕ) → AllByRecursion (λ r. A2 (g r) ≡ A1 r) (refs_of is) → first_varying A2 k (map_plain f is) ≡ first_varying A1 k is
   same_varying Finish k h = refl
   same_varying (One p rest) k h =
@@ -39,8 +40,10 @@ module _ (f : Plain → Plain) (g : Ref → Ref) (A1 A2 : Ref → Found) (goes :
   same_constant t is h =
       let final = t ∷ [] in
       ap (λ o. constant_by o (token_flaw (code_result A2 no_locals final (map_plain f is)))) (same_varying is 0 h)
-      ∙ ap (λ r. constant_by (first_varying A1 0 is) (token_flaw (r >>= λ s. at_token (count (map_plain f is)) (ended final s)))) (same_typed f g A1 A2 goes no_locals final is h (final ∷ []) 0 fresh)
-      ∙ ap (λ n. constant_by (first_varying A1 0 is) (token_flaw (typed A1 no_locals final (final ∷ []) 0 is fresh >>= λ s. at_token n (ended final s)))) (count_mapped f is)
+      ∙ ap (λ r. constant_by (first_varying A1 0 is) (token_flaw (r >>= λ s. at_token (count (map_plain f is)) (ended final s))))
+      (same_typed f g A1 A2 goes no_locals final is h (final ∷ []) 0 fresh)
+      ∙ ap (λ n. constant_by (first_varying A1 0 is)
+      (token_flaw (typed A1 no_locals final (final ∷ []) 0 is fresh >>= λ s. at_token n (ended final s)))) (count_mapped f is)
 
 constant_same : (A B : Ref → Found) (p : Plain) → Agree A B (plain_refs p) → is_constant B p ≡ is_constant A p
 constant_same A B (GlobalGet x) h = ap is_constant_global h.0
@@ -103,14 +106,16 @@ module _ (A B : Ref → Found) (same : (x : ℕ) → B (refs.Global x) ≡ A (re
 
 -- ---- an import comes in front
 
-constant_moved : (kind : Moving) (from : ℕ) (A B : Ref → Found) (p : Plain) → AllByRecursion (λ r. B (moved_ref kind from r) ≡ A r) (plain_refs p) → is_constant B (moved_plain kind from p) ≡ is_constant A p
+constant_moved : (kind : Moving) (from : ℕ) (A B : Ref → Found) (p : Plain) → AllByRecursion (λ r. B (moved_ref kind from r) ≡ A r) (plain_refs p)
+    → is_constant B (moved_plain kind from p) ≡ is_constant A p
 constant_moved moving.Func from A B (GlobalGet x) h = ap is_constant_global h.0
 constant_moved moving.Global from A B (GlobalGet x) h = ap is_constant_global h.0
 constant_moved moving.Func from A B p h = refl
 constant_moved moving.Global from A B p h = refl
 
 -- a constant expression that moved, whose references, moved, find what they found
-pub constant_renumbered : (kind : Moving) (from : ℕ) (A B : Ref → Found) (t : ValType) (is : Instrs) → AgreeMoved kind from A B (refs_of is) → constant_flaw B t (map_plain (moved_plain kind from) is) ≡ constant_flaw A t is
+pub constant_renumbered : (kind : Moving) (from : ℕ) (A B : Ref → Found) (t : ValType) (is : Instrs) → AgreeMoved kind from A B (refs_of is)
+    → constant_flaw B t (map_plain (moved_plain kind from) is) ≡ constant_flaw A t is
 constant_renumbered kind from A B t is h =
     let goes : GoesTogether (moved_plain kind from) (moved_ref kind from) A B = record { types = type_stays kind from; effects = moved_effect kind from A B } in
     same_constant (moved_plain kind from) (moved_ref kind from) A B goes (constant_moved kind from A B) t is h

@@ -1,5 +1,6 @@
 -- A constant expression has no flaw exactly where the declarative rules make it a constant of its type.
-use Rattle.std.proofs.Common.{◌≡◌, ℕ, ◌+◌, Bool, true, false, not, if◌then◌else◌, List, [], ◌∷◌, ◌++◌, Result, Ok, Err, Option, Some, None, refl, ap, ◌∙◌, inl, inr}
+use Rattle.std.proofs.Common.{◌≡◌, ℕ, ◌+◌, Bool, true, false, not, if◌then◌else◌, List, [], ◌∷◌, ◌++◌, Result, Ok, Err, Option, Some, None, refl, ap, ◌∙◌, inl}
+use Rattle.std.proofs.Common.{inr}
 use Rattle.std.proofs.lemmas.Bool.{cases_Bool}
 use Rattle.wk_body.specs.declared.types.ValType.{ValType}
 use Rattle.wk_body.specs.declared.references.Ref.{Ref}
@@ -22,7 +23,8 @@ no_variable : (b : Bool) → not b ≡ true → b ≡ false
 no_variable true e = absurd cc
 no_variable false e = refl
 
-global_constant : (f : Found) (e : Effect) → global_get f ≡ Ok e → is_constant_global f ≡ true → (t : ValType) × (f ≡ GlobalIs (record { val = t; mutable = false }))
+global_constant : (f : Found) (e : Effect) → global_get f ≡ Ok e → is_constant_global f ≡ true
+    → (t : ValType) × (f ≡ GlobalIs (record { val = t; mutable = false }))
 global_constant (GlobalIs g) e typed constant = (g.val, ap (λ (b : Bool). GlobalIs (record { val = g.val; mutable = b })) (no_variable g.mutable constant))
 global_constant (TypeIs t) e typed constant = absurd cc
 global_constant NoType e typed constant = absurd cc
@@ -88,7 +90,8 @@ is_constant_passes A (plain.Numeric op) h = absurd h
 
 -- ---- expressions
 
-none_varies : (A : Ref → Found) (locals : ℕ → Option ValType) (final : List ValType) (labels : List (List ValType)) (k : ℕ) (is : Instrs) (p q : List ValType) → Derives A locals final labels is p q → first_varying A k is ≡ None → AreConstant A is
+none_varies : (A : Ref → Found) (locals : ℕ → Option ValType) (final : List ValType) (labels : List (List ValType)) (k : ℕ) (is : Instrs)
+    (p q : List ValType) → Derives A locals final labels is p q → first_varying A k is ≡ None → AreConstant A is
 none_varies A locals final labels k Finish p q h e = tt
 none_varies A locals final labels k (One i rest) p q h e =
     elim (cases_Bool (is_constant A i)) [
@@ -118,4 +121,5 @@ constant_derived A t is e =
 
 pub derived_constant : (A : Ref → Found) (t : ValType) (is : Instrs) → IsConstantOf A t is → constant_flaw A t is ≡ None
 derived_constant A t is h =
-    ap (λ (k : Option ℕ). constant_by k (token_flaw (code_result A no_locals (t ∷ []) is))) (all_constant A 0 is h.constant) ∙ ap token_flaw (code_typed A no_locals (t ∷ []) is h.derives)
+    ap (λ (k : Option ℕ). constant_by k (token_flaw (code_result A no_locals (t ∷ []) is))) (all_constant A 0 is h.constant)
+    ∙ ap token_flaw (code_typed A no_locals (t ∷ []) is h.derives)

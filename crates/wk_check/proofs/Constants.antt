@@ -1,5 +1,6 @@
 -- Constant expressions, from tokens to the tree.
-use Rattle.std.proofs.Common.{◌≡◌, ℕ, ◌+◌, ◌<◌, ◌≤◌, Bool, true, false, nat_lt, if◌then◌else◌, List, [], ◌∷◌, length, drop, get_or, Option, Some, None, Result, refl, sym, ap, ◌∙◌}
+use Rattle.std.proofs.Common.{◌≡◌, ℕ, ◌+◌, ◌<◌, ◌≤◌, Bool, true, false, nat_lt, if◌then◌else◌, List, [], ◌∷◌, length, drop, get_or, Option, Some, None, Result}
+use Rattle.std.proofs.Common.{refl, sym, ap, ◌∙◌}
 use Rattle.std.proofs.lemmas.List.{at_drop_more, at_drop_all}
 use Rattle.wk_body.specs.declared.types.ValType.{ValType}
 use Rattle.wk_body.specs.declared.references.Ref.{Ref}
@@ -24,18 +25,22 @@ use Rattle.wk_check.specs.Typing.{code_result}
 abbrev left : (Ref → Found) → List Token → ℕ → Option ℕ
 left A ts at = first_varying_tok A at (all_told [] (drop at ts))
 
-by_token : (A : Ref → Found) (ts : List Token) (at : ℕ) (t : Token) (b : Bool) → at < length ts → is_constant_tok A (told [] (get_or ts at t)) ≡ b → left A ts at ≡ (if b then left A ts (at + 1) else Some at)
+by_token : (A : Ref → Found) (ts : List Token) (at : ℕ) (t : Token) (b : Bool) → at < length ts → is_constant_tok A (told [] (get_or ts at t)) ≡ b
+    → left A ts at ≡ (if b then left A ts (at + 1) else Some at)
 by_token A ts at t b inside test =
     at_drop_more (λ (us : List Token). first_varying_tok A at (all_told [] us)) ts at t inside
     ∙ ap (λ (c : Bool). if c then left A ts (at + 1) else Some at) test
 
-pub varying_here : (A : Ref → Found) (ts : List Token) (at : ℕ) (t : Token) → at < length ts → left A ts at ≡ first_varying_tok A 0 (all_told [] ts) → is_constant_tok A (told [] (get_or ts at t)) ≡ false → Some at ≡ first_varying_tok A 0 (all_told [] ts)
+pub varying_here : (A : Ref → Found) (ts : List Token) (at : ℕ) (t : Token) → at < length ts → left A ts at ≡ first_varying_tok A 0 (all_told [] ts)
+    → is_constant_tok A (told [] (get_or ts at t)) ≡ false → Some at ≡ first_varying_tok A 0 (all_told [] ts)
 varying_here A ts at t inside walk test = sym (by_token A ts at t false inside test) ∙ walk
 
-pub varying_behind : (A : Ref → Found) (ts : List Token) (at : ℕ) (t : Token) → at < length ts → left A ts at ≡ first_varying_tok A 0 (all_told [] ts) → is_constant_tok A (told [] (get_or ts at t)) ≡ true → left A ts (at + 1) ≡ first_varying_tok A 0 (all_told [] ts)
+pub varying_behind : (A : Ref → Found) (ts : List Token) (at : ℕ) (t : Token) → at < length ts → left A ts at ≡ first_varying_tok A 0 (all_told [] ts)
+    → is_constant_tok A (told [] (get_or ts at t)) ≡ true → left A ts (at + 1) ≡ first_varying_tok A 0 (all_told [] ts)
 varying_behind A ts at t inside walk test = sym (by_token A ts at t true inside test) ∙ walk
 
-pub varying_none : (A : Ref → Found) (ts : List Token) (at : ℕ) → length ts ≤ at → left A ts at ≡ first_varying_tok A 0 (all_told [] ts) → None ≡ first_varying_tok A 0 (all_told [] ts)
+pub varying_none : (A : Ref → Found) (ts : List Token) (at : ℕ) → length ts ≤ at → left A ts at ≡ first_varying_tok A 0 (all_told [] ts)
+    → None ≡ first_varying_tok A 0 (all_told [] ts)
 varying_none A ts at past walk = sym (at_drop_all (λ (us : List Token). first_varying_tok A at (all_told [] us)) ts at past) ∙ walk
 
 -- ---- labels do not matter
@@ -58,7 +63,8 @@ in_tree A k (One p rest) = ap (λ (o : Option ℕ). if is_constant A p then o el
 in_tree A k (Block kind bt inside rest) = refl
 in_tree A k (If bt first second rest) = refl
 
-pub varying_in : (A : Ref → Found) (pool : List ℕ) (ts : List Token) (is : Instrs) → all_told pool ts ≡ tokens_of is → first_varying_tok A 0 (all_told [] ts) ≡ first_varying A 0 is
+pub varying_in : (A : Ref → Found) (pool : List ℕ) (ts : List Token) (is : Instrs) → all_told pool ts ≡ tokens_of is
+    → first_varying_tok A 0 (all_told [] ts) ≡ first_varying A 0 is
 varying_in A pool ts is e = same_tokens A pool 0 ts ∙ ap (first_varying_tok A 0) e ∙ in_tree A 0 is
 
 -- ---- without locals
@@ -85,14 +91,17 @@ by_judged r None h = sym (ap token_flaw h)
 by_judged r (Some p) h = sym (ap token_flaw h)
 
 -- a token varies
-pub constant_varies : (A : Ref → Found) (t : ValType) (is : Instrs) (pool : List ℕ) (ts : List Token) (k : ℕ) → all_told pool ts ≡ tokens_of is → Some k ≡ first_varying_tok A 0 (all_told [] ts)
+pub constant_varies : (A : Ref → Found) (t : ValType) (is : Instrs) (pool : List ℕ) (ts : List Token) (k : ℕ) → all_told pool ts ≡ tokens_of is
+    → Some k ≡ first_varying_tok A 0 (all_told [] ts)
     → Some (record { kind = ConstantExpected; token = Some k }) ≡ constant_flaw A t is
 constant_varies A t is pool ts k written at =
     ap (λ (o : Option ℕ). constant_by o (token_flaw (code_result A no_locals (t ∷ []) is))) (at ∙ varying_in A pool ts is written)
 
 -- no token varies, and the expression is typed as one without locals
-pub constant_typed : (A : Ref → Found) (t : ValType) (is : Instrs) (pool : List ℕ) (ts : List Token) (locals : LocalsOf) (final : List ValType) (o : Option (FaultKind × ℕ)) → all_told pool ts ≡ tokens_of is → None ≡ first_varying_tok A 0 (all_told [] ts)
-    → locals ≡ record { params = []; groups = [] } → final ≡ t ∷ [] → JudgedAs (code_result A (local_type locals.params locals.groups) final is) o → flaw_of o ≡ constant_flaw A t is
+pub constant_typed : (A : Ref → Found) (t : ValType) (is : Instrs) (pool : List ℕ) (ts : List Token) (locals : LocalsOf) (final : List ValType)
+    (o : Option (FaultKind × ℕ)) → all_told pool ts ≡ tokens_of is → None ≡ first_varying_tok A 0 (all_told [] ts)
+    → locals ≡ record { params = []; groups = [] } → final ≡ t ∷ [] → JudgedAs (code_result A (local_type locals.params locals.groups) final is) o
+    → flaw_of o ≡ constant_flaw A t is
 constant_typed A t is pool ts locals final o written none without results judged =
     by_judged (code_result A (local_type locals.params locals.groups) final is) o judged
     ∙ ap (λ (l : LocalsOf). token_flaw (code_result A (local_type l.params l.groups) final is)) without

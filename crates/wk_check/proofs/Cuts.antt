@@ -1,10 +1,12 @@
 -- How the moves of the stacks cut the operand stack.
-use Rattle.std.proofs.Common.{◌≡◌, ℕ, zero, suc, ◌+◌, ◌-◌, ◌<◌, ◌≤◌, true, false, List, [], ◌∷◌, ◌++◌, length, take, drop, reverse, get_or, Ok, Err, Option, Some, None, IsTrue, nat_eq, refl, sym, ap, ◌∙◌, subst, arith, length-append}
+use Rattle.std.proofs.Common.{◌≡◌, ℕ, zero, suc, ◌+◌, ◌-◌, ◌<◌, ◌≤◌, true, false, List, [], ◌∷◌, ◌++◌, length, take, drop, reverse, get_or, Ok, Err, Option}
+use Rattle.std.proofs.Common.{Some, None, IsTrue, nat_eq, refl, sym, ap, ◌∙◌, subst, arith, length-append}
 use Rattle.std.specs.Prelude.{slice_get, set, Result}
 use Rattle.wk_bytes.specs.Leb.{◌>>=◌}
 use Rattle.wk_bytes.specs.LebLaws.{ok_is}
 use Rattle.wk_check.specs.declared.fault.FaultKind.{FaultKind}
-use Rattle.std.proofs.lemmas.List.{reverse-append, length-reverse, take-append-drop, drop_at, length-take, length-drop, length-set, take_all, take_more, take_more_set, get_or-take, get_or-reverse}
+use Rattle.std.proofs.lemmas.List.{reverse-append, length-reverse, take-append-drop, drop_at, length-take, length-drop, length-set, take_all, take_more}
+use Rattle.std.proofs.lemmas.List.{take_more_set, get_or-take, get_or-reverse}
 use Rattle.std.proofs.lemmas.Option.{slice_get_past, slice_get-get_or}
 use Rattle.wk_check.specs.Slots.{Slot, AnyType, fits}
 use Rattle.wk_check.specs.declared.fault.FaultKind.TheVariants.{StackUnderflow}
@@ -34,11 +36,13 @@ levels_pushed f fs xs x le =
     ap (λ ys. blocks (level_of f ys) (levels_of fs (drop (length (x ∷ xs) - f.height) (x ∷ xs)))) (take_pushed f.height x xs le)
     ∙ ap (λ ys. blocks (level_of f (x ∷ take (length xs - f.height) xs)) (levels_of fs ys)) (drop_pushed f.height x xs le)
 
-module _ (f : Frame) (fs : List Frame) (xs ys : List Slot) (x : Slot) (st : Blocks) (is : blocks_of f fs (reverse xs) ≡ st) (cuts : Cuts (f ∷ fs) (reverse xs)) where
+module _ (f : Frame) (fs : List Frame) (xs ys : List Slot) (x : Slot) (st : Blocks) (is : blocks_of f fs (reverse xs) ≡ st)
+    (cuts : Cuts (f ∷ fs) (reverse xs)) where
   -- a push
   pub push_cuts : ys ≡ xs ++ x ∷ [] → Cuts (f ∷ fs) (reverse ys)
   push_cuts e =
-      subst (Cuts (f ∷ fs)) (sym (ap reverse e ∙ reverse_push xs x)) (omega (arith, cuts.0), subst (Cuts fs) (sym (drop_pushed f.height x (reverse xs) cuts.0)) cuts.1)
+      subst (Cuts (f ∷ fs)) (sym (ap reverse e ∙ reverse_push xs x))
+      (omega (arith, cuts.0), subst (Cuts fs) (sym (drop_pushed f.height x (reverse xs) cuts.0)) cuts.1)
 
   pub push_levels : ys ≡ xs ++ x ∷ [] → blocks_of f fs (reverse ys) ≡ pushed_on x st
   push_levels e =
@@ -56,7 +60,8 @@ module _ (f : Frame) (fs : List Frame) (xs ys : List Slot) (x : Slot) (st : Bloc
   pub pop_levels : xs ≡ ys ++ x ∷ [] → f.height < length xs → Pops (popped_on popped_any st) (Ok x) (blocks_of f fs (reverse ys))
   pop_levels e lt =
       let new = blocks_of f fs (reverse ys) in
-      let was : pushed_on x new ≡ st = sym (ap (blocks_of f fs) (ap reverse e ∙ reverse_push ys x) ∙ levels_pushed f fs (reverse ys) x (pop_height e lt)) ∙ is in
+      let was : pushed_on x new ≡ st =
+      sym (ap (blocks_of f fs) (ap reverse e ∙ reverse_push ys x) ∙ levels_pushed f fs (reverse ys) x (pop_height e lt)) ∙ is in
       let P : Blocks → Type 0 = λ s. Pops (popped_on popped_any s) (Ok x) new in
       subst P was refl
 
@@ -138,7 +143,8 @@ module _ (f : Frame) (fs : List Frame) (xs : List Slot) (st : Blocks) (is : bloc
   pop_unreachable e =
       let b = blocks_of f fs (reverse xs) in
       let top : popped_any b.inner.own ≡ Ok (AnyType, stopped) = ap (λ ys. top_of f.unreachable ys) own_items ∙ ap (λ d. top_of d []) e in
-      let same : b ≡ with_top stopped b = ap (λ ys. with_top (record { items = ys; dead = f.unreachable }) b) own_items ∙ ap (λ d. with_top (record { items = []; dead = d }) b) e in
+      let same : b ≡ with_top stopped b = ap (λ ys. with_top (record { items = ys; dead = f.unreachable }) b) own_items
+      ∙ ap (λ d. with_top (record { items = []; dead = d }) b) e in
       let P : Blocks → Type 0 = λ s. Pops (popped_on popped_any s) (Ok AnyType) s in
       subst P is (ap (λ r. popped_by r b) top ∙ ap (λ z. Ok (AnyType, z)) (sym same))
 
@@ -171,7 +177,8 @@ module _ (f : Frame) (fs : List Frame) (xs : List Slot) (st : Blocks) (is : bloc
   unreachable_cuts ys e =
       let t = take f.height xs in
       let none = none_above xs f.height height_le in
-      let same : drop (length (reverse t) - f.height) (reverse t) ≡ drop (length (reverse xs) - f.height) (reverse xs) = ap (λ n. drop n (reverse t)) none ∙ reverse_take xs f.height height_le in
+      let same : drop (length (reverse t) - f.height) (reverse t) ≡ drop (length (reverse xs) - f.height) (reverse xs) =
+      ap (λ n. drop n (reverse t)) none ∙ reverse_take xs f.height height_le in
       let P : List Slot → Type 0 = λ z. Cuts (unreachable_frame ∷ fs) (reverse z) in
       subst P (sym e) (omega (arith, length-reverse t, length-take f.height xs, height_le), subst (Cuts fs) (sym same) cuts.1)
 
@@ -179,7 +186,8 @@ module _ (f : Frame) (fs : List Frame) (xs : List Slot) (st : Blocks) (is : bloc
   unreachable_levels ys e =
       let t = take f.height xs in
       let none = none_above xs f.height height_le in
-      let same : drop (length (reverse t) - f.height) (reverse t) ≡ drop (length (reverse xs) - f.height) (reverse xs) = ap (λ n. drop n (reverse t)) none ∙ reverse_take xs f.height height_le in
+      let same : drop (length (reverse t) - f.height) (reverse t) ≡ drop (length (reverse xs) - f.height) (reverse xs) =
+      ap (λ n. drop n (reverse t)) none ∙ reverse_take xs f.height height_le in
       ap (λ z. blocks_of unreachable_frame fs (reverse z)) e
       ∙ ap (λ n. blocks (level_of unreachable_frame (take n (reverse t))) (levels_of fs (drop (length (reverse t) - f.height) (reverse t)))) none
       ∙ ap (λ z. blocks (level_of unreachable_frame []) (levels_of fs z)) same
@@ -213,14 +221,16 @@ module _ (f : Frame) (os : List Frame) (xs : List Slot) (st : Blocks) (is : bloc
   pub head_none : (n : ℕ) → length os < n → None ≡ head_at st n
   head_none zero lt = absurd (omega arith)
   head_none (suc n) lt =
-      sym (ap (λ s. head_at s (suc n)) (sym is) ∙ head_levels (f ∷ reverse os) (reverse xs) (suc n) ∙ ap head_of (slice_get_past (reverse os) n (omega (arith, length-reverse os))))
+      sym (ap (λ s. head_at s (suc n)) (sym is) ∙ head_levels (f ∷ reverse os) (reverse xs) (suc n)
+      ∙ ap head_of (slice_get_past (reverse os) n (omega (arith, length-reverse os))))
 
   pub head_some : (n : ℕ) (g : Frame) → n ≤ length os → 0 < n → g ≡ get_or os (length os - n) g → Some (g.kind, g.block) ≡ head_at st n
   head_some zero g le pos e = absurd (omega arith)
   head_some (suc n) g le pos e =
       let place : length os - 1 - n ≡ length os - suc n = omega arith in
       let lt : n < length os = omega arith in
-      let at : slice_get (reverse os) n ≡ Some g = slice_get-get_or (reverse os) n g (omega (arith, length-reverse os)) ∙ ap Some (get_or-reverse os n g lt ∙ ap (λ k. get_or os k g) place ∙ sym e) in
+      let at : slice_get (reverse os) n ≡ Some g = slice_get-get_or (reverse os) n g (omega (arith, length-reverse os))
+      ∙ ap Some (get_or-reverse os n g lt ∙ ap (λ k. get_or os k g) place ∙ sym e) in
       sym (ap (λ s. head_at s (suc n)) (sym is) ∙ head_levels (f ∷ reverse os) (reverse xs) (suc n) ∙ ap head_of at)
 
 no_levels : (fs : List Frame) (xs : List Slot) → is_empty (levels_of fs xs) ≡ nat_eq (length fs) 0

@@ -1,5 +1,6 @@
 -- The types of the first locals, written out one by one.
-use Rattle.std.proofs.Common.{◌≡◌, ℕ, zero, suc, ◌+◌, ◌-◌, ◌<◌, ◌≤◌, Bool, true, false, List, [], ◌∷◌, ◌++◌, length, take, drop, get_or, replicate, Some, slice_get, nat_lt, if◌then◌else◌, refl, sym, ap, ◌∙◌, arith}
+use Rattle.std.proofs.Common.{◌≡◌, ℕ, zero, suc, ◌+◌, ◌-◌, ◌<◌, ◌≤◌, Bool, true, false, List, [], ◌∷◌, ◌++◌, length, take, drop, get_or, replicate, Some}
+use Rattle.std.proofs.Common.{slice_get, nat_lt, if◌then◌else◌, refl, sym, ap, ◌∙◌, arith}
 use Rattle.std.proofs.lemmas.Bool.{lt-ltb, le-ltb, ltb-true, ltb-false}
 use Rattle.std.proofs.lemmas.List.{at_drop_more, take_all, length-replicate, get_or-replicate}
 use Rattle.std.proofs.lemmas.Option.{slice_get_read}
@@ -22,7 +23,8 @@ at_copies n t x inside = slice_get_read (replicate n t) n x t (sym (length-repli
 copies : (n : ℕ) (t : ValType) (gs : List LocalGroup) (x : ℕ) → local_type (replicate n t) gs x ≡ (if nat_lt x n then Some t else type_in_groups gs (x - n))
 copies n t gs x = rw (length-replicate n t) (go (nat_lt x n) (λ e. at_copies n t x (ltb-true x n e)))
   where
-    go : (b : Bool) → (b ≡ true → slice_get (replicate n t) x ≡ Some t) → (if b then slice_get (replicate n t) x else type_in_groups gs (x - n)) ≡ (if b then Some t else type_in_groups gs (x - n))
+    go : (b : Bool) → (b ≡ true → slice_get (replicate n t) x ≡ Some t)
+        → (if b then slice_get (replicate n t) x else type_in_groups gs (x - n)) ≡ (if b then Some t else type_in_groups gs (x - n))
     go true found = found refl
     go false found = refl
 
@@ -44,23 +46,28 @@ at_tail t ts gs x = go (nat_lt x (length ts)) refl
         let past : length ts ≤ x = ltb-false x (length ts) e in
         rw (le-ltb (suc x) (suc (length ts)) (omega arith), e) (ap (type_in_groups gs) (omega arith))
 
-one_group : (first : List ValType) (g : LocalGroup) (gs : List LocalGroup) (x : ℕ) → local_type (first ++ replicate g.count g.ty) gs x ≡ local_type first (g ∷ gs) x
+one_group : (first : List ValType) (g : LocalGroup) (gs : List LocalGroup) (x : ℕ)
+    → local_type (first ++ replicate g.count g.ty) gs x ≡ local_type first (g ∷ gs) x
 one_group [] g gs x = copies g.count g.ty gs x ∙ sym (none_first (g ∷ gs) x)
 one_group (t ∷ ts) g gs zero = at_head t (ts ++ replicate g.count g.ty) gs ∙ sym (at_head t ts (g ∷ gs))
 one_group (t ∷ ts) g gs (suc x) = at_tail t (ts ++ replicate g.count g.ty) gs x ∙ one_group ts g gs x ∙ sym (at_tail t ts (g ∷ gs) x)
 
 -- the locals of the next group are written
-pub written_more : (params : List ValType) (groups : List LocalGroup) (at : ℕ) (first : List ValType) (g : LocalGroup) → at < length groups → AreWritten params groups at first
+pub written_more : (params : List ValType) (groups : List LocalGroup) (at : ℕ) (first : List ValType) (g : LocalGroup) → at < length groups
+    → AreWritten params groups at first
     → AreWritten params groups (at + 1) (first ++ replicate (get_or groups at g).count (get_or groups at g).ty)
 written_more params groups at first g inside w = λ x.
-    one_group first (get_or groups at g) (drop (at + 1) groups) x ∙ sym (at_drop_more (λ (gs : List LocalGroup). local_type first gs x) groups at g inside) ∙ w x
+    one_group first (get_or groups at g) (drop (at + 1) groups) x
+    ∙ sym (at_drop_more (λ (gs : List LocalGroup). local_type first gs x) groups at g inside) ∙ w x
 
 below : (first : List ValType) (gs : List LocalGroup) (x : ℕ) → x < length first → local_type first gs x ≡ slice_get first x
 below first gs x inside = rw (lt-ltb x (length first) inside) refl
 
-pub are_first : (params : List ValType) (groups : List LocalGroup) (at : ℕ) (first : List ValType) → AreWritten params groups at first → AreFirst params groups first
+pub are_first : (params : List ValType) (groups : List LocalGroup) (at : ℕ) (first : List ValType) → AreWritten params groups at first
+    → AreFirst params groups first
 are_first params groups at first w = λ x inside. sym (below first (drop at groups) x inside) ∙ w x
 
 -- what is written where a list is lengthened
-pub lengthened : (first : List ValType) (len n count : ℕ) (t : ValType) → len ≡ length first → n ≡ len + count → take n first ++ replicate (n - len) t ≡ first ++ replicate count t
+pub lengthened : (first : List ValType) (len n count : ℕ) (t : ValType) → len ≡ length first → n ≡ len + count
+    → take n first ++ replicate (n - len) t ≡ first ++ replicate count t
 lengthened first len n count t l e = rw (take_all n first (omega arith)) (ap (λ (k : ℕ). first ++ replicate k t) (omega arith))

@@ -53,7 +53,8 @@ pub checked_good : (b : Bool) (p q : Slot × Own) → checked b p ≡ Ok q → (
 checked_good true p q e = (refl, same_good p q e)
 checked_good false p q e = cc
 
-pub any_back : (d : Bool) (xs : List Slot) (q : Slot × Own) (t : ValType) (u : List ValType) → top_of d xs ≡ Ok q → fits (Known t) (q.0) ≡ true → Fit u (q.1) → FitIn d (t ∷ u) xs
+pub any_back : (d : Bool) (xs : List Slot) (q : Slot × Own) (t : ValType) (u : List ValType) → top_of d xs ≡ Ok q → fits (Known t) (q.0) ≡ true
+    → Fit u (q.1) → FitIn d (t ∷ u) xs
 any_back d (x ∷ xs) q t u e ft h =
     let p : Slot × Own = (x, record { items = xs; dead = d }) in
     let is : p ≡ q = same_good p q e in
@@ -115,7 +116,8 @@ begins_back ps p h =
     none (x ∷ u) k = absurd k
 
 -- forwards
-pub any_on : (d : Bool) (xs : List Slot) (t : ValType) (u : List ValType) → FitIn d (t ∷ u) xs → (q : Slot × Own) × (top_of d xs ≡ Ok q) × (fits (Known t) (q.0) ≡ true) × Fit u (q.1)
+pub any_on : (d : Bool) (xs : List Slot) (t : ValType) (u : List ValType) → FitIn d (t ∷ u) xs
+    → (q : Slot × Own) × (top_of d xs ≡ Ok q) × (fits (Known t) (q.0) ≡ true) × Fit u (q.1)
 any_on d (x ∷ xs) t u h = ((x, record { items = xs; dead = d }), refl, h.0, h.1)
 any_on true [] t u h = ((AnyType, stopped), refl, refl, any_fits u)
 any_on false [] t u h = absurd h

@@ -1,5 +1,6 @@
 -- Sections in which nothing is wrong, or nothing but with one item.
-use Rattle.std.proofs.Common.{◌≡◌, ℕ, zero, suc, ◌+◌, List, [], ◌∷◌, ◌++◌, length, map, take, Option, Some, None, refl, sym, ap, subst, ◌∙◌, add-zero, arith, length-append}
+use Rattle.std.proofs.Common.{◌≡◌, ℕ, zero, suc, ◌+◌, List, [], ◌∷◌, ◌++◌, length, map, take, Option, Some, None, refl, sym, ap, subst, ◌∙◌, add-zero, arith}
+use Rattle.std.proofs.Common.{length-append}
 use Rattle.std.proofs.Math.Seq.{take-append_seam}
 use Rattle.std.proofs.lemmas.List.{append-nil, append_assoc, map-id}
 use Rattle.std.specs.Prelude.{remove}
@@ -21,14 +22,16 @@ none_from section [] fine = refl
 none_from section (ws ∷ wss) fine = rw (none_in section 0 ws fine.0) (none_from (section + 1) wss fine.1)
 
 -- where nothing is wrong with the sections in front
-pub first_behind : (section : ℕ) (front back : List (List (Option Flaw))) → AllByRecursion AreFine front → first_fault section (front ++ back) ≡ first_fault (section + length front) back
+pub first_behind : (section : ℕ) (front back : List (List (Option Flaw))) → AllByRecursion AreFine front
+    → first_fault section (front ++ back) ≡ first_fault (section + length front) back
 first_behind section [] back fine = rw add-zero refl
 first_behind section (ws ∷ front) back fine =
     let next : section + 1 + length front ≡ section + suc (length front) = omega arith in
     rw (none_in section 0 ws fine.0) (first_behind (section + 1) front back fine.1 ∙ ap (λ n. first_fault n back) next)
 
 -- nor with those behind
-pub first_alone : (section : ℕ) (ws : List (Option Flaw)) (back : List (List (Option Flaw))) → AllByRecursion AreFine back → first_fault section (ws ∷ back) ≡ first_in section 0 ws
+pub first_alone : (section : ℕ) (ws : List (Option Flaw)) (back : List (List (Option Flaw))) → AllByRecursion AreFine back
+    → first_fault section (ws ∷ back) ≡ first_in section 0 ws
 first_alone section ws back fine = ap (earlier (first_in section 0 ws)) (none_from (section + 1) back fine) ∙ end (first_in section 0 ws)
   where
     end : (a : Option Fault) → earlier a None ≡ a
@@ -36,7 +39,8 @@ first_alone section ws back fine = ap (earlier (first_in section 0 ws)) (none_fr
     end (Some x) = refl
 
 -- one item more
-pub first_last : (section item : ℕ) (ws : List (Option Flaw)) (w : Option Flaw) → AreFine ws → first_in section item (ws ++ w ∷ []) ≡ first_in section (item + length ws) (w ∷ [])
+pub first_last : (section item : ℕ) (ws : List (Option Flaw)) (w : Option Flaw) → AreFine ws
+    → first_in section item (ws ++ w ∷ []) ≡ first_in section (item + length ws) (w ∷ [])
 first_last section item [] w fine = rw add-zero refl
 first_last section item (None ∷ ws) w fine =
     let next : item + 1 + length ws ≡ item + suc (length ws) = omega arith in
@@ -49,19 +53,22 @@ pub length-numbered : {X : Type 0} (rule : ℕ → X → Option Flaw) (item : �
 length-numbered rule item [] = refl
 length-numbered rule item (x ∷ xs) = ap suc (length-numbered rule (item + 1) xs)
 
-pub numbered_push : {X : Type 0} (rule : ℕ → X → Option Flaw) (item : ℕ) (xs : List X) (x : X) → numbered rule item (xs ++ x ∷ []) ≡ numbered rule item xs ++ rule (item + length xs) x ∷ []
+pub numbered_push : {X : Type 0} (rule : ℕ → X → Option Flaw) (item : ℕ) (xs : List X) (x : X)
+    → numbered rule item (xs ++ x ∷ []) ≡ numbered rule item xs ++ rule (item + length xs) x ∷ []
 numbered_push rule item [] x = rw add-zero refl
 numbered_push rule item (y ∷ xs) x =
     let next : item + 1 + length xs ≡ item + suc (length xs) = omega arith in
     ap (λ ws. rule item y ∷ ws) (numbered_push rule (item + 1) xs x ∙ ap (λ n. numbered rule (item + 1) xs ++ rule n x ∷ []) next)
 
 -- other items by another rule that finds nothing where the first found nothing
-pub fine_map : {X : Type 0} (rule rule' : ℕ → X → Option Flaw) (h : X → X) → ((item : ℕ) (x : X) → rule item x ≡ None → rule' item (h x) ≡ None) → (item : ℕ) (xs : List X) → AreFine (numbered rule item xs) → AreFine (numbered rule' item (map h xs))
+pub fine_map : {X : Type 0} (rule rule' : ℕ → X → Option Flaw) (h : X → X) → ((item : ℕ) (x : X) → rule item x ≡ None → rule' item (h x) ≡ None)
+    → (item : ℕ) (xs : List X) → AreFine (numbered rule item xs) → AreFine (numbered rule' item (map h xs))
 fine_map rule rule' h each item [] fine = tt
 fine_map rule rule' h each item (x ∷ xs) fine = (each item x fine.0, fine_map rule rule' h each (item + 1) xs fine.1)
 
 -- the same items
-pub still_fine : {X : Type 0} (rule rule' : ℕ → X → Option Flaw) → ((item : ℕ) (x : X) → rule item x ≡ None → rule' item x ≡ None) → (item : ℕ) (xs : List X) → AreFine (numbered rule item xs) → AreFine (numbered rule' item xs)
+pub still_fine : {X : Type 0} (rule rule' : ℕ → X → Option Flaw) → ((item : ℕ) (x : X) → rule item x ≡ None → rule' item x ≡ None)
+    → (item : ℕ) (xs : List X) → AreFine (numbered rule item xs) → AreFine (numbered rule' item xs)
 still_fine rule rule' each item xs fine =
     subst (λ ys. AreFine (numbered rule' item ys)) (map-id xs) (fine_map rule rule' (λ x. x) each item xs fine)
 
@@ -79,12 +86,15 @@ module _ {X : Type 0} (rule : List X → X → Option Flaw) where
       let here : take (length before) all ≡ before = ap (take (length before)) is ∙ take-append_seam before (x ∷ xs) in
       let next : length before + 1 ≡ length (before ++ x ∷ []) = sym (length-append before (x ∷ [])) in
       ap (λ ys. rule ys x ∷ numbered (λ item y. rule (take item all) y) (length before + 1) xs) here
-      ∙ ap (λ ws. rule before x ∷ ws) (ap (λ n. numbered (λ item y. rule (take item all) y) n xs) next ∙ numbered_behind (before ++ x ∷ []) xs all (is ∙ sym (append_assoc before (x ∷ []) xs)))
+      ∙ ap (λ ws. rule before x ∷ ws)
+      (ap (λ n. numbered (λ item y. rule (take item all) y) n xs) next
+      ∙ numbered_behind (before ++ x ∷ []) xs all (is ∙ sym (append_assoc before (x ∷ []) xs)))
 
   pub behind_push : (before xs : List X) (x : X) → behind before (xs ++ x ∷ []) ≡ behind before xs ++ rule (before ++ xs) x ∷ []
   behind_push before [] x = ap (λ ys. rule ys x ∷ []) (sym (append-nil before))
   behind_push before (y ∷ xs) x =
-      ap (λ ws. rule before y ∷ ws) (behind_push (before ++ y ∷ []) xs x ∙ ap (λ ys. behind (before ++ y ∷ []) xs ++ rule ys x ∷ []) (append_assoc before (y ∷ []) xs))
+      ap (λ ws. rule before y ∷ ws)
+      (behind_push (before ++ y ∷ []) xs x ∙ ap (λ ys. behind (before ++ y ∷ []) xs ++ rule ys x ∷ []) (append_assoc before (y ∷ []) xs))
 
   pub length-behind : (before xs : List X) → length (behind before xs) ≡ length xs
   length-behind before [] = refl

@@ -1,5 +1,6 @@
 -- The first flaw of a section, of sections that are put together, and of a module.
-use Rattle.std.proofs.Common.{◌≡◌, ℕ, suc, ◌+◌, ◌<◌, List, [], ◌∷◌, ◌++◌, length, map, Bool, true, false, nat_lt, get_or, take, drop, Option, Some, None, refl, ap, sym, ◌∙◌, add-zero, add-one, arith, length-append}
+use Rattle.std.proofs.Common.{◌≡◌, ℕ, suc, ◌+◌, ◌<◌, List, [], ◌∷◌, ◌++◌, length, map, Bool, true, false, nat_lt, get_or, take, drop, Option, Some, None, refl}
+use Rattle.std.proofs.Common.{ap, sym, ◌∙◌, add-zero, add-one, arith, length-append}
 use Rattle.std.proofs.Math.Nat.{zero-add}
 use Rattle.std.proofs.Math.Seq.{take-suc, drop-cons}
 use Rattle.std.specs.List.{AllByRecursion}
@@ -18,12 +19,14 @@ use Rattle.wk_check.specs.Flaws.{fault_at, numbered, first_in, first_fault, verd
 use Rattle.wk_check.specs.Items.{earlier, unless, type_flaw}
 use Rattle.wk_check.specs.Spaces.{and_more, imported}
 use Rattle.wk_check.specs.SpacesLaws.{imported_push}
-use Rattle.wk_check.specs.Verdict.{type_flaws, code_flaws, data_flaws, code_fault, flaws_before_code, module_flaws, front_fault, verdict_from, module_verdict, IsVerdict, IsNotArity, extended}
+use Rattle.wk_check.specs.Verdict.{type_flaws, code_flaws, data_flaws, code_fault, flaws_before_code, module_flaws, front_fault, verdict_from, module_verdict}
+use Rattle.wk_check.specs.Verdict.{IsVerdict, IsNotArity, extended}
 
 -- ---- steps of loops
 
 -- an item is fine: its section is as far as its rest
-pub fine_step : {X : Type 0} (rule : ℕ → X → Option Flaw) (section item : ℕ) (xs : List X) (x : X) → item < length xs → x ≡ get_or xs item x → rule item x ≡ None
+pub fine_step : {X : Type 0} (rule : ℕ → X → Option Flaw) (section item : ℕ) (xs : List X) (x : X) → item < length xs → x ≡ get_or xs item x
+    → rule item x ≡ None
     → first_in section item (numbered rule item (drop item xs)) ≡ first_in section (item + 1) (numbered rule (item + 1) (drop (item + 1) xs))
 fine_step rule section item xs x here is fine = rw (add-one, drop-cons xs item x, ← is, fine, add-one)
 
@@ -50,7 +53,8 @@ earlier_none None = refl
 earlier_none (Some x) = refl
 
 -- sections that are put together
-pub first_fault_joined : (section : ℕ) (front back : List (List (Option Flaw))) → first_fault section (front ++ back) ≡ earlier (first_fault section front) (first_fault (section + length front) back)
+pub first_fault_joined : (section : ℕ) (front back : List (List (Option Flaw)))
+    → first_fault section (front ++ back) ≡ earlier (first_fault section front) (first_fault (section + length front) back)
 first_fault_joined section [] back = rw add-zero
 first_fault_joined section (ws ∷ front) back =
     let next : section + 1 + length front ≡ section + suc (length front) = omega arith in
@@ -112,7 +116,8 @@ found_or section ws others None (Some fault) fine rest =
 
 found_from : (section : ℕ) (flaws : List (List (Option Flaw))) → IsFoundFrom section flaws (first_fault section flaws)
 found_from section [] = tt
-found_from section (ws ∷ others) = found_or section ws others (first_in section 0 ws) (first_fault (section + 1) others) (found_in section 0 ws) (found_from (section + 1) others)
+found_from section (ws ∷ others) = found_or section ws others (first_in section 0 ws) (first_fault (section + 1) others) (found_in section 0 ws)
+    (found_from (section + 1) others)
 
 told : (flaws : List (List (Option Flaw))) (r : Option Fault) → IsFoundFrom 1 flaws r → IsVerdictOn flaws (verdict_by r)
 told flaws None fine = fine
@@ -130,13 +135,16 @@ module_flaws_are m =
     let before = flaws_before_code m.profile (lists_of m) in
     let codes = code_flaws (lists_of m) m.funcs in
     let datas = data_flaws (lists_of m) in
-    ap verdict_by (first_fault_joined 1 before (codes ∷ datas ∷ []) ∙ ap (λ last. earlier (first_fault 1 before) (earlier (first_in 10 0 codes) last)) (earlier_none (first_in 11 0 datas)))
+    ap verdict_by (first_fault_joined 1 before (codes ∷ datas ∷ [])
+    ∙ ap (λ last. earlier (first_fault 1 before) (earlier (first_in 10 0 codes) last)) (earlier_none (first_in 11 0 datas)))
 
 -- the verdict around a module's code section is that of the module
-pub verdict_of_lists : (m : Parts) (profile : Profile) (l : SectionLists) (before : Option Fault) → profile ≡ m.profile → l ≡ record (lists_of m) { codes = [] } → before ≡ earlier (front_fault profile l) (first_in 10 0 (code_flaws l m.funcs))
+pub verdict_of_lists : (m : Parts) (profile : Profile) (l : SectionLists) (before : Option Fault) → profile ≡ m.profile
+    → l ≡ record (lists_of m) { codes = [] } → before ≡ earlier (front_fault profile l) (first_in 10 0 (code_flaws l m.funcs))
     → verdict_from l before ≡ module_verdict m
 verdict_of_lists m profile l before profile_is lists_are before_is =
-    rw (before_is, lists_are, profile_is) (ap verdict_by (earlier_assoc (front_fault m.profile (lists_of m)) (code_fault m) (first_in 11 0 (data_flaws (lists_of m)))))
+    rw (before_is, lists_are, profile_is)
+    (ap verdict_by (earlier_assoc (front_fault m.profile (lists_of m)) (code_fault m) (first_in 11 0 (data_flaws (lists_of m)))))
 
 -- the verdict of a module is the one that words tell
 pub module_verdict_told : (m : Parts) → IsVerdict m (module_verdict m)
@@ -149,11 +157,13 @@ abbrev IsOfArity : Option Fault → Type 0
 IsOfArity None = Unit {0}
 IsOfArity (Some fault) = fault.kind ≡ TypeArity
 
-arity_or : (few : Bool) (item : ℕ) (rest : List (Option Flaw)) → IsOfArity (first_in 1 (item + 1) rest) → IsOfArity (first_in 1 item (unless TypeArity few ∷ rest))
+arity_or : (few : Bool) (item : ℕ) (rest : List (Option Flaw)) → IsOfArity (first_in 1 (item + 1) rest)
+    → IsOfArity (first_in 1 item (unless TypeArity few ∷ rest))
 arity_or true item rest behind = behind
 arity_or false item rest behind = refl
 
-type_fault_of_arity : (profile : Profile) (item from : ℕ) (types : List FuncType) → IsOfArity (first_in 1 item (numbered (λ at t. type_flaw profile t) from types))
+type_fault_of_arity : (profile : Profile) (item from : ℕ) (types : List FuncType)
+    → IsOfArity (first_in 1 item (numbered (λ at t. type_flaw profile t) from types))
 type_fault_of_arity profile item from [] = tt
 type_fault_of_arity Extended item from (t ∷ types) = type_fault_of_arity Extended (item + 1) (from + 1) types
 type_fault_of_arity Core item from (t ∷ types) =

@@ -27,7 +27,8 @@ use Rattle.wk_check.specs.Constants.{constant_flaw}
 use Rattle.wk_check.specs.Finds.{Grows}
 use Rattle.wk_check.specs.Items.{is_start}
 use Rattle.wk_check.specs.Spaces.{answer_in, initial_spaces, global_found, imported, global_in}
-use Rattle.wk_check.specs.SpacesLaws.{answers_of, imported_aside, imported_last, at_moved, imported_globals, func_import_moves, global_import_moves, table_import_grows, memory_import_grows}
+use Rattle.wk_check.specs.SpacesLaws.{answers_of, imported_aside, imported_last, at_moved, imported_globals, func_import_moves, global_import_moves}
+use Rattle.wk_check.specs.SpacesLaws.{table_import_grows, memory_import_grows}
 use Rattle.wk_check.specs.Verdict.{func_verdict}
 use Rattle.wk_check.proofs.ConstantFrames.{constant_fine, constant_by_globals, constant_renumbered, all_moved}
 use Rattle.wk_check.proofs.Frames.{renumbered}
@@ -62,16 +63,19 @@ module _ (m : Parts) (i : Import) where
         constants = constant_by_globals A B (λ x. moves (refs.Global x));
         initial = constant_by_globals (initial_of m) (initial_of (after kinds.Func i m)) (globals_stay kinds.Func (ap global_in is));
         starts = λ x e. ap is_start (moves (refs.Func x)) ∙ e;
-        codes = λ f e. renumbered moving.Func from A B f.ty f.ty f.body (moves (refs.Ty f.ty)) (all_moved moving.Func from A B moves (refs_of f.body.instrs)) ∙ e;
+        codes = λ f e. renumbered moving.Func from A B f.ty f.ty f.body (moves (refs.Ty f.ty))
+            (all_moved moving.Func from A B moves (refs_of f.body.instrs)) ∙ e;
       }
 
-  initial_moves : (g : GlobalType) → i.desc ≡ desc.Global g → (r : Ref) → initial_of (after kinds.Global i m) (moved_ref moving.Global (import_count kinds.Global m.imports) r) ≡ initial_of m r
+  initial_moves : (g : GlobalType) → i.desc ≡ desc.Global g → (r : Ref)
+      → initial_of (after kinds.Global i m) (moved_ref moving.Global (import_count kinds.Global m.imports) r) ≡ initial_of m r
   initial_moves g is (refs.Ty x) = refl
   initial_moves g is (refs.Func x) = global_import_moves m i g is (refs.Func x)
   initial_moves g is (refs.Global x) =
       let front = imported global_in m.imports in
       let place : length front ≡ import_count kinds.Global m.imports = imported_globals m.imports in
-      ap (λ (gs : List GlobalType). global_found (slice_get gs (moved (import_count kinds.Global m.imports) x))) (imported_last global_in m.imports i g (ap global_in is) ∙ sym (append-nil (front ++ g ∷ [])))
+      ap (λ (gs : List GlobalType). global_found (slice_get gs (moved (import_count kinds.Global m.imports) x)))
+      (imported_last global_in m.imports i g (ap global_in is) ∙ sym (append-nil (front ++ g ∷ [])))
       ∙ ap (λ (k : ℕ). global_found (slice_get ((front ++ g ∷ []) ++ []) (moved k x))) (sym place)
       ∙ ap global_found (at_moved front [] g x)
       ∙ ap (λ (gs : List GlobalType). global_found (slice_get gs x)) (append-nil front)
@@ -87,32 +91,36 @@ module _ (m : Parts) (i : Import) where
       let moves = global_import_moves m i g is in
       record {
         constants = λ ty e none. constant_renumbered moving.Global from A B ty e (all_moved moving.Global from A B moves (refs_of e)) ∙ none;
-        initial = λ ty e none. constant_renumbered moving.Global from (initial_of m) (initial_of n) ty e (all_moved moving.Global from (initial_of m) (initial_of n) (initial_moves g is) (refs_of e)) ∙ none;
+        initial = λ ty e none. constant_renumbered moving.Global from (initial_of m) (initial_of n) ty e
+            (all_moved moving.Global from (initial_of m) (initial_of n) (initial_moves g is) (refs_of e)) ∙ none;
         starts = λ x e. ap is_start (moves (refs.Func x)) ∙ e;
-        codes = λ f e. renumbered moving.Global from A B f.ty f.ty f.body (moves (refs.Ty f.ty)) (all_moved moving.Global from A B moves (refs_of f.body.instrs)) ∙ e;
+        codes = λ f e. renumbered moving.Global from A B f.ty f.ty f.body (moves (refs.Ty f.ty))
+            (all_moved moving.Global from A B moves (refs_of f.body.instrs)) ∙ e;
       }
 
-  start_still : (n : Parts) → Grows (answers_of m) (answers_of n) → (x : ℕ) → is_start (answers_of m (refs.Func x)) ≡ true → is_start (answers_of n (refs.Func x)) ≡ true
+  start_still : (n : Parts) → Grows (answers_of m) (answers_of n) → (x : ℕ) → is_start (answers_of m (refs.Func x)) ≡ true
+      → is_start (answers_of n (refs.Func x)) ≡ true
   start_still n grows x e = ap is_start (grows (refs.Func x) (starts_there (answers_of m (refs.Func x)) e)) ∙ e
 
+  -- a table, or a memory: no reference moves
+  abbrev IsUnmoved : Kind → Type 0
+  IsUnmoved kinds.Func = ⊥
+  IsUnmoved kinds.Global = ⊥
+  IsUnmoved kind = Unit {0}
+
+  unmoved_sees : (kind : Kind) → IsUnmoved kind → global_in i.desc ≡ None → Grows (answers_of m) (answers_of (after kind i m))
+      → SeesStill kind (import_count kind m.imports) m (after kind i m)
+  unmoved_sees kinds.Func h none grows = absurd h
+  unmoved_sees kinds.Global h none grows = absurd h
+  unmoved_sees kind h none grows = record {
+    constants = constant_fine (answers_of m) (answers_of (after kind i m)) grows;
+    initial = constant_by_globals (initial_of m) (initial_of (after kind i m)) (globals_stay kind none);
+    starts = start_still (after kind i m) grows;
+    codes = λ f e. func_still (answers_of m) (answers_of (after kind i m)) grows f e ∙ e;
+  }
+
   pub table_sees : (l : Limits) → i.desc ≡ desc.Table l → SeesStill kinds.Table (import_count kinds.Table m.imports) m (after kinds.Table i m)
-  table_sees l is =
-      let n = after kinds.Table i m in
-      let grows = table_import_grows m i l (import_count kinds.Table m.imports) is in
-      record {
-        constants = constant_fine (answers_of m) (answers_of n) grows;
-        initial = constant_by_globals (initial_of m) (initial_of n) (globals_stay kinds.Table (ap global_in is));
-        starts = start_still n grows;
-        codes = λ f e. func_still (answers_of m) (answers_of n) grows f e ∙ e;
-      }
+  table_sees l is = unmoved_sees kinds.Table tt (ap global_in is) (table_import_grows m i l (import_count kinds.Table m.imports) is)
 
   pub memory_sees : (l : Limits) → i.desc ≡ desc.Memory l → SeesStill kinds.Memory (import_count kinds.Memory m.imports) m (after kinds.Memory i m)
-  memory_sees l is =
-      let n = after kinds.Memory i m in
-      let grows = memory_import_grows m i l (import_count kinds.Memory m.imports) is in
-      record {
-        constants = constant_fine (answers_of m) (answers_of n) grows;
-        initial = constant_by_globals (initial_of m) (initial_of n) (globals_stay kinds.Memory (ap global_in is));
-        starts = start_still n grows;
-        codes = λ f e. func_still (answers_of m) (answers_of n) grows f e ∙ e;
-      }
+  memory_sees l is = unmoved_sees kinds.Memory tt (ap global_in is) (memory_import_grows m i l (import_count kinds.Memory m.imports) is)

@@ -1,6 +1,7 @@
 -- What is imported of each kind, import by import.
-use Rattle.std.proofs.Common.{◌≡◌, ◌≢◌, ℕ, ◌+◌, ◌<◌, ◌≤◌, ◌==◌, false, if◌then◌else◌, List, [], ◌∷◌, ◌++◌, length, take, get_or, Option, Some, None, refl, sym, ap, ◌∙◌, arith, length-append}
-use Rattle.std.proofs.lemmas.List.{append-nil, take_more, length-take-le}
+use Rattle.std.proofs.Common.{◌≡◌, ◌≢◌, ℕ, ◌+◌, ◌<◌, ◌≤◌, ◌==◌, nat_lt, false, if◌then◌else◌, List, [], ◌∷◌, ◌++◌, length, take, get_or, Option, Some, None}
+use Rattle.std.proofs.Common.{refl, sym, ap, ◌∙◌, arith, length-append}
+use Rattle.std.proofs.lemmas.List.{take_more, length-take-le}
 use Rattle.wk_module.specs.declared.types.GlobalType.{GlobalType}
 use Rattle.wk_module.specs.declared.types.Import.{Import}
 use Rattle.wk_module.specs.declared.types.ImportDesc.{ImportDesc}
@@ -8,15 +9,18 @@ use Rattle.wk_module.specs.declared.types.ImportDesc.TheVariants as desc
 use Rattle.wk_module.specs.declared.types.Kind.TheVariants as kinds
 use Rattle.wk_module.specs.declared.types.Limits.{Limits}
 use Rattle.wk_module.specs.Imports.{is_of_kind, import_count}
-use Rattle.wk_module.specs.ImportLaws.{counts_imports}
+use Rattle.wk_check.specs.declared.fault.FaultKind.{FaultKind}
+use Rattle.wk_check.specs.declared.fault.Flaw.{Flaw}
 use Rattle.wk_check.specs.Answers.{IsPresent}
+use Rattle.wk_check.specs.Items.{unless, within}
 use Rattle.wk_check.specs.Spaces.{and_more, imported, func_in, table_in, memory_in, global_in, any_found}
-use Rattle.wk_check.specs.SpacesLaws.{imported_push}
+use Rattle.wk_check.specs.SpacesLaws.{imported_push, counted}
 use Rattle.wk_check.specs.Whole.{AreImported}
 
 -- ---- one import more
 
-imported_more : {X : Type 0} (pick : ImportDesc → Option X) (is : List Import) (n : ℕ) (i : Import) (d : ImportDesc) → n < length is → i ≡ get_or is n i → i.desc ≡ d
+imported_more : {X : Type 0} (pick : ImportDesc → Option X) (is : List Import) (n : ℕ) (i : Import) (d : ImportDesc) → n < length is → i ≡ get_or is n i
+    → i.desc ≡ d
     → imported pick (take (n + 1) is) ≡ imported pick (take n is) ++ and_more (pick d) []
 imported_more pick is n i d inside at e =
     ap (imported pick) (take_more is n i inside) ∙ imported_push pick (take n is) (get_or is n i)
@@ -24,50 +28,21 @@ imported_more pick is n i d inside at e =
     ∙ ap (λ (x : ImportDesc). imported pick (take n is) ++ and_more (pick x) []) e
 
 -- what is counted of the imports in front, with one more
-and_next : (is : List Import) (n : ℕ) (i : Import) (d : ImportDesc) (funcs : List ℕ) (globals : List GlobalType) (tables memories : ℕ) → n < length is → i ≡ get_or is n i → i.desc ≡ d
-    → AreImported (take n is) funcs globals tables memories
-    → AreImported (take (n + 1) is) (funcs ++ and_more (func_in d) []) (globals ++ and_more (global_in d) []) (tables + length (and_more (table_in d) [])) (memories + length (and_more (memory_in d) []))
-and_next is n i d funcs globals tables memories inside at e p = record {
-  funcs_are = ap (λ (xs : List ℕ). xs ++ and_more (func_in d) []) p.funcs_are ∙ sym (imported_more func_in is n i d inside at e);
-  globals_are = ap (λ (xs : List GlobalType). xs ++ and_more (global_in d) []) p.globals_are ∙ sym (imported_more global_in is n i d inside at e);
-  tables_are =
-      ap (λ (k : ℕ). k + length (and_more (table_in d) [])) p.tables_are
-      ∙ sym (length-append (imported table_in (take n is)) (and_more (table_in d) []))
-      ∙ ap (λ (xs : List Limits). length xs) (sym (imported_more table_in is n i d inside at e));
-  memories_are =
-      ap (λ (k : ℕ). k + length (and_more (memory_in d) [])) p.memories_are
-      ∙ sym (length-append (imported memory_in (take n is)) (and_more (memory_in d) []))
-      ∙ ap (λ (xs : List Limits). length xs) (sym (imported_more memory_in is n i d inside at e));
-}
-
-same_parts : (is : List Import) (funcs funcs' : List ℕ) (globals globals' : List GlobalType) (tables tables' memories memories' : ℕ) → AreImported is funcs globals tables memories
-    → funcs ≡ funcs' → globals ≡ globals' → tables ≡ tables' → memories ≡ memories' → AreImported is funcs' globals' tables' memories'
-same_parts is funcs funcs' globals globals' tables tables' memories memories' p a b c d = record {
-  funcs_are = sym a ∙ p.funcs_are;
-  globals_are = sym b ∙ p.globals_are;
-  tables_are = sym c ∙ p.tables_are;
-  memories_are = sym d ∙ p.memories_are;
-}
-
-pub and_func : (is : List Import) (n : ℕ) (i : Import) (f : ℕ) (funcs : List ℕ) (globals : List GlobalType) (tables memories : ℕ) → n < length is → i ≡ get_or is n i → i.desc ≡ desc.Func f
-    → AreImported (take n is) funcs globals tables memories → AreImported (take (n + 1) is) (funcs ++ f ∷ []) globals tables memories
-and_func is n i f funcs globals tables memories inside at e p =
-    same_parts (take (n + 1) is) _ _ _ _ _ _ _ _ (and_next is n i (desc.Func f) funcs globals tables memories inside at e p) refl (append-nil globals) (omega arith) (omega arith)
-
-pub and_table : (is : List Import) (n : ℕ) (i : Import) (l : Limits) (funcs : List ℕ) (globals : List GlobalType) (tables memories : ℕ) → n < length is → i ≡ get_or is n i → i.desc ≡ desc.Table l
-    → AreImported (take n is) funcs globals tables memories → AreImported (take (n + 1) is) funcs globals (tables + 1) memories
-and_table is n i l funcs globals tables memories inside at e p =
-    same_parts (take (n + 1) is) _ _ _ _ _ _ _ _ (and_next is n i (desc.Table l) funcs globals tables memories inside at e p) (append-nil funcs) (append-nil globals) refl (omega arith)
-
-pub and_memory : (is : List Import) (n : ℕ) (i : Import) (l : Limits) (funcs : List ℕ) (globals : List GlobalType) (tables memories : ℕ) → n < length is → i ≡ get_or is n i → i.desc ≡ desc.Memory l
-    → AreImported (take n is) funcs globals tables memories → AreImported (take (n + 1) is) funcs globals tables (memories + 1)
-and_memory is n i l funcs globals tables memories inside at e p =
-    same_parts (take (n + 1) is) _ _ _ _ _ _ _ _ (and_next is n i (desc.Memory l) funcs globals tables memories inside at e p) (append-nil funcs) (append-nil globals) (omega arith) refl
-
-pub and_global : (is : List Import) (n : ℕ) (i : Import) (g : GlobalType) (funcs : List ℕ) (globals : List GlobalType) (tables memories : ℕ) → n < length is → i ≡ get_or is n i → i.desc ≡ desc.Global g
-    → AreImported (take n is) funcs globals tables memories → AreImported (take (n + 1) is) funcs (globals ++ g ∷ []) tables memories
-and_global is n i g funcs globals tables memories inside at e p =
-    same_parts (take (n + 1) is) _ _ _ _ _ _ _ _ (and_next is n i (desc.Global g) funcs globals tables memories inside at e p) (append-nil funcs) refl (omega arith) (omega arith)
+pub and_next : (is : List Import) (n : ℕ) (i : Import) (d : ImportDesc) (funcs funcs' : List ℕ) (globals globals' : List GlobalType)
+    (tables tables' memories memories' : ℕ) → n < length is → i ≡ get_or is n i → i.desc ≡ d
+    → AreImported (take n is) funcs globals tables memories → funcs ++ and_more (func_in d) [] ≡ funcs'
+    → globals ++ and_more (global_in d) [] ≡ globals' → tables + length (and_more (table_in d) []) ≡ tables'
+    → memories + length (and_more (memory_in d) []) ≡ memories'
+    → AreImported (take (n + 1) is) funcs' globals' tables' memories'
+and_next is n i d funcs funcs' globals globals' tables tables' memories memories' inside at e p fs gs ts ms =
+    let all_tables = imported_more table_in is n i d inside at e in
+    let all_memories = imported_more memory_in is n i d inside at e in
+    record {
+      funcs_are = sym fs ∙ ap (λ (xs : List ℕ). xs ++ and_more (func_in d) []) p.funcs_are ∙ sym (imported_more func_in is n i d inside at e);
+      globals_are = sym gs ∙ ap (λ (xs : List GlobalType). xs ++ and_more (global_in d) []) p.globals_are ∙ sym (imported_more global_in is n i d inside at e);
+      tables_are = rw all_tables (omega (arith, ts, p.tables_are, length-append (imported table_in (take n is)) (and_more (table_in d) [])));
+      memories_are = rw all_memories (omega (arith, ms, p.memories_are, length-append (imported memory_in (take n is)) (and_more (memory_in d) [])));
+    }
 
 -- ---- no more are counted than there are imports
 
@@ -81,18 +56,10 @@ imported_within pick (i ∷ is) =
     let h = and_more_longer (pick i.desc) (imported pick is) (length is) (imported_within pick is) in
     omega arith
 
-pub few_tables : (is : List Import) (n : ℕ) (funcs : List ℕ) (globals : List GlobalType) (tables memories : ℕ) → n ≤ length is → AreImported (take n is) funcs globals tables memories → tables ≤ n
-few_tables is n funcs globals tables memories h p =
-    let w = imported_within table_in (take n is) in
+pub few_imported : {X : Type 0} (pick : ImportDesc → Option X) (is : List Import) (n k : ℕ) → n ≤ length is → k ≡ length (imported pick (take n is)) → k ≤ n
+few_imported pick is n k h e =
+    let w = imported_within pick (take n is) in
     let t = length-take-le n is h in
-    let e = p.tables_are in
-    omega arith
-
-pub few_memories : (is : List Import) (n : ℕ) (funcs : List ℕ) (globals : List GlobalType) (tables memories : ℕ) → n ≤ length is → AreImported (take n is) funcs globals tables memories → memories ≤ n
-few_memories is n funcs globals tables memories h p =
-    let w = imported_within memory_in (take n is) in
-    let t = length-take-le n is h in
-    let e = p.memories_are in
     omega arith
 
 -- ---- whether a space has anything in it
@@ -109,23 +76,22 @@ found_behind (x ∷ xs) ys h = refl
 -- ---- how many are imported of each kind
 
 count_table : (d : ImportDesc) (ls : List Limits) → length (and_more (table_in d) ls) ≡ (if is_of_kind kinds.Table d then 1 else 0) + length ls
-count_table (desc.Func x) ls = omega arith
 count_table (desc.Table l) ls = omega arith
-count_table (desc.Memory l) ls = omega arith
-count_table (desc.Global g) ls = omega arith
+count_table _ ls = omega arith
 
 count_memory : (d : ImportDesc) (ls : List Limits) → length (and_more (memory_in d) ls) ≡ (if is_of_kind kinds.Memory d then 1 else 0) + length ls
-count_memory (desc.Func x) ls = omega arith
-count_memory (desc.Table l) ls = omega arith
 count_memory (desc.Memory l) ls = omega arith
-count_memory (desc.Global g) ls = omega arith
+count_memory _ ls = omega arith
 
 pub imported_tables : (is : List Import) → length (imported table_in is) ≡ import_count kinds.Table is
-imported_tables is = counts_imports kinds.Table (λ js. length (imported table_in js)) refl (λ i js. count_table i.desc (imported table_in js)) is
+imported_tables is = counted kinds.Table table_in count_table is
 
 pub imported_memories : (is : List Import) → length (imported memory_in is) ≡ import_count kinds.Memory is
-imported_memories is = counts_imports kinds.Memory (λ js. length (imported memory_in js)) refl (λ i js. count_memory i.desc (imported memory_in js)) is
+imported_memories is = counted kinds.Memory memory_in count_memory is
 
--- so many items a space holds
-pub space_length : {X : Type 0} (imports own : List X) (n k : ℕ) → length imports ≡ n → length own ≡ k → n + k ≡ length (imports ++ own)
-space_length imports own n k few many = omega (arith, few, many, length-append imports own)
+-- what is wrong with an index, where so many items of its space are imported and so many defined
+pub flaw_beyond_is : {X : Type 0} (fault : FaultKind) (imports own : List X) (x n k : ℕ) (w : Option Flaw) → w ≡ unless fault (nat_lt x (n + k))
+    → length imports ≡ n → length own ≡ k → w ≡ within fault (imports ++ own) x
+flaw_beyond_is fault imports own x n k w is few many =
+    let count : n + k ≡ length (imports ++ own) = omega (arith, few, many, length-append imports own) in
+    is ∙ ap (λ (all : ℕ). unless fault (nat_lt x all)) count

@@ -38,7 +38,8 @@ use Rattle.wk_check.proofs.ValidFinds.{valid_finds}
 more_within : {X : Type 0} (kind : FaultKind) (xs ys : List X) (x : ℕ) → length xs ≤ length ys → within kind xs x ≡ None → within kind ys x ≡ None
 more_within kind xs ys x more e = less_within kind ys x (omega (arith, within_less kind xs x e, more))
 
-pub imports_fine : (ts us : List FuncType) (is : List Import) → length ts ≤ length us → AreFine (numbered (λ item i. import_flaw ts (take item is) i.desc) 0 is) → AreFine (numbered (λ item i. import_flaw us (take item is) i.desc) 0 is)
+pub imports_fine : (ts us : List FuncType) (is : List Import) → length ts ≤ length us
+    → AreFine (numbered (λ item i. import_flaw ts (take item is) i.desc) 0 is) → AreFine (numbered (λ item i. import_flaw us (take item is) i.desc) 0 is)
 imports_fine ts us is more = still_fine _ _ (λ item i. still (take item is) i.desc) 0 is
   where
     still : (before : List Import) (d : ImportDesc) → import_flaw ts before d ≡ None → import_flaw us before d ≡ None
@@ -47,7 +48,8 @@ imports_fine ts us is more = still_fine _ _ (λ item i. still (take item is) i.d
     still before (desc.Memory l) e = e
     still before (desc.Global g) e = e
 
-pub funcs_fine : (ts us : List FuncType) (xs : List ℕ) → length ts ≤ length us → AreFine (numbered (λ item x. within UnknownType ts x) 0 xs) → AreFine (numbered (λ item x. within UnknownType us x) 0 xs)
+pub funcs_fine : (ts us : List FuncType) (xs : List ℕ) → length ts ≤ length us → AreFine (numbered (λ item x. within UnknownType ts x) 0 xs)
+    → AreFine (numbered (λ item x. within UnknownType us x) 0 xs)
 funcs_fine ts us xs more = still_fine _ _ (λ item x. more_within UnknownType ts us x more) 0 xs
 
 -- ---- what is found
@@ -69,7 +71,8 @@ module _ (A B : Ref → Found) (grows : Grows A B) where
       let h = func_agrees f valid in
       frame A B f.ty f.ty f.body h.0 h.1
 
-  pub bodies_agree : (fs : List Func) → AllByRecursion (λ f. func_verdict A f ≡ bodies.Valid) fs → AllByRecursion (λ (f : Func). Agree A B (refs.Ty f.ty ∷ refs_of f.body.instrs)) fs
+  pub bodies_agree : (fs : List Func) → AllByRecursion (λ f. func_verdict A f ≡ bodies.Valid) fs
+      → AllByRecursion (λ (f : Func). Agree A B (refs.Ty f.ty ∷ refs_of f.body.instrs)) fs
   bodies_agree [] valid = tt
   bodies_agree (f ∷ fs) valid = (func_agrees f valid.0, bodies_agree fs valid.1)
 
@@ -77,11 +80,13 @@ module _ (A B : Ref → Found) (grows : Grows A B) where
   bodies_stay [] valid = refl
   bodies_stay (f ∷ fs) valid = rw (func_still f valid.0, bodies_stay fs valid.1) refl
 
-pub valid_bodies : (A : Ref → Found) (fs : List Func) → AreFine (map body_flaw (map (func_verdict A) fs)) → AllByRecursion (λ f. func_verdict A f ≡ bodies.Valid) fs
+pub valid_bodies : (A : Ref → Found) (fs : List Func) → AreFine (map body_flaw (map (func_verdict A) fs))
+    → AllByRecursion (λ f. func_verdict A f ≡ bodies.Valid) fs
 valid_bodies A [] fine = tt
 valid_bodies A (f ∷ fs) fine = (is_valid (func_verdict A f) fine.0, valid_bodies A fs fine.1)
 
-pub codes_fine : (A B : Ref → Found) → Grows A B → (fs : List Func) → AreFine (map body_flaw (map (func_verdict A) fs)) → AreFine (map body_flaw (map (func_verdict B) fs))
+pub codes_fine : (A B : Ref → Found) → Grows A B → (fs : List Func) → AreFine (map body_flaw (map (func_verdict A) fs))
+    → AreFine (map body_flaw (map (func_verdict B) fs))
 codes_fine A B grows fs fine = rw (bodies_stay A B grows fs (valid_bodies A fs fine)) fine
 
 -- ---- spaces, and others in which all that was there is there
@@ -106,7 +111,8 @@ module _ (s t : Spaces) (larger : IsIn s t) where
   still : Carries (λ kind x. x) (λ is. is) s t
   still = record { indexes = index_still; constants = constant_fine (answer_in s) (answer_in t) larger.found; starts = start_still }
 
-  pub exports_fine : (es : List Export) → AreFine (numbered (λ item e. export_flaw s (take item es) e) 0 es) → AreFine (numbered (λ item e. export_flaw t (take item es) e) 0 es)
+  pub exports_fine : (es : List Export) → AreFine (numbered (λ item e. export_flaw s (take item es) e) 0 es)
+      → AreFine (numbered (λ item e. export_flaw t (take item es) e) 0 es)
   exports_fine es fine =
       subst (λ xs. AreFine (numbered (λ item e. export_flaw t (take item xs) e) 0 xs)) (map-id es) (exports_carried (λ kind x. x) (λ is. is) s t still es fine)
 

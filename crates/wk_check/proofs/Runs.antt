@@ -17,20 +17,28 @@ use Rattle.wk_check.specs.Levels.{Level, Blocks, blocks, with_own, opened, frame
 use Rattle.wk_check.proofs.Binds.{bind_ext, at_bind, at_bind2}
 
 -- the same after a part that both have
-bind_under : {A B C E : Type 0} (m : Result A E) (h : A → Result C E) (f : A → Result B E) (g : B → Result C E) → ((x : A) → h x ≡ (f x >>= g)) → (m >>= h) ≡ ((m >>= f) >>= g)
+bind_under : {A B C E : Type 0} (m : Result A E) (h : A → Result C E) (f : A → Result B E) (g : B → Result C E) → ((x : A) → h x ≡ (f x >>= g))
+    → (m >>= h) ≡ ((m >>= f) >>= g)
 bind_under (Ok x) h f g e = e x
 bind_under (Err x) h f g e = refl
 
 module _ (A : Ref → Found) (locals : ℕ → Option ValType) (final : List ValType) where
   -- these instructions take the stacks from one own stack of the innermost block to the next
   abbrev Follows : Instrs → Type 0
-  Follows is = (k n : ℕ) (after : List Tok) (l : Level) (ls : List Level) → k + count is ≡ n → run A locals final k (flatten is ++ after) (blocks l ls) ≡ (typed A locals final (labels_of A (blocks l ls)) k is l.own >>= λ s. run A locals final n after (blocks (with_own l s) ls))
+  Follows is = (k n : ℕ) (after : List Tok) (l : Level) (ls : List Level) → k + count is ≡ n
+      → run A locals final k (flatten is ++ after) (blocks l ls)
+      ≡ (typed A locals final (labels_of A (blocks l ls)) k is l.own >>= λ s. run A locals final n after (blocks (with_own l s) ls))
 
   -- a block after its head: the instructions in it, its end, and what comes after it
   abbrev NestedFollows : FrameKind → List ValType → BlockType → Instrs → Instrs → Type 0
-  NestedFollows o label bt inside rest = (k n : ℕ) (after : List Tok) (l : Level) (s : Own) (ls : List Level) → k + 2 + count inside + count rest ≡ n → run A locals final (k + 1) (flatten inside ++ (Close ∷ (flatten rest ++ after))) (blocks (opened A o bt) (with_own l s ∷ ls)) ≡ ((typed A locals final (label ∷ labels_of A (blocks l ls)) (k + 1) inside (begun A bt) >>= λ s2. at_token (k + 1 + count inside) (ended (results_of A bt) s2) >>= λ u. typed A locals final (labels_of A (blocks l ls)) (k + 1 + count inside + 1) rest (pushed (results_of A bt) s)) >>= λ s'. run A locals final n after (blocks (with_own l s') ls))
+  NestedFollows o label bt inside rest = (k n : ℕ) (after : List Tok) (l : Level) (s : Own) (ls : List Level) → k + 2 + count inside + count rest ≡ n
+      → run A locals final (k + 1) (flatten inside ++ (Close ∷ (flatten rest ++ after))) (blocks (opened A o bt) (with_own l s ∷ ls))
+      ≡ ((typed A locals final (label ∷ labels_of A (blocks l ls)) (k + 1) inside (begun A bt) >>= λ s2. at_token (k + 1 + count inside)
+      (ended (results_of A bt) s2) >>= λ u. typed A locals final (labels_of A (blocks l ls)) (k + 1 + count inside + 1) rest
+      (pushed (results_of A bt) s)) >>= λ s'. run A locals final n after (blocks (with_own l s') ls))
 
-  nested_runs : (o : FrameKind) (bt : BlockType) (inside rest : Instrs) → ((b : Blocks) → end_block A o b ≡ end_inner A b.inner b.outer) → Follows inside → Follows rest → NestedFollows o (level_label A o bt) bt inside rest
+  nested_runs : (o : FrameKind) (bt : BlockType) (inside rest : Instrs) → ((b : Blocks) → end_block A o b ≡ end_inner A b.inner b.outer)
+      → Follows inside → Follows rest → NestedFollows o (level_label A o bt) bt inside rest
   nested_runs o bt inside rest he hi hr k n after l s ls e =
       let behind = flatten rest ++ after in
       let kb = k + 1 + count inside in
@@ -42,13 +50,18 @@ module _ (A : Ref → Found) (locals : ℕ → Option ValType) (final : List Val
       ∙ at_bind kb (ended ts s2) (λ u. blocks (with_own l (pushed ts s)) ls) (run A locals final (kb + 1) behind)
       ∙ bind_under (at_token kb (ended ts s2)) _ _ _ (λ u. hr (kb + 1) n after (with_own l (pushed ts s)) ls (omega arith)))
 
-  kind_runs : (kind : BlockKind) (bt : BlockType) (inside rest : Instrs) → Follows inside → Follows rest → NestedFollows (frame_kind_of kind) (label_types A kind bt) bt inside rest
+  kind_runs : (kind : BlockKind) (bt : BlockType) (inside rest : Instrs) → Follows inside → Follows rest
+      → NestedFollows (frame_kind_of kind) (label_types A kind bt) bt inside rest
   kind_runs kinds.Block bt inside rest hi hr = nested_runs frame_kinds.Block bt inside rest (λ b. refl) hi hr
   kind_runs kinds.Loop bt inside rest hi hr = nested_runs frame_kinds.Loop bt inside rest (λ b. refl) hi hr
 
   -- the end of an if's then branch, the else branch with its end, and what comes after it
   abbrev ElseFollows : List Tok → ℕ → Instrs → Type 0
-  ElseFollows other n second = (bt : BlockType) (k : ℕ) (after : List Tok) (s2 : Own) (m : Level) (ls : List Level) → run A locals final k (other ++ (Close ∷ after)) (blocks (with_own (opened A frame_kinds.If bt) s2) (m ∷ ls)) ≡ (at_token k (ended (results_of A bt) s2) >>= λ u. typed A locals final (results_of A bt ∷ labels_of A (blocks m ls)) (k + n) second (begun A bt) >>= λ s3. at_token (k + n + count second) (ended (results_of A bt) s3) >>= λ v. run A locals final (k + n + count second + 1) after (blocks (with_own m (pushed (results_of A bt) m.own)) ls))
+  ElseFollows other n second = (bt : BlockType) (k : ℕ) (after : List Tok) (s2 : Own) (m : Level) (ls : List Level)
+      → run A locals final k (other ++ (Close ∷ after)) (blocks (with_own (opened A frame_kinds.If bt) s2) (m ∷ ls))
+      ≡ (at_token k (ended (results_of A bt) s2) >>= λ u. typed A locals final (results_of A bt ∷ labels_of A (blocks m ls)) (k + n) second
+      (begun A bt) >>= λ s3. at_token (k + n + count second) (ended (results_of A bt) s3) >>= λ v. run A locals final (k + n + count second + 1) after
+      (blocks (with_own m (pushed (results_of A bt) m.own)) ls))
 
   written_else : (skip : ℕ) (second : Instrs) → Follows second → ElseFollows (Otherwise skip ∷ flatten second) 1 second
   written_else skip second hs bt k after s2 m ls =
@@ -57,7 +70,8 @@ module _ (A : Ref → Found) (locals : ℕ → Option ValType) (final : List Val
       at_bind k (ended ts s2) (λ u. blocks (opened A frame_kinds.Else bt) (m ∷ ls)) (run A locals final (k + 1) (flatten second ++ (Close ∷ after)))
       ∙ bind_ext (at_token k (ended ts s2)) _ _ (λ u.
       hs (k + 1) kb (Close ∷ after) (opened A frame_kinds.Else bt) (m ∷ ls) refl
-      ∙ bind_ext (typed A locals final (ts ∷ labels_of A (blocks m ls)) (k + 1) second (begun A bt)) _ _ (λ s3. at_bind kb (ended ts s3) (λ v. blocks (with_own m (pushed ts m.own)) ls) (run A locals final (kb + 1) after)))
+      ∙ bind_ext (typed A locals final (ts ∷ labels_of A (blocks m ls)) (k + 1) second (begun A bt)) _ _
+      (λ s3. at_bind kb (ended ts s3) (λ v. blocks (with_own m (pushed ts m.own)) ls) (run A locals final (kb + 1) after)))
 
   -- an else branch without instructions is not written
   no_else : ElseFollows [] 0 Finish
@@ -66,8 +80,10 @@ module _ (A : Ref → Found) (locals : ℕ → Option ValType) (final : List Val
       let e : k ≡ k + 0 + 0 = omega arith in
       let b = blocks (opened A frame_kinds.Else bt) (m ∷ ls) in
       at_bind2 k (ended ts s2) b (λ z. end_inner A z.inner z.outer) (run A locals final (k + 1) after)
-      ∙ bind_ext (at_token k (ended ts s2)) _ _ (λ u. at_bind k (ended ts (begun A bt)) (λ v. blocks (with_own m (pushed ts m.own)) ls) (run A locals final (k + 1) after))
-      ∙ ap (λ n. at_token k (ended ts s2) >>= λ u. at_token n (ended ts (begun A bt)) >>= λ v. run A locals final (n + 1) after (blocks (with_own m (pushed ts m.own)) ls)) e
+      ∙ bind_ext (at_token k (ended ts s2)) _ _
+      (λ u. at_bind k (ended ts (begun A bt)) (λ v. blocks (with_own m (pushed ts m.own)) ls) (run A locals final (k + 1) after))
+      ∙ ap (λ n. at_token k (ended ts s2) >>= λ u. at_token n (ended ts (begun A bt)) >>= λ v. run A locals final (n + 1) after
+      (blocks (with_own m (pushed ts m.own)) ls)) e
 
   else_runs : (second : Instrs) → Follows second → ElseFollows (else_part (flatten second)) (else_count (is_finish second)) second
   else_runs Finish hs = no_else
@@ -85,7 +101,8 @@ module _ (A : Ref → Found) (locals : ℕ → Option ValType) (final : List Val
       let kc = kb + count second in
       let ts = results_of A bt in
       let labels = ts ∷ labels_of A (blocks l ls) in
-      let split : (((flatten first ++ other) ++ (Close ∷ flatten rest)) ++ after) ≡ (flatten first ++ (other ++ (Close ∷ behind))) = append_assoc (flatten first ++ other) (Close ∷ flatten rest) after ∙ append_assoc (flatten first) other (Close ∷ behind) in
+      let split : (((flatten first ++ other) ++ (Close ∷ flatten rest)) ++ after) ≡ (flatten first ++ (other ++ (Close ∷ behind))) =
+      append_assoc (flatten first ++ other) (Close ∷ flatten rest) after ∙ append_assoc (flatten first) other (Close ∷ behind) in
       ap (λ ts. run A locals final k (OpenIf bt (length (flatten first ++ other)) ∷ ts) (blocks l ls)) split
       ∙ at_bind k m (λ s. blocks (opened A frame_kinds.If bt) (with_own l s ∷ ls)) (run A locals final (k + 1) (flatten first ++ (other ++ (Close ∷ behind))))
       ∙ bind_under (at_token k m) _ _ _ (λ s1.
@@ -107,7 +124,8 @@ module _ (A : Ref → Found) (locals : ℕ → Option ValType) (final : List Val
   runs (Block kind bt inside rest) k n after l ls e =
       let m = entered A false bt l.own in
       ap (λ ts. run A locals final k (Open kind bt (length (flatten inside)) ∷ ts) (blocks l ls)) (append_assoc (flatten inside) (Close ∷ flatten rest) after)
-      ∙ at_bind k m (λ s. blocks (opened A (frame_kind_of kind) bt) (with_own l s ∷ ls)) (run A locals final (k + 1) (flatten inside ++ (Close ∷ (flatten rest ++ after))))
+      ∙ at_bind k m (λ s. blocks (opened A (frame_kind_of kind) bt) (with_own l s ∷ ls))
+      (run A locals final (k + 1) (flatten inside ++ (Close ∷ (flatten rest ++ after))))
       ∙ bind_under (at_token k m) _ _ _ (λ s. kind_runs kind bt inside rest (runs inside) (runs rest) k n after l s ls (omega arith))
   runs (If bt first second rest) k n after l ls e =
       if_runs bt first second rest (runs first) (runs second) (runs rest) k n after l ls e

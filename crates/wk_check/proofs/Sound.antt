@@ -21,10 +21,12 @@ use Rattle.wk_check.specs.Answers.{Found}
 use Rattle.wk_check.specs.Slots.{Slot, AnyType, Known, fits, selected}
 use Rattle.wk_check.specs.Own.{Own, TokenFault, at_token, popped, popped_any, checked, popped_one, pushed, pushed_one, fresh, stopped, ended}
 use Rattle.wk_check.specs.Effects.{Effect, Takes, Stops, Drops, Selects, effect_of, known, params_of, results_of, local_type}
-use Rattle.wk_check.specs.Typing.{after_effect, is_finish, else_count, count, with_index, entered, begun, label_types, typed, code_result, body_result, verdict_of, body_verdict}
+use Rattle.wk_check.specs.Typing.{after_effect, is_finish, else_count, count, with_index, entered, begun, label_types, typed, code_result, body_result}
+use Rattle.wk_check.specs.Typing.{verdict_of, body_verdict}
 use Rattle.wk_check.specs.Derives.{HasType, label_of, Derives, IsDerived}
 use Rattle.wk_check.proofs.Fits.{Fit, at_good, same_good, same_is, same_refl, checked_good, any_back, pops_back, any_on, pops_on}
-use Rattle.wk_check.proofs.Stacked.{Suits, stacked-reverse, turned, written, before_popped, before_pushed, some_suits, before_end, at_begin, after_popped, after_pushed, all_suit, may_end}
+use Rattle.wk_check.proofs.Stacked.{Suits, stacked-reverse, turned, written, before_popped, before_pushed, some_suits, before_end, at_begin, after_popped}
+use Rattle.wk_check.proofs.Stacked.{after_pushed, all_suit, may_end}
 
 some_type : (x : Slot) → (t : ValType) × (fits (Known t) x ≡ true)
 some_type AnyType = (I32, refl)
@@ -41,7 +43,9 @@ choice_on (Known v) b t ha hb = (subst (λ x. fits (Known x) b ≡ true) (same_i
 -- ---- one instruction, backwards
 
 -- what select takes of the stack, the top first, where this is what it leaves
-chosen : (a : Slot) (s s1 s2 : Own) (r : Slot × Own) → popped (I32 ∷ []) s ≡ Ok s1 → popped_any s1 ≡ Ok (a, s2) → popped_any s2 ≡ Ok r → fits a r.0 ≡ true → (q : List ValType) → Fit q (pushed_one (selected a r.0) r.1) → (t : ValType) × (u : List ValType) × (q ≡ t ∷ u) × Fit (I32 ∷ (t ∷ (t ∷ u))) s
+chosen : (a : Slot) (s s1 s2 : Own) (r : Slot × Own) → popped (I32 ∷ []) s ≡ Ok s1 → popped_any s1 ≡ Ok (a, s2) → popped_any s2 ≡ Ok r
+    → fits a r.0 ≡ true → (q : List ValType) → Fit q (pushed_one (selected a r.0) r.1)
+    → (t : ValType) × (u : List ValType) × (q ≡ t ∷ u) × Fit (I32 ∷ (t ∷ (t ∷ u))) s
 chosen a s s1 s2 r e0 e1 e2 ft [] k = absurd k
 chosen a s s1 s2 r e0 e1 e2 ft (t ∷ u) k =
     let both = choice_back a r.0 t ft k.0 in
@@ -49,7 +53,8 @@ chosen a s s1 s2 r e0 e1 e2 ft (t ∷ u) k =
     let h1 = any_back s1.dead s1.items (a, s2) t (t ∷ u) e1 both.0 h2 in
     (t, u, refl, pops_back (I32 ∷ []) s s1 (t ∷ (t ∷ u)) e0 h1)
 
-select_back : (s s' : Own) → after_effect Selects s ≡ Ok s' → (q : List ValType) → Fit q s' → (t : ValType) × (u : List ValType) × (q ≡ t ∷ u) × Fit (I32 ∷ (t ∷ (t ∷ u))) s
+select_back : (s s' : Own) → after_effect Selects s ≡ Ok s' → (q : List ValType) → Fit q s'
+    → (t : ValType) × (u : List ValType) × (q ≡ t ∷ u) × Fit (I32 ∷ (t ∷ (t ∷ u))) s
 select_back s s' e q h =
     let b = bind_ok (popped (I32 ∷ []) s) _ s' e in
     let c = bind_ok (popped_any b.0) _ s' b.2 in
@@ -81,11 +86,27 @@ effect_back Drops s s' e q h =
     let b = bind_ok (popped_any s) (λ p. Ok p.1) s' e in
     let t = some_type b.0.0 in
     let fit = any_back s.dead s.items b.0 t.0 (reverse q) b.1 t.1 (subst (Suits q) (sym (same_good b.0.1 s' b.2)) h) in
-    record { below = q; operands = t.0 ∷ []; results = []; has = (t.0, refl, refl); left = sym (append-nil q); suits = subst (λ r. Fit r s) (stacked-reverse (t.0 ∷ []) q) fit }
+    record {
+      below = q;
+      operands = t.0 ∷ [];
+      results = [];
+      has = (t.0, refl, refl);
+      left = sym (append-nil q);
+      suits =
+          subst (λ r. Fit r s) (stacked-reverse (t.0 ∷ []) q) fit;
+    }
 effect_back Selects s s' e q h =
     let b = select_back s s' e (reverse q) h in
     let operands = b.0 ∷ b.0 ∷ I32 ∷ [] in
-    record { below = reverse b.1; operands = operands; results = b.0 ∷ []; has = (b.0, refl, refl); left = written (b.0 ∷ []) b.1 q b.2; suits = subst (λ r. Fit r s) (turned operands b.1) b.3 }
+    record {
+      below = reverse b.1;
+      operands = operands;
+      results = b.0 ∷ [];
+      has = (b.0, refl, refl);
+      left = written (b.0 ∷ []) b.1 q b.2;
+      suits =
+          subst (λ r. Fit r s) (turned operands b.1) b.3;
+    }
 
 -- ---- one instruction, forwards
 
@@ -104,7 +125,8 @@ select_on s t u h =
       (both.1, d.3),
     )
 
-effect_on : (e : Effect) (s : Own) (below operands results : List ValType) → HasType e operands results → Suits (below ++ operands) s → (s' : Own) × (after_effect e s ≡ Ok s') × Suits (below ++ results) s'
+effect_on : (e : Effect) (s : Own) (below operands results : List ValType) → HasType e operands results → Suits (below ++ operands) s
+    → (s' : Own) × (after_effect e s ≡ Ok s') × Suits (below ++ results) s'
 effect_on (Takes ts us) s below operands results a h =
     let b = after_popped ts s below (subst (λ r. Suits (below ++ r) s) a.0 h) in
     (pushed us b.0, ap (λ m. m >>= λ r. Ok (pushed us r)) b.1, subst (λ r. Suits (below ++ r) (pushed us b.0)) (sym a.1) (after_pushed us b.0 below b.2))
@@ -145,33 +167,48 @@ module _ (A : Ref → Found) (locals : ℕ → Option ValType) (final : List Val
   -- both branches of an if
   abbrev both : List (List ValType) → ℕ → BlockType → Instrs → Instrs → Instrs → Own → Result Own TokenFault
   both labels k bt first second rest s1 =
-      typed A locals final (results_of A bt ∷ labels) k first (begun A bt) >>= halving labels (k + count first) (k + count first + else_count (is_finish second)) bt second rest s1
+      typed A locals final (results_of A bt ∷ labels) k first (begun A bt) >>= halving labels (k + count first)
+      (k + count first + else_count (is_finish second)) bt second rest s1
 
   -- ---- backwards
 
-  from_one : (labels : List (List ValType)) (i : Plain) (rest : Instrs) (e : Effect) (s : Own) (q mid : List ValType) (came : Came e s mid) → effect_of A locals final labels i ≡ Ok e → Derives A locals final labels rest mid q → Derives A locals final labels (One i rest) (came.below ++ came.operands) q
+  from_one : (labels : List (List ValType)) (i : Plain) (rest : Instrs) (e : Effect) (s : Own) (q mid : List ValType) (came : Came e s mid)
+      → effect_of A locals final labels i ≡ Ok e → Derives A locals final labels rest mid q
+      → Derives A locals final labels (One i rest) (came.below ++ came.operands) q
   from_one labels i rest e s q mid came ok behind =
       (came.below, came.operands, came.results, e, ok, came.has, refl, subst (λ p. Derives A locals final labels rest p q) came.left behind)
 
-  from_block : (labels : List (List ValType)) (kind : BlockKind) (bt : BlockType) (inside rest : Instrs) (q u : List ValType) → known A bt ≡ Ok tt → Derives A locals final (label_types A kind bt ∷ labels) inside (params_of A bt) (results_of A bt) → Derives A locals final labels rest (u ++ results_of A bt) q → Derives A locals final labels (Block kind bt inside rest) (u ++ params_of A bt) q
+  from_block : (labels : List (List ValType)) (kind : BlockKind) (bt : BlockType) (inside rest : Instrs) (q u : List ValType) → known A bt ≡ Ok tt
+      → Derives A locals final (label_types A kind bt ∷ labels) inside (params_of A bt) (results_of A bt)
+      → Derives A locals final labels rest (u ++ results_of A bt) q → Derives A locals final labels (Block kind bt inside rest) (u ++ params_of A bt) q
   from_block labels kind bt inside rest q u ok h behind =
       (u, ok, subst (λ l. Derives A locals final (l ∷ labels) inside (params_of A bt) (results_of A bt)) (same_label A kind bt) h, refl, behind)
 
-  from_if : (labels : List (List ValType)) (bt : BlockType) (first second rest : Instrs) (q u : List ValType) → known A bt ≡ Ok tt → Derives A locals final (results_of A bt ∷ labels) first (params_of A bt) (results_of A bt) → Derives A locals final (results_of A bt ∷ labels) second (params_of A bt) (results_of A bt) → Derives A locals final labels rest (u ++ results_of A bt) q → Derives A locals final labels (If bt first second rest) (u ++ (params_of A bt ++ I32 ∷ [])) q
+  from_if : (labels : List (List ValType)) (bt : BlockType) (first second rest : Instrs) (q u : List ValType) → known A bt ≡ Ok tt
+      → Derives A locals final (results_of A bt ∷ labels) first (params_of A bt) (results_of A bt)
+      → Derives A locals final (results_of A bt ∷ labels) second (params_of A bt) (results_of A bt)
+      → Derives A locals final labels rest (u ++ results_of A bt) q
+      → Derives A locals final labels (If bt first second rest) (u ++ (params_of A bt ++ I32 ∷ [])) q
   from_if labels bt first second rest q u ok h1 h2 behind = (u, ok, h1, h2, refl, behind)
 
   abbrev Sound : Instrs → Type 0
-  Sound is = (labels : List (List ValType)) (k : ℕ) (s s' : Own) → typed A locals final labels k is s ≡ Ok s' → (q : List ValType) → Suits q s' → (p : List ValType) × Suits p s × Derives A locals final labels is p q
+  Sound is = (labels : List (List ValType)) (k : ℕ) (s s' : Own) → typed A locals final labels k is s ≡ Ok s' → (q : List ValType) → Suits q s'
+      → (p : List ValType) × Suits p s × Derives A locals final labels is p q
 
   -- a branch on a stack of its own
-  inside_back : (is : Instrs) → Sound is → (labels : List (List ValType)) (k kb : ℕ) (bt : BlockType) (s2 : Own) → typed A locals final labels k is (begun A bt) ≡ Ok s2 → at_token kb (ended (results_of A bt) s2) ≡ Ok tt → Derives A locals final labels is (params_of A bt) (results_of A bt)
+  inside_back : (is : Instrs) → Sound is → (labels : List (List ValType)) (k kb : ℕ) (bt : BlockType) (s2 : Own)
+      → typed A locals final labels k is (begun A bt) ≡ Ok s2 → at_token kb (ended (results_of A bt) s2) ≡ Ok tt
+      → Derives A locals final labels is (params_of A bt) (results_of A bt)
   inside_back is sound labels k kb bt s2 e ee =
       let r = results_of A bt in
       let b = sound labels k (begun A bt) s2 e r (before_end r s2 (at_good kb _ tt ee)) in
       subst (λ p. Derives A locals final labels is p r) (at_begin (params_of A bt) b.0 b.1) b.2
 
   -- what a block takes, and what comes behind it
-  outside_back : (is : Instrs) → Sound is → (labels : List (List ValType)) (k n : ℕ) (test : Bool) (bt : BlockType) (s s1 s' : Own) → at_token k (entered A test bt s) ≡ Ok s1 → typed A locals final labels n is (pushed (results_of A bt) s1) ≡ Ok s' → (q : List ValType) → Suits q s' → (u : List ValType) × Suits (u ++ with_index test (params_of A bt)) s × (known A bt ≡ Ok tt) × Derives A locals final labels is (u ++ results_of A bt) q
+  outside_back : (is : Instrs) → Sound is → (labels : List (List ValType)) (k n : ℕ) (test : Bool) (bt : BlockType) (s s1 s' : Own)
+      → at_token k (entered A test bt s) ≡ Ok s1 → typed A locals final labels n is (pushed (results_of A bt) s1) ≡ Ok s' → (q : List ValType)
+      → Suits q s' → (u : List ValType) × Suits (u ++ with_index test (params_of A bt)) s × (known A bt ≡ Ok tt)
+      × Derives A locals final labels is (u ++ results_of A bt) q
   outside_back is sound labels k n test bt s s1 s' e ei q h =
       let b = sound labels n (pushed (results_of A bt) s1) s' ei q h in
       let c = before_pushed (results_of A bt) s1 b.0 b.1 in
@@ -191,7 +228,8 @@ module _ (A : Ref → Found) (locals : ℕ → Option ValType) (final : List Val
       let label = label_types A kind bt in
       let b = bind_ok (at_token k (entered A false bt s)) (within labels label (k + 1) bt inside rest) s' e in
       let c = bind_ok (typed A locals final (label ∷ labels) (k + 1) inside (begun A bt)) (closing labels (k + 1 + count inside) bt rest b.0) s' b.2 in
-      let d = bind_ok (at_token (k + 1 + count inside) (ended (results_of A bt) c.0)) (λ u. typed A locals final labels (k + 1 + count inside + 1) rest (pushed (results_of A bt) b.0)) s' c.2 in
+      let d = bind_ok (at_token (k + 1 + count inside) (ended (results_of A bt) c.0))
+      (λ u. typed A locals final labels (k + 1 + count inside + 1) rest (pushed (results_of A bt) b.0)) s' c.2 in
       let o = outside_back rest (sound rest) labels k (k + 1 + count inside + 1) false bt s b.0 s' b.1 d.2 q h in
       let i = inside_back inside (sound inside) (label ∷ labels) (k + 1) (k + 1 + count inside) bt c.0 c.1 d.1 in
       (o.0 ++ params_of A bt, o.1, from_block labels kind bt inside rest q o.0 o.2 i o.3)
@@ -213,15 +251,19 @@ module _ (A : Ref → Found) (locals : ℕ → Option ValType) (final : List Val
   -- ---- forwards
 
   abbrev Complete : Instrs → Type 0
-  Complete is = (labels : List (List ValType)) (k : ℕ) (s : Own) (p q : List ValType) → Derives A locals final labels is p q → Suits p s → (s' : Own) × (typed A locals final labels k is s ≡ Ok s') × Suits q s'
+  Complete is = (labels : List (List ValType)) (k : ℕ) (s : Own) (p q : List ValType) → Derives A locals final labels is p q → Suits p s
+      → (s' : Own) × (typed A locals final labels k is s ≡ Ok s') × Suits q s'
 
   -- a branch on a stack of its own, and its end
-  inside_on : (is : Instrs) → Complete is → (labels : List (List ValType)) (k kb : ℕ) (bt : BlockType) → Derives A locals final labels is (params_of A bt) (results_of A bt) → (s2 : Own) × (typed A locals final labels k is (begun A bt) ≡ Ok s2) × (at_token kb (ended (results_of A bt) s2) ≡ Ok tt)
+  inside_on : (is : Instrs) → Complete is → (labels : List (List ValType)) (k kb : ℕ) (bt : BlockType)
+      → Derives A locals final labels is (params_of A bt) (results_of A bt)
+      → (s2 : Own) × (typed A locals final labels k is (begun A bt) ≡ Ok s2) × (at_token kb (ended (results_of A bt) s2) ≡ Ok tt)
   inside_on is complete labels k kb bt h =
       let b = complete labels k (begun A bt) _ _ h (after_pushed (params_of A bt) fresh [] tt) in
       (b.0, b.1, ap (at_token kb) (may_end (results_of A bt) b.0 b.2))
 
-  entered_on : (k : ℕ) (test : Bool) (bt : BlockType) (s : Own) (p u : List ValType) → known A bt ≡ Ok tt → p ≡ u ++ with_index test (params_of A bt) → Suits p s → (s1 : Own) × (at_token k (entered A test bt s) ≡ Ok s1) × Suits u s1
+  entered_on : (k : ℕ) (test : Bool) (bt : BlockType) (s : Own) (p u : List ValType) → known A bt ≡ Ok tt → p ≡ u ++ with_index test (params_of A bt)
+      → Suits p s → (s1 : Own) × (at_token k (entered A test bt s) ≡ Ok s1) × Suits u s1
   entered_on k test bt s p u kn e h =
       let ts = with_index test (params_of A bt) in
       let b = after_popped ts s u (subst (λ r. Suits r s) e h) in
@@ -231,8 +273,12 @@ module _ (A : Ref → Found) (locals : ℕ → Option ValType) (final : List Val
   complete Finish labels k s p q e h = (s, refl, subst (λ r. Suits r s) e h)
   complete (One i rest) labels k s p q d h =
       let a = effect_on d.3 s d.0 d.1 d.2 d.5 (subst (λ r. Suits r s) d.6 h) in
-      let b = complete rest labels (k + 1) a.0 _ q d.7 a.2 in
-      (b.0, ap (λ m. at_token k (m >>= λ w. after_effect w s) >>= λ r. typed A locals final labels (k + 1) rest r) d.4 ∙ ap (λ m. at_token k m >>= λ r. typed A locals final labels (k + 1) rest r) a.1 ∙ b.1, b.2)
+      let b = complete rest labels (k + 1) a.0 _ q d.7 a.2 in (
+        b.0,
+        ap (λ m. at_token k (m >>= λ w. after_effect w s) >>= λ r. typed A locals final labels (k + 1) rest r) d.4
+            ∙ ap (λ m. at_token k m >>= λ r. typed A locals final labels (k + 1) rest r) a.1 ∙ b.1,
+        b.2,
+      )
   complete (Block kind bt inside rest) labels k s p q d h =
       let rs = results_of A bt in
       let label = label_types A kind bt in
@@ -242,7 +288,8 @@ module _ (A : Ref → Found) (locals : ℕ → Option ValType) (final : List Val
       let b = inside_on inside (complete inside) (label ∷ labels) (k + 1) kb bt i in
       let c = complete rest labels (kb + 1) (pushed rs a.0) _ q d.4 (after_pushed rs a.0 d.0 a.2) in (
         c.0,
-        ap (λ m. m >>= within labels label (k + 1) bt inside rest) a.1 ∙ ap (λ m. m >>= closing labels kb bt rest a.0) b.1 ∙ ap (λ m. m >>= λ u. typed A locals final labels (kb + 1) rest (pushed rs a.0)) b.2 ∙ c.1,
+        ap (λ m. m >>= within labels label (k + 1) bt inside rest) a.1 ∙ ap (λ m. m >>= closing labels kb bt rest a.0) b.1
+            ∙ ap (λ m. m >>= λ u. typed A locals final labels (kb + 1) rest (pushed rs a.0)) b.2 ∙ c.1,
         c.2,
       )
   complete (If bt first second rest) labels k s p q d h =
@@ -255,19 +302,23 @@ module _ (A : Ref → Found) (locals : ℕ → Option ValType) (final : List Val
       let c = inside_on second (complete second) (rs ∷ labels) kb kc bt d.3 in
       let f = complete rest labels (kc + 1) (pushed rs a.0) _ q d.5 (after_pushed rs a.0 d.0 a.2) in (
         f.0,
-        ap (λ m. m >>= both labels (k + 1) bt first second rest) a.1 ∙ ap (λ m. m >>= halving labels ka kb bt second rest a.0) b.1 ∙ ap (λ m. m >>= λ u. within labels rs kb bt second rest a.0) b.2 ∙ ap (λ m. m >>= closing labels kc bt rest a.0) c.1 ∙ ap (λ m. m >>= λ v. typed A locals final labels (kc + 1) rest (pushed rs a.0)) c.2 ∙ f.1,
+        ap (λ m. m >>= both labels (k + 1) bt first second rest) a.1 ∙ ap (λ m. m >>= halving labels ka kb bt second rest a.0) b.1
+            ∙ ap (λ m. m >>= λ u. within labels rs kb bt second rest a.0) b.2 ∙ ap (λ m. m >>= closing labels kc bt rest a.0) c.1
+            ∙ ap (λ m. m >>= λ v. typed A locals final labels (kc + 1) rest (pushed rs a.0)) c.2 ∙ f.1,
         f.2,
       )
 
 -- ---- code and bodies
 
-pub code_derived : (A : Ref → Found) (locals : ℕ → Option ValType) (rs : List ValType) (is : Instrs) → code_result A locals rs is ≡ Ok tt → Derives A locals rs (rs ∷ []) is [] rs
+pub code_derived : (A : Ref → Found) (locals : ℕ → Option ValType) (rs : List ValType) (is : Instrs) → code_result A locals rs is ≡ Ok tt
+    → Derives A locals rs (rs ∷ []) is [] rs
 code_derived A locals rs is e =
     let d = bind_ok (typed A locals rs (rs ∷ []) 0 is fresh) _ tt e in
     let f = sound A locals rs is (rs ∷ []) 0 fresh d.0 d.1 rs (before_end rs d.0 (at_good (count is) _ tt d.2)) in
     subst (λ p. Derives A locals rs (rs ∷ []) is p rs) (at_begin [] f.0 f.1) f.2
 
-pub code_typed : (A : Ref → Found) (locals : ℕ → Option ValType) (rs : List ValType) (is : Instrs) → Derives A locals rs (rs ∷ []) is [] rs → code_result A locals rs is ≡ Ok tt
+pub code_typed : (A : Ref → Found) (locals : ℕ → Option ValType) (rs : List ValType) (is : Instrs) → Derives A locals rs (rs ∷ []) is [] rs
+    → code_result A locals rs is ≡ Ok tt
 code_typed A locals rs is h =
     let c = complete A locals rs is (rs ∷ []) 0 fresh [] rs h tt in
     ap (λ m. m >>= λ s. at_token (count is) (ended rs s)) c.1 ∙ ap (at_token (count is)) (may_end rs c.0 c.2)

@@ -1,5 +1,6 @@
 -- The verdict is valid exactly where the module is.
-use Rattle.std.proofs.Common.{◌≡◌, ℕ, ◌+◌, ◌<◌, nat_lt, Bool, true, false, if◌then◌else◌, List, [], ◌∷◌, length, map, Option, Some, None, Result, Ok, Err, IfOk, refl, ap, subst, ◌∙◌, inl, inr}
+use Rattle.std.proofs.Common.{◌≡◌, ℕ, ◌+◌, ◌<◌, nat_lt, Bool, true, false, if◌then◌else◌, List, [], ◌∷◌, length, map, Option, Some, None, Result, Ok, Err, IfOk}
+use Rattle.std.proofs.Common.{refl, ap, subst, ◌∙◌, inl, inr}
 use Rattle.std.proofs.lemmas.Bool.{cases_Bool, lt-ltb, ltb-true}
 use Rattle.std.specs.Prelude.{◌↔◌}
 use Rattle.std.specs.List.{AllByRecursion}
@@ -26,12 +27,13 @@ use Rattle.wk_check.specs.Constants.{constant_flaw}
 use Rattle.wk_check.specs.ConstantRules.{IsConstantOf}
 use Rattle.wk_check.specs.Derives.{IsDerived}
 use Rattle.wk_check.specs.Flaws.{numbered, AreFine, IsFirst}
-use Rattle.wk_check.specs.Items.{earlier, unless, within, all_within, global_flaw, elem_flaw, data_flaw, body_flaw}
+use Rattle.wk_check.specs.Items.{earlier, unless, within, all_within, global_flaw, start_flaws, elem_flaw, data_flaw, body_flaw}
 use Rattle.wk_check.specs.Spaces.{Spaces, answer_in, spaces_of, initial_spaces}
 use Rattle.wk_check.specs.Spelled.{judged}
 use Rattle.wk_check.specs.Typing.{body_verdict}
 use Rattle.wk_check.specs.Valid.{IsValidElem, IsValidData, IsValidModule, IsValidRead}
-use Rattle.wk_check.specs.Verdict.{func_verdict, module_flaws, IsVerdict}
+use Rattle.wk_check.specs.Verdict.{type_flaws, import_flaws, func_flaws, table_flaws, memory_flaws, global_flaws, export_flaws, elem_flaws, code_flaws}
+use Rattle.wk_check.specs.Verdict.{data_flaws, func_verdict, module_flaws, IsVerdict}
 use Rattle.wk_check.proofs.All.{back}
 use Rattle.wk_check.proofs.ConstantRules.{constant_derived, derived_constant}
 use Rattle.wk_check.proofs.JudgedCodes.{told_meaning}
@@ -101,7 +103,8 @@ less_all n (x ∷ xs) all =
 module _ (s : Spaces) where
   elem_is_valid : (e : Elem) → elem_flaw s e ≡ None → IsValidElem s e
   elem_is_valid e none =
-      let p = both_none (within UnknownTable s.tables e.table) (earlier (constant_flaw (answer_in s) I32 e.offset) (unless UnknownFunc (all_within (length s.funcs) e.funcs))) none in
+      let p = both_none (within UnknownTable s.tables e.table)
+      (earlier (constant_flaw (answer_in s) I32 e.offset) (unless UnknownFunc (all_within (length s.funcs) e.funcs))) none in
       let q = both_none (constant_flaw (answer_in s) I32 e.offset) (unless UnknownFunc (all_within (length s.funcs) e.funcs)) p.1 in
       record {
         table = within_less UnknownTable s.tables e.table p.0;
@@ -128,6 +131,37 @@ module _ (s : Spaces) where
 
 -- ---- modules
 
+-- nothing is wrong with a module, section by section
+pub record IsFine (m : Parts) : Type 0 where
+  pub types : AreFine (type_flaws m.profile (lists_of m))
+  pub imports : AreFine (import_flaws (lists_of m))
+  pub funcs : AreFine (func_flaws (lists_of m))
+  pub tables : AreFine (table_flaws (lists_of m))
+  pub memories : AreFine (memory_flaws (lists_of m))
+  pub globals : AreFine (global_flaws (lists_of m))
+  pub exports : AreFine (export_flaws (lists_of m))
+  pub start : AreFine (start_flaws (spaces_of (lists_of m)) m.start)
+  pub elems : AreFine (elem_flaws (lists_of m))
+  pub codes : AreFine (code_flaws (lists_of m) m.funcs)
+  pub datas : AreFine (data_flaws (lists_of m))
+
+pub by_sections : (m : Parts) → AllByRecursion AreFine (module_flaws m) → IsFine m
+by_sections m a =
+    let b = a.1.1.1.1.1.1 in
+    record {
+      types = a.0;
+      imports = a.1.0;
+      funcs = a.1.1.0;
+      tables = a.1.1.1.0;
+      memories = a.1.1.1.1.0;
+      globals = a.1.1.1.1.1.0;
+      exports = b.0;
+      start = b.1.0;
+      elems = b.1.1.0;
+      codes = b.1.1.1.0;
+      datas = b.1.1.1.1.0;
+    }
+
 no_first : (flaws : List (List (Option Flaw))) (fault : Fault) → AllByRecursion AreFine flaws → IsFirst 1 flaws fault → ⊥
 no_first flaws fault fine first =
     let sections = back AreFine first.sections_before _ (subst (AllByRecursion AreFine) first.parts fine) in
@@ -142,33 +176,27 @@ module _ (m : Parts) where
   initial = answer_in (initial_spaces (lists_of m))
 
   fine_valid : AllByRecursion AreFine (module_flaws m) → IsValidModule m
-  fine_valid fine =
-      let behind_types = fine.1 in
-      let behind_imports = behind_types.1 in
-      let behind_funcs = behind_imports.1 in
-      let behind_tables = behind_funcs.1 in
-      let behind_memories = behind_tables.1 in
-      let behind_globals = behind_memories.1 in
-      let behind_exports = behind_globals.1 in
-      let behind_start = behind_exports.1 in
-      let behind_elems = behind_start.1 in
+  fine_valid all =
+      let fine = by_sections m all in
       record {
-        types = fine.0;
-        imports = behind_types.0;
-        funcs = behind_imports.0;
-        tables = behind_funcs.0;
-        memories = behind_tables.0;
-        globals = from_fine (λ item (g : GlobalDef). global_flaw initial g) (λ (g : GlobalDef). IsConstantOf initial g.ty.val g.init) (λ item (g : GlobalDef). constant_derived initial g.ty.val g.init) 0 m.globals behind_memories.0;
-        exports = behind_globals.0;
-        start = behind_exports.0;
-        elems = from_fine (λ item (e : Elem). elem_flaw spaces e) (IsValidElem spaces) (λ item. elem_is_valid spaces) 0 m.elems behind_start.0;
-        bodies = are_derived (answer_in spaces) m.funcs behind_elems.0;
-        datas = from_fine (λ item (d : DataSeg). data_flaw spaces d) (IsValidData spaces) (λ item. data_is_valid spaces) 0 m.datas behind_elems.1.0;
+        types = fine.types;
+        imports = fine.imports;
+        funcs = fine.funcs;
+        tables = fine.tables;
+        memories = fine.memories;
+        globals = from_fine (λ item (g : GlobalDef). global_flaw initial g) (λ (g : GlobalDef). IsConstantOf initial g.ty.val g.init)
+            (λ item (g : GlobalDef). constant_derived initial g.ty.val g.init) 0 m.globals fine.globals;
+        exports = fine.exports;
+        start = fine.start;
+        elems = from_fine (λ item (e : Elem). elem_flaw spaces e) (IsValidElem spaces) (λ item. elem_is_valid spaces) 0 m.elems fine.elems;
+        bodies = are_derived (answer_in spaces) m.funcs fine.codes;
+        datas = from_fine (λ item (d : DataSeg). data_flaw spaces d) (IsValidData spaces) (λ item. data_is_valid spaces) 0 m.datas fine.datas;
       }
 
   valid_fine : IsValidModule m → AllByRecursion AreFine (module_flaws m)
   valid_fine valid =
-      let globals = to_fine (λ item (g : GlobalDef). global_flaw initial g) (λ (g : GlobalDef). IsConstantOf initial g.ty.val g.init) (λ item (g : GlobalDef). derived_constant initial g.ty.val g.init) 0 m.globals valid.globals in
+      let globals = to_fine (λ item (g : GlobalDef). global_flaw initial g) (λ (g : GlobalDef). IsConstantOf initial g.ty.val g.init)
+      (λ item (g : GlobalDef). derived_constant initial g.ty.val g.init) 0 m.globals valid.globals in
       let elems = to_fine (λ item (e : Elem). elem_flaw spaces e) (IsValidElem spaces) (λ item. valid_elem spaces) 0 m.elems valid.elems in
       let codes = derived_fine (answer_in spaces) m.funcs valid.bodies in
       let datas = to_fine (λ item (d : DataSeg). data_flaw spaces d) (IsValidData spaces) (λ item. valid_data spaces) 0 m.datas valid.datas in
@@ -179,7 +207,8 @@ valid_exactly m Valid fine = (λ is. fine_valid m fine, λ valid. refl)
 valid_exactly m (Invalid fault) first = (λ is. absurd cc, λ valid. absurd (no_first (module_flaws m) fault (valid_fine m valid) first))
 
 -- of what is read
-pub read_exactly : (read : Result Parts ReadFault) (answer : Result Verdict ReadFault) → Reads (λ v. v) answer (judged read) → IfOk answer (λ v. v ≡ Valid ↔ IsValidRead read)
+pub read_exactly : (read : Result Parts ReadFault) (answer : Result Verdict ReadFault) → Reads (λ v. v) answer (judged read)
+    → IfOk answer (λ v. v ≡ Valid ↔ IsValidRead read)
 read_exactly (Ok m) (Ok v) reads = valid_exactly m v (told_meaning (Ok m) (Ok v) reads)
 read_exactly (Err e) (Ok v) reads = absurd cc
 read_exactly read (Err e) reads = tt

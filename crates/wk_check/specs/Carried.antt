@@ -29,9 +29,11 @@ AgreeMoved kind from before now rs = AllByRecursion (λ r. now (moved_ref kind f
 
 -- a body whose references find what they found, under a type that is found to be the same, has the verdict that it had
 abbrev pub Keeps : Type 0
-Keeps = (before now : Ref → Found) (was is : ℕ) (b : BodyOf) → now (refs.Ty is) ≡ before (refs.Ty was) → Agree before now (refs_of b.instrs) → body_verdict now is b ≡ body_verdict before was b
+Keeps = (before now : Ref → Found) (was is : ℕ) (b : BodyOf) → now (refs.Ty is) ≡ before (refs.Ty was) → Agree before now (refs_of b.instrs)
+    → body_verdict now is b ≡ body_verdict before was b
 
 -- so has one whose references moved
 abbrev pub KeepsMoved : Type 0
-KeepsMoved = (kind : Moving) (from : ℕ) (before now : Ref → Found) (was is : ℕ) (b : BodyOf) → now (refs.Ty is) ≡ before (refs.Ty was) → AgreeMoved kind from before now (refs_of b.instrs)
+KeepsMoved = (kind : Moving) (from : ℕ) (before now : Ref → Found) (was is : ℕ) (b : BodyOf) → now (refs.Ty is) ≡ before (refs.Ty was)
+    → AgreeMoved kind from before now (refs_of b.instrs)
     → body_verdict now is (shift_body kind from b) ≡ body_verdict before was b

@@ -46,4 +46,5 @@ Derives A locals final labels (If bt first second rest) p q =
 -- A body of this type is valid (3.4.1): the type is known, and the instructions lead from an empty stack to the results.
 pub record IsDerived (A : Ref → Found) (t : ℕ) (b : BodyOf) : Type 0 where
   pub known_type : known A (Index t) ≡ Ok tt
-  pub derives : Derives A (local_type (params_of A (Index t)) b.groups) (results_of A (Index t)) (results_of A (Index t) ∷ []) b.instrs [] (results_of A (Index t))
+  pub derives : Derives A (local_type (params_of A (Index t)) b.groups) (results_of A (Index t)) (results_of A (Index t) ∷ []) b.instrs []
+      (results_of A (Index t))

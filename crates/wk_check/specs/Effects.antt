@@ -1,5 +1,6 @@
 -- What each instruction that holds no others asks of its immediates, takes and gives (3.3); the parameters and results of block types.
-use Rattle.std.specs.Prelude.{ℕ, ◌-◌, ◌^◌, Bool, true, false, if◌then◌else◌, nat_lt, List, [], ◌∷◌, ◌++◌, Result, Ok, Err, Option, Some, None, is_some, slice_get, length}
+use Rattle.std.specs.Prelude.{ℕ, ◌-◌, ◌^◌, Bool, true, false, if◌then◌else◌, nat_lt, List, [], ◌∷◌, ◌++◌, Result, Ok, Err, Option, Some, None, is_some}
+use Rattle.std.specs.Prelude.{slice_get, length}
 use Rattle.wk_bytes.specs.Leb.{◌>>=◌}
 use Rattle.wk_body.specs.declared.types.ValType.{ValType}
 use Rattle.wk_body.specs.declared.types.ValType.TheVariants.{I32, I64, F32, F64}
@@ -16,7 +17,8 @@ use Rattle.wk_body.specs.Instructions.{Plain}
 use Rattle.wk_body.specs.MemoryOps.{memory_type, memory_width, memory_stores}
 use Rattle.wk_body.specs.Numeric.{numeric_type}
 use Rattle.wk_check.specs.declared.fault.FaultKind.{FaultKind}
-use Rattle.wk_check.specs.declared.fault.FaultKind.TheVariants.{UnknownType, UnknownFunc, UnknownLocal, UnknownLabel, LabelTypes, UnknownTable, UnknownMemory, UnknownGlobal, GlobalImmutable, Alignment}
+use Rattle.wk_check.specs.declared.fault.FaultKind.TheVariants.{UnknownType, UnknownFunc, UnknownLocal, UnknownLabel, LabelTypes, UnknownTable, UnknownMemory}
+use Rattle.wk_check.specs.declared.fault.FaultKind.TheVariants.{UnknownGlobal, GlobalImmutable, Alignment}
 use Rattle.wk_check.specs.Answers.{Found, TypeIs, FuncIs, FuncOfNoType, GlobalIs, IsPresent}
 use Rattle.wk_check.specs.Slots.{same}
 

@@ -20,7 +20,8 @@ use Rattle.wk_module.specs.declared.types.GlobalDef.{GlobalDef}
 use Rattle.wk_module.specs.declared.types.Elem.{Elem}
 use Rattle.wk_module.specs.declared.types.DataSeg.{DataSeg}
 use Rattle.wk_check.specs.declared.fault.FaultKind.{FaultKind}
-use Rattle.wk_check.specs.declared.fault.FaultKind.TheVariants.{TypeArity, UnknownType, LimitsOrder, MemoryRange, TooManyTables, TooManyMemories, UnknownFunc, UnknownTable, UnknownMemory, UnknownGlobal, DuplicateExport, StartType}
+use Rattle.wk_check.specs.declared.fault.FaultKind.TheVariants.{TypeArity, UnknownType, LimitsOrder, MemoryRange, TooManyTables, TooManyMemories, UnknownFunc}
+use Rattle.wk_check.specs.declared.fault.FaultKind.TheVariants.{UnknownTable, UnknownMemory, UnknownGlobal, DuplicateExport, StartType}
 use Rattle.wk_check.specs.declared.fault.Flaw.{Flaw}
 use Rattle.wk_check.specs.declared.fault.BodyVerdict.{BodyVerdict}
 use Rattle.wk_check.specs.declared.fault.BodyVerdict.TheVariants as bodies

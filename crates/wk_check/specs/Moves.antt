@@ -12,7 +12,7 @@ use Rattle.wk_check.specs.declared.stacks.FrameKind.{FrameKind}
 use Rattle.wk_check.specs.declared.stacks.FrameKind.TheVariants as frame_kinds
 use Rattle.wk_check.specs.Slots.{Slot}
 use Rattle.wk_check.specs.Own.{Own, TokenFault, ended, popped_one, pushed_one, stopped, fresh, is_empty}
-use Rattle.wk_check.specs.Effects.{Effect}
+use Rattle.wk_check.specs.Effects.{Effect, Takes}
 use Rattle.wk_check.specs.Typing.{after_effect}
 use Rattle.wk_check.specs.Levels.{Level, Blocks, blocks, with_top}
 
@@ -66,6 +66,10 @@ binop_on want x b = popped_on (popped_one want) b >>= λ p. unop_on want x (p.1)
 -- a change of the innermost block's own stack
 abbrev pub on_top : (Own → Result Own FaultKind) → Blocks → Result Blocks FaultKind
 on_top f b = f b.inner.own >>= λ s. Ok (with_top s b)
+
+-- operands of these types popped from it, and results pushed
+abbrev pub applied_on : List ValType → List ValType → Blocks → Result Blocks FaultKind
+applied_on operands results b = on_top (after_effect (Takes operands results)) b
 
 -- an effect, or the fault of its immediates, on the innermost block
 abbrev pub acting : Result Effect FaultKind → Blocks → Result Blocks FaultKind

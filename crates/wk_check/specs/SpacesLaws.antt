@@ -1,6 +1,7 @@
 -- What references find where one thing more comes to a module: where it comes at the end of its space, what was found is found
 -- still; where an import pushes the indexes behind it on, each reference, moved, finds what it found.
-use Rattle.std.proofs.Common.{◌≡◌, ℕ, zero, suc, ◌+◌, ◌<◌, ◌≤◌, nat_le, true, if◌then◌else◌, List, [], ◌∷◌, ◌++◌, length, map, Option, Some, None, refl, sym, ap, subst, ◌∙◌, inl, inr, arith, add-one}
+use Rattle.std.proofs.Common.{◌≡◌, ℕ, zero, suc, ◌+◌, ◌<◌, ◌≤◌, nat_le, true, if◌then◌else◌, List, [], ◌∷◌, ◌++◌, length, map, Option, Some, None, refl, sym}
+use Rattle.std.proofs.Common.{ap, subst, ◌∙◌, inl, inr, arith, add-one}
 use Rattle.std.specs.Prelude.{slice_get}
 use Rattle.std.proofs.lemmas.Bool.{cases_lt, le-leb, lt-leb, cond-true, cond-false}
 use Rattle.std.proofs.lemmas.List.{append-nil, append_assoc, map_push}
@@ -30,7 +31,8 @@ use Rattle.wk_module.specs.Shape.{lists_of}
 use Rattle.wk_check.specs.Answers.{Found}
 use Rattle.wk_check.specs.Carried.{moved_ref}
 use Rattle.wk_check.specs.Finds.{is_there, Grows}
-use Rattle.wk_check.specs.Spaces.{Spaces, answer_in, spaces_of, type_found, typed_found, func_found, global_found, any_found, imported, and_more, func_in, table_in, memory_in, global_in}
+use Rattle.wk_check.specs.Spaces.{Spaces, answer_in, spaces_of, type_found, typed_found, func_found, global_found, any_found, imported, and_more, func_in}
+use Rattle.wk_check.specs.Spaces.{table_in, memory_in, global_in}
 
 -- what references find in a module
 abbrev pub answers_of : Parts → Ref → Found
@@ -54,20 +56,24 @@ pub record HasMore (s t : Spaces) : Type 0 where
   pub globals : List GlobalType
   pub globals_are : t.globals ≡ s.globals ++ globals
 
-type_still : (xs ys : List FuncType) (i : ℕ) (o : Option FuncType) → slice_get xs i ≡ o → is_there (type_found o) ≡ true → type_found (slice_get (xs ++ ys) i) ≡ type_found o
+type_still : (xs ys : List FuncType) (i : ℕ) (o : Option FuncType) → slice_get xs i ≡ o → is_there (type_found o) ≡ true
+    → type_found (slice_get (xs ++ ys) i) ≡ type_found o
 type_still xs ys i None e h = absurd cc
 type_still xs ys i (Some t) e h = ap type_found (get_still xs ys i t e)
 
-typed_still : (xs ys : List FuncType) (i : ℕ) (o : Option FuncType) → slice_get xs i ≡ o → is_there (typed_found o) ≡ true → typed_found (slice_get (xs ++ ys) i) ≡ typed_found o
+typed_still : (xs ys : List FuncType) (i : ℕ) (o : Option FuncType) → slice_get xs i ≡ o → is_there (typed_found o) ≡ true
+    → typed_found (slice_get (xs ++ ys) i) ≡ typed_found o
 typed_still xs ys i None e h = absurd cc
 typed_still xs ys i (Some t) e h = ap typed_found (get_still xs ys i t e)
 
-func_still : (types more : List FuncType) (xs ys : List ℕ) (i : ℕ) (o : Option ℕ) → slice_get xs i ≡ o → is_there (func_found types o) ≡ true → func_found (types ++ more) (slice_get (xs ++ ys) i) ≡ func_found types o
+func_still : (types more : List FuncType) (xs ys : List ℕ) (i : ℕ) (o : Option ℕ) → slice_get xs i ≡ o → is_there (func_found types o) ≡ true
+    → func_found (types ++ more) (slice_get (xs ++ ys) i) ≡ func_found types o
 func_still types more xs ys i None e h = absurd cc
 func_still types more xs ys i (Some t) e h =
     ap (func_found (types ++ more)) (get_still xs ys i t e) ∙ typed_still types more t (slice_get types t) refl h
 
-global_still : (xs ys : List GlobalType) (i : ℕ) (o : Option GlobalType) → slice_get xs i ≡ o → is_there (global_found o) ≡ true → global_found (slice_get (xs ++ ys) i) ≡ global_found o
+global_still : (xs ys : List GlobalType) (i : ℕ) (o : Option GlobalType) → slice_get xs i ≡ o → is_there (global_found o) ≡ true
+    → global_found (slice_get (xs ++ ys) i) ≡ global_found o
 global_still xs ys i None e h = absurd cc
 global_still xs ys i (Some g) e h = ap global_found (get_still xs ys i g e)
 
@@ -90,16 +96,19 @@ and_more-append None xs ys = refl
 and_more-append (Some x) xs ys = refl
 
 -- it comes behind those of its kind, and leaves the others
-pub imported_push : {X : Type 0} (pick : ImportDesc → Option X) (is : List Import) (i : Import) → imported pick (is ++ i ∷ []) ≡ imported pick is ++ and_more (pick i.desc) []
+pub imported_push : {X : Type 0} (pick : ImportDesc → Option X) (is : List Import) (i : Import)
+    → imported pick (is ++ i ∷ []) ≡ imported pick is ++ and_more (pick i.desc) []
 imported_push pick [] i = refl
 imported_push pick (x ∷ xs) i =
     ap (and_more (pick x.desc)) (imported_push pick xs i) ∙ and_more-append (pick x.desc) (imported pick xs) (and_more (pick i.desc) [])
 
-pub imported_aside : {X : Type 0} (pick : ImportDesc → Option X) (is : List Import) (i : Import) → pick i.desc ≡ None → imported pick (is ++ i ∷ []) ≡ imported pick is
+pub imported_aside : {X : Type 0} (pick : ImportDesc → Option X) (is : List Import) (i : Import) → pick i.desc ≡ None
+    → imported pick (is ++ i ∷ []) ≡ imported pick is
 imported_aside {X = X} pick is i none =
     imported_push pick is i ∙ ap (λ (o : Option X). imported pick is ++ and_more o []) none ∙ append-nil (imported pick is)
 
-pub imported_last : {X : Type 0} (pick : ImportDesc → Option X) (is : List Import) (i : Import) (x : X) → pick i.desc ≡ Some x → imported pick (is ++ i ∷ []) ≡ imported pick is ++ x ∷ []
+pub imported_last : {X : Type 0} (pick : ImportDesc → Option X) (is : List Import) (i : Import) (x : X) → pick i.desc ≡ Some x
+    → imported pick (is ++ i ∷ []) ≡ imported pick is ++ x ∷ []
 imported_last {X = X} pick is i x some = imported_push pick is i ∙ ap (λ (o : Option X). imported pick is ++ and_more o []) some
 
 module _ (kind : Kind) (from : ℕ) (i : Import) (m : Parts) where
@@ -167,26 +176,30 @@ global_grows m t e = more_grows (spaces_of (lists_of m)) (spaces_of (lists_of (w
   globals_are = behind_all (imported global_in m.imports) (λ (g : GlobalDef). g.ty) m.globals (record { ty = t; init = e });
 })
 
-pub table_import_grows : (m : Parts) (i : Import) (l : Limits) (from : ℕ) → i.desc ≡ desc.Table l → Grows (answers_of m) (answers_of (with_import i (moved_parts kinds.Table from m)))
+pub table_import_grows : (m : Parts) (i : Import) (l : Limits) (from : ℕ) → i.desc ≡ desc.Table l
+    → Grows (answers_of m) (answers_of (with_import i (moved_parts kinds.Table from m)))
 table_import_grows m i l from is = more_grows (spaces_of (lists_of m)) (spaces_of (lists_of (with_import i (moved_parts kinds.Table from m)))) (record {
   types = [];
   types_are = sym (append-nil _);
   funcs = [];
   funcs_are = funcs_aside kinds.Table from i m (ap func_in is) ∙ sym (append-nil _);
-  tables_still = λ h. ap (λ (ls : List Limits). any_found (ls ++ m.tables)) (imported_last table_in m.imports i l (ap table_in is)) ∙ any_still (imported table_in m.imports) m.tables l h;
+  tables_still = λ h. ap (λ (ls : List Limits). any_found (ls ++ m.tables)) (imported_last table_in m.imports i l (ap table_in is))
+      ∙ any_still (imported table_in m.imports) m.tables l h;
   memories_still = λ h. ap any_found (memories_aside kinds.Table from i m (ap memory_in is));
   globals = [];
   globals_are = globals_aside kinds.Table from i m (ap global_in is) ∙ sym (append-nil _);
 })
 
-pub memory_import_grows : (m : Parts) (i : Import) (l : Limits) (from : ℕ) → i.desc ≡ desc.Memory l → Grows (answers_of m) (answers_of (with_import i (moved_parts kinds.Memory from m)))
+pub memory_import_grows : (m : Parts) (i : Import) (l : Limits) (from : ℕ) → i.desc ≡ desc.Memory l
+    → Grows (answers_of m) (answers_of (with_import i (moved_parts kinds.Memory from m)))
 memory_import_grows m i l from is = more_grows (spaces_of (lists_of m)) (spaces_of (lists_of (with_import i (moved_parts kinds.Memory from m)))) (record {
   types = [];
   types_are = sym (append-nil _);
   funcs = [];
   funcs_are = funcs_aside kinds.Memory from i m (ap func_in is) ∙ sym (append-nil _);
   tables_still = λ h. ap any_found (tables_aside kinds.Memory from i m (ap table_in is));
-  memories_still = λ h. ap (λ (ls : List Limits). any_found (ls ++ m.memories)) (imported_last memory_in m.imports i l (ap memory_in is)) ∙ any_still (imported memory_in m.imports) m.memories l h;
+  memories_still = λ h. ap (λ (ls : List Limits). any_found (ls ++ m.memories)) (imported_last memory_in m.imports i l (ap memory_in is))
+      ∙ any_still (imported memory_in m.imports) m.memories l h;
   globals = [];
   globals_are = globals_aside kinds.Memory from i m (ap global_in is) ∙ sym (append-nil _);
 })
@@ -214,14 +227,16 @@ at_moved (y ∷ xs) ys a (suc x) = ap (slice_get (y ∷ ((xs ++ a ∷ []) ++ ys)
 -- ---- a function or a global is imported: each reference, moved from the index of the import on, finds what it found
 
 func_moves : (m : Parts) (i : Import) (t : ℕ) → i.desc ≡ desc.Func t → (r : Ref)
-    → answers_of (with_import i (moved_parts kinds.Func (length (imported func_in m.imports)) m)) (moved_ref moving.Func (length (imported func_in m.imports)) r) ≡ answers_of m r
+    → answers_of (with_import i (moved_parts kinds.Func (length (imported func_in m.imports)) m))
+    (moved_ref moving.Func (length (imported func_in m.imports)) r) ≡ answers_of m r
 func_moves m i t is (Ty x) = refl
 func_moves m i t is (Func x) =
     let front = imported func_in m.imports in
     let back = map (λ (f : Function). f.ty) m.funcs in
     let from = length front in
     ap (func_found m.types) (
-    ap (λ (xs : List ℕ). slice_get (xs ++ map (λ (f : Function). f.ty) (map (moved_func kinds.Func from) m.funcs)) (moved from x)) (imported_last func_in m.imports i t (ap func_in is))
+    ap (λ (xs : List ℕ). slice_get (xs ++ map (λ (f : Function). f.ty) (map (moved_func kinds.Func from) m.funcs)) (moved from x))
+    (imported_last func_in m.imports i t (ap func_in is))
     ∙ ap (λ (xs : List ℕ). slice_get ((front ++ t ∷ []) ++ xs) (moved from x)) (types_stay kinds.Func from m.funcs)
     ∙ at_moved front back t x
     )
@@ -231,7 +246,8 @@ func_moves m i t is Table = ap any_found (tables_aside kinds.Func (length (impor
 func_moves m i t is Memory = ap any_found (memories_aside kinds.Func (length (imported func_in m.imports)) i m (ap memory_in is))
 
 global_moves : (m : Parts) (i : Import) (g : GlobalType) → i.desc ≡ desc.Global g → (r : Ref)
-    → answers_of (with_import i (moved_parts kinds.Global (length (imported global_in m.imports)) m)) (moved_ref moving.Global (length (imported global_in m.imports)) r) ≡ answers_of m r
+    → answers_of (with_import i (moved_parts kinds.Global (length (imported global_in m.imports)) m))
+    (moved_ref moving.Global (length (imported global_in m.imports)) r) ≡ answers_of m r
 global_moves m i g is (Ty x) = refl
 global_moves m i g is (Func x) =
     ap (λ (fs : List ℕ). func_found m.types (slice_get fs x)) (funcs_aside kinds.Global (length (imported global_in m.imports)) i m (ap func_in is))
@@ -240,7 +256,8 @@ global_moves m i g is (Global x) =
     let back = map (λ (d : GlobalDef). d.ty) m.globals in
     let from = length front in
     ap global_found (
-    ap (λ (xs : List GlobalType). slice_get (xs ++ map (λ (d : GlobalDef). d.ty) (map (moved_global kinds.Global from) m.globals)) (moved from x)) (imported_last global_in m.imports i g (ap global_in is))
+    ap (λ (xs : List GlobalType). slice_get (xs ++ map (λ (d : GlobalDef). d.ty) (map (moved_global kinds.Global from) m.globals)) (moved from x))
+    (imported_last global_in m.imports i g (ap global_in is))
     ∙ ap (λ (xs : List GlobalType). slice_get ((front ++ g ∷ []) ++ xs) (moved from x)) (global_types_stay kinds.Global from m.globals)
     ∙ at_moved front back g x
     )
@@ -249,30 +266,36 @@ global_moves m i g is Memory = ap any_found (memories_aside kinds.Global (length
 
 -- ---- the index of the import is the number of those of its kind in front of it
 
+-- where of each import one of this kind is picked
+pub counted : {X : Type 0} (kind : Kind) (pick : ImportDesc → Option X)
+    → ((d : ImportDesc) (xs : List X) → length (and_more (pick d) xs) ≡ (if is_of_kind kind d then 1 else 0) + length xs) → (is : List Import)
+    → length (imported pick is) ≡ import_count kind is
+counted kind pick each is = counts_imports kind (λ js. length (imported pick js)) refl (λ i js. each i.desc (imported pick js)) is
+
 count_func : (d : ImportDesc) (xs : List ℕ) → length (and_more (func_in d) xs) ≡ (if is_of_kind kinds.Func d then 1 else 0) + length xs
 count_func (desc.Func x) xs = omega arith
-count_func (desc.Table l) xs = omega arith
-count_func (desc.Memory l) xs = omega arith
-count_func (desc.Global g) xs = omega arith
+count_func _ xs = omega arith
 
 count_global : (d : ImportDesc) (xs : List GlobalType) → length (and_more (global_in d) xs) ≡ (if is_of_kind kinds.Global d then 1 else 0) + length xs
-count_global (desc.Func x) xs = omega arith
-count_global (desc.Table l) xs = omega arith
-count_global (desc.Memory l) xs = omega arith
 count_global (desc.Global g) xs = omega arith
+count_global _ xs = omega arith
 
 pub imported_funcs : (is : List Import) → length (imported func_in is) ≡ import_count kinds.Func is
-imported_funcs is = counts_imports kinds.Func (λ js. length (imported func_in js)) refl (λ i js. count_func i.desc (imported func_in js)) is
+imported_funcs is = counted kinds.Func func_in count_func is
 
 pub imported_globals : (is : List Import) → length (imported global_in is) ≡ import_count kinds.Global is
-imported_globals is = counts_imports kinds.Global (λ js. length (imported global_in js)) refl (λ i js. count_global i.desc (imported global_in js)) is
+imported_globals is = counted kinds.Global global_in count_global is
 
 pub func_import_moves : (m : Parts) (i : Import) (t : ℕ) → i.desc ≡ desc.Func t → (r : Ref)
-    → answers_of (with_import i (moved_parts kinds.Func (import_count kinds.Func m.imports) m)) (moved_ref moving.Func (import_count kinds.Func m.imports) r) ≡ answers_of m r
+    → answers_of (with_import i (moved_parts kinds.Func (import_count kinds.Func m.imports) m))
+    (moved_ref moving.Func (import_count kinds.Func m.imports) r) ≡ answers_of m r
 func_import_moves m i t is r =
-    subst (λ (k : ℕ). answers_of (with_import i (moved_parts kinds.Func k m)) (moved_ref moving.Func k r) ≡ answers_of m r) (imported_funcs m.imports) (func_moves m i t is r)
+    subst (λ (k : ℕ). answers_of (with_import i (moved_parts kinds.Func k m)) (moved_ref moving.Func k r) ≡ answers_of m r) (imported_funcs m.imports)
+    (func_moves m i t is r)
 
 pub global_import_moves : (m : Parts) (i : Import) (g : GlobalType) → i.desc ≡ desc.Global g → (r : Ref)
-    → answers_of (with_import i (moved_parts kinds.Global (import_count kinds.Global m.imports) m)) (moved_ref moving.Global (import_count kinds.Global m.imports) r) ≡ answers_of m r
+    → answers_of (with_import i (moved_parts kinds.Global (import_count kinds.Global m.imports) m))
+    (moved_ref moving.Global (import_count kinds.Global m.imports) r) ≡ answers_of m r
 global_import_moves m i g is r =
-    subst (λ (k : ℕ). answers_of (with_import i (moved_parts kinds.Global k m)) (moved_ref moving.Global k r) ≡ answers_of m r) (imported_globals m.imports) (global_moves m i g is r)
+    subst (λ (k : ℕ). answers_of (with_import i (moved_parts kinds.Global k m)) (moved_ref moving.Global k r) ≡ answers_of m r)
+    (imported_globals m.imports) (global_moves m i g is r)

@@ -48,7 +48,8 @@ codes_judged profile l types s =
 -- the same, where the code section was opened and its codes are still to be read
 abbrev pub opened_judged : Profile → SectionLists → List ℕ → Span → Result (Option Fault) ReadFault
 opened_judged profile l types left =
-    all_at (items_at (code_at profile) (length types)) left.end left.rest >>= λ bodies. Ok (earlier (front_fault profile l) (first_of l 0 (zipped types bodies)))
+    all_at (items_at (code_at profile) (length types)) left.end left.rest >>= λ bodies. Ok
+    (earlier (front_fault profile l) (first_of l 0 (zipped types bodies)))
 
 -- the verdict where this is the first fault of the sections up to the code section, and those behind it are still to be read; or
 -- the fault of reading them

@@ -16,11 +16,13 @@ use Rattle.wk_body.specs.Kept.{told}
 use Rattle.wk_body.specs.Reading.{plain_at, type_at, may_else, after, expr_at, all_body_at}
 use Rattle.wk_body.specs.Shape.{depth_limit}
 use Rattle.wk_body.specs.TokenReading.{TokenReading, NextToken, NextRead}
-use Rattle.wk_body.specs.Tree.{Instrs, Simple, Otherwise, Close}
+use Rattle.wk_body.specs.Tree.{Instrs, Tok, Simple, Otherwise, Close}
 use Rattle.wk_check.specs.declared.fault.BodyVerdict.TheVariants.{Valid}
+use Rattle.wk_check.specs.declared.fault.FaultKind.{FaultKind}
 use Rattle.wk_check.specs.declared.stacks.FrameKind.{FrameKind}
 use Rattle.wk_check.specs.declared.step.Function.{Function}
 use Rattle.wk_check.specs.declared.stop.Stop.{Stop}
+use Rattle.wk_check.specs.declared.streaming.Stream.{Stream}
 use Rattle.wk_check.specs.declared.streaming.TokenOutcome.{TokenOutcome}
 use Rattle.wk_check.specs.declared.streaming.TokenOutcome.TheVariants as outcomes
 use Rattle.wk_check.specs.Answers.{Found}
@@ -44,11 +46,15 @@ pub record IsValidBody (A : Ref → Found) (own : ℕ) (profile : Profile) (from
 
 -- ---- one token, for the private functions that type it
 
+-- what a token does to the open blocks, in a function
+abbrev pub step_in : (Ref → Found) → Function → Tok → Blocks → Result Blocks FaultKind
+step_in A f t b = step A (local_type f.locals.params f.locals.groups) f.results.now t b
+
 -- A token was read and typed: it moved the reader, the cursor and the open blocks on.
-pub record IsTaken (A : Ref → Found) (locals : ℕ → Option ValType) (final : List ValType) (profile : Profile) (old new : TokenReading) (from to : Span) (b next : Blocks) : Type 0 where
+pub record IsTaken (A : Ref → Found) (f : Function) (profile : Profile) (old new : TokenReading) (from to : Span) (b next : Blocks) : Type 0 where
   pub token : Token
   pub read : NextToken profile old new from to token
-  pub typed : step A locals final (told new.labels token) b ≡ Ok next
+  pub typed : step_in A f (told new.labels token) b ≡ Ok next
 
 -- an instruction holds no list of labels: it is no `br_table`
 abbrev pub HasNoLabels : Plain → Type 0
@@ -56,25 +62,23 @@ HasNoLabels (BrTable labels other) = ⊥
 HasNoLabels p = Unit {0}
 
 -- An instruction without a list of labels was read, with the bytes `rest` behind it, and typing it gave this answer.
-abbrev pub TypesRead : (Ref → Found) → (ℕ → Option ValType) → List ValType → Result (Plain × List ℕ) ReadFault → List ℕ → Blocks
-    → Result (Unit {0}) Stop → Blocks → Type 0
-TypesRead A locals final (Ok p) rest b told next = HasNoLabels p.0 × (p.1 ≡ rest) × Steps (step A locals final (Simple p.0) b) told next
-TypesRead A locals final (Err e) rest b told next = ⊥
+abbrev pub TypesRead : (Ref → Found) → Function → Result (Plain × List ℕ) ReadFault → List ℕ → Blocks → Result (Unit {0}) Stop → Blocks → Type 0
+TypesRead A f (Ok p) rest b told next = HasNoLabels p.0 × (p.1 ≡ rest) × Steps (step_in A f (Simple p.0) b) told next
+TypesRead A f (Err e) rest b told next = ⊥
 
--- that, in a function, of what stands behind an opcode from some bytes on, whatever the profile
+-- that, of what stands behind an opcode from some bytes on, whatever the profile
 abbrev pub TypesBehind : (Ref → Found) → Function → ℕ → ℕ → List ℕ → List ℕ → Blocks → Result (Unit {0}) Stop → Blocks → Type 0
-TypesBehind A f opcode end from rest b told next =
-    (profile : Profile) (e : ReadFault)
-    → TypesRead A (local_type f.locals.params f.locals.groups) f.results.now (plain_at profile e opcode end from) rest b told next
+TypesBehind A f opcode end from rest b told next = (profile : Profile) (e : ReadFault) → TypesRead A f (plain_at profile e opcode end from) rest b told next
 
 -- The same of what stands behind an opcode, for a token that opens and closes nothing and has no list of labels: whatever the profile.
 pub record IsTakenBehind (A : Ref → Found) (f : Function) (opcode : ℕ) (from to : Span) (b next : Blocks) : Type 0 where
   pub typed : TypesBehind A f opcode from.end from.rest to.rest b (Ok tt) next
   pub same_end : to.end ≡ from.end
 
--- that, where the token is taken
+-- that, where the token is taken; else the open blocks are as they were
 abbrev pub TakesBehind : (Ref → Found) → Function → ℕ → Span → Span → Blocks → Blocks → Bool → Type 0
-TakesBehind A f opcode from to b next taken = taken ≡ true → IsTakenBehind A f opcode from to b next
+TakesBehind A f opcode from to b next true = IsTakenBehind A f opcode from to b next
+TakesBehind A f opcode from to b next false = next ≡ b
 
 -- the opcodes that are typed from their bytes, by what stands behind them, but for loads, stores, numeric instructions and `call_indirect`
 abbrev pub is_among : List ℕ → ℕ → Bool
@@ -97,12 +101,12 @@ abbrev pub HasWord : ℕ → Type 0
 HasWord opcode = is_among (0x43 ∷ 0x44 ∷ []) opcode ≡ true
 
 -- A sign extension was typed, which one profile has.
-pub record IsSigned (A : Ref → Found) (locals : ℕ → Option ValType) (final : List ValType) (opcode : ℕ) (b next : Blocks) : Type 0 where
+pub record IsSigned (A : Ref → Found) (f : Function) (opcode : ℕ) (b next : Blocks) : Type 0 where
   pub op : NumericOp
   pub low : 0xC0 ≤ opcode
   pub high : opcode ≤ 0xC4
   pub is_op : numeric_of opcode ≡ Some op
-  pub typed : step A locals final (Simple (Numeric op)) b ≡ Ok next
+  pub typed : step_in A f (Simple (Numeric op)) b ≡ Ok next
 
 -- a block type that is told without an index
 abbrev pub IsShort : BlockType → Type 0
@@ -110,7 +114,8 @@ IsShort (Index x) = ⊥
 IsShort _ = Unit {0}
 
 -- A block was opened behind its opcode, with a test or without one.
-pub record IsOpened (A : Ref → Found) (test : Bool) (kind : FrameKind) (profile : Profile) (old new : TokenReading) (from to : Span) (b next : Blocks) : Type 0 where
+pub record IsOpened (A : Ref → Found) (test : Bool) (kind : FrameKind) (profile : Profile) (old new : TokenReading) (from to : Span)
+    (b next : Blocks) : Type 0 where
   pub block : BlockType
   pub shallow : length old.kinds < depth_limit
   pub kinds : new.kinds ≡ test ∷ old.kinds
@@ -130,7 +135,7 @@ pub record IsClosed (A : Ref → Found) (old new : TokenReading) (b next : Block
   pub typed : end_block A b.inner.kind b ≡ Ok next
 
 -- what came of a token: it was typed, or it is the end that closes no block
-abbrev pub GoesOn : (Ref → Found) → (ℕ → Option ValType) → List ValType → Profile → TokenOutcome → TokenReading → TokenReading → Span → Span → Blocks → Blocks → Type 0
-GoesOn A locals final profile outcomes.On old new from to b next = IsTaken A locals final profile old new from to b next
-GoesOn A locals final profile outcomes.End old new from to b next = NextRead profile old new from to None × (next ≡ b)
-GoesOn A locals final profile _ old new from to b next = Unit {0}
+abbrev pub GoesOn : (Ref → Found) → Function → Profile → TokenOutcome → Stream → Stream → Span → Span → Type 0
+GoesOn A f profile outcomes.On old new from to = IsTaken A f profile old.reader new.reader from to old.stacks new.stacks
+GoesOn A f profile outcomes.End old new from to = NextRead profile old.reader new.reader from to None × (new.stacks ≡ old.stacks)
+GoesOn A f profile _ old new from to = Unit {0}

@@ -16,7 +16,8 @@ use Rattle.wk_check.specs.declared.fault.BodyVerdict.{BodyVerdict}
 use Rattle.wk_check.specs.Answers.{Found}
 use Rattle.wk_check.specs.Typing.{body_verdict}
 use Rattle.wk_check.specs.Spaces.{answer_in, spaces_of, initial_spaces, imported, table_in, memory_in}
-use Rattle.wk_check.specs.Items.{earlier, within, type_flaw, import_flaw, table_flaw, memory_flaw, global_flaw, export_flaw, start_flaws, elem_flaw, data_flaw, body_flaw}
+use Rattle.wk_check.specs.Items.{earlier, within, type_flaw, import_flaw, table_flaw, memory_flaw, global_flaw, export_flaw, start_flaws, elem_flaw, data_flaw}
+use Rattle.wk_check.specs.Items.{body_flaw}
 use Rattle.wk_check.specs.Flaws.{numbered, first_in, first_fault, verdict_by, IsVerdictOn}
 
 -- ---- the flaws of the items of each section

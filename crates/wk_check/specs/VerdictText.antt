@@ -1,7 +1,10 @@
 -- The texts of verdicts.
 use Rattle.std.specs.Prelude.{ℕ, Option, Some, None, List, [], ◌++◌, codes, decimal}
 use Rattle.wk_check.specs.declared.fault.FaultKind.{FaultKind}
-use Rattle.wk_check.specs.declared.fault.FaultKind.TheVariants.{TypeArity, UnknownType, LimitsOrder, MemoryRange, TooManyTables, TooManyMemories, UnknownFunc, UnknownTable, UnknownMemory, UnknownGlobal, UnknownLocal, UnknownLabel, StackUnderflow, TypeMismatch, StackHeight, LabelTypes, GlobalImmutable, Alignment, ConstantExpected, DuplicateExport, StartType}
+use Rattle.wk_check.specs.declared.fault.FaultKind.TheVariants.{TypeArity, UnknownType, LimitsOrder, MemoryRange, TooManyTables, TooManyMemories, UnknownFunc}
+use Rattle.wk_check.specs.declared.fault.FaultKind.TheVariants.{UnknownTable, UnknownMemory, UnknownGlobal, UnknownLocal, UnknownLabel, StackUnderflow}
+use Rattle.wk_check.specs.declared.fault.FaultKind.TheVariants.{TypeMismatch, StackHeight, LabelTypes, GlobalImmutable, Alignment, ConstantExpected}
+use Rattle.wk_check.specs.declared.fault.FaultKind.TheVariants.{DuplicateExport, StartType}
 use Rattle.wk_check.specs.declared.fault.Place.{Place}
 use Rattle.wk_check.specs.declared.fault.Fault.{Fault}
 use Rattle.wk_check.specs.declared.fault.Verdict.{Verdict}

@@ -22,7 +22,8 @@ pub fn carry<O: Env, N: Env>(
     _body: &Body,
     verdict: BodyVerdict,
 ) -> BodyVerdict
-    requires own_type { N.answers _new.now (Ref.Ty own_types.1) ≡ O.answers _old.now (Ref.Ty own_types.0) }
+    requires own_type { N.answers _new.now (Ref.Ty own_types.1)
+        ≡ O.answers _old.now (Ref.Ty own_types.0) }
     requires agree { Agree (O.answers _old.now) (N.answers _new.now) (refs_of _body.now.instrs) }
     requires was { verdict ≡ body_verdict (O.answers _old.now) own_types.0 _body.now }
     ensures { result ≡ body_verdict (N.answers _new.now) own_types.1 _body.now }
@@ -41,10 +42,13 @@ pub fn carry_moved<O: Env, N: Env>(
     _body: &Body,
     verdict: BodyVerdict,
 ) -> BodyVerdict
-    requires own_type { N.answers _new.now (Ref.Ty own_types.1) ≡ O.answers _old.now (Ref.Ty own_types.0) }
-    requires agree { AgreeMoved _kind _from (O.answers _old.now) (N.answers _new.now) (refs_of _body.now.instrs) }
+    requires own_type { N.answers _new.now (Ref.Ty own_types.1)
+        ≡ O.answers _old.now (Ref.Ty own_types.0) }
+    requires agree { AgreeMoved _kind _from (O.answers _old.now) (N.answers _new.now)
+        (refs_of _body.now.instrs) }
     requires was { verdict ≡ body_verdict (O.answers _old.now) own_types.0 _body.now }
-    ensures { result ≡ body_verdict (N.answers _new.now) own_types.1 (shift_body _kind _from _body.now) }
+    ensures { result
+        ≡ body_verdict (N.answers _new.now) own_types.1 (shift_body _kind _from _body.now) }
 {
     verdict // its references, moved, find what they found
 }

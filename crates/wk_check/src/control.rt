@@ -133,7 +133,9 @@ fn are_alike<E: Env>(env: &E, s: &Stacks, labels: &[u32], types: &[ValType]) -> 
 
 /// A `br`.
 pub(crate) fn branch<E: Env>(env: &E, s: &mut Stacks, to: u32) -> Result<(), Stop>
-    ensures { Steps (acting (branch_effect (slice_get (labels_of (E.answers env.now) s.old) to)) s.old) result s.new }
+    ensures { Steps
+        (acting (branch_effect (slice_get (labels_of (E.answers env.now) s.old) to)) s.old) result
+        s.new }
 {
     match label(env, s, to) {
         Some(types) => apply_polymorphic(s, false, types),
@@ -143,7 +145,9 @@ pub(crate) fn branch<E: Env>(env: &E, s: &mut Stacks, to: u32) -> Result<(), Sto
 
 /// A `br_if`.
 pub(crate) fn branch_if<E: Env>(env: &E, s: &mut Stacks, to: u32) -> Result<(), Stop>
-    ensures { Steps (acting (branch_if_effect (slice_get (labels_of (E.answers env.now) s.old) to)) s.old) result s.new }
+    ensures { Steps
+        (acting (branch_if_effect (slice_get (labels_of (E.answers env.now) s.old) to)) s.old)
+        result s.new }
 {
     match label(env, s, to) {
         // (most labels have no types)
@@ -160,7 +164,9 @@ pub(crate) fn branch_table<E: Env>(
     labels: &[u32],
     other: u32,
 ) -> Result<(), Stop>
-    ensures { Steps (acting (table_effect (labels_of (E.answers env.now) s.old) labels.now other) s.old) result s.new }
+    ensures { Steps
+        (acting (table_effect (labels_of (E.answers env.now) s.old) labels.now other) s.old) result
+        s.new }
 {
     if !are_known(env, s, labels) {
         return Err(Stop::Fault(FaultKind::UnknownLabel));
@@ -202,7 +208,10 @@ pub(crate) fn call<E: Env>(env: &E, s: &mut Stacks, x: u32) -> Result<(), Stop>
 /// A `call_indirect`, in line.
 #[inline(always)]
 pub(crate) fn call_indirect_in_line<E: Env>(env: &E, s: &mut Stacks, x: u32) -> Result<(), Stop>
-    ensures { Steps (acting (indirect_effect (E.answers env.now (Ref.Ty x)) (E.answers env.now Ref.Table)) s.old) result s.new }
+    ensures { Steps
+        (acting (indirect_effect (E.answers env.now (Ref.Ty x)) (E.answers env.now Ref.Table))
+        s.old)
+        result s.new }
 {
     let Answer::Ty(ty) = env.answer(Ref::Ty(x)) else {
         return Err(Stop::Fault(FaultKind::UnknownType));
@@ -215,7 +224,10 @@ pub(crate) fn call_indirect_in_line<E: Env>(env: &E, s: &mut Stacks, x: u32) -> 
 
 /// A `call_indirect`.
 pub(crate) fn call_indirect<E: Env>(env: &E, s: &mut Stacks, x: u32) -> Result<(), Stop>
-    ensures { Steps (acting (indirect_effect (E.answers env.now (Ref.Ty x)) (E.answers env.now Ref.Table)) s.old) result s.new }
+    ensures { Steps
+        (acting (indirect_effect (E.answers env.now (Ref.Ty x)) (E.answers env.now Ref.Table))
+        s.old)
+        result s.new }
 {
     call_indirect_in_line(env, s, x)
 }
@@ -262,7 +274,8 @@ pub(crate) fn enter_indexed<E: Env>(
     kind: FrameKind,
     x: u32,
 ) -> Result<(), Stop>
-    ensures { Steps (enter_block (E.answers env.now) test kind (BlockType.Index x) s.old) result s.new }
+    ensures { Steps (enter_block (E.answers env.now) test kind (BlockType.Index x) s.old) result
+        s.new }
 {
     let Answer::Ty(ty) = env.answer(Ref::Ty(x)) else {
         return Err(Stop::Fault(FaultKind::UnknownType));

@@ -94,7 +94,11 @@ pub(crate) fn exports_fault(
     exports: &[Export],
 ) -> Result<Option<Fault>, OutOfMemory>
     requires { length exports.now < 2 ^ 32 }
-    ensures { IfOk result (λ r. r ≡ first_in 7 0 (numbered (λ item e. export_flaw (spaces_of whole.now) (take item exports.now) e) 0 exports.now)) }
+    ensures { IfOk result
+        (λ r. r
+        ≡ first_in 7 0
+        (numbered (λ item e. export_flaw (spaces_of whole.now) (take item exports.now) e) 0
+        exports.now)) }
 {
     let mut names: BTreeSet<&str> = BTreeSet::new(alloc);
     for (index, export) in exports.iter().enumerate() {

@@ -31,7 +31,10 @@ pub(crate) enum FastStep {
 #[tactic(auto, unfolding(wk_body::specs::Reading::type_at))]
 #[inline(always)]
 fn short_type(cursor: &mut Cursor<'_>) -> Option<BlockType>
-    ensures read { (profile : Profile) → IfSome result (λ ty. (type_at profile cursor.old.end cursor.old.rest ≡ Ok (ty, cursor.new.rest)) × (cursor.new.end ≡ cursor.old.end)) }
+    ensures read { (profile : Profile)
+        → IfSome result
+        (λ ty. (type_at profile cursor.old.end cursor.old.rest ≡ Ok (ty, cursor.new.rest))
+        × (cursor.new.end ≡ cursor.old.end)) }
     ensures known { IfSome result IsShort }
 {
     let Ok(byte) = cursor.byte() else {
@@ -77,8 +80,13 @@ pub(crate) fn fast_open<E: Env>(
     s: &mut Stacks,
     cursor: &mut Cursor<'_>,
 ) -> Result<FastStep, Stop>
-    ensures taken { (profile : Profile) → IfOk result (λ p. p ≡ FastStep.Token → IsOpened (E.answers env.now) test kind profile reader.old reader.new cursor.old cursor.new s.old s.new) }
-    ensures left { IfOk result (λ p. p ≡ FastStep.Other → (s.new ≡ s.old) × (reader.new ≡ reader.old)) }
+    ensures taken { (profile : Profile)
+        → IfOk result
+        (λ p. p ≡ FastStep.Token
+        → IsOpened (E.answers env.now) test kind profile reader.old reader.new cursor.old
+        cursor.new s.old s.new) }
+    ensures left { IfOk result
+        (λ p. p ≡ FastStep.Other → (s.new ≡ s.old) × (reader.new ≡ reader.old)) }
     ensures never { IfOk result (λ p. p ≡ FastStep.Last → ⊥) }
 {
     let Some(block) = short_type(cursor) else {
@@ -106,8 +114,10 @@ pub(crate) fn fast_else<E: Env>(
     reader: &mut TokenReader,
     s: &mut Stacks,
 ) -> Result<FastStep, Stop>
-    ensures taken { IfOk result (λ p. p ≡ FastStep.Token → IsParted (E.answers env.now) reader.old reader.new s.old s.new) }
-    ensures left { IfOk result (λ p. p ≡ FastStep.Other → (s.new ≡ s.old) × (reader.new ≡ reader.old)) }
+    ensures taken { IfOk result
+        (λ p. p ≡ FastStep.Token → IsParted (E.answers env.now) reader.old reader.new s.old s.new) }
+    ensures left { IfOk result
+        (λ p. p ≡ FastStep.Other → (s.new ≡ s.old) × (reader.new ≡ reader.old)) }
     ensures never { IfOk result (λ p. p ≡ FastStep.Last → ⊥) }
 {
     if !reader.part_block() {
@@ -138,8 +148,10 @@ pub(crate) fn fast_end<E: Env>(
     reader: &mut TokenReader,
     s: &mut Stacks,
 ) -> Result<FastStep, Stop>
-    ensures taken { IfOk result (λ p. p ≡ FastStep.Token → IsClosed (E.answers env.now) reader.old reader.new s.old s.new) }
-    ensures last { IfOk result (λ p. p ≡ FastStep.Last → (reader.old.kinds ≡ []) × (s.new ≡ s.old)) }
+    ensures taken { IfOk result
+        (λ p. p ≡ FastStep.Token → IsClosed (E.answers env.now) reader.old reader.new s.old s.new) }
+    ensures last { IfOk result
+        (λ p. p ≡ FastStep.Last → (reader.old.kinds ≡ []) × (s.new ≡ s.old)) }
     ensures never { IfOk result (λ p. p ≡ FastStep.Other → ⊥) }
 {
     if !reader.close_block() {

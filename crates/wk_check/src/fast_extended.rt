@@ -8,7 +8,6 @@ ghost use Rattle.wk_body.specs.declared.types.Profile.{Profile};
 ghost use Rattle.wk_body.specs.Numeric.{numeric_of};
 ghost use Rattle.wk_body.specs.Reading.{type_at};
 ghost use Rattle.wk_body.specs.TokenReading.{TokenReading};
-ghost use Rattle.wk_check.specs.Effects.{local_type};
 ghost use Rattle.wk_check.specs.Streaming.{IsTaken, IsSigned, IsOpened};
 
 use crate::control::enter_indexed;
@@ -23,7 +22,10 @@ use wk_module::{NumericOp, TokenReader, ValType};
 #[tactic(auto, unfolding(wk_body::specs::Reading::type_at, wk_body::specs::Reading::index_at))]
 #[inline(always)]
 fn indexed_type(cursor: &mut Cursor<'_>) -> Option<u32>
-    ensures { IfSome result (λ x. (type_at Profile.Extended cursor.old.end cursor.old.rest ≡ Ok (BlockType.Index x, cursor.new.rest)) × (cursor.new.end ≡ cursor.old.end)) }
+    ensures { IfSome result
+        (λ x. (type_at Profile.Extended cursor.old.end cursor.old.rest
+        ≡ Ok (BlockType.Index x, cursor.new.rest))
+        × (cursor.new.end ≡ cursor.old.end)) }
 {
     let mut ahead = cursor.ahead();
     let Ok(byte) = ahead.byte() else {
@@ -54,7 +56,10 @@ fn open_indexed<E: Env>(
     s: &mut Stacks,
     cursor: &mut Cursor<'_>,
 ) -> Result<bool, Stop>
-    ensures taken { IfOk result (λ t. t ≡ true → IsOpened (E.answers env.now) test kind Profile.Extended reader.old reader.new cursor.old cursor.new s.old s.new) }
+    ensures taken { IfOk result
+        (λ t. t ≡ true
+        → IsOpened (E.answers env.now) test kind Profile.Extended reader.old reader.new
+        cursor.old cursor.new s.old s.new) }
     ensures left { IfOk result (λ t. t ≡ false → (s.new ≡ s.old) × (reader.new ≡ reader.old)) }
 {
     let Some(x) = indexed_type(cursor) else {
@@ -92,7 +97,9 @@ fn type_sign_extend<E: Env>(
 ) -> Result<bool, Stop>
     requires low { 0xC0 ≤ opcode }
     requires high { opcode ≤ 0xC4 }
-    ensures taken { IfOk result (λ t. t ≡ true → IsSigned (E.answers env.now) (local_type f.now.locals.params f.now.locals.groups) f.now.results.now opcode s.old s.new) }
+    ensures taken { IfOk result
+        (λ t. t ≡ true
+        → IsSigned (E.answers env.now) f.now opcode s.old s.new) }
     ensures left { IfOk result (λ t. t ≡ false → s.new ≡ s.old) }
 {
     let Some(op) = sign_of(opcode) else {
@@ -111,7 +118,11 @@ pub(crate) fn fast_sign_extend<E: Env>(
     s: &mut Stacks,
     cursor: &mut Cursor<'_>,
 ) -> Result<bool, Stop>
-    ensures taken { (r : TokenReading) → IfOk result (λ t. t ≡ true → IsTaken (E.answers env.now) (local_type f.now.locals.params f.now.locals.groups) f.now.results.now Profile.Extended r r cursor.old cursor.new s.old s.new) }
+    ensures taken { (r : TokenReading)
+        → IfOk result
+        (λ t. t ≡ true
+        → IsTaken (E.answers env.now) f.now Profile.Extended r r cursor.old cursor.new s.old
+        s.new) }
     ensures left { IfOk result (λ t. t ≡ false → s.new ≡ s.old) }
 {
     let Ok(opcode) = cursor.byte() else {
@@ -133,7 +144,10 @@ pub(crate) fn fast_open_indexed<E: Env>(
     s: &mut Stacks,
     cursor: &mut Cursor<'_>,
 ) -> Result<bool, Stop>
-    ensures taken { IfOk result (λ t. t ≡ true → IsTaken (E.answers env.now) (local_type f.now.locals.params f.now.locals.groups) f.now.results.now Profile.Extended reader.old reader.new cursor.old cursor.new s.old s.new) }
+    ensures taken { IfOk result
+        (λ t. t ≡ true
+        → IsTaken (E.answers env.now) f.now Profile.Extended reader.old reader.new cursor.old
+        cursor.new s.old s.new) }
     ensures left { IfOk result (λ t. t ≡ false → (s.new ≡ s.old) × (reader.new ≡ reader.old)) }
 {
     let Ok(opcode) = cursor.byte() else {

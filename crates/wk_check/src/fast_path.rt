@@ -22,7 +22,7 @@ ghost use Rattle.wk_bytes.specs.Span.{byte_at, u32_at};
 ghost use Rattle.wk_body.specs.declared.references.Ref.{Ref};
 ghost use Rattle.wk_body.specs.declared.types.Profile.{Profile};
 ghost use Rattle.wk_body.specs.TokenReading.{NextRead};
-ghost use Rattle.wk_check.specs.Effects.{branch_effect, branch_if_effect, call_effect, indirect_effect, local_type};
+ghost use Rattle.wk_check.specs.Effects.{branch_effect, branch_if_effect, call_effect, indirect_effect};
 ghost use Rattle.wk_check.specs.Levels.{Blocks, labels_of};
 ghost use Rattle.wk_check.specs.Moves.{acting, MadeBy, Steps};
 ghost use Rattle.wk_check.specs.Streaming.{IsAlone, HasIndex, HasReserved, HasSigned, HasWord, TypesBehind, TakesBehind, IsTaken};
@@ -63,7 +63,10 @@ fn call_typed<E: Env>(env: &E, s: &mut Stacks, x: u32) -> Result<Growth, FaultKi
 // A `call_indirect`, out of line, whose answer goes in registers.
 #[inline(never)]
 fn indirect_typed<E: Env>(env: &E, s: &mut Stacks, x: u32) -> Result<Growth, FaultKind>
-    ensures { MadeBy (acting (indirect_effect (E.answers env.now (Ref.Ty x)) (E.answers env.now Ref.Table)) s.old) result s.new }
+    ensures { MadeBy
+        (acting (indirect_effect (E.answers env.now (Ref.Ty x)) (E.answers env.now Ref.Table))
+        s.old)
+        result s.new }
 {
     to_registers(call_indirect_in_line(env, s, x))
 }
@@ -127,9 +130,8 @@ fn fast_alone<E: Env>(
     cursor: &Cursor<'_>,
 ) -> Result<bool, Stop>
     requires { IsAlone opcode }
-    ensures taken { IfOk result
+    ensures { IfOk result
         (TakesBehind (E.answers env.now) f.now opcode cursor.now cursor.now s.old s.new) }
-    ensures left { IfOk result (λ t. t ≡ false → s.new ≡ s.old) }
 {
     type_alone(env, f, opcode, s)?;
     Ok(true)
@@ -172,9 +174,8 @@ fn fast_index<E: Env>(
     cursor: &mut Cursor<'_>,
 ) -> Result<bool, Stop>
     requires { HasIndex opcode }
-    ensures taken { IfOk result
+    ensures { IfOk result
         (TakesBehind (E.answers env.now) f.now opcode cursor.old cursor.new s.old s.new) }
-    ensures left { IfOk result (λ t. t ≡ false → s.new ≡ s.old) }
 {
     let Ok(x) = cursor.u32() else {
         return Ok(false);
@@ -192,9 +193,8 @@ fn fast_index_reserved<E: Env>(
     s: &mut Stacks,
     cursor: &mut Cursor<'_>,
 ) -> Result<bool, Stop>
-    ensures taken { IfOk result
+    ensures { IfOk result
         (TakesBehind (E.answers env.now) f.now 0x11 cursor.old cursor.new s.old s.new) }
-    ensures left { IfOk result (λ t. t ≡ false → s.new ≡ s.old) }
 {
     let Ok(x) = cursor.u32() else {
         return Ok(false);
@@ -231,9 +231,8 @@ fn fast_reserved<E: Env>(
     cursor: &mut Cursor<'_>,
 ) -> Result<bool, Stop>
     requires { HasReserved opcode }
-    ensures taken { IfOk result
+    ensures { IfOk result
         (TakesBehind (E.answers env.now) f.now opcode cursor.old cursor.new s.old s.new) }
-    ensures left { IfOk result (λ t. t ≡ false → s.new ≡ s.old) }
 {
     let Ok(0) = cursor.byte() else {
         return Ok(false);
@@ -253,9 +252,8 @@ fn fast_signed<E: Env>(
     cursor: &mut Cursor<'_>,
 ) -> Result<bool, Stop>
     requires { HasSigned opcode }
-    ensures taken { IfOk result
+    ensures { IfOk result
         (TakesBehind (E.answers env.now) f.now opcode cursor.old cursor.new s.old s.new) }
-    ensures left { IfOk result (λ t. t ≡ false → s.new ≡ s.old) }
 {
     match opcode {
         // i32.const
@@ -289,9 +287,8 @@ fn fast_word<E: Env>(
     cursor: &mut Cursor<'_>,
 ) -> Result<bool, Stop>
     requires { HasWord opcode }
-    ensures taken { IfOk result
+    ensures { IfOk result
         (TakesBehind (E.answers env.now) f.now opcode cursor.old cursor.new s.old s.new) }
-    ensures left { IfOk result (λ t. t ≡ false → s.new ≡ s.old) }
 {
     match opcode {
         // f32.const
@@ -326,9 +323,8 @@ fn fast_memarg<E: Env>(
 ) -> Result<bool, Stop>
     requires low { 0x28 ≤ opcode }
     requires high { opcode ≤ 0x3E }
-    ensures taken { IfOk result
+    ensures { IfOk result
         (TakesBehind (E.answers env.now) f.now opcode cursor.old cursor.new s.old s.new) }
-    ensures left { IfOk result (λ t. t ≡ false → s.new ≡ s.old) }
 {
     let Some(op) = MemoryOp::from_opcode(opcode) else {
         return Ok(false);
@@ -355,9 +351,8 @@ fn fast_numeric<E: Env>(
 ) -> Result<bool, Stop>
     requires low { 0x45 ≤ opcode }
     requires high { opcode ≤ 0xBF }
-    ensures taken { IfOk result
+    ensures { IfOk result
         (TakesBehind (E.answers env.now) f.now opcode cursor.now cursor.now s.old s.new) }
-    ensures left { IfOk result (λ t. t ≡ false → s.new ≡ s.old) }
 {
     let Some(op) = NumericOp::from_opcode(opcode) else {
         return Ok(false);
@@ -377,9 +372,8 @@ fn type_operator<E: Env>(
     s: &mut Stacks,
     cursor: &mut Cursor<'_>,
 ) -> Result<bool, Stop>
-    ensures taken { IfOk result
+    ensures { IfOk result
         (TakesBehind (E.answers env.now) f.now opcode cursor.old cursor.new s.old s.new) }
-    ensures left { IfOk result (λ t. t ≡ false → s.new ≡ s.old) }
 {
     match opcode {
         0x00 => fast_alone(env, f, 0x00, s, cursor), // unreachable
@@ -432,9 +426,18 @@ pub(crate) fn type_fast<E: Env>(
     s: &mut Stacks,
     cursor: &mut Cursor<'_>,
 ) -> Result<FastStep, Stop>
-    ensures taken { (profile : Profile) → IfOk result (λ p. p ≡ FastStep.Token → IsTaken (E.answers env.now) (local_type f.now.locals.params f.now.locals.groups) f.now.results.now profile reader.old reader.new cursor.old cursor.new s.old s.new) }
-    ensures last { (profile : Profile) → IfOk result (λ p. p ≡ FastStep.Last → NextRead profile reader.old reader.new cursor.old cursor.new None × (s.new ≡ s.old)) }
-    ensures left { IfOk result (λ p. p ≡ FastStep.Other → (s.new ≡ s.old) × (reader.new ≡ reader.old)) }
+    ensures taken { (profile : Profile)
+        → IfOk result
+        (λ p. p ≡ FastStep.Token
+        → IsTaken (E.answers env.now) f.now profile reader.old reader.new cursor.old cursor.new
+        s.old s.new) }
+    ensures last { (profile : Profile)
+        → IfOk result
+        (λ p. p ≡ FastStep.Last
+        → NextRead profile reader.old reader.new cursor.old cursor.new None
+        × (s.new ≡ s.old)) }
+    ensures left { IfOk result
+        (λ p. p ≡ FastStep.Other → (s.new ≡ s.old) × (reader.new ≡ reader.old)) }
 {
     let Ok(opcode) = cursor.byte() else {
         return Ok(FastStep::Other);

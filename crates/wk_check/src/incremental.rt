@@ -67,7 +67,8 @@ pub fn verdict_with_func(types: u32, place: u32, ty: u32, own: BodyVerdict) -> V
 /// The verdict of a valid module in which a body is replaced, that of the function of number `place` among those that it defines,
 /// where `own` is the verdict of the body under the type of the function. It takes no memory.
 pub fn verdict_with_body(place: u32, own: BodyVerdict) -> Verdict
-    ensures { (m : PartsOf) (ty : ℕ) (b : BodyOf) → Some ty ≡ option_map (λ f. f.ty) (slice_get m.funcs place)
+    ensures { (m : PartsOf) (ty : ℕ) (b : BodyOf)
+        → Some ty ≡ option_map (λ f. f.ty) (slice_get m.funcs place)
         → module_verdict m ≡ Verdict.Valid → own ≡ body_verdict (answers_of m) ty b
         → result ≡ module_verdict (with_body place b m) }
 {
@@ -87,8 +88,10 @@ pub fn verdict_with_global(
     init: &Expr,
 ) -> Result<Verdict, OutOfMemory>
     requires { AreNumbered (listed lists.now) }
-    ensures { IfOk result (λ verdict. (m : PartsOf) → listed lists.now ≡ record (lists_of m) { codes = [] }
-        → module_verdict m ≡ Verdict.Valid → verdict ≡ module_verdict (with_global ty init.now m)) }
+    ensures { IfOk result
+        (λ verdict. (m : PartsOf) → listed lists.now ≡ record (lists_of m) { codes = [] }
+        → module_verdict m ≡ Verdict.Valid
+        → verdict ≡ module_verdict (with_global ty init.now m)) }
 {
     let whole = Whole::of(alloc, *lists)?;
     let initial = Initial { whole: &whole };
@@ -133,8 +136,10 @@ fn verdict_beside(lists: &Lists<'_>, desc: &ImportDesc) -> Verdict
 pub fn verdict_with_import(lists: &Lists<'_>, import: &Import) -> Verdict
     requires { AreNumbered (listed lists.now) }
     ensures { (m : PartsOf) → listed lists.now ≡ record (lists_of m) { codes = [] }
-        → module_verdict m ≡ Verdict.Valid → (let kind = desc_kind import.now.desc in
-        result ≡ module_verdict (with_import import.now (moved_parts kind (import_count kind m.imports) m))) }
+        → module_verdict m ≡ Verdict.Valid
+        → (let kind = desc_kind import.now.desc in result
+        ≡ module_verdict (with_import import.now
+        (moved_parts kind (import_count kind m.imports) m))) }
 {
     match flaw_of_next_import(lists, &import.desc) {
         Some(flaw) => Verdict::Invalid(flaw.at(section_id::IMPORT, lists.imports.len() as u32)),

@@ -6,23 +6,23 @@ ghost use Rattle.wk_bytes.specs.Raw.{raw_view};
 ghost use Rattle.wk_body.specs.Reads.{Reads};
 ghost use Rattle.wk_module.specs.declared.types.Parts.{Parts as PartsOf};
 ghost use Rattle.wk_module.specs.Listed.{listed, AreNumbered};
-ghost use Rattle.wk_module.specs.ListReading.{IsReading, Rise, lists_read};
+ghost use Rattle.wk_module.specs.ListReading.{IsReading, Rise, lists_read, rest_read};
 ghost use Rattle.wk_module.specs.Reading.{module_at};
-ghost use Rattle.wk_module.specs.Sections.{no_lists};
+ghost use Rattle.wk_module.specs.Sections.{SectionLists, no_lists};
 ghost use Rattle.wk_check.specs.declared.fault.Fault.{Fault as FaultOf};
 ghost use Rattle.wk_check.specs.declared.fault.Verdict.{Verdict};
 ghost use Rattle.wk_check.specs.Items.{earlier};
 ghost use Rattle.wk_check.specs.Spelled.{judged, IsVerdictOf, first_of, fault_read, codes_judged, opened_judged, left_judged};
 ghost use Rattle.wk_check.specs.Valid.{IsValidRead};
 ghost use Rattle.wk_check.specs.Verdict.{module_verdict};
+ghost use Rattle.wk_check.specs.Whole.{IsImported};
 
 use crate::fault::{Fault, Verdict};
-use crate::judging::{fault_before_code, judge_around, judge_behind};
+use crate::judging::{fault_before_code, judge_around, verdict_behind};
 use crate::rule::Rule;
-use crate::rules::CodeRule;
 use crate::streaming::{StreamRoom, is_valid_body};
 use crate::typing::Room;
-use crate::whole::Whole;
+use crate::whole::{Imported, Whole};
 use std::alloc::Global;
 use wk_bytes::{Cursor, OutOfMemory, RawSection, ReadFault, ReadKind};
 use wk_module::{
@@ -38,11 +38,11 @@ struct Unread<'a> {
     code: Cursor<'a>,
 }
 
-// The room in which functions are judged.
+// The room in which a module is read and judged: made once, and used again from one section and one body to the next.
 #[derive(Drop)]
 struct Rooms {
-    stream: StreamRoom,
     scratch: Scratch,
+    stream: StreamRoom,
     room: Room,
 }
 
@@ -50,27 +50,37 @@ impl Rooms {
     // Rooms that are still to grow.
     fn new(alloc: Global) -> Rooms {
         Rooms {
-            stream: StreamRoom::new(alloc),
             scratch: Scratch::new(alloc),
+            stream: StreamRoom::new(alloc),
             room: Room::new(alloc),
+        }
+    }
+
+    // Gives back what grew with the codes: the scratch too, where bodies were held in it.
+    fn give_back(&mut self, alloc: Global, has_held_bodies: bool) {
+        self.stream = StreamRoom::new(alloc);
+        self.room = Room::new(alloc);
+        if has_held_bodies {
+            self.scratch = Scratch::new(alloc);
         }
     }
 }
 
 // The first fault of the functions up to this one, where that of those before it is given.
 fn fault_behind(
-    rule: &CodeRule<'_>,
+    whole: &Whole<'_>,
     fault: Option<Fault>,
     index: u32,
     func: &Func,
     room: &mut Room,
 ) -> Result<Option<Fault>, OutOfMemory>
-    ensures { IfOk result (λ r. r ≡ earlier fault (first_of rule.now.whole.now index (func.now ∷ []))) }
+    ensures { IfOk result
+        (λ r. r ≡ earlier fault (first_of whole.now index (func.now ∷ []))) }
 {
     if fault.is_some() {
         return Ok(fault);
     }
-    match rule.flaw(index as usize, func, room)? {
+    match whole.flaw(index as usize, func, room)? {
         Some(flaw) => Ok(Some(flaw.at(section_id::CODE, index))),
         None => Ok(None),
     }
@@ -80,12 +90,14 @@ fn fault_behind(
 // it valid, this is all. Else it is read as a whole, to tell its fault or that it can't be read.
 fn fault_up_to(
     alloc: Global,
-    rule: &CodeRule<'_>,
+    whole: &Whole<'_>,
     fault: Option<Fault>,
     func: &Unread<'_>,
     rooms: &mut Rooms,
 ) -> Result<Option<Fault>, ReadFault>
-    ensures { Reads (λ r. r) result (fault_read func.now.profile rule.now.whole.now fault func.now.index func.now.ty func.now.code) }
+    ensures { Reads (λ r. r) result
+        (fault_read func.now.profile whole.now fault func.now.index func.now.ty
+        func.now.code) }
 {
     let Unread {
         index,
@@ -93,12 +105,12 @@ fn fault_up_to(
         profile,
         code,
     } = func;
-    if fault.is_none() && is_valid_body(rule.whole, *ty, *profile, code, &mut rooms.stream)? {
+    if fault.is_none() && is_valid_body(whole, *ty, *profile, code, &mut rooms.stream)? {
         return Ok(None);
     }
     let body = rooms.scratch.read_body(alloc, code, *profile)?;
     let read = Func { ty: *ty, body };
-    let found = fault_behind(rule, fault, *index, &read, &mut rooms.room);
+    let found = fault_behind(whole, fault, *index, &read, &mut rooms.room);
     // (Here and below, what is owned is freed by a call, which is proved apart.)
     drop(read);
     Ok(found?)
@@ -116,13 +128,14 @@ fn fault_of_codes(
 ) -> Result<Option<Fault>, ReadFault>
     requires numbered { AreNumbered (listed lists.now) }
     requires same { whole.now ≡ listed lists.now }
-    requires spelled { is_spelled ≡ true → (o : Option FaultOf)
-        × (opened_judged lists.now.profile (listed lists.now) lists.now.funcs.now codes.old ≡ Ok o) }
+    requires spelled { is_spelled ≡ true
+        → (o : Option FaultOf)
+        × (opened_judged lists.now.profile (listed lists.now) lists.now.funcs.now codes.old
+        ≡ Ok o) }
     ensures { Reads (λ r. r) result
         (opened_judged lists.now.profile (listed lists.now) lists.now.funcs.now codes.old) }
 {
-    let rule = CodeRule { whole };
-    let known = fault_before_code(alloc, lists, whole, &mut rooms.room)?;
+    let known = fault_before_code(alloc, lists.profile, whole, &mut rooms.room)?;
     let mut fault = known;
     for (index, ty) in lists.funcs.iter().enumerate() {
         if is_spelled && fault.is_some() {
@@ -134,44 +147,55 @@ fn fault_of_codes(
             profile: lists.profile,
             code: codes.next_code()?,
         };
-        fault = fault_up_to(alloc, &rule, fault, &func, rooms)?;
+        fault = fault_up_to(alloc, whole, fault, &func, rooms)?;
     }
     codes.end()?;
     Ok(fault)
 }
 
-// The same of a code section that is still to be opened.
+// The same of a code section that is still to be opened. Beside it stands what was counted of the imports.
 fn fault_of_section(
     alloc: Global,
+    rooms: &mut Rooms,
     lists: &Lists<'_>,
     section: &RawSection<'_>,
     is_spelled: bool,
-) -> Result<Option<Fault>, ReadFault>
+) -> Result<(Option<Fault>, Imported), ReadFault>
     requires numbered { AreNumbered (listed lists.now) }
-    requires spelled { is_spelled ≡ true → (o : Option FaultOf)
-        × (codes_judged lists.now.profile (listed lists.now) lists.now.funcs.now (raw_view section.now) ≡ Ok o) }
-    ensures { Reads (λ r. r) result (codes_judged lists.now.profile (listed lists.now) lists.now.funcs.now (raw_view section.now)) }
+    requires spelled { is_spelled ≡ true
+        → (o : Option FaultOf)
+        × (codes_judged lists.now.profile (listed lists.now) lists.now.funcs.now
+        (raw_view section.now)
+        ≡ Ok o) }
+    ensures fault { Reads (λ r. r.0) result
+        (codes_judged lists.now.profile (listed lists.now) lists.now.funcs.now
+        (raw_view section.now)) }
+    ensures imported { IfOk result (λ r. IsImported lists.now.imports.now r.1) }
 {
     let mut codes = CodeReader::open(section, lists.funcs.len())?;
     let whole = Whole::of(alloc, *lists)?;
-    let mut rooms = Rooms::new(alloc);
-    let fault = fault_of_codes(alloc, lists, &whole, &mut codes, &mut rooms, is_spelled);
-    drop(rooms);
-    drop(whole);
-    fault
+    let fault = fault_of_codes(alloc, lists, &whole, &mut codes, rooms, is_spelled);
+    let imported = whole.into_imported();
+    Ok((fault?, imported))
 }
 
-// Judges a module of which this reader has the sections left, and whose first fault in those up to the code section is `fault`.
+// Judges a module of which this reader has the sections left, which leave its imports as they were counted, and whose first fault in
+// those up to the code section is `fault`.
 fn judge_to_end(
     alloc: Global,
-    scratch: &mut Scratch,
+    rooms: &mut Rooms,
     reader: SectionReader<'_>,
+    imported: Imported,
     fault: Option<Fault>,
 ) -> Result<Verdict, ReadFault>
+    requires { (l : SectionLists) → rest_read reader ≡ Ok l → IsImported l.imports imported }
     ensures { Reads (λ v. v) result (left_judged reader.entry fault) }
 {
-    let reader = reader.to_end(alloc, scratch)?;
-    let verdict = judge_behind(alloc, &reader.lists(), fault);
+    rooms.give_back(alloc, fault.is_some());
+    let reader = reader.to_end(alloc, &mut rooms.scratch)?;
+    let whole = Whole::with(reader.lists(), imported);
+    let verdict = verdict_behind(&whole, fault, &mut rooms.room);
+    drop(whole);
     drop(reader);
     Ok(verdict?)
 }
@@ -180,23 +204,25 @@ fn judge_to_end(
 // spell one.
 fn judge_from_code(
     alloc: Global,
-    scratch: &mut Scratch,
+    rooms: &mut Rooms,
     bytes: &[u8],
     reader: SectionReader<'_>,
     section: &RawSection<'_>,
     is_spelled: bool,
 ) -> Result<Verdict, ReadFault>
-    requires spelled { is_spelled ≡ true → (m : PartsOf) × (module_at reader.profile bytes.now ≡ Ok m) }
+    requires spelled { is_spelled ≡ true
+        → (m : PartsOf) × (module_at reader.profile bytes.now ≡ Ok m) }
     requires code { section.now.id ≡ 10 }
     requires none { reader.lists.codes ≡ [] }
     requires rise { Rise 10 reader.left }
-    requires read { lists_read reader.profile no_lists (sections_of bytes.now) ≡ lists_read reader.profile reader.lists (Ok (raw_view section.now) ∷ reader.left) }
+    requires read { lists_read reader.profile no_lists (sections_of bytes.now)
+        ≡ lists_read reader.profile reader.lists (Ok (raw_view section.now) ∷ reader.left) }
     ensures { Reads (λ v. v) result (judged (module_at reader.entry.profile bytes.now)) }
 {
-    reading_of_module(bytes, reader.lists().profile);
     let lists = reader.lists();
-    match fault_of_section(alloc, &lists, section, is_spelled) {
-        Ok(fault) => judge_to_end(alloc, scratch, reader, fault),
+    reading_of_module(bytes, lists.profile);
+    match fault_of_section(alloc, rooms, &lists, section, is_spelled) {
+        Ok((fault, imported)) => judge_to_end(alloc, rooms, reader, imported, fault),
         Err(fault) => {
             drop(reader);
             Err(fault)
@@ -211,7 +237,8 @@ fn judge_without_code(
     reader: &SectionReader<'_>,
 ) -> Result<Verdict, ReadFault>
     requires none { reader.now.lists.codes ≡ [] }
-    requires read { lists_read reader.now.profile no_lists (sections_of bytes.now) ≡ Ok reader.now.lists }
+    requires read { lists_read reader.now.profile no_lists (sections_of bytes.now)
+        ≡ Ok reader.now.lists }
     ensures { Reads (λ v. v) result (judged (module_at reader.now.profile bytes.now)) }
 {
     let lists = reader.lists();
@@ -228,7 +255,7 @@ fn judge_without_code(
 // Judges the module that these bytes spell. Where it is known that they spell one, no body behind the first fault is read.
 fn judge_sections(
     alloc: Global,
-    scratch: &mut Scratch,
+    rooms: &mut Rooms,
     bytes: &[u8],
     profile: Profile,
     is_spelled: bool,
@@ -237,9 +264,10 @@ fn judge_sections(
     ensures { Reads (λ v. v) result (judged (module_at profile bytes.now)) }
 {
     reading_of_module(bytes, profile);
-    let (reader, section) = SectionReader::new(alloc, bytes, profile).up_to_code(alloc, scratch)?;
+    let reader = SectionReader::new(alloc, bytes, profile);
+    let (reader, section) = reader.up_to_code(alloc, &mut rooms.scratch)?;
     match section {
-        Some(section) => judge_from_code(alloc, scratch, bytes, reader, &section, is_spelled),
+        Some(section) => judge_from_code(alloc, rooms, bytes, reader, &section, is_spelled),
         None => {
             let verdict = judge_without_code(alloc, bytes, &reader);
             drop(reader);
@@ -248,7 +276,7 @@ fn judge_sections(
     }
 }
 
-// The same in a room of its own for what is read.
+// The same in a room of its own.
 fn judge_spelling(
     alloc: Global,
     bytes: &[u8],
@@ -258,7 +286,7 @@ fn judge_spelling(
     requires { is_spelled ≡ true → (m : PartsOf) × (module_at profile bytes.now ≡ Ok m) }
     ensures { Reads (λ v. v) result (judged (module_at profile bytes.now)) }
 {
-    judge_sections(alloc, &mut Scratch::new(alloc), bytes, profile, is_spelled)
+    judge_sections(alloc, &mut Rooms::new(alloc), bytes, profile, is_spelled)
 }
 
 /// Judges the module of a profile that bytes spell (5.5.15, 3.4.10): valid, or the first fault by section, item, and what is
@@ -294,7 +322,8 @@ pub fn judge_bytes(alloc: Global, bytes: &[u8], profile: Profile) -> Result<Verd
     ensures meaning { IfOk result (λ verdict. IsVerdictOf (module_at profile bytes.now) verdict) }
     // It is valid exactly where the declarative rules derive each body, each initialiser and each offset, and nothing is wrong with
     // the rest of it (chapter 3).
-    ensures valid { IfOk result (λ verdict. verdict ≡ Verdict.Valid ↔ IsValidRead (module_at profile bytes.now)) }
+    ensures valid { IfOk result
+        (λ verdict. verdict ≡ Verdict.Valid ↔ IsValidRead (module_at profile bytes.now)) }
     ensures is { IsReading profile bytes.now (module_at profile bytes.now) }
 {
     reading_of_module(bytes, profile);

@@ -1,7 +1,6 @@
 //! Judging a module (3.4.10).
 
 ghost use Rattle.std.specs.Prelude.{◌≡◌, ◌↔◌, ◌<◌, ◌^◌, [], ◌∷◌, length, map, IfOk};
-ghost use Rattle.wk_body.specs.declared.types.Profile.{Profile};
 ghost use Rattle.wk_module.specs.Listed.{listed, AreNumbered};
 ghost use Rattle.wk_module.specs.Shape.{lists_of};
 ghost use Rattle.wk_check.specs.declared.fault.Verdict.{Verdict};
@@ -9,29 +8,32 @@ ghost use Rattle.wk_check.specs.Flaws.{first_in, first_fault};
 ghost use Rattle.wk_check.specs.Items.{earlier, start_flaws};
 ghost use Rattle.wk_check.specs.Spaces.{spaces_of};
 ghost use Rattle.wk_check.specs.Valid.{IsValidModule};
-ghost use Rattle.wk_check.specs.Verdict.{type_flaws, import_flaws, func_flaws, table_flaws, memory_flaws, global_flaws, export_flaws, elem_flaws, code_flaws, data_flaws, front_fault, verdict_from, verdict_around, module_verdict, IsVerdict, IsNotArity, extended};
+ghost use Rattle.wk_check.specs.Verdict.{type_flaws, import_flaws, func_flaws, table_flaws, memory_flaws, global_flaws, export_flaws, elem_flaws, code_flaws, front_fault, verdict_from, verdict_around, module_verdict, IsVerdict, IsNotArity, extended};
 
 use crate::exports::exports_fault;
 use crate::fault::{Fault, Verdict};
 use crate::rule::first_fault;
-use crate::rules::{
-    CodeRule, DataRule, ElemRule, FuncRule, GlobalRule, MemoryRule, TableRule, TypeRule,
-    flaw_of_start, imports_fault,
-};
+use crate::rules::{FuncRule, StorageRule, TypeRule, flaw_of_start, imports_fault};
 use crate::typing::Room;
 use crate::whole::Whole;
 use std::alloc::Global;
 use wk_bytes::OutOfMemory;
-use wk_module::{Func, Lists, Module, Parts, section_id};
+use wk_module::{Func, Lists, Module, Parts, Profile, section_id};
 
 // The first fault of the types, the imports and the functions.
-fn fault_of_types(lists: &Lists<'_>, room: &mut Room) -> Result<Option<Fault>, OutOfMemory>
-    requires { AreNumbered (listed lists.now) }
-    ensures { IfOk result (λ r. r ≡ first_fault 1 (type_flaws lists.now.profile (listed lists.now) ∷ import_flaws (listed lists.now) ∷ func_flaws (listed lists.now) ∷ [])) }
+fn fault_of_types(
+    profile: Profile,
+    whole: &Whole<'_>,
+    room: &mut Room,
+) -> Result<Option<Fault>, OutOfMemory>
+    requires { AreNumbered whole.now }
+    ensures { IfOk result
+        (λ r. r
+        ≡ first_fault 1
+        (type_flaws profile whole.now ∷ import_flaws whole.now ∷ func_flaws whole.now ∷ [])) }
 {
-    let rule = TypeRule {
-        profile: lists.profile,
-    };
+    let lists = whole.lists();
+    let rule = TypeRule { profile };
     if let Some(fault) = first_fault(&rule, section_id::TYPE, lists.types, room)? {
         return Ok(Some(fault));
     }
@@ -45,46 +47,45 @@ fn fault_of_types(lists: &Lists<'_>, room: &mut Room) -> Result<Option<Fault>, O
 }
 
 // The first fault of the tables, the memories and the globals.
-fn fault_of_storage(
-    lists: &Lists<'_>,
-    whole: &Whole<'_>,
-    room: &mut Room,
-) -> Result<Option<Fault>, OutOfMemory>
-    requires numbered { AreNumbered (listed lists.now) }
-    requires same { whole.now ≡ listed lists.now }
-    ensures { IfOk result (λ r. r ≡ first_fault 4 (table_flaws (listed lists.now) ∷ memory_flaws (listed lists.now) ∷ global_flaws (listed lists.now) ∷ [])) }
+fn fault_of_storage(whole: &Whole<'_>, room: &mut Room) -> Result<Option<Fault>, OutOfMemory>
+    requires { AreNumbered whole.now }
+    ensures { IfOk result
+        (λ r. r
+        ≡ first_fault 4
+        (table_flaws whole.now ∷ memory_flaws whole.now ∷ global_flaws whole.now ∷ [])) }
 {
-    let rule = TableRule {
+    let lists = whole.lists();
+    let rule = StorageRule {
+        is_memory: false,
         imported: whole.imported_tables(),
     };
     if let Some(fault) = first_fault(&rule, section_id::TABLE, lists.tables, room)? {
         return Ok(Some(fault));
     }
-    let rule = MemoryRule {
+    let rule = StorageRule {
+        is_memory: true,
         imported: whole.imported_memories(),
     };
     if let Some(fault) = first_fault(&rule, section_id::MEMORY, lists.memories, room)? {
         return Ok(Some(fault));
     }
-    first_fault(
-        &GlobalRule { whole },
-        section_id::GLOBAL,
-        lists.globals,
-        room,
-    )
+    first_fault(whole, section_id::GLOBAL, lists.globals, room)
 }
 
 // The first fault of the exports, the start function and the element segments.
 fn fault_of_uses(
     alloc: Global,
-    lists: &Lists<'_>,
     whole: &Whole<'_>,
     room: &mut Room,
 ) -> Result<Option<Fault>, OutOfMemory>
-    requires numbered { AreNumbered (listed lists.now) }
-    requires same { whole.now ≡ listed lists.now }
-    ensures { IfOk result (λ r. r ≡ first_fault 7 (export_flaws (listed lists.now) ∷ start_flaws (spaces_of (listed lists.now)) lists.now.start ∷ elem_flaws (listed lists.now) ∷ [])) }
+    requires { AreNumbered whole.now }
+    ensures { IfOk result
+        (λ r. r
+        ≡ first_fault 7
+        (export_flaws whole.now ∷ start_flaws (spaces_of whole.now) whole.now.start
+        ∷ elem_flaws whole.now ∷ [])) }
 {
+    let lists = whole.lists();
     if let Some(fault) = exports_fault(alloc, whole, lists.exports)? {
         return Ok(Some(fault));
     }
@@ -93,73 +94,44 @@ fn fault_of_uses(
             return Ok(Some(flaw.at(section_id::START, 0)));
         }
     }
-    first_fault(&ElemRule { whole }, section_id::ELEMENT, lists.elems, room)
+    first_fault(whole, section_id::ELEMENT, lists.elems, room)
 }
 
 /// The first fault of the sections in front of the code section.
 pub(crate) fn fault_before_code(
     alloc: Global,
-    lists: &Lists<'_>,
+    profile: Profile,
     whole: &Whole<'_>,
     room: &mut Room,
 ) -> Result<Option<Fault>, OutOfMemory>
-    requires numbered { AreNumbered (listed lists.now) }
-    requires same { whole.now ≡ listed lists.now }
-    ensures { IfOk result (λ r. r ≡ front_fault lists.now.profile (listed lists.now)) }
+    requires { AreNumbered whole.now }
+    ensures { IfOk result (λ r. r ≡ front_fault profile whole.now) }
 {
-    if let Some(fault) = fault_of_types(lists, room)? {
+    if let Some(fault) = fault_of_types(profile, whole, room)? {
         return Ok(Some(fault));
     }
-    if let Some(fault) = fault_of_storage(lists, whole, room)? {
+    if let Some(fault) = fault_of_storage(whole, room)? {
         return Ok(Some(fault));
     }
-    fault_of_uses(alloc, lists, whole, room)
+    fault_of_uses(alloc, whole, room)
 }
 
-// The first fault of the data segments.
-fn fault_of_datas(
-    lists: &Lists<'_>,
-    whole: &Whole<'_>,
-    room: &mut Room,
-) -> Result<Option<Fault>, OutOfMemory>
-    requires numbered { AreNumbered (listed lists.now) }
-    requires same { whole.now ≡ listed lists.now }
-    ensures { IfOk result (λ r. r ≡ first_in 11 0 (data_flaws (listed lists.now))) }
-{
-    first_fault(&DataRule { whole }, section_id::DATA, lists.datas, room)
-}
-
-// The verdict where this is the first fault of the sections up to the code section.
-fn verdict_behind(
-    lists: &Lists<'_>,
+/// The verdict where this is the first fault of the sections up to the code section: that, or the first fault of the data segments.
+pub(crate) fn verdict_behind(
     whole: &Whole<'_>,
     fault: Option<Fault>,
     room: &mut Room,
 ) -> Result<Verdict, OutOfMemory>
-    requires numbered { AreNumbered (listed lists.now) }
-    requires same { whole.now ≡ listed lists.now }
-    ensures { IfOk result (λ verdict. verdict ≡ verdict_from (listed lists.now) fault) }
+    requires { AreNumbered whole.now }
+    ensures { IfOk result (λ verdict. verdict ≡ verdict_from whole.now fault) }
 {
     if let Some(fault) = fault {
         return Ok(Verdict::Invalid(fault));
     }
-    match fault_of_datas(lists, whole, room)? {
+    match first_fault(whole, section_id::DATA, whole.lists().datas, room)? {
         Some(fault) => Ok(Verdict::Invalid(fault)),
         None => Ok(Verdict::Valid),
     }
-}
-
-/// Judges a module with these lists whose first fault in the sections up to the code section is `fault`.
-pub(crate) fn judge_behind(
-    alloc: Global,
-    lists: &Lists<'_>,
-    fault: Option<Fault>,
-) -> Result<Verdict, OutOfMemory>
-    requires { AreNumbered (listed lists.now) }
-    ensures { IfOk result (λ verdict. verdict ≡ verdict_from (listed lists.now) fault) }
-{
-    let whole = Whole::of(alloc, *lists)?;
-    verdict_behind(lists, &whole, fault, &mut Room::new(alloc))
 }
 
 /// Judges a module with these lists whose first fault in the code section is `code`: valid, or the first fault by section, item,
@@ -172,15 +144,16 @@ pub fn judge_around(
     code: Option<Fault>,
 ) -> Result<Verdict, OutOfMemory>
     requires { AreNumbered (listed lists.now) }
-    ensures { IfOk result (λ verdict. verdict ≡ verdict_around lists.now.profile (listed lists.now) code) }
+    ensures { IfOk result
+        (λ verdict. verdict ≡ verdict_around lists.now.profile (listed lists.now) code) }
 {
     let whole = Whole::of(alloc, *lists)?;
     let mut room = Room::new(alloc);
-    let fault = match fault_before_code(alloc, lists, &whole, &mut room)? {
+    let first = match fault_before_code(alloc, lists.profile, &whole, &mut room)? {
         Some(fault) => Some(fault),
         None => code,
     };
-    verdict_behind(lists, &whole, fault, &mut room)
+    verdict_behind(&whole, first, &mut room)
 }
 
 // The types of functions.
@@ -207,20 +180,20 @@ fn lists_of<'a>(parts: &'a Parts, funcs: &'a [u32]) -> Lists<'a>
 fn fault_up_to_code(
     alloc: Global,
     parts: &Parts,
-    lists: &Lists<'_>,
     whole: &Whole<'_>,
     room: &mut Room,
 ) -> Result<Option<Fault>, OutOfMemory>
     requires few { length parts.now.funcs < 2 ^ 32 }
-    requires numbered { AreNumbered (listed lists.now) }
-    requires same { whole.now ≡ listed lists.now }
-    ensures { IfOk result (λ r. r ≡ earlier (front_fault lists.now.profile (listed lists.now)) (first_in 10 0 (code_flaws (listed lists.now) parts.now.funcs))) }
+    requires numbered { AreNumbered whole.now }
+    ensures { IfOk result
+        (λ r. r
+        ≡ earlier (front_fault parts.now.profile whole.now)
+        (first_in 10 0 (code_flaws whole.now parts.now.funcs))) }
 {
-    if let Some(fault) = fault_before_code(alloc, lists, whole, room)? {
+    if let Some(fault) = fault_before_code(alloc, parts.profile, whole, room)? {
         return Ok(Some(fault));
     }
-    let rule = CodeRule { whole };
-    first_fault(&rule, section_id::CODE, parts.funcs.as_slice(), room)
+    first_fault(whole, section_id::CODE, parts.funcs.as_slice(), room)
 }
 
 /// Judges a module: valid, or the first fault by section, item, and what is looked at.
@@ -233,13 +206,14 @@ pub fn judge(alloc: Global, module: &Module) -> Result<Verdict, OutOfMemory>
     // the rest of it (chapter 3).
     ensures valid { IfOk result (λ verdict. verdict ≡ Verdict.Valid ↔ IsValidModule «module».now) }
     // Under the rules of the other profile the verdict is the same, unless the first fault was many results of a type.
-    ensures extended { IfOk result (λ verdict. IsNotArity verdict → module_verdict (extended «module».now) ≡ verdict) }
+    ensures extended { IfOk result
+        (λ verdict. IsNotArity verdict → module_verdict (extended «module».now) ≡ verdict) }
 {
     let parts = module.parts();
     let types = types_of(alloc, parts.funcs.as_slice())?;
     let lists = lists_of(parts, types.as_slice());
     let whole = Whole::of(alloc, lists)?;
     let mut room = Room::new(alloc);
-    let fault = fault_up_to_code(alloc, parts, &lists, &whole, &mut room)?;
-    verdict_behind(&lists, &whole, fault, &mut room)
+    let fault = fault_up_to_code(alloc, parts, &whole, &mut room)?;
+    verdict_behind(&whole, fault, &mut room)
 }

@@ -34,11 +34,11 @@
 //!
 //! Judging a module of 1.0 takes time and memory in line with its bytes (`docs/VERDICTS.md`, "Cost"). The sections in front of the
 //! bodies are judged first, and where one has a fault no body is typed. A body is typed in one pass over its tokens; nothing recurses
-//! over nested blocks. An operand stack and a list of control frames are made once and serve all bodies; [`judge_bytes`] has a second
-//! pair, for the first body that is not valid, and constant expressions have their own. The types of a body's first locals are written
-//! out, 256 at the most, and the others are found by where their groups end, so billions of locals in one group take no room.
-//! [`judge_bytes`] holds all lists but the bodies: none up to the first that is invalid, then one at a time; and nothing of custom
-//! sections.
+//! over nested blocks. The imports are counted once, for all references. An operand stack and a list of control frames are made once
+//! and serve all bodies and constant expressions; [`judge_bytes`] has a second pair, for these expressions and the first body that is
+//! not valid. The types of a body's first locals are written out, 256 at the most, and the others are found by where their groups end,
+//! so billions of locals in one group take no room. [`judge_bytes`] holds all lists but the bodies: none up to the first that is
+//! invalid, then one at a time; and nothing of custom sections.
 #![tactic(auto)]
 
 mod carry_verdict;

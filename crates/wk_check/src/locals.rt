@@ -68,7 +68,8 @@ impl<'a> Model for Locals<'a> {
 
     ghost view = { λ l. record { params = l.params.now; groups = l.groups.now } };
 
-    ghost invariant = { λ l. (l.ends.now ≡ ends_from 0 l.groups.now) × AreFirst l.params.now l.groups.now l.first.now };
+    ghost invariant = { λ l. (l.ends.now ≡ ends_from 0 l.groups.now)
+        × AreFirst l.params.now l.groups.now l.first.now };
 }
 
 impl<'a> Locals<'a> {

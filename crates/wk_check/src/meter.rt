@@ -62,8 +62,10 @@ pub fn judge_body<E: Env>(
     requires { meter.old + 1 < 2 ^ 64 }
     ensures verdict { IfOk result (λ v. v ≡ body_verdict (E.answers env.now) own_type body.now) }
     ensures typed { meter.new ≡ meter.old + 1 }
-    ensures sound { IfOk result (λ v. v ≡ BodyVerdict.Valid → IsDerived (E.answers env.now) own_type body.now) }
-    ensures complete { IfOk result (λ v. IsDerived (E.answers env.now) own_type body.now → v ≡ BodyVerdict.Valid) }
+    ensures sound { IfOk result
+        (λ v. v ≡ BodyVerdict.Valid → IsDerived (E.answers env.now) own_type body.now) }
+    ensures complete { IfOk result
+        (λ v. IsDerived (E.answers env.now) own_type body.now → v ≡ BodyVerdict.Valid) }
 {
     meter.typed += 1;
     type_body(env, own_type, body, &mut meter.room)

@@ -1,13 +1,12 @@
 //! Pops and pushes of several operands.
 
-ghost use Rattle.std.specs.Prelude.{◌≡◌, [], ◌∷◌, length, OnOk};
+ghost use Rattle.std.specs.Prelude.{◌≡◌, [], ◌∷◌, OnOk};
 ghost use Rattle.wk_check.specs.Slots.{Known};
-ghost use Rattle.wk_check.specs.Own.{popped_one, popped, popped_any, pushed};
-ghost use Rattle.wk_check.specs.Effects.{same_types, Takes, Stops, Drops, Selects};
+ghost use Rattle.wk_check.specs.Own.{popped_one, popped, pushed};
+ghost use Rattle.wk_check.specs.Effects.{same_types, Stops, Drops, Selects};
 ghost use Rattle.wk_check.specs.Typing.{after_effect, with_index};
 ghost use Rattle.wk_check.specs.Levels.{with_top};
-ghost use Rattle.wk_check.specs.Moves.{Pops, popped_on, pushed_on, Does, Steps, MadeBy, on_top};
-ghost use Rattle.wk_body.specs.declared.types.ValType.TheVariants.{I32};
+ghost use Rattle.wk_check.specs.Moves.{Pops, popped_on, pushed_on, Does, Steps, MadeBy, on_top, applied_on};
 
 use crate::fault::FaultKind;
 use crate::operand::Operand;
@@ -114,7 +113,7 @@ pub(crate) fn apply_type_in_line(
     operands: &[ValType],
     results: &[ValType],
 ) -> Result<(), Stop>
-    ensures { Steps (on_top (after_effect (Takes (with_index index operands.now) results.now)) s.old) result s.new }
+    ensures { Steps (applied_on (with_index index operands.now) results.now s.old) result s.new }
 {
     pop_indexed(s, index, operands)?;
     push_types(s, results)?;
@@ -128,7 +127,7 @@ pub(crate) fn apply_type(
     operands: &[ValType],
     results: &[ValType],
 ) -> Result<(), Stop>
-    ensures { Steps (on_top (after_effect (Takes (with_index index operands.now) results.now)) s.old) result s.new }
+    ensures { Steps (applied_on (with_index index operands.now) results.now s.old) result s.new }
 {
     apply_type_in_line(s, index, operands, results)
 }
@@ -139,7 +138,8 @@ pub(crate) fn apply_polymorphic(
     index: bool,
     operands: &[ValType],
 ) -> Result<(), Stop>
-    ensures { Steps (on_top (after_effect (Stops (with_index index operands.now))) s.old) result s.new }
+    ensures { Steps (on_top (after_effect (Stops (with_index index operands.now))) s.old) result
+        s.new }
 {
     pop_indexed(s, index, operands)?;
     s.unreachable();
@@ -149,7 +149,7 @@ pub(crate) fn apply_polymorphic(
 /// Pushes an operand.
 #[inline(always)]
 pub(crate) fn push_val(s: &mut Stacks, ty: ValType) -> Result<(), Stop>
-    ensures { Steps (on_top (after_effect (Takes [] (ty ∷ []))) s.old) result s.new }
+    ensures { Steps (applied_on [] (ty ∷ []) s.old) result s.new }
 {
     push_known(s, ty)?;
     Ok(())
@@ -158,7 +158,7 @@ pub(crate) fn push_val(s: &mut Stacks, ty: ValType) -> Result<(), Stop>
 /// Pops an operand.
 #[inline(always)]
 pub(crate) fn pop_val(s: &mut Stacks, ty: ValType) -> Result<(), Stop>
-    ensures { Steps (on_top (after_effect (Takes (ty ∷ []) [])) s.old) result s.new }
+    ensures { Steps (applied_on (ty ∷ []) [] s.old) result s.new }
 {
     pop_type(s, ty)?;
     Ok(())
@@ -167,7 +167,7 @@ pub(crate) fn pop_val(s: &mut Stacks, ty: ValType) -> Result<(), Stop>
 /// Pops two operands, the second first.
 #[inline(always)]
 pub(crate) fn pop_two(s: &mut Stacks, first: ValType, second: ValType) -> Result<(), Stop>
-    ensures { Steps (on_top (after_effect (Takes (first ∷ second ∷ []) [])) s.old) result s.new }
+    ensures { Steps (applied_on (first ∷ second ∷ []) [] s.old) result s.new }
 {
     pop_type(s, second)?;
     pop_val(s, first)
@@ -176,7 +176,7 @@ pub(crate) fn pop_two(s: &mut Stacks, first: ValType, second: ValType) -> Result
 // Pops an operand and pushes a result, one after the other.
 #[inline(always)]
 fn unop_in_steps(s: &mut Stacks, operand: ValType, given: ValType) -> Result<(), Stop>
-    ensures { Steps (on_top (after_effect (Takes (operand ∷ []) (given ∷ []))) s.old) result s.new }
+    ensures { Steps (applied_on (operand ∷ []) (given ∷ []) s.old) result s.new }
 {
     pop_type(s, operand)?;
     push_val(s, given)
@@ -186,10 +186,7 @@ fn unop_in_steps(s: &mut Stacks, operand: ValType, given: ValType) -> Result<(),
 #[cold]
 #[inline(never)]
 fn unop_slow(s: &mut Stacks, operand: ValType, given: ValType) -> Result<Growth, FaultKind>
-    ensures { MadeBy
-        (on_top (after_effect (Takes (operand ∷ []) (given ∷ []))) s.old)
-        result
-        s.new }
+    ensures { MadeBy (applied_on (operand ∷ []) (given ∷ []) s.old) result s.new }
 {
     to_registers(unop_in_steps(s, operand, given))
 }
@@ -198,7 +195,7 @@ fn unop_slow(s: &mut Stacks, operand: ValType, given: ValType) -> Result<Growth,
 /// Where an operand that fits is there, the result takes its place: that is a pop and a push without a look for room.
 #[inline(always)]
 pub(crate) fn unop(s: &mut Stacks, operand: ValType, given: ValType) -> Result<(), Stop>
-    ensures { Steps (on_top (after_effect (Takes (operand ∷ []) (given ∷ []))) s.old) result s.new }
+    ensures { Steps (applied_on (operand ∷ []) (given ∷ []) s.old) result s.new }
 {
     if s.unop_top(Operand::known(operand), Operand::known(given)) {
         return Ok(());
@@ -212,10 +209,7 @@ pub(crate) fn unop(s: &mut Stacks, operand: ValType, given: ValType) -> Result<(
 // Pops two operands of one type and pushes a result, one after the other.
 #[inline(always)]
 fn binop_in_steps(s: &mut Stacks, operand: ValType, given: ValType) -> Result<(), Stop>
-    ensures { Steps
-        (on_top (after_effect (Takes (operand ∷ operand ∷ []) (given ∷ []))) s.old)
-        result
-        s.new }
+    ensures { Steps (applied_on (operand ∷ operand ∷ []) (given ∷ []) s.old) result s.new }
 {
     pop_type(s, operand)?;
     unop_in_steps(s, operand, given)
@@ -225,10 +219,7 @@ fn binop_in_steps(s: &mut Stacks, operand: ValType, given: ValType) -> Result<()
 #[cold]
 #[inline(never)]
 fn binop_slow(s: &mut Stacks, operand: ValType, given: ValType) -> Result<Growth, FaultKind>
-    ensures { MadeBy
-        (on_top (after_effect (Takes (operand ∷ operand ∷ []) (given ∷ []))) s.old)
-        result
-        s.new }
+    ensures { MadeBy (applied_on (operand ∷ operand ∷ []) (given ∷ []) s.old) result s.new }
 {
     to_registers(binop_in_steps(s, operand, given))
 }
@@ -237,10 +228,7 @@ fn binop_slow(s: &mut Stacks, operand: ValType, given: ValType) -> Result<Growth
 /// of the first.
 #[inline(always)]
 pub(crate) fn binop(s: &mut Stacks, operand: ValType, given: ValType) -> Result<(), Stop>
-    ensures { Steps
-        (on_top (after_effect (Takes (operand ∷ operand ∷ []) (given ∷ []))) s.old)
-        result
-        s.new }
+    ensures { Steps (applied_on (operand ∷ operand ∷ []) (given ∷ []) s.old) result s.new }
 {
     if s.binop_top(Operand::known(operand), Operand::known(given)) {
         return Ok(());

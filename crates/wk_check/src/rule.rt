@@ -7,32 +7,24 @@ use crate::fault::{Fault, Flaw};
 use crate::typing::Room;
 use wk_bytes::OutOfMemory;
 
-/// What is asked of each item of a section (3.4).
-pub(crate) trait Rule {
-    /// What the section holds.
-    type Item;
-
+/// What is asked of each item of a section that holds these (3.4).
+pub(crate) trait Rule<Item> {
     ghost use Rattle.std.specs.Prelude.{◌≡◌, ℕ, Option, IfOk};
     ghost use Rattle.wk_check.specs.declared.fault.Flaw.{Flaw as Wrong};
 
     // What is wrong with an item at an index, if anything is.
-    ghost wrong: { Self → ℕ → Self.Item → Option Wrong };
+    ghost wrong: { Self → ℕ → Item → Option Wrong };
 
     /// What is wrong with the item at an index, if anything is. Code is typed in the room.
-    fn flaw(
-        &self,
-        index: usize,
-        item: &Self::Item,
-        room: &mut Room,
-    ) -> Result<Option<Flaw>, OutOfMemory>
+    fn flaw(&self, index: usize, item: &Item, room: &mut Room) -> Result<Option<Flaw>, OutOfMemory>
         ensures { IfOk result (λ r. r ≡ wrong self.now index item.now) };
 }
 
 /// The first fault of the section with this id.
-pub(crate) fn first_fault<R: Rule>(
+pub(crate) fn first_fault<T, R: Rule<T>>(
     rule: &R,
     section: u8,
-    items: &[R::Item],
+    items: &[T],
     room: &mut Room,
 ) -> Result<Option<Fault>, OutOfMemory>
     requires { length items.now < 2 ^ 32 }

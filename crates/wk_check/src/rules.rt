@@ -1,6 +1,6 @@
 //! What is asked of the items of each section (3.2, 3.4).
 
-ghost use Rattle.std.specs.Prelude.{◌≡◌, ◌+◌, ◌<◌, ◌^◌, ℕ, length, take, nat_lt};
+ghost use Rattle.std.specs.Prelude.{◌≡◌, ◌+◌, ◌<◌, ◌^◌, ℕ, length, take, nat_lt, if◌then◌else◌};
 ghost use Rattle.wk_check.specs.Flaws.{numbered, first_in};
 ghost use Rattle.wk_check.specs.Items.{in_order, in_range, all_within, table_flaw, memory_flaw, type_flaw, global_flaw, elem_flaw, data_flaw, body_flaw, import_flaw, unless, import_flaw_by, is_start, start_flaw};
 ghost use Rattle.wk_check.specs.Spaces.{answer_in, spaces_of, initial_spaces};
@@ -87,9 +87,7 @@ pub(crate) struct TypeRule {
     pub(crate) profile: Profile,
 }
 
-impl Rule for TypeRule {
-    type Item = FuncType;
-
+impl Rule<FuncType> for TypeRule {
     ghost wrong = { λ rule _ t. type_flaw rule.profile t };
 
     fn flaw(
@@ -108,9 +106,7 @@ pub(crate) struct FuncRule {
     pub(crate) types: usize,
 }
 
-impl Rule for FuncRule {
-    type Item = u32;
-
+impl Rule<u32> for FuncRule {
     ghost use Rattle.wk_check.specs.declared.fault.FaultKind.TheVariants.{UnknownType};
 
     ghost wrong = { λ rule _ x. unless UnknownType (nat_lt x rule.types) };
@@ -123,58 +119,34 @@ impl Rule for FuncRule {
     }
 }
 
-/// A table comes behind so many imported ones.
+/// A table, or a memory, comes behind so many imported ones.
 #[derive(Clone, Copy)]
-pub(crate) struct TableRule {
+pub(crate) struct StorageRule {
+    pub(crate) is_memory: bool,
     pub(crate) imported: usize,
 }
 
-impl Rule for TableRule {
-    type Item = Limits;
-
-    ghost wrong = { λ rule index l. table_flaw (rule.imported + index) l };
+impl Rule<Limits> for StorageRule {
+    ghost wrong = { λ rule index l. (if rule.is_memory then memory_flaw (rule.imported + index) l
+        else table_flaw (rule.imported + index) l) };
 
     fn flaw(
         &self,
         index: usize,
-        table: &Limits,
+        limits: &Limits,
         _room: &mut Room,
     ) -> Result<Option<Flaw>, OutOfMemory> {
-        Ok(flaw_of_table(table, self.imported == 0 && index == 0))
-    }
-}
-
-/// A memory comes behind so many imported ones.
-#[derive(Clone, Copy)]
-pub(crate) struct MemoryRule {
-    pub(crate) imported: usize,
-}
-
-impl Rule for MemoryRule {
-    type Item = Limits;
-
-    ghost wrong = { λ rule index l. memory_flaw (rule.imported + index) l };
-
-    fn flaw(
-        &self,
-        index: usize,
-        memory: &Limits,
-        _room: &mut Room,
-    ) -> Result<Option<Flaw>, OutOfMemory> {
-        Ok(flaw_of_memory(memory, self.imported == 0 && index == 0))
+        let is_first = self.imported == 0 && index == 0;
+        if self.is_memory {
+            return Ok(flaw_of_memory(limits, is_first));
+        }
+        Ok(flaw_of_table(limits, is_first))
     }
 }
 
 /// The initialiser of a global is constant, of its type, and sees imported globals alone.
-#[derive(Clone, Copy)]
-pub(crate) struct GlobalRule<'a> {
-    pub(crate) whole: &'a Whole<'a>,
-}
-
-impl<'a> Rule for GlobalRule<'a> {
-    type Item = GlobalDef;
-
-    ghost wrong = { λ rule _ g. global_flaw (answer_in (initial_spaces rule.whole.now)) g };
+impl<'a> Rule<GlobalDef> for Whole<'a> {
+    ghost wrong = { λ w _ g. global_flaw (answer_in (initial_spaces w)) g };
 
     fn flaw(
         &self,
@@ -182,7 +154,7 @@ impl<'a> Rule for GlobalRule<'a> {
         global: &GlobalDef,
         room: &mut Room,
     ) -> Result<Option<Flaw>, OutOfMemory> {
-        let initial = Initial { whole: self.whole };
+        let initial = Initial { whole: self };
         constant_flaw(&initial, global.ty.val, &global.init, room)
     }
 }
@@ -200,15 +172,8 @@ fn are_there(whole: &Whole<'_>, funcs: &[u32]) -> bool
 }
 
 /// The table of an element segment is there; its offset is a constant i32; its functions are there.
-#[derive(Clone, Copy)]
-pub(crate) struct ElemRule<'a> {
-    pub(crate) whole: &'a Whole<'a>,
-}
-
-impl<'a> Rule for ElemRule<'a> {
-    type Item = Elem;
-
-    ghost wrong = { λ rule _ e. elem_flaw (spaces_of rule.whole.now) e };
+impl<'a> Rule<Elem> for Whole<'a> {
+    ghost wrong = { λ w _ e. elem_flaw (spaces_of w) e };
 
     fn flaw(
         &self,
@@ -216,13 +181,13 @@ impl<'a> Rule for ElemRule<'a> {
         elem: &Elem,
         room: &mut Room,
     ) -> Result<Option<Flaw>, OutOfMemory> {
-        if !self.whole.has_table(elem.table) {
+        if !self.has_table(elem.table) {
             return Ok(Some(Flaw::of(FaultKind::UnknownTable)));
         }
-        if let Some(flaw) = constant_flaw(self.whole, ValType::I32, &elem.offset, room)? {
+        if let Some(flaw) = constant_flaw(self, ValType::I32, &elem.offset, room)? {
             return Ok(Some(flaw));
         }
-        if are_there(self.whole, elem.funcs.as_slice()) {
+        if are_there(self, elem.funcs.as_slice()) {
             return Ok(None);
         }
         Ok(Some(Flaw::of(FaultKind::UnknownFunc)))
@@ -230,15 +195,8 @@ impl<'a> Rule for ElemRule<'a> {
 }
 
 /// The memory of a data segment is there; its offset is a constant i32.
-#[derive(Clone, Copy)]
-pub(crate) struct DataRule<'a> {
-    pub(crate) whole: &'a Whole<'a>,
-}
-
-impl<'a> Rule for DataRule<'a> {
-    type Item = DataSeg;
-
-    ghost wrong = { λ rule _ d. data_flaw (spaces_of rule.whole.now) d };
+impl<'a> Rule<DataSeg> for Whole<'a> {
+    ghost wrong = { λ w _ d. data_flaw (spaces_of w) d };
 
     fn flaw(
         &self,
@@ -246,23 +204,16 @@ impl<'a> Rule for DataRule<'a> {
         data: &DataSeg,
         room: &mut Room,
     ) -> Result<Option<Flaw>, OutOfMemory> {
-        if !self.whole.has_memory(data.memory) {
+        if !self.has_memory(data.memory) {
             return Ok(Some(Flaw::of(FaultKind::UnknownMemory)));
         }
-        constant_flaw(self.whole, ValType::I32, &data.offset, room)
+        constant_flaw(self, ValType::I32, &data.offset, room)
     }
 }
 
 /// A body is valid under the type of its function.
-#[derive(Clone, Copy)]
-pub(crate) struct CodeRule<'a> {
-    pub(crate) whole: &'a Whole<'a>,
-}
-
-impl<'a> Rule for CodeRule<'a> {
-    type Item = Func;
-
-    ghost wrong = { λ rule _ f. body_flaw (func_verdict (answer_in (spaces_of rule.whole.now)) f) };
+impl<'a> Rule<Func> for Whole<'a> {
+    ghost wrong = { λ w _ f. body_flaw (func_verdict (answer_in (spaces_of w)) f) };
 
     fn flaw(
         &self,
@@ -270,7 +221,7 @@ impl<'a> Rule for CodeRule<'a> {
         func: &Func,
         room: &mut Room,
     ) -> Result<Option<Flaw>, OutOfMemory> {
-        let verdict = type_body(self.whole, func.ty, &func.body, room)?;
+        let verdict = type_body(self, func.ty, &func.body, room)?;
         Ok(verdict.flaw())
     }
 }
@@ -305,7 +256,10 @@ pub(crate) fn flaw_of_next_import(lists: &Lists<'_>, desc: &ImportDesc) -> Optio
 /// The first fault of the import section.
 pub(crate) fn imports_fault(types: &[FuncType], imports: &[Import]) -> Option<Fault>
     requires { length imports.now < 2 ^ 32 }
-    ensures { result ≡ first_in 2 0 (numbered (λ item i. import_flaw types.now (take item imports.now) i.desc) 0 imports.now) }
+    ensures { result
+        ≡ first_in 2 0
+        (numbered (λ item i. import_flaw types.now (take item imports.now) i.desc) 0
+        imports.now) }
 {
     let mut tables: usize = 0;
     let mut memories: usize = 0;

@@ -38,7 +38,8 @@ pub(crate) struct Function<'a> {
 // A `local.get`.
 #[inline(always)]
 pub(crate) fn get_local(locals: &Locals, s: &mut Stacks, x: u32) -> Result<(), Stop>
-    ensures { Steps (acting (local_get (local_type locals.now.params locals.now.groups x)) s.old) result s.new }
+    ensures { Steps (acting (local_get (local_type locals.now.params locals.now.groups x)) s.old)
+        result s.new }
 {
     match locals.ty(x) {
         Some(ty) => push_val(s, ty),
@@ -49,7 +50,8 @@ pub(crate) fn get_local(locals: &Locals, s: &mut Stacks, x: u32) -> Result<(), S
 // A `local.set`.
 #[inline(always)]
 pub(crate) fn set_local(locals: &Locals, s: &mut Stacks, x: u32) -> Result<(), Stop>
-    ensures { Steps (acting (local_set (local_type locals.now.params locals.now.groups x)) s.old) result s.new }
+    ensures { Steps (acting (local_set (local_type locals.now.params locals.now.groups x)) s.old)
+        result s.new }
 {
     match locals.ty(x) {
         Some(ty) => pop_val(s, ty),
@@ -60,7 +62,8 @@ pub(crate) fn set_local(locals: &Locals, s: &mut Stacks, x: u32) -> Result<(), S
 // A `local.tee`.
 #[inline(always)]
 pub(crate) fn tee_local(locals: &Locals, s: &mut Stacks, x: u32) -> Result<(), Stop>
-    ensures { Steps (acting (local_tee (local_type locals.now.params locals.now.groups x)) s.old) result s.new }
+    ensures { Steps (acting (local_tee (local_type locals.now.params locals.now.groups x)) s.old)
+        result s.new }
 {
     match locals.ty(x) {
         Some(ty) => unop(s, ty, ty),
@@ -118,7 +121,8 @@ fn is_over(op: MemoryOp, align: u32) -> bool
 // A load or a store.
 #[inline(always)]
 pub(crate) fn access<E: Env>(env: &E, s: &mut Stacks, op: MemoryOp, align: u32) -> Result<(), Stop>
-    ensures { Steps (acting (access_effect (E.answers env.now Ref.Memory) op align) s.old) result s.new }
+    ensures { Steps (acting (access_effect (E.answers env.now Ref.Memory) op align) s.old) result
+        s.new }
 {
     check_memory(env)?;
     if is_over(op, align) {
@@ -133,7 +137,9 @@ pub(crate) fn access<E: Env>(env: &E, s: &mut Stacks, op: MemoryOp, align: u32) 
 
 // A `memory.size`.
 pub(crate) fn memory_size<E: Env>(env: &E, s: &mut Stacks) -> Result<(), Stop>
-    ensures { Steps (acting (with_memory (E.answers env.now Ref.Memory) (Takes [] (I32 ∷ []))) s.old) result s.new }
+    ensures { Steps
+        (acting (with_memory (E.answers env.now Ref.Memory) (Takes [] (I32 ∷ []))) s.old) result
+        s.new }
 {
     check_memory(env)?;
     push_val(s, ValType::I32)
@@ -141,7 +147,9 @@ pub(crate) fn memory_size<E: Env>(env: &E, s: &mut Stacks) -> Result<(), Stop>
 
 // A `memory.grow`.
 pub(crate) fn memory_grow<E: Env>(env: &E, s: &mut Stacks) -> Result<(), Stop>
-    ensures { Steps (acting (with_memory (E.answers env.now Ref.Memory) (Takes (I32 ∷ []) (I32 ∷ []))) s.old) result s.new }
+    ensures { Steps
+        (acting (with_memory (E.answers env.now Ref.Memory) (Takes (I32 ∷ []) (I32 ∷ []))) s.old)
+        result s.new }
 {
     check_memory(env)?;
     unop(s, ValType::I32, ValType::I32)
@@ -209,7 +217,10 @@ pub(crate) fn type_token<E: Env>(
     token: &Token,
 ) -> Result<(), Stop>
     requires { IsWithin (length pool.now) token.now }
-    ensures { Steps (step (E.answers env.now) (local_type f.now.locals.params f.now.locals.groups) f.now.results.now (told pool.now token.now) s.old) result s.new }
+    ensures { Steps
+        (step (E.answers env.now) (local_type f.now.locals.params f.now.locals.groups)
+        f.now.results.now (told pool.now token.now) s.old)
+        result s.new }
 {
     match token {
         Token::Unreachable => apply_polymorphic(s, false, &[]),

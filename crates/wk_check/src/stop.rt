@@ -51,7 +51,8 @@ pub(crate) enum Growth {
 /// What an instruction came to, as a call out of line answers it: in registers.
 #[inline(always)]
 pub(crate) fn to_registers(told: Result<(), Stop>) -> Result<Growth, FaultKind>
-    ensures { (o : Result Blocks FaultKind) (new : Blocks) → Steps o told new → MadeBy o result new }
+    ensures { (o : Result Blocks FaultKind) (new : Blocks) → Steps o told new
+        → MadeBy o result new }
 {
     match told {
         Ok(()) => Ok(Growth::Made),

@@ -82,7 +82,8 @@ fn read_and_type<E: Env>(
     stream: &mut Stream,
     cursor: &mut Cursor<'_>,
 ) -> TokenOutcome
-    ensures { GoesOn (E.answers env.now) (local_type f.now.locals.params f.now.locals.groups) f.now.results.now profile result stream.old.reader stream.new.reader cursor.old cursor.new stream.old.stacks stream.new.stacks }
+    ensures { GoesOn (E.answers env.now) f.now profile result stream.old stream.new cursor.old
+        cursor.new }
 {
     let Stream { reader, stacks } = stream;
     // (A cursor of its own, which stays in registers from label to label.)
@@ -113,7 +114,8 @@ fn type_extended<E: Env>(
     cursor: &mut Cursor<'_>,
 ) -> TokenOutcome
     requires { profile ≡ Profile.Extended }
-    ensures { GoesOn (E.answers env.now) (local_type f.now.locals.params f.now.locals.groups) f.now.results.now profile result stream.old.reader stream.new.reader cursor.old cursor.new stream.old.stacks stream.new.stacks }
+    ensures { GoesOn (E.answers env.now) f.now profile result stream.old stream.new cursor.old
+        cursor.new }
 {
     let Stream { reader, stacks } = stream;
     let mut ahead = cursor.ahead();
@@ -140,7 +142,8 @@ fn type_slow<E: Env>(
     stream: &mut Stream,
     cursor: &mut Cursor<'_>,
 ) -> TokenOutcome
-    ensures { GoesOn (E.answers env.now) (local_type f.now.locals.params f.now.locals.groups) f.now.results.now profile result stream.old.reader stream.new.reader cursor.old cursor.new stream.old.stacks stream.new.stacks }
+    ensures { GoesOn (E.answers env.now) f.now profile result stream.old stream.new cursor.old
+        cursor.new }
 {
     if profile == Profile::Core {
         return read_and_type(env, f, profile, stream, cursor);
@@ -170,7 +173,10 @@ fn type_expr<E: Env>(
     cursor: &mut Cursor<'_>,
 ) -> Result<bool, OutOfMemory>
     requires { f.now.results.now ≡ results_of (E.answers env.now) block }
-    ensures { IfOk result (λ valid. valid ≡ true → IsTyped (E.answers env.now) (local_type f.now.locals.params f.now.locals.groups) f.now.results.now profile cursor.old cursor.new) }
+    ensures { IfOk result
+        (λ valid. valid ≡ true
+        → IsTyped (E.answers env.now) (local_type f.now.locals.params f.now.locals.groups)
+        f.now.results.now profile cursor.old cursor.new) }
 {
     stream.reader.begin();
     stream.stacks.begin(block);
@@ -220,7 +226,8 @@ pub(crate) fn is_valid_body<E: Env>(
     code: &Cursor<'_>,
     room: &mut StreamRoom,
 ) -> Result<bool, OutOfMemory>
-    ensures { IfOk result (λ valid. valid ≡ true → IsValidBody (E.answers env.now) own_type profile code.now) }
+    ensures { IfOk result
+        (λ valid. valid ≡ true → IsValidBody (E.answers env.now) own_type profile code.now) }
 {
     let block = BlockType::Index(own_type);
     let Ok(()) = check_known(env, block) else {

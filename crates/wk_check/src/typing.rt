@@ -48,12 +48,11 @@ fn type_tokens<E: Env>(
 ) -> Result<Option<(FaultKind, u32)>, OutOfMemory>
     requires few { length tokens.now < 2 ^ 32 }
     requires within { AllByRecursion (IsWithin (length pool.now)) tokens.now }
-    ensures { IfOk
-        result
+    ensures { IfOk result
         (λ r. RunsTo
-        (run (E.answers env.now) (local_type f.now.locals.params f.now.locals.groups) f.now.results.now 0 (all_told pool.now tokens.now) s.old)
-        r
-        s.new) }
+        (run (E.answers env.now) (local_type f.now.locals.params f.now.locals.groups)
+        f.now.results.now 0 (all_told pool.now tokens.now) s.old)
+        r s.new) }
 {
     let mut at: u32 = 0;
     for token in tokens {
@@ -81,10 +80,10 @@ pub(crate) fn type_code<E: Env>(
     s: &mut Stacks,
 ) -> Result<Option<(FaultKind, u32)>, OutOfMemory>
     requires { f.now.results.now ≡ results_of (E.answers env.now) block }
-    ensures { IfOk
-        result
+    ensures { IfOk result
         (λ r. JudgedAs
-        (code_result (E.answers env.now) (local_type f.now.locals.params f.now.locals.groups) f.now.results.now expr.now)
+        (code_result (E.answers env.now) (local_type f.now.locals.params f.now.locals.groups)
+        f.now.results.now expr.now)
         r) }
 {
     let (tokens, pool) = expr.tokens();

@@ -4,19 +4,18 @@ ghost use Rattle.std.specs.Prelude.{◌≡◌, ◌++◌, ◌∷◌, [], IfOk, On
 ghost use Rattle.wk_module.specs.Listed.{listed};
 ghost use Rattle.wk_check.specs.Answers.{found};
 ghost use Rattle.wk_check.specs.Spaces.{answer_in, spaces_of, initial_spaces, imported, table_in, memory_in};
+ghost use Rattle.wk_check.specs.Whole.{IsImported};
 ghost use Rattle.wk_body.specs.declared.references.Ref.{Ref};
 
 use crate::env::{Answer, Env};
 use std::alloc::Global;
 use std::marker::Model;
 use wk_bytes::OutOfMemory;
-use wk_module::{GlobalType, ImportDesc, Lists, Ref};
+use wk_module::{GlobalType, Import, ImportDesc, Lists, Ref};
 
-/// The lists of a module with what its imports are, so that each reference is found in constant time: functions and globals that
-/// are imported come first in their spaces (2.5.1).
+/// What is counted of a module's imports, which come first in their spaces (2.5.1).
 #[derive(Debug, Drop)]
-pub struct Whole<'a> {
-    lists: Lists<'a>,
+pub(crate) struct Imported {
     // the type of each imported function
     funcs: Vec<u32>,
     // the type of each imported global
@@ -27,13 +26,21 @@ pub struct Whole<'a> {
     memories: usize,
 }
 
+/// The lists of a module with what its imports are, so that each reference is found in constant time: functions and globals that
+/// are imported come first in their spaces (2.5.1).
+#[derive(Debug, Drop)]
+pub struct Whole<'a> {
+    lists: Lists<'a>,
+    imports: Imported,
+}
+
 impl<'a> Model for Whole<'a> {
     ghost use Rattle.std.specs.Coded.{codes};
     ghost use Rattle.wk_body.specs.Bodies.{coded_body};
     ghost use Rattle.wk_body.specs.TreeCode.{coded_instrs};
     ghost use Rattle.wk_module.specs.Listed.{listed};
     ghost use Rattle.wk_module.specs.Sections.{SectionLists};
-    ghost use Rattle.wk_check.specs.Whole.{AreImported};
+    ghost use Rattle.wk_check.specs.Whole.{IsImported};
 
     ghost Value = { SectionLists };
 
@@ -41,7 +48,7 @@ impl<'a> Model for Whole<'a> {
 
     ghost view = { λ w. listed w.lists };
 
-    ghost invariant = { λ w. AreImported w.lists.imports.now w.funcs.items w.globals.items w.tables w.memories };
+    ghost invariant = { λ w. IsImported w.lists.imports.now w.imports };
 }
 
 // Adds the type of a function. The first makes room for as many as there are imports: most of them are functions.
@@ -55,6 +62,32 @@ fn add(funcs: &mut Vec<u32>, ty: u32, imports: usize) -> Result<(), OutOfMemory>
     Ok(())
 }
 
+impl Imported {
+    // What is counted of the imports. It takes memory for the functions and globals alone.
+    fn of(alloc: Global, imports: &[Import]) -> Result<Imported, OutOfMemory>
+        ensures { IfOk result (λ i. IsImported imports.now i) }
+    {
+        let mut funcs = Vec::new(alloc);
+        let mut globals = Vec::new(alloc);
+        let mut tables: usize = 0;
+        let mut memories: usize = 0;
+        for import in imports {
+            match import.desc {
+                ImportDesc::Func(ty) => add(&mut funcs, ty, imports.len())?,
+                ImportDesc::Table(_) => tables += 1,
+                ImportDesc::Memory(_) => memories += 1,
+                ImportDesc::Global(ty) => globals.push(ty)?,
+            }
+        }
+        Ok(Imported {
+            funcs,
+            globals,
+            tables,
+            memories,
+        })
+    }
+}
+
 impl<'a> Whole<'a> {
     /// What the code of a module with these lists sees. It takes memory for the imports alone.
     ///
@@ -64,25 +97,31 @@ impl<'a> Whole<'a> {
     pub fn of(alloc: Global, lists: Lists<'a>) -> Result<Whole<'a>, OutOfMemory>
         ensures { IfOk result (λ w. w ≡ listed lists.entry) }
     {
-        let mut funcs = Vec::new(alloc);
-        let mut globals = Vec::new(alloc);
-        let mut tables: usize = 0;
-        let mut memories: usize = 0;
-        for import in lists.imports {
-            match import.desc {
-                ImportDesc::Func(ty) => add(&mut funcs, ty, lists.imports.len())?,
-                ImportDesc::Table(_) => tables += 1,
-                ImportDesc::Memory(_) => memories += 1,
-                ImportDesc::Global(ty) => globals.push(ty)?,
-            }
-        }
-        Ok(Whole {
-            lists,
-            funcs,
-            globals,
-            tables,
-            memories,
-        })
+        let imports = Imported::of(alloc, lists.imports)?;
+        Ok(Whole { lists, imports })
+    }
+
+    /// The same, where the imports were counted before.
+    pub(crate) fn with(lists: Lists<'a>, imports: Imported) -> Whole<'a>
+        requires { IsImported lists.imports.now imports }
+        ensures { result ≡ listed lists.entry }
+    {
+        Whole { lists, imports }
+    }
+
+    /// What was counted of the imports. The lists are let go.
+    pub(crate) fn into_imported(self) -> Imported
+        ensures { IsImported self.entry.imports result }
+    {
+        let Whole { imports, .. } = self;
+        imports
+    }
+
+    /// The lists.
+    pub(crate) fn lists(&self) -> &Lists<'a>
+        ensures { listed result.now ≡ self.now }
+    {
+        &self.lists
     }
 
     // The index of the type of a function.
@@ -90,10 +129,10 @@ impl<'a> Whole<'a> {
         ensures { result ≡ slice_get (spaces_of self.now).funcs x }
     {
         let x = x as usize;
-        if x < self.funcs.len() {
-            return Some(self.funcs[x]);
+        if x < self.imports.funcs.len() {
+            return Some(self.imports.funcs[x]);
         }
-        self.lists.funcs.get(x - self.funcs.len()).copied()
+        self.lists.funcs.get(x - self.imports.funcs.len()).copied()
     }
 
     // The type of a global.
@@ -101,12 +140,12 @@ impl<'a> Whole<'a> {
         ensures { result ≡ slice_get (spaces_of self.now).globals x }
     {
         let x = x as usize;
-        if x < self.globals.len() {
-            return Some(self.globals[x]);
+        if x < self.imports.globals.len() {
+            return Some(self.imports.globals[x]);
         }
         self.lists
             .globals
-            .get(x - self.globals.len())
+            .get(x - self.imports.globals.len())
             .map(|global| global.ty)
     }
 
@@ -114,14 +153,14 @@ impl<'a> Whole<'a> {
     pub(crate) fn imported_tables(&self) -> usize
         ensures { result ≡ length (imported table_in self.now.imports) }
     {
-        self.tables
+        self.imports.tables
     }
 
     /// How many memories are imported.
     pub(crate) fn imported_memories(&self) -> usize
         ensures { result ≡ length (imported memory_in self.now.imports) }
     {
-        self.memories
+        self.imports.memories
     }
 
     /// Whether there is a function of that index.
@@ -129,7 +168,7 @@ impl<'a> Whole<'a> {
         ensures { result ≡ nat_lt x (length (spaces_of self.now).funcs) }
     {
         let x = x as usize;
-        x < self.funcs.len() || x - self.funcs.len() < self.lists.funcs.len()
+        x < self.imports.funcs.len() || x - self.imports.funcs.len() < self.lists.funcs.len()
     }
 
     /// Whether there is a table of that index.
@@ -137,7 +176,7 @@ impl<'a> Whole<'a> {
         ensures { result ≡ nat_lt x (length (spaces_of self.now).tables) }
     {
         let x = x as usize;
-        x < self.tables || x - self.tables < self.lists.tables.len()
+        x < self.imports.tables || x - self.imports.tables < self.lists.tables.len()
     }
 
     /// Whether there is a memory of that index.
@@ -145,7 +184,7 @@ impl<'a> Whole<'a> {
         ensures { result ≡ nat_lt x (length (spaces_of self.now).memories) }
     {
         let x = x as usize;
-        x < self.memories || x - self.memories < self.lists.memories.len()
+        x < self.imports.memories || x - self.imports.memories < self.lists.memories.len()
     }
 
     /// Whether there is a global of that index.
@@ -153,7 +192,7 @@ impl<'a> Whole<'a> {
         ensures { result ≡ nat_lt x (length (spaces_of self.now).globals) }
     {
         let x = x as usize;
-        x < self.globals.len() || x - self.globals.len() < self.lists.globals.len()
+        x < self.imports.globals.len() || x - self.imports.globals.len() < self.lists.globals.len()
     }
 
     // What a reference to the type of an index finds.
@@ -193,7 +232,7 @@ impl<'a> Whole<'a> {
     fn found_table(&self) -> Answer<'_>
         ensures { found result ≡ answer_in (spaces_of self.now) Ref.Table }
     {
-        if self.tables == 0 && self.lists.tables.is_empty() {
+        if self.imports.tables == 0 && self.lists.tables.is_empty() {
             return Answer::Absent;
         }
         Answer::Present
@@ -203,7 +242,7 @@ impl<'a> Whole<'a> {
     fn found_memory(&self) -> Answer<'_>
         ensures { found result ≡ answer_in (spaces_of self.now) Ref.Memory }
     {
-        if self.memories == 0 && self.lists.memories.is_empty() {
+        if self.imports.memories == 0 && self.lists.memories.is_empty() {
             return Answer::Absent;
         }
         Answer::Present
@@ -240,7 +279,7 @@ impl<'a> Initial<'a> {
         ensures { found result ≡ answer_in (initial_spaces self.now.whole.now) (Ref.Global x) }
     {
         let whole = self.whole;
-        match whole.globals.get(x as usize) {
+        match whole.imports.globals.get(x as usize) {
             Some(ty) => Answer::Global(*ty),
             None => Answer::NoGlobal,
         }

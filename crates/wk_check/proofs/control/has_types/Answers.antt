@@ -7,7 +7,8 @@ pub returns-in-Some-default-Empty : goal.returns-in-Some-default-Empty
 returns-in-Some-default-Empty g c =
     let to = c.in-Some-default-Empty in
     c.is_empty.ensures ∙ no_types c.args.types.now
-    ∙ sym (ap (has_types c.args.types.now) (label_none (g.E.Env.answers c.args.env.now) c.args.s.now c.args.to to.field-0-0 (rw to.field-0-1-is at (sym to.is ∙ c.head.ensures))))
+    ∙ sym (ap (has_types c.args.types.now)
+    (label_none (g.E.Env.answers c.args.env.now) c.args.s.now c.args.to to.field-0-0 (rw to.field-0-1-is at (sym to.is ∙ c.head.ensures))))
 
 pub returns-in-Some : goal.returns-in-Some
 returns-in-Some g c =

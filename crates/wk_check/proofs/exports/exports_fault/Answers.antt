@@ -12,18 +12,23 @@ loop-index-init c = exports_begin (spaces_of c.args.whole.now) c.args.exports.no
 pub returns-in-Some : goal.returns-in-Some
 returns-in-Some c =
     ap (λ (f : Fault). Some f) c.at.ensures
-    ∙ index_wrong (spaces_of c.args.whole.now) c.args.exports.now c.loop-index.index c.loop-index.names.keys c.index-exports-index.result c.in-Some.flaw c.loop-index-test.true c.index-exports-index.is c.loop-index.invariant (sym c.in-Some.ensures)
+    ∙ index_wrong (spaces_of c.args.whole.now) c.args.exports.now c.loop-index.index c.loop-index.names.keys c.index-exports-index.result c.in-Some.flaw
+    c.loop-index-test.true c.index-exports-index.is c.loop-index.invariant (sym c.in-Some.ensures)
 
 pub returns-then-not-branch : goal.returns-then-not-branch
 returns-then-not-branch c =
     ap (λ (f : Fault). Some f) (c.at-then-not-branch.ensures ∙ ap (λ (w : Flaw). fault_at 7 c.loop-index.index w) c.of.ensures)
-    ∙ name_wrong (spaces_of c.args.whole.now) c.args.exports.now c.loop-index.index c.loop-index.names.keys c.index-exports-index.result c.as_str.result c.loop-index-test.true c.index-exports-index.is c.loop-index.invariant
+    ∙ name_wrong (spaces_of c.args.whole.now) c.args.exports.now c.loop-index.index c.loop-index.names.keys c.index-exports-index.result c.as_str.result
+    c.loop-index-test.true c.index-exports-index.is c.loop-index.invariant
     (sym c.in_default.ensures) c.as_str.ensures.value (was_there c.in_ok-insert.field-0 _ c.in_ok-insert.ensures.added c.if-not-branch.true)
 
 pub loop-index-preserved : goal.loop-index-preserved
 loop-index-preserved c =
-    export_fine (spaces_of c.args.whole.now) c.args.exports.now c.loop-index.index c.loop-index.names.keys c.insert.new.self.keys c.index-exports-index.result c.as_str.result c.loop-index-test.true c.index-exports-index.is c.loop-index.invariant
-    (sym c.in_default.ensures) c.as_str.ensures.value (was_new c.in_ok-insert.field-0 _ c.in_ok-insert.ensures.added c.if-not-branch.false) c.in_ok-insert.ensures.keys
+    export_fine (spaces_of c.args.whole.now) c.args.exports.now c.loop-index.index c.loop-index.names.keys c.insert.new.self.keys
+    c.index-exports-index.result c.as_str.result c.loop-index-test.true c.index-exports-index.is c.loop-index.invariant
+    (sym c.in_default.ensures) c.as_str.ensures.value (was_new c.in_ok-insert.field-0 _ c.in_ok-insert.ensures.added c.if-not-branch.false)
+    c.in_ok-insert.ensures.keys
 
 pub returns : goal.returns
-returns c = exports_end (spaces_of c.args.whole.now) c.args.exports.now c.loop-index.index c.loop-index.names.keys c.loop-index-test.false c.loop-index.invariant
+returns c = exports_end (spaces_of c.args.whole.now) c.args.exports.now c.loop-index.index c.loop-index.names.keys c.loop-index-test.false
+    c.loop-index.invariant

@@ -8,13 +8,15 @@ pub fault_of_codes-fault-requires-clause-spelled : goal.fault_of_codes-fault-req
 fault_of_codes-fault-requires-clause-spelled c = λ known.
     let lists = c.args.lists.now in
     let codes = c.in_ok-codes.codes in
-    let same = judged_as_opened lists.profile (listed lists) lists.funcs.now (raw_view c.args.section.now) codes (c.in_ok-codes.ensures.read lists.profile) c.in_ok-codes.ensures.end in
+    let same = judged_as_opened lists.profile (listed lists) lists.funcs.now (raw_view c.args.section.now) codes
+    (c.in_ok-codes.ensures.read lists.profile) c.in_ok-codes.ensures.end in
     let spelled = c.requires.spelled known in
     (spelled.0, sym same ∙ spelled.1)
 
-pub returns : goal.returns
-returns c =
+pub returns-clause-fault : goal.returns-clause-fault
+returns-clause-fault c =
     let lists = c.args.lists.now in
     let codes = c.in_ok-codes.codes in
-    let same = judged_as_opened lists.profile (listed lists) lists.funcs.now (raw_view c.args.section.now) codes (c.in_ok-codes.ensures.read lists.profile) c.in_ok-codes.ensures.end in
-    rw same c.fault_of_codes-fault.ensures
+    let same = judged_as_opened lists.profile (listed lists) lists.funcs.now (raw_view c.args.section.now) codes
+    (c.in_ok-codes.ensures.read lists.profile) c.in_ok-codes.ensures.end in
+    rw same c.in_ok-fault.ensures

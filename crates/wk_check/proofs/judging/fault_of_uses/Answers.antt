@@ -10,12 +10,13 @@ use Rattle.wk_check.proofs.judging.fault_of_uses.Goals.{in-Some-start+in_default
 
 pub returns : goal.returns
 returns c =
-    let l = listed c.args.lists.now in
-    let exports : first_in 7 0 (export_flaws l) ≡ None = sym (rw c.requires.same at c.in_ok-fault.ensures) ∙ c.in_default.is in
+    let l = listed c.lists-lists.result.now in
+    let exports : first_in 7 0 (export_flaws l) ≡ None = sym (rw (← c.lists-lists.ensures) at c.in_ok-fault.ensures) ∙ c.in_default.is in
     let start : first_in 8 0 (start_flaws (spaces_of l) l.start) ≡ None = elim c.match-lists.branch [
       | in-Some-start+in_default-flaw_of_start w ↦
-          let fine : start_flaw (spaces_of l) w.in-Some-start.start ≡ None = rw c.requires.same at (sym w.flaw_of_start.ensures ∙ w.in_default-flaw_of_start.is) in
+          let fine : start_flaw (spaces_of l) w.in-Some-start.start ≡ None =
+          rw (← c.lists-lists.ensures) at (sym w.flaw_of_start.ensures ∙ w.in_default-flaw_of_start.is) in
           rw (w.in-Some-start.is, fine)
       | in_default-start w ↦ rw w.in_default-start.is
     ] in
-    rw (exports, start, earlier_none) (rw c.requires.same at c.first_fault.ensures)
+    rw (← c.lists-lists.ensures, exports, start, earlier_none) (rw (← c.lists-lists.ensures) at c.first_fault.ensures)

@@ -1,6 +1,5 @@
-use Rattle.std.proofs.Common.{◌≡◌, [], sym, ap, ◌∙◌, subst}
+use Rattle.std.proofs.Common.{◌≡◌, [], refl, sym, ap, ◌∙◌, subst}
 use Rattle.std.proofs.lemmas.Result.{IfOk-weaker}
-use Rattle.wk_module.specs.Listed.{listed}
 use Rattle.wk_module.specs.declared.types.Parts.{Parts}
 use Rattle.wk_check.specs.declared.fault.Verdict.{Verdict}
 use Rattle.wk_check.specs.Verdict.{module_verdict, IsVerdict, IsNotArity, extended}
@@ -22,21 +21,25 @@ pub fault_up_to_code-requires-clause-few : goal.fault_up_to_code-requires-clause
 fault_up_to_code-requires-clause-few c = rw c.parts-parts.ensures.value (funcs_numbered c.args.module.now c.parts-parts.ensures.shaped.formed)
 
 pub fault_up_to_code-requires-clause-numbered : goal.fault_up_to_code-requires-clause-numbered
-fault_up_to_code-requires-clause-numbered c = rw (c.lists_of-lists.ensures.lists, c.parts-parts.ensures.value) (are_numbered c.args.module.now c.parts-parts.ensures.shaped)
+fault_up_to_code-requires-clause-numbered c = rw (c.in_ok-whole.ensures, c.lists_of-lists.ensures.lists, c.parts-parts.ensures.value)
+    (are_numbered c.args.module.now c.parts-parts.ensures.shaped)
 
-pub verdict_behind-requires-clause-numbered : goal.verdict_behind-requires-clause-numbered
-verdict_behind-requires-clause-numbered c = rw (c.lists_of-lists.ensures.lists, c.parts-parts.ensures.value) (are_numbered c.args.module.now c.parts-parts.ensures.shaped)
+pub verdict_behind-requires : goal.verdict_behind-requires
+verdict_behind-requires c = rw (c.in_ok-whole.ensures, c.lists_of-lists.ensures.lists, c.parts-parts.ensures.value)
+    (are_numbered c.args.module.now c.parts-parts.ensures.shaped)
 
 pub returns-clause-exact : goal.returns-clause-exact
 returns-clause-exact c =
-    let lists = c.lists_of-lists in
-    let is = verdict_of_lists c.parts-parts.result.now lists.result.profile (listed lists.result) c.in_ok-fault.fault lists.ensures.profile lists.ensures.lists c.in_ok-fault.ensures in
+    let parts = c.parts-parts.result.now in
+    let is = verdict_of_lists parts parts.profile c.in_ok-whole.whole c.in_ok-fault.fault refl
+    (c.in_ok-whole.ensures ∙ c.lists_of-lists.ensures.lists) c.in_ok-fault.ensures in
     IfOk-weaker c.verdict_behind.result _ _ (λ v e. e ∙ (is ∙ ap module_verdict c.parts-parts.ensures.value)) c.verdict_behind.ensures
 
 pub returns-clause-meaning : goal.returns-clause-meaning
 returns-clause-meaning c =
     let m = c.args.module.now in
-    IfOk-weaker c.verdict_behind.result (λ v. v ≡ module_verdict m) (IsVerdict m) (λ v e. subst (IsVerdict m) (sym e) (module_verdict_told m)) (returns-clause-exact c)
+    IfOk-weaker c.verdict_behind.result (λ v. v ≡ module_verdict m) (IsVerdict m) (λ v e. subst (IsVerdict m) (sym e) (module_verdict_told m))
+    (returns-clause-exact c)
 
 pub returns-clause-valid : goal.returns-clause-valid
 returns-clause-valid c =

@@ -10,4 +10,5 @@ returns-in_err-pop_type c =
 
 pub returns : goal.returns
 returns c =
-    steps_then _ _ _ _ c.unop_in_steps.result c.unop_in_steps.new.s (takes_last c.args.operand (c.args.operand ∷ []) (c.args.given ∷ []) c.args.s.now) c.in_ok-pop_type.ensures c.unop_in_steps.ensures
+    steps_then _ _ _ _ c.unop_in_steps.result c.unop_in_steps.new.s
+    (takes_last c.args.operand (c.args.operand ∷ []) (c.args.given ∷ []) c.args.s.now) c.in_ok-pop_type.ensures c.unop_in_steps.ensures

@@ -15,4 +15,6 @@ returns-in_err-pop_known c =
 pub returns-then-index : goal.returns-then-index
 returns-then-index c =
     let P : Bool → Type 0 = λ i. Does (on_top (popped (with_index i c.args.types.now)) c.args.s.now) c.pop_types.result c.pop_types.new.s in
-    subst P (sym c.if-index.true) (subst (λ o. Does o c.pop_types.result c.pop_types.new.s) (sym (indexed_ok c.args.types.now _ c.args.s.now c.pop_known.new.s _ c.in_ok-pop_known.ensures)) c.pop_types.ensures)
+    subst P (sym c.if-index.true)
+    (subst (λ o. Does o c.pop_types.result c.pop_types.new.s)
+    (sym (indexed_ok c.args.types.now _ c.args.s.now c.pop_known.new.s _ c.in_ok-pop_known.ensures)) c.pop_types.ensures)

@@ -10,4 +10,5 @@ returns c =
     let imports = c.args.lists.now.imports.now in
     c.flaw_of_import.ensures
     ∙ ap (λ n. import_flaw_by (length types) n c.import_count-memories.result c.args.desc.now) (c.import_count-tables.ensures ∙ sym (imported_tables imports))
-    ∙ ap (λ n. import_flaw_by (length types) (length (imported table_in imports)) n c.args.desc.now) (c.import_count-memories.ensures ∙ sym (imported_memories imports))
+    ∙ ap (λ n. import_flaw_by (length types) (length (imported table_in imports)) n c.args.desc.now)
+    (c.import_count-memories.ensures ∙ sym (imported_memories imports))

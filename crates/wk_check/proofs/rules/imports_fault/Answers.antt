@@ -23,5 +23,6 @@ loop-index-preserved c =
         | in-Memory w ↦ omega (arith, ap (λ d. length (and_more (memory_in d) [])) w.in-Memory.is)
         | in-Global w ↦ omega (arith, ap (λ d. length (and_more (memory_in d) [])) w.in-Global.is)
       ];
-      rest_is = c.loop-index.invariant.rest_is ∙ fine_step (λ item i. import_flaw c.args.types.now (take item c.args.imports.now) i.desc) 2 c.loop-index.index c.args.imports.now import c.loop-index-test.true c.index-imports-index.is cc;
+      rest_is = c.loop-index.invariant.rest_is ∙ fine_step (λ item i. import_flaw c.args.types.now (take item c.args.imports.now) i.desc) 2
+          c.loop-index.index c.args.imports.now import c.loop-index-test.true c.index-imports-index.is cc;
     }

@@ -10,4 +10,5 @@ pub returns : goal.returns
 returns c =
     let n : c.len-2.result ≡ length c.self.inside.outer.items = omega (arith, c.self.inside.outer.ok.0) in
     let g = c.index-frame.result.now in
-    head_some c.self.inside.inner c.self.inside.outer.items c.self.inside.operands.items _ c.self.view_is c.args.depth g (omega (arith, c.self.inside.outer.ok.0)) (omega arith) (c.index-frame.ensures ∙ ap (λ k. get_or c.self.inside.outer.items (k - c.args.depth) g) n)
+    head_some c.self.inside.inner c.self.inside.outer.items c.self.inside.operands.items _ c.self.view_is c.args.depth g
+    (omega (arith, c.self.inside.outer.ok.0)) (omega arith) (c.index-frame.ensures ∙ ap (λ k. get_or c.self.inside.outer.items (k - c.args.depth) g) n)

@@ -21,4 +21,9 @@ pub returns : goal.returns
 returns c =
     let le : length c.self.inside.operands.items ≤ c.self.inside.inner.height = omega (arith, c.self.inside.operands.ok.0) in
     let P : Result Slot FaultKind → Type 0 = λ r. Pops (popped_on popped_any c.args.self.now) r c.args.self.now in
-    elim c.if-self.branch [ then-self w ↦ subst P (sym w.result-is) (subst (λ x. P (Ok x)) (sym w.any.ensures) (pop_unreachable c.self.inside.inner _ c.self.inside.operands.items _ c.self.view_is le w.if-self.true)) | else-self w ↦ subst P (sym w.result-is) (pop_reachable c.self.inside.inner _ c.self.inside.operands.items _ c.self.view_is le w.if-self.false) ]
+    elim c.if-self.branch [
+      | then-self w ↦ subst P (sym w.result-is)
+          (subst (λ x. P (Ok x)) (sym w.any.ensures)
+          (pop_unreachable c.self.inside.inner _ c.self.inside.operands.items _ c.self.view_is le w.if-self.true))
+      | else-self w ↦ subst P (sym w.result-is) (pop_reachable c.self.inside.inner _ c.self.inside.operands.items _ c.self.view_is le w.if-self.false)
+    ]
