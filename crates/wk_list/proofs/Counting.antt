@@ -1,10 +1,12 @@
 -- Counts of imports.
-use Rattle.std.proofs.Common.{◌≡◌, ℕ, ◌+◌, ◌<◌, ◌≤◌, Bool, true, false, if◌then◌else◌, List, [], ◌∷◌, ◌++◌, length, get_or, take, sym, ap, ◌∙◌, arith}
-use Rattle.std.proofs.lemmas.List.{take_more}
+use Rattle.std.proofs.Common.{◌≡◌, ℕ, ◌+◌, ◌≤◌, Bool, true, false, if◌then◌else◌, List, [], ◌∷◌, ◌++◌, length, refl, sym, ap, arith}
 use Rattle.wk_module.specs.declared.types.Import.{Import}
 use Rattle.wk_module.specs.declared.types.ImportDesc.{ImportDesc}
+use Rattle.wk_module.specs.declared.types.ImportDesc.TheVariants as desc
 use Rattle.wk_module.specs.declared.types.Kind.{Kind}
 use Rattle.wk_module.specs.declared.types.Kind.TheVariants.{Func, Table, Memory, Global}
+use Rattle.wk_module.specs.Imports.{is_of_kind, import_count}
+use Rattle.wk_module.specs.ImportLaws.{counts_imports}
 use Rattle.wk_list.specs.declared.spaces.Counts.{Counts}
 use Rattle.wk_list.specs.Spaces.{is_of, count_of, AreCounted}
 
@@ -21,15 +23,21 @@ pub count_behind : (kind : Kind) (before : List Import) (i : Import) → count_o
 count_behind kind [] i = omega arith
 count_behind kind (j ∷ js) i = omega (arith, count_behind kind js i)
 
-pub count_more : (kind : Kind) (is : List Import) (at : ℕ) (i : Import) → at < length is → i ≡ get_or is at i
-    → count_of kind (take (at + 1) is) ≡ count_of kind (take at is) + once (is_of kind i.desc)
-count_more kind is at i within found =
-    ap (count_of kind) (take_more is at i within ∙ ap (λ (j : Import). take at is ++ j ∷ []) (sym found)) ∙ count_behind kind (take at is) i
-
 -- no more imports are of a kind than there are
 pub count_le : (kind : Kind) (is : List Import) → count_of kind is ≤ length is
 count_le kind [] = omega arith
 count_le kind (i ∷ is) = omega (arith, once_le (is_of kind i.desc), count_le kind is)
+
+-- they are those that are counted of a module
+is_of_same : (kind : Kind) (d : ImportDesc) → is_of kind d ≡ is_of_kind kind d
+is_of_same Func = elim [ desc.Func x ↦ refl | desc.Table x ↦ refl | desc.Memory x ↦ refl | desc.Global x ↦ refl ]
+is_of_same Table = elim [ desc.Func x ↦ refl | desc.Table x ↦ refl | desc.Memory x ↦ refl | desc.Global x ↦ refl ]
+is_of_same Memory = elim [ desc.Func x ↦ refl | desc.Table x ↦ refl | desc.Memory x ↦ refl | desc.Global x ↦ refl ]
+is_of_same Global = elim [ desc.Func x ↦ refl | desc.Table x ↦ refl | desc.Memory x ↦ refl | desc.Global x ↦ refl ]
+
+pub counted_of : (kind : Kind) (is : List Import) → import_count kind is ≡ count_of kind is
+counted_of kind is =
+    sym (counts_imports kind (count_of kind) refl (λ i js. ap (λ b. once b + count_of kind js) (is_of_same kind i.desc)) is)
 
 -- a count with one import more
 counted_behind : (kind : Kind) (before : List Import) (i : Import) (d : ImportDesc) (old new : ℕ) → i.desc ≡ d → old ≡ count_of kind before

@@ -1,5 +1,6 @@
 -- Hexadecimal digits from the highest on.
-use Rattle.std.proofs.Common.{◌≡◌, ℕ, zero, suc, ◌+◌, ◌*◌, ◌/◌, ◌%◌, ◌^◌, ◌<◌, List, [], ◌∷◌, ◌++◌, refl, sym, ap, ◌∙◌, append_assoc, append-nil, arith, ◌-◌, Bool, true, ◌&&◌, T, eqb, get_or, inl, inr, eq-zero-or-pos, eqb→eq}
+use Rattle.std.proofs.Common.{◌≡◌, ℕ, zero, suc, ◌+◌, ◌*◌, ◌/◌, ◌%◌, ◌^◌, ◌<◌, List, [], ◌∷◌, ◌++◌, refl, sym, ap, ◌∙◌, append_assoc, append-nil, arith, ◌-◌}
+use Rattle.std.proofs.Common.{Bool, true, ◌&&◌, T, eqb, get_or, inl, inr, eq-zero-or-pos, eqb→eq}
 use lib.Ieee.Fits.{and_l, and_r}
 use Rattle.wk_list.specs.declared.hexadecimal.TheConstants.{PAIRS}
 use native.Mathlib.Nat.{pow-suc, div-div-eq-div-mul, div-one, mul_comm, mul_assoc, mod-lt, mod-eq_of_lt, mul-add-mod_self_left, div-add-mod}
@@ -67,7 +68,8 @@ pub sixteen : (n : ℕ) → hex_digits 16 n ≡ hex_digits 8 (n / 0x100000000) +
 sixteen n = split_digits 8 8 n ∙ ap (λ (ds : List ℕ). hex_digits 8 (n / 0x100000000) ++ ds) (sym (low_digits 8 n))
 
 -- the one half behind the other
-pub halves : (n : ℕ) (old between : List ℕ) → between ≡ old ++ hex_digits 8 (n / 0x100000000) → between ++ hex_digits 8 (n % 0x100000000) ≡ old ++ hex_digits 16 n
+pub halves : (n : ℕ) (old between : List ℕ) → between ≡ old ++ hex_digits 8 (n / 0x100000000)
+    → between ++ hex_digits 8 (n % 0x100000000) ≡ old ++ hex_digits 16 n
 halves n old between e =
     ap (λ (ds : List ℕ). ds ++ hex_digits 8 (n % 0x100000000)) e
     ∙ append_assoc old (hex_digits 8 (n / 0x100000000)) (hex_digits 8 (n % 0x100000000))

@@ -31,11 +31,14 @@ from_one funcs items i f same is within =
     let lt : i < length funcs = omega (arith, ap length same, within) in
     drop_more funcs i f lt ∙ ap (λ (e : Func). e ∷ drop (i + 1) funcs) (sym (item_is funcs items i f same is))
 
-length_from : (funcs items : List Func) (i : ℕ) (f : Func) → items ≡ funcs → f ≡ get_or items i f → i < length items → length (codes_of (drop i funcs)) ≡ length (written_code f.body) + length (codes_of (drop (i + 1) funcs))
+length_from : (funcs items : List Func) (i : ℕ) (f : Func) → items ≡ funcs → f ≡ get_or items i f → i < length items
+    → length (codes_of (drop i funcs)) ≡ length (written_code f.body) + length (codes_of (drop (i + 1) funcs))
 length_from funcs items i f same is within =
-    ap (λ (fs : List Func). length (codes_of fs)) (from_one funcs items i f same is within) ∙ length-append (written_code f.body) (codes_of (drop (i + 1) funcs))
+    ap (λ (fs : List Func). length (codes_of fs)) (from_one funcs items i f same is within)
+    ∙ length-append (written_code f.body) (codes_of (drop (i + 1) funcs))
 
-pub size_is : (funcs items : List Func) (i size : ℕ) (f : Func) → items ≡ funcs → f ≡ get_or items i f → ((other : Func) → size ≡ length (written_body (slice_index_or funcs i other).body)) → size ≡ length (written_body f.body)
+pub size_is : (funcs items : List Func) (i size : ℕ) (f : Func) → items ≡ funcs → f ≡ get_or items i f
+    → ((other : Func) → size ≡ length (written_body (slice_index_or funcs i other).body)) → size ≡ length (written_body f.body)
 size_is funcs items i size f same is len = len f ∙ ap (λ (e : Func). length (written_body e.body)) (sym (item_is funcs items i f same is))
 
 pub entry_fits : (funcs items : List Func) (i at whole : ℕ) (f : Func) → items ≡ funcs → f ≡ get_or items i f → i < length items

@@ -1,5 +1,6 @@
 -- The listing of headers step by step: a custom section, or a section and the custom sections behind it, and what comes behind them.
-use Rattle.std.proofs.Common.{◌≡◌, ℕ, ◌+◌, ◌<◌, ◌≤◌, ◌==◌, false, List, ◌++◌, length, drop, get_or, slice_index_or, sym, ap, ◌∙◌, arith, append_assoc, length-append}
+use Rattle.std.proofs.Common.{◌≡◌, ℕ, ◌+◌, ◌<◌, ◌≤◌, ◌==◌, false, List, ◌++◌, length, drop, get_or, slice_index_or, sym, ap, ◌∙◌, arith, append_assoc}
+use Rattle.std.proofs.Common.{length-append}
 use Rattle.std.specs.List.{flat_map}
 use Rattle.wk_bytes.specs.Short.{short}
 use Rattle.wk_bytes.specs.Frames.{limit}
@@ -27,17 +28,21 @@ custom_next place next i after custom cs t new within is same put behind =
     ∙ ap (λ (n : ℕ). t ++ (custom_header next custom ++ custom_text place n (i + 1) cs)) behind)
 
 -- where it ends
-pub custom_end : (next start size after : ℕ) (custom : Custom) → start ≡ contents_start next size → size ≡ length (written_custom custom) → after ≡ start + size → after ≡ next + length (custom_frame custom)
+pub custom_end : (next start size after : ℕ) (custom : Custom) → start ≡ contents_start next size → size ≡ length (written_custom custom)
+    → after ≡ start + size → after ≡ next + length (custom_frame custom)
 custom_end next start size after custom is long sum =
     omega (arith, is, long, sum, ap (λ (n : ℕ). length (short n)) long, length-framed 0 (written_custom custom))
 
 -- how long it is
-pub custom_long : (i size : ℕ) (custom : Custom) (cs items : List Custom) → items ≡ cs → custom ≡ get_or items i custom → ((other : Custom) → size ≡ length (written_custom (slice_index_or cs i other)))
+pub custom_long : (i size : ℕ) (custom : Custom) (cs items : List Custom) → items ≡ cs → custom ≡ get_or items i custom
+    → ((other : Custom) → size ≡ length (written_custom (slice_index_or cs i other)))
     → size ≡ length (written_custom custom)
-custom_long i size custom cs items same is long = long custom ∙ ap (λ (d : Custom). length (written_custom d)) (sym (is ∙ ap (λ (ds : List Custom). get_or ds i custom) same))
+custom_long i size custom cs items same is long = long custom
+    ∙ ap (λ (d : Custom). length (written_custom d)) (sym (is ∙ ap (λ (ds : List Custom). get_or ds i custom) same))
 
 -- it stays within the limit
-pub custom_fits : (place next i whole : ℕ) (custom : Custom) (cs items : List Custom) → items ≡ cs → i < length items → custom ≡ get_or items i custom → custom.place ≡ place
+pub custom_fits : (place next i whole : ℕ) (custom : Custom) (cs items : List Custom) → items ≡ cs → i < length items → custom ≡ get_or items i custom
+    → custom.place ≡ place
     → next + length (customs_at place (drop i cs)) ≡ whole → whole ≤ limit → next + length (custom_frame custom) ≤ limit
 custom_fits place next i whole custom cs items same within is here sum fits =
     let within_cs : i < length cs = omega (arith, within, ap length same) in
@@ -57,7 +62,8 @@ later m at id = placed (section_and_customs m) (headers_of m) at (drop id ids)
 abbrev behind : Parts → ℕ → ℕ → List ℕ
 behind m at id = placed custom_frame custom_header (at + length (section_of m id)) (customs_of id m.customs)
 
-later_is : (m : Parts) (at id : ℕ) → id < 12 → later m at id ≡ header_by m at (of_number id) ++ (behind m at id ++ later m (at + length (section_and_customs m id)) (id + 1))
+later_is : (m : Parts) (at id : ℕ) → id < 12 → later m at id
+    ≡ header_by m at (of_number id) ++ (behind m at id ++ later m (at + length (section_and_customs m id)) (id + 1))
 later_is m at id lt =
     ap (placed (section_and_customs m) (headers_of m) at) (drop-ids id lt)
     ∙ append_assoc (header_by m at (of_number id)) (behind m at id) (later m (at + length (section_and_customs m id)) (id + 1))
@@ -76,7 +82,8 @@ section_next m at id middle after t between lt put ends end =
 
 -- ---- they stay within the limit
 
-pub section_fits : (m : Parts) (at id : ℕ) → id < 12 → at + length (flat_map (section_and_customs m) (drop id ids)) ≡ length (encoded m) → Fits m → at + length (section_of m id) ≤ limit
+pub section_fits : (m : Parts) (at id : ℕ) → id < 12 → at + length (flat_map (section_and_customs m) (drop id ids)) ≡ length (encoded m) → Fits m
+    → at + length (section_of m id) ≤ limit
 section_fits m at id lt place fits = omega (arith, length-ids m id lt, place, fits)
 
 pub customs_fit : (m : Parts) (at id middle : ℕ) → id < 12 → at + length (flat_map (section_and_customs m) (drop id ids)) ≡ length (encoded m) → Fits m
@@ -84,5 +91,6 @@ pub customs_fit : (m : Parts) (at id middle : ℕ) → id < 12 → at + length (
 customs_fit m at id middle lt place fits ends = omega (arith, length-ids m id lt, place, fits, ends)
 
 pub place_after : (m : Parts) (at id middle after : ℕ) → id < 12 → at + length (flat_map (section_and_customs m) (drop id ids)) ≡ length (encoded m)
-    → middle ≡ at + length (section_of m id) → after ≡ middle + length (customs_at id m.customs) → after + length (flat_map (section_and_customs m) (drop (id + 1) ids)) ≡ length (encoded m)
+    → middle ≡ at + length (section_of m id) → after ≡ middle + length (customs_at id m.customs)
+    → after + length (flat_map (section_and_customs m) (drop (id + 1) ids)) ≡ length (encoded m)
 place_after m at id middle after lt place ends end = omega (arith, length-ids m id lt, place, ends, end)

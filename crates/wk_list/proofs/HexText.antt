@@ -1,5 +1,6 @@
 -- Bytes in hexadecimal digits, piece after piece.
-use Rattle.std.proofs.Common.{◌≡◌, ℕ, zero, suc, ◌-◌, ◌/◌, ◌%◌, ◌<◌, Bool, true, ◌&&◌, T, eqb, eqb→eq, eq-zero-or-pos, List, [], ◌∷◌, ◌++◌, get_or, inl, inr, refl, ap, ◌∙◌, append_assoc, arith}
+use Rattle.std.proofs.Common.{◌≡◌, ℕ, zero, suc, ◌-◌, ◌/◌, ◌%◌, ◌<◌, Bool, true, ◌&&◌, T, eqb, eqb→eq, eq-zero-or-pos, List, [], ◌∷◌, ◌++◌, get_or, inl, inr}
+use Rattle.std.proofs.Common.{refl, ap, ◌∙◌, append_assoc, arith}
 use lib.Ieee.Fits.{and_l, and_r}
 use Rattle.std.specs.List.{flat_map}
 use Rattle.wk_bytes.specs.HexDigits.{hex_digit}
@@ -13,9 +14,11 @@ encode_append table [] b = refl
 encode_append table (x ∷ a) b = ap (λ (ds : List ℕ). slice_index table (x / 16) ∷ slice_index table (x % 16) ∷ ds) (encode_append table a b)
 
 -- a front was put, and the rest comes next
-pub chunked : (old between rest front back : List ℕ) → rest ≡ front ++ back → between ≡ old ++ encode_lower front → between ++ encode_lower back ≡ old ++ encode_lower rest
+pub chunked : (old between rest front back : List ℕ) → rest ≡ front ++ back → between ≡ old ++ encode_lower front
+    → between ++ encode_lower back ≡ old ++ encode_lower rest
 chunked old between rest front back parts e =
-    rw (parts, encode_append lower_digits front back) (ap (λ (t : List ℕ). t ++ encode_lower back) e ∙ append_assoc old (encode_lower front) (encode_lower back))
+    rw (parts, encode_append lower_digits front back)
+    (ap (λ (t : List ℕ). t ++ encode_lower back) e ∙ append_assoc old (encode_lower front) (encode_lower back))
 
 -- ---- the digits of a table are those that are computed
 

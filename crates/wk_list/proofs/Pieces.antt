@@ -1,5 +1,6 @@
 -- Pieces that are written behind one another in an array.
-use Rattle.std.proofs.Common.{◌≡◌, ℕ, ◌+◌, ◌/◌, ◌%◌, ◌<◌, ◌≤◌, List, [], ◌∷◌, ◌++◌, length, take, drop, append_assoc, ◌-◌, replicate, decimal, sym, ap, ◌∙◌, arith, take-take, length-take-le}
+use Rattle.std.proofs.Common.{◌≡◌, ℕ, ◌+◌, ◌/◌, ◌%◌, ◌<◌, ◌≤◌, List, [], ◌∷◌, ◌++◌, length, take, drop, append_assoc, ◌-◌, replicate, decimal, sym, ap, ◌∙◌}
+use Rattle.std.proofs.Common.{arith, take-take, length-take-le}
 use Rattle.std.proofs.Math.Seq.{take-append-add}
 use Rattle.std.proofs.lemmas.Fmt.{decimal_digit, decimal_step}
 use Rattle.std.proofs.lemmas.List.{take-replicate, take-append-le, take-append-drop}
@@ -21,7 +22,8 @@ pub margin_of : (count at : ℕ) (old new : List ℕ) → count ≤ 32 → at �
 margin_of count at old new few within e = front_of count 32 at old new _ few within e ∙ ap (λ (xs : List ℕ). take at old ++ xs) (take-replicate count 32 32 few)
 
 -- what stands in front of what was written stays
-pub front_stays : (used end : ℕ) (old new piece : List ℕ) → used ≤ length old → used ≤ end → take end new ≡ take used old ++ piece → take used new ≡ take used old
+pub front_stays : (used end : ℕ) (old new piece : List ℕ) → used ≤ length old → used ≤ end → take end new ≡ take used old ++ piece
+    → take used new ≡ take used old
 front_stays used end old new piece within behind e =
     let whole : length (take used old) ≡ used = length-take-le used old within in
     sym (take-take used end new behind) ∙ ap (take used) e ∙ take-append-le used (take used old) piece (omega arith) ∙ take-take used used old (omega arith)
@@ -44,6 +46,7 @@ ends many at middle end old between new piece first last least most within is_fi
     let fixed : at + length first ≡ at + many = ap (λ (k : ℕ). at + k) (ap length is_first ∙ length-take-le many piece least) in
     let whole : take (at + many) between ≡ take at old ++ first = ap (λ (k : ℕ). take k between) (sym (there ∙ fixed)) ∙ a in
     let front : take (at + ahead) between ≡ take at old ++ take ahead piece =
-    front_of ahead many at old between _ few within whole ∙ ap (λ (xs : List ℕ). take at old ++ xs) (ap (take ahead) is_first ∙ take-take ahead many piece few) in
+    front_of ahead many at old between _ few within whole ∙ ap (λ (xs : List ℕ). take at old ++ xs)
+    (ap (take ahead) is_first ∙ take-take ahead many piece few) in
     b ∙ ap (λ (xs : List ℕ). xs ++ last) front ∙ ap (λ (xs : List ℕ). take at old ++ take ahead piece ++ xs) is_last
     ∙ append_assoc (take at old) (take ahead piece) (drop ahead piece) ∙ ap (λ (xs : List ℕ). take at old ++ xs) (take-append-drop ahead piece)

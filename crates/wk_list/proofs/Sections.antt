@@ -1,10 +1,12 @@
 -- Sections as they stand in the written form and in the listing of headers: none without contents, and else one with its own id.
-use Rattle.std.proofs.Common.{◌≡◌, ℕ, ◌<◌, Bool, true, false, if◌then◌else◌, Option, Some, None, List, [], ◌++◌, length, refl, sym, ap, ◌∙◌, arith, append_assoc, append-nil}
+use Rattle.std.proofs.Common.{◌≡◌, ℕ, ◌<◌, Bool, true, false, if◌then◌else◌, Option, Some, None, List, [], ◌++◌, length, refl, sym, ap, ◌∙◌, arith}
+use Rattle.std.proofs.Common.{append_assoc, append-nil}
 use Rattle.std.specs.Prelude.{codes}
 use Rattle.std.proofs.lemmas.List.{length-map}
 use Rattle.wk_module.specs.declared.types.Func.{Func}
 use Rattle.wk_module.specs.declared.types.Parts.{Parts}
-use Rattle.wk_module.specs.Sections.{SectionId, TypeSection, ImportSection, FunctionSection, TableSection, MemorySection, GlobalSection, ExportSection, StartSection, ElementSection, CodeSection, DataSection, number, of_number, ContentsOf, contents, is_full, written_contents}
+use Rattle.wk_module.specs.Sections.{SectionId, TypeSection, ImportSection, FunctionSection, TableSection, MemorySection, GlobalSection, ExportSection}
+use Rattle.wk_module.specs.Sections.{StartSection, ElementSection, CodeSection, DataSection, number, of_number, ContentsOf, contents, is_full, written_contents}
 use Rattle.wk_module.specs.Shape.{lists_of}
 use Rattle.wk_module.specs.Writing.{section_contents, contents_by}
 use Rattle.wk_module.specs.SectionLaws.{number-of_number}
@@ -28,11 +30,13 @@ no_line m at k text none = sym (append-nil text) ∙ ap (λ (line : List ℕ). t
 
 -- ---- with contents
 
-put_in : {A : Type 0} (k : SectionId) (x : ContentsOf k) (full : Bool) (some : List A) → 0 < length (if full then written_contents k x else []) → (if full then some else []) ≡ some
+put_in : {A : Type 0} (k : SectionId) (x : ContentsOf k) (full : Bool) (some : List A) → 0 < length (if full then written_contents k x else [])
+    → (if full then some else []) ≡ some
 put_in k x true some few = refl
 put_in k x false some few = absurd (omega arith)
 
-header_some : (m : Parts) (at id : ℕ) (k : Option SectionId) → of_number id ≡ k → 0 < length (contents_by (lists_of m) k) → header_by m at k ≡ header_line id at (length (contents_by (lists_of m) k)) (tail_by m k)
+header_some : (m : Parts) (at id : ℕ) (k : Option SectionId) → of_number id ≡ k → 0 < length (contents_by (lists_of m) k)
+    → header_by m at k ≡ header_line id at (length (contents_by (lists_of m) k)) (tail_by m k)
 header_some m at id None is some = absurd (omega arith)
 header_some m at id (Some k) is some =
     let x = contents (lists_of m) k in
@@ -45,13 +49,15 @@ three : (t a b c : List ℕ) → ((t ++ a) ++ b) ++ c ≡ t ++ (a ++ (b ++ c))
 three t a b c = simp append_assoc
 
 -- a line that was gathered piece by piece
-line : (id at size start : ℕ) (t tail a b c : List ℕ) → start ≡ contents_start at size → a ≡ t ++ header_text id start size → b ≡ a ++ tail → c ≡ b ++ codes "\n" → c ≡ t ++ header_line id at size tail
+line : (id at size start : ℕ) (t tail a b c : List ℕ) → start ≡ contents_start at size → a ≡ t ++ header_text id start size → b ≡ a ++ tail
+    → c ≡ b ++ codes "\n" → c ≡ t ++ header_line id at size tail
 line id at size start t tail a b c is head behind end =
     end ∙ ap (λ (x : List ℕ). x ++ codes "\n") (behind ∙ ap (λ (x : List ℕ). x ++ tail) (head ∙ ap (λ (s : ℕ). t ++ header_text id s size) is))
     ∙ three t (header_text id (contents_start at size) size) tail (codes "\n")
 
 pub section_line : (m : Parts) (id at size start : ℕ) (t a b c : List ℕ) → size ≡ length (contents_by (lists_of m) (of_number id)) → 0 < size
-    → start ≡ contents_start at size → a ≡ t ++ header_text id start size → b ≡ a ++ tail_by m (of_number id) → c ≡ b ++ codes "\n" → c ≡ t ++ header_by m at (of_number id)
+    → start ≡ contents_start at size → a ≡ t ++ header_text id start size → b ≡ a ++ tail_by m (of_number id) → c ≡ b ++ codes "\n"
+    → c ≡ t ++ header_by m at (of_number id)
 section_line m id at size start t a b c long some is head behind end =
     line id at size start t (tail_by m (of_number id)) a b c is head behind end
     ∙ ap (λ (n : ℕ). t ++ header_line id at n (tail_by m (of_number id))) long

@@ -24,16 +24,19 @@ regroup_more a b c d e f = simp append_assoc
 -- an else branch that is not empty, its instructions being listed so
 else_some : (at depth n : ℕ) (s : Instrs) (ts : List Tok)
     → toks_text (at + 1) (depth + 1) (flatten s ++ ts) ≡ instrs_text (at + 1) (depth + 1) s ++ toks_text (at + 1 + length (enc s)) (depth + 1) ts
-    → toks_text at (depth + 1) (Otherwise n ∷ (flatten s ++ ts)) ≡ (code_line at depth (codes "else") ++ instrs_text (at + 1) (depth + 1) s) ++ toks_text (at + suc (length (enc s))) (depth + 1) ts
+    → toks_text at (depth + 1) (Otherwise n ∷ (flatten s ++ ts))
+    ≡ (code_line at depth (codes "else") ++ instrs_text (at + 1) (depth + 1) s) ++ toks_text (at + suc (length (enc s))) (depth + 1) ts
 else_some at depth n s ts h =
     let e : depth + 1 - 1 ≡ depth = omega arith in
     let f : at + 1 + length (enc s) ≡ at + suc (length (enc s)) = omega arith in
-    rw e (ap (λ (b : List ℕ). code_line at depth (codes "else") ++ b) (h ∙ ap (λ (b : List ℕ). instrs_text (at + 1) (depth + 1) s ++ b) (from_place (depth + 1) ts f))
+    rw e (ap (λ (b : List ℕ). code_line at depth (codes "else") ++ b)
+    (h ∙ ap (λ (b : List ℕ). instrs_text (at + 1) (depth + 1) s ++ b) (from_place (depth + 1) ts f))
     ∙ sym (append_assoc (code_line at depth (codes "else")) (instrs_text (at + 1) (depth + 1) s) (toks_text (at + suc (length (enc s))) (depth + 1) ts)))
 
 else_listed : (at depth : ℕ) (s : Instrs) (ts : List Tok)
     → toks_text (at + 1) (depth + 1) (flatten s ++ ts) ≡ instrs_text (at + 1) (depth + 1) s ++ toks_text (at + 1 + length (enc s)) (depth + 1) ts
-    → toks_text at (depth + 1) (else_part (flatten s) ++ ts) ≡ else_text at depth s (instrs_text (at + 1) (depth + 1) s) ++ toks_text (at + length (else_bytes s (enc s))) (depth + 1) ts
+    → toks_text at (depth + 1) (else_part (flatten s) ++ ts)
+    ≡ else_text at depth s (instrs_text (at + 1) (depth + 1) s) ++ toks_text (at + length (else_bytes s (enc s))) (depth + 1) ts
 else_listed at depth Finish ts h = from_place (depth + 1) ts (omega arith)
 else_listed at depth (One p rest) ts h = else_some at depth (length (flatten (One p rest))) (One p rest) ts h
 else_listed at depth (Block kind ty inside rest) ts h = else_some at depth (length (flatten (Block kind ty inside rest))) (Block kind ty inside rest) ts h
@@ -75,12 +78,15 @@ listed at depth (If ty first second rest) ts =
     let l = code_line at depth (codes "if" ++ type_text ty) in
     let other = else_text else_at depth second (instrs_text (else_at + 1) (depth + 1) second) in
     let l2 = code_line end_at depth (codes "end") in
-    ap (λ (us : List Tok). l ++ toks_text in_it (depth + 1) us) (append_assoc (flatten first ++ else_part (flatten second)) (Close ∷ flatten rest) ts ∙ append_assoc (flatten first) (else_part (flatten second)) (Close ∷ (flatten rest ++ ts)))
+    ap (λ (us : List Tok). l ++ toks_text in_it (depth + 1) us)
+    (append_assoc (flatten first ++ else_part (flatten second)) (Close ∷ flatten rest) ts
+    ∙ append_assoc (flatten first) (else_part (flatten second)) (Close ∷ (flatten rest ++ ts)))
     ∙ ap (λ (b : List ℕ). l ++ b) (listed in_it (depth + 1) first (else_part (flatten second) ++ Close ∷ (flatten rest ++ ts))
     ∙ ap (λ (b : List ℕ). instrs_text in_it (depth + 1) first ++ b) (
     else_listed else_at depth second (Close ∷ (flatten rest ++ ts)) (listed (else_at + 1) (depth + 1) second (Close ∷ (flatten rest ++ ts)))
     ∙ ap (λ (b : List ℕ). other ++ b) (at_end end_at depth (flatten rest ++ ts)
-    ∙ ap (λ (b : List ℕ). l2 ++ b) (listed (end_at + 1) depth rest ts ∙ ap (λ (b : List ℕ). instrs_text (end_at + 1) depth rest ++ b) (from_place depth ts e)))))
+    ∙ ap (λ (b : List ℕ). l2 ++ b)
+    (listed (end_at + 1) depth rest ts ∙ ap (λ (b : List ℕ). instrs_text (end_at + 1) depth rest ++ b) (from_place depth ts e)))))
     ∙ sym (regroup_more l (instrs_text in_it (depth + 1) first) other l2 (instrs_text (end_at + 1) depth rest) (toks_text whole depth ts))
 
 -- the tokens of an expression
@@ -101,7 +107,13 @@ length_flat : (t : Instrs) → toks_length (flatten t) ≡ length (enc t)
 length_flat Finish = refl
 length_flat (One p rest) = omega (arith, length_flat rest, length-append (plain_bytes p) (enc rest))
 length_flat (Block kind ty inside rest) =
-    omega (arith, length_flat inside, length_flat rest, toks_length-append (flatten inside) (Close ∷ flatten rest), length_block (kind_byte kind) (type_bytes ty) (enc inside) (enc rest))
+    omega (
+      arith,
+      length_flat inside,
+      length_flat rest,
+      toks_length-append (flatten inside) (Close ∷ flatten rest),
+      length_block (kind_byte kind) (type_bytes ty) (enc inside) (enc rest),
+    )
 length_flat (If ty first second rest) =
     omega (
       arith,

@@ -1,5 +1,6 @@
 -- The written form piece by piece: where each piece begins, and that all of them stay within the limit.
-use Rattle.std.proofs.Common.{◌≡◌, ℕ, suc, ◌+◌, ◌<◌, ◌≤◌, ◌^◌, ◌==◌, false, Option, Some, None, List, ◌∷◌, ◌++◌, length, drop, get_or, refl, sym, ap, ◌∙◌, arith, nat_le, add-one, drop-cons, length-append}
+use Rattle.std.proofs.Common.{◌≡◌, ℕ, suc, ◌+◌, ◌<◌, ◌≤◌, ◌^◌, ◌==◌, false, Option, Some, None, List, ◌∷◌, ◌++◌, length, drop, get_or, refl, sym, ap, ◌∙◌}
+use Rattle.std.proofs.Common.{arith, nat_le, add-one, drop-cons, length-append}
 use Rattle.std.specs.Prelude.{unwrap_or}
 use Rattle.std.proofs.lemmas.Bool.{cond-true, le-leb, eq-eqb}
 use Rattle.std.proofs.lemmas.List.FromFn.{get_or-range_with_len}
@@ -32,7 +33,8 @@ drop-ids id lt =
 
 -- the pieces from one id on begin with its section and the custom sections behind that
 pub length-ids : (m : Parts) (id : ℕ) → id < 12
-    → length (flat_map (section_and_customs m) (drop id ids)) ≡ length (section_of m id) + length (customs_at id m.customs) + length (flat_map (section_and_customs m) (drop (id + 1) ids))
+    → length (flat_map (section_and_customs m) (drop id ids))
+    ≡ length (section_of m id) + length (customs_at id m.customs) + length (flat_map (section_and_customs m) (drop (id + 1) ids))
 length-ids m id lt =
     omega (
       arith,
@@ -48,21 +50,26 @@ length-all m = omega (arith, length-append (magic ++ version) (flat_map (section
 -- ---- custom sections one after the other
 
 -- the customs of a place from an index on, where the first of them is of that place, and where it is not
-pub drop-of : (place i : ℕ) (c : Custom) (cs : List Custom) → i < length cs → c ≡ get_or cs i c → c.place ≡ place → customs_of place (drop i cs) ≡ c ∷ customs_of place (drop (i + 1) cs)
+pub drop-of : (place i : ℕ) (c : Custom) (cs : List Custom) → i < length cs → c ≡ get_or cs i c → c.place ≡ place
+    → customs_of place (drop i cs) ≡ c ∷ customs_of place (drop (i + 1) cs)
 drop-of place i c cs within is same =
     let split : drop i cs ≡ c ∷ drop (i + 1) cs = rw (add-one i) (drop-cons cs i c within ∙ ap (λ (d : Custom). d ∷ drop (suc i) cs) (sym is)) in
     rw split (rw (eq-eqb c.place place same) refl)
 
-pub drop-others : (place i : ℕ) (c : Custom) (cs : List Custom) → i < length cs → c ≡ get_or cs i c → (c.place == place) ≡ false → customs_of place (drop i cs) ≡ customs_of place (drop (i + 1) cs)
+pub drop-others : (place i : ℕ) (c : Custom) (cs : List Custom) → i < length cs → c ≡ get_or cs i c → (c.place == place) ≡ false
+    → customs_of place (drop i cs) ≡ customs_of place (drop (i + 1) cs)
 drop-others place i c cs within is other =
     let split : drop i cs ≡ c ∷ drop (i + 1) cs = rw (add-one i) (drop-cons cs i c within ∙ ap (λ (d : Custom). d ∷ drop (suc i) cs) (sym is)) in
     rw split (rw other refl)
 
 -- the bytes that stand at the place, in the same two cases
-pub length-of : (place i : ℕ) (c : Custom) (cs : List Custom) → i < length cs → c ≡ get_or cs i c → c.place ≡ place → length (customs_at place (drop i cs)) ≡ length (custom_frame c) + length (customs_at place (drop (i + 1) cs))
+pub length-of : (place i : ℕ) (c : Custom) (cs : List Custom) → i < length cs → c ≡ get_or cs i c → c.place ≡ place
+    → length (customs_at place (drop i cs)) ≡ length (custom_frame c) + length (customs_at place (drop (i + 1) cs))
 length-of place i c cs within is same =
-    ap (λ (ds : List Custom). length (flat_map custom_frame ds)) (drop-of place i c cs within is same) ∙ length-append (custom_frame c) (customs_at place (drop (i + 1) cs))
+    ap (λ (ds : List Custom). length (flat_map custom_frame ds)) (drop-of place i c cs within is same)
+    ∙ length-append (custom_frame c) (customs_at place (drop (i + 1) cs))
 
-pub length-others : (place i : ℕ) (c : Custom) (cs : List Custom) → i < length cs → c ≡ get_or cs i c → (c.place == place) ≡ false → length (customs_at place (drop i cs)) ≡ length (customs_at place (drop (i + 1) cs))
+pub length-others : (place i : ℕ) (c : Custom) (cs : List Custom) → i < length cs → c ≡ get_or cs i c → (c.place == place) ≡ false
+    → length (customs_at place (drop i cs)) ≡ length (customs_at place (drop (i + 1) cs))
 length-others place i c cs within is other =
     ap (λ (ds : List Custom). length (flat_map custom_frame ds)) (drop-others place i c cs within is other)

@@ -19,7 +19,8 @@ use Rattle.wk_module.specs.declared.types.Custom.{Custom}
 use Rattle.wk_module.specs.declared.types.Kind.TheVariants.{Func, Table, Memory, Global}
 use Rattle.wk_module.specs.declared.types.Parts.{Parts}
 use Rattle.wk_module.specs.Items.{desc_kind}
-use Rattle.wk_module.specs.Sections.{SectionId, TypeSection, ImportSection, FunctionSection, TableSection, MemorySection, GlobalSection, ExportSection, StartSection, ElementSection, CodeSection, DataSection, number, of_number}
+use Rattle.wk_module.specs.Sections.{SectionId, TypeSection, ImportSection, FunctionSection, TableSection, MemorySection, GlobalSection, ExportSection}
+use Rattle.wk_module.specs.Sections.{StartSection, ElementSection, CodeSection, DataSection, number, of_number}
 use Rattle.wk_module.specs.Writing.{ids}
 use Rattle.wk_list.specs.Text.{name_text, spaced, joined, numbered, functype_text, limits_text, globaltype_text, kind_name, indexed}
 use Rattle.wk_list.specs.Spaces.{count_of}
@@ -38,6 +39,10 @@ field label n = label ++ decimal n
 -- an expression in its written form, as ` init=41000b`
 abbrev pub code_field : List ℕ → Instrs → List ℕ
 code_field label t = label ++ encode_lower (written_expr t)
+
+-- the line of an item by what stands behind its name and its index
+abbrev pub row_line : {A : Type 0} → (A → List ℕ) → List ℕ → ℕ → A → List ℕ
+row_line rest name index item = item_text name index ++ rest item
 
 -- a name after a space
 abbrev pub named : List ℕ → List ℕ

@@ -1,11 +1,13 @@
 -- The headers listing: a line for each section of the written form.
-use Rattle.std.specs.Prelude.{ℕ, ◌+◌, ◌-◌, ◌==◌, if◌then◌else◌, Option, Some, None, List, [], ◌∷◌, ◌++◌, length, filter, replicate, codes, decimal, slice_index_or}
+use Rattle.std.specs.Prelude.{ℕ, ◌+◌, ◌-◌, ◌==◌, if◌then◌else◌, Option, Some, None, List, [], ◌∷◌, ◌++◌, length, filter, replicate, codes, decimal}
+use Rattle.std.specs.Prelude.{slice_index_or}
 use Rattle.wk_bytes.specs.FaultText.{offset_text}
 use Rattle.wk_bytes.specs.Short.{short}
 use Rattle.wk_module.specs.declared.types.Custom.{Custom}
 use Rattle.wk_module.specs.declared.types.Parts.{Parts}
 use Rattle.wk_module.specs.Customs.{written_custom}
-use Rattle.wk_module.specs.Sections.{SectionId, TypeSection, ImportSection, FunctionSection, TableSection, MemorySection, GlobalSection, ExportSection, StartSection, ElementSection, CodeSection, DataSection, number, of_number, contents, is_full}
+use Rattle.wk_module.specs.Sections.{SectionId, TypeSection, ImportSection, FunctionSection, TableSection, MemorySection, GlobalSection, ExportSection}
+use Rattle.wk_module.specs.Sections.{StartSection, ElementSection, CodeSection, DataSection, number, of_number, contents, is_full}
 use Rattle.wk_module.specs.Shape.{lists_of}
 use Rattle.wk_module.specs.Writing.{framed, section_contents, section_of, section_and_customs, ids}
 use Rattle.wk_list.specs.Text.{name_text}
@@ -28,7 +30,8 @@ in_eight text = replicate (8 - length text) 32 ++ text
 -- the section of an id: where its contents start and end, and how long they are
 abbrev pub header_text : ℕ → ℕ → ℕ → List ℕ
 header_text id start size =
-    in_eight (section_name id) ++ (codes " start=" ++ (offset_text start ++ (codes " end=" ++ (offset_text (start + size) ++ (codes " size=" ++ offset_text size)))))
+    in_eight (section_name id)
+    ++ (codes " start=" ++ (offset_text start ++ (codes " end=" ++ (offset_text (start + size) ++ (codes " size=" ++ offset_text size)))))
 
 -- ---- what stands behind the size
 

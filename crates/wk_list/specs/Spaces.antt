@@ -1,10 +1,11 @@
 -- How many imports are of a kind: they come first in the index space of that kind (2.5.1).
-use Rattle.std.specs.Prelude.{◌≡◌, ℕ, ◌+◌, Bool, true, false, if◌then◌else◌, List, [], ◌∷◌}
+use Rattle.std.specs.Prelude.{◌≡◌, ℕ, ◌+◌, Bool, true, false, if◌then◌else◌, Option, Some, List, [], ◌∷◌}
 use Rattle.wk_module.specs.declared.types.Import.{Import}
 use Rattle.wk_module.specs.declared.types.ImportDesc.{ImportDesc}
 use Rattle.wk_module.specs.declared.types.ImportDesc.TheVariants as desc
 use Rattle.wk_module.specs.declared.types.Kind.{Kind}
 use Rattle.wk_module.specs.declared.types.Kind.TheVariants.{Func, Table, Memory, Global}
+use Rattle.wk_module.specs.Sections.{SectionId, FunctionSection, TableSection, MemorySection, GlobalSection}
 use Rattle.wk_list.specs.declared.spaces.Counts.{Counts}
 
 -- whether what is imported is of the kind
@@ -19,6 +20,14 @@ is_of _ _ = false
 abbrev pub count_of : Kind → List Import → ℕ
 count_of kind [] = 0
 count_of kind (i ∷ is) = (if is_of kind i.desc then 1 else 0) + count_of kind is
+
+-- the index of the first item of a section
+abbrev pub first_index : Option SectionId → List Import → ℕ
+first_index (Some FunctionSection) imports = count_of Func imports
+first_index (Some TableSection) imports = count_of Table imports
+first_index (Some MemorySection) imports = count_of Memory imports
+first_index (Some GlobalSection) imports = count_of Global imports
+first_index _ imports = 0
 
 -- these are as many as the imports have of each kind
 pub record AreCounted (c : Counts) (imports : List Import) : Type 0 where

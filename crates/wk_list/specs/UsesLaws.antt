@@ -53,7 +53,8 @@ self_same a = grind (arith, nat_tests)
 
 -- where a reference goes: in front, nowhere, or behind
 abbrev Place : Ref → Ref → List Ref → Type 0
-Place r x xs = (IsBelow r x × (placed_in r (x ∷ xs) ≡ r ∷ x ∷ xs)) ⊎ (((r ≡ x) × (placed_in r (x ∷ xs) ≡ x ∷ xs)) ⊎ (IsBelow x r × (placed_in r (x ∷ xs) ≡ x ∷ placed_in r xs)))
+Place r x xs = (IsBelow r x × (placed_in r (x ∷ xs) ≡ r ∷ x ∷ xs))
+    ⊎ (((r ≡ x) × (placed_in r (x ∷ xs) ≡ x ∷ xs)) ⊎ (IsBelow x r × (placed_in r (x ∷ xs) ≡ x ∷ placed_in r xs)))
 
 goes_front : (r x : Ref) (xs : List Ref) → IsBelow r x → Place r x xs
 goes_front r x xs p = inl (p, rw (before_yes r x p) refl)
@@ -122,7 +123,8 @@ same_placed r (x ∷ xs) q =
     elim (in_its_place r x xs) [
       | inl front ↦ subst (λ (ks : List Ref). IsAmong q ks ↔ IsAmong q (r ∷ x ∷ xs)) (sym front.1) (λ h. h, λ h. h)
       | inr other ↦ elim other [
-        | inl same ↦ subst (λ (ks : List Ref). IsAmong q ks ↔ IsAmong q (r ∷ x ∷ xs)) (sym same.1) (λ h. inr h, λ h. elim h [ inl e ↦ inl (e ∙ same.0) | inr a ↦ a ])
+        | inl same ↦ subst (λ (ks : List Ref). IsAmong q ks ↔ IsAmong q (r ∷ x ∷ xs)) (sym same.1)
+            (λ h. inr h, λ h. elim h [ inl e ↦ inl (e ∙ same.0) | inr a ↦ a ])
         | inr behind ↦ subst (λ (ks : List Ref). IsAmong q ks ↔ IsAmong q (r ∷ x ∷ xs)) (sym behind.1) (
           λ h. elim h [ inl e ↦ inr (inl e) | inr a ↦ elim ((same_placed r xs q).0 a) [ inl e ↦ inl e | inr b ↦ inr (inr b) ] ],
           λ h. elim h [ inl e ↦ inr ((same_placed r xs q).1 (inl e)) | inr a ↦ elim a [ inl e ↦ inl e | inr b ↦ inr ((same_placed r xs q).1 (inr b)) ] ],
@@ -160,10 +162,12 @@ one_order (k ∷ ks) (l ∷ ls) p q s =
     let e : k ≡ l = one_first k l ks ls p q s in
     let s2 : AreSame (k ∷ ks) (k ∷ ls) = subst (λ (x : Ref). AreSame (k ∷ ks) (x ∷ ls)) (sym e) s in
     let q2 : AllByRecursion (IsBelow k) ls = subst (λ (x : Ref). AllByRecursion (IsBelow x) ls) (sym e) q.0 in
-    ap (λ (x : Ref). x ∷ ks) e ∙ ap (λ (xs : List Ref). l ∷ xs) (one_order ks ls p.1 q.1 (λ r. (among_others k r ks ls p.0 (s2 r).0, among_others k r ls ks q2 (s2 r).1)))
+    ap (λ (x : Ref). x ∷ ks) e ∙ ap (λ (xs : List Ref). l ∷ xs)
+    (one_order ks ls p.1 q.1 (λ r. (among_others k r ks ls p.0 (s2 r).0, among_others k r ls ks q2 (s2 r).1)))
 
 pub in_order_is : (ks xs : List Ref) → AreRising ks → AreSame ks xs → ks ≡ in_order xs
-in_order_is ks xs p s = one_order ks (in_order xs) p (in_order_rises xs) (λ r. (λ a. (in_order_same xs r).1 ((s r).0 a), λ a. (s r).1 ((in_order_same xs r).0 a)))
+in_order_is ks xs p s = one_order ks (in_order xs) p (in_order_rises xs)
+    (λ r. (λ a. (in_order_same xs r).1 ((s r).0 a), λ a. (s r).1 ((in_order_same xs r).0 a)))
 
 -- ---- a question of any reference has the same answer of it
 

@@ -1,19 +1,18 @@
 //! The code listing.
 
-ghost use Rattle.std.specs.Prelude.{◌≡◌, ◌<◌, ◌≤◌, ◌+◌, ◌-◌, ◌^◌, ◌++◌, length, min, take, IfOk, OnOk, OnErr};
+ghost use Rattle.std.specs.Prelude.{◌≡◌, ◌<◌, ◌≤◌, ◌+◌, ◌-◌, ◌^◌, ◌++◌, length, min, take, IfOk, OnOk};
 ghost use Rattle.std.specs.List.{AllByRecursion, flat_map};
 ghost use Rattle.wk_bytes.specs.Frames.{limit};
-ghost use Rattle.wk_bytes.specs.Taken.{TakesFront};
 ghost use Rattle.wk_body.specs.Kept.{told, all_told, IsWithin};
-ghost use Rattle.wk_body.specs.Written.{tok_bytes, written_expr, written_group, written_body};
+ghost use Rattle.wk_body.specs.Written.{tok_bytes, written_group, written_body};
 ghost use Rattle.wk_module.specs.Items.{written_code};
 ghost use Rattle.wk_module.specs.Writing.{customs_at};
-ghost use Rattle.wk_list.specs.Taken.{Leaves, PutsOut, failed_after};
-ghost use Rattle.wk_list.specs.CodeText.{code_line, group_text, locals_text, entry_head, entry_text, entries_text, expr_text, code_start, code_text};
+ghost use Rattle.wk_list.specs.Taken.{PutsOut};
+ghost use Rattle.wk_list.specs.CodeText.{code_line, group_text, locals_text, entry_head, entry_text, entries_text, code_start, code_text};
 ghost use Rattle.wk_list.specs.TokenText.{tok_text, toks_text, toks_length};
 
-use crate::fast_line::{Line, NAME_LIMIT, write_line};
-use crate::fault::ListFault;
+use crate::fast_line::{NAME_LIMIT, write_line};
+use crate::fault::{ListFault, Listed};
 use crate::headers::{contents_start, section_end};
 use crate::line_buffer::CAPACITY;
 use crate::page::{FLUSH_LEN, len_to_flush, spill};
@@ -21,10 +20,10 @@ use crate::rows::put_field;
 use crate::shape::Shape;
 use crate::spaces::count_of;
 use crate::text::{put_indexed, put_number};
-use crate::token::{depths, put_line};
+use crate::token::{Place, depths, put_line};
 use crate::typetext::valtype_name;
 use wk_bytes::{Out, OutOfMemory, leb_len_u32};
-use wk_module::{Expr, Func, HEADER_LEN, Kind, LocalGroup, Token, section_id};
+use wk_module::{Func, HEADER_LEN, Kind, LocalGroup, Token, section_id};
 
 // How far names may reach in a buffer behind this text. Where both are long enough to go out, no name has room: so the text goes out
 // behind the same line, and before the next one asks for memory, as if each line went behind it by itself.
@@ -36,7 +35,7 @@ fn reach_behind(text: &[u8]) -> usize
 }
 
 // The lines in a buffer go behind the text.
-fn put_buf<W: Out>(buf: &[u8], text: &mut Vec<u8>, out: &mut W) -> Result<(), ListFault>
+fn put_buf<W: Out>(buf: &[u8], text: &mut Vec<u8>, out: &mut W) -> Listed
     requires room { W.failed out.old < 2 ^ 64 - 1 }
     ensures { PutsOut W.taken W.failed out.old out.new
         (text.old.items ++ buf.now) text.new.items result }
@@ -54,54 +53,64 @@ fn list_long_line<W: Out>(
     buf: &[u8],
     labels: &[u32],
     token: &Token,
-    at: u32,
-    depth: usize,
+    place: Place,
     text: &mut Vec<u8>,
     out: &mut W,
-) -> Result<(), ListFault>
+) -> Listed
     requires room { W.failed out.old < 2 ^ 64 - 1 }
     requires within { IsWithin (length labels.now) token.now }
-    requires shallow { depth < 2 ^ 32 }
+    requires shallow { place.depth < 2 ^ 32 }
     ensures { PutsOut W.taken W.failed out.old out.new
-        (text.old.items ++ buf.now ++ code_line at depth (tok_text (told labels.now token.now))) text.new.items result }
+        (text.old.items ++ buf.now
+        ++ code_line place.at place.depth (tok_text (told labels.now token.now)))
+        text.new.items result }
 {
     put_buf(buf, text, out)?;
-    put_line(text, labels, token, at, depth)?;
+    put_line(text, labels, token, place)?;
     spill(text, out)
 }
 
-// The line of a token, behind so many bytes of a buffer, in which names may reach so far. Its end is how many stand in it then.
+// How many bytes of a buffer are used, and how far names may reach in it.
+#[derive(Clone, Copy)]
+struct Fill {
+    used: usize,
+    reach: usize,
+}
+
+// The line of a token, behind what is used of a buffer. The answer is how many bytes the token is.
 #[inline(always)]
 fn list_token<W: Out>(
     labels: &[u32],
     token: &Token,
-    at: u32,
-    depth: usize,
+    place: Place,
     buf: &mut [u8; CAPACITY],
-    used: usize,
-    reach: &mut usize,
+    fill: &mut Fill,
     text: &mut Vec<u8>,
     out: &mut W,
-) -> Result<Line, ListFault>
+) -> Result<u64, ListFault>
     requires room { W.failed out.old < 2 ^ 64 - 1 }
     requires within { IsWithin (length labels.now) token.now }
-    requires shallow { depth < 2 ^ 32 }
-    requires inside { used ≤ CAPACITY }
-    requires reach { reach.old ≤ NAME_LIMIT }
-    ensures reach { reach.new ≤ NAME_LIMIT }
-    ensures inside { IfOk result (λ line. line.end ≤ CAPACITY) }
-    ensures ok { IfOk result (λ line. Leaves (W.taken out.old) (W.taken out.new) (text.old.items ++ take used buf.old ++ code_line at depth (tok_text (told labels.now token.now))) (text.new.items ++ take line.end buf.new)) }
-    ensures len { IfOk result (λ line. line.len ≡ length (tok_bytes (told labels.now token.now))) }
-    ensures err { OnErr result (TakesFront (W.taken out.old) (W.taken out.new) (text.old.items ++ take used buf.old ++ code_line at depth (tok_text (told labels.now token.now)))) }
-    ensures failures { W.failed out.new ≡ failed_after (W.failed out.old) result }
+    requires shallow { place.depth < 2 ^ 32 }
+    requires inside { fill.old.used ≤ CAPACITY }
+    requires reach { fill.old.reach ≤ NAME_LIMIT }
+    ensures inside { fill.new.used ≤ CAPACITY }
+    ensures reach { fill.new.reach ≤ NAME_LIMIT }
+    ensures puts { PutsOut W.taken W.failed out.old out.new
+        (text.old.items ++ take fill.old.used buf.old
+        ++ code_line place.at place.depth (tok_text (told labels.now token.now)))
+        (text.new.items ++ take fill.new.used buf.new) result }
+    ensures len { IfOk result (λ len. len ≡ length (tok_bytes (told labels.now token.now))) }
 {
-    if let Some(line) = write_line(buf, used, labels, token, at, depth, *reach) {
-        return Ok(line);
+    if let Some(line) = write_line(buf, fill.used, labels, token, place, fill.reach) {
+        fill.used = line.end;
+        return Ok(line.len);
     }
-    list_long_line(&buf[..used], labels, token, at, depth, text, out)?;
-    *reach = reach_behind(text);
-    let len = token.head_len(labels);
-    Ok(Line { end: 0, len })
+    list_long_line(&buf[..fill.used], labels, token, place, text, out)?;
+    *fill = Fill {
+        used: 0,
+        reach: reach_behind(text),
+    };
+    Ok(token.head_len(labels))
 }
 
 // The lines of tokens, the first of which stands at `start` and outside of all blocks. They are gathered in a buffer first.
@@ -112,44 +121,30 @@ fn list_tokens<W: Out>(
     buf: &mut [u8; CAPACITY],
     text: &mut Vec<u8>,
     out: &mut W,
-) -> Result<(), ListFault>
+) -> Listed
     requires room { W.failed out.old < 2 ^ 64 - 1 }
     requires within { AllByRecursion (IsWithin (length labels.now)) tokens.now }
     requires fits { start + toks_length (all_told labels.now tokens.now) ≤ limit }
     ensures { PutsOut W.taken W.failed out.old out.new
-        (text.old.items ++ toks_text start 0 (all_told labels.now tokens.now)) text.new.items result }
+        (text.old.items ++ toks_text start 0 (all_told labels.now tokens.now)) text.new.items
+        result }
 {
     let mut rest = tokens;
     let mut at = start;
     let mut depth = 0;
-    let mut used = 0;
-    let mut reach = reach_behind(text);
+    let mut fill = Fill {
+        used: 0,
+        reach: reach_behind(text),
+    };
     while let Some((token, after)) = rest.split_first() {
         let (here, behind) = depths(token, depth);
-        let line = list_token(labels, token, at, here, buf, used, &mut reach, text, out)?;
-        at += line.len as u32;
-        used = line.end;
+        let place = Place { at, depth: here };
+        let len = list_token(labels, token, place, buf, &mut fill, text, out)?;
+        at += len as u32;
         depth = behind;
         rest = after;
     }
-    put_buf(&buf[..used], text, out)
-}
-
-// The lines of an expression whose first instruction stands at `start`.
-fn list_expr<W: Out>(
-    expr: &Expr,
-    start: u32,
-    buf: &mut [u8; CAPACITY],
-    text: &mut Vec<u8>,
-    out: &mut W,
-) -> Result<(), ListFault>
-    requires room { W.failed out.old < 2 ^ 64 - 1 }
-    requires fits { start + length (written_expr expr.now) ≤ limit }
-    ensures { PutsOut W.taken W.failed out.old out.new
-        (text.old.items ++ expr_text start expr.now) text.new.items result }
-{
-    let (tokens, labels) = expr.tokens();
-    list_tokens(labels, tokens, start, buf, text, out)
+    put_buf(&buf[..fill.used], text, out)
 }
 
 // How many bytes local groups are, without their count.
@@ -216,7 +211,7 @@ fn list_entry<W: Out>(
     buf: &mut [u8; CAPACITY],
     text: &mut Vec<u8>,
     out: &mut W,
-) -> Result<(), ListFault>
+) -> Listed
     requires room { W.failed out.old < 2 ^ 64 - 1 }
     requires size { size ≡ length (written_body func.now.body) }
     requires fits { at + length (written_code func.now.body) ≤ limit }
@@ -227,7 +222,8 @@ fn list_entry<W: Out>(
     let locals_len = leb_len_u32(groups.len() as u32) as u64 + groups_len(groups);
     let start = at + leb_len_u32(size) as u32 + locals_len as u32;
     put_entry_head(text, index, func)?;
-    list_expr(func.body.expr(), start, buf, text, out)
+    let (tokens, labels) = func.body.expr().tokens();
+    list_tokens(labels, tokens, start, buf, text, out)
 }
 
 // The lines of all functions, behind so many imported ones; the size of the first begins at `start`.
@@ -238,12 +234,14 @@ fn list_entries<S: Shape, W: Out>(
     buf: &mut [u8; CAPACITY],
     text: &mut Vec<u8>,
     out: &mut W,
-) -> Result<(), ListFault>
+) -> Listed
     requires room { W.failed out.old < 2 ^ 64 - 1 }
     requires few { length (S.seen shape.now).funcs < 2 ^ 32 }
-    requires fits { start + length (flat_map (λ f. written_code f.body) (S.seen shape.now).funcs) ≤ limit }
+    requires fits { start + length (flat_map (λ f. written_code f.body) (S.seen shape.now).funcs)
+        ≤ limit }
     ensures { PutsOut W.taken W.failed out.old out.new
-        (text.old.items ++ entries_text imported start (S.seen shape.now).funcs) text.new.items result }
+        (text.old.items ++ entries_text imported start (S.seen shape.now).funcs) text.new.items
+        result }
 {
     let mut at = start;
     for (index, func) in shape.parts().funcs.as_slice().iter().enumerate() {
@@ -291,11 +289,7 @@ fn code_start<S: Shape>(shape: &S) -> u32
 }
 
 /// The lines of all functions.
-pub(crate) fn list_code<S: Shape, W: Out>(
-    shape: &S,
-    text: &mut Vec<u8>,
-    out: &mut W,
-) -> Result<(), ListFault>
+pub(crate) fn list_code<S: Shape, W: Out>(shape: &S, text: &mut Vec<u8>, out: &mut W) -> Listed
     requires room { W.failed out.old < 2 ^ 64 - 1 }
     ensures { PutsOut W.taken W.failed out.old out.new
         (text.old.items ++ code_text (S.seen shape.now)) text.new.items result }

@@ -1,6 +1,6 @@
 //! The lines of tokens in a buffer, but for a token that has labels.
 
-ghost use Rattle.std.specs.Prelude.{◌≡◌, ◌<◌, ◌≤◌, ◌+◌, ◌*◌, ◌^◌, ◌++◌, codes, length, take, replicate, IfSome, IfNone};
+ghost use Rattle.std.specs.Prelude.{◌≡◌, ◌<◌, ◌≤◌, ◌+◌, ◌*◌, ◌^◌, ◌++◌, codes, length, take, replicate, Some, IfSome, IfNone};
 ghost use Rattle.std.specs.Fmt.{signed_decimal};
 ghost use Rattle.wk_bytes.specs.HexDigits.{hex_digits};
 ghost use Rattle.wk_bytes.specs.Short.{short, short_signed};
@@ -15,6 +15,7 @@ ghost use Rattle.wk_list.specs.TokenText.{tok_text, behind_name, operands_text};
 use crate::line_buffer::{
     CAPACITY, write, write_hex8, write_margin, write_number, write_signed, write_word,
 };
+use crate::token::Place;
 use crate::typetext::valtype_name;
 use wk_body::Operands;
 use wk_bytes::{leb_len_s64, leb_len_u32};
@@ -120,60 +121,53 @@ fn write_type(buf: &mut [u8; CAPACITY], at: usize, ty: BlockType) -> usize
     }
 }
 
+// A line that ends there, of a token of that length.
+#[inline(always)]
+fn line_to(end: usize, len: u64) -> Option<Line>
+    ensures { result ≡ Some (record { end = end; len = len }) }
+{
+    Some(Line { end, len })
+}
+
 // What is listed of operands, or nothing for labels.
 #[inline(always)]
 fn write_operands(buf: &mut [u8; CAPACITY], at: usize, operands: Operands<'_>) -> Option<Line>
     requires { at + 64 ≤ CAPACITY }
     ensures short { IfSome result (λ line. line.end ≤ at + 60) }
-    ensures text { IfSome result (λ line. take line.end buf.new ≡ take at buf.old ++ operands_text (operands_of operands.entry)) }
-    ensures len { IfSome result (λ line. line.len ≡ 1 + length (operand_bytes (operands_of operands.entry))) }
+    ensures text { IfSome result
+        (λ line. take line.end buf.new
+        ≡ take at buf.old ++ operands_text (operands_of operands.entry)) }
+    ensures len { IfSome result
+        (λ line. line.len ≡ 1 + length (operand_bytes (operands_of operands.entry))) }
     ensures none { IfNone result (take at buf.new ≡ take at buf.old) }
 {
     match operands {
-        Operands::Nothing => Some(Line { end: at, len: 1 }),
-        Operands::Reserved => Some(Line { end: at, len: 2 }),
-        Operands::Index(x) => {
-            let end = write_field(buf, at, *b" ", x);
-            let len = 1 + unsigned_len(x);
-            Some(Line { end, len })
-        }
+        Operands::Nothing => line_to(at, 1),
+        Operands::Reserved => line_to(at, 2),
+        Operands::Index(x) => line_to(write_field(buf, at, *b" ", x), 1 + unsigned_len(x)),
         Operands::IndexReserved(x) => {
-            let end = write_field(buf, at, *b" type=", x);
-            let len = 2 + unsigned_len(x);
-            Some(Line { end, len })
+            line_to(write_field(buf, at, *b" type=", x), 2 + unsigned_len(x))
         }
         Operands::Labels { .. } => None,
         Operands::Memarg { align, offset } => {
             let behind = write_field(buf, at, *b" align=", align);
             let end = write_field(buf, behind, *b" offset=", offset);
-            let len = 1 + unsigned_len(align) + unsigned_len(offset);
-            Some(Line { end, len })
+            line_to(end, 1 + unsigned_len(align) + unsigned_len(offset))
         }
         Operands::Signed32(z) => {
-            let end = write_integer(buf, at, i64::from(z));
-            let len = 1 + signed_len(i64::from(z));
-            Some(Line { end, len })
+            let z = i64::from(z);
+            line_to(write_integer(buf, at, z), 1 + signed_len(z))
         }
-        Operands::Signed64(z) => {
-            let end = write_integer(buf, at, z);
-            let len = 1 + signed_len(z);
-            Some(Line { end, len })
-        }
+        Operands::Signed64(z) => line_to(write_integer(buf, at, z), 1 + signed_len(z)),
         Operands::Word32(word) => {
             let digits = write(buf, at, b" 0x");
-            let end = write_hex8(buf, digits, word);
-            Some(Line { end, len: 5 })
+            line_to(write_hex8(buf, digits, word), 5)
         }
         Operands::Word64(word) => {
             let digits = write(buf, at, b" 0x");
-            let end = write_hex16(buf, digits, word);
-            Some(Line { end, len: 9 })
+            line_to(write_hex16(buf, digits, word), 9)
         }
-        Operands::Opening(ty) => {
-            let end = write_type(buf, at, ty);
-            let len = 1 + type_len(ty);
-            Some(Line { end, len })
-        }
+        Operands::Opening(ty) => line_to(write_type(buf, at, ty), 1 + type_len(ty)),
     }
 }
 
@@ -188,8 +182,11 @@ fn write_immediates(
     requires room { at + 64 ≤ CAPACITY }
     requires within { IsWithin (length labels.now) token.now }
     ensures short { IfSome result (λ line. line.end ≤ at + 60) }
-    ensures text { IfSome result (λ line. take line.end buf.new ≡ take at buf.old ++ behind_name (told labels.now token.now)) }
-    ensures len { IfSome result (λ line. line.len ≡ length (tok_bytes (told labels.now token.now))) }
+    ensures text { IfSome result
+        (λ line. take line.end buf.new
+        ≡ take at buf.old ++ behind_name (told labels.now token.now)) }
+    ensures len { IfSome result
+        (λ line. line.len ≡ length (tok_bytes (told labels.now token.now))) }
     ensures none { IfNone result (take at buf.new ≡ take at buf.old) }
 {
     let (_opcode, operands) = token.operands(labels);
@@ -198,20 +195,23 @@ fn write_immediates(
 
 // The front of a line: a space, the offset, and two spaces for each open block.
 #[inline(always)]
-fn write_front(buf: &mut [u8; CAPACITY], used: usize, at: u32, depth: usize) -> usize
-    requires shallow { depth < 2 ^ 32 }
-    requires room { used + 2 * depth + 43 ≤ CAPACITY }
-    ensures end { result ≡ used + 2 * depth + 11 }
-    ensures text { take result buf.new ≡ take used buf.old ++ (codes " " ++ (hex_digits 8 at ++ (codes ": " ++ replicate (2 * depth) 32))) }
+fn write_front(buf: &mut [u8; CAPACITY], used: usize, place: Place) -> usize
+    requires shallow { place.depth < 2 ^ 32 }
+    requires room { used + 2 * place.depth + 43 ≤ CAPACITY }
+    ensures end { result ≡ used + 2 * place.depth + 11 }
+    ensures text { take result buf.new
+        ≡ take used buf.old
+        ++ (codes " "
+        ++ (hex_digits 8 place.at ++ (codes ": " ++ replicate (2 * place.depth) 32))) }
 {
     let digits = write(buf, used, b" ");
-    let colon = write_hex8(buf, digits, at);
+    let colon = write_hex8(buf, digits, place.at);
     let space = write(buf, colon, b":");
     let margin = write(buf, space, b" ");
-    write_margin(buf, margin, 2 * depth)
+    write_margin(buf, margin, 2 * place.depth)
 }
 
-/// The line of a token at an offset and a depth, behind so many bytes of a buffer, or nothing for a token that has labels,
+/// The line of a token at a place, behind so many bytes of a buffer, or nothing for a token that has labels,
 /// which lie in the pool, and where its name would reach too far.
 #[inline(always)]
 #[tactic(auto, unfolding(crate::specs::CodeText::code_line))]
@@ -220,24 +220,27 @@ pub(crate) fn write_line(
     used: usize,
     labels: &[u32],
     token: &Token,
-    at: u32,
-    depth: usize,
+    place: Place,
     reach: usize,
 ) -> Option<Line>
     requires within { IsWithin (length labels.now) token.now }
-    requires shallow { depth < 2 ^ 32 }
+    requires shallow { place.depth < 2 ^ 32 }
     requires inside { used ≤ CAPACITY }
     requires reach { reach ≤ NAME_LIMIT }
     ensures inside { IfSome result (λ line. line.end ≤ CAPACITY) }
-    ensures text { IfSome result (λ line. take line.end buf.new ≡ take used buf.old ++ code_line at depth (tok_text (told labels.now token.now))) }
-    ensures len { IfSome result (λ line. line.len ≡ length (tok_bytes (told labels.now token.now))) }
+    ensures text { IfSome result
+        (λ line. take line.end buf.new
+        ≡ take used buf.old
+        ++ code_line place.at place.depth (tok_text (told labels.now token.now))) }
+    ensures len { IfSome result
+        (λ line. line.len ≡ length (tok_bytes (told labels.now token.now))) }
     ensures none { IfNone result (take used buf.new ≡ take used buf.old) }
 {
     let name = token.name().as_bytes();
-    if used + 2 * depth + name.len() > reach {
+    if used + 2 * place.depth + name.len() > reach {
         return None;
     }
-    let front = write_front(buf, used, at, depth);
+    let front = write_front(buf, used, place);
     let behind = write_word(buf, front, name);
     let Line { end, len } = write_immediates(buf, behind, labels, token)?;
     let end = write(buf, end, b"\n");

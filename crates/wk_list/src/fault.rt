@@ -15,6 +15,9 @@ pub enum ListFault {
     Memory,
 }
 
+/// What a call that lists answers.
+pub(crate) type Listed = Result<(), ListFault>;
+
 impl From<AllocError> for ListFault {
     ghost from_gives = { λ _ e. e ≡ no_memory };
 

@@ -11,7 +11,7 @@ ghost use Rattle.wk_list.specs.Sketches.{IsSketch};
 ghost use Rattle.wk_list.specs.Taken.{PutsOut};
 ghost use Rattle.wk_list.specs.Headers.{count_text, start_text, tail_by, header_by, custom_header, custom_frame, customs_of, placed, headers_text, contents_start};
 
-use crate::fault::ListFault;
+use crate::fault::{ListFault, Listed};
 use crate::header::put_header;
 use crate::page::spill;
 use crate::sketch::Sketch;
@@ -73,8 +73,10 @@ fn put_section(
     at: u32,
     size: u32,
 ) -> Result<(), OutOfMemory>
-    requires { (m : Seen) × (size ≡ length (contents_by (lists_of m) (of_number id))) × (at + length (section_of m id) ≤ limit) }
-    ensures { (m : Seen) → IsSketch m parts.now → size ≡ length (contents_by (lists_of m) (of_number id))
+    requires { (m : Seen) × (size ≡ length (contents_by (lists_of m) (of_number id)))
+        × (at + length (section_of m id) ≤ limit) }
+    ensures { (m : Seen) → IsSketch m parts.now
+        → size ≡ length (contents_by (lists_of m) (of_number id))
         → OnOk result (text.new.items ≡ text.old.items ++ header_by m at (of_number id)) }
 {
     if size == 0 {
@@ -88,8 +90,10 @@ fn put_section(
 
 /// Where the section of an id ends, which begins at an offset and has contents of that length.
 pub(crate) fn section_end(id: u8, at: u32, size: u32) -> u32
-    requires { (m : Seen) × (size ≡ length (contents_by (lists_of m) (of_number id))) × (at + length (section_of m id) ≤ limit) }
-    ensures { (m : Seen) → size ≡ length (contents_by (lists_of m) (of_number id)) → result ≡ at + length (section_of m id) }
+    requires { (m : Seen) × (size ≡ length (contents_by (lists_of m) (of_number id)))
+        × (at + length (section_of m id) ≤ limit) }
+    ensures { (m : Seen) → size ≡ length (contents_by (lists_of m) (of_number id))
+        → result ≡ at + length (section_of m id) }
 {
     if size == 0 {
         return at;
@@ -120,9 +124,12 @@ fn list_customs<S: Sketch, W: Out>(
 ) -> Result<u32, ListFault>
     requires room { W.failed out.old < 2 ^ 64 - 1 }
     requires fits { at + length (customs_at place (S.seen sketch.now).customs) ≤ limit }
-    ensures end { IfOk result (λ end. end ≡ at + length (customs_at place (S.seen sketch.now).customs)) }
+    ensures end { IfOk result
+        (λ end. end ≡ at + length (customs_at place (S.seen sketch.now).customs)) }
     ensures puts { PutsOut W.taken W.failed out.old out.new
-        (text.old.items ++ placed custom_frame custom_header at (customs_of place (S.seen sketch.now).customs)) text.new.items result }
+        (text.old.items
+        ++ placed custom_frame custom_header at (customs_of place (S.seen sketch.now).customs))
+        text.new.items result }
 {
     let mut next = at;
     for (index, custom) in sketch.parts().customs.as_slice().iter().enumerate() {
@@ -137,11 +144,7 @@ fn list_customs<S: Sketch, W: Out>(
 }
 
 /// The lines of all sections.
-pub(crate) fn list_headers<S: Sketch, W: Out>(
-    sketch: &S,
-    text: &mut Vec<u8>,
-    out: &mut W,
-) -> Result<(), ListFault>
+pub(crate) fn list_headers<S: Sketch, W: Out>(sketch: &S, text: &mut Vec<u8>, out: &mut W) -> Listed
     requires room { W.failed out.old < 2 ^ 64 - 1 }
     ensures { PutsOut W.taken W.failed out.old out.new
         (text.old.items ++ headers_text (S.seen sketch.now)) text.new.items result }

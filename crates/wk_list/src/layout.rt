@@ -32,7 +32,8 @@ impl<'a> Model for Layout<'a> {
 
     ghost view = { λ l. l.plain };
 
-    ghost invariant = { λ l. (l.bodies.items ≡ body_sizes l.plain.funcs) × (l.code_len ≡ length (code_contents l.plain.funcs)) };
+    ghost invariant = { λ l. (l.bodies.items ≡ body_sizes l.plain.funcs)
+        × (l.code_len ≡ length (code_contents l.plain.funcs)) };
 }
 
 impl<'a> Layout<'a> {
@@ -43,7 +44,8 @@ impl<'a> Layout<'a> {
     /// `TooLarge` where the module does not fit: its written form has more than 2,147,483,647 bytes; and else `Memory` where a
     /// growth is refused.
     pub fn of(alloc: Global, whole: &'a Module) -> Result<Layout<'a>, EncodeFault>
-        ensures { MatchResult result (λ l. (l ≡ whole.now) × Fits whole.now) (Unwritten (encoded whole.now)) }
+        ensures { MatchResult result (λ l. (l ≡ whole.now) × Fits whole.now)
+            (Unwritten (encoded whole.now)) }
     {
         let Measures { bodies, codes, .. } = measure(alloc, whole)?;
         Ok(Layout {

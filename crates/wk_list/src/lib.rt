@@ -32,7 +32,6 @@ mod hexadecimal;
 mod imports;
 mod layout;
 mod line_buffer;
-mod lines;
 mod listing;
 mod page;
 mod plain;

@@ -8,7 +8,7 @@ ghost use Rattle.wk_list.specs.Listing.{listing, lists_bodies};
 
 use crate::code::list_code;
 use crate::details::list_details;
-use crate::fault::ListFault;
+use crate::fault::{ListFault, Listed};
 use crate::headers::list_headers;
 use crate::page::flush;
 use crate::shape::Shape;
@@ -40,22 +40,16 @@ impl Part {
 }
 
 // Gathers the lines of a part, and puts out those that are many.
-fn list_part<S: Shape, W: Out>(
-    alloc: Global,
-    shape: &S,
-    part: Part,
-    text: &mut Vec<u8>,
-    out: &mut W,
-) -> Result<(), ListFault>
+fn list_part<S: Shape, W: Out>(shape: &S, part: Part, text: &mut Vec<u8>, out: &mut W) -> Listed
     requires room { W.failed out.old < 2 ^ 64 - 1 }
     ensures { PutsOut W.taken W.failed out.old out.new
         (text.old.items ++ listing (S.seen shape.now) part) text.new.items result }
 {
     match part {
         Part::Headers => list_headers(&Whole { shape }, text, out),
-        Part::Details => list_details(alloc, &Whole { shape }, text, out),
+        Part::Details => list_details(&Whole { shape }, text, out),
         Part::Code => list_code(shape, text, out),
-        Part::Uses => list_uses(alloc, shape, text, out),
+        Part::Uses => list_uses(shape, text, out),
     }
 }
 
@@ -86,11 +80,13 @@ pub fn list<S: Shape, W: Out>(
     out: &mut W,
 ) -> Result<(), ListFault>
     requires room { W.failed out.old < 2 ^ 64 - 1 }
-    ensures ok { OnOk result (Appends (W.taken out.old) (W.taken out.new) (listing (S.seen shape.now) part)) }
-    ensures err { OnErr result (TakesFront (W.taken out.old) (W.taken out.new) (listing (S.seen shape.now) part)) }
+    ensures ok { OnOk result
+        (Appends (W.taken out.old) (W.taken out.new) (listing (S.seen shape.now) part)) }
+    ensures err { OnErr result
+        (TakesFront (W.taken out.old) (W.taken out.new) (listing (S.seen shape.now) part)) }
     ensures failures { W.failed out.new ≡ failed_after (W.failed out.old) result }
 {
     let mut text = Vec::new(alloc);
-    list_part(alloc, shape, part, &mut text, out)?;
+    list_part(shape, part, &mut text, out)?;
     flush(&text, out)
 }

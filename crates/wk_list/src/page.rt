@@ -5,7 +5,7 @@ ghost use Rattle.std.specs.Io.KnownBytes.{Appends};
 ghost use Rattle.wk_bytes.specs.Taken.{TakesFront};
 ghost use Rattle.wk_list.specs.Taken.{PutsOut, failed_after};
 
-use crate::fault::ListFault;
+use crate::fault::Listed;
 use wk_bytes::{Out, put_all};
 
 /// How many bytes of text are worth a call of the [`Out`].
@@ -21,7 +21,7 @@ pub(crate) fn len_to_flush(text: &[u8]) -> usize
 /// Puts out the text that was gathered, if it is long.
 ///
 /// What is left of it stays. After a fault a beginning of it was taken.
-pub(crate) fn spill<W: Out>(text: &mut Vec<u8>, out: &mut W) -> Result<(), ListFault>
+pub(crate) fn spill<W: Out>(text: &mut Vec<u8>, out: &mut W) -> Listed
     requires { W.failed out.old < 2 ^ 64 - 1 }
     ensures { PutsOut W.taken W.failed out.old out.new text.old.items text.new.items result }
 {
@@ -34,7 +34,7 @@ pub(crate) fn spill<W: Out>(text: &mut Vec<u8>, out: &mut W) -> Result<(), ListF
 }
 
 /// Puts out all of the text that was gathered. After a fault a beginning of it was taken.
-pub(crate) fn flush<W: Out>(text: &[u8], out: &mut W) -> Result<(), ListFault>
+pub(crate) fn flush<W: Out>(text: &[u8], out: &mut W) -> Listed
     requires { W.failed out.old < 2 ^ 64 - 1 }
     ensures ok { OnOk result (Appends (W.taken out.old) (W.taken out.new) text.now) }
     ensures err { OnErr result (TakesFront (W.taken out.old) (W.taken out.new) text.now) }

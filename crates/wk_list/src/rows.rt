@@ -1,14 +1,27 @@
 //! The lines of the details listing, one for each item of a section.
 
-ghost use Rattle.std.specs.Prelude.{◌≡◌, ◌++◌, OnOk};
-ghost use Rattle.wk_list.specs.Details.{item_text, field, code_field, named};
+ghost use Rattle.std.specs.Prelude.{◌≡◌, ◌==◌, ◌++◌, if◌then◌else◌, [], codes, decimal, OnOk};
+ghost use Rattle.hex.specs.Hex.{encode_lower};
+ghost use Rattle.wk_list.specs.Text.{spaced, joined, functype_text, limits_text, globaltype_text, kind_name};
+ghost use Rattle.wk_list.specs.Details.{item_text, field, code_field, named, heading};
 
-use crate::lines::Lines;
+use crate::header::section_name;
 use crate::text::{put_hex, put_indexed, put_name, put_number, put_spaced};
 use crate::typetext::{kind_name, put_functype, put_globaltype, put_joined, put_limits};
-use std::alloc::Global;
 use wk_bytes::OutOfMemory;
 use wk_module::{DataSeg, Elem, Export, Expr, Func, FuncType, GlobalDef, Limits, append_expr};
+
+/// The heading of a section of so many items: nothing where there are none.
+pub(crate) fn put_heading(text: &mut Vec<u8>, id: u8, count: usize) -> Result<(), OutOfMemory>
+    ensures { OnOk result
+        (text.new.items ≡ text.old.items ++ (if count == 0 then [] else heading id count)) }
+{
+    if count == 0 {
+        return Ok(());
+    }
+    put_indexed(text, section_name(id), count as u64)?;
+    Ok(text.extend_from_slice(b":\n")?)
+}
 
 /// An item of a list, as ` - type[0]`.
 pub(crate) fn put_item(text: &mut Vec<u8>, name: &str, index: u64) -> Result<(), OutOfMemory>
@@ -35,238 +48,104 @@ pub(crate) fn put_named(text: &mut Vec<u8>, name: &str) -> Result<(), OutOfMemor
 }
 
 // An expression behind its label, in its written form.
-fn put_code(alloc: Global, text: &mut Vec<u8>, label: &str, expr: &Expr) -> Result<(), OutOfMemory>
+fn put_code(text: &mut Vec<u8>, label: &str, expr: &Expr) -> Result<(), OutOfMemory>
     ensures { OnOk result (text.new.items ≡ text.old.items ++ code_field label.now expr.now) }
 {
-    let mut bytes = Vec::new(alloc);
+    let mut bytes = Vec::new(*text.allocator());
     append_expr(&mut bytes, expr)?;
     text.extend_from_slice(label.as_bytes())?;
     put_hex(text, &bytes)
 }
 
-/// Types.
-#[derive(Clone, Copy)]
-pub(crate) struct TypeRows;
+/// An item of a section.
+pub(crate) trait Row {
+    ghost use Rattle.std.specs.Prelude.{◌≡◌, ◌++◌, ℕ, List, OnOk};
 
-impl Lines for TypeRows {
-    type Item = FuncType;
+    // What stands behind its name and its index, and ends its line.
+    ghost rest: { Self → List ℕ };
 
-    ghost use Rattle.wk_list.specs.Details.{type_line};
+    /// Puts what stands behind its name and its index, and ends its line.
+    fn put_row(&self, text: &mut Vec<u8>) -> Result<(), OutOfMemory>
+        ensures { OnOk result (text.new.items ≡ text.old.items ++ rest self.now) };
+}
 
-    ghost line = { λ _ index t. type_line index t };
+impl Row for FuncType {
+    ghost rest = { λ ty. codes " " ++ (functype_text ty ++ codes "\n") };
 
-    fn put(
-        &self,
-        _alloc: Global,
-        text: &mut Vec<u8>,
-        index: u32,
-        ty: &FuncType,
-    ) -> Result<(), OutOfMemory> {
-        put_item(text, "type", u64::from(index))?;
+    fn put_row(&self, text: &mut Vec<u8>) -> Result<(), OutOfMemory> {
         text.extend_from_slice(b" ")?;
-        put_functype(text, ty)?;
-        text.extend_from_slice(b"\n")?;
-        Ok(())
+        put_functype(text, self)?;
+        Ok(text.extend_from_slice(b"\n")?)
     }
 }
 
-/// The types of functions, which come behind so many imported ones.
-#[derive(Clone, Copy)]
-pub(crate) struct FuncRows {
-    pub(crate) imported: u32,
-}
+impl Row for Func {
+    ghost rest = { λ f. field (codes " type=") f.ty ++ codes "\n" };
 
-impl Lines for FuncRows {
-    type Item = Func;
-
-    ghost use Rattle.std.specs.Prelude.{◌+◌};
-    ghost use Rattle.wk_list.specs.Details.{func_line};
-
-    ghost line = { λ rows index f. func_line (rows.imported + index) f };
-
-    fn put(
-        &self,
-        _alloc: Global,
-        text: &mut Vec<u8>,
-        index: u32,
-        func: &Func,
-    ) -> Result<(), OutOfMemory> {
-        let FuncRows { imported } = *self;
-        put_item(text, "func", u64::from(imported) + u64::from(index))?;
-        put_field(text, " type=", func.ty)?;
-        text.extend_from_slice(b"\n")?;
-        Ok(())
+    fn put_row(&self, text: &mut Vec<u8>) -> Result<(), OutOfMemory> {
+        put_field(text, " type=", self.ty)?;
+        Ok(text.extend_from_slice(b"\n")?)
     }
 }
 
-/// Tables, which come behind so many imported ones.
-#[derive(Clone, Copy)]
-pub(crate) struct TableRows {
-    pub(crate) imported: u32,
-}
+/// A table or a memory.
+impl Row for Limits {
+    ghost rest = { λ l. limits_text l ++ codes "\n" };
 
-impl Lines for TableRows {
-    type Item = Limits;
-
-    ghost use Rattle.std.specs.Prelude.{◌+◌};
-    ghost use Rattle.wk_list.specs.Details.{table_line};
-
-    ghost line = { λ rows index l. table_line (rows.imported + index) l };
-
-    fn put(
-        &self,
-        _alloc: Global,
-        text: &mut Vec<u8>,
-        index: u32,
-        table: &Limits,
-    ) -> Result<(), OutOfMemory> {
-        let TableRows { imported } = *self;
-        put_item(text, "table", u64::from(imported) + u64::from(index))?;
-        put_limits(text, table)?;
-        text.extend_from_slice(b"\n")?;
-        Ok(())
+    fn put_row(&self, text: &mut Vec<u8>) -> Result<(), OutOfMemory> {
+        put_limits(text, self)?;
+        Ok(text.extend_from_slice(b"\n")?)
     }
 }
 
-/// Memories, which come behind so many imported ones.
-#[derive(Clone, Copy)]
-pub(crate) struct MemoryRows {
-    pub(crate) imported: u32,
-}
+impl Row for GlobalDef {
+    ghost rest = { λ g. globaltype_text g.ty
+        ++ (code_field (codes " init=") g.init ++ codes "\n") };
 
-impl Lines for MemoryRows {
-    type Item = Limits;
-
-    ghost use Rattle.std.specs.Prelude.{◌+◌};
-    ghost use Rattle.wk_list.specs.Details.{memory_line};
-
-    ghost line = { λ rows index l. memory_line (rows.imported + index) l };
-
-    fn put(
-        &self,
-        _alloc: Global,
-        text: &mut Vec<u8>,
-        index: u32,
-        memory: &Limits,
-    ) -> Result<(), OutOfMemory> {
-        let MemoryRows { imported } = *self;
-        put_item(text, "memory", u64::from(imported) + u64::from(index))?;
-        put_limits(text, memory)?;
-        text.extend_from_slice(b"\n")?;
-        Ok(())
+    fn put_row(&self, text: &mut Vec<u8>) -> Result<(), OutOfMemory> {
+        put_globaltype(text, self.ty)?;
+        put_code(text, " init=", &self.init)?;
+        Ok(text.extend_from_slice(b"\n")?)
     }
 }
 
-/// Globals, which come behind so many imported ones.
-#[derive(Clone, Copy)]
-pub(crate) struct GlobalRows {
-    pub(crate) imported: u32,
-}
+impl Row for Export {
+    ghost rest = { λ e. named e.name
+        ++ (codes " " ++ (kind_name e.kind ++ (spaced e.index ++ codes "\n"))) };
 
-impl Lines for GlobalRows {
-    type Item = GlobalDef;
-
-    ghost use Rattle.std.specs.Prelude.{◌+◌};
-    ghost use Rattle.wk_list.specs.Details.{global_line};
-
-    ghost line = { λ rows index g. global_line (rows.imported + index) g };
-
-    fn put(
-        &self,
-        alloc: Global,
-        text: &mut Vec<u8>,
-        index: u32,
-        global: &GlobalDef,
-    ) -> Result<(), OutOfMemory> {
-        let GlobalRows { imported } = *self;
-        put_item(text, "global", u64::from(imported) + u64::from(index))?;
-        put_globaltype(text, global.ty)?;
-        put_code(alloc, text, " init=", &global.init)?;
-        text.extend_from_slice(b"\n")?;
-        Ok(())
-    }
-}
-
-/// Exports.
-#[derive(Clone, Copy)]
-pub(crate) struct ExportRows;
-
-impl Lines for ExportRows {
-    type Item = Export;
-
-    ghost use Rattle.wk_list.specs.Details.{export_line};
-
-    ghost line = { λ _ index e. export_line index e };
-
-    fn put(
-        &self,
-        alloc: Global,
-        text: &mut Vec<u8>,
-        index: u32,
-        export: &Export,
-    ) -> Result<(), OutOfMemory> {
-        put_item(text, "export", u64::from(index))?;
-        put_named(text, export.name.as_str())?;
+    fn put_row(&self, text: &mut Vec<u8>) -> Result<(), OutOfMemory> {
+        put_named(text, self.name.as_str())?;
         text.extend_from_slice(b" ")?;
-        text.extend_from_slice(kind_name(export.kind).as_bytes())?;
-        put_spaced(text, export.index)?;
-        text.extend_from_slice(b"\n")?;
-        Ok(())
+        text.extend_from_slice(kind_name(self.kind).as_bytes())?;
+        put_spaced(text, self.index)?;
+        Ok(text.extend_from_slice(b"\n")?)
     }
 }
 
-/// Element segments.
-#[derive(Clone, Copy)]
-pub(crate) struct ElemRows;
+impl Row for Elem {
+    ghost rest = { λ e. field (codes " table=") e.table
+        ++ (code_field (codes " offset=") e.offset
+        ++ (codes " funcs=" ++ (joined decimal e.funcs ++ codes "\n"))) };
 
-impl Lines for ElemRows {
-    type Item = Elem;
-
-    ghost use Rattle.wk_list.specs.Details.{elem_line};
-
-    ghost line = { λ _ index e. elem_line index e };
-
-    fn put(
-        &self,
-        alloc: Global,
-        text: &mut Vec<u8>,
-        index: u32,
-        elem: &Elem,
-    ) -> Result<(), OutOfMemory> {
-        put_item(text, "elem", u64::from(index))?;
-        put_field(text, " table=", elem.table)?;
-        put_code(alloc, text, " offset=", &elem.offset)?;
+    fn put_row(&self, text: &mut Vec<u8>) -> Result<(), OutOfMemory> {
+        put_field(text, " table=", self.table)?;
+        put_code(text, " offset=", &self.offset)?;
         text.extend_from_slice(b" funcs=")?;
-        put_joined(text, elem.funcs.as_slice())?;
-        text.extend_from_slice(b"\n")?;
-        Ok(())
+        put_joined(text, self.funcs.as_slice())?;
+        Ok(text.extend_from_slice(b"\n")?)
     }
 }
 
-/// Data segments.
-#[derive(Clone, Copy)]
-pub(crate) struct DataRows;
+impl Row for DataSeg {
+    ghost rest = { λ d. field (codes " memory=") d.memory
+        ++ (code_field (codes " offset=") d.offset
+        ++ (codes " bytes=" ++ (encode_lower d.bytes ++ codes "\n"))) };
 
-impl Lines for DataRows {
-    type Item = DataSeg;
-
-    ghost use Rattle.wk_list.specs.Details.{data_line};
-
-    ghost line = { λ _ index d. data_line index d };
-
-    fn put(
-        &self,
-        alloc: Global,
-        text: &mut Vec<u8>,
-        index: u32,
-        data: &DataSeg,
-    ) -> Result<(), OutOfMemory> {
-        put_item(text, "data", u64::from(index))?;
-        put_field(text, " memory=", data.memory)?;
-        put_code(alloc, text, " offset=", &data.offset)?;
+    fn put_row(&self, text: &mut Vec<u8>) -> Result<(), OutOfMemory> {
+        put_field(text, " memory=", self.memory)?;
+        put_code(text, " offset=", &self.offset)?;
         text.extend_from_slice(b" bytes=")?;
-        put_hex(text, data.bytes.as_slice())?;
-        text.extend_from_slice(b"\n")?;
-        Ok(())
+        put_hex(text, self.bytes.as_slice())?;
+        Ok(text.extend_from_slice(b"\n")?)
     }
 }

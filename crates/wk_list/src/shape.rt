@@ -33,10 +33,14 @@ pub trait Shape {
     /// How many bytes the contents of a custom section have.
     fn custom_len(&self, index: usize) -> u32
         requires { index < length (seen self.now).customs }
-        ensures { (other : CustomSection) → result ≡ length (written_custom (slice_index_or (seen self.now).customs index other)) };
+        ensures { (other : CustomSection)
+            → result
+            ≡ length (written_custom (slice_index_or (seen self.now).customs index other)) };
 
     /// How many bytes the code of a function that the module defines has, without its size.
     fn body_len(&self, index: usize) -> u32
         requires { index < length (seen self.now).funcs }
-        ensures { (other : Function) → result ≡ length (written_body (slice_index_or (seen self.now).funcs index other).body) };
+        ensures { (other : Function)
+            → result
+            ≡ length (written_body (slice_index_or (seen self.now).funcs index other).body) };
 }

@@ -3,9 +3,10 @@
 ghost use Rattle.std.specs.Prelude.{◌≡◌, ◌<◌, ◌+◌, ◌-◌, ◌^◌, ◌++◌, ◌∷◌, [], List, length};
 ghost use Rattle.wk_module.specs.declared.types.Import.{Import as Imported};
 ghost use Rattle.wk_module.specs.Items.{desc_kind};
-ghost use Rattle.wk_list.specs.Spaces.{is_of, count_of, AreCounted};
+ghost use Rattle.wk_module.specs.Sections.{of_number};
+ghost use Rattle.wk_list.specs.Spaces.{count_of, first_index, AreCounted};
 
-use wk_module::{Import, ImportDesc, Kind};
+use wk_module::{Import, ImportDesc, Kind, import_count, section_id};
 
 /// How many of each kind were imported so far.
 #[derive(Clone, Copy, Debug)]
@@ -16,37 +17,27 @@ pub(crate) struct Counts {
     pub(crate) globals: u64,
 }
 
-/// The kind of what is imported.
-pub(crate) fn kind_of(desc: &ImportDesc) -> Kind
-    ensures { result ≡ desc_kind desc.now }
-{
-    match desc {
-        ImportDesc::Func(_) => Kind::Func,
-        ImportDesc::Table(_) => Kind::Table,
-        ImportDesc::Memory(_) => Kind::Memory,
-        ImportDesc::Global(_) => Kind::Global,
-    }
-}
-
-// Whether what is imported is of the kind.
-fn is_of(kind: Kind, desc: &ImportDesc) -> bool
-    ensures { result ≡ is_of kind desc.now }
-{
-    kind_of(desc) == kind
-}
-
 /// How many imports are of the kind.
+#[tactic(auto, using(crate::proofs::Counting::count_le, crate::proofs::Counting::counted_of))]
 pub(crate) fn count_of(kind: Kind, imports: &[Import]) -> u32
     requires { length imports.now < 2 ^ 32 }
     ensures { result ≡ count_of kind imports.now }
 {
-    let mut count = 0;
-    for import in imports {
-        if is_of(kind, &import.desc) {
-            count += 1;
-        }
+    import_count(imports, kind) as u32
+}
+
+/// The index of the first item of the section of an id: what is imported of its kind comes first.
+pub(crate) fn first_index(id: u8, imports: &[Import]) -> u32
+    requires { length imports.now < 2 ^ 32 }
+    ensures { result ≡ first_index (of_number id) imports.now }
+{
+    match id {
+        section_id::FUNCTION => count_of(Kind::Func, imports),
+        section_id::TABLE => count_of(Kind::Table, imports),
+        section_id::MEMORY => count_of(Kind::Memory, imports),
+        section_id::GLOBAL => count_of(Kind::Global, imports),
+        _ => 0,
     }
-    count
 }
 
 // Counts one more. Answers how many there were before.
@@ -76,9 +67,12 @@ impl Counts {
     /// The index that an import has in the space of its kind; it is counted from now on.
     #[tactic(auto, using(crate::proofs::Counting::count_le))]
     pub(crate) fn take(&mut self, desc: &ImportDesc) -> u64
-        requires { (before : List Imported) × AreCounted self.old before × (length before < 2 ^ 32) }
-        ensures index { (before : List Imported) → AreCounted self.old before → result ≡ count_of (desc_kind desc.now) before }
-        ensures counted { (before : List Imported) (import : Imported) → import.desc ≡ desc.now → AreCounted self.old before → AreCounted self.new (before ++ import ∷ []) }
+        requires { (before : List Imported) × AreCounted self.old before
+            × (length before < 2 ^ 32) }
+        ensures index { (before : List Imported) → AreCounted self.old before
+            → result ≡ count_of (desc_kind desc.now) before }
+        ensures counted { (before : List Imported) (import : Imported) → import.desc ≡ desc.now
+            → AreCounted self.old before → AreCounted self.new (before ++ import ∷ []) }
     {
         match desc {
             ImportDesc::Func(_) => count_one(&mut self.funcs),

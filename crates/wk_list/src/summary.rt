@@ -13,7 +13,7 @@ ghost use Rattle.wk_list.specs.Listing.{listing, lists_bodies};
 ghost use Rattle.wk_list.specs.Taken.{PutsOut, failed_after};
 
 use crate::details::list_details;
-use crate::fault::ListFault;
+use crate::fault::{ListFault, Listed};
 use crate::headers::list_headers;
 use crate::listing::Part;
 use crate::page::flush;
@@ -68,7 +68,8 @@ impl<'a> Summary<'a> {
         ensures only { IfOk result
             (λ m. (n : PartsOf) → n.profile ≡ profile → Spells bytes.now n → n ≡ m) }
         ensures fits { IfOk result (λ m. Fits m) }
-        ensures refused { IfErr result (λ e. e.kind ≢ ReadKind.Memory → SpellsNone profile bytes.now) }
+        ensures refused { IfErr result
+            (λ e. e.kind ≢ ReadKind.Memory → SpellsNone profile bytes.now) }
         ensures fault { IfErr result (λ e. StandsIn bytes.now e) }
     {
         // The proof asks for what this says of modules: one that is read is shaped and fits.
@@ -109,12 +110,11 @@ impl<'a> Sketch for Summary<'a> {
 
 // Gathers the lines of a part that tells nothing of what stands in bodies, and puts out those that are many.
 fn list_summary_part<W: Out>(
-    alloc: Global,
     summary: &Summary<'_>,
     part: Part,
     text: &mut Vec<u8>,
     out: &mut W,
-) -> Result<(), ListFault>
+) -> Listed
     requires room { W.failed out.old < 2 ^ 64 - 1 }
     requires part { lists_bodies part ≡ false }
     ensures { PutsOut W.taken W.failed out.old out.new
@@ -122,7 +122,7 @@ fn list_summary_part<W: Out>(
 {
     match part {
         Part::Headers => list_headers(summary, text, out),
-        Part::Details => list_details(alloc, summary, text, out),
+        Part::Details => list_details(summary, text, out),
         Part::Code | Part::Uses => unreachable!(),
     }
 }
@@ -155,11 +155,13 @@ pub fn list_summary<W: Out>(
 ) -> Result<(), ListFault>
     requires room { W.failed out.old < 2 ^ 64 - 1 }
     requires part { lists_bodies part ≡ false }
-    ensures ok { OnOk result (Appends (W.taken out.old) (W.taken out.new) (listing summary.now part)) }
-    ensures err { OnErr result (TakesFront (W.taken out.old) (W.taken out.new) (listing summary.now part)) }
+    ensures ok { OnOk result
+        (Appends (W.taken out.old) (W.taken out.new) (listing summary.now part)) }
+    ensures err { OnErr result
+        (TakesFront (W.taken out.old) (W.taken out.new) (listing summary.now part)) }
     ensures failures { W.failed out.new ≡ failed_after (W.failed out.old) result }
 {
     let mut text = Vec::new(alloc);
-    list_summary_part(alloc, summary, part, &mut text, out)?;
+    list_summary_part(summary, part, &mut text, out)?;
     flush(&text, out)
 }

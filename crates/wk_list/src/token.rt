@@ -32,7 +32,8 @@ fn put_type(text: &mut Vec<u8>, ty: BlockType) -> Result<(), OutOfMemory>
 
 // An alignment and an offset.
 fn put_memarg(text: &mut Vec<u8>, align: u32, offset: u32) -> Result<(), OutOfMemory>
-    ensures { OnOk result (text.new.items ≡ text.old.items ++ immediates_text (Memarg align offset)) }
+    ensures { OnOk result
+        (text.new.items ≡ text.old.items ++ immediates_text (Memarg align offset)) }
 {
     put_field(text, " align=", align)?;
     put_field(text, " offset=", offset)
@@ -48,7 +49,8 @@ fn put_integer(text: &mut Vec<u8>, z: i64) -> Result<(), OutOfMemory>
 
 // What is listed of operands.
 fn put_operands(text: &mut Vec<u8>, operands: Operands<'_>) -> Result<(), OutOfMemory>
-    ensures { OnOk result (text.new.items ≡ text.old.items ++ operands_text (operands_of operands.entry)) }
+    ensures { OnOk result
+        (text.new.items ≡ text.old.items ++ operands_text (operands_of operands.entry)) }
 {
     match operands {
         Operands::Nothing | Operands::Reserved => Ok(()),
@@ -76,10 +78,18 @@ fn put_operands(text: &mut Vec<u8>, operands: Operands<'_>) -> Result<(), OutOfM
 // What stands behind the name of a token.
 fn put_immediates(text: &mut Vec<u8>, labels: &[u32], token: &Token) -> Result<(), OutOfMemory>
     requires { IsWithin (length labels.now) token.now }
-    ensures { OnOk result (text.new.items ≡ text.old.items ++ behind_name (told labels.now token.now)) }
+    ensures { OnOk result
+        (text.new.items ≡ text.old.items ++ behind_name (told labels.now token.now)) }
 {
     let (_opcode, operands) = token.operands(labels);
     put_operands(text, operands)
+}
+
+/// Where the line of a token stands: at the offset of the token, inside so many open blocks.
+#[derive(Clone, Copy)]
+pub(crate) struct Place {
+    pub(crate) at: u32,
+    pub(crate) depth: usize,
 }
 
 /// The depth at which a token stands inside so many open blocks, and how many are open behind it.
@@ -97,23 +107,25 @@ pub(crate) fn depths(token: &Token, depth: usize) -> (usize, usize)
     }
 }
 
-/// The line of a token at an offset and a depth. Its labels lie in the pool.
+/// The line of a token at a place. Its labels lie in the pool.
 #[tactic(auto, unfolding(crate::specs::CodeText::code_line))]
 pub(crate) fn put_line(
     text: &mut Vec<u8>,
     labels: &[u32],
     token: &Token,
-    at: u32,
-    depth: usize,
+    place: Place,
 ) -> Result<(), OutOfMemory>
     requires within { IsWithin (length labels.now) token.now }
-    requires shallow { depth < 2 ^ 32 }
-    ensures { OnOk result (text.new.items ≡ text.old.items ++ code_line at depth (tok_text (told labels.now token.now))) }
+    requires shallow { place.depth < 2 ^ 32 }
+    ensures { OnOk result
+        (text.new.items
+        ≡ text.old.items
+        ++ code_line place.at place.depth (tok_text (told labels.now token.now))) }
 {
     text.extend_from_slice(b" ")?;
-    put_hex8(text, at)?;
+    put_hex8(text, place.at)?;
     text.extend_from_slice(b": ")?;
-    put_spaces(text, 2 * depth)?;
+    put_spaces(text, 2 * place.depth)?;
     text.extend_from_slice(token.name().as_bytes())?;
     put_immediates(text, labels, token)?;
     text.extend_from_slice(b"\n")?;

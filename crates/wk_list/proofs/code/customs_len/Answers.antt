@@ -9,6 +9,7 @@ contents_start-requires g c = omega (arith, c.loop-index.invariant, sections_fit
 pub overflow_add-total : goal.overflow_add-total
 overflow_add-total g c =
     let same = c.as_slice-custom-items.ensures ∙ ap (λ (m : Parts). m.customs) c.parts.ensures.value in
-    let counted = custom_counted c.args.place (g.S.Shape.seen c.args.shape.now).customs _ c.loop-index.index _ _ c.custom_len-size.result c.custom-item.result same c.custom-item.is c.loop-index-test.true
+    let counted = custom_counted c.args.place (g.S.Shape.seen c.args.shape.now).customs _ c.loop-index.index _ _ c.custom_len-size.result
+    c.custom-item.result same c.custom-item.is c.loop-index-test.true
     c.custom_len-size.ensures c.if-custom-place.true c.loop-index.invariant in
     omega (arith, counted, c.contents_start.ensures, sections_fit (g.S.Shape.seen c.args.shape.now) c.args.place c.requires c.parts.ensures.fits)

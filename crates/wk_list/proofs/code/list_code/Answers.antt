@@ -9,7 +9,8 @@ pub count_of-imported-requires : goal.count_of-imported-requires
 count_of-imported-requires g c = rw (c.as_slice.ensures, c.parts-parts.ensures.value) (module_numbered _ c.parts-parts.ensures.shaped.formed).imports
 
 pub contents_start-contents-requires : goal.contents_start-contents-requires
-contents_start-contents-requires g c = omega (arith, c.code_start.ensures, sections_fit (g.S.Shape.seen c.args.shape.now) 10 (omega arith) c.parts-parts.ensures.fits)
+contents_start-contents-requires g c =
+    omega (arith, c.code_start.ensures, sections_fit (g.S.Shape.seen c.args.shape.now) 10 (omega arith) c.parts-parts.ensures.fits)
 
 pub overflow_cast-len : goal.overflow_cast-len
 overflow_cast-len g c =
@@ -20,7 +21,8 @@ overflow_add-first g c =
     omega (
       arith,
       codes_fit (g.S.Shape.seen c.args.shape.now) _ _ c.parts-parts.ensures.value c.if-is_empty.ensures c.parts-parts.ensures.fits
-          (first_is (g.S.Shape.seen c.args.shape.now) _ _ _ _ _ _ c.parts-parts.ensures.value c.code_start.ensures c.section_len.ensures c.contents_start-contents.ensures c.leb_len_u32.ensures c.len.ensures),
+          (first_is (g.S.Shape.seen c.args.shape.now) _ _ _ _ _ _ c.parts-parts.ensures.value c.code_start.ensures c.section_len.ensures
+          c.contents_start-contents.ensures c.leb_len_u32.ensures c.len.ensures),
     )
 
 pub list_entries-requires-clause-few : goal.list_entries-requires-clause-few
@@ -29,7 +31,8 @@ list_entries-requires-clause-few g c = funcs_numbered _ c.parts-parts.ensures.sh
 pub list_entries-requires-clause-fits : goal.list_entries-requires-clause-fits
 list_entries-requires-clause-fits g c =
     codes_fit (g.S.Shape.seen c.args.shape.now) _ _ c.parts-parts.ensures.value c.if-is_empty.ensures c.parts-parts.ensures.fits
-    (first_is (g.S.Shape.seen c.args.shape.now) _ _ _ _ _ _ c.parts-parts.ensures.value c.code_start.ensures c.section_len.ensures c.contents_start-contents.ensures c.leb_len_u32.ensures c.len.ensures)
+    (first_is (g.S.Shape.seen c.args.shape.now) _ _ _ _ _ _ c.parts-parts.ensures.value c.code_start.ensures c.section_len.ensures
+    c.contents_start-contents.ensures c.leb_len_u32.ensures c.len.ensures)
 
 pub returns : goal.returns
 returns g c =

@@ -20,7 +20,8 @@ loop-index-preserved g c =
     c.body_len-size.ensures c.leb_len_u32.ensures in
     record {
       so_far = puts_on _ c.loop-index.invariant.so_far step c.in_ok-list_entry.ensures;
-      place = next_place _ _ c.loop-index.index c.loop-index.at (c.args.start + length (codes_of (g.S.Shape.seen c.args.shape.now).funcs)) _ _ c.func-item.result same c.func-item.is c.loop-index-test.true
+      place = next_place _ _ c.loop-index.index c.loop-index.at
+          (c.args.start + length (codes_of (g.S.Shape.seen c.args.shape.now).funcs)) _ _ c.func-item.result same c.func-item.is c.loop-index-test.true
           c.body_len-size.ensures c.leb_len_u32.ensures c.loop-index.invariant.place;
     }
 
@@ -40,12 +41,14 @@ list_entry-requires-clause-size g c =
 pub list_entry-requires-clause-fits : goal.list_entry-requires-clause-fits
 list_entry-requires-clause-fits g c =
     let same = c.as_slice-func-items.ensures ∙ ap (λ (m : Parts). m.funcs) c.parts.ensures.value in
-    entry_fits _ _ c.loop-index.index c.loop-index.at _ c.func-item.result same c.func-item.is c.loop-index-test.true c.loop-index.invariant.place c.requires.fits
+    entry_fits _ _ c.loop-index.index c.loop-index.at _ c.func-item.result same c.func-item.is c.loop-index-test.true c.loop-index.invariant.place
+    c.requires.fits
 
 pub overflow_add-at : goal.overflow_add-at
 overflow_add-at g c =
     let same = c.as_slice-func-items.ensures ∙ ap (λ (m : Parts). m.funcs) c.parts.ensures.value in
-    let fits = entry_fits _ _ c.loop-index.index c.loop-index.at _ c.func-item.result same c.func-item.is c.loop-index-test.true c.loop-index.invariant.place c.requires.fits in
+    let fits = entry_fits _ _ c.loop-index.index c.loop-index.at _ c.func-item.result same c.func-item.is c.loop-index-test.true
+    c.loop-index.invariant.place c.requires.fits in
     let size = size_is _ _ c.loop-index.index c.body_len-size.result c.func-item.result same c.func-item.is c.body_len-size.ensures in
     let long = code_is c.body_len-size.result c.leb_len_u32.result c.func-item.result size c.leb_len_u32.ensures in
     omega (arith, fits, long)
@@ -53,7 +56,8 @@ overflow_add-at g c =
 pub overflow_add-at-in-loop-index : goal.overflow_add-at-in-loop-index
 overflow_add-at-in-loop-index g c =
     let same = c.as_slice-func-items.ensures ∙ ap (λ (m : Parts). m.funcs) c.parts.ensures.value in
-    let fits = entry_fits _ _ c.loop-index.index c.loop-index.at _ c.func-item.result same c.func-item.is c.loop-index-test.true c.loop-index.invariant.place c.requires.fits in
+    let fits = entry_fits _ _ c.loop-index.index c.loop-index.at _ c.func-item.result same c.func-item.is c.loop-index-test.true
+    c.loop-index.invariant.place c.requires.fits in
     let size = size_is _ _ c.loop-index.index c.body_len-size.result c.func-item.result same c.func-item.is c.body_len-size.ensures in
     let long = code_is c.body_len-size.result c.leb_len_u32.result c.func-item.result size c.leb_len_u32.ensures in
     omega (arith, fits, long)

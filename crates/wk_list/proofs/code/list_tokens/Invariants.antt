@@ -11,11 +11,11 @@ abbrev pub invariant-loop-token : goal.invariant-loop-token
 invariant-loop-token g l = record {
   so_far : IsLeft g.W.Out.taken g.W.Out.failed l.fn.out l.out
       (l.fn.text.items ++ toks_text l.start 0 (all_told l.labels l.tokens))
-      (l.text.items ++ take l.used l.buf ++ toks_text l.at l.depth (all_told l.labels l.rest));
+      (l.text.items ++ take l.fill.used l.buf ++ toks_text l.at l.depth (all_told l.labels l.rest));
   place : l.at + toks_length (all_told l.labels l.rest) ≡ l.start + toks_length (all_told l.labels l.tokens);
   deep : l.depth ≤ l.at;
-  inside : l.used ≤ CAPACITY;
-  reach : l.reach ≤ NAME_LIMIT;
+  inside : l.fill.used ≤ CAPACITY;
+  reach : l.fill.reach ≤ NAME_LIMIT;
   within : AllByRecursion (IsWithin (length l.labels)) l.rest;
 }
 

@@ -27,14 +27,14 @@ returns-in_err-list_customs g c =
     let lt : c.loop-id.id < 12 = omega arith in
     let step = section_next (g.S.Sketch.seen c.args.sketch.now) c.parts-parts.result.now c.loop-id.id c.loop-id.text.items lt c.parts-parts.ensures.value in
     stopped (puts_on _ (puts_on _ c.loop-id.invariant step c.in_ok-list_section.ensures) (sym (append_assoc c.list_section.new.text.items _ _))
-    c.in_err-list_customs.ensures) c.from_residual-in_err-list_customs.ensures
+    (rw c.as_slice.ensures at c.in_err-list_customs.ensures)) c.from_residual-in_err-list_customs.ensures
 
 pub loop-id-preserved : goal.loop-id-preserved
 loop-id-preserved g c =
     let lt : c.loop-id.id < 12 = omega arith in
     let step = section_next (g.S.Sketch.seen c.args.sketch.now) c.parts-parts.result.now c.loop-id.id c.loop-id.text.items lt c.parts-parts.ensures.value in
     puts_on _ (puts_on _ c.loop-id.invariant step c.in_ok-list_section.ensures) (sym (append_assoc c.list_section.new.text.items _ _))
-    c.in_ok-list_customs.ensures
+    (rw c.as_slice.ensures at c.in_ok-list_customs.ensures)
 
 pub returns : goal.returns
 returns g c =

@@ -56,12 +56,15 @@ custom_len-size-requires g c =
 pub put_custom-requires-clause-fits : goal.put_custom-requires-clause-fits
 put_custom-requires-clause-fits g c =
     let items = c.as_slice-custom-items.ensures ∙ ap (λ (m : Parts). m.customs) c.parts.ensures.value.rest in
-    custom_fits c.args.place c.loop-index.next c.loop-index.index _ c.custom-item.result (g.S.Sketch.seen c.args.sketch.now).customs _ items c.loop-index-test.true c.custom-item.is c.if-custom-place.true c.loop-index.invariant.place c.requires.fits
+    custom_fits c.args.place c.loop-index.next c.loop-index.index _ c.custom-item.result
+    (g.S.Sketch.seen c.args.sketch.now).customs _ items c.loop-index-test.true c.custom-item.is c.if-custom-place.true c.loop-index.invariant.place
+    c.requires.fits
 
 pub put_custom-requires-clause-size : goal.put_custom-requires-clause-size
 put_custom-requires-clause-size g c =
     let items = c.as_slice-custom-items.ensures ∙ ap (λ (m : Parts). m.customs) c.parts.ensures.value.rest in
-    custom_long c.loop-index.index c.custom_len-size.result c.custom-item.result (g.S.Sketch.seen c.args.sketch.now).customs _ items c.custom-item.is c.custom_len-size.ensures
+    custom_long c.loop-index.index c.custom_len-size.result c.custom-item.result
+    (g.S.Sketch.seen c.args.sketch.now).customs _ items c.custom-item.is c.custom_len-size.ensures
 
 pub spill-requires : goal.spill-requires
 spill-requires g c = rw c.loop-index.invariant.so_far.failures c.requires.room
@@ -74,6 +77,8 @@ overflow_add-next g c =
     let items = c.as_slice-custom-items.ensures ∙ ap (λ (m : Parts). m.customs) c.parts.ensures.value.rest in
     let customs = (g.S.Sketch.seen c.args.sketch.now).customs in
     let long = custom_long c.loop-index.index c.custom_len-size.result c.custom-item.result customs _ items c.custom-item.is c.custom_len-size.ensures in
-    let end = custom_end c.loop-index.next c.contents_start.result c.custom_len-size.result (c.contents_start.result + c.custom_len-size.result) c.custom-item.result c.contents_start.ensures long refl in
-    let fits = custom_fits c.args.place c.loop-index.next c.loop-index.index _ c.custom-item.result customs _ items c.loop-index-test.true c.custom-item.is c.if-custom-place.true c.loop-index.invariant.place c.requires.fits in
+    let end = custom_end c.loop-index.next c.contents_start.result c.custom_len-size.result
+    (c.contents_start.result + c.custom_len-size.result) c.custom-item.result c.contents_start.ensures long refl in
+    let fits = custom_fits c.args.place c.loop-index.next c.loop-index.index _ c.custom-item.result customs _ items c.loop-index-test.true
+    c.custom-item.is c.if-custom-place.true c.loop-index.invariant.place c.requires.fits in
     omega (arith, end, fits)

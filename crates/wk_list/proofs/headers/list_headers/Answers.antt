@@ -25,7 +25,8 @@ section_end-at-requires g c =
 pub list_customs-requires-clause-fits : goal.list_customs-requires-clause-fits
 list_customs-requires-clause-fits g c =
     let lt : c.loop-id.id < 12 = omega (arith, c.loop-id-test.true) in
-    customs_fit (g.S.Sketch.seen c.args.sketch.now) c.loop-id.at c.loop-id.id _ lt c.loop-id.invariant.place c.parts-parts.ensures.fits (c.section_end-at.ensures (g.S.Sketch.seen c.args.sketch.now) c.section_len-size.ensures)
+    customs_fit (g.S.Sketch.seen c.args.sketch.now) c.loop-id.at c.loop-id.id _ lt c.loop-id.invariant.place c.parts-parts.ensures.fits
+    (c.section_end-at.ensures (g.S.Sketch.seen c.args.sketch.now) c.section_len-size.ensures)
 
 pub returns-in_err-at : goal.returns-in_err-at
 returns-in_err-at g c =

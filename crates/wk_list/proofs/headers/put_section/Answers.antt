@@ -10,4 +10,5 @@ returns-then-size-eq0 c = λ m is long.
 pub returns : goal.returns
 returns c = λ m is long.
     section_line m c.args.id c.args.at c.args.size c.contents_start.result c.args.text.now.items _ _ _ long (omega (arith, c.if-size-eq0.false))
-    c.contents_start.ensures c.in_ok-put_header.ensures.ok (rw (tail_same m c.args.parts.now is (of_number c.args.id)) at c.in_ok-put_tail.ensures) c.in_ok-extend_from_slice.ensures.items
+    c.contents_start.ensures c.in_ok-put_header.ensures.ok (rw (tail_same m c.args.parts.now is (of_number c.args.id)) at c.in_ok-put_tail.ensures)
+    c.in_ok-extend_from_slice.ensures.items

@@ -1,14 +1,9 @@
-use Rattle.std.proofs.Common.{◌≡◌, ◌∙◌, ◌<◌, length, get_or, ap}
+use Rattle.std.proofs.Common.{◌∙◌, ap}
 use Rattle.wk_module.specs.declared.types.Parts.{Parts}
 use Rattle.wk_list.proofs.Told.{told_custom}
 use Rattle.wk_list.proofs.plain.PlainShape.custom_len.Goals as goal
 
 pub returns : goal.returns
-returns c =
-    let m = (c.self.inside.whole).now in
-    let within : c.args.index < length m.customs = rw c.self.view_is c.requires in
-    let items = c.as_slice.ensures ∙ ap (λ (n : Parts). n.customs) c.parts.ensures.value in
-    let item = c.index-as_slice-index.result in
-    let is : item ≡ get_or m.customs c.args.index item = rw items at c.index-as_slice-index.is in
-    λ other. rw (← c.self.view_is)
-    (c.unwrap_or.ensures ∙ told_custom m c.args.index item other c.custom_len.result within is c.parts.ensures.shaped.formed.order c.self.invariant c.custom_len.ensures)
+returns c = λ other. rw (← c.self.view_is) (c.unwrap_or.ensures ∙ told_custom (c.self.inside.whole).now c.as_slice.result.now c.args.index _ other _
+    (c.as_slice.ensures ∙ ap (λ (m : Parts). m.customs) c.parts.ensures.value) (rw c.self.view_is c.requires) c.index-as_slice-index.is
+    c.parts.ensures.shaped.formed.order c.self.invariant c.custom_len.ensures)

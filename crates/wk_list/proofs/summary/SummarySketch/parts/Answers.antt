@@ -6,4 +6,5 @@ pub returns-clause-value : goal.returns-clause-value
 returns-clause-value c = rw (← c.self.view_is) (is_sketch _ c.self.inside.skeleton.«module» _ c.parts.ensures.value c.self.invariant.lists)
 
 pub returns-clause-numbered : goal.returns-clause-numbered
-returns-clause-numbered c = sketch_numbered _ _ c.self.invariant.shaped (is_sketch _ c.self.inside.skeleton.«module» _ c.parts.ensures.value c.self.invariant.lists)
+returns-clause-numbered c = sketch_numbered _ _ c.self.invariant.shaped
+    (is_sketch _ c.self.inside.skeleton.«module» _ c.parts.ensures.value c.self.invariant.lists)
