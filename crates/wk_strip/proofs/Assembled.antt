@@ -1,5 +1,6 @@
 -- The pieces of a written form, put together, and how long they are.
-use Rattle.std.proofs.Common.{◌≡◌, ◌≢◌, ℕ, suc, ◌+◌, ◌-◌, ◌<◌, ◌≤◌, List, [], ◌∷◌, ◌++◌, length, Some, None, Option, Ok, Err, Result, inl, inr, refl, sym, ap, ◌∙◌, arith, append_assoc, length-append}
+use Rattle.std.proofs.Common.{◌≡◌, ◌≢◌, ℕ, suc, ◌+◌, ◌-◌, ◌<◌, ◌≤◌, List, [], ◌∷◌, ◌++◌, length, Some, None, Option, Ok, Err, Result, inl, inr, refl, sym, ap}
+use Rattle.std.proofs.Common.{◌∙◌, arith, append_assoc, length-append}
 use Rattle.std.proofs.lemmas.Bool.{cases_eq, ne_eqb}
 use Rattle.std.specs.Prelude.{IfErr, MatchResult}
 use Rattle.wk_body.specs.declared.fault.EncodeFault.{EncodeFault}
@@ -15,7 +16,8 @@ use Rattle.wk_module.specs.declared.types.DataSeg.{DataSeg}
 use Rattle.wk_module.specs.declared.types.Parts.{Parts}
 use Rattle.wk_module.specs.Items.{written_code}
 use Rattle.wk_module.specs.SectionLaws.{number-of_number}
-use Rattle.wk_module.specs.Sections.{SectionId, TypeSection, ImportSection, FunctionSection, TableSection, MemorySection, GlobalSection, ExportSection, StartSection, ElementSection, CodeSection, DataSection, SectionLists, of_number}
+use Rattle.wk_module.specs.Sections.{SectionId, TypeSection, ImportSection, FunctionSection, TableSection, MemorySection, GlobalSection, ExportSection}
+use Rattle.wk_module.specs.Sections.{StartSection, ElementSection, CodeSection, DataSection, SectionLists, of_number}
 use Rattle.wk_module.specs.Shape.{lists_of}
 use Rattle.wk_module.specs.Writing.{encoded, section_by, contents_by, customs_at, section_and_customs, section_contents, written_section, ids, Fits}
 use Rattle.wk_module.specs.WritingLaws.{contents_within}
@@ -23,14 +25,17 @@ use Rattle.wk_strip.specs.Written.{section_with, sections_from, code_front, IsTo
 
 -- ---- one section more
 
-pub one_section : (l : SectionLists) (cs : List Custom) (id end : ℕ) (before between after whole : List ℕ) → id < end → between ≡ before ++ section_by l (of_number id) → after ≡ between ++ customs_at id cs
+pub one_section : (l : SectionLists) (cs : List Custom) (id end : ℕ) (before between after whole : List ℕ) → id < end
+    → between ≡ before ++ section_by l (of_number id) → after ≡ between ++ customs_at id cs
     → before ++ sections_from l cs id (end - id) ≡ whole → after ++ sections_from l cs (id + 1) (end - (id + 1)) ≡ whole
 one_section l cs id end before between after whole lt section customs so_far =
     let later = sections_from l cs (id + 1) (end - (id + 1)) in
     let count : end - id ≡ suc (end - (id + 1)) = omega arith in
     let split : sections_from l cs id (end - id) ≡ section_with l cs id ++ later = ap (sections_from l cs id) count in
-    let regroup : ((before ++ section_by l (of_number id)) ++ customs_at id cs) ++ later ≡ before ++ ((section_by l (of_number id) ++ customs_at id cs) ++ later) = simp append_assoc refl in
-    ap (λ (b : List ℕ). b ++ later) (customs ∙ ap (λ (b : List ℕ). b ++ customs_at id cs) section) ∙ regroup ∙ ap (λ (b : List ℕ). before ++ b) (sym split) ∙ so_far
+    let regroup : ((before ++ section_by l (of_number id)) ++ customs_at id cs) ++ later
+    ≡ before ++ ((section_by l (of_number id) ++ customs_at id cs) ++ later) = simp append_assoc refl in
+    ap (λ (b : List ℕ). b ++ later) (customs ∙ ap (λ (b : List ℕ). b ++ customs_at id cs) section) ∙ regroup
+    ∙ ap (λ (b : List ℕ). before ++ b) (sym split) ∙ so_far
 
 -- ---- the code section
 
@@ -44,7 +49,8 @@ code_section_is (b ∷ bs) =
     let codes = codes_bytes (b ∷ bs) in
     let size : length (count ++ codes) ≡ length count + length codes = length-append count codes in
     rw (ne_eqb (length (b ∷ bs)) 0 (omega arith))
-    (ap (λ (n : ℕ). 10 ∷ (short n ++ (count ++ codes))) size ∙ ap (λ (r : List ℕ). 10 ∷ r) (sym (append_assoc (short (length count + length codes)) count codes)))
+    (ap (λ (n : ℕ). 10 ∷ (short n ++ (count ++ codes))) size
+    ∙ ap (λ (r : List ℕ). 10 ∷ r) (sym (append_assoc (short (length count + length codes)) count codes)))
 
 -- ---- the whole
 
@@ -67,18 +73,23 @@ module _ (l : SectionLists) (cs : List Custom) (bodies : List BodyOf) (x : List 
       ap (λ (b : List ℕ). (b ++ customs_at 10 cs) ++ last) (code_section_is bodies)
       ∙ append_assoc (code_front (length bodies) (length (codes_bytes bodies)) ++ codes_bytes bodies) (customs_at 10 cs) last
 
-  parted : flat_map (section_with Full cs) ids ≡ sections_from (bare l) cs 0 10 ++ ((code_front (length bodies) (length (codes_bytes bodies)) ++ codes_bytes bodies) ++ sections_from Behind cs 10 2)
-  parted = flat_map-append (section_with Full cs) (range_with_len 0 10) (range_with_len 10 2) ∙ ap (λ (b : List ℕ). sections_from (bare l) cs 0 10 ++ b) behind_is
+  parted : flat_map (section_with Full cs) ids ≡ sections_from (bare l) cs 0 10
+      ++ ((code_front (length bodies) (length (codes_bytes bodies)) ++ codes_bytes bodies) ++ sections_from Behind cs 10 2)
+  parted = flat_map-append (section_with Full cs) (range_with_len 0 10) (range_with_len 10 2)
+      ∙ ap (λ (b : List ℕ). sections_from (bare l) cs 0 10 ++ b) behind_is
 
   pub whole_is : (m : Parts) → lists_of m ≡ Full → encoded (record m { customs = cs })
-      ≡ (((magic ++ version) ++ sections_from (bare l) cs 0 10) ++ code_front (length bodies) (length (codes_bytes bodies))) ++ (codes_bytes bodies ++ sections_from Behind cs 10 2)
+      ≡ (((magic ++ version) ++ sections_from (bare l) cs 0 10) ++ code_front (length bodies) (length (codes_bytes bodies)))
+      ++ (codes_bytes bodies ++ sections_from Behind cs 10 2)
   unfolding encoded
   whole_is m lists =
       let front = sections_from (bare l) cs 0 10 in
       let head = code_front (length bodies) (length (codes_bytes bodies)) in
       let last = sections_from Behind cs 10 2 in
-      let sections : flat_map (section_and_customs (record m { customs = cs })) ids ≡ front ++ ((head ++ codes_bytes bodies) ++ last) = ap (λ (k : SectionLists). flat_map (section_with k cs) ids) lists ∙ parted in
-      let regroup : (magic ++ version) ++ (front ++ ((head ++ codes_bytes bodies) ++ last)) ≡ (((magic ++ version) ++ front) ++ head) ++ (codes_bytes bodies ++ last) =
+      let sections : flat_map (section_and_customs (record m { customs = cs })) ids ≡ front ++ ((head ++ codes_bytes bodies) ++ last) =
+      ap (λ (k : SectionLists). flat_map (section_with k cs) ids) lists ∙ parted in
+      let regroup : (magic ++ version) ++ (front ++ ((head ++ codes_bytes bodies) ++ last))
+      ≡ (((magic ++ version) ++ front) ++ head) ++ (codes_bytes bodies ++ last) =
       ap (λ (b : List ℕ). (magic ++ version) ++ (front ++ b)) (append_assoc head (codes_bytes bodies) last)
       ∙ sym (append_assoc (magic ++ version) front (head ++ (codes_bytes bodies ++ last)))
       ∙ sym (append_assoc ((magic ++ version) ++ front) head (codes_bytes bodies ++ last)) in
@@ -122,13 +133,15 @@ module _ (l : SectionLists) (cs : List Custom) (bodies : List BodyOf) (x : List 
 
     pub front_short : IsTooLong (bare l) 0 10 → ⊥
     front_short (id, least, most, long) =
-        let same = by_front (of_number id) (λ is. omega (arith, most, number-of_number id CodeSection is)) (λ is. omega (arith, most, number-of_number id DataSection is)) in
+        let same = by_front (of_number id) (λ is. omega (arith, most, number-of_number id CodeSection is))
+        (λ is. omega (arith, most, number-of_number id DataSection is)) in
         omega (arith, long, within (of_number id), ap length same)
 
     pub behind_short : IsTooLong Behind 10 12 → ⊥
     behind_short (id, least, most, long) =
         elim (cases_eq id 10) [
-          | inl is ↦ let none : length (contents_by Behind (of_number 10)) ≡ 0 = refl in omega (arith, long, none, ap (λ (n : ℕ). length (contents_by Behind (of_number n))) is)
+          | inl is ↦ let none : length (contents_by Behind (of_number 10)) ≡ 0 = refl in
+              omega (arith, long, none, ap (λ (n : ℕ). length (contents_by Behind (of_number n))) is)
           | inr other ↦
               let same = by_behind (of_number id) (λ is. other (number-of_number id CodeSection is)) in
               omega (arith, long, within (of_number id), ap length same)
@@ -155,6 +168,7 @@ module _ (m : Parts) (cs : List Custom) (l : SectionLists) (lists : lists_of m �
 
 -- ---- what was written or not
 
-pub not_too_large : {A : Type 0} (r : Result A EncodeFault) (P : A → Type 0) (Long : Type 0) → MatchResult r P (λ e. e ≡ TooLarge → Long) → (Long → ⊥) → IfErr r (λ e. e ≢ TooLarge)
+pub not_too_large : {A : Type 0} (r : Result A EncodeFault) (P : A → Type 0) (Long : Type 0) → MatchResult r P (λ e. e ≡ TooLarge → Long) → (Long → ⊥)
+    → IfErr r (λ e. e ≢ TooLarge)
 not_too_large (Ok x) P Long told none = tt
 not_too_large (Err e) P Long told none = λ is. none (told is)

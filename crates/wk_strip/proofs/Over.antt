@@ -53,4 +53,5 @@ between-later b i j n le =
 pub between-rest : (b front rest : List ℕ) (i j k : ℕ) → j ≤ length b → i ≤ j → between i j b ≡ front ++ rest → k ≡ i + length front → rest ≡ between k j b
 between-rest b front rest i j k within order parts place =
     let fits : i + length front ≤ j = omega (arith, order, between-len b i j within, ap length parts, length-append front rest) in
-    sym (drop_at front rest (length front) refl) ∙ ap (λ (xs : List ℕ). drop (length front) xs) (sym parts) ∙ between-later b i j (length front) fits ∙ ap (λ (n : ℕ). between n j b) (sym place)
+    sym (drop_at front rest (length front) refl) ∙ ap (λ (xs : List ℕ). drop (length front) xs) (sym parts) ∙ between-later b i j (length front) fits
+    ∙ ap (λ (n : ℕ). between n j b) (sym place)

@@ -1,5 +1,6 @@
 -- The custom sections that stay, as they are found in the frames.
-use Rattle.std.proofs.Common.{◌≡◌, ◌≢◌, ℕ, ◌+◌, ◌≤◌, Bool, true, false, eqb, List, [], ◌++◌, length, map, Result, Ok, Err, Option, Some, None, IsTrue, not, refl, sym, ap, subst, ◌∙◌, inl, inr, suc, if◌then◌else◌, ◌∷◌, arith, append-nil, append_assoc, length-append}
+use Rattle.std.proofs.Common.{◌≡◌, ◌≢◌, ℕ, ◌+◌, ◌≤◌, Bool, true, false, eqb, List, [], ◌++◌, length, map, Result, Ok, Err, Option, Some, None, IsTrue, not}
+use Rattle.std.proofs.Common.{refl, sym, ap, subst, ◌∙◌, inl, inr, suc, if◌then◌else◌, ◌∷◌, arith, append-nil, append_assoc, length-append}
 use Rattle.std.proofs.lemmas.Bool.{eqb-true}
 use Rattle.std.specs.List.{filter}
 use Rattle.wk_bytes.specs.declared.fault.ReadFault.{ReadFault}
@@ -20,7 +21,8 @@ use Rattle.wk_strip.specs.Stripped.{is_kept}
 abbrev pub custom_of : ℕ → List ℕ → List ℕ → Custom
 custom_of place name bytes = record { place = place; name = name; bytes = bytes }
 
-pub custom_is : (place end : ℕ) (b name rest : List ℕ) (c : Custom) → c.place ≡ place → SpellsCustom b c → name_at end b ≡ Ok (name, rest) → custom_of place name rest ≡ c
+pub custom_is : (place end : ℕ) (b name rest : List ℕ) (c : Custom) → c.place ≡ place → SpellsCustom b c → name_at end b ≡ Ok (name, rest)
+    → custom_of place name rest ≡ c
 unfolding custom_at
 custom_is place end b name rest c is s read = ok_is _ _ (rw read at (custom_again place end b c s is))
 
@@ -36,7 +38,8 @@ pub sized : (b front name rest : List ℕ) → SpellsName front name → b ≡ f
 sized b front name rest s parts =
     omega (arith, ap length parts, length-append front rest, ap length s.parts, length-append s.size name, short-least 32 (length name) s.size s.counts)
 
-pub size_is : (name bytes : List ℕ) (place : ℕ) → length (written_custom (custom_of place name bytes)) ≡ length (short (length name)) + length name + length bytes
+pub size_is : (name bytes : List ℕ) (place : ℕ) → length (written_custom (custom_of place name bytes))
+    ≡ length (short (length name)) + length name + length bytes
 size_is name bytes place = omega (arith, length-append (short (length name)) (name ++ bytes), length-append name bytes)
 
 pub negated : (b : Bool) → true ≡ not b → b ≡ false
@@ -61,12 +64,14 @@ no_length [] h = refl
 no_length (x ∷ xs) h = absurd (omega (arith, eqb-true (suc (length xs)) 0 h))
 
 -- of contents that spell a number in front, and then go on, no others are a count of zero than those that end at that zero
-pub only_count : (f : Frame) (front rest : List ℕ) (count : ℕ) → SpellsU 32 front count → f.contents ≡ front ++ rest → IsEmptyFrame f → (count ≡ 0) × (rest ≡ [])
+pub only_count : (f : Frame) (front rest : List ℕ) (count : ℕ) → SpellsU 32 front count → f.contents ≡ front ++ rest → IsEmptyFrame f
+    → (count ≡ 0) × (rest ≡ [])
 only_count f front rest count spelled parts is =
     let one = one_SpellsU 32 f.contents front [] rest 0 count is.none spelled (append-nil f.contents ∙ parts) in
     (sym one.1, none_left rest (omega (arith, ap length parts, ap length one.0, length-append front rest)))
 
-pub is_count : (f : Frame) (front rest : List ℕ) (count : ℕ) → SpellsU 32 front count → f.contents ≡ front ++ rest → f.id ≢ 8 → count ≡ 0 → rest ≡ [] → IsEmptyFrame f
+pub is_count : (f : Frame) (front rest : List ℕ) (count : ℕ) → SpellsU 32 front count → f.contents ≡ front ++ rest → f.id ≢ 8 → count ≡ 0 → rest ≡ []
+    → IsEmptyFrame f
 is_count f front rest count spelled parts vector zero_is none =
     let all : front ≡ f.contents = sym (parts ∙ ap (λ (r : List ℕ). front ++ r) none ∙ append-nil front) in
     record { vector = vector; none = subst (λ (b : List ℕ). SpellsU 32 b 0) all (subst (SpellsU 32 front) zero_is spelled) }
@@ -76,7 +81,8 @@ decides true rest P is to from = (λ t. to (no_length rest (sym is)), λ p. refl
 decides false [] P is to from = absurd cc
 decides false (x ∷ rest) P is to from = (λ t. absurd cc, λ p. absurd (omega (arith, ap length (from p))))
 
-pub empty_decides : (f : Frame) (front rest : List ℕ) (count : ℕ) (e : Bool) → SpellsU 32 front count → f.contents ≡ front ++ rest → f.id ≢ 8 → count ≡ 0 → e ≡ eqb (length rest) 0 → (IsTrue e → IsEmptyFrame f) × (IsEmptyFrame f → IsTrue e)
+pub empty_decides : (f : Frame) (front rest : List ℕ) (count : ℕ) (e : Bool) → SpellsU 32 front count → f.contents ≡ front ++ rest → f.id ≢ 8
+    → count ≡ 0 → e ≡ eqb (length rest) 0 → (IsTrue e → IsEmptyFrame f) × (IsEmptyFrame f → IsTrue e)
 empty_decides f front rest count e spelled parts vector zero_is is =
     decides e rest (IsEmptyFrame f) is (is_count f front rest count spelled parts vector zero_is) (λ h. (only_count f front rest count spelled parts h).1)
 
@@ -86,14 +92,16 @@ empty_decides f front rest count e spelled parts vector zero_is is =
 abbrev pub IsLeft : List ℕ → List ℕ → ℕ → List Custom → List (Result Section ReadFault) → Type 0
 IsLeft name b place kept items =
     (fs : List Frame) (cs : List Custom) → SpellsFraming b fs → SpellsCustoms 0 fs cs
-    → (ss : List Section) × (later : List Custom) × (items ≡ without_fault ss) × SpellsCustoms place (map frame_of ss) later × (kept ++ filter (is_kept (Some name)) later ≡ filter (is_kept (Some name)) cs)
+    → (ss : List Section) × (later : List Custom) × (items ≡ without_fault ss) × SpellsCustoms place (map frame_of ss) later
+    × (kept ++ filter (is_kept (Some name)) later ≡ filter (is_kept (Some name)) cs)
 
 module _ (name b : List ℕ) where
   abbrev Stays : Custom → Bool
   Stays c = is_kept (Some name) c
 
   -- before the first frame
-  pub left_first : (items : List (Result Section ReadFault)) → ((fs : List Frame) → SpellsFraming b fs → (ss : List Section) × (map frame_of ss ≡ fs) × (items ≡ without_fault ss)) → IsLeft name b 0 [] items
+  pub left_first : (items : List (Result Section ReadFault))
+      → ((fs : List Frame) → SpellsFraming b fs → (ss : List Section) × (map frame_of ss ≡ fs) × (items ≡ without_fault ss)) → IsLeft name b 0 [] items
   left_first items all fs cs framing customs =
       let read = all fs framing in
       (read.0, cs, read.2, subst (λ (gs : List Frame). SpellsCustoms 0 gs cs) (sym read.1) customs, refl)
@@ -107,14 +115,16 @@ module _ (name b : List ℕ) where
   no_fault e items more [] first is = absurd cc
   no_fault e items more (s ∷ ss) first is = absurd cc
 
-  pub left_last : (place : ℕ) (kept : List Custom) (items : List (Result Section ReadFault)) → items ≡ [] → IsLeft name b place kept items → (fs : List Frame) (cs : List Custom) → SpellsFraming b fs → SpellsCustoms 0 fs cs → kept ≡ filter Stays cs
+  pub left_last : (place : ℕ) (kept : List Custom) (items : List (Result Section ReadFault)) → items ≡ [] → IsLeft name b place kept items
+      → (fs : List Frame) (cs : List Custom) → SpellsFraming b fs → SpellsCustoms 0 fs cs → kept ≡ filter Stays cs
   left_last place kept items none left fs cs framing customs =
       let all = left fs cs framing customs in
       let ended = none_later items all.0 none all.2 in
       let no_more : all.1 ≡ [] = subst (λ (ss : List Section). SpellsCustoms place (map frame_of ss) all.1) ended all.3 in
       sym (append-nil kept) ∙ ap (λ (ds : List Custom). kept ++ filter Stays ds) (sym no_more) ∙ all.4
 
-  pub left_faulty : (place : ℕ) (kept : List Custom) (e : ReadFault) (items more : List (Result Section ReadFault)) → items ≡ Err e ∷ more → IsLeft name b place kept items → (fs : List Frame) (cs : List Custom) → SpellsFraming b fs → SpellsCustoms 0 fs cs → kept ≡ filter Stays cs
+  pub left_faulty : (place : ℕ) (kept : List Custom) (e : ReadFault) (items more : List (Result Section ReadFault)) → items ≡ Err e ∷ more
+      → IsLeft name b place kept items → (fs : List Frame) (cs : List Custom) → SpellsFraming b fs → SpellsCustoms 0 fs cs → kept ≡ filter Stays cs
   left_faulty place kept e items more first left fs cs framing customs =
       let all = left fs cs framing customs in
       absurd (no_fault e items more all.0 first all.2)
@@ -127,12 +137,14 @@ module _ (name b : List ℕ) where
   next_is s items more [] first is = absurd cc
   next_is s items more (t ∷ ts) first is = (ts, cc, cc)
 
-  module _ (place : ℕ) (kept : List Custom) (s : Section) (items more : List (Result Section ReadFault)) (first : items ≡ Ok s ∷ more) (left : IsLeft name b place kept items) where
+  module _ (place : ℕ) (kept : List Custom) (s : Section) (items more : List (Result Section ReadFault)) (first : items ≡ Ok s ∷ more)
+      (left : IsLeft name b place kept items) where
     abbrev pub keeping : (x : Option Custom) → List Custom
     keeping None = kept
     keeping (Some c) = kept ++ c ∷ []
 
-    one_kept : (c : Custom) (later : List Custom) (x : Option Custom) (stays : Bool) → Stays c ≡ stays → x ≡ (if stays then Some c else None) → keeping x ++ filter Stays later ≡ kept ++ filter Stays (c ∷ later)
+    one_kept : (c : Custom) (later : List Custom) (x : Option Custom) (stays : Bool) → Stays c ≡ stays → x ≡ (if stays then Some c else None)
+        → keeping x ++ filter Stays later ≡ kept ++ filter Stays (c ∷ later)
     one_kept c later (Some d) true is same =
         let known : d ≡ c = cc in
         rw is (append_assoc kept (d ∷ []) (filter Stays later) ∙ ap (λ (e : Custom). kept ++ e ∷ filter Stays later) known)
@@ -140,11 +152,13 @@ module _ (name b : List ℕ) where
     one_kept c later (Some d) false is same = absurd cc
     one_kept c later None false is same = rw is refl
 
-    pub left_custom : (x : Option Custom) → s.id ≡ 0 → ((c : Custom) → c.place ≡ place → SpellsCustom s.contents c → x ≡ (if Stays c then Some c else None)) → IsLeft name b place (keeping x) more
+    pub left_custom : (x : Option Custom) → s.id ≡ 0
+        → ((c : Custom) → c.place ≡ place → SpellsCustom s.contents c → x ≡ (if Stays c then Some c else None)) → IsLeft name b place (keeping x) more
     left_custom x is found fs cs framing customs =
         let all = left fs cs framing customs in
         let behind = next_is s items more all.0 first all.2 in
-        let spelled : SpellsCustoms place (frame_of s ∷ map frame_of behind.0) all.1 = subst (λ (ss : List Section). SpellsCustoms place (map frame_of ss) all.1) behind.1 all.3 in
+        let spelled : SpellsCustoms place (frame_of s ∷ map frame_of behind.0) all.1 =
+        subst (λ (ss : List Section). SpellsCustoms place (map frame_of ss) all.1) behind.1 all.3 in
         elim spelled [
           | inl h ↦
               let one = one_kept h.1 h.2 x (Stays h.1) refl (found h.1 h.4 h.5) in
@@ -157,7 +171,8 @@ module _ (name b : List ℕ) where
     after_frame next other one fs cs framing customs =
         let all = left fs cs framing customs in
         let behind = next_is s items more all.0 first all.2 in
-        let spelled : SpellsCustoms place (frame_of s ∷ map frame_of behind.0) all.1 = subst (λ (ss : List Section). SpellsCustoms place (map frame_of ss) all.1) behind.1 all.3 in
+        let spelled : SpellsCustoms place (frame_of s ∷ map frame_of behind.0) all.1 =
+        subst (λ (ss : List Section). SpellsCustoms place (map frame_of ss) all.1) behind.1 all.3 in
         elim spelled [
           | inl h ↦ absurd (other h.0)
           | inr h ↦ (behind.0, all.1, behind.2, subst (λ (q : ℕ). SpellsCustoms q (map frame_of behind.0) all.1) (one h.1 h.2) h.3, all.4)

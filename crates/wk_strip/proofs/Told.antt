@@ -34,15 +34,18 @@ module _ (profile : Profile) (b : List ℕ) (is : IsReading profile b (module_at
         | inr read ↦ (subst (IsReading profile b) read is).1
       ]
 
-  pub told_refused : {X : Type 0} (P : X → Type 0) (r : Result X ReadFault) → MatchResult r P (λ e. FailsAs e e.kind (module_at profile b)) → IfErr r (λ e. e.kind ≢ Memory → SpellsNone profile b)
+  pub told_refused : {X : Type 0} (P : X → Type 0) (r : Result X ReadFault) → MatchResult r P (λ e. FailsAs e e.kind (module_at profile b))
+      → IfErr r (λ e. e.kind ≢ Memory → SpellsNone profile b)
   told_refused P (Ok x) told = tt
   told_refused P (Err e) told = fault_refused e told
 
-  pub told_fault : {X : Type 0} (P : X → Type 0) (r : Result X ReadFault) → MatchResult r P (λ e. FailsAs e e.kind (module_at profile b)) → IfErr r (λ e. StandsIn b e)
+  pub told_fault : {X : Type 0} (P : X → Type 0) (r : Result X ReadFault) → MatchResult r P (λ e. FailsAs e e.kind (module_at profile b))
+      → IfErr r (λ e. StandsIn b e)
   told_fault P (Ok x) told = tt
   told_fault P (Err e) told = fault_stands e told
 
-  module _ (keep : Option (List ℕ)) (kept : List Custom) (fits : IfOk (module_at profile b) (λ m. Fits m)) (found : (fs : List Frame) (cs : List Custom) → SpellsFraming b fs → SpellsCustoms 0 fs cs → kept ≡ filter (is_kept keep) cs) where
+  module _ (keep : Option (List ℕ)) (kept : List Custom) (fits : IfOk (module_at profile b) (λ m. Fits m))
+      (found : (fs : List Frame) (cs : List Custom) → SpellsFraming b fs → SpellsCustoms 0 fs cs → kept ≡ filter (is_kept keep) cs) where
     is_read : (m : Parts) → module_at profile b ≡ Ok m → IsReading profile b (Ok m)
     is_read m read = subst (IsReading profile b) read is
 
@@ -50,13 +53,19 @@ module _ (profile : Profile) (b : List ℕ) (is : IsReading profile b (module_at
     kept_are m read = let spelled = (is_read m read).1 in found spelled.frames m.customs spelled.framing spelled.customs
 
     made : (m : Parts) → module_at profile b ≡ Ok m → record m { customs = kept } ≡ settle (with_kept keep m)
-    made m read = ap (λ (cs : List Custom). let n : Parts = record m { customs = cs } in n) (kept_are m read) ∙ sym (filter_shaped (is_kept keep) m (is_read m read).3).settled
+    made m read = ap (λ (cs : List Custom). let n : Parts = record m { customs = cs } in n) (kept_are m read)
+        ∙ sym (filter_shaped (is_kept keep) m (is_read m read).3).settled
 
     fit : (m : Parts) → module_at profile b ≡ Ok m → Fits m
     fit m read = subst (λ (r : Result Parts ReadFault). IfOk r (λ n. Fits n)) read fits
 
     pub kept_fit : (m : Parts) → module_at profile b ≡ Ok m → Fits (record m { customs = kept })
-    kept_fit m read = omega (arith, fit m read, length-encoded_filter (is_kept keep) m, ap (λ (cs : List Custom). let n : Parts = record m { customs = cs } in length (encoded n)) (kept_are m read))
+    kept_fit m read = omega (
+      arith,
+      fit m read,
+      length-encoded_filter (is_kept keep) m,
+      ap (λ (cs : List Custom). let n : Parts = record m { customs = cs } in length (encoded n)) (kept_are m read),
+    )
 
     abbrev pub IsMade : List ℕ → Type 0
     IsMade s = (m : Parts) × (module_at profile b ≡ Ok m) × (s ≡ encoded (record m { customs = kept }))
@@ -88,10 +97,12 @@ module _ (profile : Profile) (b : List ℕ) (is : IsReading profile b (module_at
         }
 
     pub told_exact : (r : Result (List ℕ) ReadFault) → MatchResult r IsMade (λ e. FailsAs e e.kind (module_at profile b))
-        → MatchResult r (λ s. (m : Parts) × (module_at profile b ≡ Ok m) × (s ≡ encoded (settle (with_kept keep m)))) (λ e. FailsAs e e.kind (module_at profile b))
+        → MatchResult r (λ s. (m : Parts) × (module_at profile b ≡ Ok m) × (s ≡ encoded (settle (with_kept keep m))))
+        (λ e. FailsAs e e.kind (module_at profile b))
     told_exact (Ok s) told = exactly s told
     told_exact (Err e) told = told
 
-    pub told_meaning : ((m : Parts) → IsShaped m → Fits m → Spells (encoded m) m) → SpellOne → (r : Result (List ℕ) ReadFault) → MatchResult r IsMade (λ e. FailsAs e e.kind (module_at profile b)) → IfOk r (λ s. IsStripped profile keep b s)
+    pub told_meaning : ((m : Parts) → IsShaped m → Fits m → Spells (encoded m) m) → SpellOne → (r : Result (List ℕ) ReadFault)
+        → MatchResult r IsMade (λ e. FailsAs e e.kind (module_at profile b)) → IfOk r (λ s. IsStripped profile keep b s)
     told_meaning spelling one (Ok s) told = meaning spelling one s told
     told_meaning spelling one (Err e) told = tt

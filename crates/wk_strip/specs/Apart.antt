@@ -26,7 +26,8 @@ pub record IsReadWith (profile : Profile) (b : List ℕ) (bodies : List BodyOf) 
 -- What the bytes are read as, by what the codes are and what the other sections were read as: a fault of the codes is the first one.
 pub record IsApart (profile : Profile) (b : List ℕ) (codes : Result (List BodyOf) ReadFault) (others : Result AllRead ReadFault) : Type 0 where
   pub refused : (e : ReadFault) → codes ≡ Err e → module_at profile b ≡ Err e
-  pub read : (bodies : List BodyOf) → codes ≡ Ok bodies → MatchResult others (λ r. IsReadWith profile b bodies r.lists) (λ e. FailsAs e e.kind (module_at profile b))
+  pub read : (bodies : List BodyOf) → codes ≡ Ok bodies → MatchResult others (λ r. IsReadWith profile b bodies r.lists)
+      (λ e. FailsAs e e.kind (module_at profile b))
 
 -- what was read up to the section of codes, that section, and what is left
 pub record IsFront (profile : Profile) (b : List ℕ) (r : PartlyRead) (s : Section) : Type 0 where

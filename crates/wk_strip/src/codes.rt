@@ -42,9 +42,9 @@ impl Codes {
     // The codes of a section, where that many functions were declared.
     #[tactic(auto, unfolding(wk_module::specs::Sections::codes_at))]
     pub(crate) fn of(section: &RawSection<'_>, funcs: usize) -> Result<Codes, ReadFault>
-        ensures { MatchResult result
-            (BeginsCodes (raw_view section.now) funcs)
-            (λ e. (profile : Profile) → FailsAs e e.kind (codes_of profile funcs (raw_view section.now))) }
+        ensures { MatchResult result (BeginsCodes (raw_view section.now) funcs)
+            (λ e. (profile : Profile)
+            → FailsAs e e.kind (codes_of profile funcs (raw_view section.now))) }
     {
         let mut cursor = section.cursor();
         let mismatch = cursor.fault(ReadKind::FuncCodeCount);
@@ -109,9 +109,9 @@ fn rewrite_code(
     requires order { place.read ≤ place.end }
     requires within { place.end ≤ length bytes.old }
     requires few { place.end ≤ limit }
-    ensures { MatchResult result
-        (IsRewritten profile bytes.old bytes.new place)
-        (λ e. FailsAs e e.kind (code_at profile place.end (between place.read place.end bytes.old))) }
+    ensures { MatchResult result (IsRewritten profile bytes.old bytes.new place)
+        (λ e. FailsAs e e.kind
+        (code_at profile place.end (between place.read place.end bytes.old))) }
 {
     // The proof asks for what these say: that the body is no longer than the code.
     reading_of_code();

@@ -32,13 +32,15 @@ impl Model for KeptCustom {
 
     ghost view = { λ k. record { place = k.place; name = string_bytes k.name; bytes = k.bytes.items } };
 
-    ghost invariant = { λ k. k.size ≡ length (written_custom (record { place = k.place; name = string_bytes k.name; bytes = k.bytes.items })) };
+    ghost invariant = { λ k. k.size ≡ length (written_custom
+        (record { place = k.place; name = string_bytes k.name; bytes = k.bytes.items })) };
 }
 
 impl KeptCustom {
     // Appends the section.
     fn append(&self, out: &mut Vec<u8>) -> Result<(), OutOfMemory>
-        ensures { OnOk result (out.new.items ≡ out.old.items ++ framed 0 (written_custom self.now)) }
+        ensures { OnOk result
+            (out.new.items ≡ out.old.items ++ framed 0 (written_custom self.now)) }
     {
         out.push(section_id::CUSTOM)?;
         put_u32(out, self.size)?;
@@ -56,7 +58,8 @@ fn named(
     place: u8,
     section: &RawSection<'_>,
 ) -> Result<Option<KeptCustom>, OutOfMemory>
-    ensures { IfOk result (λ kept. (c : Custom) → c.place ≡ place → SpellsCustom section.now.contents.now c
+    ensures { IfOk result
+        (λ kept. (c : Custom) → c.place ≡ place → SpellsCustom section.now.contents.now c
         → kept ≡ (if bytes_eq c.name name.now then Some c else None)) }
 {
     let mut cursor = section.cursor();
@@ -96,7 +99,8 @@ pub(crate) fn kept_customs(
     bytes: &[u8],
     keep: Option<&Text>,
 ) -> Result<Vec<KeptCustom>, OutOfMemory>
-    ensures { IfOk result (λ kept. AreKept (option_map (λ name. name.now) keep.entry) bytes.now kept.items) }
+    ensures { IfOk result
+        (λ kept. AreKept (option_map (λ name. name.now) keep.entry) bytes.now kept.items) }
 {
     let mut kept = Vec::new(alloc);
     let Some(name) = keep else {

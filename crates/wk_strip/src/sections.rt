@@ -25,7 +25,8 @@ pub(crate) fn append_sections(
 ) -> Result<Vec<u8>, EncodeFault>
     requires { first ≤ end }
     ensures { MatchResult result
-        (λ longer. longer.items ≡ bytes.items ++ sections_from (listed lists.now) customs.now first (end - first))
+        (λ longer. longer.items
+        ≡ bytes.items ++ sections_from (listed lists.now) customs.now first (end - first))
         (λ e. e ≡ TooLarge → IsTooLong (listed lists.now) first end) }
 {
     let mut out = bytes;
@@ -44,7 +45,8 @@ pub(crate) fn begin(
     end: u8,
 ) -> Result<Vec<u8>, EncodeFault>
     ensures { MatchResult result
-        (λ bytes. bytes.items ≡ (magic ++ version) ++ sections_from (listed lists.now) customs.now 0 end)
+        (λ bytes. bytes.items
+        ≡ (magic ++ version) ++ sections_from (listed lists.now) customs.now 0 end)
         (λ e. e ≡ TooLarge → IsTooLong (listed lists.now) 0 end) }
 {
     let mut bytes = Vec::new(alloc);

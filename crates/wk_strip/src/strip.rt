@@ -50,10 +50,13 @@ fn assemble(
 ) -> Result<Stripped, OutOfMemory>
     requires within { gap ≤ length codes.items }
     requires few { length lists.now.funcs.now < 2 ^ 32 }
-    requires fits { length (short (length lists.now.funcs.now)) + (length codes.items - gap) ≤ limit }
+    requires fits { length (short (length lists.now.funcs.now)) + (length codes.items - gap)
+        ≤ limit }
     requires front { IsTooLong (listed lists.now) 0 10 → ⊥ }
     requires short { IsTooLong (listed lists.now) 10 12 → ⊥ }
-    ensures { IfOk result (λ s. s ≡ (((magic ++ version) ++ sections_from (listed lists.now) kept.now 0 10)
+    ensures { IfOk result
+        (λ s. s
+        ≡ (((magic ++ version) ++ sections_from (listed lists.now) kept.now 0 10)
         ++ code_front (length lists.now.funcs.now) (length codes.items - gap))
         ++ (drop gap codes.items ++ sections_from (listed lists.now) kept.now 10 2)) }
 {
@@ -266,10 +269,13 @@ pub fn strip_bytes(
     keep: Option<&Text>,
 ) -> Result<Stripped, ReadFault>
     ensures exact { MatchResult result
-        (λ s. (m : Parts) × (module_at profile bytes.items ≡ Ok m) × (s ≡ encoded (settle (with_kept (option_map (λ name. name.now) keep.entry) m))))
+        (λ s. (m : Parts) × (module_at profile bytes.items ≡ Ok m)
+        × (s ≡ encoded (settle (with_kept (option_map (λ name. name.now) keep.entry) m))))
         (λ e. FailsAs e e.kind (module_at profile bytes.items)) }
-    ensures meaning { IfOk result (λ s. IsStripped profile (option_map (λ name. name.now) keep.entry) bytes.items s) }
-    ensures refused { IfErr result (λ e. e.kind ≢ ReadKind.Memory → SpellsNone profile bytes.items) }
+    ensures meaning { IfOk result
+        (λ s. IsStripped profile (option_map (λ name. name.now) keep.entry) bytes.items s) }
+    ensures refused { IfErr result
+        (λ e. e.kind ≢ ReadKind.Memory → SpellsNone profile bytes.items) }
     ensures fault { IfErr result (λ e. StandsIn bytes.items e) }
 {
     let input: &[u8] = &bytes;

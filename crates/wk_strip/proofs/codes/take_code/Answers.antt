@@ -18,5 +18,7 @@ returns c =
     let behind = size.exact.1 ∙ ends in
     let piece = code.spelling in
     rw c.within.ensures
-    (is_taken b read end size.spelling.0 c.u32.new.self.rest c.in_ok-code.code.now c.take.new.self.rest c.in_ok-size.size c.at-at.result c.requires.order c.requires.within size.spelling.1 (sym rest ∙ size.spelling.2)
-    (rw (rest, ends) at size.exact.0) (rw behind at code.exact.0) code.len (piece.2 ∙ ap (λ b'. b' ++ c.take.new.self.rest) piece.1.0) (c.at-at.ensures.end ∙ behind))
+    (is_taken b read end size.spelling.0 c.u32.new.self.rest c.in_ok-code.code.now c.take.new.self.rest c.in_ok-size.size c.at-at.result
+    c.requires.order c.requires.within size.spelling.1 (sym rest ∙ size.spelling.2)
+    (rw (rest, ends) at size.exact.0) (rw behind at code.exact.0) code.len (piece.2 ∙ ap (λ b'. b' ++ c.take.new.self.rest) piece.1.0)
+    (c.at-at.ensures.end ∙ behind))

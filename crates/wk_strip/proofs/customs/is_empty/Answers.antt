@@ -13,7 +13,9 @@ returns-in_default c =
 pub returns-then-count-eq0 : goal.returns-then-count-eq0
 returns-then-count-eq0 c =
     let s = c.in-Ok.ensures.spelling in
-    empty_decides (frame_of (raw_view c.args.section.now)) s.0 _ _ _ s.1 (rw c.cursor-cursor.ensures at s.2) c.if-section-eq-START.false c.if-count-eq0.true (c.is_empty.ensures ∙ ap (λ (xs : List ℕ). eqb (length xs) 0) c.rest.ensures)
+    empty_decides (frame_of (raw_view c.args.section.now)) s.0 _ _ _ s.1
+    (rw c.cursor-cursor.ensures at s.2) c.if-section-eq-START.false c.if-count-eq0.true
+    (c.is_empty.ensures ∙ ap (λ (xs : List ℕ). eqb (length xs) 0) c.rest.ensures)
 
 pub returns-else-count-eq0 : goal.returns-else-count-eq0
 returns-else-count-eq0 c =

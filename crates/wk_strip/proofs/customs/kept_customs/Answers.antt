@@ -13,7 +13,12 @@ returns-in_default c = λ fs cs framing customs. rw (c.in_default.is, c.new-kept
 
 pub loop-section-init : goal.loop-section-init
 loop-section-init c =
-    record { can = tt; ends = tt; left = rw (c.into_iter-section-iterator.ensures.into_iter_gives, c.new-kept.ensures.items) (left_first c.in-Some.name.now c.args.bytes.now _ c.new-section-items.ensures.only) }
+    record {
+      can = tt;
+      ends = tt;
+      left = rw (c.into_iter-section-iterator.ensures.into_iter_gives, c.new-kept.ensures.items)
+          (left_first c.in-Some.name.now c.args.bytes.now _ c.new-section-items.ensures.only);
+    }
 
 pub returns-in_default-section : goal.returns-in_default-section
 returns-in_default-section c =
@@ -26,7 +31,10 @@ loop-section-preserved-in-Continue-branch-2 c =
     record {
       can = tt;
       ends = tt;
-      left = rw c.in_ok-push.ensures.items (left_custom c.in-Some.name.now c.args.bytes.now c.loop-section.place c.loop-section.kept.items (raw_view c.in-Ok.section) _ _ first c.loop-section.invariant.left (Some c.in-Some-found.custom) c.if-section-eq-CUSTOM.true (rw c.in-Some-found.is at c.in_ok-found.ensures));
+      left = rw c.in_ok-push.ensures.items
+          (left_custom c.in-Some.name.now c.args.bytes.now c.loop-section.place c.loop-section.kept.items
+          (raw_view c.in-Ok.section) _ _ first c.loop-section.invariant.left (Some c.in-Some-found.custom) c.if-section-eq-CUSTOM.true
+          (rw c.in-Some-found.is at c.in_ok-found.ensures));
     }
 
 pub loop-section-preserved-in_default-found : goal.loop-section-preserved-in_default-found
@@ -35,7 +43,9 @@ loop-section-preserved-in_default-found c =
     record {
       can = tt;
       ends = tt;
-      left = left_custom c.in-Some.name.now c.args.bytes.now c.loop-section.place c.loop-section.kept.items (raw_view c.in-Ok.section) _ _ first c.loop-section.invariant.left None c.if-section-eq-CUSTOM.true (rw c.in_default-found.is at c.in_ok-found.ensures);
+      left = left_custom c.in-Some.name.now c.args.bytes.now c.loop-section.place c.loop-section.kept.items
+          (raw_view c.in-Ok.section) _ _ first c.loop-section.invariant.left None c.if-section-eq-CUSTOM.true
+          (rw c.in_default-found.is at c.in_ok-found.ensures);
     }
 
 pub loop-section-preserved-then-not-is_empty : goal.loop-section-preserved-then-not-is_empty
@@ -44,7 +54,9 @@ loop-section-preserved-then-not-is_empty c =
     record {
       can = tt;
       ends = tt;
-      left = left_full c.in-Some.name.now c.args.bytes.now c.loop-section.place c.loop-section.kept.items (raw_view c.in-Ok.section) _ _ first c.loop-section.invariant.left c.if-section-eq-CUSTOM.false (λ empty. absurd (no_true (c.if-not-is_empty.ensures.1 empty)));
+      left = left_full c.in-Some.name.now c.args.bytes.now c.loop-section.place c.loop-section.kept.items
+          (raw_view c.in-Ok.section) _ _ first c.loop-section.invariant.left c.if-section-eq-CUSTOM.false
+          (λ empty. absurd (no_true (c.if-not-is_empty.ensures.1 empty)));
     }
 
 pub loop-section-preserved : goal.loop-section-preserved
@@ -53,9 +65,11 @@ loop-section-preserved c =
     record {
       can = tt;
       ends = tt;
-      left = left_empty c.in-Some.name.now c.args.bytes.now c.loop-section.place c.loop-section.kept.items (raw_view c.in-Ok.section) _ _ first c.loop-section.invariant.left c.if-section-eq-CUSTOM.false (c.if-not-is_empty.ensures.0 refl);
+      left = left_empty c.in-Some.name.now c.args.bytes.now c.loop-section.place c.loop-section.kept.items
+          (raw_view c.in-Ok.section) _ _ first c.loop-section.invariant.left c.if-section-eq-CUSTOM.false (c.if-not-is_empty.ensures.0 refl);
     }
 
 pub returns : goal.returns
 returns c =
-    rw c.in-Some.is (left_last c.in-Some.name.now c.args.bytes.now c.loop-section.place c.loop-section.kept.items _ c.in-None.ensures.steps.0 c.loop-section.invariant.left)
+    rw c.in-Some.is (left_last c.in-Some.name.now c.args.bytes.now c.loop-section.place c.loop-section.kept.items _ c.in-None.ensures.steps.0
+    c.loop-section.invariant.left)

@@ -6,5 +6,6 @@ use Rattle.wk_strip.proofs.sections.append_sections.Goals as goal
 pub loop-id-preserved : goal.loop-id-preserved
 loop-id-preserved c = record {
   least = omega (arith, c.loop-id.invariant.least);
-  left = one_section (listed c.args.lists.now) c.args.customs.now c.loop-id.id c.args.end _ _ _ _ (omega arith) c.in_ok-out.ensures c.in_ok-append_customs.ensures c.loop-id.invariant.left;
+  left = one_section (listed c.args.lists.now) c.args.customs.now c.loop-id.id c.args.end _ _ _ _
+      (omega arith) c.in_ok-out.ensures c.in_ok-append_customs.ensures c.loop-id.invariant.left;
 }

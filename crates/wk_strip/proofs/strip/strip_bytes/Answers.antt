@@ -21,25 +21,31 @@ returns-clause-exact c =
     let keep = option_map (λ name. name.now) c.args.keep in
     let reading = rw c.deref-input.ensures.value at c.reading_of_module.ensures in
     let found = rw c.deref-input.ensures.value at c.in_ok-kept.ensures in
-    told_exact c.args.profile c.args.bytes.items reading.is keep c.in_ok-kept.kept.items reading.fits found c.strip_with.result (rw c.deref.ensures.value at c.strip_with.ensures)
+    told_exact c.args.profile c.args.bytes.items reading.is keep c.in_ok-kept.kept.items reading.fits found c.strip_with.result
+    (rw c.deref.ensures.value at c.strip_with.ensures)
 
 pub returns-clause-meaning : goal.returns-clause-meaning
 returns-clause-meaning c =
     let keep = option_map (λ name. name.now) c.args.keep in
     let reading = rw c.deref-input.ensures.value at c.reading_of_module.ensures in
     let found = rw c.deref-input.ensures.value at c.in_ok-kept.ensures in
-    told_meaning c.args.profile c.args.bytes.items reading.is keep c.in_ok-kept.kept.items reading.fits found c.written_form_of_module.ensures.spells c.one_module.ensures.one c.strip_with.result (rw c.deref.ensures.value at c.strip_with.ensures)
+    told_meaning c.args.profile c.args.bytes.items reading.is keep c.in_ok-kept.kept.items reading.fits found c.written_form_of_module.ensures.spells
+    c.one_module.ensures.one c.strip_with.result (rw c.deref.ensures.value at c.strip_with.ensures)
 
 pub returns-clause-refused : goal.returns-clause-refused
 returns-clause-refused c =
     let keep = option_map (λ name. name.now) c.args.keep in
     let reading = rw c.deref-input.ensures.value at c.reading_of_module.ensures in
     let found = rw c.deref-input.ensures.value at c.in_ok-kept.ensures in
-    told_refused c.args.profile c.args.bytes.items reading.is (IsMade c.args.profile c.args.bytes.items reading.is keep c.in_ok-kept.kept.items reading.fits found) c.strip_with.result (rw c.deref.ensures.value at c.strip_with.ensures)
+    told_refused c.args.profile c.args.bytes.items reading.is
+    (IsMade c.args.profile c.args.bytes.items reading.is keep c.in_ok-kept.kept.items reading.fits found) c.strip_with.result
+    (rw c.deref.ensures.value at c.strip_with.ensures)
 
 pub returns-clause-fault : goal.returns-clause-fault
 returns-clause-fault c =
     let keep = option_map (λ name. name.now) c.args.keep in
     let reading = rw c.deref-input.ensures.value at c.reading_of_module.ensures in
     let found = rw c.deref-input.ensures.value at c.in_ok-kept.ensures in
-    told_fault c.args.profile c.args.bytes.items reading.is (IsMade c.args.profile c.args.bytes.items reading.is keep c.in_ok-kept.kept.items reading.fits found) c.strip_with.result (rw c.deref.ensures.value at c.strip_with.ensures)
+    told_fault c.args.profile c.args.bytes.items reading.is
+    (IsMade c.args.profile c.args.bytes.items reading.is keep c.in_ok-kept.kept.items reading.fits found) c.strip_with.result
+    (rw c.deref.ensures.value at c.strip_with.ensures)

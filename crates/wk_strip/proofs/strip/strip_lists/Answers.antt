@@ -17,7 +17,10 @@ written-requires c =
     let lent = c.lists-lists.result in
     let lists = c.reading_of_module.ensures.lists in
     let none = no_items lent.funcs.now (sym c.if-not-is_empty.ensures) in
-    not_too_large c.begin.result (λ f. f.items ≡ (magic ++ version) ++ sections_from (listed lent) c.args.kept.now 0 12) (IsTooLong (listed lent) 0 12) c.begin.ensures (all_fit c.args.profile c.args.bytes.now lists all (listed lent) c.requires.none c.lists-lists.ensures.lists none c.requires.read c.args.kept.now c.requires.fits)
+    not_too_large c.begin.result (λ f. f.items ≡ (magic ++ version) ++ sections_from (listed lent) c.args.kept.now 0 12)
+    (IsTooLong (listed lent) 0 12) c.begin.ensures
+    (all_fit c.args.profile c.args.bytes.now lists all (listed lent) c.requires.none c.lists-lists.ensures.lists none c.requires.read
+    c.args.kept.now c.requires.fits)
 
 pub returns : goal.returns
 returns c =
@@ -26,4 +29,5 @@ returns c =
     let lists = c.reading_of_module.ensures.lists in
     let none = no_items lent.funcs.now (sym c.if-not-is_empty.ensures) in
     let bytes = rw c.in_ok-bytes.ensures at c.begin.ensures in
-    written_alone c.args.profile c.args.bytes.now lists all (listed lent) c.requires.none c.lists-lists.ensures.lists none c.requires.read c.args.kept.now c.requires.fits c.whole.result (c.whole.ensures ∙ bytes)
+    written_alone c.args.profile c.args.bytes.now lists all (listed lent) c.requires.none c.lists-lists.ensures.lists none c.requires.read
+    c.args.kept.now c.requires.fits c.whole.result (c.whole.ensures ∙ bytes)
