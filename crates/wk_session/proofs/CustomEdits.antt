@@ -1,5 +1,6 @@
 -- Custom sections changed, and what is kept then.
-use Rattle.std.proofs.Common.{◌≡◌, ◌≢◌, ◌+◌, ◌-◌, ◌≤◌, ℕ, Bool, true, false, if◌then◌else◌, List, [], ◌∷◌, filter, length, nat_le, Some, None, Result, Ok, Err, refl, sym, ap, subst, ◌∙◌, arith}
+use Rattle.std.proofs.Common.{◌≡◌, ◌≢◌, ◌+◌, ◌-◌, ◌≤◌, ℕ, Bool, true, false, if◌then◌else◌, List, [], ◌∷◌, filter, length, nat_le, Some, None, Result, Ok, Err}
+use Rattle.std.proofs.Common.{refl, sym, ap, subst, ◌∙◌, arith}
 use Rattle.std.proofs.lemmas.Bool.{cond-true, le-leb}
 use Rattle.std.specs.List.{list_any}
 use Rattle.wk_bytes.specs.Frames.{limit}
@@ -33,7 +34,8 @@ none_kept [] = refl
 none_kept (c ∷ cs) = none_kept cs
 
 pub bare_fits : (m : Parts) → Fits m → Fits (record m { customs = [] })
-bare_fits m fits = filtered_fits (λ c. false) m (record m { customs = [] }) (ap (λ (cs : List Custom). let p : Parts = record m { customs = cs } in p) (sym (none_kept m.customs))) fits
+bare_fits m fits = filtered_fits (λ c. false) m (record m { customs = [] })
+    (ap (λ (cs : List Custom). let p : Parts = record m { customs = cs } in p) (sym (none_kept m.customs))) fits
 
 -- a module that has a length is not too large
 pub fits_settled : (n : Parts) (len : ℕ) → IsFormed n → limited (length (encoded n)) ≡ Some len → fitting (settle n) ≡ Ok (settle n)
@@ -57,7 +59,8 @@ module _ (m : Parts) (cs : List Custom) (k : Cache) (order : IsInOrderFrom 0 m.c
   customs_after new len is = omega (arith, customs_length new, limited_some len (length (encoded (record m { customs = cs }))) (sym is))
 
   -- all stays but for the length, and how much of it the customs are
-  pub customs_kept : IsInOrderFrom 0 cs → (len : ℕ) → limited (length (encoded (record m { customs = cs }))) ≡ Some len → IsKept (record m { customs = cs }) (with_customs_len len k)
+  pub customs_kept : IsInOrderFrom 0 cs → (len : ℕ) → limited (length (encoded (record m { customs = cs }))) ≡ Some len
+      → IsKept (record m { customs = cs }) (with_customs_len len k)
   customs_kept new len is = record {
     verdict = kept.verdict;
     len = is;
@@ -73,11 +76,13 @@ module _ (m : Parts) (cs : List Custom) (k : Cache) (order : IsInOrderFrom 0 m.c
   }
 
 module _ {A : Type 0} (keep : Bool) (m n p : Parts) (k : Cache) (same : p ≡ m) where
-  put_refused : (r : Result A EditFault) (f : EditFault) → (y : EditFault) × (r ≡ Err y) × (y ≡ f) → (f ≢ Memory → standing keep n ≡ Err f) → (f ≡ Memory → fitting (settle n) ≡ Ok (settle n)) → IsPut keep m n k r p k
+  put_refused : (r : Result A EditFault) (f : EditFault) → (y : EditFault) × (r ≡ Err y) × (y ≡ f) → (f ≢ Memory → standing keep n ≡ Err f)
+      → (f ≡ Memory → fitting (settle n) ≡ Ok (settle n)) → IsPut keep m n k r p k
   put_refused r f returns due fits =
       let refused : Result A EditFault = Err f in
       let at : IsPut keep m n k refused p k = (due, fits, same, refl) in
-      subst (λ (q : Result A EditFault). IsPut keep m n k q p k) (sym (returns.1 ∙ ap (λ (y : EditFault). let q : Result A EditFault = Err y in q) returns.2)) at
+      subst (λ (q : Result A EditFault). IsPut keep m n k q p k)
+      (sym (returns.1 ∙ ap (λ (y : EditFault). let q : Result A EditFault = Err y in q) returns.2)) at
 
   pub put_checked : (r : Result A EditFault) (f : EditFault) → (y : EditFault) × (r ≡ Err y) × (y ≡ f) → IsChecked keep n (Err f) → IsPut keep m n k r p k
   put_checked r f returns at = put_refused r f returns (λ other. at.1) (λ wanted. absurd (at.0 wanted))
@@ -88,15 +93,19 @@ module _ {A : Type 0} (keep : Bool) (m n p : Parts) (k : Cache) (same : p ≡ m)
 -- ---- what an edit of customs makes
 
 -- customs of a name that are there are stripped
-pub stripped_made : (keep : Bool) (name : List ℕ) (m : Parts) → list_any (is_named name) m.customs ≡ true → made keep (edits.StripCustom name) m ≡ lasting keep (settle (without_customs name m))
+pub stripped_made : (keep : Bool) (name : List ℕ) (m : Parts) → list_any (is_named name) m.customs ≡ true
+    → made keep (edits.StripCustom name) m ≡ lasting keep (settle (without_customs name m))
 stripped_made keep name m is = ap (λ (b : Bool). (if b then Ok (settle (without_customs name m)) else Err NoSuchCustom) >>= lasting keep) is
 
-pub absent_made : (keep : Bool) (name : List ℕ) (m : Parts) → list_any (is_named name) m.customs ≡ false → made keep (edits.StripCustom name) m ≡ Err NoSuchCustom
+pub absent_made : (keep : Bool) (name : List ℕ) (m : Parts) → list_any (is_named name) m.customs ≡ false
+    → made keep (edits.StripCustom name) m ≡ Err NoSuchCustom
 absent_made keep name m is = ap (λ (b : Bool). (if b then Ok (settle (without_customs name m)) else Err NoSuchCustom) >>= lasting keep) is
 
 -- what was put leads to the module with the custom
-pub put_leads : (keep : Bool) (name bytes : List ℕ) (m p : Parts) (k j : Cache) → standing keep (with_custom name bytes m) ≡ Ok (settle (with_custom name bytes m)) → p ≡ with_custom name bytes m
-    → IsFormed (with_custom name bytes m) → IsKept (with_custom name bytes m) j → Leads keep (edits.SetCustom name bytes) m (Ok (record { typed = 0; encoded = 0; sections = 1 })) p j
+pub put_leads : (keep : Bool) (name bytes : List ℕ) (m p : Parts) (k j : Cache)
+    → standing keep (with_custom name bytes m) ≡ Ok (settle (with_custom name bytes m)) → p ≡ with_custom name bytes m
+    → IsFormed (with_custom name bytes m) → IsKept (with_custom name bytes m) j
+    → Leads keep (edits.SetCustom name bytes) m (Ok (record { typed = 0; encoded = 0; sections = 1 })) p j
 put_leads keep name bytes m p k j stands same formed kept =
     let e = edits.SetCustom name bytes in
     let n = with_custom name bytes m in
@@ -104,11 +113,14 @@ put_leads keep name bytes m p k j stands same formed kept =
     let at : Leads keep e m (Ok w) n j = (stands, set_work name bytes m (settle n) (λ r. refl), formed, kept) in
     subst (λ (q : Parts). Leads keep e m (Ok w) q j) (sym same) at
 
-pub put_refusal : (keep : Bool) (name bytes : List ℕ) (m p : Parts) (k j : Cache) (out : Result Work EditFault) (f : EditFault) → (y : EditFault) × (out ≡ Err y) × (y ≡ f) → IsKept m k
-    → (f ≢ Memory → standing keep (with_custom name bytes m) ≡ Err f) → (f ≡ Memory → fitting (settle (with_custom name bytes m)) ≡ Ok (settle (with_custom name bytes m))) → p ≡ m → j ≡ k
+pub put_refusal : (keep : Bool) (name bytes : List ℕ) (m p : Parts) (k j : Cache) (out : Result Work EditFault) (f : EditFault)
+    → (y : EditFault) × (out ≡ Err y) × (y ≡ f) → IsKept m k
+    → (f ≢ Memory → standing keep (with_custom name bytes m) ≡ Err f)
+    → (f ≡ Memory → fitting (settle (with_custom name bytes m)) ≡ Ok (settle (with_custom name bytes m))) → p ≡ m → j ≡ k
     → Leads keep (edits.SetCustom name bytes) m out p j
 put_refusal keep name bytes m p k j out f returns kept due fits same stays =
     let e = edits.SetCustom name bytes in
     let refused : Result Work EditFault = Err f in
     let at : Leads keep e m refused p j = (due, (λ wanted. ap is_large (fits wanted)), same, subst (IsKept m) (sym stays) kept) in
-    subst (λ (q : Result Work EditFault). Leads keep e m q p j) (sym (returns.1 ∙ ap (λ (y : EditFault). let q : Result Work EditFault = Err y in q) returns.2)) at
+    subst (λ (q : Result Work EditFault). Leads keep e m q p j)
+    (sym (returns.1 ∙ ap (λ (y : EditFault). let q : Result Work EditFault = Err y in q) returns.2)) at

@@ -1,5 +1,6 @@
 -- A custom given other bytes, or put behind all others.
-use Rattle.std.proofs.Common.{◌≡◌, ℕ, zero, suc, ◌+◌, ◌<◌, ◌≤◌, nat_lt, Bool, true, false, cond, inl, inr, Some, None, List, [], ◌∷◌, ◌++◌, length, slice_index_or, slice_set, refl, ap, ◌∙◌, arith, length-append}
+use Rattle.std.proofs.Common.{◌≡◌, ℕ, zero, suc, ◌+◌, ◌<◌, ◌≤◌, nat_lt, Bool, true, false, cond, inl, inr, Some, None, List, [], ◌∷◌, ◌++◌, length}
+use Rattle.std.proofs.Common.{slice_index_or, slice_set, refl, ap, ◌∙◌, arith, length-append}
 use Rattle.std.proofs.lemmas.Bool.{cases_Bool}
 use Rattle.std.specs.List.{flat_map, position, position_or_len}
 use Rattle.std.specs.Str.{IsUtf8}
@@ -23,7 +24,8 @@ missed true k n test e = grind (arith, e)
 missed false k n test e = grind (arith, test)
 
 module _ (name bytes : List ℕ) where
-  put_first : (cs : List Custom) → position_or_len (is_named name) cs < length cs → custom_put name bytes cs ≡ bytes_at (position_or_len (is_named name) cs) bytes cs
+  put_first : (cs : List Custom) → position_or_len (is_named name) cs < length cs
+      → custom_put name bytes cs ≡ bytes_at (position_or_len (is_named name) cs) bytes cs
   put_first [] less = absurd (omega arith)
   put_first (c ∷ cs) less =
       elim (cases_Bool (is_named name c)) [
@@ -55,7 +57,8 @@ module _ (name bytes : List ℕ) where
 
 -- ---- other bytes
 
-pub set_bytes : (i : ℕ) (bytes : List ℕ) (cs : List Custom) (d : Custom) → i < length cs → slice_set cs i (with_bytes bytes (slice_index_or cs i d)) ≡ bytes_at i bytes cs
+pub set_bytes : (i : ℕ) (bytes : List ℕ) (cs : List Custom) (d : Custom) → i < length cs
+    → slice_set cs i (with_bytes bytes (slice_index_or cs i d)) ≡ bytes_at i bytes cs
 set_bytes i bytes [] d less = absurd (omega arith)
 set_bytes zero bytes (c ∷ cs) d less = refl
 set_bytes (suc i) bytes (c ∷ cs) d less = ap (λ (ds : List Custom). c ∷ ds) (set_bytes i bytes cs d (omega arith))
@@ -94,7 +97,13 @@ frames_bytes : (i : ℕ) (bytes : List ℕ) (cs : List Custom) (d : Custom) → 
     → frames (bytes_at i bytes cs) + length (written_frame d) ≡ frames cs + length (written_frame (with_bytes bytes d))
 frames_bytes i bytes [] d less at = absurd (omega arith)
 frames_bytes zero bytes (c ∷ cs) d less at =
-    omega (arith, frames_more c cs, frames_more (with_bytes bytes c) cs, ap (λ (x : Custom). length (written_frame x)) at, ap (λ (x : Custom). length (written_frame (with_bytes bytes x))) at)
+    omega (
+      arith,
+      frames_more c cs,
+      frames_more (with_bytes bytes c) cs,
+      ap (λ (x : Custom). length (written_frame x)) at,
+      ap (λ (x : Custom). length (written_frame (with_bytes bytes x))) at,
+    )
 frames_bytes (suc i) bytes (c ∷ cs) d less at = omega (arith, frames_more c cs, frames_more c (bytes_at i bytes cs), frames_bytes i bytes cs d (omega arith) at)
 
 frames_last : (cs : List Custom) (d : Custom) → frames (cs ++ d ∷ []) ≡ frames cs + length (written_frame d)
@@ -102,19 +111,26 @@ frames_last [] d = frames_more d [] ∙ omega arith
 frames_last (c ∷ cs) d = omega (arith, frames_more c cs, frames_more c (cs ++ d ∷ []), frames_last cs d)
 
 -- other customs change a module's length by their own
-pub length_customs : (m : Parts) (cs : List Custom) → IsInOrderFrom 0 m.customs → IsInOrderFrom 0 cs → length (encoded (record m { customs = cs })) + frames m.customs ≡ length (encoded m) + frames cs
+pub length_customs : (m : Parts) (cs : List Custom) → IsInOrderFrom 0 m.customs → IsInOrderFrom 0 cs
+    → length (encoded (record m { customs = cs })) + frames m.customs ≡ length (encoded m) + frames cs
 length_customs m cs order new = omega (arith, length-encoded m order, length-encoded (record m { customs = cs }) new)
 
 pub length_bytes : (i : ℕ) (bytes : List ℕ) (m : Parts) (d : Custom) → IsInOrderFrom 0 m.customs → i < length m.customs → d ≡ slice_index_or m.customs i d
-    → length (encoded (record m { customs = bytes_at i bytes m.customs })) + length (written_frame d) ≡ length (encoded m) + length (written_frame (with_bytes bytes d))
+    → length (encoded (record m { customs = bytes_at i bytes m.customs })) + length (written_frame d)
+    ≡ length (encoded m) + length (written_frame (with_bytes bytes d))
 length_bytes i bytes m d order less at =
     omega (arith, length_customs m (bytes_at i bytes m.customs) order (in_order_bytes i bytes 0 m.customs order), frames_bytes i bytes m.customs d less at)
 
-in_order_last : (name bytes : List ℕ) (least : ℕ) (cs : List Custom) → least ≤ 11 → IsInOrderFrom least cs → IsInOrderFrom least (cs ++ last_custom name bytes ∷ [])
+in_order_last : (name bytes : List ℕ) (least : ℕ) (cs : List Custom) → least ≤ 11 → IsInOrderFrom least cs
+    → IsInOrderFrom least (cs ++ last_custom name bytes ∷ [])
 in_order_last name bytes least [] most o = (most, omega arith, tt)
 in_order_last name bytes least (c ∷ cs) most o = (o.0, o.1, in_order_last name bytes c.place cs o.1 o.2)
 
 pub length_last : (name bytes : List ℕ) (m : Parts) → IsInOrderFrom 0 m.customs
     → length (encoded (record m { customs = m.customs ++ last_custom name bytes ∷ [] })) ≡ length (encoded m) + length (written_frame (last_custom name bytes))
 length_last name bytes m order =
-    omega (arith, length_customs m (m.customs ++ last_custom name bytes ∷ []) order (in_order_last name bytes 0 m.customs (omega arith) order), frames_last m.customs (last_custom name bytes))
+    omega (
+      arith,
+      length_customs m (m.customs ++ last_custom name bytes ∷ []) order (in_order_last name bytes 0 m.customs (omega arith) order),
+      frames_last m.customs (last_custom name bytes),
+    )

@@ -1,5 +1,6 @@
 -- Edits that give or replace a code entry: what the module that they make is judged by, and what is kept of it.
-use Rattle.std.proofs.Common.{◌≡◌, ◌≢◌, ℕ, ◌+◌, ◌<◌, ◌≤◌, ◌^◌, Bool, false, Some, None, List, [], ◌∷◌, ◌++◌, length, map, take, get_or, count_by, Result, Ok, Err, refl, sym, ap, subst, ◌∙◌, arith, length-append}
+use Rattle.std.proofs.Common.{◌≡◌, ◌≢◌, ℕ, ◌+◌, ◌<◌, ◌≤◌, ◌^◌, Bool, false, Some, None, List, [], ◌∷◌, ◌++◌, length, map, take, get_or, count_by, Result, Ok}
+use Rattle.std.proofs.Common.{Err, refl, sym, ap, subst, ◌∙◌, arith, length-append}
 use Rattle.std.proofs.Math.Seq.{take-append_seam}
 use Rattle.std.proofs.lemmas.List.{length-map, map_push}
 use Rattle.std.proofs.lemmas.List.Sums.{count_by-le-length, sum_by_push}
@@ -66,23 +67,28 @@ answers_lent m w is = ap answers_in is
 
 pub grows_lent : (m n : Parts) (w v : SectionLists) → w ≡ lent m → v ≡ lent n → Grows (answers_of m) (answers_of n) → Grows (answers_in w) (answers_in v)
 grows_lent m n w v old new grows =
-    subst (λ (A : Ref → Found). Grows A (answers_in v)) (sym (answers_lent m w old)) (subst (λ (B : Ref → Found). Grows (answers_of m) B) (sym (answers_lent n v new)) grows)
+    subst (λ (A : Ref → Found). Grows A (answers_in v)) (sym (answers_lent m w old))
+    (subst (λ (B : Ref → Found). Grows (answers_of m) B) (sym (answers_lent n v new)) grows)
 
-pub verdicts_lent : (m : Parts) (w : SectionLists) (fs : List Func) (vs : List BodyVerdict) → w ≡ lent m → vs ≡ map (func_verdict (answers_of m)) fs → vs ≡ map (func_verdict (answers_in w)) fs
+pub verdicts_lent : (m : Parts) (w : SectionLists) (fs : List Func) (vs : List BodyVerdict) → w ≡ lent m → vs ≡ map (func_verdict (answers_of m)) fs
+    → vs ≡ map (func_verdict (answers_in w)) fs
 verdicts_lent m w fs vs is told = told ∙ ap (λ (A : Ref → Found). map (func_verdict A) fs) (sym (answers_lent m w is))
 
-pub count_lent : (m n : Parts) (w v : SectionLists) (fs : List Func) → w ≡ lent m → v ≡ lent n → count_by (is_retyped_in (answers_in w) (answers_in v)) fs ≡ count_by (is_retyped_in (answers_of m) (answers_of n)) fs
+pub count_lent : (m n : Parts) (w v : SectionLists) (fs : List Func) → w ≡ lent m → v ≡ lent n
+    → count_by (is_retyped_in (answers_in w) (answers_in v)) fs ≡ count_by (is_retyped_in (answers_of m) (answers_of n)) fs
 count_lent m n w v fs old new =
     ap (λ (A : Ref → Found). count_by (is_retyped_in A (answers_in v)) fs) (answers_lent m w old)
     ∙ ap (λ (B : Ref → Found). count_by (is_retyped_in (answers_of m) B) fs) (answers_lent n v new)
 
 pub numbered_lent : (n : Parts) (w : SectionLists) → w ≡ lent n → IsFormed n → AreNumbered w
 numbered_lent n w is formed =
-    subst AreNumbered (sym is) (module_numbered_with (map (λ f. f.ty) n.funcs) n (omega (arith, funcs_numbered n formed, length-map n.funcs (λ (f : Func). f.ty))) formed)
+    subst AreNumbered (sym is)
+    (module_numbered_with (map (λ f. f.ty) n.funcs) n (omega (arith, funcs_numbered n formed, length-map n.funcs (λ (f : Func). f.ty))) formed)
 
 -- ---- one more item
 
-pub mapped_more : {A B : Type 0} (f : A → B) (xs : List A) (x : A) (old new : List B) (y : B) → new ≡ old ++ y ∷ [] → old ≡ map f xs → y ≡ f x → new ≡ map f (xs ++ x ∷ [])
+pub mapped_more : {A B : Type 0} (f : A → B) (xs : List A) (x : A) (old new : List B) (y : B) → new ≡ old ++ y ∷ [] → old ≡ map f xs → y ≡ f x
+    → new ≡ map f (xs ++ x ∷ [])
 mapped_more {B = B} f xs x old new y pushed told same =
     pushed ∙ (ap (λ (ys : List B). ys ++ y ∷ []) told ∙ (ap (λ (z : B). map f xs ++ z ∷ []) same ∙ sym (map_push f xs x)))
 
@@ -101,12 +107,15 @@ codes_large keep n order none =
     too_large keep n order (past_limit (length (encoded n)) (omega (arith, limited_none (codes_size n.funcs) none, codes_within n)))
 
 -- one of whose codes is too long
-code_large : (keep : Bool) (n : Parts) (i : ℕ) (f : Func) → IsInOrderFrom 0 n.customs → i < length n.funcs → f ≡ get_or n.funcs i f → limit < length (code_of f) → standing keep n ≡ Err TooLarge
+code_large : (keep : Bool) (n : Parts) (i : ℕ) (f : Func) → IsInOrderFrom 0 n.customs → i < length n.funcs → f ≡ get_or n.funcs i f
+    → limit < length (code_of f) → standing keep n ≡ Err TooLarge
 code_large keep n i f order within is large =
-    too_large keep n order (past_limit (length (encoded n)) (omega (arith, large, code_within n i f within is, length-append (short (length (code_of f))) (code_of f))))
+    too_large keep n order (past_limit (length (encoded n))
+    (omega (arith, large, code_within n i f within is, length-append (short (length (code_of f))) (code_of f))))
 
 -- so is one of which a code can't be made, unless memory was wanted
-pub unencoded : (keep : Bool) (n : Parts) (i : ℕ) (f : Func) (e : EncodeFault) → IsInOrderFrom 0 n.customs → i < length n.funcs → f ≡ get_or n.funcs i f → IsOverlong (code_of f) e
+pub unencoded : (keep : Bool) (n : Parts) (i : ℕ) (f : Func) (e : EncodeFault) → IsInOrderFrom 0 n.customs → i < length n.funcs → f ≡ get_or n.funcs i f
+    → IsOverlong (code_of f) e
     → encode_refusal e ≢ Memory → standing keep n ≡ Err (encode_refusal e)
 unencoded keep n i f encoding.TooLarge order within is over other = code_large keep n i f order within is (over (λ same. absurd cc))
 unencoded keep n i f encoding.Memory order within is over other = absurd (other refl)
@@ -130,7 +139,8 @@ codes_more fs f =
 
 -- one more verdict, where the functions before have theirs
 pub verdicts_more : (n : Parts) (w : SectionLists) (fs : List Func) (f : Func) (old new : List BodyVerdict) (v : BodyVerdict) → w ≡ lent n
-    → new ≡ old ++ v ∷ [] → old ≡ map (func_verdict (answers_in w)) fs → v ≡ func_verdict (answers_in w) f → new ≡ map (func_verdict (answers_of n)) (fs ++ f ∷ [])
+    → new ≡ old ++ v ∷ [] → old ≡ map (func_verdict (answers_in w)) fs → v ≡ func_verdict (answers_in w) f
+    → new ≡ map (func_verdict (answers_of n)) (fs ++ f ∷ [])
 verdicts_more n w fs f old new v is pushed told same =
     mapped_more (func_verdict (answers_in w)) fs f old new v pushed told same
     ∙ ap (λ (A : Ref → Found). map (func_verdict A) (fs ++ f ∷ [])) (answers_lent n w is)
@@ -144,7 +154,8 @@ pub func_formed_from : (t : ℕ) (b : BodyOf) (m : Parts) → Fits m → t < 2 ^
 func_formed_from t b m fits small valid formed = func_formed t b m (room_for_func m fits) small valid formed
 
 -- the types of the functions before, where that of one more stands behind them
-pub types_before : (m : Parts) (t n : ℕ) (types : List ℕ) → types ≡ map (λ f. f.ty) m.funcs ++ t ∷ [] → n ≡ length m.funcs → take n types ≡ map (λ f. f.ty) m.funcs
+pub types_before : (m : Parts) (t n : ℕ) (types : List ℕ) → types ≡ map (λ f. f.ty) m.funcs ++ t ∷ [] → n ≡ length m.funcs
+    → take n types ≡ map (λ f. f.ty) m.funcs
 types_before m t n types is count =
     let before : List ℕ = map (λ (f : Func). f.ty) m.funcs in
     ap (take n) is ∙ ap (λ (k : ℕ). take k (before ++ t ∷ [])) (count ∙ sym (length-map m.funcs (λ (f : Func). f.ty))) ∙ take-append_seam before (t ∷ [])
@@ -153,7 +164,8 @@ types_before m t n types is count =
 pub types_with : (t : ℕ) (b : BodyOf) (m : Parts) (types : List ℕ) → types ≡ map (λ f. f.ty) m.funcs ++ t ∷ [] → types ≡ map (λ f. f.ty) (with_func t b m).funcs
 types_with t b m types is = is ∙ sym (map_push (λ (f : Func). f.ty) m.funcs (record { ty = t; body = b }))
 
-pub func_unencoded : (keep : Bool) (t : ℕ) (b : BodyOf) (m : Parts) (e : EncodeFault) → IsInOrderFrom 0 m.customs → IsOverlong (written_body b) e → encode_refusal e ≢ Memory
+pub func_unencoded : (keep : Bool) (t : ℕ) (b : BodyOf) (m : Parts) (e : EncodeFault) → IsInOrderFrom 0 m.customs → IsOverlong (written_body b) e
+    → encode_refusal e ≢ Memory
     → standing keep (with_func t b m) ≡ Err (encode_refusal e)
 func_unencoded keep t b m e order over =
     let f : Func = record { ty = t; body = b } in
@@ -161,7 +173,8 @@ func_unencoded keep t b m e order over =
 
 -- ---- what the edits come to
 
-pub made_func : (keep : Bool) (t : ℕ) (code : List ℕ) (m : Parts) (b : BodyOf) → body_spelled m.profile code ≡ Ok b → made keep (edits.Func t code) m ≡ standing keep (with_func t b m)
+pub made_func : (keep : Bool) (t : ℕ) (code : List ℕ) (m : Parts) (b : BodyOf) → body_spelled m.profile code ≡ Ok b
+    → made keep (edits.Func t code) m ≡ standing keep (with_func t b m)
 made_func keep t code m b read =
     ap (λ (r : Result BodyOf EditFault). (r >>= λ (body : BodyOf). fitting (settle (with_func t body m))) >>= lasting keep) read
 
@@ -170,26 +183,29 @@ pub none_of : {A : Type 0} (xs : List A) → count_by (λ x. false) xs ≡ 0
 none_of [] = refl
 none_of (x ∷ xs) = none_of xs
 
-pub func_work : (t : ℕ) (code : List ℕ) (m n : Parts) (typed encoded sections : ℕ) → typed ≡ 1 + count_by (is_retyped_in (answers_of m) (answers_of n)) m.funcs → encoded ≡ 1 → sections ≡ 1
+pub func_work : (t : ℕ) (code : List ℕ) (m n : Parts) (typed encoded sections : ℕ)
+    → typed ≡ 1 + count_by (is_retyped_in (answers_of m) (answers_of n)) m.funcs → encoded ≡ 1 → sections ≡ 1
     → record { typed = typed; encoded = encoded; sections = sections } ≡ work_of (edits.Func t code) m (settle n)
 func_work t code m n typed encoded sections counted once one =
     work_is (edits.Func t code) m (settle n) typed encoded sections counted (once ∙ ap (λ (k : ℕ). 1 + k) (sym (none_of m.funcs))) one
 
-pub told_more : {A B C : Type 0} (f : A → C) (g : B → C) (xs : List A) (ys : List B) (x : A) (y : B) → map f xs ≡ map g ys → f x ≡ g y → map f (xs ++ x ∷ []) ≡ map g (ys ++ y ∷ [])
+pub told_more : {A B C : Type 0} (f : A → C) (g : B → C) (xs : List A) (ys : List B) (x : A) (y : B) → map f xs ≡ map g ys → f x ≡ g y
+    → map f (xs ++ x ∷ []) ≡ map g (ys ++ y ∷ [])
 told_more {C = C} f g xs ys x y told same =
     map_push f xs x ∙ (ap (λ (zs : List C). zs ++ f x ∷ []) told ∙ (ap (λ (z : C). map g ys ++ z ∷ []) same ∙ sym (map_push g ys y)))
 
 -- what is kept of the module with a function more
 module _ (keep : Bool) (t : ℕ) (b : BodyOf) (m : Parts) (p : Entry) (k new : Cache) where
   pub func_kept : IsPlanned keep t b (with_func t b m) m.funcs k.verdicts.items 1 p → IsKept m k → new.verdict ≡ p.appraisal.verdict → new.len ≡ p.appraisal.len
-      → new.types.items ≡ k.types.items ++ t ∷ [] → new.verdicts.items ≡ map (func_verdict (answers_of (with_func t b m))) (with_func t b m).funcs → new.refs.items ≡ k.refs.items ++ p.uses ∷ []
+      → new.types.items ≡ k.types.items ++ t ∷ [] → new.verdicts.items ≡ map (func_verdict (answers_of (with_func t b m))) (with_func t b m).funcs
+      → new.refs.items ≡ k.refs.items ++ p.uses ∷ []
       → new.pieces.sections.items ≡ section_pieces (with_func t b m) → new.pieces.codes.items ≡ k.pieces.codes.items ++ p.code ∷ []
       → new.pieces.codes_len ≡ p.codes_len → new.pieces.customs_len ≡ k.pieces.customs_len → IsKept (with_func t b m) new
   func_kept plan kept verdict len types verdicts refs sections codes codes_len customs_len =
       let f : Func = record { ty = t; body = b } in
       record {
-        verdict = verdict ∙ plan.verdict;
-        len = plan.len ∙ ap Some (sym len);
+        verdict = verdict ∙ plan.appraised.1;
+        len = plan.appraised.2 ∙ ap Some (sym len);
         types = mapped_more (λ g. g.ty) m.funcs f k.types.items new.types.items t types kept.types refl;
         verdicts = verdicts;
         refs = ap (map (λ s. s.keys)) refs ∙ told_more (λ s. s.keys) uses_of k.refs.items m.funcs p.uses f kept.refs plan.uses;
@@ -207,7 +223,7 @@ module _ (keep : Bool) (t : ℕ) (b : BodyOf) (m : Parts) (p : Entry) (k new : C
       → Leads keep (edits.Func t code) m (Ok (record { typed = typed; encoded = encoded; sections = sections })) after new
   func_leads code after typed encoded sections read pushed plan kept counted bodies made =
       let w : Work = record { typed = typed; encoded = encoded; sections = sections } in
-      accepted keep (edits.Func t code) m (with_func t b m) after k new w pushed (made_func keep t code m b read) plan.stands
+      accepted keep (edits.Func t code) m (with_func t b m) after k new w pushed (made_func keep t code m b read) plan.appraised.0
       (func_work t code m (with_func t b m) typed encoded sections counted (bodies ∙ plan.encoded) (made ∙ plan.made)) plan.formed kept
 
 pub few_typed : (m : Parts) (k : Cache) (p : Func → Bool) (typed : ℕ) → IsKept m k → typed ≡ 1 + count_by p m.funcs → typed < 2 ^ 32

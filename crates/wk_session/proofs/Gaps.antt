@@ -25,11 +25,13 @@ cut_behind k at size bytes within =
     ∙ ap (λ (ys : List ℕ). take at (drop k bytes) ++ ys) (sym (drop-drop (at + size) k bytes))
 
 -- and with that front written over it
-pub cut_under : (front put gap old : List ℕ) (k at size all : ℕ) → put ≡ front ++ drop (length front) gap → gap ≡ cut (k + at) size old → length front ≡ k → k + at + size ≤ length old → all ≡ length gap
+pub cut_under : (front put gap old : List ℕ) (k at size all : ℕ) → put ≡ front ++ drop (length front) gap → gap ≡ cut (k + at) size old
+    → length front ≡ k → k + at + size ≤ length old → all ≡ length gap
     → take all (put ++ drop (length put) gap) ≡ front ++ cut at size (drop k old)
 cut_under front put gap old k at size all is closed count within whole =
     let short : length gap ≡ length old - size = ap length closed ∙ length-cut (k + at) size old within in
-    let put_all : all ≡ length put = omega (arith, whole, short, within, count, ap length is, length-append front (drop (length front) gap), length-drop (length front) gap) in
+    let put_all : all ≡ length put =
+    omega (arith, whole, short, within, count, ap length is, length-append front (drop (length front) gap), length-drop (length front) gap) in
     ap (λ (i : ℕ). take i (put ++ drop (length put) gap)) put_all
     ∙ take-append_seam put (drop (length put) gap)
     ∙ is

@@ -24,12 +24,20 @@ module _ (before now : Ref → Found) where
   none_retyped [] h = refl
   none_retyped (f ∷ fs) h =
       let p = is_retyped_in before now in
-      omega (arith, sum_by-cons (λ (g : Func). cond (p g) 1 0) f fs, ap {B = ℕ} (λ (b : Bool). cond b 1 0) (agree_none before now (held f) h.0), none_retyped fs h.1)
+      omega (
+        arith,
+        sum_by-cons (λ (g : Func). cond (p g) 1 0) f fs,
+        ap {B = ℕ} (λ (b : Bool). cond b 1 0) (agree_none before now (held f) h.0),
+        none_retyped fs h.1,
+      )
 
 -- what is known then, where the functions are those that were there
-pub grown_known : VerdictsStay → ReferencesStay → (m n : Parts) (v : Verdict) → module_verdict m ≡ Valid → Grows (answers_of m) (answers_of n) → n.funcs ≡ m.funcs → v ≡ module_verdict n → IsKnown (answers_of m) n v
+pub grown_known : VerdictsStay → ReferencesStay → (m n : Parts) (v : Verdict) → module_verdict m ≡ Valid → Grows (answers_of m) (answers_of n)
+    → n.funcs ≡ m.funcs → v ≡ module_verdict n → IsKnown (answers_of m) n v
 grown_known stay found m n v valid grows same verdict = record {
   verdict = verdict;
-  verdicts = subst (λ (fs : List Func). map (func_verdict (answers_of m)) fs ≡ map (func_verdict (answers_of n)) fs) (sym same) (sym (stay m (answers_of n) valid grows));
-  typed = subst (λ (fs : List Func). 0 ≡ count_by (is_retyped_in (answers_of m) (answers_of n)) fs) (sym same) (none_retyped (answers_of m) (answers_of n) m.funcs (found m (answers_of n) valid grows));
+  verdicts = subst (λ (fs : List Func). map (func_verdict (answers_of m)) fs ≡ map (func_verdict (answers_of n)) fs) (sym same)
+      (sym (stay m (answers_of n) valid grows));
+  typed = subst (λ (fs : List Func). 0 ≡ count_by (is_retyped_in (answers_of m) (answers_of n)) fs) (sym same)
+      (none_retyped (answers_of m) (answers_of n) m.funcs (found m (answers_of n) valid grows));
 }

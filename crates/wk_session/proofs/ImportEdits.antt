@@ -1,5 +1,6 @@
 -- An import more.
-use Rattle.std.proofs.Common.{◌≡◌, ℕ, ◌-◌, ◌^◌, ◌<◌, Bool, true, false, ◌||◌, if◌then◌else◌, cond, List, [], ◌∷◌, ◌++◌, length, map, take, count_by, Err, refl, ap, sym, subst, ◌∙◌, arith, length-append}
+use Rattle.std.proofs.Common.{◌≡◌, ℕ, ◌-◌, ◌^◌, ◌<◌, Bool, true, false, ◌||◌, if◌then◌else◌, cond, List, [], ◌∷◌, ◌++◌, length, map, take, count_by, Err, refl}
+use Rattle.std.proofs.Common.{ap, sym, subst, ◌∙◌, arith, length-append}
 use Rattle.std.specs.List.{list_any, AllByRecursion}
 use Rattle.std.proofs.lemmas.List.{length-map}
 use Rattle.std.proofs.lemmas.List.Sums.{sum_by-cons}
@@ -68,11 +69,13 @@ or_true false b h = h
 
 -- ---- the outcome
 
-pub made_free : (keep : Bool) (i : Import) (m : Parts) → are_parts_stuck (desc_kind i.desc) (import_place i m) m ≡ false → made keep (edits.Import i) m ≡ standing keep (after_import i m)
+pub made_free : (keep : Bool) (i : Import) (m : Parts) → are_parts_stuck (desc_kind i.desc) (import_place i m) m ≡ false
+    → made keep (edits.Import i) m ≡ standing keep (after_import i m)
 made_free keep i m free =
     ap (λ (b : Bool). (if b then Err IndexOverflow else fitting (settle (after_import i m))) >>= lasting keep) free
 
-pub made_stuck : (keep : Bool) (i : Import) (m : Parts) → are_parts_stuck (desc_kind i.desc) (import_place i m) m ≡ true → made keep (edits.Import i) m ≡ Err IndexOverflow
+pub made_stuck : (keep : Bool) (i : Import) (m : Parts) → are_parts_stuck (desc_kind i.desc) (import_place i m) m ≡ true
+    → made keep (edits.Import i) m ≡ Err IndexOverflow
 made_stuck keep i m stuck =
     ap (λ (b : Bool). (if b then Err IndexOverflow else fitting (settle (after_import i m))) >>= lasting keep) stuck
 
@@ -111,10 +114,12 @@ found_of d i m r = answers_of (after_of d i m) (ref_moved (desc_kind d) (import_
 func_finds : (i : Import) (m : Parts) (t : ℕ) → i.desc ≡ desc.Func t → (r : Ref) → answers_after (edits.Import i) m (after_import i m) r ≡ answers_of m r
 func_finds i m t is r = ap (λ (d : ImportDesc). found_of d i m r) is ∙ func_import_moves m i t is r
 
-global_finds : (i : Import) (m : Parts) (g : GlobalType) → i.desc ≡ desc.Global g → (r : Ref) → answers_after (edits.Import i) m (after_import i m) r ≡ answers_of m r
+global_finds : (i : Import) (m : Parts) (g : GlobalType) → i.desc ≡ desc.Global g → (r : Ref)
+    → answers_after (edits.Import i) m (after_import i m) r ≡ answers_of m r
 global_finds i m g is r = ap (λ (d : ImportDesc). found_of d i m r) is ∙ global_import_moves m i g is r
 
-none_retyped : (i : Import) (m : Parts) → ((r : Ref) → answers_after (edits.Import i) m (after_import i m) r ≡ answers_of m r) → (fs : List Func) → count_by (is_retyped (edits.Import i) m (after_import i m)) fs ≡ 0
+none_retyped : (i : Import) (m : Parts) → ((r : Ref) → answers_after (edits.Import i) m (after_import i m) r ≡ answers_of m r) → (fs : List Func)
+    → count_by (is_retyped (edits.Import i) m (after_import i m)) fs ≡ 0
 none_retyped i m finds fs =
     let A = answers_of m in
     let B = answers_after (edits.Import i) m (after_import i m) in
@@ -123,14 +128,16 @@ none_retyped i m finds fs =
 pub func_retypes_none : (i : Import) (m : Parts) (t : ℕ) → i.desc ≡ desc.Func t → count_by (is_retyped (edits.Import i) m (after_import i m)) m.funcs ≡ 0
 func_retypes_none i m t is = none_retyped i m (func_finds i m t is) m.funcs
 
-pub global_retypes_none : (i : Import) (m : Parts) (g : GlobalType) → i.desc ≡ desc.Global g → count_by (is_retyped (edits.Import i) m (after_import i m)) m.funcs ≡ 0
+pub global_retypes_none : (i : Import) (m : Parts) (g : GlobalType) → i.desc ≡ desc.Global g
+    → count_by (is_retyped (edits.Import i) m (after_import i m)) m.funcs ≡ 0
 global_retypes_none i m g is = none_retyped i m (global_finds i m g is) m.funcs
 
 -- the verdicts of all bodies in the module with an import of this kind of thing
 abbrev verdicts_of : ImportDesc → Import → Parts → List BodyVerdict
 verdicts_of d i m = map (func_verdict (answers_of (after_of d i m))) (after_of d i m).funcs
 
-pub func_verdicts_stay : KeepsMoved → (i : Import) (m : Parts) (t : ℕ) → i.desc ≡ desc.Func t → map (func_verdict (answers_of (after_import i m))) (after_import i m).funcs ≡ map (func_verdict (answers_of m)) m.funcs
+pub func_verdicts_stay : KeepsMoved → (i : Import) (m : Parts) (t : ℕ) → i.desc ≡ desc.Func t
+    → map (func_verdict (answers_of (after_import i m))) (after_import i m).funcs ≡ map (func_verdict (answers_of m)) m.funcs
 func_verdicts_stay keeps i m t is =
     let k = import_count kinds.Func m.imports in
     let A = answers_of m in
@@ -138,10 +145,12 @@ func_verdicts_stay keeps i m t is =
     let finds = func_import_moves m i t is in
     ap (λ (d : ImportDesc). verdicts_of d i m) is
     ∙ map_same (func_verdict B) (func_verdict A) (moved_func kinds.Func k)
-    (λ f. keeps moving.Func k A B f.ty f.ty f.body (finds (refs.Ty f.ty)) (all_of (λ (r : Ref). B (moved_ref moving.Func k r) ≡ A r) finds (refs_of f.body.instrs)))
+    (λ f. keeps moving.Func k A B f.ty f.ty f.body (finds (refs.Ty f.ty))
+    (all_of (λ (r : Ref). B (moved_ref moving.Func k r) ≡ A r) finds (refs_of f.body.instrs)))
     m.funcs
 
-pub global_verdicts_stay : KeepsMoved → (i : Import) (m : Parts) (g : GlobalType) → i.desc ≡ desc.Global g → map (func_verdict (answers_of (after_import i m))) (after_import i m).funcs ≡ map (func_verdict (answers_of m)) m.funcs
+pub global_verdicts_stay : KeepsMoved → (i : Import) (m : Parts) (g : GlobalType) → i.desc ≡ desc.Global g
+    → map (func_verdict (answers_of (after_import i m))) (after_import i m).funcs ≡ map (func_verdict (answers_of m)) m.funcs
 global_verdicts_stay keeps i m g is =
     let k = import_count kinds.Global m.imports in
     let A = answers_of m in
@@ -149,7 +158,8 @@ global_verdicts_stay keeps i m g is =
     let finds = global_import_moves m i g is in
     ap (λ (d : ImportDesc). verdicts_of d i m) is
     ∙ map_same (func_verdict B) (func_verdict A) (moved_func kinds.Global k)
-    (λ f. keeps moving.Global k A B f.ty f.ty f.body (finds (refs.Ty f.ty)) (all_of (λ (r : Ref). B (moved_ref moving.Global k r) ≡ A r) finds (refs_of f.body.instrs)))
+    (λ f. keeps moving.Global k A B f.ty f.ty f.body (finds (refs.Ty f.ty))
+    (all_of (λ (r : Ref). B (moved_ref moving.Global k r) ≡ A r) finds (refs_of f.body.instrs)))
     m.funcs
 
 -- ---- an import of a table or of a memory: no body moves, and what was found is found still
@@ -174,10 +184,12 @@ memory_leaves_funcs i m l is =
 abbrev retyped_of : ImportDesc → Parts → Parts → List Func → ℕ
 retyped_of d m n fs = count_by (is_retyped_in (answers_of m) (λ r. answers_of n (ref_moved (desc_kind d) (import_count (desc_kind d) m.imports) r))) fs
 
-pub table_retyped : (i : Import) (m n : Parts) (l : Limits) → i.desc ≡ desc.Table l → (fs : List Func) → count_by (is_retyped (edits.Import i) m n) fs ≡ count_by (is_retyped_in (answers_of m) (answers_of n)) fs
+pub table_retyped : (i : Import) (m n : Parts) (l : Limits) → i.desc ≡ desc.Table l → (fs : List Func)
+    → count_by (is_retyped (edits.Import i) m n) fs ≡ count_by (is_retyped_in (answers_of m) (answers_of n)) fs
 table_retyped i m n l is fs = ap (λ (d : ImportDesc). retyped_of d m n fs) is
 
-pub memory_retyped : (i : Import) (m n : Parts) (l : Limits) → i.desc ≡ desc.Memory l → (fs : List Func) → count_by (is_retyped (edits.Import i) m n) fs ≡ count_by (is_retyped_in (answers_of m) (answers_of n)) fs
+pub memory_retyped : (i : Import) (m n : Parts) (l : Limits) → i.desc ≡ desc.Memory l → (fs : List Func)
+    → count_by (is_retyped (edits.Import i) m n) fs ≡ count_by (is_retyped_in (answers_of m) (answers_of n)) fs
 memory_retyped i m n l is fs = ap (λ (d : ImportDesc). retyped_of d m n fs) is
 
 -- ---- the lists that are lent
@@ -194,7 +206,8 @@ before_finds p l types imports typed same is =
 abbrev pub AreLaid : Type 0
 AreLaid = (kind : Kind) (from : ℕ) (m : Parts) → with_lists (moved_lists kind from m) m ≡ record (moved_parts kind from m) { funcs = m.funcs }
 
-pub pending_lists : AreLaid → (i : Import) (m p : Parts) (types : List ℕ) (v : MovedLists) → p ≡ with_import i m → types ≡ map (λ (f : Func). f.ty) m.funcs → v ≡ moved_lists (desc_kind i.desc) (import_place i m) m
+pub pending_lists : AreLaid → (i : Import) (m p : Parts) (types : List ℕ) (v : MovedLists) → p ≡ with_import i m
+    → types ≡ map (λ (f : Func). f.ty) m.funcs → v ≡ moved_lists (desc_kind i.desc) (import_place i m) m
     → with_moved v (listed_with types p) ≡ listed_with (map (λ (f : Func). f.ty) (after_import i m).funcs) (after_import i m)
 pending_lists laid i m p types v pushed typed lists =
     let kind = desc_kind i.desc in
@@ -230,14 +243,16 @@ pushed_before i m p pushed =
 abbrev pub AreFormedMoved : Type 0
 AreFormedMoved = (kind : Kind) (from : ℕ) (m : Parts) → are_parts_stuck kind from m ≡ false → IsFormed m → IsFormed (moved_parts kind from m)
 
-pub formed_after : AreFormedMoved → (i : Import) (m : Parts) (k : Cache) → IsKept m k → are_parts_stuck (desc_kind i.desc) (import_place i m) m ≡ false → IsImport i → IsFormed m → IsFormed (after_import i m)
+pub formed_after : AreFormedMoved → (i : Import) (m : Parts) (k : Cache) → IsKept m k → are_parts_stuck (desc_kind i.desc) (import_place i m) m ≡ false
+    → IsImport i → IsFormed m → IsFormed (after_import i m)
 formed_after moves i m k kept free valid formed =
     let kind = desc_kind i.desc in
     let from = import_place i m in
     let fits = (limited_some k.len (length (encoded m)) (sym kept.len)).1 in
     import_formed i (moved_parts kind from m) (room m ImportSection fits) valid (moves kind from m free formed)
 
-pub ready_after : AreFormedMoved → (i : Import) (m p : Parts) (k : Cache) (plan : ImportPlan) → p ≡ with_import i m → IsKept m k → IsImportPlan (desc_kind i.desc) (import_place i m) m plan → IsImport i → IsFormed m
+pub ready_after : AreFormedMoved → (i : Import) (m p : Parts) (k : Cache) (plan : ImportPlan) → p ≡ with_import i m → IsKept m k
+    → IsImportPlan (desc_kind i.desc) (import_place i m) m plan → IsImport i → IsFormed m
     → IsReady i (before_import p) p k plan
 ready_after moves i m p k plan pushed kept planned valid formed =
     subst (λ (q : Parts). IsReady i q p k plan) (sym (pushed_before i m p pushed)) (record {

@@ -25,16 +25,19 @@ use Rattle.wk_session.proofs.Replacing.{map-with_items}
 
 -- ---- refusals
 
-pub unplanned : (keep : Bool) (i : Import) (m : Parts) (kind : Kind) (from : ℕ) (e : EditFault) → kind ≡ desc_kind i.desc → from ≡ import_place i m → IsUnplanned kind from m e → e ≢ Memory
+pub unplanned : (keep : Bool) (i : Import) (m : Parts) (kind : Kind) (from : ℕ) (e : EditFault) → kind ≡ desc_kind i.desc → from ≡ import_place i m
+    → IsUnplanned kind from m e → e ≢ Memory
     → made keep (edits.Import i) m ≡ Err e
 unplanned keep i m kind from e is_kind is_from why some =
-    let here : IsUnplanned (desc_kind i.desc) (import_place i m) m e = subst (λ (x : ℕ). IsUnplanned (desc_kind i.desc) x m e) is_from (subst (λ (k : Kind). IsUnplanned k from m e) is_kind why) in
+    let here : IsUnplanned (desc_kind i.desc) (import_place i m) m e =
+    subst (λ (x : ℕ). IsUnplanned (desc_kind i.desc) x m e) is_from (subst (λ (k : Kind). IsUnplanned k from m e) is_kind why) in
     made_stuck keep i m (here some).1 ∙ ap Err (sym (here some).0)
 
 -- ---- what is left
 
 -- the parts, with what moved in its place
-pub laid_parts : AreLaid → (i : Import) (m p : Parts) (plan : ImportPlan) (kind : Kind) (from : ℕ) → kind ≡ desc_kind i.desc → from ≡ import_place i m → p ≡ with_import i m → IsImportPlan (desc_kind i.desc) (import_place i m) m plan
+pub laid_parts : AreLaid → (i : Import) (m p : Parts) (plan : ImportPlan) (kind : Kind) (from : ℕ) → kind ≡ desc_kind i.desc → from ≡ import_place i m
+    → p ≡ with_import i m → IsImportPlan (desc_kind i.desc) (import_place i m) m plan
     → record (with_lists plan.lists p) { funcs = map (moved_func kind from) p.funcs } ≡ after_import i m
 laid_parts laid i m p plan kind from is_kind is_from pushed planned =
     let here = desc_kind i.desc in
@@ -50,7 +53,8 @@ abbrev set_keys : BTreeSet Ref Global → List Ref
 set_keys s = s.keys
 
 -- what functions refer to, with the sets of those that moved in their places
-pub laid_refs : (i : Import) (m : Parts) (plan : ImportPlan) (sets now : List (BTreeSet Ref Global)) → map set_keys sets ≡ map uses_of m.funcs → IsImportPlan (desc_kind i.desc) (import_place i m) m plan
+pub laid_refs : (i : Import) (m : Parts) (plan : ImportPlan) (sets now : List (BTreeSet Ref Global)) → map set_keys sets ≡ map uses_of m.funcs
+    → IsImportPlan (desc_kind i.desc) (import_place i m) m plan
     → now ≡ with_items sets plan.entries.refs.items → map set_keys now ≡ map uses_of (after_import i m).funcs
 laid_refs i m plan sets now were planned is =
     let news = plan.entries.refs.items in
@@ -59,7 +63,8 @@ laid_refs i m plan sets now were planned is =
     ∙ ap (λ (xs : List (List Ref)). with_items xs (map (option_map set_keys) news)) were
     ∙ planned.entries.refs
 
-pub same_work : (typed encoded sections : ℕ) (w : Work) → typed ≡ w.typed → encoded ≡ w.encoded → sections ≡ w.sections → record { typed = typed; encoded = encoded; sections = sections } ≡ w
+pub same_work : (typed encoded sections : ℕ) (w : Work) → typed ≡ w.typed → encoded ≡ w.encoded → sections ≡ w.sections
+    → record { typed = typed; encoded = encoded; sections = sections } ≡ w
 same_work typed encoded sections w a b c =
     ap (λ (n : ℕ). record w { typed = n; encoded = encoded; sections = sections }) a
     ∙ ap (λ (n : ℕ). record w { encoded = n; sections = sections }) b

@@ -1,5 +1,6 @@
 -- The pieces of a module with an import more.
-use Rattle.std.proofs.Common.{◌≡◌, ◌≢◌, ℕ, ◌+◌, Bool, true, false, Option, Some, None, unwrap_or, is_some, List, [], ◌∷◌, length, map, Err, refl, sym, subst, ap, ◌∙◌, arith}
+use Rattle.std.proofs.Common.{◌≡◌, ◌≢◌, ℕ, ◌+◌, Bool, true, false, Option, Some, None, unwrap_or, is_some, List, [], ◌∷◌, length, map, Err, refl, sym, subst}
+use Rattle.std.proofs.Common.{ap, ◌∙◌, arith}
 use Rattle.wk_body.specs.declared.fault.EncodeFault.{EncodeFault}
 use Rattle.wk_body.specs.declared.fault.EncodeFault.TheVariants as encoding
 use Rattle.wk_body.specs.Lengths.{limited}
@@ -42,7 +43,8 @@ start_after f (Some y) was now is = refl
 
 -- all of them are those of the module
 laid_pieces : AreLaid → (i : Import) (m : Parts) (v : MovedLists) → v ≡ moved_lists (desc_kind i.desc) (import_place i m) m
-    → with_items (section_pieces m) (news_after (listed_with (map (λ (f : Func). f.ty) (after_import i m).funcs) (after_import i m)) v) ≡ section_pieces (after_import i m)
+    → with_items (section_pieces m) (news_after (listed_with (map (λ (f : Func). f.ty) (after_import i m).funcs) (after_import i m)) v)
+    ≡ section_pieces (after_import i m)
 laid_pieces laid i m v lists =
     let kind = desc_kind i.desc in
     let from = import_place i m in
@@ -68,8 +70,10 @@ laid_pieces laid i m v lists =
     ∙ ap (λ (b : List ℕ). all (section_piece 3 n) (section_piece 6 n) (section_piece 7 n) (section_piece 8 n) b was_datas) elems
     ∙ ap (λ (b : List ℕ). all (section_piece 3 n) (section_piece 6 n) (section_piece 7 n) (section_piece 8 n) (section_piece 9 n) b) datas
 
-pub pieces_after : AreLaid → (i : Import) (m : Parts) (v : MovedLists) (l : SectionLists) (r : NewSections) (pieces : List (List ℕ)) → v ≡ moved_lists (desc_kind i.desc) (import_place i m) m
-    → l ≡ listed_with (map (λ (f : Func). f.ty) (after_import i m).funcs) (after_import i m) → IsRemadeAfter l v r → pieces ≡ section_pieces m → with_items pieces r.sections.items ≡ section_pieces (after_import i m)
+pub pieces_after : AreLaid → (i : Import) (m : Parts) (v : MovedLists) (l : SectionLists) (r : NewSections) (pieces : List (List ℕ))
+    → v ≡ moved_lists (desc_kind i.desc) (import_place i m) m
+    → l ≡ listed_with (map (λ (f : Func). f.ty) (after_import i m).funcs) (after_import i m) → IsRemadeAfter l v r → pieces ≡ section_pieces m
+    → with_items pieces r.sections.items ≡ section_pieces (after_import i m)
 pieces_after laid i m v l r pieces lists lent made kept =
     ap (λ (ps : List (List ℕ)). with_items ps r.sections.items) kept
     ∙ ap (λ (news : List (Option (List ℕ))). with_items (section_pieces m) news) (made.sections ∙ ap (λ (w : SectionLists). news_after w v) lent)
@@ -85,7 +89,8 @@ start_moves : (kind : Kind) (from : ℕ) (start : Option ℕ) → one_if (is_som
 start_moves kind from None = refl
 start_moves kind from (Some x) = some_moves _ _
 
-pub made_after : (kind : Kind) (from : ℕ) (m : Parts) (v : MovedLists) (l : SectionLists) (r : NewSections) → v ≡ moved_lists kind from m → IsRemadeAfter l v r → r.made ≡ 1 + sections_moving kind from m
+pub made_after : (kind : Kind) (from : ℕ) (m : Parts) (v : MovedLists) (l : SectionLists) (r : NewSections) → v ≡ moved_lists kind from m
+    → IsRemadeAfter l v r → r.made ≡ 1 + sections_moving kind from m
 made_after kind from m v l r lists made =
     let globals = ap (λ (w : MovedLists). one_if (is_some w.globals)) lists ∙ some_moves _ _ in
     let exports = ap (λ (w : MovedLists). one_if (is_some w.exports)) lists ∙ some_moves _ _ in
@@ -96,14 +101,18 @@ made_after kind from m v l r lists made =
 
 -- ---- refusals
 
-pub unwritten : (keep : Bool) (n : Parts) (l : SectionLists) (e : EncodeFault) → IsInOrderFrom 0 n.customs → l ≡ listed_with (map (λ (f : Func). f.ty) n.funcs) n → IsUnwritten l e
+pub unwritten : (keep : Bool) (n : Parts) (l : SectionLists) (e : EncodeFault) → IsInOrderFrom 0 n.customs
+    → l ≡ listed_with (map (λ (f : Func). f.ty) n.funcs) n → IsUnwritten l e
     → encode_refusal e ≢ Memory → standing keep n ≡ Err (encode_refusal e)
 unwritten keep n l encoding.TooLarge order lent why some =
-    let long : IsUnwritten (listed_with (map (λ (f : Func). f.ty) n.funcs) n) encoding.TooLarge = subst (λ (w : SectionLists). IsUnwritten w encoding.TooLarge) lent why in
+    let long : IsUnwritten (listed_with (map (λ (f : Func). f.ty) n.funcs) n) encoding.TooLarge =
+    subst (λ (w : SectionLists). IsUnwritten w encoding.TooLarge) lent why in
     let found = long (λ same. absurd cc) in
     section_large keep found.0 n order found.1
 unwritten keep n l encoding.Memory order lent why some = absurd (some refl)
 
-pub codes_large : (keep : Bool) (n : Parts) (codes : List (List ℕ)) → IsInOrderFrom 0 n.customs → codes ≡ map code_of n.funcs → None ≡ limited (entries_size codes) → standing keep n ≡ Err TooLarge
+pub codes_large : (keep : Bool) (n : Parts) (codes : List (List ℕ)) → IsInOrderFrom 0 n.customs → codes ≡ map code_of n.funcs
+    → None ≡ limited (entries_size codes) → standing keep n ≡ Err TooLarge
 codes_large keep n codes order are none =
-    too_large keep n order (past_limit (length (encoded n)) (omega (arith, limited_none (entries_size codes) none, ap entries_size are, entries_codes n.funcs, codes_within n)))
+    too_large keep n order (past_limit (length (encoded n))
+    (omega (arith, limited_none (entries_size codes) none, ap entries_size are, entries_codes n.funcs, codes_within n)))

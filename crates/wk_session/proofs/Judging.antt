@@ -1,5 +1,6 @@
 -- What is found before and now, and what that says of a body's verdict.
-use Rattle.std.proofs.Common.{◌≡◌, ℕ, zero, suc, ◌+◌, ◌<◌, Bool, true, false, not, List, [], ◌∷◌, length, take, map, get_or, count_by, refl, sym, ap, ◌∙◌, inl, inr, arith}
+use Rattle.std.proofs.Common.{◌≡◌, ℕ, zero, suc, ◌+◌, ◌<◌, Bool, true, false, not, List, [], ◌∷◌, length, take, map, get_or, count_by, refl, sym, ap, ◌∙◌, inl}
+use Rattle.std.proofs.Common.{inr, arith}
 use Rattle.std.specs.Prelude.{OnOk, Result, Ok, Err}
 use Rattle.std.specs.List.{list_any}
 use Rattle.std.proofs.lemmas.Bool.{cases_Bool, or_parts}
@@ -45,7 +46,8 @@ module _ (A B : Ref → Found) where
 
 -- ---- one more function
 
-pub count_more : (p : Func → Bool) (fs : List Func) (i : ℕ) (f : Func) → i < length fs → f ≡ get_or fs i f → count_by p (take (i + 1) fs) ≡ count_by p (take i fs) + one_if (p f)
+pub count_more : (p : Func → Bool) (fs : List Func) (i : ℕ) (f : Func) → i < length fs → f ≡ get_or fs i f
+    → count_by p (take (i + 1) fs) ≡ count_by p (take i fs) + one_if (p f)
 count_more p fs i f within at =
     elim (cases_Bool (p f)) [
       | inl t ↦ count_by_more_yes p fs i f within (ap p (sym at) ∙ t) ∙ sym (ap (λ (b : Bool). count_by p (take i fs) + one_if b) t)

@@ -16,7 +16,12 @@ use Rattle.wk_session.specs.Pieces.{code_of, codes_size, customs_size}
 -- settled custom sections have as many bytes
 customs_settled : (m : Parts) → IsFormed m → customs_size m.customs ≡ customs_size (settle m).customs
 customs_settled m formed =
-    omega (arith, length-encoded_settle m formed.order, length-encoded m formed.order, length-encoded (settle m) (settled_in_order (is_filled m) 0 m.customs formed.order))
+    omega (
+      arith,
+      length-encoded_settle m formed.order,
+      length-encoded m formed.order,
+      length-encoded (settle m) (settled_in_order (is_filled m) 0 m.customs formed.order),
+    )
 
 pub kept_settled : (m : Parts) (k : Cache) → IsFormed m → IsKept m k → IsKept (settle m) k
 kept_settled m k formed kept = record {

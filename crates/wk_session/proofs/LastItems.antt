@@ -19,7 +19,8 @@ but_last_push {A = A} xs x =
     let count : length all - 1 ≡ length xs = omega (arith, length-append xs (x ∷ [])) in
     ap (λ (n : ℕ). take n all) count ∙ take-append_seam xs (x ∷ [])
 
-pub types_before : (m : Parts) (t : FuncType) (ts : List FuncType) (fs : List ℕ) (l : SectionLists) → l ≡ record (listed_with fs m) { types = but_last ts } → ts ≡ m.types ++ t ∷ [] → fs ≡ map (λ f. f.ty) m.funcs
+pub types_before : (m : Parts) (t : FuncType) (ts : List FuncType) (fs : List ℕ) (l : SectionLists)
+    → l ≡ record (listed_with fs m) { types = but_last ts } → ts ≡ m.types ++ t ∷ [] → fs ≡ map (λ f. f.ty) m.funcs
     → answer_in (spaces_of l) ≡ answers_of m
 types_before m t ts fs l is types funcs =
     ap (λ (k : SectionLists). answer_in (spaces_of k)) (
@@ -28,7 +29,8 @@ types_before m t ts fs l is types funcs =
     ∙ ap (λ (gs : List ℕ). listed_with gs m) funcs
     )
 
-pub globals_before : (m : Parts) (g : GlobalDef) (gs : List GlobalDef) (fs : List ℕ) (l : SectionLists) → l ≡ record (listed_with fs m) { globals = but_last gs } → gs ≡ m.globals ++ g ∷ [] → fs ≡ map (λ f. f.ty) m.funcs
+pub globals_before : (m : Parts) (g : GlobalDef) (gs : List GlobalDef) (fs : List ℕ) (l : SectionLists)
+    → l ≡ record (listed_with fs m) { globals = but_last gs } → gs ≡ m.globals ++ g ∷ [] → fs ≡ map (λ f. f.ty) m.funcs
     → answer_in (spaces_of l) ≡ answers_of m
 globals_before m g gs fs l is globals funcs =
     ap (λ (k : SectionLists). answer_in (spaces_of k)) (

@@ -29,6 +29,7 @@ stays_valid (e ∷ es) [] m was = stays_valid es [] (after_one true e false m) (
 stays_valid (e ∷ es) (x ∷ xs) m was = stays_valid es xs (after_one true e x m) (one_valid e x m was)
 
 -- so is the module of a run, or it is as before
-pub run_valid : {A E : Type 0} (r : Result A E) (es : List Edit) (marks : A → List Bool) (m n : Parts) → IfOk r (λ a. n ≡ after true es (marks a) m) → OnErr r (n ≡ m) → module_verdict m ≡ Valid → module_verdict n ≡ Valid
+pub run_valid : {A E : Type 0} (r : Result A E) (es : List Edit) (marks : A → List Bool) (m n : Parts) → IfOk r (λ a. n ≡ after true es (marks a) m)
+    → OnErr r (n ≡ m) → module_verdict m ≡ Valid → module_verdict n ≡ Valid
 run_valid (Ok a) es marks m n is err was = ap module_verdict is ∙ stays_valid es (marks a) m was
 run_valid (Err e) es marks m n is err was = ap module_verdict err ∙ was

@@ -37,13 +37,15 @@ module _ (keep : Bool) (e : Edit) (m : Parts) (k : Cache) (kept : IsKept m k) wh
       let at : Leads keep e m (Err Memory) m k = ((λ other. absurd (other refl)), (λ same. decided), refl, kept) in
       subst (λ (q : Result Work EditFault). Leads keep e m q m k) (sym (returned r Memory p)) at
 
-  pub refused_for : (p : Parts) (f : EditFault) (r : Result Work EditFault) → Returns r f → (f ≢ Memory → made keep e m ≡ Err f) → (f ≡ Memory → is_decided e m ≡ false) → p ≡ m → Leads keep e m r p k
+  pub refused_for : (p : Parts) (f : EditFault) (r : Result Work EditFault) → Returns r f → (f ≢ Memory → made keep e m ≡ Err f)
+      → (f ≡ Memory → is_decided e m ≡ false) → p ≡ m → Leads keep e m r p k
   refused_for p f r returns due decided same =
       let at : Leads keep e m (Err f) p k = (due, decided, same, kept) in
       subst (λ (q : Result Work EditFault). Leads keep e m q p k) (sym (returned r f returns)) at
 
   -- where the edit makes n, if that may stay
-  pub refused : (n p : Parts) (f : EditFault) (r : Result Work EditFault) → Returns r f → made keep e m ≡ standing keep n → IsAppraised keep n (Err f) → (f ≡ Memory → is_decided e m ≡ false) → p ≡ m → Leads keep e m r p k
+  pub refused : (n p : Parts) (f : EditFault) (r : Result Work EditFault) → Returns r f → made keep e m ≡ standing keep n → IsAppraised keep n (Err f)
+      → (f ≡ Memory → is_decided e m ≡ false) → p ≡ m → Leads keep e m r p k
   refused n p f r returns makes judged decided same =
       refused_for p f r returns (λ other. makes ∙ judged other) decided same
 
@@ -53,7 +55,8 @@ pub too_large : (keep : Bool) (n : Parts) → IsInOrderFrom 0 n.customs → None
 too_large keep n order none =
     ap (λ (r : Result Parts EditFault). r >>= lasting keep) (fitting-none (settle n) (ap limited (length-encoded_settle n order) ∙ sym none))
 
-pub not_large : (n : Parts) (o : Option ℕ) → IsInOrderFrom 0 n.customs → o ≡ limited (length (encoded n)) → is_some o ≡ true → fitting (settle n) ≡ Ok (settle n)
+pub not_large : (n : Parts) (o : Option ℕ) → IsInOrderFrom 0 n.customs → o ≡ limited (length (encoded n)) → is_some o ≡ true
+    → fitting (settle n) ≡ Ok (settle n)
 not_large n None order is some = absurd cc
 not_large n (Some len) order is some = fitting-kept (settle n) len (ap limited (length-encoded_settle n order) ∙ sym is)
 
@@ -81,12 +84,19 @@ kept_again m k new same kept = record {
 -- ---- an acceptance
 
 -- a judgement of the new module comes to what is kept
-pub judged_kept : (keep : Bool) (before : Ref → Found) (n : Parts) (typed : ℕ) (k new : Cache) (j : Judgement) → AreKept before n k → MayStay keep before n k typed j
-    → new ≡ record k { verdict = j.appraisal.verdict; len = j.appraisal.len; verdicts = unwrap_or j.verdicts k.verdicts; pieces = record k.pieces { sections = new.pieces.sections } }
+pub judged_kept : (keep : Bool) (before : Ref → Found) (n : Parts) (typed : ℕ) (k new : Cache) (j : Judgement) → AreKept before n k
+    → MayStay keep before n k typed j
+    → new ≡ record k {
+      verdict = j.appraisal.verdict;
+      len = j.appraisal.len;
+      verdicts = unwrap_or j.verdicts k.verdicts;
+      pieces =
+          record k.pieces { sections = new.pieces.sections };
+    }
     → new.pieces.sections.items ≡ section_pieces n → IsKept n new
 judged_kept keep before n typed k new j kept may is sections = record {
-  verdict = ap (λ (x : Cache). x.verdict) is ∙ may.verdict;
-  len = may.len ∙ ap (λ (x : Cache). Some x.len) (sym is);
+  verdict = ap (λ (x : Cache). x.verdict) is ∙ may.appraised.1;
+  len = may.appraised.2 ∙ ap (λ (x : Cache). Some x.len) (sym is);
   types = ap (λ (x : Cache). x.types.items) is ∙ kept.types;
   verdicts = ap (λ (x : Cache). x.verdicts.items) is ∙ may.verdicts;
   refs = ap (λ (x : Cache). map (λ s. s.keys) x.refs.items) is ∙ kept.refs;
@@ -98,7 +108,8 @@ judged_kept keep before n typed k new j kept may is sections = record {
   };
 }
 
-pub accepted : (keep : Bool) (e : Edit) (m n p : Parts) (k new : Cache) (w : Work) → p ≡ n → made keep e m ≡ standing keep n → standing keep n ≡ Ok (settle n) → w ≡ work_of e m (settle n) → IsFormed n → IsKept n new → Leads keep e m (Ok w) p new
+pub accepted : (keep : Bool) (e : Edit) (m n p : Parts) (k new : Cache) (w : Work) → p ≡ n → made keep e m ≡ standing keep n
+    → standing keep n ≡ Ok (settle n) → w ≡ work_of e m (settle n) → IsFormed n → IsKept n new → Leads keep e m (Ok w) p new
 accepted keep e m n p k new w same makes stands works formed kept =
     let at : Leads keep e m (Ok w) n new = (makes ∙ stands, works, formed, kept) in
     subst (λ (q : Parts). Leads keep e m (Ok w) q new) (sym same) at

@@ -21,6 +21,7 @@ pub mod Lasting
 pub mod EntryEdits
 pub mod BodyEdits
 pub mod LongerLists
+pub mod Appending
 pub mod Gaps
 pub mod ShorterLists
 pub mod LastItems

@@ -1,5 +1,6 @@
 -- The contents of a list with one item more, by those of the list without it.
-use Rattle.std.proofs.Common.{get_or, ◌≡◌, ℕ, ◌+◌, ◌≤◌, Option, Some, List, [], ◌∷◌, ◌++◌, length, map, drop, set, sym, ap, ◌∙◌, arith, length-append, length-drop}
+use Rattle.std.proofs.Common.{get_or, ◌≡◌, ℕ, ◌+◌, ◌≤◌, Option, Some, List, [], ◌∷◌, ◌++◌, length, map, drop, set, sym, ap, ◌∙◌, arith, length-append}
+use Rattle.std.proofs.Common.{length-drop}
 use Rattle.std.proofs.Math.Seq.{drop-append_seam, drop-nil}
 use Rattle.std.proofs.lemmas.List.{length-map, map_push}
 use Rattle.std.proofs.lemmas.List.Concat.{flat_map-append}
@@ -32,7 +33,8 @@ module _ {A : Type 0} (written : A → List ℕ) where
   alone_is : (x : A) → drop 1 (list_contents written (x ∷ [])) ≡ written x ++ []
   alone_is x = ap (λ (front : List ℕ). drop 1 (front ++ (written x ++ []))) one_byte
 
-  longer_is : (xs : List A) (x : A) → with_item (list_contents written xs) (length xs) (drop 1 (list_contents written (x ∷ []))) ≡ list_contents written (xs ++ x ∷ [])
+  longer_is : (xs : List A) (x : A) → with_item (list_contents written xs) (length xs) (drop 1 (list_contents written (x ∷ [])))
+      ≡ list_contents written (xs ++ x ∷ [])
   longer_is [] x =
       ap (λ (item : List ℕ). short 1 ++ (drop (length (short 0)) [] ++ item)) (alone_is x)
       ∙ ap (λ (none : List ℕ). short 1 ++ (none ++ (written x ++ []))) (drop-nil (length (short 0)))
@@ -50,7 +52,14 @@ module _ {A : Type 0} (written : A → List ℕ) where
   alone_within xs x =
       let alone = list_contents written (x ∷ []) in
       let kept = drop (length (short (length xs))) (list_contents written xs) in
-      omega (arith, ap length (longer_is xs x), length-append (short (length xs + 1)) (kept ++ drop 1 alone), length-append kept (drop 1 alone), length-drop 1 alone, short-some (length xs + 1))
+      omega (
+        arith,
+        ap length (longer_is xs x),
+        length-append (short (length xs + 1)) (kept ++ drop 1 alone),
+        length-append kept (drop 1 alone),
+        length-drop 1 alone,
+        short-some (length xs + 1),
+      )
 
   -- how long the item is, as it is told of what it writes
   pub alone_len : (x : A) (len : Option ℕ) → len ≡ limited (length (written x)) → len ≡ limited (length (drop 1 (list_contents written (x ∷ []))))
@@ -61,7 +70,8 @@ pub overlong_more : (alone all : List ℕ) (e : EncodeFault) → length alone �
 overlong_more alone all e within over = λ other. omega (arith, over other, within)
 
 -- by the item itself
-pub longer_by : (id count : ℕ) (alone : List ℕ) (pieces : List (List ℕ)) (n : Parts) (item : NewItem) → IsNewItem id count alone item → IsLonger id count alone pieces n → IsLonger item.id item.count item.alone pieces n
+pub longer_by : (id count : ℕ) (alone : List ℕ) (pieces : List (List ℕ)) (n : Parts) (item : NewItem) → IsNewItem id count alone item
+    → IsLonger id count alone pieces n → IsLonger item.id item.count item.alone pieces n
 longer_by id count alone pieces n item new longer = rw (new.id_is, new.count_is, new.alone_is) longer
 
 -- how long it is
@@ -71,7 +81,8 @@ item_told item len few is =
 
 -- ---- of a module
 
-pub type_longer : (t : FuncType) (m : Parts) (pieces : List (List ℕ)) → pieces ≡ section_pieces m → IsLonger 1 (length m.types) (list_contents written_functype (t ∷ [])) pieces (with_type t m)
+pub type_longer : (t : FuncType) (m : Parts) (pieces : List (List ℕ)) → pieces ≡ section_pieces m
+    → IsLonger 1 (length m.types) (list_contents written_functype (t ∷ [])) pieces (with_type t m)
 type_longer t m pieces is = record {
   sections =
       ap (λ (ps : List (List ℕ)). set ps 1 (with_item (get_or ps 1 []) (length m.types) (drop 1 (list_contents written_functype (t ∷ []))))) is
@@ -79,7 +90,8 @@ type_longer t m pieces is = record {
   within = alone_within written_functype m.types t;
 }
 
-pub global_longer : (g : GlobalDef) (m : Parts) (pieces : List (List ℕ)) → pieces ≡ section_pieces m → IsLonger 6 (length m.globals) (list_contents written_global (g ∷ [])) pieces (record m { globals = m.globals ++ g ∷ [] })
+pub global_longer : (g : GlobalDef) (m : Parts) (pieces : List (List ℕ)) → pieces ≡ section_pieces m
+    → IsLonger 6 (length m.globals) (list_contents written_global (g ∷ [])) pieces (record m { globals = m.globals ++ g ∷ [] })
 global_longer g m pieces is = record {
   sections =
       ap (λ (ps : List (List ℕ)). set ps 6 (with_item (get_or ps 6 []) (length m.globals) (drop 1 (list_contents written_global (g ∷ []))))) is
@@ -87,7 +99,8 @@ global_longer g m pieces is = record {
   within = alone_within written_global m.globals g;
 }
 
-pub export_longer : (e : Export) (m : Parts) (pieces : List (List ℕ)) → pieces ≡ section_pieces m → IsLonger 7 (length m.exports) (list_contents written_export (e ∷ [])) pieces (with_export e m)
+pub export_longer : (e : Export) (m : Parts) (pieces : List (List ℕ)) → pieces ≡ section_pieces m
+    → IsLonger 7 (length m.exports) (list_contents written_export (e ∷ [])) pieces (with_export e m)
 export_longer e m pieces is = record {
   sections =
       ap (λ (ps : List (List ℕ)). set ps 7 (with_item (get_or ps 7 []) (length m.exports) (drop 1 (list_contents written_export (e ∷ []))))) is
@@ -95,7 +108,8 @@ export_longer e m pieces is = record {
   within = alone_within written_export m.exports e;
 }
 
-pub func_longer : (t : ℕ) (b : BodyOf) (m : Parts) (pieces : List (List ℕ)) → pieces ≡ section_pieces m → IsLonger 3 (length m.funcs) (list_contents short (t ∷ [])) pieces (with_func t b m)
+pub func_longer : (t : ℕ) (b : BodyOf) (m : Parts) (pieces : List (List ℕ)) → pieces ≡ section_pieces m
+    → IsLonger 3 (length m.funcs) (list_contents short (t ∷ [])) pieces (with_func t b m)
 func_longer t b m pieces is =
     let types : List ℕ = map (λ (f : Func). f.ty) m.funcs in
     let alone = list_contents short (t ∷ []) in

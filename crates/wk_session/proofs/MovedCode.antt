@@ -1,5 +1,6 @@
 -- What an import moves of code entries.
-use Rattle.std.proofs.Common.{◌≡◌, ℕ, ◌+◌, ◌<◌, Bool, true, false, cond, ◌||◌, List, [], ◌∷◌, ◌++◌, length, map, take, drop, get_or, count_by, Option, Some, unwrap_or, Global, refl, ap, sym, subst, ◌∙◌, arith, length-append}
+use Rattle.std.proofs.Common.{◌≡◌, ℕ, ◌+◌, ◌<◌, Bool, true, false, cond, ◌||◌, List, [], ◌∷◌, ◌++◌, length, map, take, drop, get_or, count_by, Option, Some}
+use Rattle.std.proofs.Common.{unwrap_or, Global, refl, ap, sym, subst, ◌∙◌, arith, length-append}
 use Rattle.std.specs.Prelude.{option_map, is_some, IfOk, Result, Ok, Err}
 use Rattle.std.specs.declared.collections.BTreeSet.{BTreeSet}
 use Rattle.std.specs.List.{list_any}
@@ -32,19 +33,25 @@ abbrev code_movement : Kind → ℕ → Func → Movement
 code_movement kind from f = record { moves = is_code_moving kind from f.body.instrs; stuck = is_code_stuck kind from f.body.instrs }
 
 -- of what a function refers to, its own type too, there moves what moves of its code
-pub uses_as_code : MoveAlike → (kind : Kind) (from : ℕ) (f : Func) (keys : List Ref) → keys ≡ uses_of f → uses_movement kind from keys ≡ code_movement kind from f
-uses_as_code alike kinds.Func from f keys e = alike moving.Func from keys (refs_of f.body.instrs) f.ty (subst (λ (ks : List Ref). AreSame ks (held f)) (sym e) (in_order_same (held f)))
-uses_as_code alike kinds.Global from f keys e = alike moving.Global from keys (refs_of f.body.instrs) f.ty (subst (λ (ks : List Ref). AreSame ks (held f)) (sym e) (in_order_same (held f)))
+pub uses_as_code : MoveAlike → (kind : Kind) (from : ℕ) (f : Func) (keys : List Ref) → keys ≡ uses_of f
+    → uses_movement kind from keys ≡ code_movement kind from f
+uses_as_code alike kinds.Func from f keys e = alike moving.Func from keys (refs_of f.body.instrs) f.ty
+    (subst (λ (ks : List Ref). AreSame ks (held f)) (sym e) (in_order_same (held f)))
+uses_as_code alike kinds.Global from f keys e = alike moving.Global from keys (refs_of f.body.instrs) f.ty
+    (subst (λ (ks : List Ref). AreSame ks (held f)) (sym e) (in_order_same (held f)))
 uses_as_code alike kinds.Table from f keys e = refl
 uses_as_code alike kinds.Memory from f keys e = refl
 
 -- nor is more of it stuck
-pub uses_free : MoveAlike → (kind : Moving) (from : ℕ) (f : Func) (keys : List Ref) → keys ≡ uses_of f → any_stuck kind from (refs_of f.body.instrs) ≡ false → any_stuck kind from keys ≡ false
+pub uses_free : MoveAlike → (kind : Moving) (from : ℕ) (f : Func) (keys : List Ref) → keys ≡ uses_of f
+    → any_stuck kind from (refs_of f.body.instrs) ≡ false → any_stuck kind from keys ≡ false
 uses_free alike kind from f keys e free =
-    ap (λ (m : Movement). m.stuck) (alike kind from keys (refs_of f.body.instrs) f.ty (subst (λ (ks : List Ref). AreSame ks (held f)) (sym e) (in_order_same (held f)))) ∙ free
+    ap (λ (m : Movement). m.stuck)
+    (alike kind from keys (refs_of f.body.instrs) f.ty (subst (λ (ks : List Ref). AreSame ks (held f)) (sym e) (in_order_same (held f)))) ∙ free
 
 -- the place that a loop over functions comes to is as it was
-pub next_func : (change : Func → Func) (fs now : List Func) (i : ℕ) (f : Func) → i < length fs → now ≡ map change (take i fs) ++ drop i fs → f ≡ get_or now i f → f ≡ get_or fs i f
+pub next_func : (change : Func → Func) (fs now : List Func) (i : ℕ) (f : Func) → i < length fs → now ≡ map change (take i fs) ++ drop i fs
+    → f ≡ get_or now i f → f ≡ get_or fs i f
 next_func change fs now i f lt is at =
     at ∙ ap (λ (gs : List Func). get_or gs i f) (is ∙ ap (λ (gs : List Func). map change (take i fs) ++ gs) (drop_more fs i f lt))
     ∙ get_or_at (map change (take i fs)) (get_or fs i f) (drop (i + 1) fs) f i (length-map (take i fs) change ∙ length-take-le i fs (omega (arith, lt)))
@@ -66,7 +73,8 @@ abbrev set_keys : BTreeSet Ref Global → List Ref
 set_keys s = s.keys
 
 -- what is kept of an entry that moves
-pub shifted_is : {E : Type 0} (kind : Kind) (from : ℕ) (f g : Func) (r : Result MovedEntry E) → moved_func kind from f ≡ g → is_code_moving kind from f.body.instrs ≡ true
+pub shifted_is : {E : Type 0} (kind : Kind) (from : ℕ) (f g : Func) (r : Result MovedEntry E) → moved_func kind from f ≡ g
+    → is_code_moving kind from f.body.instrs ≡ true
     → IfOk r (λ e. option_map set_keys e.refs ≡ Some (uses_of g)) → IfOk r (λ e. e.code ≡ Some (code_of g)) → IfOk r (IsMovedEntry kind from f)
 shifted_is kind from f g (Ok e) is moves refs code = record {
   refs = ap (λ (o : Option (List Ref)). unwrap_or o (uses_of f)) refs ∙ ap uses_of (sym is);
@@ -113,7 +121,8 @@ module _ (kind : Kind) (from : ℕ) where
     refs =
         ap (λ (sets : List (Option (BTreeSet Ref Global))). with_items (map uses_of (xs ++ f ∷ [])) (map (option_map set_keys) sets)) refs
         ∙ ap (with_items (map uses_of (xs ++ f ∷ []))) (map_push (option_map set_keys) e.refs.items m.refs)
-        ∙ part_push uses_of shifted xs f (map (option_map set_keys) e.refs.items) (option_map set_keys m.refs) (length-map e.refs.items (option_map set_keys) ∙ all.ref_count) is.refs all.refs;
+        ∙ part_push uses_of shifted xs f (map (option_map set_keys) e.refs.items) (option_map set_keys m.refs)
+        (length-map e.refs.items (option_map set_keys) ∙ all.ref_count) is.refs all.refs;
     codes = ap (with_items (map code_of (xs ++ f ∷ []))) codes ∙ part_push code_of shifted xs f e.codes.items m.code all.code_count is.code all.codes;
     encoded = encoded ∙ ap (λ (k : ℕ). k + one_if (is_moving f)) all.encoded ∙ sym (count_push is_moving xs f);
     ref_count = omega (arith, all.ref_count, ap length refs, length-append e.refs.items (m.refs ∷ []), length-append xs (f ∷ []));
@@ -128,7 +137,8 @@ module _ (kind : Kind) (from : ℕ) where
 
   pub entries_more : (fs : List Func) (i : ℕ) (f : Func) (e n : MovedEntries) (m : MovedEntry) → i < length fs → f ≡ get_or fs i f
       → n.refs.items ≡ e.refs.items ++ m.refs ∷ [] → n.codes.items ≡ e.codes.items ++ m.code ∷ []
-      → n.encoded ≡ e.encoded + one_if (is_moving f) → IsMovedEntry kind from f m → AreMovedEntries kind from (take i fs) e → AreMovedEntries kind from (take (i + 1) fs) n
+      → n.encoded ≡ e.encoded + one_if (is_moving f) → IsMovedEntry kind from f m → AreMovedEntries kind from (take i fs) e
+      → AreMovedEntries kind from (take (i + 1) fs) n
   entries_more fs i f e n m within at refs codes encoded is all =
       let more : take (i + 1) fs ≡ take i fs ++ f ∷ [] = take_more fs i f within ∙ ap (λ (y : Func). take i fs ++ y ∷ []) (sym at) in
       subst (λ (xs : List Func). AreMovedEntries kind from xs n) (sym more) (entries_push (take i fs) f e n m refs codes encoded is all)

@@ -7,12 +7,14 @@ use Rattle.wk_session.specs.declared.pieces.NewSections.{NewSections}
 use Rattle.wk_session.specs.Imported.{new_where, IsRemadeWhere, IsRemadeAfter}
 use Rattle.wk_session.specs.Pieces.{one_new, IsOneRemade}
 
-put_where : (moved : Bool) (id : ℕ) (contents : List ℕ) (was now xs : List (Option (List ℕ))) → now ≡ (if moved then set was id (Some contents) else was) → was ≡ xs → set xs id None ≡ xs
+put_where : (moved : Bool) (id : ℕ) (contents : List ℕ) (was now xs : List (Option (List ℕ)))
+    → now ≡ (if moved then set was id (Some contents) else was) → was ≡ xs → set xs id None ≡ xs
     → now ≡ set xs id (new_where moved contents)
 put_where true id contents was now xs is at none = is ∙ ap (λ (ys : List (Option (List ℕ))). set ys id (Some contents)) at
 put_where false id contents was now xs is at none = is ∙ at ∙ sym none
 
-pub remade_in_order : (l : SectionLists) (v : MovedLists) (a b c d e f : NewSections) → IsOneRemade 2 (contents_by l (of_number 2)) a → IsRemadeWhere l (is_some v.globals) 6 a b → IsRemadeWhere l (is_some v.exports) 7 b c
+pub remade_in_order : (l : SectionLists) (v : MovedLists) (a b c d e f : NewSections) → IsOneRemade 2 (contents_by l (of_number 2)) a
+    → IsRemadeWhere l (is_some v.globals) 6 a b → IsRemadeWhere l (is_some v.exports) 7 b c
     → IsRemadeWhere l (is_some v.start) 8 c d → IsRemadeWhere l (is_some v.elems) 9 d e → IsRemadeWhere l (is_some v.datas) 11 e f → IsRemadeAfter l v f
 remade_in_order l v a b c d e f first globals exports start elems datas =
     let contents : ℕ → List ℕ = λ id. contents_by l (of_number id) in

@@ -1,5 +1,6 @@
 -- The pieces of a module, and how long it is by them.
-use Rattle.std.proofs.Common.{◌≡◌, ◌≢◌, Bool, ℕ, ◌+◌, ◌<◌, ◌≤◌, ◌==◌, nat_le, inl, inr, if◌then◌else◌, Some, None, Err, List, [], ◌∷◌, length, map, set, refl, sym, ap, ◌∙◌, arith, length-append}
+use Rattle.std.proofs.Common.{◌≡◌, ◌≢◌, Bool, ℕ, ◌+◌, ◌<◌, ◌≤◌, ◌==◌, nat_le, inl, inr, if◌then◌else◌, Some, None, Err, List, [], ◌∷◌, length, map, set, refl}
+use Rattle.std.proofs.Common.{sym, ap, ◌∙◌, arith, length-append}
 use Rattle.std.proofs.lemmas.Bool.{cases_eq, cond-false, cond-true, le-leb, lt-leb, ne_eqb}
 use Rattle.std.proofs.lemmas.List.{length-map}
 use Rattle.std.proofs.lemmas.List.Folds.{flat_map-map}
@@ -43,20 +44,34 @@ entry_sized f = length-append (short (length (written_body f.body))) (written_bo
 pub entries_codes : (fs : List Func) → entries_size (map code_of fs) ≡ codes_size fs
 entries_codes [] = refl
 entries_codes (f ∷ fs) =
-    omega (arith, sum_by-cons (λ (code : List ℕ). entry_size (length code)) (code_of f) (map code_of fs), entries_codes fs, entry_sized f, length-append (written_code f.body) (flat_map (λ (g : Func). written_code g.body) fs))
+    omega (
+      arith,
+      sum_by-cons (λ (code : List ℕ). entry_size (length code)) (code_of f) (map code_of fs),
+      entries_codes fs,
+      entry_sized f,
+      length-append (written_code f.body) (flat_map (λ (g : Func). written_code g.body) fs),
+    )
 
-some_codes : (f : Func) (fs : List Func) → length (short (length (f ∷ fs))) + codes_size (f ∷ fs) ≡ length (section_contents CodeSection (map (λ g. g.body) (f ∷ fs)))
+some_codes : (f : Func) (fs : List Func) → length (short (length (f ∷ fs))) + codes_size (f ∷ fs)
+    ≡ length (section_contents CodeSection (map (λ g. g.body) (f ∷ fs)))
 some_codes f fs =
     let all : List Func = f ∷ fs in
     let bodies = map (λ (g : Func). g.body) all in
-    omega (arith, ap (λ (n : ℕ). length (short n)) (length-map all (λ (g : Func). g.body)), ap length (flat_map-map written_code (λ (g : Func). g.body) all), length-append (short (length bodies)) (flat_map written_code bodies))
+    omega (
+      arith,
+      ap (λ (n : ℕ). length (short n)) (length-map all (λ (g : Func). g.body)),
+      ap length (flat_map-map written_code (λ (g : Func). g.body) all),
+      length-append (short (length bodies)) (flat_map written_code bodies),
+    )
 
 -- the contents of the code section, by how many functions there are and how long their codes are
-pub code_contents_size : (fs : List Func) → (if length fs == 0 then 0 else length (short (length fs)) + codes_size fs) ≡ length (section_contents CodeSection (map (λ f. f.body) fs))
+pub code_contents_size : (fs : List Func) → (if length fs == 0 then 0 else length (short (length fs)) + codes_size fs)
+    ≡ length (section_contents CodeSection (map (λ f. f.body) fs))
 code_contents_size [] = refl
 code_contents_size (f ∷ fs) =
     let all : List Func = f ∷ fs in
-    ap (λ (b : Bool). if b then 0 else length (short (length all)) + codes_size all) (ne_eqb (length all) 0 (λ none. absurd (omega (arith, none)))) ∙ some_codes f fs
+    ap (λ (b : Bool). if b then 0 else length (short (length all)) + codes_size all) (ne_eqb (length all) 0 (λ none. absurd (omega (arith, none))))
+    ∙ some_codes f fs
 
 codes_le : (fs : List Func) → codes_size fs ≤ length (section_contents CodeSection (map (λ f. f.body) fs))
 codes_le [] = omega arith
@@ -97,6 +112,7 @@ section_large keep id n order large =
     too_large keep n order (past_limit (length (encoded n)) (omega (arith, large, section_within id n)))
 
 -- so is one of which a section can't be made, unless memory was wanted
-pub unwritten : (keep : Bool) (id : ℕ) (n : Parts) (e : EncodeFault) → IsInOrderFrom 0 n.customs → IsOverlong (section_piece id n) e → encode_refusal e ≢ Memory → standing keep n ≡ Err (encode_refusal e)
+pub unwritten : (keep : Bool) (id : ℕ) (n : Parts) (e : EncodeFault) → IsInOrderFrom 0 n.customs → IsOverlong (section_piece id n) e
+    → encode_refusal e ≢ Memory → standing keep n ≡ Err (encode_refusal e)
 unwritten keep id n encoding.TooLarge order over other = section_large keep id n order (over (λ same. absurd cc))
 unwritten keep id n encoding.Memory order over other = absurd (other refl)

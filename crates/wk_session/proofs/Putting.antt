@@ -1,6 +1,8 @@
 -- A module put out piece after piece.
-use Rattle.std.proofs.Common.{◌≡◌, ◌≢◌, ℕ, zero, suc, ◌+◌, ◌<◌, ◌≤◌, Bool, if◌then◌else◌, Option, Some, List, [], ◌∷◌, ◌++◌, length, map, take, drop, slice_get, slice_index_or, refl, sym, ap, ◌∙◌, arith, append_assoc, length-append}
+use Rattle.std.proofs.Common.{◌≡◌, ◌≢◌, ℕ, zero, suc, ◌+◌, ◌<◌, ◌≤◌, Bool, if◌then◌else◌, Option, Some, List, [], ◌∷◌, ◌++◌, length, map, take, drop, slice_get}
+use Rattle.std.proofs.Common.{slice_index_or, refl, sym, ap, ◌∙◌, arith, append_assoc, length-append}
 use Rattle.std.specs.Prelude.{Result, Ok, Err, OnOk, OnErr}
+use Rattle.std.specs.Result.{IsErr, IsErrAnd}
 use Rattle.std.proofs.lemmas.Bool.{eq-eqb}
 use Rattle.std.proofs.lemmas.List.{flat_map_more, length-map, take_more}
 use Rattle.std.proofs.lemmas.List.Sums.{sum_by-cons}
@@ -23,6 +25,7 @@ use Rattle.wk_module.specs.Writing.{contents_by, customs_at, encoded, framed, id
 use Rattle.wk_module.specs.WritingLaws.{at_place, contents_by-lent, customs_at-cons, id_is, piece_le, section_none, section_some, written_frame}
 use Rattle.wk_session.specs.Overlays.{with_items}
 use Rattle.wk_session.specs.Pieces.{code_of, code_section, entries_size, framed_some, section_piece, section_pieces}
+use Rattle.wk_session.specs.Puts.{Takes}
 use Rattle.wk_session.specs.Recoded.{encoded_with, place_with}
 use Rattle.wk_session.specs.RecodedLaws.{recoded}
 
@@ -43,16 +46,25 @@ module _ {T E : Type 0} where
   fails_later (Ok x) a b c xs ys all p q is = tt
   fails_later (Err e) a b c xs ys all p q is = rw is (TakesFront-then a b c xs ys p q)
 
-  -- the others may have taken all of theirs
-  pub takes_both : (r : Result T E) (a b c : Option (List ℕ)) (xs ys all : List ℕ) → Appends a b xs → OnOk r (Appends b c ys) → all ≡ xs ++ ys
-      → OnOk r (Appends a c all)
-  takes_both (Ok x) a b c xs ys all p q is = rw is (Appends-then a b c xs ys p q)
-  takes_both (Err e) a b c xs ys all p q is = tt
+  -- the same of calls that take all of their bytes, or fail
+  pub takes : (r : Result T E) (a b : Option (List ℕ)) (xs : List ℕ) → OnOk r (Appends a b xs) → OnErr r (TakesFront a b xs) → Takes a b xs r
+  takes (Ok x) a b xs ok err = ok
+  takes (Err e) a b xs ok err = err
+
+  pub takes_first : (r : Result T E) (a b : Option (List ℕ)) (xs ys all : List ℕ) (f : E) → IsErr r × IsErrAnd r (λ e. e ≡ f) → TakesFront a b xs
+      → all ≡ xs ++ ys → Takes a b all r
+  takes_first (Ok x) a b xs ys all f returns p is = absurd cc
+  takes_first (Err e) a b xs ys all f returns p is = rw is (TakesFront-first a b xs ys p)
+
+  pub takes_later : (r : Result T E) (a b c : Option (List ℕ)) (xs ys all : List ℕ) → Appends a b xs → Takes b c ys r → all ≡ xs ++ ys → Takes a c all r
+  takes_later (Ok x) a b c xs ys all p q is = rw is (Appends-then a b c xs ys p q)
+  takes_later (Err e) a b c xs ys all p q is = rw is (TakesFront-then a b c xs ys p q)
 
 -- ---- pieces of lists
 
 -- what comes of the items up to one, of it, and of those behind
-pub flat_split : {A : Type 0} (f : A → List ℕ) (xs : List A) (i : ℕ) (x : A) → i < length xs → x ≡ slice_index_or xs i x → flat_map f xs ≡ flat_map f (take i xs) ++ (f x ++ flat_map f (drop (suc i) xs))
+pub flat_split : {A : Type 0} (f : A → List ℕ) (xs : List A) (i : ℕ) (x : A) → i < length xs → x ≡ slice_index_or xs i x
+    → flat_map f xs ≡ flat_map f (take i xs) ++ (f x ++ flat_map f (drop (suc i) xs))
 flat_split f [] i x within is = absurd (omega arith)
 flat_split f (y ∷ xs) zero x within is = ap (λ z. f z ++ flat_map f xs) (sym is)
 flat_split f (y ∷ xs) (suc i) x within is =
@@ -67,7 +79,8 @@ flat_more f xs i x within is = ap (flat_map f) (take_more xs i x within ∙ ap (
 pub customs_split : (place : ℕ) (cs : List Custom) (i : ℕ) (c : Custom) → i < length cs → c ≡ slice_index_or cs i c
     → customs_at place cs ≡ customs_at place (take i cs) ++ (at_place c.place (written_frame c) place ++ customs_at place (drop (suc i) cs))
 customs_split place [] i c within is = absurd (omega arith)
-customs_split place (d ∷ cs) zero c within is = customs_at-cons d cs place ∙ ap (λ (e : Custom). at_place e.place (written_frame e) place ++ customs_at place cs) (sym is)
+customs_split place (d ∷ cs) zero c within is = customs_at-cons d cs place
+    ∙ ap (λ (e : Custom). at_place e.place (written_frame e) place ++ customs_at place cs) (sym is)
 customs_split place (d ∷ cs) (suc i) c within is =
     let first = at_place d.place (written_frame d) place in
     let later = at_place c.place (written_frame c) place ++ customs_at place (drop (suc i) cs) in
@@ -84,7 +97,8 @@ custom_split place cs i c within is here =
     ∙ ap (λ (b : Bool). customs_at place (take i cs) ++ ((if b then written_frame c else []) ++ customs_at place (drop (suc i) cs))) (eq-eqb c.place place here)
 
 -- an item of a list that is mapped
-pub at_map : {A B : Type 0} (f : A → B) (xs : List A) (i : ℕ) (x : A) (y : B) → i < length xs → x ≡ slice_index_or xs i x → y ≡ slice_index_or (map f xs) i y → y ≡ f x
+pub at_map : {A B : Type 0} (f : A → B) (xs : List A) (i : ℕ) (x : A) (y : B) → i < length xs → x ≡ slice_index_or xs i x
+    → y ≡ slice_index_or (map f xs) i y → y ≡ f x
 at_map f [] i x y within is at = absurd (omega arith)
 at_map f (z ∷ xs) zero x y within is at = at ∙ ap f (sym is)
 at_map f (z ∷ xs) (suc i) x y within is at = at_map f xs i x y (omega arith) is at
@@ -110,7 +124,13 @@ piece_at m id piece within is = at_map (λ (i : ℕ). section_piece i m) ids id 
 pub entries_length : (codes : List (List ℕ)) → entries_size codes ≡ length (flat_map written_bytes codes)
 entries_length [] = refl
 entries_length (c ∷ cs) =
-    omega (arith, sum_by-cons (λ (code : List ℕ). entry_size (length code)) c cs, entries_length cs, length-append (short (length c)) c, length-append (written_bytes c) (flat_map written_bytes cs))
+    omega (
+      arith,
+      sum_by-cons (λ (code : List ℕ). entry_size (length code)) c cs,
+      entries_length cs,
+      length-append (short (length c)) c,
+      length-append (written_bytes c) (flat_map written_bytes cs),
+    )
 
 entries_most : (codes : List (List ℕ)) → length codes ≤ entries_size codes
 entries_most [] = omega arith
@@ -133,7 +153,13 @@ pub contents_within : (codes : List (List ℕ)) → length codes ≢ 0 → lengt
 contents_within codes some =
     let whole = written_vector written_bytes codes in
     let section = ap length (some_codes codes some) in
-    omega (arith, section, entries_length codes, length-append (short (length codes)) (flat_map written_bytes codes), length-append (short (length whole)) whole)
+    omega (
+      arith,
+      section,
+      entries_length codes,
+      length-append (short (length codes)) (flat_map written_bytes codes),
+      length-append (short (length whole)) whole,
+    )
 
 -- the same of any codes, none or some
 pub entries_within : (codes : List (List ℕ)) → (length codes ≤ entries_size codes) × (entries_size codes ≤ length (code_section codes))

@@ -16,7 +16,8 @@ record IsFound (es : List Export) (from i : ℕ) (o : Option (List Export)) : Ty
 abbrev named : List ℕ → Export → Bool
 named name e = bytes_eq e.name name
 
-found_by : (e : Export) (es : List Export) (from i : ℕ) (here : Bool) (pos : Option ℕ) (o : Option (List Export)) → (pos ≡ Some i → IsFound es (from + 1) i o) → cond here (Some from) pos ≡ Some i
+found_by : (e : Export) (es : List Export) (from i : ℕ) (here : Bool) (pos : Option ℕ) (o : Option (List Export))
+    → (pos ≡ Some i → IsFound es (from + 1) i o) → cond here (Some from) pos ≡ Some i
     → IsFound (e ∷ es) from i (if here then Some es else option_map (λ rest. e ∷ rest) o)
 found_by e es from i true pos o later is =
     let same : Some from ≡ Some i = is in
@@ -38,7 +39,8 @@ found_from name [] from i is = absurd cc
 found_from name (e ∷ es) from i is =
     found_by e es from i (named name e) (position_from (named name) (from + 1) es) (without_first name es) (λ later. found_from name es (from + 1) i later) is
 
-missing_by : (e : Export) (es : List Export) (from : ℕ) (here : Bool) (pos : Option ℕ) (o : Option (List Export)) → (pos ≡ None → o ≡ None) → cond here (Some from) pos ≡ None → (if here then Some es else option_map (λ rest. e ∷ rest) o) ≡ None
+missing_by : (e : Export) (es : List Export) (from : ℕ) (here : Bool) (pos : Option ℕ) (o : Option (List Export)) → (pos ≡ None → o ≡ None)
+    → cond here (Some from) pos ≡ None → (if here then Some es else option_map (λ rest. e ∷ rest) o) ≡ None
 missing_by e es from true pos o later is = absurd cc
 missing_by e es from false pos o later is = ap (option_map (λ rest. e ∷ rest)) (later is)
 
@@ -52,7 +54,8 @@ missing_from name (e ∷ es) from is =
 pub found_within : (name : List ℕ) (es : List Export) (i : ℕ) → position_from (λ e. bytes_eq e.name name) 0 es ≡ Some i → i < length es
 found_within name es i is = let f = found_from name es 0 i is in omega (arith, f.at, f.within)
 
-pub without_found : (name : List ℕ) (es : List Export) (i : ℕ) → position_from (λ e. bytes_eq e.name name) 0 es ≡ Some i → without_first name es ≡ Some (remove es i)
+pub without_found : (name : List ℕ) (es : List Export) (i : ℕ) → position_from (λ e. bytes_eq e.name name) 0 es ≡ Some i
+    → without_first name es ≡ Some (remove es i)
 without_found name es i is =
     let f = found_from name es 0 i is in
     let same : f.place ≡ i = omega (arith, f.at) in

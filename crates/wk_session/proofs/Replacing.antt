@@ -1,5 +1,6 @@
 -- Lists with some items replaced.
-use Rattle.std.proofs.Common.{◌≡◌, ℕ, suc, ◌<◌, List, [], ◌∷◌, ◌++◌, length, map, set, slice_get, slice_index_or, Option, Some, None, unwrap_or, zero, refl, ap, sym, ◌∙◌, arith, Bor}
+use Rattle.std.proofs.Common.{◌≡◌, ℕ, suc, ◌<◌, List, [], ◌∷◌, ◌++◌, length, map, set, slice_get, slice_index_or, Option, Some, None, unwrap_or, zero, refl, ap}
+use Rattle.std.proofs.Common.{sym, ◌∙◌, arith, Bor}
 use Rattle.std.proofs.lemmas.Option.{slice_get-get_or}
 use Rattle.std.specs.Prelude.{option_map, option_copied}
 use Rattle.wk_session.specs.Overlays.{with_items}
@@ -13,12 +14,14 @@ with_items_none [] ns = refl
 with_items_none (x ∷ xs) [] = ap (λ ys. x ∷ ys) (with_items_all xs)
 with_items_none (x ∷ xs) (n ∷ ns) = ap (λ ys. unwrap_or n x ∷ ys) (with_items_none xs ns)
 
-at_end : {A : Type 0} (xs : List A) (ns : List (Option A)) (y : A) → length ns < length xs → with_items (set xs (length ns) y) ns ≡ with_items xs (ns ++ Some y ∷ [])
+at_end : {A : Type 0} (xs : List A) (ns : List (Option A)) (y : A) → length ns < length xs
+    → with_items (set xs (length ns) y) ns ≡ with_items xs (ns ++ Some y ∷ [])
 at_end [] ns y h = absurd (omega arith)
 at_end (x ∷ xs) [] y h = ap (λ ys. y ∷ ys) (sym (with_items_all xs))
 at_end (x ∷ xs) (n ∷ ns) y h = ap (λ ys. unwrap_or n x ∷ ys) (at_end xs ns y (omega arith))
 
-pub with_items_some : {A : Type 0} (xs : List A) (ns : List (Option A)) (k : ℕ) (y : A) → k ≡ length ns → length ns < length xs → with_items (set xs k y) ns ≡ with_items xs (ns ++ Some y ∷ [])
+pub with_items_some : {A : Type 0} (xs : List A) (ns : List (Option A)) (k : ℕ) (y : A) → k ≡ length ns → length ns < length xs
+    → with_items (set xs k y) ns ≡ with_items xs (ns ++ Some y ∷ [])
 with_items_some xs ns k y e h = ap (λ i. with_items (set xs i y) ns) e ∙ at_end xs ns y h
 
 pub empty_list : {A : Type 0} (xs : List A) → length xs ≡ 0 → xs ≡ []
@@ -42,7 +45,8 @@ map-with_items {B = B} f (x ∷ xs) (n ∷ ns) =
     ap (λ (y : B). y ∷ map f (with_items xs ns)) (told_or f n x) ∙ ap (λ (ys : List B). unwrap_or (option_map f n) (f x) ∷ ys) (map-with_items f xs ns)
 
 -- one item more, and its place
-pub with_items_push : {A : Type 0} (xs : List A) (ns : List (Option A)) (x : A) (n : Option A) → length ns ≡ length xs → with_items (xs ++ x ∷ []) (ns ++ n ∷ []) ≡ with_items xs ns ++ unwrap_or n x ∷ []
+pub with_items_push : {A : Type 0} (xs : List A) (ns : List (Option A)) (x : A) (n : Option A) → length ns ≡ length xs
+    → with_items (xs ++ x ∷ []) (ns ++ n ∷ []) ≡ with_items xs ns ++ unwrap_or n x ∷ []
 with_items_push [] [] x n h = refl
 with_items_push [] (m ∷ ns) x n h = absurd (omega arith)
 with_items_push (y ∷ xs) [] x n h = absurd (omega arith)

@@ -52,7 +52,8 @@ still_valid = refl
 dangling_moves : work_of (edits.Import imported) (calling 127) (importing (calling 127)) ≡ works 0 1 1
 dangling_moves = refl
 
-still_dangling : module_verdict (settle (importing (calling 127))) ≡ Invalid (record { kind = UnknownFunc; place = record { section = 10; item = 0; token = Some 0 } })
+still_dangling : module_verdict (settle (importing (calling 127)))
+    ≡ Invalid (record { kind = UnknownFunc; place = record { section = 10; item = 0; token = Some 0 } })
 still_dangling = refl
 
 -- a type comes for a function without one, and for its caller
@@ -127,5 +128,6 @@ with_custom_behind = record (calling 0) {
   customs = record { place = 7; name = 99 ∷ []; bytes = 170 ∷ [] } ∷ [];
 }
 
-custom_settles : export_removed (102 ∷ []) with_custom_behind ≡ Ok (record with_custom_behind { exports = []; customs = record { place = 3; name = 99 ∷ []; bytes = 170 ∷ [] } ∷ [] })
+custom_settles : export_removed (102 ∷ []) with_custom_behind
+    ≡ Ok (record with_custom_behind { exports = []; customs = record { place = 3; name = 99 ∷ []; bytes = 170 ∷ [] } ∷ [] })
 custom_settles = refl

@@ -6,7 +6,8 @@ use Rattle.wk_module.specs.Shape.{IsFormed, IsShaped, settle}
 use Rattle.wk_session.specs.declared.edit.Edit.{Edit}
 use Rattle.wk_session.specs.declared.edit.Edit.TheVariants as edits
 use Rattle.wk_session.specs.declared.edit.EditFault.{EditFault}
-use Rattle.wk_session.specs.declared.edit.EditFault.TheVariants.{NoSuchFunction, NoSuchExport, NoSuchCustom, IndexOverflow, TooLarge, BadBytes, WouldBreak, Memory}
+use Rattle.wk_session.specs.declared.edit.EditFault.TheVariants.{NoSuchFunction, NoSuchExport, NoSuchCustom, IndexOverflow, TooLarge, BadBytes, WouldBreak}
+use Rattle.wk_session.specs.declared.edit.EditFault.TheVariants.{Memory}
 use Rattle.wk_session.specs.declared.edit.Work.{Work}
 use Rattle.wk_session.specs.declared.cache.Cache.{Cache}
 use Rattle.wk_session.specs.Edits.{is_decided}
@@ -37,7 +38,8 @@ module _ (keep : Bool) (e : Edit) (m n : Parts) (k : Cache) where
   decided_after (Err f) leads = leads.1
 
 -- stripping all customs of any module is never refused
-pub strip_always : (m : Parts) (r : Result Work EditFault) → r ≡ reply_of false edits.StripAll (is_memory r) m → IfErr r (λ f. f ≡ Memory → is_decided edits.StripAll m ≡ false) → OnErr r ⊥
+pub strip_always : (m : Parts) (r : Result Work EditFault) → r ≡ reply_of false edits.StripAll (is_memory r) m
+    → IfErr r (λ f. f ≡ Memory → is_decided edits.StripAll m ≡ false) → OnErr r ⊥
 strip_always m (Ok w) reply decided = tt
 strip_always m (Err NoSuchFunction) reply decided = absurd cc
 strip_always m (Err NoSuchExport) reply decided = absurd cc

@@ -1,5 +1,6 @@
 -- The contents of a list without one of its items, by those of the list with it.
-use Rattle.std.proofs.Common.{◌≡◌, ℕ, suc, ◌+◌, ◌-◌, ◌<◌, ◌≤◌, inl, inr, Bool, if◌then◌else◌, List, [], ◌∷◌, ◌++◌, get_or, length, take, drop, set, refl, sym, ap, ◌∙◌, arith, length-append}
+use Rattle.std.proofs.Common.{◌≡◌, ℕ, suc, ◌+◌, ◌-◌, ◌<◌, ◌≤◌, inl, inr, Bool, if◌then◌else◌, List, [], ◌∷◌, ◌++◌, get_or, length, take, drop, set, refl, sym}
+use Rattle.std.proofs.Common.{ap, ◌∙◌, arith, length-append}
 use Rattle.std.proofs.Math.Seq.{drop-append_seam}
 use Rattle.std.proofs.lemmas.Bool.{cases_eq, eq-eqb, ne_eqb}
 use Rattle.std.proofs.lemmas.List.{drop-drop, take-append-drop}
@@ -54,7 +55,8 @@ module _ {A : Type 0} (written : A → List ℕ) where
   items_behind xs some =
       ap (drop (length (short (length xs)))) (some_contents xs some) ∙ drop-append_seam (short (length xs)) (flat_map written xs)
 
-  shorter_is : (xs : List A) (i : ℕ) → i < length xs → without_item (list_contents written xs) (length xs) (length (before i xs)) (length (itself i xs)) ≡ list_contents written (remove xs i)
+  shorter_is : (xs : List A) (i : ℕ) → i < length xs → without_item (list_contents written xs) (length xs) (length (before i xs)) (length (itself i xs))
+      ≡ list_contents written (remove xs i)
   shorter_is xs i within =
       let rest = remove xs i in
       let none : List ℕ = [] in
@@ -78,7 +80,8 @@ module _ {A : Type 0} (written : A → List ℕ) where
       omega (arith, ap length (parted xs i within), length-append (before i xs) (itself i xs ++ behind i xs), length-append (itself i xs) (behind i xs))
 
   -- it stands in the contents
-  pub span_within : (xs : List A) (i : ℕ) → i < length xs → length (short (length xs)) + length (before i xs) + length (itself i xs) ≤ length (list_contents written xs)
+  pub span_within : (xs : List A) (i : ℕ) → i < length xs → length (short (length xs)) + length (before i xs) + length (itself i xs)
+      ≤ length (list_contents written xs)
   span_within xs i within =
       omega (
         arith,
@@ -97,7 +100,9 @@ module _ {A : Type 0} (written : A → List ℕ) where
 -- ---- of a module
 
 pub export_shorter : (i : ℕ) (m : Parts) (pieces : List (List ℕ)) → pieces ≡ section_pieces m → i < length m.exports
-    → set pieces 7 (without_item (get_or pieces 7 []) (length m.exports) (length (before written_export i m.exports)) (length (itself written_export i m.exports))) ≡ section_pieces (record m { exports = remove m.exports i })
+    → set pieces 7 (without_item (get_or pieces 7 []) (length m.exports) (length (before written_export i m.exports))
+    (length (itself written_export i m.exports))) ≡ section_pieces (record m { exports = remove m.exports i })
 export_shorter i m pieces is within =
-    ap (λ (ps : List (List ℕ)). set ps 7 (without_item (get_or ps 7 []) (length m.exports) (length (before written_export i m.exports)) (length (itself written_export i m.exports)))) is
+    ap (λ (ps : List (List ℕ)). set ps 7
+    (without_item (get_or ps 7 []) (length m.exports) (length (before written_export i m.exports)) (length (itself written_export i m.exports)))) is
     ∙ ap (λ (bytes : List ℕ). set (section_pieces m) 7 bytes) (shorter_is written_export m.exports i within)

@@ -30,47 +30,62 @@ not_retyped A B same f = agree_none A B (held f) (same_agree A B same (held f))
 
 -- ---- works by their numbers
 
-pub work_is : (e : Edit) (m n : Parts) (typed encoded sections : ℕ) → typed ≡ given e + count_by (is_retyped e m n) (left e m) → encoded ≡ given e + count_by (is_reencoded e m) (left e m) → sections ≡ sections_made e m
+pub work_is : (e : Edit) (m n : Parts) (typed encoded sections : ℕ) → typed ≡ given e + count_by (is_retyped e m n) (left e m)
+    → encoded ≡ given e + count_by (is_reencoded e m) (left e m) → sections ≡ sections_made e m
     → record { typed = typed; encoded = encoded; sections = sections } ≡ work_of e m n
 work_is e m n typed encoded sections is_typed is_encoded is_sections =
     ap (λ (t : ℕ). let w : Work = record { typed = t; encoded = encoded; sections = sections } in w) is_typed
     ∙ ap (λ (c : ℕ). let w : Work = record { typed = given e + count_by (is_retyped e m n) (left e m); encoded = c; sections = sections } in w) is_encoded
-    ∙ ap (λ (s : ℕ). let w : Work = record { typed = given e + count_by (is_retyped e m n) (left e m); encoded = given e + count_by (is_reencoded e m) (left e m); sections = s } in w) is_sections
+    ∙ ap
+    (λ (s : ℕ).
+    let w : Work = record {
+      typed = given e + count_by (is_retyped e m n) (left e m);
+      encoded =
+          given e + count_by (is_reencoded e m) (left e m);
+      sections = s;
+    } in w) is_sections
 
 -- the work of an edit by which that many sections are made anew
 abbrev pub one_section : ℕ → Work
 one_section made = record { typed = 0; encoded = 0; sections = made }
 
 -- edits of the exports, which no reference sees
-pub export_work : (x : Export) (m n : Parts) → ((r : Ref) → answers_of n r ≡ answers_of m r) → record { typed = 0; encoded = 0; sections = 1 } ≡ work_of (edits.Export x) m n
+pub export_work : (x : Export) (m n : Parts) → ((r : Ref) → answers_of n r ≡ answers_of m r)
+    → record { typed = 0; encoded = 0; sections = 1 } ≡ work_of (edits.Export x) m n
 export_work x m n same =
     work_is (edits.Export x) m n 0 0 1
-    (sym (zero-add (count_by (is_retyped (edits.Export x) m n) m.funcs) ∙ count_zero (is_retyped (edits.Export x) m n) (not_retyped (answers_of m) (answers_of n) same) m.funcs))
+    (sym (zero-add (count_by (is_retyped (edits.Export x) m n) m.funcs)
+    ∙ count_zero (is_retyped (edits.Export x) m n) (not_retyped (answers_of m) (answers_of n) same) m.funcs))
     (sym (zero-add (count_by (is_reencoded (edits.Export x) m) m.funcs) ∙ count_zero (is_reencoded (edits.Export x) m) (λ f. refl) m.funcs))
     refl
 
-pub unexport_work : (name : List ℕ) (m n : Parts) → ((r : Ref) → answers_of n r ≡ answers_of m r) → record { typed = 0; encoded = 0; sections = 1 } ≡ work_of (edits.Unexport name) m n
+pub unexport_work : (name : List ℕ) (m n : Parts) → ((r : Ref) → answers_of n r ≡ answers_of m r)
+    → record { typed = 0; encoded = 0; sections = 1 } ≡ work_of (edits.Unexport name) m n
 unexport_work name m n same =
     work_is (edits.Unexport name) m n 0 0 1
-    (sym (zero-add (count_by (is_retyped (edits.Unexport name) m n) m.funcs) ∙ count_zero (is_retyped (edits.Unexport name) m n) (not_retyped (answers_of m) (answers_of n) same) m.funcs))
+    (sym (zero-add (count_by (is_retyped (edits.Unexport name) m n) m.funcs)
+    ∙ count_zero (is_retyped (edits.Unexport name) m n) (not_retyped (answers_of m) (answers_of n) same) m.funcs))
     (sym (zero-add (count_by (is_reencoded (edits.Unexport name) m) m.funcs) ∙ count_zero (is_reencoded (edits.Unexport name) m) (λ f. refl) m.funcs))
     refl
 
-pub set_work : (name bytes : List ℕ) (m n : Parts) → ((r : Ref) → answers_of n r ≡ answers_of m r) → record { typed = 0; encoded = 0; sections = 1 } ≡ work_of (edits.SetCustom name bytes) m n
+pub set_work : (name bytes : List ℕ) (m n : Parts) → ((r : Ref) → answers_of n r ≡ answers_of m r)
+    → record { typed = 0; encoded = 0; sections = 1 } ≡ work_of (edits.SetCustom name bytes) m n
 set_work name bytes m n same =
     let e = edits.SetCustom name bytes in
     work_is e m n 0 0 1
     (sym (zero-add (count_by (is_retyped e m n) m.funcs) ∙ count_zero (is_retyped e m n) (λ f. not_retyped (answers_of m) (answers_of n) same f) m.funcs))
     (sym (zero-add (count_by (is_reencoded e m) m.funcs) ∙ count_zero (is_reencoded e m) (λ f. refl) m.funcs)) refl
 
-pub strip_work : (name : List ℕ) (m n : Parts) → ((r : Ref) → answers_of n r ≡ answers_of m r) → record { typed = 0; encoded = 0; sections = 0 } ≡ work_of (edits.StripCustom name) m n
+pub strip_work : (name : List ℕ) (m n : Parts) → ((r : Ref) → answers_of n r ≡ answers_of m r)
+    → record { typed = 0; encoded = 0; sections = 0 } ≡ work_of (edits.StripCustom name) m n
 strip_work name m n same =
     let e = edits.StripCustom name in
     work_is e m n 0 0 0
     (sym (zero-add (count_by (is_retyped e m n) m.funcs) ∙ count_zero (is_retyped e m n) (not_retyped (answers_of m) (answers_of n) same) m.funcs))
     (sym (zero-add (count_by (is_reencoded e m) m.funcs) ∙ count_zero (is_reencoded e m) (λ f. refl) m.funcs)) refl
 
-pub strip_all_work : (m n : Parts) → ((r : Ref) → answers_of n r ≡ answers_of m r) → record { typed = 0; encoded = 0; sections = 0 } ≡ work_of edits.StripAll m n
+pub strip_all_work : (m n : Parts) → ((r : Ref) → answers_of n r ≡ answers_of m r)
+    → record { typed = 0; encoded = 0; sections = 0 } ≡ work_of edits.StripAll m n
 strip_all_work m n same =
     let e = edits.StripAll in
     work_is e m n 0 0 0

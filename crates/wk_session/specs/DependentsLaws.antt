@@ -1,6 +1,7 @@
 -- The functions that an edit has to type again are those that refer to something that changes, and those that it has to encode again hold
 -- something that moves. What it leaves of a function refers to what the function referred to, each reference moved.
-use Rattle.std.proofs.Common.{◌≡◌, ◌≢◌, ℕ, zero, suc, ◌+◌, ◌-◌, ◌<◌, nat_lt, nat_le, Bool, true, false, if◌then◌else◌, inl, inr, Option, Some, List, [], ◌∷◌, ◌++◌, length, map, take, drop, filter, get_or, Result, Ok, refl, sym, ap, subst, ◌∙◌, arith}
+use Rattle.std.proofs.Common.{◌≡◌, ◌≢◌, ℕ, zero, suc, ◌+◌, ◌-◌, ◌<◌, nat_lt, nat_le, Bool, true, if◌then◌else◌, inl, inr, Option, Some, List, [], ◌∷◌}
+use Rattle.std.proofs.Common.{◌++◌, length, map, take, drop, filter, get_or, Result, Ok, refl, sym, ap, subst, ◌∙◌, arith}
 use Rattle.std.specs.Prelude.{◌↔◌}
 use Rattle.std.specs.List.{flat_map, list_any}
 use Rattle.std.proofs.lemmas.Bool.{cases_Bool, or_left, or_right, cond-true, cond-false}
@@ -25,7 +26,7 @@ use Rattle.wk_module.specs.declared.types.Kind.TheVariants as kinds
 use Rattle.wk_module.specs.declared.types.Parts.{Parts}
 use Rattle.wk_module.specs.Changes.{with_type, with_import, with_func, with_body, with_global, with_export, first_given, without_first}
 use Rattle.wk_module.specs.Items.{desc_kind}
-use Rattle.wk_module.specs.Moving.{is_code_moving, are_parts_stuck, moved_code, moved_func, moved_parts}
+use Rattle.wk_module.specs.Moving.{is_code_moving, are_parts_stuck, moved_func, moved_parts}
 use Rattle.wk_module.specs.Shape.{settle}
 use Rattle.wk_check.specs.Carried.{moved_ref}
 use Rattle.wk_check.specs.SpacesLaws.{answers_of}
@@ -33,7 +34,7 @@ use Rattle.wk_session.specs.declared.edit.Edit.{Edit}
 use Rattle.wk_session.specs.declared.edit.Edit.TheVariants as edits
 use Rattle.wk_session.specs.declared.edit.EditFault.{EditFault}
 use Rattle.wk_session.specs.Dependents.{held, differs_in, is_retyped, is_reencoded, ref_moved, ref_after, answers_after, all_but, left}
-use Rattle.wk_session.specs.Edits.{import_place, entry_of, is_named, without_customs, with_custom, without_all_customs, edited, lasting, made}
+use Rattle.wk_session.specs.Edits.{import_place, entry_of, is_named, without_customs, with_custom, edited, made}
 use Rattle.wk_session.specs.MadeLaws.{Gives, then_lasting, fitting_gives, bytes_gives, body_gives, import_gives, exports_gives, customs_gives}
 
 -- whether a reference of m finds another thing in n, which the edit makes of m
@@ -171,12 +172,17 @@ among_all (g ∷ fs) (suc i) f r within at a = among_back r (held g) (flat_map h
 
 -- ---- the law
 
-meets : (e : Edit) (m n : Parts) (i : ℕ) (f : Function) → i < length m.funcs → f ≡ get_or m.funcs i f → is_retyped e m n f ≡ true → Meet (held_after e m f) (changed e m n)
+meets : (e : Edit) (m n : Parts) (i : ℕ) (f : Function) → i < length m.funcs → f ≡ get_or m.funcs i f → is_retyped e m n f ≡ true
+    → Meet (held_after e m f) (changed e m n)
 meets e m n i f within at h =
     let w = among_any (differs e m n) (held f) h in
     let all = among_all m.funcs i f w.0 within at w.1 in
-    let s = ref_after e m in
-    (s w.0, among_map s w.0 (held f) w.1, among_map s w.0 (filter (differs e m n) (flat_map held m.funcs)) (among_filter (differs e m n) w.0 (flat_map held m.funcs) all w.2))
+    let s = ref_after e m in (
+      s w.0,
+      among_map s w.0 (held f) w.1,
+      among_map s w.0 (filter (differs e m n) (flat_map held m.funcs))
+          (among_filter (differs e m n) w.0 (flat_map held m.funcs) all w.2),
+    )
 
 met : (e : Edit) (m n : Parts) (f : Function) → Meet (held_after e m f) (changed e m n) → is_retyped e m n f ≡ true
 met e m n f w =
@@ -189,7 +195,8 @@ met e m n f w =
 
 -- A function of m is typed again exactly where something that it refers to is among what changes.
 abbrev pub RetypedMeets : Type 0
-RetypedMeets = (e : Edit) (m n : Parts) (i : ℕ) (f : Function) → i < length m.funcs → f ≡ get_or m.funcs i f → is_retyped e m n f ≡ true ↔ Meet (held_after e m f) (changed e m n)
+RetypedMeets = (e : Edit) (m n : Parts) (i : ℕ) (f : Function) → i < length m.funcs → f ≡ get_or m.funcs i f → is_retyped e m n f ≡ true
+    ↔ Meet (held_after e m f) (changed e m n)
 
 pub retyped_meets : RetypedMeets
 retyped_meets e m n i f within at = ((λ h. meets e m n i f within at h), (λ w. met e m n f w))
@@ -264,7 +271,8 @@ other_moving moving.Global from (Global x) differs = other_index from x (λ same
 other_moving kind from r differs = absurd (differs refl)
 
 -- of functions and of globals
-code_moves : (kind : Moving) (from : ℕ) (f : Function) → list_any (is_moving kind from) (refs_of f.body.instrs) ≡ true → (r : Ref) × IsAmong r (held f) × (moved_ref kind from r ≢ r)
+code_moves : (kind : Moving) (from : ℕ) (f : Function) → list_any (is_moving kind from) (refs_of f.body.instrs) ≡ true
+    → (r : Ref) × IsAmong r (held f) × (moved_ref kind from r ≢ r)
 code_moves kind from f h =
     let w = among_any (is_moving kind from) (refs_of f.body.instrs) h in
     (w.0, inr w.1, moving_other kind from w.0 w.2)
@@ -273,14 +281,16 @@ type_stays : (kind : Moving) (from t : ℕ) → moved_ref kind from (Ty t) ≡ T
 type_stays moving.Func from t = refl
 type_stays moving.Global from t = refl
 
-moves_code : (kind : Moving) (from : ℕ) (f : Function) → ((r : Ref) × IsAmong r (held f) × (moved_ref kind from r ≢ r)) → list_any (is_moving kind from) (refs_of f.body.instrs) ≡ true
+moves_code : (kind : Moving) (from : ℕ) (f : Function) → ((r : Ref) × IsAmong r (held f) × (moved_ref kind from r ≢ r))
+    → list_any (is_moving kind from) (refs_of f.body.instrs) ≡ true
 moves_code kind from f w =
     elim w.1 [
       | inl e ↦ absurd (w.2 (ap (moved_ref kind from) e ∙ type_stays kind from f.ty ∙ sym e))
       | inr a ↦ any_among (is_moving kind from) w.0 (refs_of f.body.instrs) a (other_moving kind from w.0 w.2)
     ]
 
-kind_moves : (kind : Kind) (from : ℕ) (f : Function) → is_code_moving kind from f.body.instrs ≡ true ↔ ((r : Ref) × IsAmong r (held f) × (ref_moved kind from r ≢ r))
+kind_moves : (kind : Kind) (from : ℕ) (f : Function) → is_code_moving kind from f.body.instrs ≡ true
+    ↔ ((r : Ref) × IsAmong r (held f) × (ref_moved kind from r ≢ r))
 kind_moves kinds.Func from f = (code_moves moving.Func from f, moves_code moving.Func from f)
 kind_moves kinds.Table from f = ((λ h. absurd cc), (λ w. absurd (w.2 refl)))
 kind_moves kinds.Memory from f = ((λ h. absurd cc), (λ w. absurd (w.2 refl)))
@@ -311,7 +321,8 @@ others_stay (suc i) b [] = refl
 others_stay (suc i) b (f ∷ fs) =
     let given = take i fs ++ first_given b (drop i fs) in
     let next : suc i + 1 ≡ suc (i + 1) = omega arith in
-    ap (λ (k : ℕ). (f ∷ take i given) ++ drop k (f ∷ given)) next ∙ ap (λ (l : List Function). f ∷ l) (others_stay i b fs) ∙ sym (ap (λ (k : ℕ). (f ∷ take i fs) ++ drop k (f ∷ fs)) next)
+    ap (λ (k : ℕ). (f ∷ take i given) ++ drop k (f ∷ given)) next ∙ ap (λ (l : List Function). f ∷ l) (others_stay i b fs)
+    ∙ sym (ap (λ (k : ℕ). (f ∷ take i fs) ++ drop k (f ∷ fs)) next)
 
 -- the functions that the edit leaves of m stand in n as they are after it
 abbrev Leaves : Edit → Parts → Parts → Type 0
@@ -326,9 +337,11 @@ edited_leaves : (e : Edit) (m : Parts) → Gives (Leaves e m) (edited e m)
 unfolding Gives
 edited_leaves (edits.Ty t) m = fitting_gives (Leaves (edits.Ty t) m) (settle (with_type t m)) (sym (map-id m.funcs))
 edited_leaves (edits.Import i) m =
-    import_gives (Leaves (edits.Import i) m) (are_parts_stuck (desc_kind i.desc) (import_place i m) m) (settle (with_import i (moved_parts (desc_kind i.desc) (import_place i m) m))) refl
+    import_gives (Leaves (edits.Import i) m) (are_parts_stuck (desc_kind i.desc) (import_place i m) m)
+    (settle (with_import i (moved_parts (desc_kind i.desc) (import_place i m) m))) refl
 edited_leaves (edits.Func t code) m =
-    bytes_gives (Leaves (edits.Func t code) m) (whole_at (all_body_at m.profile) code) (λ b. settle (with_func t b m)) (λ b. take-append_seam m.funcs _ ∙ sym (map-id m.funcs))
+    bytes_gives (Leaves (edits.Func t code) m) (whole_at (all_body_at m.profile) code) (λ b. settle (with_func t b m))
+    (λ b. take-append_seam m.funcs _ ∙ sym (map-id m.funcs))
 edited_leaves (edits.Body x code) m = body_gives (Leaves (edits.Body x code) m) (entry_of x m) code m (given_leaves x code m)
 edited_leaves (edits.Global t init) m =
     bytes_gives (Leaves (edits.Global t init) m) (whole_at (all_expr_at m.profile) init) (λ e. settle (with_global t e m)) (λ e. sym (map-id m.funcs))

@@ -1,6 +1,7 @@
 -- What each edit makes of a plain module, or why it is refused. The refusals come in the order of their numbers, but that bytes which spell
 -- nothing (6) come before an index that can't move (4) and a module that is too large (5).
-use Rattle.std.specs.Prelude.{ℕ, ◌-◌, nat_le, nat_lt, Bool, true, false, not, ◌&&◌, if◌then◌else◌, Option, Some, None, List, [], ◌∷◌, length, filter, Result, Ok, Err}
+use Rattle.std.specs.Prelude.{ℕ, ◌-◌, nat_le, nat_lt, Bool, true, false, not, ◌&&◌, if◌then◌else◌, Option, Some, None, List, [], ◌∷◌, length, filter, Result}
+use Rattle.std.specs.Prelude.{Ok, Err}
 use Rattle.std.specs.List.{list_any}
 use Rattle.std.specs.Str.{bytes_eq}
 use Rattle.wk_bytes.specs.declared.fault.ReadFault.{ReadFault}

@@ -1,6 +1,6 @@
 -- A module with an import more, and what is planned before it stands.
-use Rattle.std.specs.Prelude.{◌≡◌, ◌≢◌, ◌+◌, ◌-◌, ℕ, Bool, true, false, if◌then◌else◌, Option, Some, None, List, [], ◌∷◌, is_some, length, take, map, count_by, set, unwrap_or, Ok, Err}
-use Rattle.wk_body.specs.Lengths.{limited}
+use Rattle.std.specs.Prelude.{◌≡◌, ◌≢◌, ◌+◌, ◌-◌, ℕ, Bool, true, false, if◌then◌else◌, Option, Some, None, List, [], ◌∷◌, is_some, length, take, map, count_by}
+use Rattle.std.specs.Prelude.{set, unwrap_or, Ok, Err}
 use Rattle.wk_module.specs.declared.types.Import.{Import}
 use Rattle.wk_module.specs.declared.types.Kind.{Kind}
 use Rattle.wk_module.specs.declared.types.Parts.{Parts}
@@ -9,10 +9,10 @@ use Rattle.wk_module.specs.Items.{desc_kind}
 use Rattle.wk_module.specs.Moving.{moved_parts, moved_lists, are_parts_stuck}
 use Rattle.wk_module.specs.declared.renumber.MovedLists.{MovedLists}
 use Rattle.wk_module.specs.Sections.{SectionLists, of_number}
-use Rattle.wk_module.specs.Shape.{IsFormed, settle}
-use Rattle.wk_module.specs.Writing.{contents_by, encoded}
+use Rattle.wk_module.specs.Shape.{IsFormed}
+use Rattle.wk_module.specs.Writing.{contents_by}
 use Rattle.wk_check.specs.SpacesLaws.{answers_of}
-use Rattle.wk_check.specs.Verdict.{func_verdict, module_verdict}
+use Rattle.wk_check.specs.Verdict.{func_verdict}
 use Rattle.wk_session.specs.declared.edit.EditFault.{EditFault}
 use Rattle.wk_session.specs.declared.edit.EditFault.TheVariants.{IndexOverflow, Memory}
 use Rattle.wk_session.specs.declared.edits.import.ImportPlan.{ImportPlan}
@@ -22,7 +22,7 @@ use Rattle.wk_session.specs.Edits.{import_place}
 use Rattle.wk_session.specs.declared.pieces.NewSections.{NewSections}
 use Rattle.wk_session.specs.declared.edit.Edit.TheVariants as edits
 use Rattle.wk_session.specs.Dependents.{one_if, is_retyped, sections_moving}
-use Rattle.wk_session.specs.Kept.{IsKept, standing}
+use Rattle.wk_session.specs.Kept.{IsAppraised, IsKept, standing}
 use Rattle.wk_session.specs.Overlays.{with_items}
 use Rattle.wk_session.specs.Pieces.{codes_size, section_pieces}
 use Rattle.wk_session.specs.MovedEntries.{AreMovedEntries}
@@ -83,9 +83,7 @@ pub record IsRemadeAfter (l : SectionLists) (moved : MovedLists) (r : NewSection
 -- the module may stay, and what is to be kept of it, for which so many sections were made anew; where no verdicts stand, those that are
 -- kept stay
 pub record IsJudgement (keep : Bool) (n : Parts) (k : Cache) (anew : ℕ) (j : ImportJudgement) : Type 0 where
-  pub stands : standing keep n ≡ Ok (settle n)
-  pub verdict : j.appraisal.verdict ≡ module_verdict n
-  pub len : limited (length (encoded n)) ≡ Some j.appraisal.len
+  pub appraised : IsAppraised keep n (Ok j.appraisal)
   pub verdicts : (unwrap_or j.verdicts k.verdicts).items ≡ map (func_verdict (answers_of n)) n.funcs
   pub sections : with_items k.pieces.sections.items j.remade.sections.items ≡ section_pieces n
   pub count : length j.remade.sections.items ≡ length k.pieces.sections.items

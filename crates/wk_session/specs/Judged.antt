@@ -1,10 +1,8 @@
 -- What is kept of a module to which something comes that is no function, and what judging it gives.
-use Rattle.std.specs.Prelude.{◌≡◌, ℕ, Bool, Some, Result, Ok, Err, length, map, count_by, unwrap_or}
+use Rattle.std.specs.Prelude.{◌≡◌, ℕ, Bool, Result, Ok, Err, map, count_by, unwrap_or}
 use Rattle.wk_body.specs.declared.references.Ref.{Ref}
-use Rattle.wk_body.specs.Lengths.{limited}
 use Rattle.wk_module.specs.declared.types.Parts.{Parts}
 use Rattle.wk_module.specs.Shape.{settle}
-use Rattle.wk_module.specs.Writing.{encoded}
 use Rattle.wk_check.specs.declared.fault.Verdict.{Verdict}
 use Rattle.wk_check.specs.Answers.{Found}
 use Rattle.wk_check.specs.SpacesLaws.{answers_of}
@@ -35,9 +33,7 @@ pub record IsKnown (before : Ref → Found) (n : Parts) (v : Verdict) : Type 0 w
 -- n may stay, and that is to be kept of it in the place of what is kept, but for its sections; so many bodies were typed: those that find
 -- another thing than before. Where no verdicts of bodies stand, those that are kept stay.
 pub record MayStay (keep : Bool) (before : Ref → Found) (n : Parts) (k : Cache) (typed : ℕ) (j : Judgement) : Type 0 where
-  pub stands : standing keep n ≡ Ok (settle n)
-  pub verdict : j.appraisal.verdict ≡ module_verdict n
-  pub len : limited (length (encoded n)) ≡ Some j.appraisal.len
+  pub appraised : IsAppraised keep n (Ok j.appraisal)
   pub verdicts : (unwrap_or j.verdicts k.verdicts).items ≡ map (func_verdict (answers_of n)) n.funcs
   pub typed_are : typed ≡ count_by (is_retyped_in before (answers_of n)) n.funcs
 
@@ -53,5 +49,6 @@ pub record IsUnchanged (k new : Cache) : Type 0 where
 
 -- n stays and new is kept of it, where so many bodies were typed and sections made anew; or that, and what was kept is as it was
 abbrev pub IsGrown : Bool → (Ref → Found) → Parts → ℕ → ℕ → Cache → Cache → Result ℕ EditFault → Type 0
-IsGrown keep before n typed made k new (Ok sections) = (standing keep n ≡ Ok (settle n)) × IsKept n new × (typed ≡ count_by (is_retyped_in before (answers_of n)) n.funcs) × (sections ≡ made)
+IsGrown keep before n typed made k new (Ok sections) = (standing keep n ≡ Ok (settle n)) × IsKept n new
+    × (typed ≡ count_by (is_retyped_in before (answers_of n)) n.funcs) × (sections ≡ made)
 IsGrown keep before n typed made k new (Err e) = IsAppraised keep n (Err e) × IsUnchanged k new

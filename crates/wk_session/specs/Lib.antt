@@ -22,6 +22,8 @@ pub mod Recoded
 pub mod Written
 -- ---- laws and steps, for those who read proofs
 
+-- What an output takes in a call that puts bytes out.
+pub mod Puts
 -- What a session keeps beside its module: what would be computed of the module anew.
 pub mod Kept
 -- What the verdict of a module tells of its bodies.

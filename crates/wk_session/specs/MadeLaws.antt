@@ -50,7 +50,8 @@ module _ (P : Parts → Type 0) where
   bytes_gives (Ok v) next is = fitting_gives (next v) (is v)
   bytes_gives (Err e) next is = tt
 
-  pub body_gives : (entry : Option ℕ) (code : List ℕ) (m : Parts) → ((i : ℕ) → entry ≡ Some i → (b : BodyOf) → P (settle (with_body i b m))) → Gives P (body_put entry code m)
+  pub body_gives : (entry : Option ℕ) (code : List ℕ) (m : Parts) → ((i : ℕ) → entry ≡ Some i → (b : BodyOf) → P (settle (with_body i b m)))
+      → Gives P (body_put entry code m)
   unfolding Gives
   body_gives None code m is = tt
   body_gives (Some i) code m is = bytes_gives (whole_at (all_body_at m.profile) code) (λ b. settle (with_body i b m)) (is i refl)

@@ -11,7 +11,8 @@ use Rattle.wk_module.specs.declared.types.Func.{Func}
 use Rattle.wk_module.specs.declared.types.Parts.{Parts}
 use Rattle.wk_module.specs.Formats.{written_bytes}
 use Rattle.wk_module.specs.Items.{written_code}
-use Rattle.wk_module.specs.Sections.{SectionId, TypeSection, ImportSection, FunctionSection, TableSection, MemorySection, GlobalSection, ExportSection, StartSection, ElementSection, CodeSection, DataSection, SectionLists, of_number}
+use Rattle.wk_module.specs.Sections.{SectionId, TypeSection, ImportSection, FunctionSection, TableSection, MemorySection, GlobalSection, ExportSection}
+use Rattle.wk_module.specs.Sections.{StartSection, ElementSection, CodeSection, DataSection, SectionLists, of_number}
 use Rattle.wk_module.specs.SectionLaws.{number-of_number}
 use Rattle.wk_module.specs.Shape.{lists_of}
 use Rattle.wk_module.specs.Writing.{customs_at, encoded, framed, ids, section_and_customs, section_by, section_of, written_section}
@@ -37,7 +38,8 @@ section_codes m = codes_framed m.funcs
 
 -- ---- any other section
 
-by_codes : (l : SectionLists) (codes : List BodyOf) (k : Option SectionId) → (k ≡ Some CodeSection → ⊥) → section_by (record l { codes = codes }) k ≡ section_by l k
+by_codes : (l : SectionLists) (codes : List BodyOf) (k : Option SectionId) → (k ≡ Some CodeSection → ⊥)
+    → section_by (record l { codes = codes }) k ≡ section_by l k
 by_codes l codes None other = refl
 by_codes l codes (Some TypeSection) other = refl
 by_codes l codes (Some ImportSection) other = refl

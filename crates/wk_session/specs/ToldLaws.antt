@@ -1,5 +1,6 @@
 -- Where an edit is refused for its bytes, they spell nothing, and the fault stands in them.
-use Rattle.std.proofs.Common.{◌≡◌, ◌⊎◌, ◌≤◌, ◌<◌, ℕ, nat_le, Bool, true, false, cond, inl, inr, Option, Some, None, List, [], ◌∷◌, length, Result, Ok, Err, refl, sym, ap, subst, ◌∙◌, append-nil, arith}
+use Rattle.std.proofs.Common.{◌≡◌, ◌⊎◌, ◌<◌, ℕ, nat_le, Bool, true, false, cond, inl, inr, Option, Some, None, List, [], ◌∷◌, length, Result, Ok, Err}
+use Rattle.std.proofs.Common.{refl, sym, ap, subst, arith}
 use Rattle.std.specs.List.{list_any}
 use Rattle.wk_bytes.specs.declared.fault.ReadFault.{ReadFault}
 use Rattle.wk_bytes.specs.Frames.{limit}
@@ -21,8 +22,10 @@ use Rattle.wk_check.specs.Verdict.{module_verdict}
 use Rattle.wk_session.specs.declared.edit.Edit.{Edit}
 use Rattle.wk_session.specs.declared.edit.Edit.TheVariants as edits
 use Rattle.wk_session.specs.declared.edit.EditFault.{EditFault}
-use Rattle.wk_session.specs.declared.edit.EditFault.TheVariants.{NoSuchFunction, NoSuchExport, NoSuchCustom, IndexOverflow, TooLarge, BadBytes, WouldBreak, Memory}
-use Rattle.wk_session.specs.Edits.{fitting, from_bytes, import_place, entry_of, body_put, with_exports, is_named, without_customs, with_custom, without_all_customs, edited, unbroken, lasting, made}
+use Rattle.wk_session.specs.declared.edit.EditFault.TheVariants.{NoSuchFunction, NoSuchExport, NoSuchCustom, IndexOverflow, TooLarge, BadBytes, WouldBreak}
+use Rattle.wk_session.specs.declared.edit.EditFault.TheVariants.{Memory}
+use Rattle.wk_session.specs.Edits.{fitting, from_bytes, import_place, entry_of, body_put, with_exports, is_named, without_customs, with_custom}
+use Rattle.wk_session.specs.Edits.{without_all_customs, edited, unbroken, lasting, made}
 use Rattle.wk_session.specs.MadeLaws.{Gives, then_lasting, fitting_gives, bytes_gives, body_gives, import_gives, exports_gives, customs_gives}
 use Rattle.wk_session.specs.declared.edit.Work.{Work}
 use Rattle.wk_session.specs.Runs.{left_by, is_memory, reply_to, reply_of, after_one, replies_of}
@@ -85,11 +88,13 @@ module _ (reads : ReadsCode) (keep : Bool) (f : ReadFault) where
       by false h = absurd cc
 
   bytes_told : {V : Type 0} (Spells : V → List ℕ → Type 0) (bytes : List ℕ) (r : Result V ReadFault) (next : V → Parts)
-      → ((e : ReadFault) → r ≡ Err e → IsUnread Spells bytes e) → ((from_bytes r >>= λ v. fitting (next v)) >>= lasting keep) ≡ Err (BadBytes f) → IsUnread Spells bytes f
+      → ((e : ReadFault) → r ≡ Err e → IsUnread Spells bytes e) → ((from_bytes r >>= λ v. fitting (next v)) >>= lasting keep) ≡ Err (BadBytes f)
+      → IsUnread Spells bytes f
   bytes_told Spells bytes (Ok v) next tells h = absurd (fitting_other (next v) h)
   bytes_told Spells bytes (Err e) next tells h = let is : e ≡ f = cc in subst (IsUnread Spells bytes) is (tells e refl)
 
-  body_told : (x : ℕ) (code : List ℕ) (m : Parts) (entry : Option ℕ) → (body_put entry code m >>= lasting keep) ≡ Err (BadBytes f) → IsUnread (SpellsBody m.profile) code f
+  body_told : (x : ℕ) (code : List ℕ) (m : Parts) (entry : Option ℕ) → (body_put entry code m >>= lasting keep) ≡ Err (BadBytes f)
+      → IsUnread (SpellsBody m.profile) code f
   body_told x code m None h = absurd cc
   body_told x code m (Some entry) h =
       bytes_told (SpellsBody m.profile) code (whole_at (all_body_at m.profile) code) (λ b. settle (with_body entry b m)) (unread_body reads m.profile code) h
@@ -131,7 +136,8 @@ module _ (m : Parts) where
   unfolding Gives
   edited_alike (edits.Ty t) = fitting_gives (IsAlike m) (settle (with_type t m)) refl
   edited_alike (edits.Import i) =
-      import_gives (IsAlike m) (are_parts_stuck (desc_kind i.desc) (import_place i m) m) (settle (with_import i (moved_parts (desc_kind i.desc) (import_place i m) m))) refl
+      import_gives (IsAlike m) (are_parts_stuck (desc_kind i.desc) (import_place i m) m)
+      (settle (with_import i (moved_parts (desc_kind i.desc) (import_place i m) m))) refl
   edited_alike (edits.Func t code) = bytes_gives (IsAlike m) (whole_at (all_body_at m.profile) code) (λ b. settle (with_func t b m)) (λ b. refl)
   edited_alike (edits.Body x code) = body_gives (IsAlike m) (entry_of x m) code m (λ i is b. refl)
   edited_alike (edits.Global t init) = bytes_gives (IsAlike m) (whole_at (all_expr_at m.profile) init) (λ e. settle (with_global t e m)) (λ e. refl)

@@ -18,7 +18,8 @@ fn behind_count(contents: &[u8], count: u32) -> &[u8]
 /// How many bytes contents of so many items get to which one more comes, which has that many. It takes no memory.
 pub(crate) fn grown_len(contents: &[u8], count: u32, item: u32) -> usize
     requires { count + 1 < 2 ^ 32 }
-    ensures { (bytes : List ℕ) → item ≡ length bytes → result ≡ length (with_item contents.now count bytes) }
+    ensures { (bytes : List ℕ) → item ≡ length bytes
+        → result ≡ length (with_item contents.now count bytes) }
 {
     leb_len_u32(count + 1) + behind_count(contents, count).len() + item as usize
 }

@@ -71,7 +71,8 @@ pub(crate) fn func_uses(
     own_type: u32,
     body: &Body,
 ) -> Result<BTreeSet<Ref>, OutOfMemory>
-    ensures { IfOk result (λ s. (f : FuncOf) → f.ty ≡ own_type → f.body ≡ body.now → s.keys ≡ uses_of f) }
+    ensures { IfOk result
+        (λ s. (f : FuncOf) → f.ty ≡ own_type → f.body ≡ body.now → s.keys ≡ uses_of f) }
 {
     uses(alloc, own_type, body)
 }
@@ -106,7 +107,8 @@ fn entries_in<E: Env>(
     requires few { length funcs.now < 2 ^ 32 }
     requires told { AreKnown known.now (E.answers env.now) funcs.now }
     requires at_hand { IfSome at_hand (λ cs. cs.items ≡ map code_of funcs.now) }
-    ensures verdicts { IfOk result (λ e. e.verdicts.items ≡ map (func_verdict (E.answers env.now)) funcs.now) }
+    ensures verdicts { IfOk result
+        (λ e. e.verdicts.items ≡ map (func_verdict (E.answers env.now)) funcs.now) }
     ensures refs { IfOk result (λ e. map (λ s. s.keys) e.refs.items ≡ map uses_of funcs.now) }
     ensures codes { IfOk result (λ e. e.codes.items ≡ map code_of funcs.now) }
 {
@@ -147,7 +149,9 @@ fn entries_of(
     requires few { length funcs.now < 2 ^ 32 }
     requires told { AreKnown known.now (answer_in (spaces_of (listed lists))) funcs.now }
     requires at_hand { IfSome at_hand (λ cs. cs.items ≡ map code_of funcs.now) }
-    ensures verdicts { IfOk result (λ e. e.verdicts.items ≡ map (func_verdict (answer_in (spaces_of (listed lists.entry)))) funcs.now) }
+    ensures verdicts { IfOk result
+        (λ e. e.verdicts.items
+        ≡ map (func_verdict (answer_in (spaces_of (listed lists.entry)))) funcs.now) }
     ensures refs { IfOk result (λ e. map (λ s. s.keys) e.refs.items ≡ map uses_of funcs.now) }
     ensures codes { IfOk result (λ e. e.codes.items ≡ map code_of funcs.now) }
 {
@@ -165,7 +169,9 @@ fn module_verdict_of(
     requires few { length verdicts.now < 2 ^ 32 }
     requires numbered { AreNumbered (listed lists.now) }
     ensures { (w : VerdictOf)
-        → verdict_around lists.now.profile (listed lists.now) (first_in 10 0 (map body_flaw verdicts.now)) ≡ w
+        → verdict_around lists.now.profile (listed lists.now)
+        (first_in 10 0 (map body_flaw verdicts.now))
+        ≡ w
         → IfSome known.now (λ v. v ≡ w) → IfOk result (λ v. v ≡ w) }
 {
     match known {

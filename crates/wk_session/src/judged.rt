@@ -9,9 +9,10 @@ ghost use Rattle.wk_check.specs.Verdict.{func_verdict};
 ghost use Rattle.wk_session.specs.Dependents.{same_found, differs_in, is_retyped_in, one_if};
 ghost use Rattle.wk_session.specs.Kept.{uses_of};
 
+use crate::basis::Basis;
 use std::alloc::Global;
 use std::collections::BTreeSet;
-use wk_bytes::{Items, OutOfMemory};
+use wk_bytes::OutOfMemory;
 use wk_check::{Answer, BodyVerdict, Env, Meter, carry, judge_body, verdicts_that_keep};
 use wk_module::{Body, Func, Ref};
 
@@ -74,7 +75,9 @@ fn rejudge_body<O: Env, N: Env>(
     requires was { verdict ≡ func_verdict (O.answers old.now) func.now }
     requires room { meter.old + 1 < 2 ^ 64 }
     ensures verdict { IfOk result (λ v. v ≡ func_verdict (N.answers new.now) func.now) }
-    ensures typed { OnOk result (meter.new ≡ meter.old + one_if (is_retyped_in (O.answers old.now) (N.answers new.now) func.now)) }
+    ensures typed { OnOk result
+        (meter.new
+        ≡ meter.old + one_if (is_retyped_in (O.answers old.now) (N.answers new.now) func.now)) }
 {
     // The proof asks what this says: all that a valid body refers to is there.
     verdicts_that_keep();
@@ -93,21 +96,24 @@ pub(crate) fn rejudge_bodies<O: Env, N: Env>(
     alloc: Global,
     old: &O,
     new: &N,
-    funcs: &Items<Func>,
-    refs: &Vec<BTreeSet<Ref>>,
-    verdicts: &Vec<BodyVerdict>,
+    basis: Basis<'_>,
     meter: &mut Meter,
 ) -> Result<Vec<BodyVerdict>, OutOfMemory>
     requires grows { Grows (O.answers old.now) (N.answers new.now) }
-    requires refs { map (λ s. s.keys) refs.now.items ≡ map uses_of funcs.now }
-    requires were { verdicts.now.items ≡ map (func_verdict (O.answers old.now)) funcs.now }
-    requires room { meter.old + length funcs.now < 2 ^ 64 }
-    ensures verdicts { IfOk result (λ v. v.items ≡ map (func_verdict (N.answers new.now)) funcs.now) }
-    ensures typed { OnOk result (meter.new ≡ meter.old + count_by (is_retyped_in (O.answers old.now) (N.answers new.now)) funcs.now) }
+    requires refs { map (λ s. s.keys) basis.kept.now.refs.items
+        ≡ map uses_of basis.parts.now.funcs }
+    requires were { basis.kept.now.verdicts.items
+        ≡ map (func_verdict (O.answers old.now)) basis.parts.now.funcs }
+    requires room { meter.old + length basis.parts.now.funcs < 2 ^ 64 }
+    ensures verdicts { IfOk result
+        (λ v. v.items ≡ map (func_verdict (N.answers new.now)) basis.entry.parts.now.funcs) }
+    ensures typed { let typed = is_retyped_in (O.answers old.now) (N.answers new.now) in
+        OnOk result (meter.new ≡ meter.old + count_by typed basis.entry.parts.now.funcs) }
 {
-    let mut judged = Vec::with_capacity(alloc, funcs.len())?;
-    for (i, func) in funcs.as_slice().iter().enumerate() {
-        let verdict = rejudge_body(old, new, func, &refs[i], verdicts[i], meter)?;
+    let Basis { parts, kept, .. } = basis;
+    let mut judged = Vec::with_capacity(alloc, parts.funcs.len())?;
+    for (i, func) in parts.funcs.as_slice().iter().enumerate() {
+        let verdict = rejudge_body(old, new, func, &kept.refs[i], kept.verdicts[i], meter)?;
         judged.push(verdict)?;
     }
     Ok(judged)

@@ -85,7 +85,8 @@ pub(crate) fn customs_len(customs: &Items<Custom>) -> Option<u32>
 fn size_after(sections: &Vec<Items<u8>>, news: &Vec<Option<Items<u8>>>, id: usize) -> usize
     requires sections { id < length sections.now.items }
     requires news { id < length news.now.items }
-    ensures { Some result ≡ option_map length (slice_get (with_items sections.now.items news.now.items) id) }
+    ensures { Some result
+        ≡ option_map length (slice_get (with_items sections.now.items news.now.items) id) }
 {
     item_at(sections, news, id).len()
 }

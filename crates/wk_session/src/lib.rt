@@ -45,6 +45,7 @@
 #![tactic(auto)]
 
 mod append_item;
+mod basis;
 mod cache;
 mod codes;
 mod display;

@@ -70,9 +70,11 @@ pub(crate) fn encoded_body(
     spelled: Option<&[u8]>,
     made: &mut u32,
 ) -> Result<Items<u8>, EncodeFault>
-    requires spelled { IfSome spelled (λ s. (profile : Profile) × SpellsBody profile body.now s.now) }
+    requires spelled { IfSome spelled
+        (λ s. (profile : Profile) × SpellsBody profile body.now s.now) }
     requires few { made.old + 1 < 2 ^ 32 }
-    ensures code { MatchResult result (λ c. c ≡ written_body body.now) (IsOverlong (written_body body.now)) }
+    ensures code { MatchResult result (λ c. c ≡ written_body body.now)
+        (IsOverlong (written_body body.now)) }
     ensures made { made.new ≡ made.old + 1 }
 {
     *made += 1;
@@ -153,7 +155,8 @@ fn contents_at(
 
 /// Makes the contents of all sections, by their ids.
 pub(crate) fn all_remade(alloc: Global, lists: &Lists<'_>) -> Result<Vec<Items<u8>>, EncodeFault>
-    ensures { MatchResult result (λ v. v.items ≡ contents_of (listed lists.now)) (IsUnwritten (listed lists.now)) }
+    ensures { MatchResult result (λ v. v.items ≡ contents_of (listed lists.now))
+        (IsUnwritten (listed lists.now)) }
 {
     let mut made = 0;
     let mut sections = Vec::with_capacity(alloc, section_id::COUNT)?;

@@ -59,7 +59,8 @@ fn remove_from(
 ) -> Result<(), OutOfMemory>
     requires some { 0 < count }
     requires within { length (short count) + span.at + span.size ≤ length contents.old.items }
-    ensures ok { OnOk result (contents.new.items ≡ without_item contents.old.items count span.at span.size) }
+    ensures ok { OnOk result
+        (contents.new.items ≡ without_item contents.old.items count span.at span.size) }
     ensures err { OnErr result (contents.new.items ≡ contents.old.items) }
 {
     if count == 1 {

@@ -128,8 +128,10 @@ impl Session {
         ensures exact { Reads (λ m. m) result (module_at profile bytes.now) }
         ensures found { IfOk result (λ m. Spells bytes.now m) }
         ensures profile { IfOk result (λ m. m.profile ≡ profile) }
-        ensures only { IfOk result (λ m. (n : PartsOf) → n.profile ≡ profile → Spells bytes.now n → n ≡ m) }
-        ensures refused { IfErr result (λ e. e.kind ≢ ReadKind.Memory → SpellsNone profile bytes.now) }
+        ensures only { IfOk result
+            (λ m. (n : PartsOf) → n.profile ≡ profile → Spells bytes.now n → n ≡ m) }
+        ensures refused { IfErr result
+            (λ e. e.kind ≢ ReadKind.Memory → SpellsNone profile bytes.now) }
         ensures fits { IfOk result (λ m. Fits m) }
         ensures fault { IfErr result (λ e. StandsIn bytes.now e) }
     {
@@ -153,8 +155,10 @@ impl Session {
         ensures exact { Reads (λ m. m) result (module_at profile bytes.now) }
         ensures found { IfOk result (λ m. Spells bytes.now m) }
         ensures profile { IfOk result (λ m. m.profile ≡ profile) }
-        ensures only { IfOk result (λ m. (n : PartsOf) → n.profile ≡ profile → Spells bytes.now n → n ≡ m) }
-        ensures refused { IfErr result (λ e. e.kind ≢ ReadKind.Memory → SpellsNone profile bytes.now) }
+        ensures only { IfOk result
+            (λ m. (n : PartsOf) → n.profile ≡ profile → Spells bytes.now n → n ≡ m) }
+        ensures refused { IfErr result
+            (λ e. e.kind ≢ ReadKind.Memory → SpellsNone profile bytes.now) }
         ensures fits { IfOk result (λ m. Fits m) }
         ensures fault { IfErr result (λ e. StandsIn bytes.now e) }
     {
@@ -183,8 +187,10 @@ impl Session {
         ensures exact { Reads (λ m. m) result (module_at profile bytes.now) }
         ensures found { IfOk result (λ m. Spells bytes.now m) }
         ensures profile { IfOk result (λ m. m.profile ≡ profile) }
-        ensures only { IfOk result (λ m. (n : PartsOf) → n.profile ≡ profile → Spells bytes.now n → n ≡ m) }
-        ensures refused { IfErr result (λ e. e.kind ≢ ReadKind.Memory → SpellsNone profile bytes.now) }
+        ensures only { IfOk result
+            (λ m. (n : PartsOf) → n.profile ≡ profile → Spells bytes.now n → n ≡ m) }
+        ensures refused { IfErr result
+            (λ e. e.kind ≢ ReadKind.Memory → SpellsNone profile bytes.now) }
         ensures fits { IfOk result (λ m. Fits m) }
         ensures fault { IfErr result (λ e. StandsIn bytes.now e) }
     {
@@ -203,8 +209,10 @@ impl Session {
         ensures exact { Reads (λ m. m) result (module_at Profile.Core bytes.now) }
         ensures found { IfOk result (λ m. Spells bytes.now m) }
         ensures profile { IfOk result (λ m. m.profile ≡ Profile.Core) }
-        ensures only { IfOk result (λ m. (n : PartsOf) → n.profile ≡ Profile.Core → Spells bytes.now n → n ≡ m) }
-        ensures refused { IfErr result (λ e. e.kind ≢ ReadKind.Memory → SpellsNone Profile.Core bytes.now) }
+        ensures only { IfOk result
+            (λ m. (n : PartsOf) → n.profile ≡ Profile.Core → Spells bytes.now n → n ≡ m) }
+        ensures refused { IfErr result
+            (λ e. e.kind ≢ ReadKind.Memory → SpellsNone Profile.Core bytes.now) }
         ensures fits { IfOk result (λ m. Fits m) }
         ensures fault { IfErr result (λ e. StandsIn bytes.now e) }
     {
@@ -219,7 +227,8 @@ impl Session {
     pub fn of(alloc: Global, module: Module) -> Result<Session, EncodeFault>
         ensures value { IfOk result (λ m. m ≡ «module») }
         ensures fits { IfOk result (λ m. Fits m) }
-        ensures refused { IfErr result (λ e. e ≢ EncodeFault.Memory → limit < length (encoded «module»)) }
+        ensures refused { IfErr result
+            (λ e. e ≢ EncodeFault.Memory → limit < length (encoded «module»)) }
     {
         if encoded_len(&module).is_none() {
             return Err(EncodeFault::TooLarge);
@@ -255,7 +264,8 @@ impl Session {
         ensures failures { W.failed out.new ≡ failures_after_write (W.failed out.old) result }
         ensures never { IfErr result (λ e. e ≡ WriteFault.Write) }
         ensures spells { Spells (encoded self.now) self.now }
-        ensures alone { (n : PartsOf) → n.profile ≡ (self.now).profile → Spells (encoded self.now) n → n ≡ self.now }
+        ensures alone { (n : PartsOf) → n.profile ≡ (self.now).profile → Spells (encoded self.now) n
+            → n ≡ self.now }
     {
         // The proof asks what these two say: the written form spells the module, and no other.
         written_form_of_module();
@@ -285,9 +295,17 @@ impl Session {
     ) -> Result<(), WriteFault>
         requires failed { W.failed out.old < 2 ^ 64 - 1 }
         requires many { length codes.now.items ≡ length (self.now).funcs }
-        requires fits { length (encoded_with self.now (with_items (map code_of (self.now).funcs) codes.now.items)) ≤ limit }
-        ensures ok { OnOk result (Appends (W.taken out.old) (W.taken out.new) (encoded_with self.now (with_items (map code_of (self.now).funcs) codes.now.items))) }
-        ensures err { IfErr result (Leaves (W.taken out.old) (W.taken out.new) (encoded_with self.now (with_items (map code_of (self.now).funcs) codes.now.items))) }
+        requires fits { length (encoded_with self.now
+            (with_items (map code_of (self.now).funcs) codes.now.items))
+            ≤ limit }
+        ensures ok { OnOk result
+            (Appends (W.taken out.old) (W.taken out.new)
+            (encoded_with self.now
+            (with_items (map code_of (self.now).funcs) codes.now.items))) }
+        ensures err { IfErr result
+            (Leaves (W.taken out.old) (W.taken out.new)
+            (encoded_with self.now
+            (with_items (map code_of (self.now).funcs) codes.now.items))) }
         ensures failures { W.failed out.new ≡ failures_after_write (W.failed out.old) result }
         ensures never { IfErr result (λ e. e ≡ WriteFault.Write) }
     {
@@ -306,8 +324,10 @@ impl Session {
     /// the text was taken. The session stays as it is.
     pub fn list<W: Out>(&self, part: Part, out: &mut W) -> Result<(), ListFault>
         requires { W.failed out.old < 2 ^ 64 - 1 }
-        ensures ok { OnOk result (Appends (W.taken out.old) (W.taken out.new) (listing self.now part)) }
-        ensures err { OnErr result (TakesFront (W.taken out.old) (W.taken out.new) (listing self.now part)) }
+        ensures ok { OnOk result
+            (Appends (W.taken out.old) (W.taken out.new) (listing self.now part)) }
+        ensures err { OnErr result
+            (TakesFront (W.taken out.old) (W.taken out.new) (listing self.now part)) }
         ensures failures { W.failed out.new ≡ failed_after (W.failed out.old) result }
     {
         list(self.alloc, self, part, out)
@@ -316,7 +336,8 @@ impl Session {
     /// What the function of a code entry refers to, with its own type, each once and in the order of [`Ref`]; or nothing past the last
     /// entry. It takes no memory.
     pub fn uses(&self, entry: u32) -> Option<&BTreeSet<Ref>>
-        ensures { option_map (λ s. s.now.keys) result ≡ option_map uses_of (slice_get self.now.funcs entry) }
+        ensures { option_map (λ s. s.now.keys) result
+            ≡ option_map uses_of (slice_get self.now.funcs entry) }
     {
         self.kept.refs.get(entry as usize)
     }
@@ -326,7 +347,8 @@ impl Session {
         ensures reply { result ≡ reply_of keep edit.now (is_memory result) self.old }
         ensures module_is { self.new ≡ after_one keep edit.now (is_memory result) self.old }
         ensures told { IsTold self.old.profile edit.now result }
-        ensures decided { IfErr result (λ f. f ≡ EditFault.Memory → is_decided edit.now self.old ≡ false) }
+        ensures decided { IfErr result
+            (λ f. f ≡ EditFault.Memory → is_decided edit.now self.old ≡ false) }
     {
         // The proof asks what this says: what code that is refused spells, and where its fault stands.
         reading_of_code();
@@ -350,7 +372,8 @@ impl Session {
         // Bytes that are refused spell nothing, and the fault stands in them.
         ensures told { IsTold self.old.profile edit.now result }
         // What is decided without memory is never answered by want of it.
-        ensures decided { IfErr result (λ f. f ≡ EditFault.Memory → is_decided edit.now self.old ≡ false) }
+        ensures decided { IfErr result
+            (λ f. f ≡ EditFault.Memory → is_decided edit.now self.old ≡ false) }
         // Stripping all custom sections is never refused.
         ensures always { edit.now ≡ Edit.StripAll → OnErr result ⊥ }
     {
@@ -368,18 +391,22 @@ impl Session {
         // Bytes that are refused spell nothing, and the fault stands in them.
         ensures told { IsTold self.old.profile edit.now result }
         // What is decided without memory is never answered by want of it.
-        ensures decided { IfErr result (λ f. f ≡ EditFault.Memory → is_decided edit.now self.old ≡ false) }
+        ensures decided { IfErr result
+            (λ f. f ≡ EditFault.Memory → is_decided edit.now self.old ≡ false) }
     {
         self.apply_with(true, edit)
     }
 
     // Makes edits in order, and answers each.
     fn run_with(&mut self, keep: bool, edits: &[Edit]) -> Result<Vec<Reply>, OutOfMemory>
-        ensures replies { IfOk result (λ rs. rs.items ≡ replies_of keep edits.now (refused_for_memory rs.items) self.old) }
+        ensures replies { IfOk result
+            (λ rs. rs.items ≡ replies_of keep edits.now (refused_for_memory rs.items) self.old) }
         ensures count { IfOk result (λ rs. length rs.items ≡ length edits.now) }
-        ensures module_is { IfOk result (λ rs. self.new ≡ after keep edits.now (refused_for_memory rs.items) self.old) }
+        ensures module_is { IfOk result
+            (λ rs. self.new ≡ after keep edits.now (refused_for_memory rs.items) self.old) }
         ensures told { IfOk result (λ rs. AreTold self.old.profile edits.now rs.items) }
-        ensures decided { IfOk result (λ rs. AreUndecided keep edits.now (refused_for_memory rs.items) self.old) }
+        ensures decided { IfOk result
+            (λ rs. AreUndecided keep edits.now (refused_for_memory rs.items) self.old) }
         ensures err { OnErr result (self.new ≡ self.old) }
     {
         // The proof asks what this says: what code that is refused spells, and where its fault stands.
@@ -418,13 +445,16 @@ impl Session {
     /// assert_eq!(rt; session.encoded_len(), 14);
     /// ```
     pub fn run(&mut self, edits: &[Edit]) -> Result<Vec<Reply>, OutOfMemory>
-        ensures replies { IfOk result (λ rs. rs.items ≡ replies_of false edits.now (refused_for_memory rs.items) self.old) }
+        ensures replies { IfOk result
+            (λ rs. rs.items ≡ replies_of false edits.now (refused_for_memory rs.items) self.old) }
         ensures count { IfOk result (λ rs. length rs.items ≡ length edits.now) }
-        ensures module_is { IfOk result (λ rs. self.new ≡ after false edits.now (refused_for_memory rs.items) self.old) }
+        ensures module_is { IfOk result
+            (λ rs. self.new ≡ after false edits.now (refused_for_memory rs.items) self.old) }
         // Bytes that are refused spell nothing, and the fault stands in them.
         ensures told { IfOk result (λ rs. AreTold self.old.profile edits.now rs.items) }
         // What is decided without memory is never answered by want of it.
-        ensures decided { IfOk result (λ rs. AreUndecided false edits.now (refused_for_memory rs.items) self.old) }
+        ensures decided { IfOk result
+            (λ rs. AreUndecided false edits.now (refused_for_memory rs.items) self.old) }
         ensures err { OnErr result (self.new ≡ self.old) }
     {
         self.run_with(false, edits)
@@ -436,15 +466,19 @@ impl Session {
     ///
     /// Want of memory for the replies alone, whose room comes first: then nothing has changed.
     pub fn run_kept(&mut self, edits: &[Edit]) -> Result<Vec<Reply>, OutOfMemory>
-        ensures replies { IfOk result (λ rs. rs.items ≡ replies_of true edits.now (refused_for_memory rs.items) self.old) }
+        ensures replies { IfOk result
+            (λ rs. rs.items ≡ replies_of true edits.now (refused_for_memory rs.items) self.old) }
         ensures count { IfOk result (λ rs. length rs.items ≡ length edits.now) }
-        ensures module_is { IfOk result (λ rs. self.new ≡ after true edits.now (refused_for_memory rs.items) self.old) }
+        ensures module_is { IfOk result
+            (λ rs. self.new ≡ after true edits.now (refused_for_memory rs.items) self.old) }
         // Bytes that are refused spell nothing, and the fault stands in them.
         ensures told { IfOk result (λ rs. AreTold self.old.profile edits.now rs.items) }
         // What is decided without memory is never answered by want of it.
-        ensures decided { IfOk result (λ rs. AreUndecided true edits.now (refused_for_memory rs.items) self.old) }
+        ensures decided { IfOk result
+            (λ rs. AreUndecided true edits.now (refused_for_memory rs.items) self.old) }
         // What was valid is valid.
-        ensures valid { module_verdict self.old ≡ Verdict.Valid → module_verdict self.new ≡ Verdict.Valid }
+        ensures valid { module_verdict self.old ≡ Verdict.Valid
+            → module_verdict self.new ≡ Verdict.Valid }
         ensures err { OnErr result (self.new ≡ self.old) }
     {
         self.run_with(true, edits)

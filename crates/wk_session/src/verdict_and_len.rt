@@ -49,7 +49,8 @@ pub(crate) fn appraise(
 ) -> Result<Appraisal, EditFault>
     requires numbered { AreNumbered (listed lists.now) }
     requires few { length verdicts.now.items < 2 ^ 32 }
-    ensures { (n : PartsOf) → IsPending lists.now verdicts.now.items len n → IsAppraised keep n result }
+    ensures { (n : PartsOf) → IsPending lists.now verdicts.now.items len n
+        → IsAppraised keep n result }
 {
     if len.is_none() {
         return Err(EditFault::TooLarge);

@@ -10,6 +10,7 @@ ghost use Rattle.wk_module.specs.Formats.{written_bytes};
 ghost use Rattle.wk_module.specs.Writing.{customs_at};
 ghost use Rattle.wk_module.specs.WritingLaws.{written_frame};
 ghost use Rattle.wk_session.specs.Pieces.{code_section, entries_size, framed_some, section_pieces};
+ghost use Rattle.wk_session.specs.Puts.{Takes};
 ghost use Rattle.wk_session.specs.Recoded.{encoded_with, place_with, section_with};
 
 use crate::codes::Codes;
@@ -19,8 +20,7 @@ use wk_module::{Custom, HEADER, Parts, custom_len, section_id};
 // The id and the size of a section.
 fn put_head<W: Out>(out: &mut W, id: u8, size: u32) -> Result<(), OutFault>
     requires { W.failed out.old < 2 ^ 64 - 1 }
-    ensures ok { OnOk result (Appends (W.taken out.old) (W.taken out.new) (id ∷ short size)) }
-    ensures err { OnErr result (TakesFront (W.taken out.old) (W.taken out.new) (id ∷ short size)) }
+    ensures taken { Takes (W.taken out.old) (W.taken out.new) (id ∷ short size) result }
     ensures failures { W.failed out.new ≡ failures_after (W.failed out.old) result }
 {
     put_all(out, &[id])?;
@@ -31,10 +31,7 @@ fn put_head<W: Out>(out: &mut W, id: u8, size: u32) -> Result<(), OutFault>
 fn put_bytes<W: Out>(out: &mut W, bytes: &[u8]) -> Result<(), OutFault>
     requires failed { W.failed out.old < 2 ^ 64 - 1 }
     requires few { length bytes.now ≤ limit }
-    ensures ok { OnOk result
-        (Appends (W.taken out.old) (W.taken out.new) (written_bytes bytes.now)) }
-    ensures err { OnErr result
-        (TakesFront (W.taken out.old) (W.taken out.new) (written_bytes bytes.now)) }
+    ensures taken { Takes (W.taken out.old) (W.taken out.new) (written_bytes bytes.now) result }
     ensures failures { W.failed out.new ≡ failures_after (W.failed out.old) result }
 {
     out_u32(out, bytes.len() as u32)?;
@@ -45,10 +42,7 @@ fn put_bytes<W: Out>(out: &mut W, bytes: &[u8]) -> Result<(), OutFault>
 fn put_section<W: Out>(out: &mut W, id: u8, contents: &Items<u8>) -> Result<(), OutFault>
     requires failed { W.failed out.old < 2 ^ 64 - 1 }
     requires few { length contents.now ≤ limit }
-    ensures ok { OnOk result
-        (Appends (W.taken out.old) (W.taken out.new) (framed_some id contents.now)) }
-    ensures err { OnErr result
-        (TakesFront (W.taken out.old) (W.taken out.new) (framed_some id contents.now)) }
+    ensures taken { Takes (W.taken out.old) (W.taken out.new) (framed_some id contents.now) result }
     ensures failures { W.failed out.new ≡ failures_after (W.failed out.old) result }
 {
     if contents.is_empty() {
@@ -62,10 +56,8 @@ fn put_section<W: Out>(out: &mut W, id: u8, contents: &Items<u8>) -> Result<(), 
 fn put_codes<W: Out>(out: &mut W, codes: &Codes<'_>) -> Result<(), OutFault>
     requires failed { W.failed out.old < 2 ^ 64 - 1 }
     requires few { entries_size codes.now ≤ limit }
-    ensures ok { OnOk result
-        (Appends (W.taken out.old) (W.taken out.new) (flat_map written_bytes codes.now)) }
-    ensures err { OnErr result
-        (TakesFront (W.taken out.old) (W.taken out.new) (flat_map written_bytes codes.now)) }
+    ensures taken { Takes (W.taken out.old) (W.taken out.new)
+        (flat_map written_bytes codes.now) result }
     ensures failures { W.failed out.new ≡ failures_after (W.failed out.old) result }
 {
     for i in 0..codes.count() {
@@ -78,10 +70,7 @@ fn put_codes<W: Out>(out: &mut W, codes: &Codes<'_>) -> Result<(), OutFault>
 fn put_code_section<W: Out>(out: &mut W, codes: &Codes<'_>) -> Result<(), OutFault>
     requires failed { W.failed out.old < 2 ^ 64 - 1 }
     requires few { length (code_section codes.now) ≤ limit }
-    ensures ok { OnOk result
-        (Appends (W.taken out.old) (W.taken out.new) (code_section codes.now)) }
-    ensures err { OnErr result
-        (TakesFront (W.taken out.old) (W.taken out.new) (code_section codes.now)) }
+    ensures taken { Takes (W.taken out.old) (W.taken out.new) (code_section codes.now) result }
     ensures failures { W.failed out.new ≡ failures_after (W.failed out.old) result }
 {
     let count = codes.count() as u32;
@@ -98,10 +87,7 @@ fn put_code_section<W: Out>(out: &mut W, codes: &Codes<'_>) -> Result<(), OutFau
 fn put_custom<W: Out>(out: &mut W, custom: &Custom) -> Result<(), OutFault>
     requires failed { W.failed out.old < 2 ^ 64 - 1 }
     requires few { length (written_frame custom.now) ≤ limit }
-    ensures ok { OnOk result
-        (Appends (W.taken out.old) (W.taken out.new) (written_frame custom.now)) }
-    ensures err { OnErr result
-        (TakesFront (W.taken out.old) (W.taken out.new) (written_frame custom.now)) }
+    ensures taken { Takes (W.taken out.old) (W.taken out.new) (written_frame custom.now) result }
     ensures failures { W.failed out.new ≡ failures_after (W.failed out.old) result }
 {
     let Some(size) = custom_len(custom) else {
@@ -116,10 +102,8 @@ fn put_custom<W: Out>(out: &mut W, custom: &Custom) -> Result<(), OutFault>
 fn put_customs_at<W: Out>(out: &mut W, customs: &Items<Custom>, place: u8) -> Result<(), OutFault>
     requires failed { W.failed out.old < 2 ^ 64 - 1 }
     requires few { length (customs_at place customs.now) ≤ limit }
-    ensures ok { OnOk result
-        (Appends (W.taken out.old) (W.taken out.new) (customs_at place customs.now)) }
-    ensures err { OnErr result
-        (TakesFront (W.taken out.old) (W.taken out.new) (customs_at place customs.now)) }
+    ensures taken { Takes (W.taken out.old) (W.taken out.new)
+        (customs_at place customs.now) result }
     ensures failures { W.failed out.new ≡ failures_after (W.failed out.old) result }
 {
     for custom in customs.as_slice() {
@@ -142,10 +126,8 @@ fn put_section_of<W: Out>(
     requires id { id < 12 }
     requires sections { sections.now.items ≡ section_pieces parts.now }
     requires few { length (section_with parts.now codes.now id) ≤ limit }
-    ensures ok { OnOk result
-        (Appends (W.taken out.old) (W.taken out.new) (section_with parts.now codes.now id)) }
-    ensures err { OnErr result
-        (TakesFront (W.taken out.old) (W.taken out.new) (section_with parts.now codes.now id)) }
+    ensures taken { Takes (W.taken out.old) (W.taken out.new)
+        (section_with parts.now codes.now id) result }
     ensures failures { W.failed out.new ≡ failures_after (W.failed out.old) result }
 {
     if id == section_id::CODE {
@@ -166,10 +148,8 @@ fn put_place<W: Out>(
     requires id { id < 12 }
     requires sections { sections.now.items ≡ section_pieces parts.now }
     requires few { length (place_with parts.now codes.now id) ≤ limit }
-    ensures ok { OnOk result
-        (Appends (W.taken out.old) (W.taken out.new) (place_with parts.now codes.now id)) }
-    ensures err { OnErr result
-        (TakesFront (W.taken out.old) (W.taken out.new) (place_with parts.now codes.now id)) }
+    ensures taken { Takes (W.taken out.old) (W.taken out.new)
+        (place_with parts.now codes.now id) result }
     ensures failures { W.failed out.new ≡ failures_after (W.failed out.old) result }
 {
     put_section_of(out, parts, sections, codes, id)?;

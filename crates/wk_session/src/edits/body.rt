@@ -1,6 +1,6 @@
 //! Another body for a function.
 
-ghost use Rattle.std.specs.Prelude.{◌≡◌, ◌≢◌, ◌<◌, Ok, Err, IfOk, IfErr, OnOk, length, map, slice_get, slice_set, option_map, set, List, Some, ℕ, ◌≤◌};
+ghost use Rattle.std.specs.Prelude.{◌≡◌, ◌<◌, IfOk, OnOk, length, map, slice_get, slice_set, option_map, set, List, Some, ℕ, ◌≤◌};
 ghost use Rattle.wk_bytes.specs.Frames.{limit};
 ghost use Rattle.wk_body.specs.Lengths.{limited};
 ghost use Rattle.wk_body.specs.Bodies.{BodyOf};
@@ -16,10 +16,11 @@ ghost use Rattle.wk_check.specs.Typing.{body_verdict};
 ghost use Rattle.wk_check.specs.Verdict.{func_verdict};
 ghost use Rattle.wk_session.specs.declared.edit.Edit.{Edit};
 ghost use Rattle.wk_session.specs.Edits.{entry_of as entry_of_index};
-ghost use Rattle.wk_session.specs.Functions.{AreVerdicts, IsPlanned};
-ghost use Rattle.wk_session.specs.Kept.{IsAppraised, IsKept, Leads, standing};
+ghost use Rattle.wk_session.specs.Functions.{AreVerdicts, IsEntryJudged, IsEntryPlanned};
+ghost use Rattle.wk_session.specs.Kept.{IsKept, Leads};
 ghost use Rattle.wk_session.specs.Pieces.{entries_size};
 
+use crate::basis::Basis;
 use crate::cache::{Cache, func_uses};
 use crate::edit::{EditFault, Reply, Work};
 use crate::edits::code_entry::{Entry, Verdicts, keep_entry, spelled_body, with_other};
@@ -56,19 +57,19 @@ fn type_at(funcs: &Items<Func>, entry: usize) -> u32
 // The verdict of a body that comes in the place of another.
 fn own_verdict(
     alloc: Global,
-    parts: &Parts,
-    kept: &Cache,
+    basis: Basis<'_>,
     entry: usize,
     ty: u32,
     body: &Body,
     meter: &mut Meter,
 ) -> Result<BodyVerdict, OutOfMemory>
-    requires kept { IsKept parts.now kept.now }
+    requires kept { IsKept basis.parts.now basis.kept.now }
     requires fresh { meter.old ≡ 0 }
-    ensures own { IfOk result (λ v. v ≡ body_verdict (answers_of (with_body entry body.now parts.now)) ty body.now) }
+    ensures own { let n = with_body entry body.now basis.entry.parts.now in IfOk result
+        (λ v. v ≡ body_verdict (answers_of n) ty body.now) }
     ensures typed { OnOk result (meter.new ≡ 1) }
 {
-    let whole = Whole::of(alloc, Lists::of(parts, &kept.types))?;
+    let whole = Whole::of(alloc, Lists::of(basis.parts, &basis.kept.types))?;
     type_body(&whole, ty, body, meter)
 }
 
@@ -76,28 +77,27 @@ fn own_verdict(
 // valid module no other is looked at.
 fn judged_body(
     alloc: Global,
-    keep: bool,
-    parts: &Parts,
-    kept: &Cache,
+    basis: Basis<'_>,
     entry: usize,
     ty: u32,
     body: &Body,
     len: Option<u32>,
     meter: &mut Meter,
 ) -> Result<(Verdicts, Appraisal), EditFault>
-    requires shaped { IsShaped parts.now }
-    requires kept { IsKept parts.now kept.now }
-    requires within { entry < length parts.now.funcs }
-    requires ty { Some ty ≡ option_map (λ f. f.ty) (slice_get parts.now.funcs entry) }
-    requires valid { IsCode parts.now.profile body.now }
-    requires len { len ≡ limited (length (encoded (with_body entry body.now parts.now))) }
+    requires shaped { IsShaped basis.parts.now }
+    requires kept { IsKept basis.parts.now basis.kept.now }
+    requires within { entry < length basis.parts.now.funcs }
+    requires ty { Some ty ≡ option_map (λ f. f.ty) (slice_get basis.parts.now.funcs entry) }
+    requires valid { IsCode basis.parts.now.profile body.now }
+    requires len { len ≡ limited (length (encoded (with_body entry body.now basis.parts.now))) }
     requires fresh { meter.old ≡ 0 }
-    ensures verdicts { IfOk result (λ r. AreVerdicts ty body.now (with_body entry body.now parts.now) parts.now.funcs kept.now.verdicts.items r.0) }
-    ensures ok { IfOk result (λ r. IsAppraised keep (with_body entry body.now parts.now) (Ok r.1)) }
-    ensures err { IfErr result (λ f. IsAppraised keep (with_body entry body.now parts.now) (Err f)) }
+    ensures judged { let m = basis.entry.parts.now in
+        IsEntryJudged basis.entry.keep ty body.now (with_body entry body.now m) m.funcs
+        basis.entry.kept.now.verdicts.items result }
     ensures typed { OnOk result (meter.new ≡ 1) }
 {
-    let own = own_verdict(alloc, parts, kept, entry, ty, body, meter)?;
+    let Basis { keep, parts, kept } = basis;
+    let own = own_verdict(alloc, basis, entry, ty, body, meter)?;
     if let Verdict::Valid = kept.verdict {
         let verdict = verdict_with_body(entry as u32, own);
         let appraisal = admit(keep, verdict, len)?;
@@ -125,26 +125,26 @@ fn codes_len_with(pieces: &EncodedSections, entry: usize, code: &Items<u8>) -> O
 // What is to be kept of the module with another body; or why it may not be.
 fn planned_body(
     alloc: Global,
-    keep: bool,
-    parts: &Parts,
-    kept: &Cache,
+    basis: Basis<'_>,
     entry: usize,
     ty: u32,
     body: &Body,
     spelled: &Items<u8>,
     meter: &mut Meter,
 ) -> Result<Entry, EditFault>
-    requires shaped { IsShaped parts.now }
-    requires spelled { SpellsBody parts.now.profile body.now spelled.now }
-    requires kept { IsKept parts.now kept.now }
-    requires within { entry < length parts.now.funcs }
-    requires ty { Some ty ≡ option_map (λ f. f.ty) (slice_get parts.now.funcs entry) }
-    requires valid { IsCode parts.now.profile body.now }
+    requires shaped { IsShaped basis.parts.now }
+    requires spelled { SpellsBody basis.parts.now.profile body.now spelled.now }
+    requires kept { IsKept basis.parts.now basis.kept.now }
+    requires within { entry < length basis.parts.now.funcs }
+    requires ty { Some ty ≡ option_map (λ f. f.ty) (slice_get basis.parts.now.funcs entry) }
+    requires valid { IsCode basis.parts.now.profile body.now }
     requires fresh { meter.old ≡ 0 }
-    ensures ok { IfOk result (IsPlanned keep ty body.now (with_body entry body.now parts.now) parts.now.funcs kept.now.verdicts.items 0) }
-    ensures err { IfErr result (λ f. f ≢ EditFault.Memory → standing keep (with_body entry body.now parts.now) ≡ Err f) }
+    ensures planned { let m = basis.entry.parts.now in
+        IsEntryPlanned basis.entry.keep ty body.now (with_body entry body.now m) m.funcs
+        basis.entry.kept.now.verdicts.items 0 result }
     ensures typed { OnOk result (meter.new ≡ 1) }
 {
+    let Basis { parts, kept, .. } = basis;
     let mut encoded = 0;
     let code = encoded_body(alloc, body, Some(spelled.as_slice()), &mut encoded)?;
     let pieces = &kept.pieces;
@@ -154,7 +154,7 @@ fn planned_body(
     let sizes = sizes_of(&pieces.sections);
     let len = module_len(sizes, parts.funcs.len(), codes_len, pieces.customs_len);
     let uses = func_uses(alloc, ty, body)?;
-    let (verdicts, appraisal) = judged_body(alloc, keep, parts, kept, entry, ty, body, len, meter)?;
+    let (verdicts, appraisal) = judged_body(alloc, basis, entry, ty, body, len, meter)?;
     Ok(Entry {
         uses,
         verdicts,
@@ -169,7 +169,8 @@ fn planned_body(
 // Puts the verdicts that are others in their places.
 fn put_verdicts(kept: &mut Vec<BodyVerdict>, entry: usize, verdicts: Verdicts)
     requires { entry < length kept.old.items }
-    ensures { (t : ℕ) → (b : BodyOf) → (n : PartsOf) → (fs : List FuncOf) → n.funcs ≡ slice_set fs entry (record { ty = t; body = b })
+    ensures { (t : ℕ) → (b : BodyOf) → (n : PartsOf) → (fs : List FuncOf)
+        → n.funcs ≡ slice_set fs entry (record { ty = t; body = b })
         → AreVerdicts t b n fs kept.old.items verdicts
         → kept.new.items ≡ map (func_verdict (answers_of n)) n.funcs }
 {
@@ -193,11 +194,13 @@ fn put_at(
     requires kept { IsKept parts.old kept.old }
     requires within { entry < length parts.old.funcs }
     requires fresh { meter.old ≡ 0 }
-    ensures { (func : ℕ) → entry_of_index func parts.old ≡ Some entry → Leads keep (Edit.Body func code.now) parts.old result parts.new kept.new }
+    ensures { (func : ℕ) → entry_of_index func parts.old ≡ Some entry
+        → Leads keep (Edit.Body func code.now) parts.old result parts.new kept.new }
 {
     let body = spelled_body(alloc, parts.profile, code)?;
     let ty = type_at(&parts.funcs, entry);
-    let planned = planned_body(alloc, keep, parts, kept, entry, ty, &body, code, meter)?;
+    let basis = Basis { keep, parts, kept };
+    let planned = planned_body(alloc, basis, entry, ty, &body, code, meter)?;
     let _before = parts.funcs.set(entry, Func { ty, body });
     keep_entry(kept, &planned);
     let Entry {

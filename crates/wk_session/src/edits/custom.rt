@@ -75,7 +75,9 @@ fn keep_len(kept: &mut Cache, len: u32)
 fn keep_customs(kept: &mut Cache, customs: &Items<Custom>)
     requires before { kept.old.pieces.customs_len ≤ kept.old.len }
     requires fits { kept.old.len - kept.old.pieces.customs_len + customs_size customs.now ≤ limit }
-    ensures { kept.new ≡ with_customs_len (kept.old.len - kept.old.pieces.customs_len + customs_size customs.now) kept.old }
+    ensures { kept.new
+        ≡ with_customs_len (kept.old.len - kept.old.pieces.customs_len + customs_size customs.now)
+        kept.old }
 {
     let Some(customs) = customs_len(customs) else {
         unreachable!()
@@ -126,7 +128,8 @@ fn find_custom(parts: &Parts, name: &Text) -> Option<usize>
 
 // The length of a custom section with a name and so many bytes, its id and its size with it, or nothing past 2,147,483,647.
 fn frame_len(name: &Text, len: usize) -> Option<u32>
-    ensures { (c : CustomOf) → c.name ≡ name.now → length c.bytes ≡ len → result ≡ limited (length (written_frame c)) }
+    ensures { (c : CustomOf) → c.name ≡ name.now → length c.bytes ≡ len
+        → result ≡ limited (length (written_frame c)) }
 {
     framed_len(named_len(name, len)?)
 }
@@ -150,7 +153,9 @@ fn len_with_bytes(parts: &Parts, kept: &Cache, index: usize, bytes: &Items<u8>) 
     requires order { IsInOrderFrom 0 parts.now.customs }
     requires len { limited (length (encoded parts.now)) ≡ Some kept.now.len }
     requires within { index < length parts.now.customs }
-    ensures { result ≡ limited (length (encoded (record parts.now { customs = bytes_at index bytes.now parts.now.customs }))) }
+    ensures { result
+        ≡ limited (length (encoded (record parts.now
+        { customs = bytes_at index bytes.now parts.now.customs }))) }
 {
     let custom = &parts.customs.as_slice()[index];
     let Some(old) = frame_len(&custom.name, custom.bytes.len()) else {
@@ -163,8 +168,9 @@ fn len_with_bytes(parts: &Parts, kept: &Cache, index: usize, bytes: &Items<u8>) 
 fn len_with_custom(parts: &Parts, kept: &Cache, name: &Text, bytes: &Items<u8>) -> Option<u32>
     requires order { IsInOrderFrom 0 parts.now.customs }
     requires len { limited (length (encoded parts.now)) ≡ Some kept.now.len }
-    ensures { result ≡ limited (length (encoded
-        (record parts.now { customs = parts.now.customs ++ last_custom name.now bytes.now ∷ [] }))) }
+    ensures { result
+        ≡ limited (length (encoded (record parts.now
+        { customs = parts.now.customs ++ last_custom name.now bytes.now ∷ [] }))) }
 {
     exchange(kept.len, 0, frame_len(name, bytes.len()))
 }
@@ -186,7 +192,10 @@ fn push_custom(
     name: &Text,
     bytes: &Items<u8>,
 ) -> Result<(), AllocError>
-    ensures ok { OnOk result (parts.new ≡ record parts.old { customs = parts.old.customs ++ last_custom name.now bytes.now ∷ [] }) }
+    ensures ok { OnOk result
+        (parts.new
+        ≡ record parts.old
+        { customs = parts.old.customs ++ last_custom name.now bytes.now ∷ [] }) }
     ensures err { OnErr result (parts.new ≡ parts.old) }
 {
     // The greatest place, which settling lowers.
@@ -257,7 +266,8 @@ fn put_custom(
 ) -> Result<(), EditFault>
     requires shaped { IsShaped parts.old }
     requires kept { IsKept parts.old kept.old }
-    ensures { IsPut keep parts.old (with_custom name.now bytes.now parts.old) kept.old result parts.new kept.new }
+    ensures { IsPut keep parts.old (with_custom name.now bytes.now parts.old) kept.old result
+        parts.new kept.new }
 {
     match find_custom(parts, name) {
         Some(index) => replace_bytes(alloc, keep, parts, kept, index, bytes),

@@ -22,6 +22,7 @@ ghost use Rattle.wk_session.specs.Longer.{IsNewItem};
 ghost use Rattle.wk_session.specs.Pieces.{IsOverlong, codes_size, customs_size, section_pieces};
 ghost use Rattle.wk_session.specs.Shorter.{without_item};
 
+use crate::basis::Basis;
 use crate::cache::Cache;
 use crate::edit::{EditFault, Reply, Work};
 use crate::edits::plan_append::{
@@ -52,7 +53,8 @@ fn known_with_export(parts: &Parts, kept: &Cache, export: &Export) -> Option<Ver
 // The verdict of a module without one of its exports, where it is known: where the one with it is valid.
 fn known_without_export(parts: &Parts, kept: &Cache, place: usize) -> Option<Verdict>
     requires kept { IsKept parts.now kept.now }
-    ensures some { IfSome result (λ v. v ≡ module_verdict (record parts.now { exports = remove parts.now.exports place })) }
+    ensures some { IfSome result
+        (λ v. v ≡ module_verdict (record parts.now { exports = remove parts.now.exports place })) }
     ensures none { IfNone result (kept.now.verdict ≢ Verdict.Valid) }
 {
     // The proof asks what this says: no export is what another one needs.
@@ -66,23 +68,26 @@ fn known_without_export(parts: &Parts, kept: &Cache, place: usize) -> Option<Ver
 // Judges a module with these exports in the place of its own, which is so long. Where its verdict is known it is not judged.
 fn judge_exports(
     alloc: Global,
-    keep: bool,
-    parts: &Parts,
-    kept: &Cache,
+    basis: Basis<'_>,
     exports: &[Export],
     len: Option<u32>,
     known: Option<Verdict>,
 ) -> Result<Judgement, EditFault>
-    requires formed { IsFormed (record parts.now { exports = exports.now }) }
-    requires kept { AreKept (answers_of parts.now) parts.now kept.now }
-    requires len { len ≡ limited (length (encoded (record parts.now { exports = exports.now }))) }
-    requires known { IfSome known (λ v. v ≡ module_verdict (record parts.now { exports = exports.now })) }
-    ensures { IsJudged keep (answers_of parts.now) (record parts.now { exports = exports.now }) kept.now 0 result }
+    requires formed { IsFormed (record basis.parts.now { exports = exports.now }) }
+    requires kept { AreKept (answers_of basis.parts.now) basis.parts.now basis.kept.now }
+    requires len { len
+        ≡ limited (length (encoded (record basis.parts.now { exports = exports.now }))) }
+    requires known { IfSome known
+        (λ v. v ≡ module_verdict (record basis.parts.now { exports = exports.now })) }
+    ensures { let m = basis.entry.parts.now in
+        IsJudged basis.entry.keep (answers_of m) (record m { exports = exports.now })
+        basis.entry.kept.now 0 result }
 {
     let lists = Lists {
         exports,
-        ..Lists::of(parts, &kept.types)
+        ..Lists::of(basis.parts, &basis.kept.types)
     };
+    let Basis { keep, kept, .. } = basis;
     let appraisal = appraise_unless_known(alloc, keep, known, &lists, &kept.verdicts, len)?;
     Ok(Judgement {
         verdicts: None,
@@ -106,12 +111,8 @@ fn new_export(
         exports: slice::from_ref(export),
         ..Lists::of(parts, &kept.types)
     };
-    new_item(
-        alloc,
-        &alone,
-        section_id::EXPORT,
-        parts.exports.len() as u32,
-    )
+    let count = parts.exports.len() as u32;
+    new_item(alloc, &alone, section_id::EXPORT, count)
 }
 
 // Appends an export where the module with it may stay, which is so long, and keeps what is to be kept of it. Answers how many sections
@@ -130,13 +131,15 @@ fn push_export(
     requires len { len ≡ limited (length (encoded (with_export export parts.old))) }
     ensures ok { OnOk result (parts.new ≡ with_export export parts.old) }
     ensures err { OnErr result (parts.new ≡ parts.old) }
-    ensures grown { IsGrown keep (answers_of parts.old) (with_export export parts.old) 0 1 kept.old kept.new result }
+    ensures grown { IsGrown keep (answers_of parts.old) (with_export export parts.old) 0 1 kept.old
+        kept.new result }
 {
     let known = known_with_export(parts, kept, &export);
     let item = new_export(alloc, parts, kept, &export)?;
     parts.exports.push(export)?;
     let exports = parts.exports.as_slice();
-    let judged = judge_exports(alloc, keep, parts, kept, exports, len, known);
+    let basis = Basis { keep, parts, kept };
+    let judged = judge_exports(alloc, basis, exports, len, known);
     let grown = keep_grown(alloc, kept, &item, judged);
     if grown.is_err() {
         let _ = parts.exports.pop();
@@ -252,7 +255,8 @@ fn span_of(exports: &[Export], place: usize) -> Span
     requires place { place < length exports.now }
     requires few { length (flat_map written_export exports.now) ≤ limit }
     ensures at { result.at ≡ length (flat_map written_export (take place exports.now)) }
-    ensures size { result.size ≡ length (flat_map written_export (take 1 (drop place exports.now))) }
+    ensures size { result.size
+        ≡ length (flat_map written_export (take 1 (drop place exports.now))) }
 {
     Span {
         at: written_len(&exports[..place]),
@@ -265,11 +269,15 @@ fn len_without(kept: &Cache, funcs: usize, count: u32, span: Span) -> Option<u32
     requires sections { length kept.now.pieces.sections.items ≡ 12 }
     requires some { 0 < count }
     requires few { length (get_or kept.now.pieces.sections.items 7 []) ≤ limit }
-    requires within { length (short count) + span.at + span.size ≤ length (get_or kept.now.pieces.sections.items 7 []) }
+    requires within { length (short count) + span.at + span.size
+        ≤ length (get_or kept.now.pieces.sections.items 7 []) }
     requires funcs { funcs < 2 ^ 32 }
     ensures { (n : PartsOf) → IsInOrderFrom 0 n.customs
-        → set kept.now.pieces.sections.items 7 (without_item (get_or kept.now.pieces.sections.items 7 []) count span.at span.size) ≡ section_pieces n
-        → funcs ≡ length n.funcs → kept.now.pieces.codes_len ≡ codes_size n.funcs → kept.now.pieces.customs_len ≡ customs_size n.customs
+        → set kept.now.pieces.sections.items 7
+        (without_item (get_or kept.now.pieces.sections.items 7 []) count span.at span.size)
+        ≡ section_pieces n
+        → funcs ≡ length n.funcs → kept.now.pieces.codes_len ≡ codes_size n.funcs
+        → kept.now.pieces.customs_len ≡ customs_size n.customs
         → result ≡ limited (length (encoded n)) }
 {
     let pieces = &kept.pieces;
@@ -290,9 +298,13 @@ fn keep_shrunk(
 ) -> Result<u32, EditFault>
     requires sections { length kept.old.pieces.sections.items ≡ 12 }
     requires some { 0 < count }
-    requires within { length (short count) + span.at + span.size ≤ length (get_or kept.old.pieces.sections.items 7 []) }
-    ensures { (keep : Bool) → (before : RefOf → Found) → (n : PartsOf) → (typed : ℕ) → AreKept before n kept.old
-        → set kept.old.pieces.sections.items 7 (without_item (get_or kept.old.pieces.sections.items 7 []) count span.at span.size) ≡ section_pieces n
+    requires within { length (short count) + span.at + span.size
+        ≤ length (get_or kept.old.pieces.sections.items 7 []) }
+    ensures { (keep : Bool) → (before : RefOf → Found) → (n : PartsOf) → (typed : ℕ)
+        → AreKept before n kept.old
+        → set kept.old.pieces.sections.items 7
+        (without_item (get_or kept.old.pieces.sections.items 7 []) count span.at span.size)
+        ≡ section_pieces n
         → IsJudged keep before n kept.old typed judged
         → IsGrown keep before n typed 1 kept.old kept.new result }
 {
@@ -317,9 +329,12 @@ fn take_export(
     requires formed { IsFormed (record parts.old { exports = remove parts.old.exports place }) }
     requires shaped { IsShaped parts.old }
     requires kept { IsKept parts.old kept.old }
-    ensures ok { OnOk result (parts.new ≡ record parts.old { exports = remove parts.old.exports place }) }
+    ensures ok { OnOk result
+        (parts.new ≡ record parts.old { exports = remove parts.old.exports place }) }
     ensures err { OnErr result (parts.new ≡ parts.old) }
-    ensures shrunk { IsGrown keep (answers_of parts.old) (record parts.old { exports = remove parts.old.exports place }) 0 1 kept.old kept.new result }
+    ensures shrunk { IsGrown keep (answers_of parts.old)
+        (record parts.old { exports = remove parts.old.exports place }) 0 1 kept.old kept.new
+        result }
 {
     let known = known_without_export(parts, kept, place);
     let count = parts.exports.len() as u32;
@@ -327,7 +342,8 @@ fn take_export(
     let len = len_without(kept, parts.funcs.len(), count, span);
     let mut exports = mem::replace(&mut parts.exports, Items::new(alloc)).into_vec();
     let export = exports.remove(place);
-    let judged = judge_exports(alloc, keep, parts, kept, &exports, len, known);
+    let basis = Basis { keep, parts, kept };
+    let judged = judge_exports(alloc, basis, &exports, len, known);
     match keep_shrunk(alloc, kept, count, span, judged) {
         Ok(made) => {
             parts.exports = Items::from_vec(exports);

@@ -14,6 +14,7 @@ ghost use Rattle.wk_session.specs.Kept.{IsKept, Leads};
 ghost use Rattle.wk_session.specs.Longer.{IsNewItem};
 ghost use Rattle.wk_session.specs.Pieces.{IsOverlong};
 
+use crate::basis::Basis;
 use crate::cache::Cache;
 use crate::edit::{EditFault, Reply, Work};
 use crate::edits::plan_append::{NewItem, judge_grown, keep_grown, len_grown, new_item};
@@ -25,7 +26,9 @@ use wk_module::{EncodeFault, FuncType, Lists, Parts, section_id, type_len};
 // The lists without the last type.
 fn without_last_type<'a>(lists: Lists<'a>) -> Lists<'a>
     requires { 0 < length lists.types.now }
-    ensures { listed result ≡ record (listed lists.entry) { types = take (length lists.entry.types.now - 1) lists.entry.types.now } }
+    ensures { listed result
+        ≡ record (listed lists.entry)
+        { types = take (length lists.entry.types.now - 1) lists.entry.types.now } }
 {
     let types = &lists.types[..lists.types.len() - 1];
     Lists { types, ..lists }
@@ -82,13 +85,15 @@ fn push_type(
     requires fresh { meter.old ≡ 0 }
     ensures ok { OnOk result (parts.new ≡ with_type ty parts.old) }
     ensures err { OnErr result (parts.new ≡ parts.old) }
-    ensures grown { IsGrown keep (answers_of parts.old) (with_type ty parts.old) meter.new 1 kept.old kept.new result }
+    ensures grown { IsGrown keep (answers_of parts.old) (with_type ty parts.old) meter.new 1
+        kept.old kept.new result }
 {
     let known = known_with_type(parts, kept, &ty);
     let item = new_type(alloc, parts, kept, &ty)?;
     parts.types.push(ty)?;
     let before = without_last_type(Lists::of(parts, &kept.types));
-    let judged = judge_grown(alloc, keep, before, parts, kept, len, known, meter);
+    let basis = Basis { keep, parts, kept };
+    let judged = judge_grown(alloc, basis, before, len, known, meter);
     let grown = keep_grown(alloc, kept, &item, judged);
     if grown.is_err() {
         let _ = parts.types.pop();

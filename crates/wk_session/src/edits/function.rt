@@ -1,6 +1,6 @@
 //! A function more.
 
-ghost use Rattle.std.specs.Prelude.{◌≡◌, ◌≢◌, ◌+◌, ◌<◌, ◌^◌, ℕ, List, [], ◌∷◌, ◌++◌, if◌then◌else◌, Ok, Err, IfOk, IfErr, OnOk, OnErr, MatchResult, is_ok, true, count_by, length, map, vec_capacity, vec_len};
+ghost use Rattle.std.specs.Prelude.{◌≡◌, ◌+◌, ◌<◌, ◌^◌, ℕ, List, [], ◌∷◌, ◌++◌, if◌then◌else◌, IfOk, OnOk, OnErr, MatchResult, is_ok, true, length, map, vec_capacity, vec_len};
 ghost use Rattle.wk_bytes.specs.Short.{short};
 ghost use Rattle.wk_body.specs.Lengths.{limited};
 ghost use Rattle.wk_body.specs.Bodies.{BodyOf};
@@ -14,13 +14,13 @@ ghost use Rattle.wk_module.specs.Writing.{encoded, list_contents};
 ghost use Rattle.wk_check.specs.SpacesLaws.{answers_of};
 ghost use Rattle.wk_check.specs.Verdict.{func_verdict};
 ghost use Rattle.wk_session.specs.declared.edit.Edit.{Edit};
-ghost use Rattle.wk_session.specs.Dependents.{is_retyped_in};
-ghost use Rattle.wk_session.specs.Functions.{AreVerdicts, IsKeptWithType, IsPlanned, is_own};
-ghost use Rattle.wk_session.specs.Kept.{IsAppraised, IsKept, Leads, standing};
+ghost use Rattle.wk_session.specs.Functions.{AreVerdicts, IsEntryJudged, IsEntryPlanned, IsKeptWithType, is_own, typed_with};
+ghost use Rattle.wk_session.specs.Kept.{IsKept, Leads};
 ghost use Rattle.wk_session.specs.Longer.{IsNewItem};
 ghost use Rattle.wk_session.specs.Pieces.{IsOverlong, section_pieces};
 
 use crate::append_item::append_item;
+use crate::basis::Basis;
 use crate::cache::{Cache, func_uses};
 use crate::edit::{EditFault, Reply, Work};
 use crate::edits::code_entry::{Entry, Verdicts, keep_entry, spelled_body};
@@ -38,30 +38,23 @@ use wk_module::{Body, EncodeFault, Func, Lists, Parts, section_id};
 // The verdicts of all bodies where a function comes whose type stands behind those of the others already.
 fn verdicts_with(
     alloc: Global,
-    parts: &Parts,
-    kept: &Cache,
+    basis: Basis<'_>,
     ty: u32,
     body: &Body,
     meter: &mut Meter,
 ) -> Result<Vec<BodyVerdict>, OutOfMemory>
-    requires shaped { IsShaped parts.now }
-    requires kept { IsKeptWithType ty parts.now kept.now }
+    requires shaped { IsShaped basis.parts.now }
+    requires kept { IsKeptWithType ty basis.parts.now basis.kept.now }
     requires fresh { meter.old ≡ 0 }
-    ensures verdicts { IfOk result (λ v. v.items ≡ map (func_verdict (answers_of (with_func ty body.now parts.now))) (with_func ty body.now parts.now).funcs) }
-    ensures typed { OnOk result (meter.new ≡ 1 + count_by (is_retyped_in (answers_of parts.now) (answers_of (with_func ty body.now parts.now))) parts.now.funcs) }
+    ensures verdicts { let n = with_func ty body.now basis.entry.parts.now in IfOk result
+        (λ v. v.items ≡ map (func_verdict (answers_of n)) n.funcs) }
+    ensures typed { OnOk result (meter.new ≡ typed_with ty body.now basis.entry.parts.now) }
 {
+    let Basis { parts, kept, .. } = basis;
     let before = &kept.types[..parts.funcs.len()];
     let old = Whole::of(alloc, Lists::of(parts, before))?;
     let new = Whole::of(alloc, Lists::of(parts, &kept.types))?;
-    let mut verdicts = rejudge_bodies(
-        alloc,
-        &old,
-        &new,
-        &parts.funcs,
-        &kept.refs,
-        &kept.verdicts,
-        meter,
-    )?;
+    let mut verdicts = rejudge_bodies(alloc, &old, &new, basis, meter)?;
     let own = type_body(&new, ty, body, meter)?;
     verdicts.push(own)?;
     Ok(verdicts)
@@ -70,27 +63,26 @@ fn verdicts_with(
 // The same as `judged_func` where a function comes to a valid module: no body but its own is looked at.
 fn judged_in_valid(
     alloc: Global,
-    keep: bool,
-    parts: &Parts,
-    kept: &Cache,
+    basis: Basis<'_>,
     ty: u32,
     body: &Body,
     len: Option<u32>,
     meter: &mut Meter,
 ) -> Result<(Verdicts, Appraisal), EditFault>
-    requires shaped { IsShaped parts.now }
-    requires kept { IsKeptWithType ty parts.now kept.now }
-    requires was_valid { kept.now.verdict ≡ Verdict.Valid }
-    requires valid { IsCode parts.now.profile body.now }
-    requires len { len ≡ limited (length (encoded (with_func ty body.now parts.now))) }
+    requires shaped { IsShaped basis.parts.now }
+    requires kept { IsKeptWithType ty basis.parts.now basis.kept.now }
+    requires was_valid { basis.kept.now.verdict ≡ Verdict.Valid }
+    requires valid { IsCode basis.parts.now.profile body.now }
+    requires len { len ≡ limited (length (encoded (with_func ty body.now basis.parts.now))) }
     requires fresh { meter.old ≡ 0 }
-    ensures verdicts { IfOk result (λ r. AreVerdicts ty body.now (with_func ty body.now parts.now) parts.now.funcs kept.now.verdicts.items r.0) }
-    ensures ok { IfOk result (λ r. IsAppraised keep (with_func ty body.now parts.now) (Ok r.1)) }
-    ensures err { IfErr result (λ f. IsAppraised keep (with_func ty body.now parts.now) (Err f)) }
-    ensures typed { OnOk result (meter.new ≡ 1 + count_by (is_retyped_in (answers_of parts.now) (answers_of (with_func ty body.now parts.now))) parts.now.funcs) }
+    ensures judged { let m = basis.entry.parts.now in
+        IsEntryJudged basis.entry.keep ty body.now (with_func ty body.now m) m.funcs
+        basis.entry.kept.now.verdicts.items result }
+    ensures typed { OnOk result (meter.new ≡ typed_with ty body.now basis.entry.parts.now) }
 {
     // The proof asks what this says: bodies of a valid module find what they found.
     laws_of_valid_modules();
+    let Basis { keep, parts, kept } = basis;
     let whole = Whole::of(alloc, Lists::of(parts, &kept.types))?;
     let own = type_body(&whole, ty, body, meter)?;
     let verdict = verdict_with_func(parts.types.len() as u32, parts.funcs.len() as u32, ty, own);
@@ -102,31 +94,30 @@ fn judged_in_valid(
 // module with it as a whole, which is so long; or why it may not stay.
 fn judged_func(
     alloc: Global,
-    keep: bool,
-    parts: &Parts,
-    kept: &Cache,
+    basis: Basis<'_>,
     ty: u32,
     body: &Body,
     len: Option<u32>,
     meter: &mut Meter,
 ) -> Result<(Verdicts, Appraisal), EditFault>
-    requires shaped { IsShaped parts.now }
-    requires kept { IsKeptWithType ty parts.now kept.now }
-    requires valid { IsCode parts.now.profile body.now }
-    requires len { len ≡ limited (length (encoded (with_func ty body.now parts.now))) }
+    requires shaped { IsShaped basis.parts.now }
+    requires kept { IsKeptWithType ty basis.parts.now basis.kept.now }
+    requires valid { IsCode basis.parts.now.profile body.now }
+    requires len { len ≡ limited (length (encoded (with_func ty body.now basis.parts.now))) }
     requires fresh { meter.old ≡ 0 }
-    ensures verdicts { IfOk result (λ r. AreVerdicts ty body.now (with_func ty body.now parts.now) parts.now.funcs kept.now.verdicts.items r.0) }
-    ensures own { IfOk result (λ r. is_own r.0 ≡ true → kept.now.verdict ≡ Verdict.Valid) }
-    ensures ok { IfOk result (λ r. IsAppraised keep (with_func ty body.now parts.now) (Ok r.1)) }
-    ensures err { IfErr result (λ f. IsAppraised keep (with_func ty body.now parts.now) (Err f)) }
-    ensures typed { OnOk result (meter.new ≡ 1 + count_by (is_retyped_in (answers_of parts.now) (answers_of (with_func ty body.now parts.now))) parts.now.funcs) }
+    ensures judged { let m = basis.entry.parts.now in
+        IsEntryJudged basis.entry.keep ty body.now (with_func ty body.now m) m.funcs
+        basis.entry.kept.now.verdicts.items result }
+    ensures own { IfOk result
+        (λ r. is_own r.0 ≡ true → basis.entry.kept.now.verdict ≡ Verdict.Valid) }
+    ensures typed { OnOk result (meter.new ≡ typed_with ty body.now basis.entry.parts.now) }
 {
-    if let Verdict::Valid = kept.verdict {
-        return judged_in_valid(alloc, keep, parts, kept, ty, body, len, meter);
+    if let Verdict::Valid = basis.kept.verdict {
+        return judged_in_valid(alloc, basis, ty, body, len, meter);
     }
-    let verdicts = verdicts_with(alloc, parts, kept, ty, body, meter)?;
-    let lists = Lists::of(parts, &kept.types);
-    let appraisal = appraise(alloc, keep, &lists, &verdicts, len)?;
+    let verdicts = verdicts_with(alloc, basis, ty, body, meter)?;
+    let lists = Lists::of(basis.parts, &basis.kept.types);
+    let appraisal = appraise(alloc, basis.keep, &lists, &verdicts, len)?;
     Ok((Verdicts::All(verdicts), appraisal))
 }
 
@@ -141,37 +132,35 @@ fn new_index(alloc: Global, parts: &Parts, kept: &Cache, ty: &u32) -> Result<New
         funcs: slice::from_ref(ty),
         ..Lists::of(parts, &kept.types)
     };
-    new_item(
-        alloc,
-        &alone,
-        section_id::FUNCTION,
-        parts.funcs.len() as u32,
-    )
+    let count = parts.funcs.len() as u32;
+    new_item(alloc, &alone, section_id::FUNCTION, count)
 }
 
 // What is to be kept of the module with a function more, whose type stands behind those of the others already; or why it may not be.
 fn planned_func(
     alloc: Global,
-    keep: bool,
-    parts: &Parts,
-    kept: &Cache,
+    basis: Basis<'_>,
     ty: u32,
     body: &Body,
     spelled: &Items<u8>,
     item: &NewItem,
     meter: &mut Meter,
 ) -> Result<Entry, EditFault>
-    requires shaped { IsShaped parts.now }
-    requires item { IsNewItem 3 (length parts.now.funcs) (list_contents short (ty ∷ [])) item.now }
-    requires spelled { SpellsBody parts.now.profile body.now spelled.now }
-    requires kept { IsKeptWithType ty parts.now kept.now }
-    requires valid { IsCode parts.now.profile body.now }
+    requires shaped { IsShaped basis.parts.now }
+    requires item { IsNewItem 3 (length basis.parts.now.funcs) (list_contents short (ty ∷ []))
+        item.now }
+    requires spelled { SpellsBody basis.parts.now.profile body.now spelled.now }
+    requires kept { IsKeptWithType ty basis.parts.now basis.kept.now }
+    requires valid { IsCode basis.parts.now.profile body.now }
     requires fresh { meter.old ≡ 0 }
-    ensures ok { IfOk result (IsPlanned keep ty body.now (with_func ty body.now parts.now) parts.now.funcs kept.now.verdicts.items 1) }
-    ensures own { IfOk result (λ p. is_own p.verdicts ≡ true → kept.now.verdict ≡ Verdict.Valid) }
-    ensures err { IfErr result (λ f. f ≢ EditFault.Memory → standing keep (with_func ty body.now parts.now) ≡ Err f) }
-    ensures typed { OnOk result (meter.new ≡ 1 + count_by (is_retyped_in (answers_of parts.now) (answers_of (with_func ty body.now parts.now))) parts.now.funcs) }
+    ensures planned { let m = basis.entry.parts.now in
+        IsEntryPlanned basis.entry.keep ty body.now (with_func ty body.now m) m.funcs
+        basis.entry.kept.now.verdicts.items 1 result }
+    ensures own { IfOk result
+        (λ p. is_own p.verdicts ≡ true → basis.entry.kept.now.verdict ≡ Verdict.Valid) }
+    ensures typed { OnOk result (meter.new ≡ typed_with ty body.now basis.entry.parts.now) }
 {
+    let kept = basis.kept;
     let pieces = &kept.pieces;
     let mut encoded = 0;
     let code = encoded_body(alloc, body, Some(spelled.as_slice()), &mut encoded)?;
@@ -187,7 +176,7 @@ fn planned_func(
         codes_len,
     );
     let uses = func_uses(alloc, ty, body)?;
-    let (verdicts, appraisal) = judged_func(alloc, keep, parts, kept, ty, body, len, meter)?;
+    let (verdicts, appraisal) = judged_func(alloc, basis, ty, body, len, meter)?;
     Ok(Entry {
         uses,
         verdicts,
@@ -207,31 +196,34 @@ fn push_planned(
     parts: &mut Parts,
     kept: &mut Cache,
     meter: &mut Meter,
-    ty: u32,
-    body: Body,
+    func: Func,
     spelled: &Items<u8>,
-    item: &NewItem,
 ) -> Result<Entry, EditFault>
-    requires spelled { SpellsBody parts.old.profile body spelled.now }
+    requires spelled { SpellsBody parts.old.profile func.body spelled.now }
     requires shaped { IsShaped parts.old }
-    requires kept { IsKeptWithType ty parts.old kept.old }
-    requires valid { IsCode parts.old.profile body }
-    requires item { IsNewItem 3 (length parts.old.funcs) (list_contents short (ty ∷ [])) item.now }
+    requires kept { IsKeptWithType func.ty parts.old kept.old }
+    requires valid { IsCode parts.old.profile func.body }
     requires fresh { meter.old ≡ 0 }
-    ensures ok { IfOk result (IsPlanned keep ty body (with_func ty body parts.old) parts.old.funcs kept.old.verdicts.items 1) }
+    ensures planned { let n = with_func func.ty func.body parts.old in
+        IsEntryPlanned keep func.ty func.body n parts.old.funcs kept.old.verdicts.items 1 result }
     ensures own { IfOk result (λ p. is_own p.verdicts ≡ true → kept.old.verdict ≡ Verdict.Valid) }
-    ensures pushed { OnOk result (parts.new ≡ with_func ty body parts.old) }
-    ensures err { IfErr result (λ f. f ≢ EditFault.Memory → standing keep (with_func ty body parts.old) ≡ Err f) }
+    ensures pushed { OnOk result (parts.new ≡ with_func func.ty func.body parts.old) }
     ensures same { OnErr result (parts.new ≡ parts.old) }
-    ensures typed { OnOk result (meter.new ≡ 1 + count_by (is_retyped_in (answers_of parts.old) (answers_of (with_func ty body parts.old))) parts.old.funcs) }
-    ensures rest { kept.new ≡ record kept.old { pieces = record kept.old.pieces { sections = kept.new.pieces.sections } } }
-    ensures sections { OnOk result (kept.new.pieces.sections.items ≡ section_pieces (with_func ty body parts.old)) }
-    ensures sections_same { OnErr result (kept.new.pieces.sections.items ≡ kept.old.pieces.sections.items) }
+    ensures typed { OnOk result (meter.new ≡ typed_with func.ty func.body parts.old) }
+    ensures rest { kept.new
+        ≡ record kept.old
+        { pieces = record kept.old.pieces { sections = kept.new.pieces.sections } } }
+    ensures sections { OnOk result
+        (kept.new.pieces.sections.items ≡ section_pieces (with_func func.ty func.body parts.old)) }
+    ensures sections_same { OnErr result
+        (kept.new.pieces.sections.items ≡ kept.old.pieces.sections.items) }
 {
-    let entry = planned_func(alloc, keep, parts, kept, ty, &body, spelled, item, meter)?;
-    parts.funcs.push(Func { ty, body })?;
+    let item = new_index(alloc, parts, kept, &func.ty)?;
+    let basis = Basis { keep, parts, kept };
+    let entry = planned_func(alloc, basis, func.ty, &func.body, spelled, &item, meter)?;
+    parts.funcs.push(func)?;
     let section = &mut kept.pieces.sections[section_id::FUNCTION as usize];
-    match append_item(alloc, section, item.count, bytes_of(item)) {
+    match append_item(alloc, section, item.count, bytes_of(&item)) {
         Ok(()) => Ok(entry),
         Err(OutOfMemory) => {
             let _ = parts.funcs.pop();
@@ -247,32 +239,33 @@ fn push_func(
     parts: &mut Parts,
     kept: &mut Cache,
     meter: &mut Meter,
-    ty: u32,
-    body: Body,
+    func: Func,
     spelled: &Items<u8>,
 ) -> Result<Entry, EditFault>
-    requires spelled { SpellsBody parts.old.profile body spelled.now }
+    requires spelled { SpellsBody parts.old.profile func.body spelled.now }
     requires shaped { IsShaped parts.old }
     requires kept { IsKept parts.old kept.old }
-    requires valid { IsCode parts.old.profile body }
+    requires valid { IsCode parts.old.profile func.body }
     requires fresh { meter.old ≡ 0 }
-    ensures ok { IfOk result (IsPlanned keep ty body (with_func ty body parts.old) parts.old.funcs kept.old.verdicts.items 1) }
+    ensures planned { let n = with_func func.ty func.body parts.old in
+        IsEntryPlanned keep func.ty func.body n parts.old.funcs kept.old.verdicts.items 1 result }
     ensures own { IfOk result (λ p. is_own p.verdicts ≡ true → kept.old.verdict ≡ Verdict.Valid) }
-    ensures pushed { OnOk result (parts.new ≡ with_func ty body parts.old) }
-    ensures err { IfErr result (λ f. f ≢ EditFault.Memory → standing keep (with_func ty body parts.old) ≡ Err f) }
+    ensures pushed { OnOk result (parts.new ≡ with_func func.ty func.body parts.old) }
     ensures same { OnErr result (parts.new ≡ parts.old) }
-    ensures typed { OnOk result (meter.new ≡ 1 + count_by (is_retyped_in (answers_of parts.old) (answers_of (with_func ty body parts.old))) parts.old.funcs) }
+    ensures typed { OnOk result (meter.new ≡ typed_with func.ty func.body parts.old) }
     ensures rest { kept.new ≡ record kept.old {
       types = kept.new.types;
       pieces = record kept.old.pieces { sections = kept.new.pieces.sections };
     } }
-    ensures types { kept.new.types.items ≡ (if is_ok result then kept.old.types.items ++ ty ∷ [] else kept.old.types.items) }
-    ensures sections { OnOk result (kept.new.pieces.sections.items ≡ section_pieces (with_func ty body parts.old)) }
-    ensures sections_same { OnErr result (kept.new.pieces.sections.items ≡ kept.old.pieces.sections.items) }
+    ensures types { kept.new.types.items
+        ≡ (if is_ok result then kept.old.types.items ++ func.ty ∷ [] else kept.old.types.items) }
+    ensures sections { OnOk result
+        (kept.new.pieces.sections.items ≡ section_pieces (with_func func.ty func.body parts.old)) }
+    ensures sections_same { OnErr result
+        (kept.new.pieces.sections.items ≡ kept.old.pieces.sections.items) }
 {
-    let item = new_index(alloc, parts, kept, &ty)?;
-    kept.types.push(ty)?;
-    let pushed = push_planned(alloc, keep, parts, kept, meter, ty, body, spelled, &item);
+    kept.types.push(func.ty)?;
+    let pushed = push_planned(alloc, keep, parts, kept, meter, func, spelled);
     if pushed.is_err() {
         let _ = kept.types.pop();
     }
@@ -296,7 +289,8 @@ fn reserve_verdict(kept: &mut Cache) -> Result<(), OutOfMemory>
 // Puts the verdicts that are others in their places. There is room for one more where it comes to those that are kept.
 fn put_verdicts(kept: &mut Vec<BodyVerdict>, verdicts: Verdicts)
     requires { is_own verdicts ≡ true → vec_len kept.old < vec_capacity kept.old }
-    ensures { (t : ℕ) → (b : BodyOf) → (n : PartsOf) → (fs : List FuncOf) → n.funcs ≡ fs ++ record { ty = t; body = b } ∷ []
+    ensures { (t : ℕ) → (b : BodyOf) → (n : PartsOf) → (fs : List FuncOf)
+        → n.funcs ≡ fs ++ record { ty = t; body = b } ∷ []
         → AreVerdicts t b n fs kept.old.items verdicts
         → kept.new.items ≡ map (func_verdict (answers_of n)) n.funcs }
 {
@@ -325,7 +319,7 @@ pub(crate) fn add_func(
     reserve_verdict(kept)?;
     kept.refs.reserve(1)?;
     kept.pieces.codes.reserve(1)?;
-    let entry = push_func(alloc, keep, parts, kept, meter, ty, body, code)?;
+    let entry = push_func(alloc, keep, parts, kept, meter, Func { ty, body }, code)?;
     keep_entry(kept, &entry);
     let Entry {
         uses,

@@ -15,6 +15,7 @@ ghost use Rattle.wk_session.specs.Kept.{IsKept, Leads};
 ghost use Rattle.wk_session.specs.Longer.{IsNewItem};
 ghost use Rattle.wk_session.specs.Pieces.{IsOverlong};
 
+use crate::basis::Basis;
 use crate::cache::Cache;
 use crate::edit::{EditFault, Reply, Work};
 use crate::edits::plan_append::{NewItem, item_len, judge_grown, keep_grown, len_grown, new_item};
@@ -41,7 +42,8 @@ fn refusal_of(fault: ReadFault) -> EditFault
 fn read_init(alloc: Global, profile: Profile, init: &Items<u8>) -> Result<Expr, EditFault>
     ensures read { IfOk result (λ e. from_bytes (whole_at (all_expr_at profile) init.now) ≡ Ok e) }
     ensures valid { IfOk result (IsInit profile) }
-    ensures fault { IfErr result (λ f. f ≢ EditFault.Memory → from_bytes (whole_at (all_expr_at profile) init.now) ≡ Err f) }
+    ensures fault { IfErr result
+        (λ f. f ≢ EditFault.Memory → from_bytes (whole_at (all_expr_at profile) init.now) ≡ Err f) }
 {
     match read_expr_in(alloc, init.as_slice(), profile) {
         Ok(expr) => {
@@ -57,7 +59,8 @@ fn read_init(alloc: Global, profile: Profile, init: &Items<u8>) -> Result<Expr, 
 fn without_last_global<'a>(lists: Lists<'a>) -> Lists<'a>
     requires { 0 < length lists.globals.now }
     ensures { listed result
-        ≡ record (listed lists.entry) { globals = take (length lists.entry.globals.now - 1) lists.entry.globals.now } }
+        ≡ record (listed lists.entry)
+        { globals = take (length lists.entry.globals.now - 1) lists.entry.globals.now } }
 {
     let globals = &lists.globals[..lists.globals.len() - 1];
     Lists { globals, ..lists }
@@ -102,12 +105,8 @@ fn new_global(
         globals: slice::from_ref(global),
         ..Lists::of(parts, &kept.types)
     };
-    new_item(
-        alloc,
-        &alone,
-        section_id::GLOBAL,
-        parts.globals.len() as u32,
-    )
+    let count = parts.globals.len() as u32;
+    new_item(alloc, &alone, section_id::GLOBAL, count)
 }
 
 // Appends a global where the module with it may stay, and keeps what is to be kept of it. Answers how many sections were made anew; or
@@ -124,7 +123,8 @@ fn push_global(
     requires kept { IsKept parts.old kept.old }
     requires valid { IsInit parts.old.profile global.init }
     requires fresh { meter.old ≡ 0 }
-    ensures ok { OnOk result (parts.new ≡ record parts.old { globals = parts.old.globals ++ global ∷ [] }) }
+    ensures ok { OnOk result
+        (parts.new ≡ record parts.old { globals = parts.old.globals ++ global ∷ [] }) }
     ensures err { OnErr result (parts.new ≡ parts.old) }
     ensures grown { IsGrown keep (answers_of parts.old)
         (record parts.old { globals = parts.old.globals ++ global ∷ [] })
@@ -142,7 +142,8 @@ fn push_global(
     );
     parts.globals.push(global)?;
     let before = without_last_global(Lists::of(parts, &kept.types));
-    let judged = judge_grown(alloc, keep, before, parts, kept, len, known, meter);
+    let basis = Basis { keep, parts, kept };
+    let judged = judge_grown(alloc, basis, before, len, known, meter);
     let grown = keep_grown(alloc, kept, &item, judged);
     if grown.is_err() {
         let _ = parts.globals.pop();

@@ -1,6 +1,6 @@
 //! An import more.
 
-ghost use Rattle.std.specs.Prelude.{◌≡◌, ◌≢◌, ◌+◌, ◌<◌, ◌≤◌, ◌^◌, ℕ, Err, true, false, length, map, unwrap_or, count_by, is_some, set, Some, if◌then◌else◌, IfErr, IfOk, IfNone, IfSome, OnOk, OnErr, MatchResult};
+ghost use Rattle.std.specs.Prelude.{◌≡◌, ◌≢◌, ◌<◌, ◌≤◌, ◌^◌, Err, true, false, length, map, unwrap_or, count_by, is_some, Some, IfOk, IfNone, IfSome, OnOk, OnErr, MatchResult};
 ghost use Rattle.std.specs.List.{list_any};
 ghost use Rattle.wk_body.specs.Shape.{IsU32};
 ghost use Rattle.wk_module.specs.Items.{desc_kind, IsImport, IsDesc};
@@ -8,9 +8,7 @@ ghost use Rattle.wk_module.specs.Types.{AreLimits};
 ghost use Rattle.wk_module.specs.Changes.{with_import};
 ghost use Rattle.wk_module.specs.Listed.{IsListId, listed, listed_with};
 ghost use Rattle.wk_module.specs.Moving.{moved_func, moved_lists, is_code_moving, is_code_stuck, are_parts_stuck, with_lists};
-ghost use Rattle.wk_module.specs.Sections.{of_number};
 ghost use Rattle.wk_module.specs.Shape.{IsShaped, IsFormed};
-ghost use Rattle.wk_module.specs.Writing.{contents_by};
 ghost use Rattle.wk_check.specs.Finds.{Grows};
 ghost use Rattle.wk_check.specs.Spaces.{answer_in, spaces_of};
 ghost use Rattle.wk_check.specs.SpacesLaws.{answers_of};
@@ -23,6 +21,7 @@ ghost use Rattle.wk_session.specs.Kept.{IsKept, Leads};
 ghost use Rattle.wk_session.specs.Overlays.{with_items};
 ghost use Rattle.wk_session.specs.Pieces.{IsUnwritten};
 
+use crate::basis::Basis;
 use crate::cache::Cache;
 use crate::edit::{EditFault, Reply, Work};
 use crate::edits::renumber::{MovedEntries, is_any_code_stuck, moved_entries, put_moved};
@@ -111,7 +110,8 @@ fn lists_after(
     requires { IsKept parts.now kept.now }
     ensures { MatchResult result
         (λ v. (are_parts_stuck kind from parts.now ≡ false) × (v ≡ moved_lists kind from parts.now))
-        (λ e. e ≢ EditFault.Memory → (e ≡ EditFault.IndexOverflow) × (are_parts_stuck kind from parts.now ≡ true)) }
+        (λ e. e ≢ EditFault.Memory
+        → (e ≡ EditFault.IndexOverflow) × (are_parts_stuck kind from parts.now ≡ true)) }
 {
     // The proof asks what this says: of what a function refers to there moves what moves of its body.
     moving_of_code();
@@ -135,7 +135,8 @@ fn plan_import(
 ) -> Result<ImportPlan, EditFault>
     requires kept { IsKept parts.now kept.now }
     requires few { length parts.now.funcs < 2 ^ 32 }
-    ensures { MatchResult result (IsImportPlan kind from parts.now) (IsUnplanned kind from parts.now) }
+    ensures { MatchResult result (IsImportPlan kind from parts.now)
+        (IsUnplanned kind from parts.now) }
 {
     let lists = lists_after(alloc, parts, kept, kind, from)?;
     let codes = &kept.pieces.codes;
@@ -147,21 +148,24 @@ fn plan_import(
 // those of a valid module do.
 fn verdicts_beside(
     alloc: Global,
-    parts: &Parts,
-    kept: &Cache,
+    basis: Basis<'_>,
     now: &Lists<'_>,
     meter: &mut Meter,
 ) -> Result<Option<Vec<BodyVerdict>>, OutOfMemory>
-    requires some { 0 < length parts.now.imports }
-    requires few { length parts.now.funcs < 2 ^ 32 }
-    requires kept { IsKept (before_import parts.now) kept.now }
-    requires grows { Grows (answers_of (before_import parts.now)) (answer_in (spaces_of (listed now.now))) }
+    requires some { 0 < length basis.parts.now.imports }
+    requires few { length basis.parts.now.funcs < 2 ^ 32 }
+    requires kept { IsKept (before_import basis.parts.now) basis.kept.now }
+    requires grows { Grows (answers_of (before_import basis.parts.now))
+        (answer_in (spaces_of (listed now.now))) }
     requires fresh { meter.old ≡ 0 }
-    ensures verdicts { let now = answer_in (spaces_of (listed now.now)) in
-        IfOk result (λ v. (unwrap_or v kept.now.verdicts).items ≡ map (func_verdict now) parts.now.funcs) }
-    ensures typed { let now = answer_in (spaces_of (listed now.now)) in
-        OnOk result (meter.new ≡ count_by (is_retyped_in (answers_of (before_import parts.now)) now) parts.now.funcs) }
+    ensures verdicts { let now = answer_in (spaces_of (listed now.now)) in IfOk result
+        (λ v. (unwrap_or v basis.entry.kept.now.verdicts).items
+        ≡ map (func_verdict now) basis.entry.parts.now.funcs) }
+    ensures typed { let m = basis.entry.parts.now in OnOk result (meter.new ≡ count_by
+        (is_retyped_in (answers_of (before_import m)) (answer_in (spaces_of (listed now.now))))
+        m.funcs) }
 {
+    let Basis { parts, kept, .. } = basis;
     // The proof asks what this says: bodies of a valid module find what they found.
     laws_of_valid_modules();
     if let Verdict::Valid = kept.verdict {
@@ -174,15 +178,7 @@ fn verdicts_beside(
     };
     let old = Whole::of(alloc, before)?;
     let new = Whole::of(alloc, *now)?;
-    let verdicts = rejudge_bodies(
-        alloc,
-        &old,
-        &new,
-        &parts.funcs,
-        &kept.refs,
-        &kept.verdicts,
-        meter,
-    )?;
+    let verdicts = rejudge_bodies(alloc, &old, &new, basis, meter)?;
     Ok(Some(verdicts))
 }
 
@@ -190,27 +186,29 @@ fn verdicts_beside(
 // what it found.
 fn verdicts_after(
     alloc: Global,
-    parts: &Parts,
-    kept: &Cache,
+    basis: Basis<'_>,
     now: &Lists<'_>,
     meter: &mut Meter,
     import: &Import,
     plan: &ImportPlan,
 ) -> Result<Option<Vec<BodyVerdict>>, OutOfMemory>
-    requires ready { IsReady import.now (before_import parts.now) parts.now kept.now plan.now }
-    requires lists { let n = after_import import.now (before_import parts.now) in
+    requires ready { let p = basis.parts.now in
+        IsReady import.now (before_import p) p basis.kept.now plan.now }
+    requires lists { let n = after_import import.now (before_import basis.parts.now) in
         listed now.now ≡ listed_with (map (λ f. f.ty) n.funcs) n }
     requires fresh { meter.old ≡ 0 }
-    ensures verdicts { let n = after_import import.now (before_import parts.now) in
-        IfOk result (λ v. (unwrap_or v kept.now.verdicts).items ≡ map (func_verdict (answers_of n)) n.funcs) }
-    ensures typed { OnOk result (meter.new ≡ retyped_by import.now (before_import parts.now)) }
+    ensures verdicts { let n = after_import import.now (before_import basis.entry.parts.now) in
+        IfOk result (λ v. (unwrap_or v basis.entry.kept.now.verdicts).items
+        ≡ map (func_verdict (answers_of n)) n.funcs) }
+    ensures typed { OnOk result
+        (meter.new ≡ retyped_by import.now (before_import basis.entry.parts.now)) }
 {
     // The proof asks what these say: verdicts are kept where bodies move, and nothing else of a module does where nothing in it moves.
     verdicts_that_keep();
     match import.desc {
         ImportDesc::Func(_) => Ok(None),
-        ImportDesc::Table(_) => verdicts_beside(alloc, parts, kept, now, meter),
-        ImportDesc::Memory(_) => verdicts_beside(alloc, parts, kept, now, meter),
+        ImportDesc::Table(_) => verdicts_beside(alloc, basis, now, meter),
+        ImportDesc::Memory(_) => verdicts_beside(alloc, basis, now, meter),
         ImportDesc::Global(_) => Ok(None),
     }
 }
@@ -228,26 +226,28 @@ fn verdicts_or<'a>(
     }
 }
 
-// Makes the section of an id anew where it has moved.
-fn remake_where(
-    alloc: Global,
-    lists: &Lists<'_>,
-    id: u8,
-    is_moved: bool,
-    news: &mut NewSections,
-) -> Result<(), EncodeFault>
-    requires id { IsListId id }
-    requires few { news.old.made < 12 }
-    requires all { length news.old.sections.items ≡ 12 }
-    ensures { MatchResult result
-        (λ _. IsRemadeWhere (listed lists.now) is_moved id news.old news.new)
-        (IsUnwritten (listed lists.now)) }
-{
-    if is_moved {
-        let contents = remake_section(alloc, lists, id, &mut news.made)?;
-        news.sections[id as usize] = Some(contents);
+impl NewSections {
+    // Makes the section of an id anew where it has moved.
+    fn remake_where(
+        &mut self,
+        alloc: Global,
+        lists: &Lists<'_>,
+        id: u8,
+        is_moved: bool,
+    ) -> Result<(), EncodeFault>
+        requires id { IsListId id }
+        requires few { self.old.made < 12 }
+        requires all { length self.old.sections.items ≡ 12 }
+        ensures { MatchResult result
+            (λ _. IsRemadeWhere (listed lists.now) is_moved id self.old self.new)
+            (IsUnwritten (listed lists.now)) }
+    {
+        if is_moved {
+            let contents = remake_section(alloc, lists, id, &mut self.made)?;
+            self.sections[id as usize] = Some(contents);
+        }
+        Ok(())
     }
-    Ok(())
 }
 
 // Makes the import section anew, and all that have moved.
@@ -256,44 +256,15 @@ fn remade_after(
     lists: &Lists<'_>,
     moved: &MovedLists,
 ) -> Result<NewSections, EncodeFault>
-    ensures { MatchResult result (IsRemadeAfter (listed lists.now) moved.now) (IsUnwritten (listed lists.now)) }
+    ensures { MatchResult result (IsRemadeAfter (listed lists.now) moved.now)
+        (IsUnwritten (listed lists.now)) }
 {
     let mut news = one_remade(alloc, lists, section_id::IMPORT)?;
-    remake_where(
-        alloc,
-        lists,
-        section_id::GLOBAL,
-        moved.globals.is_some(),
-        &mut news,
-    )?;
-    remake_where(
-        alloc,
-        lists,
-        section_id::EXPORT,
-        moved.exports.is_some(),
-        &mut news,
-    )?;
-    remake_where(
-        alloc,
-        lists,
-        section_id::START,
-        moved.start.is_some(),
-        &mut news,
-    )?;
-    remake_where(
-        alloc,
-        lists,
-        section_id::ELEMENT,
-        moved.elems.is_some(),
-        &mut news,
-    )?;
-    remake_where(
-        alloc,
-        lists,
-        section_id::DATA,
-        moved.datas.is_some(),
-        &mut news,
-    )?;
+    news.remake_where(alloc, lists, section_id::GLOBAL, moved.globals.is_some())?;
+    news.remake_where(alloc, lists, section_id::EXPORT, moved.exports.is_some())?;
+    news.remake_where(alloc, lists, section_id::START, moved.start.is_some())?;
+    news.remake_where(alloc, lists, section_id::ELEMENT, moved.elems.is_some())?;
+    news.remake_where(alloc, lists, section_id::DATA, moved.datas.is_some())?;
     Ok(news)
 }
 
@@ -313,24 +284,26 @@ fn known_with_import(parts: &Parts, kept: &Cache, import: &Import) -> Option<Ver
 // Judges the module with the import, which is pushed on its list, and with all that it moves.
 fn judged_import(
     alloc: Global,
-    keep: bool,
-    parts: &Parts,
-    kept: &Cache,
+    basis: Basis<'_>,
     meter: &mut Meter,
     import: &Import,
     plan: &ImportPlan,
     known: Option<Verdict>,
 ) -> Result<ImportJudgement, EditFault>
-    requires ready { IsReady import.now (before_import parts.now) parts.now kept.now plan.now }
-    requires known { IfSome known (λ v. v ≡ module_verdict (after_import import.now (before_import parts.now))) }
+    requires ready { let p = basis.parts.now in
+        IsReady import.now (before_import p) p basis.kept.now plan.now }
+    requires known { IfSome known
+        (λ v. v ≡ module_verdict (after_import import.now (before_import basis.parts.now))) }
     requires fresh { meter.old ≡ 0 }
-    ensures judgement { MatchResult result
-        (IsImportJudgement keep import.now (before_import parts.now) kept.now)
-        (IsImportRefusal keep import.now (before_import parts.now)) }
-    ensures typed { OnOk result (meter.new ≡ retyped_by import.now (before_import parts.now)) }
+    ensures judgement { let m = before_import basis.entry.parts.now in MatchResult result
+        (IsImportJudgement basis.entry.keep import.now m basis.entry.kept.now)
+        (IsImportRefusal basis.entry.keep import.now m) }
+    ensures typed { OnOk result
+        (meter.new ≡ retyped_by import.now (before_import basis.entry.parts.now)) }
 {
     // The proof asks what this says: the lists that moved, laid over the others, are those of the module.
     moving_of_module();
+    let Basis { keep, parts, kept } = basis;
     let now = Lists::of(parts, &kept.types).with_moved(&plan.lists);
     let remade = remade_after(alloc, &now, &plan.lists)?;
     let pieces = &kept.pieces;
@@ -339,7 +312,7 @@ fn judged_import(
     };
     let sizes = sizes_after(&pieces.sections, &remade.sections);
     let len = module_len(sizes, parts.funcs.len(), codes_len, pieces.customs_len);
-    let verdicts = verdicts_after(alloc, parts, kept, &now, meter, import, plan)?;
+    let verdicts = verdicts_after(alloc, basis, &now, meter, import, plan)?;
     let verdicts_now = verdicts_or(&verdicts, &kept.verdicts);
     let appraisal = appraise_unless_known(alloc, keep, known, &now, verdicts_now, len)?;
     Ok(ImportJudgement {
@@ -361,7 +334,8 @@ fn push_judged(
     plan: &ImportPlan,
 ) -> Result<ImportJudgement, EditFault>
     requires kept { IsKept parts.old kept.now }
-    requires plan { IsImportPlan (desc_kind import.now.desc) (import_place import.now parts.old) parts.old plan.now }
+    requires plan { IsImportPlan (desc_kind import.now.desc) (import_place import.now parts.old)
+        parts.old plan.now }
     requires formed { IsFormed parts.old }
     requires fresh { meter.old ≡ 0 }
     ensures ok { OnOk result (parts.new ≡ with_import import.now parts.old) }
@@ -377,7 +351,8 @@ fn push_judged(
     let known = known_with_import(parts, kept, import);
     let copy = import.copy(alloc)?;
     parts.imports.push(copy)?;
-    let judged = judged_import(alloc, keep, parts, kept, meter, import, plan, known);
+    let basis = Basis { keep, parts, kept };
+    let judged = judged_import(alloc, basis, meter, import, plan, known);
     if judged.is_err() {
         let _ = parts.imports.pop();
     }
@@ -399,17 +374,22 @@ fn put_import(
     requires free { list_any (λ f. is_code_stuck kind from f.body.instrs) parts.old.funcs ≡ false }
     requires refs { length plan.entries.refs.items ≤ length kept.old.refs.items }
     requires codes { length plan.entries.codes.items ≤ length kept.old.pieces.codes.items }
-    requires sections { length judgement.remade.sections.items ≤ length kept.old.pieces.sections.items }
-    ensures parts { parts.new ≡ record (with_lists plan.lists parts.old) { funcs = map (moved_func kind from) parts.old.funcs } }
+    requires sections { length judgement.remade.sections.items
+        ≤ length kept.old.pieces.sections.items }
+    ensures parts { parts.new
+        ≡ record (with_lists plan.lists parts.old)
+        { funcs = map (moved_func kind from) parts.old.funcs } }
     ensures verdict { kept.new.verdict ≡ judgement.appraisal.verdict }
     ensures len { kept.new.len ≡ judgement.appraisal.len }
     ensures types { kept.new.types ≡ kept.old.types }
     ensures verdicts { kept.new.verdicts ≡ unwrap_or judgement.verdicts kept.old.verdicts }
     ensures refs { kept.new.refs.items ≡ with_items kept.old.refs.items plan.entries.refs.items }
-    ensures codes { kept.new.pieces.codes.items ≡ with_items kept.old.pieces.codes.items plan.entries.codes.items }
+    ensures codes { kept.new.pieces.codes.items
+        ≡ with_items kept.old.pieces.codes.items plan.entries.codes.items }
     ensures codes_len { kept.new.pieces.codes_len ≡ judgement.codes_len }
     ensures customs_len { kept.new.pieces.customs_len ≡ kept.old.pieces.customs_len }
-    ensures sections { kept.new.pieces.sections.items ≡ with_items kept.old.pieces.sections.items judgement.remade.sections.items }
+    ensures sections { kept.new.pieces.sections.items
+        ≡ with_items kept.old.pieces.sections.items judgement.remade.sections.items }
 {
     let ImportPlan { lists, entries } = plan;
     let MovedEntries {

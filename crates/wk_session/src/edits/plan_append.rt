@@ -20,6 +20,7 @@ ghost use Rattle.wk_session.specs.Judged.{AreKept, IsGrown, IsJudged, IsKnown};
 ghost use Rattle.wk_session.specs.Pieces.{IsOverlong, codes_size, customs_size};
 
 use crate::append_item::{append_item, grown_len};
+use crate::basis::Basis;
 use crate::cache::Cache;
 use crate::edit::EditFault;
 use crate::judged::rejudge_bodies;
@@ -29,7 +30,7 @@ use crate::verdict_and_len::{Appraisal, admit, appraise};
 use std::alloc::Global;
 use wk_bytes::{Items, OutOfMemory};
 use wk_check::{BodyVerdict, Meter, Verdict, Whole};
-use wk_module::{EncodeFault, Lists, Parts};
+use wk_module::{EncodeFault, Lists};
 
 /// What is to be kept of a module that an edit would make.
 #[derive(Drop)]
@@ -56,63 +57,54 @@ pub(crate) struct NewItem {
 // The verdicts of the bodies of a module in which each reference finds what it found before, if that was there.
 fn verdicts_grown(
     alloc: Global,
+    basis: Basis<'_>,
     before: Lists<'_>,
-    parts: &Parts,
-    kept: &Cache,
     meter: &mut Meter,
 ) -> Result<Vec<BodyVerdict>, OutOfMemory>
-    requires formed { IsFormed parts.now }
-    requires grows { Grows (answer_in (spaces_of (listed before))) (answers_of parts.now) }
-    requires kept { AreKept (answer_in (spaces_of (listed before))) parts.now kept.now }
+    requires formed { IsFormed basis.parts.now }
+    requires grows { Grows (answer_in (spaces_of (listed before))) (answers_of basis.parts.now) }
+    requires kept { AreKept (answer_in (spaces_of (listed before))) basis.parts.now basis.kept.now }
     requires fresh { meter.old ≡ 0 }
-    ensures verdicts { IfOk result (λ v. v.items ≡ map (func_verdict (answers_of parts.now)) parts.now.funcs) }
-    ensures typed { OnOk result (meter.new ≡ count_by
-        (is_retyped_in (answer_in (spaces_of (listed before.entry))) (answers_of parts.now))
-        parts.now.funcs) }
+    ensures verdicts { let n = basis.entry.parts.now in IfOk result
+        (λ v. v.items ≡ map (func_verdict (answers_of n)) n.funcs) }
+    ensures typed { let n = basis.entry.parts.now in OnOk result (meter.new ≡ count_by
+        (is_retyped_in (answer_in (spaces_of (listed before.entry))) (answers_of n)) n.funcs) }
 {
     let old = Whole::of(alloc, before)?;
-    let new = Whole::of(alloc, Lists::of(parts, &kept.types))?;
-    rejudge_bodies(
-        alloc,
-        &old,
-        &new,
-        &parts.funcs,
-        &kept.refs,
-        &kept.verdicts,
-        meter,
-    )
+    let new = Whole::of(alloc, Lists::of(basis.parts, &basis.kept.types))?;
+    rejudge_bodies(alloc, &old, &new, basis, meter)
 }
 
 /// Judges a module in which each reference finds what it found before, if that was there, and which is so long. What is kept is of the
 /// module before but for what came to it. Where the verdict is known no body is looked at.
-pub(crate) fn judge_grown(
+pub(super) fn judge_grown(
     alloc: Global,
-    keep: bool,
+    basis: Basis<'_>,
     before: Lists<'_>,
-    parts: &Parts,
-    kept: &Cache,
     len: Option<u32>,
     known: Option<Verdict>,
     meter: &mut Meter,
 ) -> Result<Judgement, EditFault>
-    requires formed { IsFormed parts.now }
-    requires grows { Grows (answer_in (spaces_of (listed before))) (answers_of parts.now) }
-    requires kept { AreKept (answer_in (spaces_of (listed before))) parts.now kept.now }
-    requires len { len ≡ limited (length (encoded parts.now)) }
-    requires known { IfSome known (IsKnown (answer_in (spaces_of (listed before))) parts.now) }
+    requires formed { IsFormed basis.parts.now }
+    requires grows { Grows (answer_in (spaces_of (listed before))) (answers_of basis.parts.now) }
+    requires kept { AreKept (answer_in (spaces_of (listed before))) basis.parts.now basis.kept.now }
+    requires len { len ≡ limited (length (encoded basis.parts.now)) }
+    requires known { IfSome known
+        (IsKnown (answer_in (spaces_of (listed before))) basis.parts.now) }
     requires fresh { meter.old ≡ 0 }
-    ensures { IsJudged keep (answer_in (spaces_of (listed before.entry))) parts.now kept.now meter.new result }
+    ensures { IsJudged basis.entry.keep (answer_in (spaces_of (listed before.entry)))
+        basis.entry.parts.now basis.entry.kept.now meter.new result }
 {
     if let Some(verdict) = known {
-        let appraisal = admit(keep, verdict, len)?;
+        let appraisal = admit(basis.keep, verdict, len)?;
         return Ok(Judgement {
             verdicts: None,
             appraisal,
         });
     }
-    let verdicts = verdicts_grown(alloc, before, parts, kept, meter)?;
-    let lists = Lists::of(parts, &kept.types);
-    let appraisal = appraise(alloc, keep, &lists, &verdicts, len)?;
+    let verdicts = verdicts_grown(alloc, basis, before, meter)?;
+    let lists = Lists::of(basis.parts, &basis.kept.types);
+    let appraisal = appraise(alloc, basis.keep, &lists, &verdicts, len)?;
     Ok(Judgement {
         verdicts: Some(verdicts),
         appraisal,
@@ -172,8 +164,9 @@ pub(crate) fn len_grown(
     requires count { count + 1 < 2 ^ 32 }
     requires funcs { funcs < 2 ^ 32 }
     ensures { (n : PartsOf) → (alone : List ℕ) → IsInOrderFrom 0 n.customs
-        → IsLonger id count alone pieces.now.sections.items n → item ≡ limited (length (drop 1 alone))
-        → funcs ≡ length n.funcs → codes ≡ codes_size n.funcs → pieces.now.customs_len ≡ customs_size n.customs
+        → IsLonger id count alone pieces.now.sections.items n
+        → item ≡ limited (length (drop 1 alone)) → funcs ≡ length n.funcs
+        → codes ≡ codes_size n.funcs → pieces.now.customs_len ≡ customs_size n.customs
         → result ≡ limited (length (encoded n)) }
 {
     let item = item?;
@@ -212,7 +205,8 @@ pub(crate) fn keep_grown(
 ) -> Result<u32, EditFault>
     requires id { item.now.id < length kept.old.pieces.sections.items }
     requires count { item.now.count + 1 < 2 ^ 32 }
-    ensures { (keep : Bool) → (before : RefOf → Found) → (n : PartsOf) → (typed : ℕ) → AreKept before n kept.old
+    ensures { (keep : Bool) → (before : RefOf → Found) → (n : PartsOf) → (typed : ℕ)
+        → AreKept before n kept.old
         → IsLonger item.now.id item.now.count item.now.alone kept.old.pieces.sections.items n
         → IsJudged keep before n kept.old typed judged
         → IsGrown keep before n typed item.now.made kept.old kept.new result }

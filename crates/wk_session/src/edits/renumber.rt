@@ -1,6 +1,6 @@
 //! What an import moves: the code entries that hold a reference of its kind to what comes behind the imported ones.
 
-ghost use Rattle.std.specs.Prelude.{◌≡◌, ◌||◌, ◌++◌, [], ◌∷◌, OnOk, Some, false, is_some, true, length, map, option_map, IfOk, ◌+◌, ◌<◌, ◌^◌};
+ghost use Rattle.std.specs.Prelude.{◌≡◌, ◌++◌, [], ◌∷◌, OnOk, Some, false, is_some, true, length, map, option_map, IfOk, ◌+◌, ◌<◌, ◌^◌};
 ghost use Rattle.std.specs.List.{list_any};
 ghost use Rattle.wk_body.specs.Moves.{is_moving, movement_of};
 ghost use Rattle.wk_body.specs.References.{is_stuck, any_stuck, refs_of, shift_body};
@@ -20,6 +20,17 @@ use wk_module::{
     Body, Func, Kind, MovedLists, Movement, Moving, Parts, Profile, Ref, append_shifted,
     moving_of_code, moving_of_module, shift_in_place, shift_uses,
 };
+
+/// A code entry, and what is kept of it.
+#[derive(Clone, Copy)]
+struct KeptEntry<'a> {
+    /// The function.
+    func: &'a Func,
+    /// What it refers to, its own type too.
+    refs: &'a BTreeSet<Ref>,
+    /// Its code, without the size.
+    code: &'a Items<u8>,
+}
 
 /// What is kept of a code entry after an import. Nothing stands in the place of what is as before.
 #[derive(Drop)]
@@ -43,7 +54,8 @@ pub(crate) struct MovedEntries {
 
 // What moves of a reference.
 fn ref_movement(kind: Moving, from: u32, reference: Ref) -> Movement
-    ensures { result ≡ record { moves = is_moving kind from reference; stuck = is_stuck kind from reference } }
+    ensures { result
+        ≡ record { moves = is_moving kind from reference; stuck = is_stuck kind from reference } }
 {
     match (kind, reference) {
         (Moving::Func, Ref::Func(x)) => Movement::of_index(from, x),
@@ -118,7 +130,9 @@ fn shifted_uses(
     from: u32,
 ) -> Result<BTreeSet<Ref>, OutOfMemory>
     requires { any_stuck kind from uses.now.keys ≡ false }
-    ensures { IfOk result (λ s. (f : FuncOf) → uses.now.keys ≡ uses_of f → s.keys ≡ uses_of (shifted_func kind from f)) }
+    ensures { IfOk result
+        (λ s. (f : FuncOf) → uses.now.keys ≡ uses_of f
+        → s.keys ≡ uses_of (shifted_func kind from f)) }
 {
     shift_uses(alloc, uses, kind, from)
 }
@@ -127,33 +141,26 @@ fn shifted_uses(
 fn shifted_entry(
     alloc: Global,
     room: &mut Vec<u8>,
-    func: &Func,
-    refs: &BTreeSet<Ref>,
-    code: &Items<u8>,
+    kept: KeptEntry<'_>,
     kind: Moving,
     from: u32,
     encoded: &mut u32,
 ) -> Result<MovedEntry, OutOfMemory>
     requires few { encoded.old + 1 < 2 ^ 32 }
-    requires refs { refs.now.keys ≡ uses_of func.now }
-    requires code { code.now ≡ code_of func.now }
-    requires free { any_stuck kind from (refs_of func.now.body.instrs) ≡ false }
-    ensures refs { IfOk result (λ e. option_map (λ s. s.keys) e.refs ≡ Some (uses_of (shifted_func kind from func.now))) }
-    ensures code { IfOk result (λ e. e.code ≡ Some (code_of (shifted_func kind from func.now))) }
+    requires refs { kept.refs.now.keys ≡ uses_of kept.func.now }
+    requires code { kept.code.now ≡ code_of kept.func.now }
+    requires free { any_stuck kind from (refs_of kept.func.now.body.instrs) ≡ false }
+    ensures refs { let moved = shifted_func kind from kept.entry.func.now in IfOk result
+        (λ e. option_map (λ s. s.keys) e.refs ≡ Some (uses_of moved)) }
+    ensures code { let moved = shifted_func kind from kept.entry.func.now in IfOk result
+        (λ e. e.code ≡ Some (code_of moved)) }
     ensures encoded { OnOk result (encoded.new ≡ encoded.old + 1) }
 {
     // The proof asks what this says: of what a function refers to there moves what moves of its body.
     moving_of_code();
-    let refs = shifted_uses(alloc, refs, kind, from)?;
-    let code = shifted_code(
-        alloc,
-        room,
-        &func.body,
-        code.as_slice(),
-        kind,
-        from,
-        encoded,
-    )?;
+    let refs = shifted_uses(alloc, kept.refs, kind, from)?;
+    let before = kept.code.as_slice();
+    let code = shifted_code(alloc, room, &kept.func.body, before, kind, from, encoded)?;
     Ok(MovedEntry {
         refs: Some(refs),
         code: Some(code),
@@ -164,32 +171,31 @@ fn shifted_entry(
 fn moved_entry(
     alloc: Global,
     room: &mut Vec<u8>,
-    func: &Func,
-    refs: &BTreeSet<Ref>,
-    code: &Items<u8>,
+    kept: KeptEntry<'_>,
     kind: Kind,
     from: u32,
     encoded: &mut u32,
 ) -> Result<MovedEntry, OutOfMemory>
     requires few { encoded.old + 1 < 2 ^ 32 }
-    requires refs { refs.now.keys ≡ uses_of func.now }
-    requires code { code.now ≡ code_of func.now }
-    requires free { is_code_stuck kind from func.now.body.instrs ≡ false }
-    ensures entry { IfOk result (IsMovedEntry kind from func.now) }
-    ensures encoded { OnOk result (encoded.new ≡ encoded.old + one_if (is_code_moving kind from func.now.body.instrs)) }
+    requires refs { kept.refs.now.keys ≡ uses_of kept.func.now }
+    requires code { kept.code.now ≡ code_of kept.func.now }
+    requires free { is_code_stuck kind from kept.func.now.body.instrs ≡ false }
+    ensures entry { IfOk result (IsMovedEntry kind from kept.entry.func.now) }
+    ensures encoded { let instrs = kept.entry.func.now.body.instrs in OnOk result
+        (encoded.new ≡ encoded.old + one_if (is_code_moving kind from instrs)) }
 {
     // The proof asks what these say: of what a function refers to there moves what moves of its body; where nothing does, it stays.
     moving_of_code();
     moving_of_module();
-    if !uses_movement(kind, from, refs).moves {
+    if !uses_movement(kind, from, kept.refs).moves {
         return Ok(MovedEntry {
             refs: None,
             code: None,
         });
     }
     match kind {
-        Kind::Func => shifted_entry(alloc, room, func, refs, code, Moving::Func, from, encoded),
-        Kind::Global => shifted_entry(alloc, room, func, refs, code, Moving::Global, from, encoded),
+        Kind::Func => shifted_entry(alloc, room, kept, Moving::Func, from, encoded),
+        Kind::Global => shifted_entry(alloc, room, kept, Moving::Global, from, encoded),
         Kind::Table | Kind::Memory => unreachable!(),
     }
 }
@@ -216,16 +222,12 @@ pub(crate) fn moved_entries(
         encoded: 0,
     };
     for (i, func) in funcs.as_slice().iter().enumerate() {
-        let entry = moved_entry(
-            alloc,
-            &mut room,
+        let kept = KeptEntry {
             func,
-            &refs[i],
-            &codes[i],
-            kind,
-            from,
-            &mut entries.encoded,
-        )?;
+            refs: &refs[i],
+            code: &codes[i],
+        };
+        let entry = moved_entry(alloc, &mut room, kept, kind, from, &mut entries.encoded)?;
         push_entry(&mut entries, entry)?;
     }
     Ok(entries)
@@ -233,8 +235,10 @@ pub(crate) fn moved_entries(
 
 // Appends an entry.
 fn push_entry(entries: &mut MovedEntries, entry: MovedEntry) -> Result<(), OutOfMemory>
-    ensures refs { OnOk result (entries.new.refs.items ≡ entries.old.refs.items ++ entry.refs ∷ []) }
-    ensures codes { OnOk result (entries.new.codes.items ≡ entries.old.codes.items ++ entry.code ∷ []) }
+    ensures refs { OnOk result
+        (entries.new.refs.items ≡ entries.old.refs.items ++ entry.refs ∷ []) }
+    ensures codes { OnOk result
+        (entries.new.codes.items ≡ entries.old.codes.items ++ entry.code ∷ []) }
     ensures encoded { entries.new.encoded ≡ entries.old.encoded }
 {
     let MovedEntry { refs, code } = entry;
@@ -286,7 +290,9 @@ pub(crate) fn put_moved(
     requires moves { map is_some codes.now.items
         ≡ map (λ f. is_code_moving kind from f.body.instrs) parts.old.funcs }
     requires free { list_any (λ f. is_code_stuck kind from f.body.instrs) parts.old.funcs ≡ false }
-    ensures { parts.new ≡ record (with_lists lists parts.old) { funcs = map (moved_func kind from) parts.old.funcs } }
+    ensures { parts.new
+        ≡ record (with_lists lists parts.old)
+        { funcs = map (moved_func kind from) parts.old.funcs } }
 {
     let before = mem::replace(parts, Parts::new(alloc, Profile::Core));
     let mut now = lists.put_into(before);

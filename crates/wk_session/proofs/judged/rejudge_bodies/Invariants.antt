@@ -8,6 +8,6 @@ invariant-loop-i g l =
     let before = g.O.Env.answers l.old in
     let now = g.N.Env.answers l.new in
     record {
-      judged : l.judged.items ≡ map (func_verdict now) (take l.i l.funcs);
-      typed : l.meter ≡ l.fn.meter + count_by (is_retyped_in before now) (take l.i l.funcs);
+      judged : l.judged.items ≡ map (func_verdict now) (take l.i l.basis.parts.now.funcs);
+      typed : l.meter ≡ l.fn.meter + count_by (is_retyped_in before now) (take l.i l.basis.parts.now.funcs);
     }

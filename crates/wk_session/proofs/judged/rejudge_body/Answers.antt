@@ -10,7 +10,8 @@ carry-requires g c =
     let A = g.O.Env.answers c.args.old.now in
     let B = g.N.Env.answers c.args.new.now in
     let f = c.args.func.now in
-    let agree : Agree A B (held f) = there_agree A B c.requires.grows (held f) (c.verdicts_that_keep.ensures.there A f.ty f.body (sym c.requires.was ∙ c.in-Valid.is)) in
+    let agree : Agree A B (held f) = there_agree A B c.requires.grows (held f)
+    (c.verdicts_that_keep.ensures.there A f.ty f.body (sym c.requires.was ∙ c.in-Valid.is)) in
     record { own_type = agree.0; agree = agree.1; was = c.requires.was }
 
 pub returns-in-Valid-clause-typed : goal.returns-in-Valid-clause-typed
@@ -18,7 +19,8 @@ returns-in-Valid-clause-typed g c =
     let A = g.O.Env.answers c.args.old.now in
     let B = g.N.Env.answers c.args.new.now in
     let f = c.args.func.now in
-    let agree : Agree A B (held f) = there_agree A B c.requires.grows (held f) (c.verdicts_that_keep.ensures.there A f.ty f.body (sym c.requires.was ∙ c.in-Valid.is)) in
+    let agree : Agree A B (held f) = there_agree A B c.requires.grows (held f)
+    (c.verdicts_that_keep.ensures.there A f.ty f.body (sym c.requires.was ∙ c.in-Valid.is)) in
     count_none c.args.meter.now _ (agree_none A B (held f) agree)
 
 pub returns-then-is_retyped-clause-typed : goal.returns-then-is_retyped-clause-typed
@@ -33,7 +35,8 @@ carry-requires-2 g c =
     let A = g.O.Env.answers c.args.old.now in
     let B = g.N.Env.answers c.args.new.now in
     let f = c.args.func.now in
-    let none : list_any (differs_in A B) (held f) ≡ false = sym (any_used (differs_in A B) f c.args.refs.now.keys c.requires.refs) ∙ sym c.is_retyped.ensures ∙ c.if-is_retyped.false in
+    let none : list_any (differs_in A B) (held f) ≡ false = sym (any_used (differs_in A B) f c.args.refs.now.keys c.requires.refs)
+    ∙ sym c.is_retyped.ensures ∙ c.if-is_retyped.false in
     let agree : Agree A B (held f) = none_agree A B (held f) none in
     record { own_type = agree.0; agree = agree.1; was = c.requires.was }
 

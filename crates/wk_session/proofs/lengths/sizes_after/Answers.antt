@@ -10,7 +10,8 @@ returns c =
     let sizes : List ℕ = map length all in
     let id = c.loop-id.id in
     let last : id ≡ 12 = omega arith in
-    let count : length sizes ≤ id = omega (arith, last, length-map all length, length-with_items c.args.sections.now.items c.args.news.now.items, c.requires.sections) in
+    let count : length sizes ≤ id =
+    omega (arith, last, length-map all length, length-with_items c.args.sections.now.items c.args.news.now.items, c.requires.sections) in
     c.loop-id.invariant
     ∙ ap (λ (n : ℕ). take id sizes ++ drop n (replicate 12 0)) last
     ∙ append-nil (take id sizes) ∙ take_all id sizes count

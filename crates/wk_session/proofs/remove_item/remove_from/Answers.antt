@@ -20,5 +20,6 @@ returns-clause-ok c =
     ∙ ap (λ (ys : List ℕ). ys ++ drop (length ys) c.deref_mut.result.now) (c.deref-2.ensures.value ∙ spelled)
     ∙ ap (λ (ys : List ℕ). front ++ drop (length front) ys) c.deref_mut.ensures.value in
     let closed = c.close_gap.ensures ∙ ap (λ (i : ℕ). cut (i + at) size old) c.leb_len_u32-items.ensures in
-    cut_under front c.put_over.new.bytes gap.items old k at size gap.len is closed (omega (arith, ap length spelled, c.len.ensures, c.leb_len_u32-items.ensures, c.if-len-items.false)) c.requires.within (omega (arith, gap.ok.0))
+    cut_under front c.put_over.new.bytes gap.items old k at size gap.len is closed
+    (omega (arith, ap length spelled, c.len.ensures, c.leb_len_u32-items.ensures, c.if-len-items.false)) c.requires.within (omega (arith, gap.ok.0))
     ∙ sym (ap (λ (b : Bool). let none : List ℕ = [] in if b then none else front ++ cut at size (drop k old)) (ne_eqb count 1 c.if-count-eq1.false))

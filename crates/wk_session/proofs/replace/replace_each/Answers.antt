@@ -11,7 +11,8 @@ loop-new-preserved-in-Some-new g c =
     let shorter : length ns < length xs = omega (arith, ap length popped, length-append ns (Some c.in-Some-new.item ∷ []), c.loop-new.invariant.fits) in
     record {
       fits = rw length-set (omega (arith, shorter));
-      same = with_items_some xs ns _ c.in-Some-new.item (c.len-index.ensures ∙ c.pop.new.self.ok.0) shorter ∙ (ap (with_items xs) (sym popped) ∙ c.loop-new.invariant.same);
+      same = with_items_some xs ns _ c.in-Some-new.item (c.len-index.ensures ∙ c.pop.new.self.ok.0) shorter
+          ∙ (ap (with_items xs) (sym popped) ∙ c.loop-new.invariant.same);
     }
 
 pub loop-new-preserved : goal.loop-new-preserved
@@ -19,7 +20,8 @@ loop-new-preserved g c =
     let popped = rw c.in_default-new.is at c.in-Some.ensures.items in
     record {
       fits = omega (arith, ap length popped, length-append c.pop.new.self.items (None ∷ []), c.loop-new.invariant.fits);
-      same = sym (with_items_none c.loop-new.items.items c.pop.new.self.items) ∙ (ap (with_items c.loop-new.items.items) (sym popped) ∙ c.loop-new.invariant.same);
+      same = sym (with_items_none c.loop-new.items.items c.pop.new.self.items)
+          ∙ (ap (with_items c.loop-new.items.items) (sym popped) ∙ c.loop-new.invariant.same);
     }
 
 pub returns : goal.returns

@@ -9,7 +9,8 @@ returns-in_default c =
 pub returns-in-Invalid : goal.returns-in-Invalid
 returns-in-Invalid c =
     λ n formed verdict len other.
-    fitting_stands c.args.keep n formed c.in-Some.len (sym len ∙ c.in-Some.is) ∙ broken c.args.keep n c.in-Invalid.fault c.if-keep.true (sym verdict ∙ c.in-Invalid.is)
+    fitting_stands c.args.keep n formed c.in-Some.len (sym len ∙ c.in-Some.is)
+    ∙ broken c.args.keep n c.in-Invalid.fault c.if-keep.true (sym verdict ∙ c.in-Invalid.is)
 
 pub returns-in_default-verdict : goal.returns-in_default-verdict
 returns-in_default-verdict c =

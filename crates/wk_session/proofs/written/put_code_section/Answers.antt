@@ -3,7 +3,7 @@ use Rattle.std.specs.List.{flat_map}
 use Rattle.wk_bytes.specs.Short.{short}
 use Rattle.wk_module.specs.Formats.{written_bytes}
 use Rattle.wk_session.specs.Pieces.{code_section}
-use Rattle.wk_session.proofs.Putting.{code_section_is, contents_within, entries_within, fails_first, fails_later, takes_both}
+use Rattle.wk_session.proofs.Putting.{code_section_is, contents_within, entries_within, takes_first, takes_later}
 use Rattle.wk_session.proofs.written.put_code_section.Given.{Over}
 use Rattle.wk_session.proofs.written.put_code_section.Goals as goal
 use Rattle.wk_session.proofs.written.put_code_section.Goals.{After-len}
@@ -21,7 +21,8 @@ pub put_codes-requires-clause-few : goal.put_codes-requires-clause-few
 put_codes-requires-clause-few g c = omega (arith, entries_within c.args.codes.now, c.requires.few)
 
 is : (g : Over) (c : After-len g)
-    → code_section c.args.codes.now ≡ (10 ∷ short (c.leb_len_u32.result + c.len.result)) ++ (short c.count-count.result ++ flat_map written_bytes c.args.codes.now)
+    → code_section c.args.codes.now ≡ (10 ∷ short (c.leb_len_u32.result + c.len.result))
+    ++ (short c.count-count.result ++ flat_map written_bytes c.args.codes.now)
 is g c =
     let codes = c.args.codes.now in
     let size = c.leb_len_u32.result + c.len.result in
@@ -30,20 +31,16 @@ is g c =
     code_section_is codes size (λ none. absurd (omega (arith, none, count))) (omega (arith, c.leb_len_u32.ensures, c.len.ensures, long))
     ∙ ap (λ (n : ℕ). (10 ∷ short size) ++ (short n ++ flat_map written_bytes codes)) (sym count)
 
-pub returns-in_err-put_head-clause-err : goal.returns-in_err-put_head-clause-err
-returns-in_err-put_head-clause-err g c = fails_first _ _ _ _ _ _ c.in_err-put_head.ensures.err (is g (goal.at.returns-in_err-put_head-clause-err g c).After-len)
+pub returns-in_err-put_head-clause-taken : goal.returns-in_err-put_head-clause-taken
+returns-in_err-put_head-clause-taken g c = takes_first _ _ _ _ _ _ _ c.from_residual.ensures c.in_err-put_head.ensures.taken
+    (is g (goal.at.returns-in_err-put_head-clause-taken g c).After-len)
 
-pub returns-in_err-out_u32-clause-err : goal.returns-in_err-out_u32-clause-err
-returns-in_err-out_u32-clause-err g c =
-    let later = fails_first _ _ _ _ _ _ c.in_err-out_u32.ensures.err refl in
-    fails_later _ _ _ _ _ _ _ c.in_ok-put_head.ensures.ok later (is g (goal.at.returns-in_err-out_u32-clause-err g c).After-len)
+pub returns-in_err-out_u32-clause-taken : goal.returns-in_err-out_u32-clause-taken
+returns-in_err-out_u32-clause-taken g c =
+    let later = takes_first _ _ _ _ _ _ _ c.from_residual-in_err-out_u32.ensures c.in_err-out_u32.ensures.err refl in
+    takes_later _ _ _ _ _ _ _ c.in_ok-put_head.ensures.taken later (is g (goal.at.returns-in_err-out_u32-clause-taken g c).After-len)
 
-pub returns-clause-ok : goal.returns-clause-ok
-returns-clause-ok g c =
-    let later = takes_both _ _ _ _ _ _ _ c.in_ok-out_u32.ensures.ok c.put_codes.ensures.ok refl in
-    takes_both _ _ _ _ _ _ _ c.in_ok-put_head.ensures.ok later (is g (goal.at.returns-clause-ok g c).After-len)
-
-pub returns-clause-err : goal.returns-clause-err
-returns-clause-err g c =
-    let later = fails_later _ _ _ _ _ _ _ c.in_ok-out_u32.ensures.ok c.put_codes.ensures.err refl in
-    fails_later _ _ _ _ _ _ _ c.in_ok-put_head.ensures.ok later (is g (goal.at.returns-clause-err g c).After-len)
+pub returns-clause-taken : goal.returns-clause-taken
+returns-clause-taken g c =
+    let later = takes_later _ _ _ _ _ _ _ c.in_ok-out_u32.ensures.ok c.put_codes.ensures.taken refl in
+    takes_later _ _ _ _ _ _ _ c.in_ok-put_head.ensures.taken later (is g (goal.at.returns-clause-taken g c).After-len)

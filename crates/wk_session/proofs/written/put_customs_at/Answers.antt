@@ -2,12 +2,14 @@ use Rattle.std.proofs.Common.{◌≡◌, suc, ◌<◌, ◌++◌, List, length, t
 use Rattle.wk_module.specs.declared.types.Custom.{Custom}
 use Rattle.wk_module.specs.Writing.{customs_at}
 use Rattle.wk_module.specs.WritingLaws.{written_frame}
-use Rattle.wk_session.proofs.Putting.{custom_split, fails_first, fails_later}
+use Rattle.wk_session.proofs.Putting.{custom_split, takes_first, takes_later}
 use Rattle.wk_session.proofs.written.put_customs_at.Given.{Over}
 use Rattle.wk_session.proofs.written.put_customs_at.Goals as goal
 use Rattle.wk_session.proofs.written.put_customs_at.Goals.{Then-custom-place}
 
-split : (g : Over) (c : Then-custom-place g) → customs_at c.args.place c.args.customs.now ≡ customs_at c.args.place (take c.loop-custom.custom-index c.args.customs.now) ++ (written_frame c.custom-item.result ++ customs_at c.args.place (drop (suc c.loop-custom.custom-index) c.args.customs.now))
+split : (g : Over) (c : Then-custom-place g) → customs_at c.args.place c.args.customs.now
+    ≡ customs_at c.args.place (take c.loop-custom.custom-index c.args.customs.now)
+    ++ (written_frame c.custom-item.result ++ customs_at c.args.place (drop (suc c.loop-custom.custom-index) c.args.customs.now))
 split g c =
     let customs = c.args.customs.now in
     let i = c.loop-custom.custom-index in
@@ -23,10 +25,16 @@ put_custom-requires-clause-few g c =
     let i = c.loop-custom.custom-index in
     let frame = written_frame c.custom-item.result in
     let later = customs_at place (drop (suc i) customs) in
-    omega (arith, c.requires.few, ap length (split g (goal.at.put_custom-requires-clause-few g c).Then-custom-place), length-append (customs_at place (take i customs)) (frame ++ later), length-append frame later)
+    omega (
+      arith,
+      c.requires.few,
+      ap length (split g (goal.at.put_custom-requires-clause-few g c).Then-custom-place),
+      length-append (customs_at place (take i customs)) (frame ++ later),
+      length-append frame later,
+    )
 
-pub returns-in_err-put_custom-clause-err : goal.returns-in_err-put_custom-clause-err
-returns-in_err-put_custom-clause-err g c =
-    let later = fails_first _ _ _ _ _ _ c.in_err-put_custom.ensures.err refl in
+pub returns-in_err-put_custom-clause-taken : goal.returns-in_err-put_custom-clause-taken
+returns-in_err-put_custom-clause-taken g c =
+    let later = takes_first _ _ _ _ _ _ _ c.from_residual.ensures c.in_err-put_custom.ensures.taken refl in
     let so_far = customs_at c.args.place (take c.loop-custom.custom-index c.args.customs.now) in
-    fails_later _ _ _ _ so_far _ _ c.loop-custom.invariant.taken later (split g (goal.at.returns-in_err-put_custom-clause-err g c).Then-custom-place)
+    takes_later _ _ _ _ so_far _ _ c.loop-custom.invariant.taken later (split g (goal.at.returns-in_err-put_custom-clause-taken g c).Then-custom-place)

@@ -17,14 +17,14 @@ put_place-requires-clause-few g c = omega (arith, c.requires.few, place_within c
 
 pub returns-in_err-put_place-clause-err : goal.returns-in_err-put_place-clause-err
 returns-in_err-put_place-clause-err g c =
-    let later = fails_first _ _ _ _ _ _ c.in_err-put_place.ensures.err refl in
+    let later = fails_first _ _ _ _ _ _ c.in_err-put_place.ensures.taken refl in
     fails_later _ _ _ _ _ _ _ c.loop-id.invariant.taken later (form_split c.args.parts.now c.args.codes.now c.loop-id.id (omega arith))
 
 pub loop-id-preserved : goal.loop-id-preserved
 loop-id-preserved g c =
     let more = form_more c.args.parts.now c.args.codes.now c.loop-id.id (omega arith) in
     record {
-      taken = rw more (Appends-then _ _ _ _ _ c.loop-id.invariant.taken c.in_ok-put_place.ensures.ok);
+      taken = rw more (Appends-then _ _ _ _ _ c.loop-id.invariant.taken c.in_ok-put_place.ensures.taken);
       failures = rw c.in_ok-put_place.ensures.failures c.loop-id.invariant.failures;
     }
 

@@ -2,7 +2,7 @@ use Rattle.std.proofs.Common.{◌≡◌, ◌∷◌, ◌++◌, ◌∙◌, Bool, �
 use Rattle.wk_bytes.specs.Short.{short}
 use Rattle.wk_module.specs.Writing.{framed}
 use Rattle.wk_session.specs.Pieces.{framed_some}
-use Rattle.wk_session.proofs.Putting.{fails_first, fails_later}
+use Rattle.wk_session.proofs.Putting.{takes, takes_first, takes_later}
 use Rattle.wk_session.proofs.written.put_section.Given.{Over}
 use Rattle.wk_session.proofs.written.put_section.Goals as goal
 use Rattle.wk_session.proofs.written.put_section.Goals.{After-len}
@@ -12,9 +12,11 @@ is g c =
     ap (λ (b : Bool). if b then [] else framed c.args.id c.args.contents.now) (sym c.if-is_empty.ensures)
     ∙ ap (λ (n : ℕ). (c.args.id ∷ short n) ++ c.args.contents.now) (sym c.len.ensures)
 
-pub returns-in_err-put_head-clause-err : goal.returns-in_err-put_head-clause-err
-returns-in_err-put_head-clause-err g c = fails_first _ _ _ _ _ _ c.in_err-put_head.ensures.err (is g (goal.at.returns-in_err-put_head-clause-err g c).After-len)
+pub returns-in_err-put_head-clause-taken : goal.returns-in_err-put_head-clause-taken
+returns-in_err-put_head-clause-taken g c = takes_first _ _ _ _ _ _ _ c.from_residual.ensures c.in_err-put_head.ensures.taken
+    (is g (goal.at.returns-in_err-put_head-clause-taken g c).After-len)
 
-pub returns-clause-err : goal.returns-clause-err
-returns-clause-err g c =
-    fails_later _ _ _ _ _ _ _ c.in_ok-put_head.ensures.ok (rw c.as_slice.ensures at c.put_all.ensures.err) (is g (goal.at.returns-clause-err g c).After-len)
+pub returns-clause-taken : goal.returns-clause-taken
+returns-clause-taken g c =
+    let took = takes _ _ _ _ c.put_all.ensures.ok c.put_all.ensures.err in
+    takes_later _ _ _ _ _ _ _ c.in_ok-put_head.ensures.taken (rw c.as_slice.ensures at took) (is g (goal.at.returns-clause-taken g c).After-len)

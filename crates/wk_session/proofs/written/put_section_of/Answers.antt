@@ -13,8 +13,8 @@ pub put_code_section-requires-clause-few : goal.put_code_section-requires-clause
 put_code_section-requires-clause-few g c =
     subst (λ (id : ℕ). length (section_with c.args.parts.now c.args.codes.now id) ≤ limit) c.if-id-eq-CODE.true c.requires.few
 
-pub returns-then-id-eq-CODE-clause-err : goal.returns-then-id-eq-CODE-clause-err
-returns-then-id-eq-CODE-clause-err g c = rw c.if-id-eq-CODE.true c.put_code_section.ensures.err
+pub returns-then-id-eq-CODE-clause-taken : goal.returns-then-id-eq-CODE-clause-taken
+returns-then-id-eq-CODE-clause-taken g c = rw c.if-id-eq-CODE.true c.put_code_section.ensures.taken
 
 section_is : (g : Over) (c : After-index g) → section_with c.args.parts.now c.args.codes.now c.args.id ≡ framed_some c.args.id c.index.result.now
 section_is g c =
@@ -32,8 +32,5 @@ put_section-requires-clause-few g c =
     let is = section_is g (goal.at.put_section-requires-clause-few g c).After-index in
     omega (arith, c.requires.few, ap length is, framed_within c.args.id c.index.result.now)
 
-pub returns-clause-ok : goal.returns-clause-ok
-returns-clause-ok g c = rw (section_is g (goal.at.returns-clause-ok g c).After-index) c.put_section.ensures.ok
-
-pub returns-clause-err : goal.returns-clause-err
-returns-clause-err g c = rw (section_is g (goal.at.returns-clause-err g c).After-index) c.put_section.ensures.err
+pub returns-clause-taken : goal.returns-clause-taken
+returns-clause-taken g c = rw (section_is g (goal.at.returns-clause-taken g c).After-index) c.put_section.ensures.taken

@@ -32,7 +32,8 @@ lent c =
     ∙ ap (λ (p : Parts). listed_with (map (λ (f : Func). f.ty) p.funcs) p) c.parts-parts.ensures.value
 
 pub entries_of-requires-clause-few : goal.entries_of-requires-clause-few
-entries_of-requires-clause-few c = subst (λ (p : Parts). length p.funcs < 2 ^ 32) (sym c.parts-parts.ensures.value) (funcs_numbered c.args.module.now c.parts-parts.ensures.shaped.formed)
+entries_of-requires-clause-few c = subst (λ (p : Parts). length p.funcs < 2 ^ 32) (sym c.parts-parts.ensures.value)
+    (funcs_numbered c.args.module.now c.parts-parts.ensures.shaped.formed)
 
 pub entries_of-requires-clause-told : goal.entries_of-requires-clause-told
 entries_of-requires-clause-told c =
@@ -44,7 +45,9 @@ entries_of-requires-clause-told c =
 
 pub module_verdict_of-requires-clause-few : goal.module_verdict_of-requires-clause-few
 module_verdict_of-requires-clause-few c =
-    let few : length c.parts-parts.result.now.funcs < 2 ^ 32 = subst (λ (p : Parts). length p.funcs < 2 ^ 32) (sym c.parts-parts.ensures.value) (funcs_numbered c.args.module.now c.parts-parts.ensures.shaped.formed) in
+    let few : length c.parts-parts.result.now.funcs < 2 ^ 32 =
+    subst (λ (p : Parts). length p.funcs < 2 ^ 32) (sym c.parts-parts.ensures.value)
+    (funcs_numbered c.args.module.now c.parts-parts.ensures.shaped.formed) in
     let count = ap length (c.deref-2.ensures.value ∙ c.in_ok-entries.ensures.verdicts) ∙ length-map c.parts-parts.result.now.funcs _ in
     omega (arith, few, count)
 
@@ -53,7 +56,8 @@ module_verdict_of-requires-clause-numbered c =
     let m = c.args.module.now in
     let formed = c.parts-parts.ensures.shaped.formed in
     let types = map (λ (f : Func). f.ty) m.funcs in
-    subst AreNumbered (sym (lent (goal.at.module_verdict_of-requires-clause-numbered c).After-of-lists)) (module_numbered_with types m (omega (arith, funcs_numbered m formed, length-map m.funcs (λ (f : Func). f.ty))) formed)
+    subst AreNumbered (sym (lent (goal.at.module_verdict_of-requires-clause-numbered c).After-of-lists))
+    (module_numbered_with types m (omega (arith, funcs_numbered m formed, length-map m.funcs (λ (f : Func). f.ty))) formed)
 
 pub of-requires-clause-types : goal.of-requires-clause-types
 of-requires-clause-types c = c.deref-3.ensures.value ∙ c.in_ok-types.ensures

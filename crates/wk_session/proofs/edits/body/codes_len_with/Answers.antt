@@ -10,10 +10,18 @@ use Rattle.wk_session.proofs.edits.body.codes_len_with.Goals.{In-Some}
 
 pub unreachable-requires : goal.unreachable-requires
 unreachable-requires c =
-    omega (arith, limited_none (entry_size (length c.index.result.now)) (sym c.in_default.is ∙ c.plus_code.ensures 0 refl ∙ ap limited (zero-add (entry_size (length c.index.result.now)))), entry_within c.args.pieces.now.codes.items c.args.entry c.index.result.now c.requires.within c.index.ensures, c.requires.len, c.requires.fits)
+    omega (
+      arith,
+      limited_none (entry_size (length c.index.result.now))
+          (sym c.in_default.is ∙ c.plus_code.ensures 0 refl ∙ ap limited (zero-add (entry_size (length c.index.result.now)))),
+      entry_within c.args.pieces.now.codes.items c.args.entry c.index.result.now c.requires.within c.index.ensures,
+      c.requires.len,
+      c.requires.fits,
+    )
 
 before_is : (c : In-Some) → c.in-Some.before ≡ entry_size (length c.index.result.now)
-before_is c = (limited_some c.in-Some.before (entry_size (length c.index.result.now)) (sym c.in-Some.is ∙ c.plus_code.ensures 0 refl ∙ ap limited (zero-add (entry_size (length c.index.result.now))))).0
+before_is c = (limited_some c.in-Some.before (entry_size (length c.index.result.now))
+    (sym c.in-Some.is ∙ c.plus_code.ensures 0 refl ∙ ap limited (zero-add (entry_size (length c.index.result.now))))).0
 
 pub overflow_sub-pieces : goal.overflow_sub-pieces
 overflow_sub-pieces c =

@@ -17,17 +17,19 @@ use Rattle.wk_session.proofs.EntryEdits.{lent, numbered_lent}
 use Rattle.wk_session.proofs.edits.body.judged_body.Goals as goal
 use Rattle.wk_session.proofs.edits.body.judged_body.Goals.{After-of-lists, After-verdict_with_body-verdict, In_ok-own, In_ok-verdicts}
 
-formed : (c : After-of-lists) → IsFormed (with_body c.args.entry c.args.body.now c.args.parts.now)
-formed c = body_formed c.args.entry c.args.body.now c.args.parts.now c.requires.valid c.requires.shaped.formed
+formed : (c : After-of-lists) → IsFormed (with_body c.args.entry c.args.body.now c.args.basis.parts.now)
+formed c = body_formed c.args.entry c.args.body.now c.args.basis.parts.now c.requires.valid c.requires.shaped.formed
 
 -- the lists that are lent are those of the module with the other body
-lists_are : (c : After-of-lists) → listed c.of-lists.result ≡ lent (with_body c.args.entry c.args.body.now c.args.parts.now)
+lists_are : (c : After-of-lists) → listed c.of-lists.result ≡ lent (with_body c.args.entry c.args.body.now c.args.basis.parts.now)
 lists_are c =
-    lent_given c.args.entry c.args.body.now c.args.parts.now c.deref.result.now _ c.of-lists.ensures.lists (c.deref.ensures.value ∙ c.requires.kept.types)
+    lent_given c.args.entry c.args.body.now c.args.basis.parts.now c.deref.result.now _ c.of-lists.ensures.lists (c.deref.ensures.value ∙ c.requires.kept.types)
 
 -- what is pending
-pending : (c : After-of-lists) → c.in_ok-verdicts.verdicts.items ≡ map (func_verdict (answers_of (with_body c.args.entry c.args.body.now c.args.parts.now))) (with_body c.args.entry c.args.body.now c.args.parts.now).funcs
-    → IsPending c.of-lists.result c.in_ok-verdicts.verdicts.items c.args.len (with_body c.args.entry c.args.body.now c.args.parts.now)
+pending : (c : After-of-lists) → c.in_ok-verdicts.verdicts.items
+    ≡ map (func_verdict (answers_of (with_body c.args.entry c.args.body.now c.args.basis.parts.now)))
+    (with_body c.args.entry c.args.body.now c.args.basis.parts.now).funcs
+    → IsPending c.of-lists.result c.in_ok-verdicts.verdicts.items c.args.len (with_body c.args.entry c.args.body.now c.args.basis.parts.now)
 pending c all = record {
   formed = formed c;
   profile = c.of-lists.ensures.profile;
@@ -37,62 +39,73 @@ pending c all = record {
 }
 
 -- the kept verdicts are those of the others still
-others : (c : In_ok-own) → c.args.kept.now.verdicts.items ≡ map (func_verdict (answers_of (with_body c.args.entry c.args.body.now c.args.parts.now))) c.args.parts.now.funcs
-others c = others_stay c.args.entry c.args.body.now c.args.parts.now c.args.kept.now.verdicts.items c.requires.kept.verdicts
+others : (c : In_ok-own) → c.args.basis.kept.now.verdicts.items
+    ≡ map (func_verdict (answers_of (with_body c.args.entry c.args.body.now c.args.basis.parts.now))) c.args.basis.parts.now.funcs
+others c = others_stay c.args.entry c.args.body.now c.args.basis.parts.now c.args.basis.kept.now.verdicts.items c.requires.kept.verdicts
 
 -- with the one that is another they are those of all
-all_are : (c : In_ok-verdicts) → c.args.kept.now.verdicts.items ≡ map (func_verdict (answers_of (with_body c.args.entry c.args.body.now c.args.parts.now))) c.args.parts.now.funcs
-    → c.in_ok-verdicts.verdicts.items ≡ map (func_verdict (answers_of (with_body c.args.entry c.args.body.now c.args.parts.now))) (with_body c.args.entry c.args.body.now c.args.parts.now).funcs
+all_are : (c : In_ok-verdicts) → c.args.basis.kept.now.verdicts.items
+    ≡ map (func_verdict (answers_of (with_body c.args.entry c.args.body.now c.args.basis.parts.now))) c.args.basis.parts.now.funcs
+    → c.in_ok-verdicts.verdicts.items ≡ map (func_verdict (answers_of (with_body c.args.entry c.args.body.now c.args.basis.parts.now)))
+    (with_body c.args.entry c.args.body.now c.args.basis.parts.now).funcs
 all_are c same =
-    let m = c.args.parts.now in
-    told_given (func_verdict (answers_of (with_body c.args.entry c.args.body.now m))) c.args.entry c.args.body.now m.funcs c.args.ty c.args.kept.now.verdicts.items c.in_ok-verdicts.verdicts.items c.in_ok-own.own c.requires.ty c.in_ok-verdicts.ensures same c.in_ok-own.ensures.own
+    let m = c.args.basis.parts.now in
+    told_given (func_verdict (answers_of (with_body c.args.entry c.args.body.now m))) c.args.entry c.args.body.now m.funcs c.args.ty
+    c.args.basis.kept.now.verdicts.items c.in_ok-verdicts.verdicts.items c.in_ok-own.own c.requires.ty c.in_ok-verdicts.ensures same c.in_ok-own.ensures.own
 
 pub overflow_cast-entry : goal.overflow_cast-entry
-overflow_cast-entry c = omega (arith, c.requires.within, funcs_numbered c.args.parts.now c.requires.shaped.formed)
+overflow_cast-entry c = omega (arith, c.requires.within, funcs_numbered c.args.basis.parts.now c.requires.shaped.formed)
 
 -- the verdict of a valid module with the other body
-verdict_is : (c : After-verdict_with_body-verdict) → c.verdict_with_body-verdict.result ≡ module_verdict (with_body c.args.entry c.args.body.now c.args.parts.now)
+verdict_is : (c : After-verdict_with_body-verdict) → c.verdict_with_body-verdict.result
+    ≡ module_verdict (with_body c.args.entry c.args.body.now c.args.basis.parts.now)
 verdict_is c =
-    c.verdict_with_body-verdict.ensures c.args.parts.now c.args.ty c.args.body.now c.requires.ty (sym c.requires.kept.verdict ∙ c.in-Valid.is) (c.in_ok-own.ensures.own ∙ ap (λ (A : Ref → Found). body_verdict A c.args.ty c.args.body.now) (answers_stay c.args.entry c.args.body.now c.args.parts.now))
+    c.verdict_with_body-verdict.ensures c.args.basis.parts.now c.args.ty c.args.body.now c.requires.ty (sym c.requires.kept.verdict ∙ c.in-Valid.is)
+    (c.in_ok-own.ensures.own ∙ ap (λ (A : Ref → Found). body_verdict A c.args.ty c.args.body.now)
+    (answers_stay c.args.entry c.args.body.now c.args.basis.parts.now))
 
-pub returns-in_err-appraisal-clause-err : goal.returns-in_err-appraisal-clause-err
-returns-in_err-appraisal-clause-err c =
-    let m = c.args.parts.now in
+pub returns-in_err-appraisal-clause-judged : goal.returns-in_err-appraisal-clause-judged
+returns-in_err-appraisal-clause-judged c =
+    let m = c.args.basis.parts.now in
     let p = err_from_is_err_and c.from_residual-in_err-appraisal.result c.from_residual-in_err-appraisal.ensures.1 in
     let formed_with = body_formed c.args.entry c.args.body.now m c.requires.valid c.requires.shaped.formed in
-    rw (p.1, p.2) (c.in_err-appraisal.ensures (with_body c.args.entry c.args.body.now m) formed_with (verdict_is (goal.at.returns-in_err-appraisal-clause-err c).After-verdict_with_body-verdict) c.requires.len)
+    rw (p.1, p.2) (c.in_err-appraisal.ensures (with_body c.args.entry c.args.body.now m) formed_with
+    (verdict_is (goal.at.returns-in_err-appraisal-clause-judged c).After-verdict_with_body-verdict) c.requires.len)
 
-pub returns-in-Valid-clause-ok : goal.returns-in-Valid-clause-ok
-returns-in-Valid-clause-ok c =
-    let m = c.args.parts.now in
+pub returns-in-Valid-clause-judged : goal.returns-in-Valid-clause-judged
+returns-in-Valid-clause-judged c =
+    let m = c.args.basis.parts.now in
+    let at = goal.at.returns-in-Valid-clause-judged c in
     let formed_with = body_formed c.args.entry c.args.body.now m c.requires.valid c.requires.shaped.formed in
-    c.in_ok-appraisal.ensures (with_body c.args.entry c.args.body.now m) formed_with (verdict_is (goal.at.returns-in-Valid-clause-ok c).After-verdict_with_body-verdict) c.requires.len
+    let appraised = c.in_ok-appraisal.ensures (with_body c.args.entry c.args.body.now m) formed_with
+    (verdict_is at.After-verdict_with_body-verdict) c.requires.len in
+    ((c.in_ok-own.ensures.own, others at.In_ok-own), appraised)
 
 pub appraise-requires-clause-numbered : goal.appraise-requires-clause-numbered
 appraise-requires-clause-numbered c =
     let at = (goal.at.appraise-requires-clause-numbered c).After-of-lists in
-    numbered_lent (with_body c.args.entry c.args.body.now c.args.parts.now) _ (lists_are at) (formed at)
+    numbered_lent (with_body c.args.entry c.args.body.now c.args.basis.parts.now) _ (lists_are at) (formed at)
 
 pub appraise-requires-clause-few : goal.appraise-requires-clause-few
 appraise-requires-clause-few c =
-    let n = with_body c.args.entry c.args.body.now c.args.parts.now in
-    omega (arith, ap length (all_are (goal.at.appraise-requires-clause-few c).In_ok-verdicts (others (goal.at.appraise-requires-clause-few c).In_ok-own)), length-map n.funcs (func_verdict (answers_of n)), funcs_numbered n (formed (goal.at.appraise-requires-clause-few c).After-of-lists))
+    let n = with_body c.args.entry c.args.body.now c.args.basis.parts.now in
+    omega (
+      arith,
+      ap length (all_are (goal.at.appraise-requires-clause-few c).In_ok-verdicts
+          (others (goal.at.appraise-requires-clause-few c).In_ok-own)),
+      length-map n.funcs (func_verdict (answers_of n)),
+      funcs_numbered n (formed (goal.at.appraise-requires-clause-few c).After-of-lists),
+    )
 
-pub returns-in_err-appraisal-2-clause-err : goal.returns-in_err-appraisal-2-clause-err
-returns-in_err-appraisal-2-clause-err c =
-    let at = goal.at.returns-in_err-appraisal-2-clause-err c in
+pub returns-in_err-appraisal-2-clause-judged : goal.returns-in_err-appraisal-2-clause-judged
+returns-in_err-appraisal-2-clause-judged c =
+    let at = goal.at.returns-in_err-appraisal-2-clause-judged c in
     let p = err_from_is_err_and c.from_residual-in_err-appraisal-2.result c.from_residual-in_err-appraisal-2.ensures.1 in
-    rw (p.1, p.2) (c.in_err-appraisal-2.ensures (with_body c.args.entry c.args.body.now c.args.parts.now) (pending at.After-of-lists (all_are at.In_ok-verdicts (others at.In_ok-own))))
+    rw (p.1, p.2) (c.in_err-appraisal-2.ensures (with_body c.args.entry c.args.body.now c.args.basis.parts.now)
+    (pending at.After-of-lists (all_are at.In_ok-verdicts (others at.In_ok-own))))
 
-pub returns-clause-ok : goal.returns-clause-ok
-returns-clause-ok c =
-    let at = goal.at.returns-clause-ok c in
-    c.in_ok-appraisal-2.ensures (with_body c.args.entry c.args.body.now c.args.parts.now) (pending at.After-of-lists (all_are at.In_ok-verdicts (others at.In_ok-own)))
-
-pub returns-in-Valid-clause-verdicts : goal.returns-in-Valid-clause-verdicts
-returns-in-Valid-clause-verdicts c = (c.in_ok-own.ensures.own, others (goal.at.returns-in-Valid-clause-verdicts c).In_ok-own)
-
-pub returns-clause-verdicts : goal.returns-clause-verdicts
-returns-clause-verdicts c =
-    let at = goal.at.returns-clause-verdicts c in
-    all_are at.In_ok-verdicts (others at.In_ok-own)
+pub returns-clause-judged : goal.returns-clause-judged
+returns-clause-judged c =
+    let at = goal.at.returns-clause-judged c in
+    let all = all_are at.In_ok-verdicts (others at.In_ok-own) in
+    (all, c.in_ok-appraisal-2.ensures (with_body c.args.entry c.args.body.now c.args.basis.parts.now) (pending at.After-of-lists all))

@@ -11,8 +11,10 @@ pub returns-in_err-len : goal.returns-in_err-len
 returns-in_err-len c =
     let m = c.args.parts.now in
     let n : Parts = record m { customs = m.customs ++ last_custom c.args.name.now c.args.bytes.now ∷ [] } in
-    let checked = c.in_err-len.ensures n (last_formed c.args.name.now c.args.bytes.now m c.as_str-text.ensures.utf8 c.requires.shaped.formed) (sym c.requires.kept.verdict) c.len_with_custom-len.ensures in
-    put_checked c.args.keep m n c.args.parts.now c.args.kept.now refl c.from_residual.result c.in_err-len.field-0.0 (err_from_is_err_and c.from_residual.result c.from_residual.ensures.1) checked
+    let checked = c.in_err-len.ensures n (last_formed c.args.name.now c.args.bytes.now m c.as_str-text.ensures.utf8 c.requires.shaped.formed)
+    (sym c.requires.kept.verdict) c.len_with_custom-len.ensures in
+    put_checked c.args.keep m n c.args.parts.now c.args.kept.now refl c.from_residual.result c.in_err-len.field-0.0
+    (err_from_is_err_and c.from_residual.result c.from_residual.ensures.1) checked
 
 pub returns-in_err-push_custom : goal.returns-in_err-push_custom
 returns-in_err-push_custom c =
@@ -21,7 +23,8 @@ returns-in_err-push_custom c =
     let formed = last_formed c.args.name.now c.args.bytes.now m c.as_str-text.ensures.utf8 c.requires.shaped.formed in
     let checked = c.in_ok-len.ensures n formed (sym c.requires.kept.verdict) c.len_with_custom-len.ensures in
     let result = c.from_residual-in_err-push_custom.result in
-    put_wanting c.args.keep m n c.push_custom.new.parts c.args.kept.now c.in_err-push_custom.ensures.err result (err_from_is_err_and result c.from_residual-in_err-push_custom.ensures.1) (fits_settled n c.in_ok-len.len formed checked.1)
+    put_wanting c.args.keep m n c.push_custom.new.parts c.args.kept.now c.in_err-push_custom.ensures.err result
+    (err_from_is_err_and result c.from_residual-in_err-push_custom.ensures.1) (fits_settled n c.in_ok-len.len formed checked.1)
 
 pub keep_len-requires-clause-before : goal.keep_len-requires-clause-before
 keep_len-requires-clause-before c = customs_before c.args.parts.now [] c.args.kept.now c.requires.shaped.formed.order c.requires.kept

@@ -7,8 +7,11 @@ returns-in_default c = λ n formed verdict len. ((λ wanted. absurd cc), too_lar
 
 pub returns-in-Invalid : goal.returns-in-Invalid
 returns-in-Invalid c =
-    λ n formed verdict len.
-    ((λ wanted. absurd cc), fitting_stands c.args.keep n formed c.in-Some.len (sym len ∙ c.in-Some.is) ∙ broken c.args.keep n c.in-Invalid.fault c.if-keep.true (verdict ∙ c.in-Invalid.is))
+    λ n formed verdict len. (
+      (λ wanted. absurd cc),
+      fitting_stands c.args.keep n formed c.in-Some.len (sym len ∙ c.in-Some.is)
+          ∙ broken c.args.keep n c.in-Invalid.fault c.if-keep.true (verdict ∙ c.in-Invalid.is),
+    )
 
 pub returns-in_default-verdict : goal.returns-in_default-verdict
 returns-in_default-verdict c =

@@ -38,4 +38,5 @@ returns c =
     let fits = limited_some _ _ (sym c.requires.len) in
     let new = c.frame_len-2.ensures (with_bytes bytes d) refl (sym c.len-2.ensures) in
     let all = length_bytes c.args.index bytes c.args.parts.now d c.requires.order c.requires.within (at (goal.at.returns c).After-frame_len) in
-    c.exchange.ensures (length (written_frame (with_bytes bytes d))) new ∙ ap limited (omega (arith, old.0, fits.0, all, within (goal.at.returns c).After-frame_len))
+    c.exchange.ensures (length (written_frame (with_bytes bytes d))) new
+    ∙ ap limited (omega (arith, old.0, fits.0, all, within (goal.at.returns c).After-frame_len))

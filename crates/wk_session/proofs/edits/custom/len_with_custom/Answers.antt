@@ -11,4 +11,5 @@ returns c =
     let d = last_custom c.args.name.now c.args.bytes.now in
     let fits = limited_some _ _ (sym c.requires.len) in
     let new = c.frame_len.ensures d refl (sym c.len.ensures) in
-    c.exchange.ensures (length (written_frame d)) new ∙ ap limited (omega (arith, fits.0, length_last c.args.name.now c.args.bytes.now c.args.parts.now c.requires.order))
+    c.exchange.ensures (length (written_frame d)) new ∙ ap limited
+    (omega (arith, fits.0, length_last c.args.name.now c.args.bytes.now c.args.parts.now c.requires.order))

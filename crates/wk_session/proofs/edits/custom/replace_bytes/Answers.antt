@@ -11,8 +11,10 @@ pub returns-in_err-len : goal.returns-in_err-len
 returns-in_err-len c =
     let m = c.args.parts.now in
     let n : Parts = record m { customs = bytes_at c.args.index c.args.bytes.now m.customs } in
-    let checked = c.in_err-len.ensures n (bytes_formed c.args.index c.args.bytes.now m c.requires.shaped.formed) (sym c.requires.kept.verdict) c.len_with_bytes-len.ensures in
-    put_checked c.args.keep m n c.args.parts.now c.args.kept.now refl c.from_residual.result c.in_err-len.field-0.0 (err_from_is_err_and c.from_residual.result c.from_residual.ensures.1) checked
+    let checked = c.in_err-len.ensures n (bytes_formed c.args.index c.args.bytes.now m c.requires.shaped.formed)
+    (sym c.requires.kept.verdict) c.len_with_bytes-len.ensures in
+    put_checked c.args.keep m n c.args.parts.now c.args.kept.now refl c.from_residual.result c.in_err-len.field-0.0
+    (err_from_is_err_and c.from_residual.result c.from_residual.ensures.1) checked
 
 pub returns-in_err-bytes : goal.returns-in_err-bytes
 returns-in_err-bytes c =
@@ -21,7 +23,8 @@ returns-in_err-bytes c =
     let formed = bytes_formed c.args.index c.args.bytes.now m c.requires.shaped.formed in
     let checked = c.in_ok-len.ensures n formed (sym c.requires.kept.verdict) c.len_with_bytes-len.ensures in
     let result = c.from_residual-in_err-bytes.result in
-    put_wanting c.args.keep m n c.args.parts.now c.args.kept.now refl result (err_from_is_err_and result c.from_residual-in_err-bytes.ensures.1) (fits_settled n c.in_ok-len.len formed checked.1)
+    put_wanting c.args.keep m n c.args.parts.now c.args.kept.now refl result (err_from_is_err_and result c.from_residual-in_err-bytes.ensures.1)
+    (fits_settled n c.in_ok-len.len formed checked.1)
 
 pub keep_len-requires-clause-before : goal.keep_len-requires-clause-before
 keep_len-requires-clause-before c = customs_before c.args.parts.now [] c.args.kept.now c.requires.shaped.formed.order c.requires.kept
@@ -44,5 +47,6 @@ returns c =
     let formed = bytes_formed i bytes m c.requires.shaped.formed in
     let checked = c.in_ok-len.ensures n formed (sym c.requires.kept.verdict) c.len_with_bytes-len.ensures in
     let same = c.put_bytes.ensures ∙ ap (λ (b : List ℕ). let p : Parts = record m { customs = bytes_at i b m.customs } in p) c.in_ok-bytes.ensures in
-    let kept = customs_kept m (bytes_at i bytes m.customs) c.args.kept.now c.requires.shaped.formed.order c.requires.kept formed.order c.in_ok-len.len checked.1 in
+    let kept = customs_kept m (bytes_at i bytes m.customs) c.args.kept.now c.requires.shaped.formed.order c.requires.kept formed.order c.in_ok-len.len
+    checked.1 in
     (checked.0, same, formed, subst (IsKept n) (sym c.keep_len.ensures) kept)

@@ -11,7 +11,8 @@ pub returns-in_err-put_custom : goal.returns-in_err-put_custom
 returns-in_err-put_custom c =
     let put = c.in_err-put_custom.ensures in
     let result = c.from_residual.result in
-    put_refusal c.args.keep c.args.name.now c.args.bytes.now c.args.parts.now c.put_custom.new.parts c.args.kept.now c.put_custom.new.kept result c.in_err-put_custom.field-0.0
+    put_refusal c.args.keep c.args.name.now c.args.bytes.now c.args.parts.now c.put_custom.new.parts c.args.kept.now c.put_custom.new.kept result
+    c.in_err-put_custom.field-0.0
     (err_from_is_err_and result c.from_residual.ensures.1) c.requires.kept put.0 put.1 put.2 put.3
 
 pub returns : goal.returns

@@ -5,7 +5,6 @@ use Rattle.wk_module.specs.Shape.{settle}
 use Rattle.wk_module.specs.ShapeLaws.{customs_formed}
 use Rattle.wk_module.specs.Writing.{encoded, Fits}
 use Rattle.wk_session.specs.declared.edit.Edit.TheVariants as edits
-use Rattle.wk_session.specs.declared.cache.Cache.{Cache}
 use Rattle.wk_session.specs.Edits.{without_all_customs}
 use Rattle.wk_session.specs.Kept.{IsKept, Leads}
 use Rattle.wk_session.specs.Pieces.{customs_size}
@@ -16,10 +15,12 @@ use Rattle.wk_session.proofs.edits.custom.strip_all.Goals as goal
 use Rattle.wk_session.proofs.edits.custom.strip_all.Goals.{After-new}
 
 -- the length of the module without customs, as it is kept
-length_is : (c : After-new) → c.args.kept.now.len - c.args.kept.now.pieces.customs_len + customs_size c.new.result ≡ length (encoded (without_all_customs c.args.parts.now))
+length_is : (c : After-new) → c.args.kept.now.len - c.args.kept.now.pieces.customs_len + customs_size c.new.result
+    ≡ length (encoded (without_all_customs c.args.parts.now))
 length_is c =
     let k = c.args.kept.now in
-    ap (λ (cs : List Custom). k.len - k.pieces.customs_len + customs_size cs) c.new.ensures ∙ customs_length c.args.parts.now [] k c.requires.shaped.formed.order c.requires.kept tt
+    ap (λ (cs : List Custom). k.len - k.pieces.customs_len + customs_size cs) c.new.ensures
+    ∙ customs_length c.args.parts.now [] k c.requires.shaped.formed.order c.requires.kept tt
 
 fits : (c : After-new) → Fits (without_all_customs c.args.parts.now)
 fits c = bare_fits c.args.parts.now (limited-some (length (encoded c.args.parts.now)) c.args.kept.now.len c.requires.kept.len)
@@ -45,5 +46,6 @@ returns c =
     let makes = c.in_ok-check_verdict.ensures (settle n) (sym c.requires.kept.verdict) in
     let kept = subst (IsKept n) (sym c.keep_customs.ensures) (customs_kept m [] k c.requires.shaped.formed.order c.requires.kept tt len is) in
     let formed = customs_formed [] m tt tt c.requires.shaped.formed in
-    let leads : Leads keep e m (Ok c.work_on.result) n c.keep_customs.new.kept = (makes, c.work_on.ensures ∙ strip_all_work m (settle n) (λ r. refl), formed, kept) in
+    let leads : Leads keep e m (Ok c.work_on.result) n c.keep_customs.new.kept =
+    (makes, c.work_on.ensures ∙ strip_all_work m (settle n) (λ r. refl), formed, kept) in
     subst (λ (cs : List Custom). Leads keep e m (Ok c.work_on.result) (record m { customs = cs }) c.keep_customs.new.kept) (sym c.new.ensures) leads

@@ -7,7 +7,6 @@ use Rattle.wk_module.specs.Shape.{IsFormed, settle}
 use Rattle.wk_module.specs.ShapeLaws.{filter_formed}
 use Rattle.wk_module.specs.Writing.{encoded, Fits}
 use Rattle.wk_session.specs.declared.edit.Edit.TheVariants as edits
-use Rattle.wk_session.specs.declared.cache.Cache.{Cache}
 use Rattle.wk_session.specs.Edits.{is_named, without_customs}
 use Rattle.wk_session.specs.Kept.{IsKept, Leads}
 use Rattle.wk_session.specs.Pieces.{customs_size}
@@ -21,7 +20,8 @@ formed_without : (name : List ℕ) (m : Parts) → IsFormed m → IsFormed (with
 formed_without name m formed = filter_formed (λ (d : Custom). not (is_named name d)) m formed
 
 -- the length of the module without the customs, as it is kept
-length_is : (c : After-remove_customs) → c.args.kept.now.len - c.args.kept.now.pieces.customs_len + customs_size c.remove_customs.new.parts.customs ≡ length (encoded (without_customs c.args.name.now c.args.parts.now))
+length_is : (c : After-remove_customs) → c.args.kept.now.len - c.args.kept.now.pieces.customs_len + customs_size c.remove_customs.new.parts.customs
+    ≡ length (encoded (without_customs c.args.name.now c.args.parts.now))
 length_is c =
     let m = c.args.parts.now in
     let k = c.args.kept.now in
@@ -32,7 +32,8 @@ length_is c =
 fits : (c : After-remove_customs) → Fits (without_customs c.args.name.now c.args.parts.now)
 fits c =
     let m = c.args.parts.now in
-    filtered_fits (λ (d : Custom). not (is_named c.args.name.now d)) m (without_customs c.args.name.now m) refl (limited-some (length (encoded m)) c.args.kept.now.len c.requires.kept.len)
+    filtered_fits (λ (d : Custom). not (is_named c.args.name.now d)) m (without_customs c.args.name.now m) refl
+    (limited-some (length (encoded m)) c.args.kept.now.len c.requires.kept.len)
 
 pub keep_customs-requires-clause-before : goal.keep_customs-requires-clause-before
 keep_customs-requires-clause-before c = customs_before c.args.parts.now c.args.parts.now.customs c.args.kept.now c.requires.shaped.formed.order c.requires.kept
@@ -57,5 +58,6 @@ returns c =
     let makes = stripped_made keep name m has ∙ c.in_ok-check_verdict.ensures (settle n) (sym c.requires.kept.verdict) in
     let formed = formed_without name m c.requires.shaped.formed in
     let kept = subst (IsKept n) (sym c.keep_customs.ensures) (customs_kept m n.customs k c.requires.shaped.formed.order c.requires.kept formed.order len is) in
-    let leads : Leads keep e m (Ok c.work_on.result) n c.keep_customs.new.kept = (makes, c.work_on.ensures ∙ strip_work name m (settle n) (λ r. refl), formed, kept) in
+    let leads : Leads keep e m (Ok c.work_on.result) n c.keep_customs.new.kept =
+    (makes, c.work_on.ensures ∙ strip_work name m (settle n) (λ r. refl), formed, kept) in
     subst (λ (p : Parts). Leads keep e m (Ok c.work_on.result) p c.keep_customs.new.kept) (sym c.remove_customs.ensures) leads

@@ -61,19 +61,22 @@ returns-then-is_none c =
     ((λ other. too_large c.args.keep (with_export x m) c.requires.shaped.formed.order (sym none ∙ len)), (λ same. absurd cc), refl, c.requires.kept)
 
 -- the outcome is not decided without memory
-decided : (c : Else-is_none) → c.len_grown-len.result ≡ limited (length (encoded (with_export c.args.export.now c.args.parts.now))) → is_decided (edits.Export c.args.export.now) c.args.parts.now ≡ false
+decided : (c : Else-is_none) → c.len_grown-len.result ≡ limited (length (encoded (with_export c.args.export.now c.args.parts.now)))
+    → is_decided (edits.Export c.args.export.now) c.args.parts.now ≡ false
 decided c len =
     ap is_large (not_large (with_export c.args.export.now c.args.parts.now) c.len_grown-len.result c.requires.shaped.formed.order len c.if-is_none.ensures)
 
 pub returns-in_err-export : goal.returns-in_err-export
 returns-in_err-export c =
     let at = goal.at.returns-in_err-export c in
-    wants_memory c.args.keep (edits.Export c.args.export.now) c.args.parts.now c.args.kept.now c.requires.kept c.from_residual.result (err_from_is_err_and c.from_residual.result c.from_residual.ensures.1) (decided at.Else-is_none (len_is at.After-len_grown-len))
+    wants_memory c.args.keep (edits.Export c.args.export.now) c.args.parts.now c.args.kept.now c.requires.kept c.from_residual.result
+    (err_from_is_err_and c.from_residual.result c.from_residual.ensures.1) (decided at.Else-is_none (len_is at.After-len_grown-len))
 
 pub push_export-requires-clause-len : goal.push_export-requires-clause-len
 push_export-requires-clause-len c =
     let m = c.args.parts.now in
-    len_is (goal.at.push_export-requires-clause-len c).After-len_grown-len ∙ ap (λ (y : Export). limited (length (encoded (with_export y m)))) (sym c.in_ok-export.ensures)
+    len_is (goal.at.push_export-requires-clause-len c).After-len_grown-len
+    ∙ ap (λ (y : Export). limited (length (encoded (with_export y m)))) (sym c.in_ok-export.ensures)
 
 pub returns-in_err-sections : goal.returns-in_err-sections
 returns-in_err-sections c =
@@ -84,8 +87,11 @@ returns-in_err-sections c =
     let new = c.push_export.new.kept in
     let f = c.in_err-sections.field-0.0 in
     let result = c.from_residual-in_err-sections.result in
-    let grown = subst (λ (y : Export). IsGrown c.args.keep (answers_of m) (with_export y m) 0 1 k new (Err f)) c.in_ok-export.ensures c.in_err-sections.ensures.grown in
-    refused c.args.keep (edits.Export x) m new (kept_again m k new grown.1 c.requires.kept) (with_export x m) c.push_export.new.parts f result (err_from_is_err_and result c.from_residual-in_err-sections.ensures.1) refl grown.0 (λ same. decided at.Else-is_none (len_is at.After-len_grown-len)) c.in_err-sections.ensures.err
+    let grown = subst (λ (y : Export). IsGrown c.args.keep (answers_of m) (with_export y m) 0 1 k new (Err f)) c.in_ok-export.ensures
+    c.in_err-sections.ensures.grown in
+    refused c.args.keep (edits.Export x) m new (kept_again m k new grown.1 c.requires.kept) (with_export x m) c.push_export.new.parts f result
+    (err_from_is_err_and result c.from_residual-in_err-sections.ensures.1) refl grown.0
+    (λ same. decided at.Else-is_none (len_is at.After-len_grown-len)) c.in_err-sections.ensures.err
 
 pub returns : goal.returns
 returns c =
@@ -95,9 +101,12 @@ returns c =
     let k = c.args.kept.now in
     let new = c.push_export.new.kept in
     let made = c.in_ok-sections.sections in
-    let grown = subst (λ (y : Export). IsGrown c.args.keep (answers_of m) (with_export y m) 0 1 k new (Ok made)) c.in_ok-export.ensures c.in_ok-sections.ensures.grown in
+    let grown = subst (λ (y : Export). IsGrown c.args.keep (answers_of m) (with_export y m) 0 1 k new (Ok made)) c.in_ok-export.ensures
+    c.in_ok-sections.ensures.grown in
     let same = c.in_ok-sections.ensures.ok ∙ ap (λ (y : Export). with_export y m) c.in_ok-export.ensures in
     let y = c.in_ok-export.export in
     let valid : IsExport y = (c.as_str-name.ensures.utf8, search rules) in
-    let formed : IsFormed n = subst (λ (z : Export). IsFormed (with_export z m)) c.in_ok-export.ensures (export_formed y m (few m k c.requires.kept) valid c.requires.shaped.formed) in
-    accepted c.args.keep (edits.Export x) m n c.push_export.new.parts k new (record { typed = 0; encoded = 0; sections = made }) same refl grown.0 (ap one_section grown.3 ∙ export_work x m (settle n) (λ r. refl)) formed grown.1
+    let formed : IsFormed n = subst (λ (z : Export). IsFormed (with_export z m)) c.in_ok-export.ensures
+    (export_formed y m (few m k c.requires.kept) valid c.requires.shaped.formed) in
+    accepted c.args.keep (edits.Export x) m n c.push_export.new.parts k new (record { typed = 0; encoded = 0; sections = made }) same refl grown.0
+    (ap one_section grown.3 ∙ export_work x m (settle n) (λ r. refl)) formed grown.1

@@ -27,11 +27,13 @@ without : (c : In-Some) → without_first c.args.name.now c.args.parts.now.expor
 without c = without_found c.args.name.now c.args.parts.now.exports c.in-Some.place (sym c.place_of.ensures ∙ c.in-Some.is)
 
 -- the edit makes the module without the export, if that may stay
-makes : (c : In-Some) → made c.args.keep (edits.Unexport c.args.name.now) c.args.parts.now ≡ standing c.args.keep (record c.args.parts.now { exports = remove c.args.parts.now.exports c.in-Some.place })
+makes : (c : In-Some) → made c.args.keep (edits.Unexport c.args.name.now) c.args.parts.now
+    ≡ standing c.args.keep (record c.args.parts.now { exports = remove c.args.parts.now.exports c.in-Some.place })
 makes c =
     let m = c.args.parts.now in
     ap (λ (o : Option (List Export)). with_exports o m >>= lasting c.args.keep) (without c)
-    ∙ shrunk_stands c.args.keep c.args.name.now (remove m.exports c.in-Some.place) m c.args.kept.now.len (without c) c.requires.shaped.formed c.requires.kept.len
+    ∙ shrunk_stands c.args.keep c.args.name.now (remove m.exports c.in-Some.place) m c.args.kept.now.len
+    (without c) c.requires.shaped.formed c.requires.kept.len
 
 formed : (c : In-Some) → IsFormed (record c.args.parts.now { exports = remove c.args.parts.now.exports c.in-Some.place })
 formed c =
@@ -52,7 +54,9 @@ returns-in_err-sections c =
     let at = (goal.at.returns-in_err-sections c).In-Some in
     let result = c.from_residual.result in
     let shrunk = c.in_err-sections.ensures.shrunk in
-    refused c.args.keep (edits.Unexport c.args.name.now) m new (kept_again m k new shrunk.1 c.requires.kept) (record m { exports = remove m.exports c.in-Some.place }) c.take_export.new.parts c.in_err-sections.field-0.0 result (err_from_is_err_and result c.from_residual.ensures.1) (makes at) shrunk.0 (λ same. ap is_none (without at)) c.in_err-sections.ensures.err
+    refused c.args.keep (edits.Unexport c.args.name.now) m new (kept_again m k new shrunk.1 c.requires.kept)
+    (record m { exports = remove m.exports c.in-Some.place }) c.take_export.new.parts c.in_err-sections.field-0.0 result
+    (err_from_is_err_and result c.from_residual.ensures.1) (makes at) shrunk.0 (λ same. ap is_none (without at)) c.in_err-sections.ensures.err
 
 pub returns : goal.returns
 returns c =
@@ -62,4 +66,6 @@ returns c =
     let k = c.args.kept.now in
     let made = c.in_ok-sections.sections in
     let shrunk = c.in_ok-sections.ensures.shrunk in
-    accepted c.args.keep (edits.Unexport c.args.name.now) m n c.take_export.new.parts k c.take_export.new.kept (record { typed = 0; encoded = 0; sections = made }) c.in_ok-sections.ensures.ok (makes at) shrunk.0 (ap one_section shrunk.3 ∙ unexport_work c.args.name.now m (settle n) (λ r. refl)) (formed at) shrunk.1
+    accepted c.args.keep (edits.Unexport c.args.name.now) m n c.take_export.new.parts k c.take_export.new.kept
+    (record { typed = 0; encoded = 0; sections = made }) c.in_ok-sections.ensures.ok (makes at) shrunk.0
+    (ap one_section shrunk.3 ∙ unexport_work c.args.name.now m (settle n) (λ r. refl)) (formed at) shrunk.1

@@ -53,11 +53,19 @@ at_is c = c.span_of-span.ensures.at ∙ ap (λ (es : List Export). length (befor
 size_is : (c : After-span_of-span) → c.span_of-span.result.size ≡ length (itself written_export c.args.place c.args.parts.now.exports)
 size_is c = c.span_of-span.ensures.size ∙ ap (λ (es : List Export). length (itself written_export c.args.place es)) c.as_slice.ensures
 
-inside : (c : After-span_of-span) → length (short c.len-count.result) + c.span_of-span.result.at + c.span_of-span.result.size ≤ length (get_or c.args.kept.now.pieces.sections.items 7 [])
+inside : (c : After-span_of-span) → length (short c.len-count.result) + c.span_of-span.result.at + c.span_of-span.result.size
+    ≤ length (get_or c.args.kept.now.pieces.sections.items 7 [])
 inside c =
     let m = c.args.parts.now in
     let count = ap (λ (n : ℕ). length (short n)) c.len-count.ensures in
-    omega (arith, count, at_is c, size_is c, ap length (contents_are m c.args.kept.now c.requires.kept), span_within written_export m.exports c.args.place c.requires.place)
+    omega (
+      arith,
+      count,
+      at_is c,
+      size_is c,
+      ap length (contents_are m c.args.kept.now c.requires.kept),
+      span_within written_export m.exports c.args.place c.requires.place,
+    )
 
 pub len_without-len-requires-clause-within : goal.len_without-len-requires-clause-within
 len_without-len-requires-clause-within c = inside (goal.at.len_without-len-requires-clause-within c).After-span_of-span
@@ -66,52 +74,61 @@ pub len_without-len-requires-clause-funcs : goal.len_without-len-requires-clause
 len_without-len-requires-clause-funcs c = omega (arith, c.len.ensures, funcs_numbered c.args.parts.now c.requires.shaped.formed)
 
 -- the sections without it
-shorter : (c : After-span_of-span) → set c.args.kept.now.pieces.sections.items 7 (without_item (get_or c.args.kept.now.pieces.sections.items 7 []) c.len-count.result c.span_of-span.result.at c.span_of-span.result.size)
+shorter : (c : After-span_of-span) → set c.args.kept.now.pieces.sections.items 7
+    (without_item (get_or c.args.kept.now.pieces.sections.items 7 []) c.len-count.result c.span_of-span.result.at c.span_of-span.result.size)
     ≡ section_pieces (record c.args.parts.now { exports = remove c.args.parts.now.exports c.args.place })
 shorter c =
     let ps = c.args.kept.now.pieces.sections.items in
     let old = get_or ps 7 [] in
     ap (λ (n : ℕ). set ps 7 (without_item old n c.span_of-span.result.at c.span_of-span.result.size)) c.len-count.ensures
     ∙ ap (λ (n : ℕ). set ps 7 (without_item old (length c.args.parts.now.exports) n c.span_of-span.result.size)) (at_is c)
-    ∙ ap (λ (n : ℕ). set ps 7 (without_item old (length c.args.parts.now.exports) (length (before written_export c.args.place c.args.parts.now.exports)) n)) (size_is c)
+    ∙ ap (λ (n : ℕ). set ps 7
+    (without_item old (length c.args.parts.now.exports) (length (before written_export c.args.place c.args.parts.now.exports)) n)) (size_is c)
     ∙ export_shorter c.args.place c.args.parts.now ps c.requires.kept.pieces.sections c.requires.place
 
 -- the exports without it
 rest_is : (c : After-deref) → c.deref.result.now ≡ remove c.args.parts.now.exports c.args.place
-rest_is c = c.deref.ensures.value ∙ c.remove-export.ensures.items ∙ ap (λ (es : List Export). remove es c.args.place) (c.into_vec-exports.ensures ∙ c.replace.ensures.value)
+rest_is c = c.deref.ensures.value ∙ c.remove-export.ensures.items
+    ∙ ap (λ (es : List Export). remove es c.args.place) (c.into_vec-exports.ensures ∙ c.replace.ensures.value)
 
 pub judge_exports-judged-requires-clause-len : goal.judge_exports-judged-requires-clause-len
 judge_exports-judged-requires-clause-len c =
     let m = c.args.parts.now in
     let n : Parts = record m { exports = remove m.exports c.args.place } in
     let at = goal.at.judge_exports-judged-requires-clause-len c in
-    c.len_without-len.ensures n c.requires.shaped.formed.order (shorter at.After-span_of-span) c.len.ensures c.requires.kept.pieces.codes_len c.requires.kept.pieces.customs_len
+    c.len_without-len.ensures n c.requires.shaped.formed.order
+    (shorter at.After-span_of-span) c.len.ensures c.requires.kept.pieces.codes_len c.requires.kept.pieces.customs_len
     ∙ ap (λ (es : List Export). limited (length (encoded (record m { exports = es })))) (sym (rest_is at.After-deref))
 
 pub keep_shrunk-requires-clause-within : goal.keep_shrunk-requires-clause-within
 keep_shrunk-requires-clause-within c = inside (goal.at.keep_shrunk-requires-clause-within c).After-span_of-span
 
 shrunk_is : (c : After-keep_shrunk) → c.deref.result.now ≡ remove c.args.parts.now.exports c.args.place
-    → set c.args.kept.now.pieces.sections.items 7 (without_item (get_or c.args.kept.now.pieces.sections.items 7 []) c.len-count.result c.span_of-span.result.at c.span_of-span.result.size)
+    → set c.args.kept.now.pieces.sections.items 7
+    (without_item (get_or c.args.kept.now.pieces.sections.items 7 []) c.len-count.result c.span_of-span.result.at c.span_of-span.result.size)
     ≡ section_pieces (record c.args.parts.now { exports = remove c.args.parts.now.exports c.args.place })
-    → IsGrown c.args.keep (answers_of c.args.parts.now) (record c.args.parts.now { exports = remove c.args.parts.now.exports c.args.place }) 0 1 c.args.kept.now c.keep_shrunk.new.kept c.keep_shrunk.result
+    → IsGrown c.args.keep (answers_of c.args.parts.now) (record c.args.parts.now { exports = remove c.args.parts.now.exports c.args.place }) 0 1
+    c.args.kept.now c.keep_shrunk.new.kept c.keep_shrunk.result
 shrunk_is c rest sections =
     let m = c.args.parts.now in
     let k = c.args.kept.now in
     let n : Parts = record m { exports = remove m.exports c.args.place } in
-    let judged = subst (λ (es : List Export). IsJudged c.args.keep (answers_of m) (record m { exports = es }) k 0 c.judge_exports-judged.result) rest c.judge_exports-judged.ensures in
+    let judged = subst (λ (es : List Export). IsJudged c.args.keep (answers_of m) (record m { exports = es }) k 0 c.judge_exports-judged.result) rest
+    c.judge_exports-judged.ensures in
     c.keep_shrunk.ensures c.args.keep (answers_of m) n 0 (others_kept m n k refl refl c.requires.kept) sections judged
 
 pub returns-in-Ok-clause-shrunk : goal.returns-in-Ok-clause-shrunk
 returns-in-Ok-clause-shrunk c =
     let m = c.args.parts.now in
     let at = goal.at.returns-in-Ok-clause-shrunk c in
-    subst (λ (r : Result ℕ EditFault). IsGrown c.args.keep (answers_of m) (record m { exports = remove m.exports c.args.place }) 0 1 c.args.kept.now c.keep_shrunk.new.kept r) c.in-Ok.is
+    subst (λ (r : Result ℕ EditFault). IsGrown c.args.keep (answers_of m)
+    (record m { exports = remove m.exports c.args.place }) 0 1 c.args.kept.now c.keep_shrunk.new.kept r) c.in-Ok.is
     (shrunk_is at.After-keep_shrunk (rest_is at.After-deref) (shorter at.After-span_of-span))
 
 pub returns-in-Err-clause-shrunk : goal.returns-in-Err-clause-shrunk
 returns-in-Err-clause-shrunk c =
     let m = c.args.parts.now in
     let at = goal.at.returns-in-Err-clause-shrunk c in
-    subst (λ (r : Result ℕ EditFault). IsGrown c.args.keep (answers_of m) (record m { exports = remove m.exports c.args.place }) 0 1 c.args.kept.now c.keep_shrunk.new.kept r) c.in-Err.is
+    subst (λ (r : Result ℕ EditFault). IsGrown c.args.keep (answers_of m)
+    (record m { exports = remove m.exports c.args.place }) 0 1 c.args.kept.now c.keep_shrunk.new.kept r) c.in-Err.is
     (shrunk_is at.After-keep_shrunk (rest_is at.After-deref) (shorter at.After-span_of-span))

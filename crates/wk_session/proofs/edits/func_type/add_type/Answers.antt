@@ -63,19 +63,22 @@ returns-then-is_none c =
     ((λ other. too_large c.args.keep (with_type t m) c.requires.shaped.formed.order (sym none ∙ len)), (λ same. absurd cc), refl, c.requires.kept)
 
 -- the outcome is not decided without memory
-decided : (c : Else-is_none) → c.len_grown-len.result ≡ limited (length (encoded (with_type c.args.ty.now c.args.parts.now))) → is_decided (edits.Ty c.args.ty.now) c.args.parts.now ≡ false
+decided : (c : Else-is_none) → c.len_grown-len.result ≡ limited (length (encoded (with_type c.args.ty.now c.args.parts.now)))
+    → is_decided (edits.Ty c.args.ty.now) c.args.parts.now ≡ false
 decided c len =
     ap is_large (not_large (with_type c.args.ty.now c.args.parts.now) c.len_grown-len.result c.requires.shaped.formed.order len c.if-is_none.ensures)
 
 pub returns-in_err-ty : goal.returns-in_err-ty
 returns-in_err-ty c =
     let at = goal.at.returns-in_err-ty c in
-    wants_memory c.args.keep (edits.Ty c.args.ty.now) c.args.parts.now c.args.kept.now c.requires.kept c.from_residual.result (err_from_is_err_and c.from_residual.result c.from_residual.ensures.1) (decided at.Else-is_none (len_is at.After-len_grown-len))
+    wants_memory c.args.keep (edits.Ty c.args.ty.now) c.args.parts.now c.args.kept.now c.requires.kept c.from_residual.result
+    (err_from_is_err_and c.from_residual.result c.from_residual.ensures.1) (decided at.Else-is_none (len_is at.After-len_grown-len))
 
 pub push_type-requires-clause-len : goal.push_type-requires-clause-len
 push_type-requires-clause-len c =
     let m = c.args.parts.now in
-    len_is (goal.at.push_type-requires-clause-len c).After-len_grown-len ∙ ap (λ (u : FuncType). limited (length (encoded (with_type u m)))) (sym c.in_ok-ty.ensures)
+    len_is (goal.at.push_type-requires-clause-len c).After-len_grown-len
+    ∙ ap (λ (u : FuncType). limited (length (encoded (with_type u m)))) (sym c.in_ok-ty.ensures)
 
 pub returns-in_err-sections : goal.returns-in_err-sections
 returns-in_err-sections c =
@@ -86,8 +89,11 @@ returns-in_err-sections c =
     let new = c.push_type.new.kept in
     let f = c.in_err-sections.field-0.0 in
     let result = c.from_residual-in_err-sections.result in
-    let grown = subst (λ (u : FuncType). IsGrown c.args.keep (answers_of m) (with_type u m) c.push_type.new.meter 1 k new (Err f)) c.in_ok-ty.ensures c.in_err-sections.ensures.grown in
-    refused c.args.keep (edits.Ty t) m new (kept_again m k new grown.1 c.requires.kept) (with_type t m) c.push_type.new.parts f result (err_from_is_err_and result c.from_residual-in_err-sections.ensures.1) refl grown.0 (λ same. decided at.Else-is_none (len_is at.After-len_grown-len)) c.in_err-sections.ensures.err
+    let grown = subst (λ (u : FuncType). IsGrown c.args.keep (answers_of m) (with_type u m) c.push_type.new.meter 1 k new (Err f)) c.in_ok-ty.ensures
+    c.in_err-sections.ensures.grown in
+    refused c.args.keep (edits.Ty t) m new (kept_again m k new grown.1 c.requires.kept) (with_type t m) c.push_type.new.parts f result
+    (err_from_is_err_and result c.from_residual-in_err-sections.ensures.1) refl grown.0
+    (λ same. decided at.Else-is_none (len_is at.After-len_grown-len)) c.in_err-sections.ensures.err
 
 pub overflow_cast-result : goal.overflow_cast-result
 overflow_cast-result c =
@@ -105,8 +111,13 @@ returns c =
     let k = c.args.kept.now in
     let new = c.push_type.new.kept in
     let made = c.in_ok-sections.sections in
-    let grown = subst (λ (u : FuncType). IsGrown c.args.keep (answers_of m) (with_type u m) c.push_type.new.meter 1 k new (Ok made)) c.in_ok-ty.ensures c.in_ok-sections.ensures.grown in
+    let grown = subst (λ (u : FuncType). IsGrown c.args.keep (answers_of m) (with_type u m) c.push_type.new.meter 1 k new (Ok made)) c.in_ok-ty.ensures
+    c.in_ok-sections.ensures.grown in
     let same = c.in_ok-sections.ensures.ok ∙ ap (λ (u : FuncType). with_type u m) c.in_ok-ty.ensures in
-    let formed : IsFormed n = types_formed (m.types ++ t ∷ []) m (omega (arith, few m k c.requires.kept, length-append m.types (t ∷ []))) c.requires.shaped.formed in
-    let works = work_is e m (settle n) c.typed.result 0 made (c.typed.ensures ∙ grown.2 ∙ sym (zero-add (count_by (is_retyped_in (answers_of m) (answers_of n)) m.funcs))) (sym (zero-add (count_by (is_reencoded e m) m.funcs) ∙ count_zero (is_reencoded e m) (λ f. refl) m.funcs)) grown.3 in
-    accepted c.args.keep e m n c.push_type.new.parts k new (record { typed = c.typed.result; encoded = 0; sections = made }) same refl grown.0 works formed grown.1
+    let formed : IsFormed n = types_formed (m.types ++ t ∷ []) m
+    (omega (arith, few m k c.requires.kept, length-append m.types (t ∷ []))) c.requires.shaped.formed in
+    let works = work_is e m (settle n) c.typed.result 0 made
+    (c.typed.ensures ∙ grown.2 ∙ sym (zero-add (count_by (is_retyped_in (answers_of m) (answers_of n)) m.funcs)))
+    (sym (zero-add (count_by (is_reencoded e m) m.funcs) ∙ count_zero (is_reencoded e m) (λ f. refl) m.funcs)) grown.3 in
+    accepted c.args.keep e m n c.push_type.new.parts k new (record { typed = c.typed.result; encoded = 0; sections = made }) same refl grown.0 works
+    formed grown.1

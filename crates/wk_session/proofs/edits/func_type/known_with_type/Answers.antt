@@ -21,4 +21,5 @@ returns-in-Valid-clause-some c =
     let t = c.args.ty.now in
     let valid : module_verdict m ≡ Verdict.Valid = sym c.requires.kept.verdict ∙ c.in-Valid.is in
     let verdict = c.verdict_with_type.ensures m refl (sym c.len.ensures) valid in
-    grown_known c.laws_of_valid_modules.ensures.stay c.laws_of_valid_modules.ensures.found m (with_type t m) c.verdict_with_type.result valid (type_grows m t) refl verdict
+    grown_known c.laws_of_valid_modules.ensures.stay c.laws_of_valid_modules.ensures.found m (with_type t m) c.verdict_with_type.result valid
+    (type_grows m t) refl verdict

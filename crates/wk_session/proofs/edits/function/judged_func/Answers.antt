@@ -14,19 +14,22 @@ use Rattle.wk_session.proofs.Outcomes.{limited-some}
 use Rattle.wk_session.proofs.edits.function.judged_func.Goals as goal
 use Rattle.wk_session.proofs.edits.function.judged_func.Goals.{After-of-lists}
 
-formed : (c : After-of-lists) → IsFormed (with_func c.args.ty c.args.body.now c.args.parts.now)
+formed : (c : After-of-lists) → IsFormed (with_func c.args.ty c.args.body.now c.args.basis.parts.now)
 formed c =
-    let m = c.args.parts.now in
-    func_formed_from c.args.ty c.args.body.now m (limited-some (length (encoded m)) c.args.kept.now.len c.requires.kept.len) c.ranges.ty.fits c.requires.valid c.requires.shaped.formed
+    let m = c.args.basis.parts.now in
+    func_formed_from c.args.ty c.args.body.now m (limited-some (length (encoded m)) c.args.basis.kept.now.len c.requires.kept.len) c.ranges.ty.fits
+    c.requires.valid c.requires.shaped.formed
 
 -- the lists that are lent are those of the module with the function
-lists_are : (c : After-of-lists) → listed c.of-lists.result ≡ lent (with_func c.args.ty c.args.body.now c.args.parts.now)
+lists_are : (c : After-of-lists) → listed c.of-lists.result ≡ lent (with_func c.args.ty c.args.body.now c.args.basis.parts.now)
 lists_are c =
-    let m = c.args.parts.now in
-    lent_is (with_func c.args.ty c.args.body.now m) _ _ c.of-lists.ensures.lists (types_with c.args.ty c.args.body.now m _ (c.deref.ensures.value ∙ c.requires.kept.types))
+    let m = c.args.basis.parts.now in
+    lent_is (with_func c.args.ty c.args.body.now m) _ _ c.of-lists.ensures.lists
+    (types_with c.args.ty c.args.body.now m _ (c.deref.ensures.value ∙ c.requires.kept.types))
 
 -- what is pending
-pending : (c : After-of-lists) → IsPending c.of-lists.result c.in_ok-verdicts.verdicts.items c.args.len (with_func c.args.ty c.args.body.now c.args.parts.now)
+pending : (c : After-of-lists) → IsPending c.of-lists.result c.in_ok-verdicts.verdicts.items c.args.len
+    (with_func c.args.ty c.args.body.now c.args.basis.parts.now)
 pending c = record {
   formed = formed c;
   profile = c.of-lists.ensures.profile;
@@ -38,18 +41,27 @@ pending c = record {
 pub appraise-requires-clause-numbered : goal.appraise-requires-clause-numbered
 appraise-requires-clause-numbered c =
     let at = (goal.at.appraise-requires-clause-numbered c).After-of-lists in
-    numbered_lent (with_func c.args.ty c.args.body.now c.args.parts.now) _ (lists_are at) (formed at)
+    numbered_lent (with_func c.args.ty c.args.body.now c.args.basis.parts.now) _ (lists_are at) (formed at)
 
 pub appraise-requires-clause-few : goal.appraise-requires-clause-few
 appraise-requires-clause-few c =
-    let n = with_func c.args.ty c.args.body.now c.args.parts.now in
-    omega (arith, ap length c.in_ok-verdicts.ensures.verdicts, length-map n.funcs (func_verdict (answers_of n)), funcs_numbered n (formed (goal.at.appraise-requires-clause-few c).After-of-lists))
+    let n = with_func c.args.ty c.args.body.now c.args.basis.parts.now in
+    omega (
+      arith,
+      ap length c.in_ok-verdicts.ensures.verdicts,
+      length-map n.funcs (func_verdict (answers_of n)),
+      funcs_numbered n (formed (goal.at.appraise-requires-clause-few c).After-of-lists),
+    )
 
-pub returns-in_err-appraisal-clause-err : goal.returns-in_err-appraisal-clause-err
-returns-in_err-appraisal-clause-err c =
+pub returns-in_err-appraisal-clause-judged : goal.returns-in_err-appraisal-clause-judged
+returns-in_err-appraisal-clause-judged c =
     let p = err_from_is_err_and c.from_residual-in_err-appraisal.result c.from_residual-in_err-appraisal.ensures.1 in
-    rw (p.1, p.2) (c.in_err-appraisal.ensures (with_func c.args.ty c.args.body.now c.args.parts.now) (pending (goal.at.returns-in_err-appraisal-clause-err c).After-of-lists))
+    rw (p.1, p.2) (c.in_err-appraisal.ensures (with_func c.args.ty c.args.body.now c.args.basis.parts.now)
+    (pending (goal.at.returns-in_err-appraisal-clause-judged c).After-of-lists))
 
-pub returns-clause-ok : goal.returns-clause-ok
-returns-clause-ok c =
-    c.in_ok-appraisal.ensures (with_func c.args.ty c.args.body.now c.args.parts.now) (pending (goal.at.returns-clause-ok c).After-of-lists)
+pub returns-clause-judged : goal.returns-clause-judged
+returns-clause-judged c = (
+  c.in_ok-verdicts.ensures.verdicts,
+  c.in_ok-appraisal.ensures (with_func c.args.ty c.args.body.now c.args.basis.parts.now)
+      (pending (goal.at.returns-clause-judged c).After-of-lists),
+)

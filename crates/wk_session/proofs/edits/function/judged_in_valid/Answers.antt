@@ -18,58 +18,57 @@ use Rattle.wk_session.proofs.Outcomes.{limited-some}
 use Rattle.wk_session.proofs.edits.function.judged_in_valid.Goals as goal
 use Rattle.wk_session.proofs.edits.function.judged_in_valid.Goals.{In_ok-own, After-verdict_with_func-verdict}
 
-fits : (c : In_ok-own) → Fits c.args.parts.now
-fits c = limited-some (length (encoded c.args.parts.now)) c.args.kept.now.len c.requires.kept.len
+fits : (c : In_ok-own) → Fits c.args.basis.parts.now
+fits c = limited-some (length (encoded c.args.basis.parts.now)) c.args.basis.kept.now.len c.requires.kept.len
 
-formed : (c : In_ok-own) → IsFormed (with_func c.args.ty c.args.body.now c.args.parts.now)
-formed c = func_formed_from c.args.ty c.args.body.now c.args.parts.now (fits c) c.ranges.ty.fits c.requires.valid c.requires.shaped.formed
+formed : (c : In_ok-own) → IsFormed (with_func c.args.ty c.args.body.now c.args.basis.parts.now)
+formed c = func_formed_from c.args.ty c.args.body.now c.args.basis.parts.now (fits c) c.ranges.ty.fits c.requires.valid c.requires.shaped.formed
 
-valid : (c : In_ok-own) → module_verdict c.args.parts.now ≡ Verdict.Valid
+valid : (c : In_ok-own) → module_verdict c.args.basis.parts.now ≡ Verdict.Valid
 valid c = sym c.requires.kept.verdict ∙ c.requires.was_valid
 
 -- the verdict of the body in the module with the function
-own_is : (c : In_ok-own) → c.in_ok-own.own ≡ body_verdict (answers_of (with_func c.args.ty c.args.body.now c.args.parts.now)) c.args.ty c.args.body.now
+own_is : (c : In_ok-own) → c.in_ok-own.own ≡ body_verdict (answers_of (with_func c.args.ty c.args.body.now c.args.basis.parts.now)) c.args.ty c.args.body.now
 own_is c =
-    let n = with_func c.args.ty c.args.body.now c.args.parts.now in
-    let lists = lent_is n _ _ (c.in_ok-whole.ensures ∙ c.of.ensures.lists) (types_with c.args.ty c.args.body.now c.args.parts.now _ (c.deref.ensures.value ∙ c.requires.kept.types)) in
+    let n = with_func c.args.ty c.args.body.now c.args.basis.parts.now in
+    let lists = lent_is n _ _ (c.in_ok-whole.ensures ∙ c.of.ensures.lists)
+    (types_with c.args.ty c.args.body.now c.args.basis.parts.now _ (c.deref.ensures.value ∙ c.requires.kept.types)) in
     c.in_ok-own.ensures.verdict ∙ ap (λ (A : Ref → Found). body_verdict A c.args.ty c.args.body.now) (answers_lent n c.in_ok-whole.whole lists)
 
 -- the verdict of the module with the function
-verdict_is : (c : After-verdict_with_func-verdict) → module_verdict c.args.parts.now ≡ Verdict.Valid
-    → c.in_ok-own.own ≡ body_verdict (answers_of (with_func c.args.ty c.args.body.now c.args.parts.now)) c.args.ty c.args.body.now
-    → c.verdict_with_func-verdict.result ≡ module_verdict (with_func c.args.ty c.args.body.now c.args.parts.now)
-verdict_is c was own = c.verdict_with_func-verdict.ensures c.args.parts.now c.args.body.now (sym c.len.ensures) (sym c.len-2.ensures) was own
+verdict_is : (c : After-verdict_with_func-verdict) → module_verdict c.args.basis.parts.now ≡ Verdict.Valid
+    → c.in_ok-own.own ≡ body_verdict (answers_of (with_func c.args.ty c.args.body.now c.args.basis.parts.now)) c.args.ty c.args.body.now
+    → c.verdict_with_func-verdict.result ≡ module_verdict (with_func c.args.ty c.args.body.now c.args.basis.parts.now)
+verdict_is c was own = c.verdict_with_func-verdict.ensures c.args.basis.parts.now c.args.body.now (sym c.len.ensures) (sym c.len-2.ensures) was own
 
 pub overflow_cast-len : goal.overflow_cast-len
-overflow_cast-len c = omega (arith, c.len.ensures, room c.args.parts.now TypeSection (fits (goal.at.overflow_cast-len c).In_ok-own))
+overflow_cast-len c = omega (arith, c.len.ensures, room c.args.basis.parts.now TypeSection (fits (goal.at.overflow_cast-len c).In_ok-own))
 
 pub overflow_cast-len-2 : goal.overflow_cast-len-2
-overflow_cast-len-2 c = omega (arith, c.len-2.ensures, funcs_numbered c.args.parts.now c.requires.shaped.formed)
+overflow_cast-len-2 c = omega (arith, c.len-2.ensures, funcs_numbered c.args.basis.parts.now c.requires.shaped.formed)
 
-pub returns-in_err-appraisal-clause-err : goal.returns-in_err-appraisal-clause-err
-returns-in_err-appraisal-clause-err c =
-    let at = goal.at.returns-in_err-appraisal-clause-err c in
+pub returns-in_err-appraisal-clause-judged : goal.returns-in_err-appraisal-clause-judged
+returns-in_err-appraisal-clause-judged c =
+    let at = goal.at.returns-in_err-appraisal-clause-judged c in
     let own = at.In_ok-own in
     let p = err_from_is_err_and c.from_residual-in_err-appraisal.result c.from_residual-in_err-appraisal.ensures.1 in
-    rw (p.1, p.2) (c.in_err-appraisal.ensures (with_func c.args.ty c.args.body.now c.args.parts.now) (formed own) (verdict_is at.After-verdict_with_func-verdict (valid own) (own_is own)) c.requires.len)
+    rw (p.1, p.2) (c.in_err-appraisal.ensures (with_func c.args.ty c.args.body.now c.args.basis.parts.now) (formed own)
+    (verdict_is at.After-verdict_with_func-verdict (valid own) (own_is own)) c.requires.len)
 
-pub returns-clause-verdicts : goal.returns-clause-verdicts
-returns-clause-verdicts c =
-    let m = c.args.parts.now in
+pub returns-clause-judged : goal.returns-clause-judged
+returns-clause-judged c =
+    let m = c.args.basis.parts.now in
     let n = with_func c.args.ty c.args.body.now m in
-    let own = (goal.at.returns-clause-verdicts c).In_ok-own in
-    let stay = c.laws_of_valid_modules.ensures.stay m (answers_of n) (valid own) (func_grows m c.args.ty c.args.body.now) in
-    (own_is own, c.requires.kept.verdicts ∙ sym stay)
-
-pub returns-clause-ok : goal.returns-clause-ok
-returns-clause-ok c =
-    let at = goal.at.returns-clause-ok c in
+    let at = goal.at.returns-clause-judged c in
     let own = at.In_ok-own in
-    c.in_ok-appraisal.ensures (with_func c.args.ty c.args.body.now c.args.parts.now) (formed own) (verdict_is at.After-verdict_with_func-verdict (valid own) (own_is own)) c.requires.len
+    let stay = c.laws_of_valid_modules.ensures.stay m (answers_of n) (valid own) (func_grows m c.args.ty c.args.body.now) in
+    let appraised = c.in_ok-appraisal.ensures n (formed own) (verdict_is at.After-verdict_with_func-verdict (valid own) (own_is own)) c.requires.len in
+    ((own_is own, c.requires.kept.verdicts ∙ sym stay), appraised)
 
 pub returns-clause-typed : goal.returns-clause-typed
 returns-clause-typed c =
-    let m = c.args.parts.now in
+    let m = c.args.basis.parts.now in
     let n = with_func c.args.ty c.args.body.now m in
-    let found = c.laws_of_valid_modules.ensures.found m (answers_of n) (valid (goal.at.returns-clause-typed c).In_ok-own) (func_grows m c.args.ty c.args.body.now) in
+    let found = c.laws_of_valid_modules.ensures.found m (answers_of n) (valid (goal.at.returns-clause-typed c).In_ok-own)
+    (func_grows m c.args.ty c.args.body.now) in
     omega (arith, c.type_body.ensures.typed, c.requires.fresh, none_retyped (answers_of m) (answers_of n) m.funcs found)

@@ -26,13 +26,18 @@ pub returns-in_err-init : goal.returns-in_err-init
 returns-in_err-init c =
     let m = c.args.parts.now in
     let f = c.in_err-init.field-0.0 in
-    let due : f ≢ EditFault.Memory → made c.args.keep (edits.Global c.args.ty c.args.init.now) m ≡ Err f = λ other. ap (λ (r : Result Instrs EditFault). r >>= (λ e. fitting (settle (with_global c.args.ty e m))) >>= lasting c.args.keep) (c.in_err-init.ensures.fault other) in
-    refused_for c.args.keep (edits.Global c.args.ty c.args.init.now) m c.args.kept.now c.requires.kept m f c.from_residual.result (err_from_is_err_and c.from_residual.result c.from_residual.ensures.1) due (λ same. refl) refl
+    let due : f ≢ EditFault.Memory → made c.args.keep (edits.Global c.args.ty c.args.init.now) m ≡ Err f =
+    λ other. ap (λ (r : Result Instrs EditFault). r >>= (λ e. fitting (settle (with_global c.args.ty e m))) >>= lasting c.args.keep)
+    (c.in_err-init.ensures.fault other) in
+    refused_for c.args.keep (edits.Global c.args.ty c.args.init.now) m c.args.kept.now c.requires.kept m f c.from_residual.result
+    (err_from_is_err_and c.from_residual.result c.from_residual.ensures.1) due (λ same. refl) refl
 
 -- the edit makes the module with the global, if that may stay
-makes : (c : In_ok-init) → made c.args.keep (edits.Global c.args.ty c.args.init.now) c.args.parts.now ≡ standing c.args.keep (with_global c.args.ty c.in_ok-init.init c.args.parts.now)
+makes : (c : In_ok-init) → made c.args.keep (edits.Global c.args.ty c.args.init.now) c.args.parts.now
+    ≡ standing c.args.keep (with_global c.args.ty c.in_ok-init.init c.args.parts.now)
 makes c =
-    ap (λ (r : Result Instrs EditFault). r >>= (λ e. fitting (settle (with_global c.args.ty e c.args.parts.now))) >>= lasting c.args.keep) c.in_ok-init.ensures.read
+    ap (λ (r : Result Instrs EditFault). r >>= (λ e. fitting (settle (with_global c.args.ty e c.args.parts.now))) >>= lasting c.args.keep)
+    c.in_ok-init.ensures.read
 
 pub returns-in_err-sections : goal.returns-in_err-sections
 returns-in_err-sections c =
@@ -42,7 +47,10 @@ returns-in_err-sections c =
     let f = c.in_err-sections.field-0.0 in
     let result = c.from_residual-in_err-sections.result in
     let grown = c.in_err-sections.ensures.grown in
-    refused c.args.keep (edits.Global c.args.ty c.args.init.now) m new (kept_again m k new grown.1 c.requires.kept) (with_global c.args.ty c.in_ok-init.init m) c.push_global.new.parts f result (err_from_is_err_and result c.from_residual-in_err-sections.ensures.1) (makes (goal.at.returns-in_err-sections c).In_ok-init) grown.0 (λ same. refl) c.in_err-sections.ensures.err
+    refused c.args.keep (edits.Global c.args.ty c.args.init.now) m new (kept_again m k new grown.1 c.requires.kept)
+    (with_global c.args.ty c.in_ok-init.init m) c.push_global.new.parts f result
+    (err_from_is_err_and result c.from_residual-in_err-sections.ensures.1) (makes (goal.at.returns-in_err-sections c).In_ok-init) grown.0
+    (λ same. refl) c.in_err-sections.ensures.err
 
 pub overflow_cast-result : goal.overflow_cast-result
 overflow_cast-result c =
@@ -62,5 +70,9 @@ returns c =
     let grown = c.in_ok-sections.ensures.grown in
     let few = room m GlobalSection (limited-some (length (encoded m)) k.len c.requires.kept.len) in
     let formed : IsFormed n = global_formed c.args.ty i m few c.in_ok-init.ensures.valid c.requires.shaped.formed in
-    let works = work_is e m (settle n) c.typed.result 0 made (c.typed.ensures ∙ grown.2 ∙ sym (zero-add (count_by (is_retyped_in (answers_of m) (answers_of n)) m.funcs))) (sym (zero-add (count_by (is_reencoded e m) m.funcs) ∙ count_zero (is_reencoded e m) (λ f. refl) m.funcs)) grown.3 in
-    accepted c.args.keep e m n c.push_global.new.parts k c.push_global.new.kept (record { typed = c.typed.result; encoded = 0; sections = made }) c.in_ok-sections.ensures.ok (makes (goal.at.returns c).In_ok-init) grown.0 works formed grown.1
+    let works = work_is e m (settle n) c.typed.result 0 made
+    (c.typed.ensures ∙ grown.2 ∙ sym (zero-add (count_by (is_retyped_in (answers_of m) (answers_of n)) m.funcs)))
+    (sym (zero-add (count_by (is_reencoded e m) m.funcs) ∙ count_zero (is_reencoded e m) (λ f. refl) m.funcs)) grown.3 in
+    accepted c.args.keep e m n c.push_global.new.parts k c.push_global.new.kept
+    (record { typed = c.typed.result; encoded = 0; sections = made }) c.in_ok-sections.ensures.ok
+    (makes (goal.at.returns c).In_ok-init) grown.0 works formed grown.1

@@ -21,4 +21,5 @@ returns-in-Err-clause-fault c =
     let read : Result Instrs ReadFault = whole_at (all_expr_at c.args.profile) c.args.init.now in
     let not_memory : e.kind ≢ Memory = λ wants. other (c.refusal_of.ensures.memory wants) in
     let exact = rw c.as_slice.ensures at c.in-Err.ensures.exact in
-    ap from_bytes (fails_with e.kind e read not_memory exact) ∙ ap (λ (f : EditFault). let r : Result Instrs EditFault = Err f in r) (sym (c.refusal_of.ensures.bytes not_memory))
+    ap from_bytes (fails_with e.kind e read not_memory exact)
+    ∙ ap (λ (f : EditFault). let r : Result Instrs EditFault = Err f in r) (sym (c.refusal_of.ensures.bytes not_memory))

@@ -34,14 +34,21 @@ place c =
 pub overflow_cast-from : goal.overflow_cast-from
 overflow_cast-from c =
     let m = c.args.parts.now in
-    omega (arith, c.import_count-from.ensures, import_count_le c.kind-kind.result c.as_slice.result.now, ap length c.as_slice.ensures, (module_numbered m c.requires.shaped.formed).imports)
+    omega (
+      arith,
+      c.import_count-from.ensures,
+      import_count_le c.kind-kind.result c.as_slice.result.now,
+      ap length c.as_slice.ensures,
+      (module_numbered m c.requires.shaped.formed).imports,
+    )
 
 pub returns-in_err-plan : goal.returns-in_err-plan
 returns-in_err-plan c =
     let p = err_from_is_err_and c.from_residual.result c.from_residual.ensures.1 in
     let m = c.args.parts.now in
     rw (p.1, p.2) (
-      λ some. unplanned c.args.keep c.args.import.now m c.kind-kind.result c.import_count-from.result c.in_err-plan.field-0.0 c.kind-kind.ensures (place (goal.at.returns-in_err-plan c).After-import_count-from) c.in_err-plan.ensures some,
+      λ some. unplanned c.args.keep c.args.import.now m c.kind-kind.result c.import_count-from.result c.in_err-plan.field-0.0 c.kind-kind.ensures
+          (place (goal.at.returns-in_err-plan c).After-import_count-from) c.in_err-plan.ensures some,
       λ none. refl,
       refl,
       c.requires.kept,
@@ -50,7 +57,8 @@ returns-in_err-plan c =
 pub plan_import-requires-clause-few : goal.plan_import-requires-clause-few
 plan_import-requires-clause-few c = funcs_numbered c.args.parts.now c.requires.shaped.formed
 
-planned : (c : In_ok-plan) → c.import_count-from.result ≡ import_place c.args.import.now c.args.parts.now → IsImportPlan (desc_kind c.args.import.now.desc) (import_place c.args.import.now c.args.parts.now) c.args.parts.now c.in_ok-plan.plan
+planned : (c : In_ok-plan) → c.import_count-from.result ≡ import_place c.args.import.now c.args.parts.now
+    → IsImportPlan (desc_kind c.args.import.now.desc) (import_place c.args.import.now c.args.parts.now) c.args.parts.now c.in_ok-plan.plan
 planned c at =
     let m = c.args.parts.now in
     let i = c.args.import.now in
@@ -62,7 +70,13 @@ pub overflow_cast-work : goal.overflow_cast-work
 overflow_cast-work c =
     let m = c.args.parts.now in
     let i = c.args.import.now in
-    omega (arith, c.typed.ensures, c.in_ok-judgement.ensures.typed, count_by-le-length (is_retyped (edits.Import i) m (after_import i m)) m.funcs, funcs_numbered m c.requires.shaped.formed)
+    omega (
+      arith,
+      c.typed.ensures,
+      c.in_ok-judgement.ensures.typed,
+      count_by-le-length (is_retyped (edits.Import i) m (after_import i m)) m.funcs,
+      funcs_numbered m c.requires.shaped.formed,
+    )
 
 pub put_import-requires-clause-refs : goal.put_import-requires-clause-refs
 put_import-requires-clause-refs c =
@@ -76,7 +90,8 @@ put_import-requires-clause-moves c =
     let moving : List Func → List Bool = map (λ f. is_code_moving c.kind-kind.result c.import_count-from.result f.body.instrs) in
     c.in_ok-plan.ensures.entries.moves ∙ sym (ap (λ (q : Parts). moving q.funcs) c.in_ok-judgement.ensures.ok)
 
-kept_now : (c : After-put_import) → IsImportPlan (desc_kind c.args.import.now.desc) (import_place c.args.import.now c.args.parts.now) c.args.parts.now c.in_ok-plan.plan
+kept_now : (c : After-put_import) → IsImportPlan (desc_kind c.args.import.now.desc)
+    (import_place c.args.import.now c.args.parts.now) c.args.parts.now c.in_ok-plan.plan
     → IsKept (after_import c.args.import.now c.args.parts.now) c.put_import.new.kept
 kept_now c plan =
     let i = c.args.import.now in
@@ -85,8 +100,8 @@ kept_now c plan =
     let put = c.put_import.ensures in
     let judged = c.in_ok-judgement.ensures.judgement in
     record {
-      verdict = put.verdict ∙ judged.verdict;
-      len = judged.len ∙ ap Some (sym put.len);
+      verdict = put.verdict ∙ judged.appraised.1;
+      len = judged.appraised.2 ∙ ap Some (sym put.len);
       types = ap (λ v. v.items) put.types ∙ was.types ∙ sym (types_stay (desc_kind i.desc) (import_place i m) m.funcs);
       verdicts = ap (λ v. v.items) put.verdicts ∙ judged.verdicts;
       refs = laid_refs i m c.in_ok-plan.plan c.args.kept.now.refs.items c.put_import.new.kept.refs.items was.refs plan put.refs;
@@ -98,7 +113,8 @@ kept_now c plan =
       };
     }
 
-work_now : (c : After-put_import) → IsImportPlan (desc_kind c.args.import.now.desc) (import_place c.args.import.now c.args.parts.now) c.args.parts.now c.in_ok-plan.plan
+work_now : (c : After-put_import) → IsImportPlan (desc_kind c.args.import.now.desc)
+    (import_place c.args.import.now c.args.parts.now) c.args.parts.now c.in_ok-plan.plan
     → ◌≡◌ {A = Work} (record { typed = c.typed.result; encoded = c.in_ok-plan.plan.entries.encoded; sections = c.in_ok-judgement.judgement.remade.made })
     (work_of (edits.Import c.args.import.now) c.args.parts.now (settle (after_import c.args.import.now c.args.parts.now)))
 work_now c plan =
@@ -117,10 +133,17 @@ returns c =
     let plan = planned (goal.at.returns c).In_ok-plan at in
     let judged = c.in_ok-judgement.ensures in
     let is = c.put_import.ensures.parts
-    ∙ laid_parts c.moving_of_module.ensures.lists i m c.push_judged.new.parts c.in_ok-plan.plan c.kind-kind.result c.import_count-from.result c.kind-kind.ensures at judged.ok plan in
-    subst (λ (q : Parts). (made c.args.keep (edits.Import i) m ≡ Ok (settle q)) × (◌≡◌ {A = Work} (record { typed = c.typed.result; encoded = c.in_ok-plan.plan.entries.encoded; sections = c.in_ok-judgement.judgement.remade.made }) (work_of (edits.Import i) m (settle q))) × IsFormed q × IsKept q c.put_import.new.kept)
+    ∙ laid_parts c.moving_of_module.ensures.lists i m c.push_judged.new.parts c.in_ok-plan.plan c.kind-kind.result c.import_count-from.result
+    c.kind-kind.ensures at judged.ok plan in
+    subst (λ (q : Parts). (made c.args.keep (edits.Import i) m ≡ Ok (settle q))
+    × (◌≡◌ {A = Work} (record {
+      typed = c.typed.result;
+      encoded = c.in_ok-plan.plan.entries.encoded;
+      sections =
+          c.in_ok-judgement.judgement.remade.made;
+    }) (work_of (edits.Import i) m (settle q))) × IsFormed q × IsKept q c.put_import.new.kept)
     (sym is) (
-      made_free c.args.keep i m plan.free ∙ judged.judgement.stands,
+      made_free c.args.keep i m plan.free ∙ judged.judgement.appraised.0,
       work_now (goal.at.returns c).After-put_import plan,
       judged.formed,
       kept_now (goal.at.returns c).After-put_import plan,

@@ -21,84 +21,114 @@ use Rattle.wk_session.proofs.ImportEdits.{pending_lists, numbered_after}
 use Rattle.wk_session.proofs.ImportPieces.{pieces_after, made_after, unwritten, codes_large}
 use Rattle.wk_session.proofs.Piecing.{entries_codes}
 use Rattle.wk_session.proofs.edits.import.judged_import.Goals as goal
-use Rattle.wk_session.proofs.edits.import.judged_import.Goals.{After-with_moved-now, In_ok-remade, After-codes_len_after, After-len, After-module_len-len, After-verdicts_or-verdicts_now}
+use Rattle.wk_session.proofs.edits.import.judged_import.Goals.{After-with_moved-now, In_ok-remade, After-codes_len_after, After-len, After-module_len-len}
+use Rattle.wk_session.proofs.edits.import.judged_import.Goals.{After-verdicts_or-verdicts_now}
 
-lent : (c : After-with_moved-now) → let n = after_import c.args.import.now (before_import c.args.parts.now) in listed c.with_moved-now.result ≡ listed_with (map (λ (f : Func). f.ty) n.funcs) n
+lent : (c : After-with_moved-now) → let n = after_import c.args.import.now (before_import c.args.basis.parts.now) in
+    listed c.with_moved-now.result ≡ listed_with (map (λ (f : Func). f.ty) n.funcs) n
 lent c =
     let ready = c.requires.ready in
     c.with_moved-now.ensures.lists
     ∙ ap (λ (l : SectionLists). with_moved c.args.plan.now.lists l) c.of.ensures.lists
-    ∙ pending_lists c.moving_of_module.ensures.lists c.args.import.now (before_import c.args.parts.now) c.args.parts.now c.deref.result.now c.args.plan.now.lists ready.pushed (c.deref.ensures.value ∙ ready.kept.types) ready.plan.lists
+    ∙ pending_lists c.moving_of_module.ensures.lists c.args.import.now
+    (before_import c.args.basis.parts.now) c.args.basis.parts.now c.deref.result.now c.args.plan.now.lists ready.pushed
+    (c.deref.ensures.value ∙ ready.kept.types) ready.plan.lists
 
 pub verdicts_after-requires-clause-lists : goal.verdicts_after-requires-clause-lists
 verdicts_after-requires-clause-lists c = lent (goal.at.verdicts_after-requires-clause-lists c).After-with_moved-now
 
 pub appraise_unless_known-requires-clause-numbered : goal.appraise_unless_known-requires-clause-numbered
 appraise_unless_known-requires-clause-numbered c =
-    let n = after_import c.args.import.now (before_import c.args.parts.now) in
-    numbered_after (listed c.with_moved-now.result) n (lent (goal.at.appraise_unless_known-requires-clause-numbered c).After-with_moved-now) c.requires.ready.formed
+    let n = after_import c.args.import.now (before_import c.args.basis.parts.now) in
+    numbered_after (listed c.with_moved-now.result) n (lent (goal.at.appraise_unless_known-requires-clause-numbered c).After-with_moved-now)
+    c.requires.ready.formed
 
-verdicts : (c : After-verdicts_or-verdicts_now) → let n = after_import c.args.import.now (before_import c.args.parts.now) in c.verdicts_or-verdicts_now.result.now.items ≡ map (func_verdict (answers_of n)) n.funcs
+verdicts : (c : After-verdicts_or-verdicts_now) → let n = after_import c.args.import.now (before_import c.args.basis.parts.now) in
+    c.verdicts_or-verdicts_now.result.now.items ≡ map (func_verdict (answers_of n)) n.funcs
 verdicts c = ap (λ v. v.items) c.verdicts_or-verdicts_now.ensures ∙ c.in_ok-verdicts.ensures.verdicts
 
 pub appraise_unless_known-requires-clause-few : goal.appraise_unless_known-requires-clause-few
 appraise_unless_known-requires-clause-few c =
-    let n = after_import c.args.import.now (before_import c.args.parts.now) in
-    omega (arith, funcs_numbered n c.requires.ready.formed, length-map n.funcs (func_verdict (answers_of n)), ap length (verdicts (goal.at.appraise_unless_known-requires-clause-few c).After-verdicts_or-verdicts_now))
+    let n = after_import c.args.import.now (before_import c.args.basis.parts.now) in
+    omega (
+      arith,
+      funcs_numbered n c.requires.ready.formed,
+      length-map n.funcs (func_verdict (answers_of n)),
+      ap length (verdicts (goal.at.appraise_unless_known-requires-clause-few c).After-verdicts_or-verdicts_now),
+    )
 
 -- the pieces with those that are made anew are those of the module
-codes_now : (c : After-codes_len_after) → with_items c.args.kept.now.pieces.codes.items c.args.plan.now.entries.codes.items ≡ map code_of (after_import c.args.import.now (before_import c.args.parts.now)).funcs
+codes_now : (c : After-codes_len_after) → with_items c.args.basis.kept.now.pieces.codes.items c.args.plan.now.entries.codes.items
+    ≡ map code_of (after_import c.args.import.now (before_import c.args.basis.parts.now)).funcs
 codes_now c =
     let ready = c.requires.ready in
     ap (λ (codes : List (List ℕ)). with_items codes c.args.plan.now.entries.codes.items) ready.kept.pieces.codes ∙ ready.plan.entries.codes
 
-sections_now : (c : In_ok-remade) → listed c.with_moved-now.result ≡ listed_with (map (λ (f : Func). f.ty) (after_import c.args.import.now (before_import c.args.parts.now)).funcs) (after_import c.args.import.now (before_import c.args.parts.now))
-    → with_items c.args.kept.now.pieces.sections.items c.in_ok-remade.remade.sections.items ≡ section_pieces (after_import c.args.import.now (before_import c.args.parts.now))
+sections_now : (c : In_ok-remade) → listed c.with_moved-now.result
+    ≡ listed_with (map (λ (f : Func). f.ty) (after_import c.args.import.now (before_import c.args.basis.parts.now)).funcs)
+    (after_import c.args.import.now (before_import c.args.basis.parts.now))
+    → with_items c.args.basis.kept.now.pieces.sections.items c.in_ok-remade.remade.sections.items
+    ≡ section_pieces (after_import c.args.import.now (before_import c.args.basis.parts.now))
 sections_now c lists =
     let ready = c.requires.ready in
-    pieces_after c.moving_of_module.ensures.lists c.args.import.now (before_import c.args.parts.now) c.args.plan.now.lists (listed c.with_moved-now.result) c.in_ok-remade.remade c.args.kept.now.pieces.sections.items
+    pieces_after c.moving_of_module.ensures.lists c.args.import.now (before_import c.args.basis.parts.now) c.args.plan.now.lists
+    (listed c.with_moved-now.result) c.in_ok-remade.remade c.args.basis.kept.now.pieces.sections.items
     ready.plan.lists lists c.in_ok-remade.ensures ready.kept.pieces.sections
 
 pub returns-in_err-remade-clause-judgement : goal.returns-in_err-remade-clause-judgement
 returns-in_err-remade-clause-judgement c =
     let p = err_from_is_err_and c.from_residual.result c.from_residual.ensures.1 in
-    let n = after_import c.args.import.now (before_import c.args.parts.now) in
+    let n = after_import c.args.import.now (before_import c.args.basis.parts.now) in
     let lists = lent (goal.at.returns-in_err-remade-clause-judgement c).After-with_moved-now in
-    rw (p.1, p.2) (unwritten c.args.keep n (listed c.with_moved-now.result) c.in_err-remade.field-0.0 c.requires.ready.formed.order lists c.in_err-remade.ensures)
+    rw (p.1, p.2) (unwritten c.args.basis.keep n (listed c.with_moved-now.result) c.in_err-remade.field-0.0 c.requires.ready.formed.order lists
+    c.in_err-remade.ensures)
 
 pub returns-in_default-clause-judgement : goal.returns-in_default-clause-judgement
 returns-in_default-clause-judgement c =
-    let n = after_import c.args.import.now (before_import c.args.parts.now) in
-    let codes = with_items c.args.kept.now.pieces.codes.items c.args.plan.now.entries.codes.items in
-    λ some. codes_large c.args.keep n codes c.requires.ready.formed.order (codes_now (goal.at.returns-in_default-clause-judgement c).After-codes_len_after) (sym c.in_default.is ∙ c.codes_len_after.ensures)
+    let n = after_import c.args.import.now (before_import c.args.basis.parts.now) in
+    let codes = with_items c.args.basis.kept.now.pieces.codes.items c.args.plan.now.entries.codes.items in
+    λ some. codes_large c.args.basis.keep n codes c.requires.ready.formed.order
+    (codes_now (goal.at.returns-in_default-clause-judgement c).After-codes_len_after) (sym c.in_default.is ∙ c.codes_len_after.ensures)
 
-count_now : (c : After-len) → c.len.result ≡ length (after_import c.args.import.now (before_import c.args.parts.now)).funcs
+count_now : (c : After-len) → c.len.result ≡ length (after_import c.args.import.now (before_import c.args.basis.parts.now)).funcs
 count_now c =
-    let m = before_import c.args.parts.now in
+    let m = before_import c.args.basis.parts.now in
     c.len.ensures ∙ sym (length-map m.funcs (moved_func (desc_kind c.args.import.now.desc) (import_place c.args.import.now m)))
 
 pub module_len-len-requires : goal.module_len-len-requires
 module_len-len-requires c =
-    omega (arith, count_now (goal.at.module_len-len-requires c).After-len, funcs_numbered (after_import c.args.import.now (before_import c.args.parts.now)) c.requires.ready.formed)
+    omega (
+      arith,
+      count_now (goal.at.module_len-len-requires c).After-len,
+      funcs_numbered (after_import c.args.import.now (before_import c.args.basis.parts.now)) c.requires.ready.formed,
+    )
 
-codes_len_now : (c : After-len) → with_items c.args.kept.now.pieces.codes.items c.args.plan.now.entries.codes.items ≡ map code_of (after_import c.args.import.now (before_import c.args.parts.now)).funcs
-    → c.in-Some.codes_len ≡ codes_size (after_import c.args.import.now (before_import c.args.parts.now)).funcs
+codes_len_now : (c : After-len) → with_items c.args.basis.kept.now.pieces.codes.items c.args.plan.now.entries.codes.items
+    ≡ map code_of (after_import c.args.import.now (before_import c.args.basis.parts.now)).funcs
+    → c.in-Some.codes_len ≡ codes_size (after_import c.args.import.now (before_import c.args.basis.parts.now)).funcs
 codes_len_now c codes =
-    let told = limited_some c.in-Some.codes_len (entries_size (with_items c.args.kept.now.pieces.codes.items c.args.plan.now.entries.codes.items)) (sym c.in-Some.is ∙ c.codes_len_after.ensures) in
-    told.0 ∙ ap entries_size codes ∙ entries_codes (after_import c.args.import.now (before_import c.args.parts.now)).funcs
+    let told = limited_some c.in-Some.codes_len (entries_size (with_items c.args.basis.kept.now.pieces.codes.items c.args.plan.now.entries.codes.items))
+    (sym c.in-Some.is ∙ c.codes_len_after.ensures) in
+    told.0 ∙ ap entries_size codes ∙ entries_codes (after_import c.args.import.now (before_import c.args.basis.parts.now)).funcs
 
 -- how long the module gets
-len_now : (c : After-module_len-len) → with_items c.args.kept.now.pieces.sections.items c.in_ok-remade.remade.sections.items ≡ section_pieces (after_import c.args.import.now (before_import c.args.parts.now))
-    → c.len.result ≡ length (after_import c.args.import.now (before_import c.args.parts.now)).funcs → c.in-Some.codes_len ≡ codes_size (after_import c.args.import.now (before_import c.args.parts.now)).funcs
-    → c.module_len-len.result ≡ limited (length (encoded (after_import c.args.import.now (before_import c.args.parts.now))))
+len_now : (c : After-module_len-len) → with_items c.args.basis.kept.now.pieces.sections.items c.in_ok-remade.remade.sections.items
+    ≡ section_pieces (after_import c.args.import.now (before_import c.args.basis.parts.now))
+    → c.len.result ≡ length (after_import c.args.import.now (before_import c.args.basis.parts.now)).funcs
+    → c.in-Some.codes_len ≡ codes_size (after_import c.args.import.now (before_import c.args.basis.parts.now)).funcs
+    → c.module_len-len.result ≡ limited (length (encoded (after_import c.args.import.now (before_import c.args.basis.parts.now))))
 len_now c sections count codes =
     let ready = c.requires.ready in
     let sizes = c.sizes_after-sizes.ensures ∙ ap (map length) sections in
-    c.module_len-len.ensures (after_import c.args.import.now (before_import c.args.parts.now)) ready.formed.order sizes count codes ready.kept.pieces.customs_len
+    c.module_len-len.ensures (after_import c.args.import.now (before_import c.args.basis.parts.now)) ready.formed.order sizes count codes
+    ready.kept.pieces.customs_len
 
-pending : (c : After-verdicts_or-verdicts_now) → listed c.with_moved-now.result ≡ listed_with (map (λ (f : Func). f.ty) (after_import c.args.import.now (before_import c.args.parts.now)).funcs) (after_import c.args.import.now (before_import c.args.parts.now))
-    → c.module_len-len.result ≡ limited (length (encoded (after_import c.args.import.now (before_import c.args.parts.now))))
-    → IsPending c.with_moved-now.result c.verdicts_or-verdicts_now.result.now.items c.module_len-len.result (after_import c.args.import.now (before_import c.args.parts.now))
+pending : (c : After-verdicts_or-verdicts_now) → listed c.with_moved-now.result
+    ≡ listed_with (map (λ (f : Func). f.ty) (after_import c.args.import.now (before_import c.args.basis.parts.now)).funcs)
+    (after_import c.args.import.now (before_import c.args.basis.parts.now))
+    → c.module_len-len.result ≡ limited (length (encoded (after_import c.args.import.now (before_import c.args.basis.parts.now))))
+    → IsPending c.with_moved-now.result c.verdicts_or-verdicts_now.result.now.items c.module_len-len.result
+    (after_import c.args.import.now (before_import c.args.basis.parts.now))
 pending c lists len = record {
   formed = c.requires.ready.formed;
   profile = c.with_moved-now.ensures.profile ∙ c.of.ensures.profile;
@@ -111,28 +141,28 @@ pub returns-in_err-appraisal-clause-judgement : goal.returns-in_err-appraisal-cl
 returns-in_err-appraisal-clause-judgement c =
     let at = goal.at.returns-in_err-appraisal-clause-judgement c in
     let p = err_from_is_err_and c.from_residual-in_err-appraisal.result c.from_residual-in_err-appraisal.ensures.1 in
-    let n = after_import c.args.import.now (before_import c.args.parts.now) in
+    let n = after_import c.args.import.now (before_import c.args.basis.parts.now) in
     let lists = lent at.After-with_moved-now in
-    let len = len_now at.After-module_len-len (sections_now at.In_ok-remade lists) (count_now at.After-len) (codes_len_now at.After-len (codes_now at.After-codes_len_after)) in
+    let len = len_now at.After-module_len-len (sections_now at.In_ok-remade lists) (count_now at.After-len)
+    (codes_len_now at.After-len (codes_now at.After-codes_len_after)) in
     rw (p.1, p.2) (λ some. c.in_err-appraisal.ensures n (pending at.After-verdicts_or-verdicts_now lists len) c.requires.known some)
 
 pub returns-clause-judgement : goal.returns-clause-judgement
 returns-clause-judgement c =
-    let m = before_import c.args.parts.now in
+    let m = before_import c.args.basis.parts.now in
     let n = after_import c.args.import.now m in
     let at = goal.at.returns-clause-judgement c in
     let ready = c.requires.ready in
     let lists = lent at.After-with_moved-now in
     let sections = sections_now at.In_ok-remade lists in
     let codes = codes_len_now at.After-len (codes_now at.After-codes_len_after) in
-    let appraised = c.in_ok-appraisal.ensures n (pending at.After-verdicts_or-verdicts_now lists (len_now at.After-module_len-len sections (count_now at.After-len) codes)) c.requires.known in
     record {
-      stands = appraised.0;
-      verdict = appraised.1;
-      len = appraised.2;
+      appraised = c.in_ok-appraisal.ensures n
+          (pending at.After-verdicts_or-verdicts_now lists (len_now at.After-module_len-len sections (count_now at.After-len) codes)) c.requires.known;
       verdicts = c.in_ok-verdicts.ensures.verdicts;
       sections = sections;
       count = ap length c.in_ok-remade.ensures.sections ∙ sym (ap length ready.kept.pieces.sections);
-      made = made_after (desc_kind c.args.import.now.desc) (import_place c.args.import.now m) m c.args.plan.now.lists (listed c.with_moved-now.result) c.in_ok-remade.remade ready.plan.lists c.in_ok-remade.ensures;
+      made = made_after (desc_kind c.args.import.now.desc) (import_place c.args.import.now m) m c.args.plan.now.lists
+          (listed c.with_moved-now.result) c.in_ok-remade.remade ready.plan.lists c.in_ok-remade.ensures;
       codes_len = codes;
     }

@@ -12,5 +12,8 @@ returns-then-is_any_code_stuck c =
 pub returns-in-Ok : goal.returns-in-Ok
 returns-in-Ok c =
     let m = c.args.parts.now in
-    let told = sets_stuck c.moving_of_code.ensures.uses c.args.kind c.args.from m c.args.kept.now c.requires in
-    (ap (λ (b : Bool). b || are_lists_stuck c.args.kind c.args.from m) (sym told ∙ sym c.is_any_code_stuck.ensures ∙ c.if-is_any_code_stuck.false) ∙ c.in-Ok.ensures.0, c.in-Ok.ensures.1)
+    let told = sets_stuck c.moving_of_code.ensures.uses c.args.kind c.args.from m c.args.kept.now c.requires in (
+      ap (λ (b : Bool). b || are_lists_stuck c.args.kind c.args.from m) (sym told ∙ sym c.is_any_code_stuck.ensures ∙ c.if-is_any_code_stuck.false)
+          ∙ c.in-Ok.ensures.0,
+      c.in-Ok.ensures.1,
+    )

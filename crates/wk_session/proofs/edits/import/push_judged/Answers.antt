@@ -29,11 +29,14 @@ judged_import-judged-requires-clause-known c =
     let i = c.args.import.now in
     let m = c.args.parts.now in
     let before = pushed_before i m (record m { imports = c.push.new.self }) (pushed (goal.at.judged_import-judged-requires-clause-known c).In_ok-push) in
-    subst (λ (q : Parts). IfSome c.known_with_import-known.result (λ v. v ≡ module_verdict (after_import i q))) (sym before) c.known_with_import-known.ensures.some
+    subst (λ (q : Parts). IfSome c.known_with_import-known.result (λ v. v ≡ module_verdict (after_import i q)))
+    (sym before) c.known_with_import-known.ensures.some
 
 pub returns-else-is_err-clause-formed : goal.returns-else-is_err-clause-formed
 returns-else-is_err-clause-formed c =
-    on_ok c.judged_import-judged.result (formed_after c.moving_of_module.ensures.formed c.args.import.now c.args.parts.now c.args.kept.now c.requires.kept c.requires.plan.free c.spelled_import.ensures c.requires.formed)
+    on_ok c.judged_import-judged.result
+    (formed_after c.moving_of_module.ensures.formed c.args.import.now c.args.parts.now c.args.kept.now c.requires.kept c.requires.plan.free
+    c.spelled_import.ensures c.requires.formed)
 
 pub returns-else-is_err-clause-typed : goal.returns-else-is_err-clause-typed
 returns-else-is_err-clause-typed c =

@@ -16,7 +16,8 @@ returns-in_err-append_item c =
     let new : Cache = record k { pieces = record k.pieces { sections = put_item k.pieces.sections id c.append_item.new.section } } in
     let same : IsUnchanged k new = record {
       others = refl;
-      sections = ap (λ (bytes : List ℕ). set k.pieces.sections.items id bytes) (c.in_err-append_item.ensures.err ∙ c.index_mut-section.ensures.value) ∙ set-get_or k.pieces.sections.items id _;
+      sections = ap (λ (bytes : List ℕ). set k.pieces.sections.items id bytes) (c.in_err-append_item.ensures.err ∙ c.index_mut-section.ensures.value)
+          ∙ set-get_or k.pieces.sections.items id _;
     } in
     let returns = err_from_is_err_and r c.from_residual-in_err-append_item.ensures.1 in
     let is = returns.1 ∙ ap (λ (y : EditFault). let q : Result ℕ EditFault = Err y in q) returns.2 in

@@ -14,10 +14,13 @@ pub move_func-requires-clause-moves : goal.move_func-requires-clause-moves
 move_func-requires-clause-moves c =
     let lt = within (goal.at.move_func-requires-clause-moves c).In-loop-i in
     let func = c.index_mut.result.now in
-    let here = next_func (moved_func c.args.kind c.args.from) c.args.funcs.now.items c.loop-i.funcs.items c.loop-i.i func lt c.loop-i.invariant c.index_mut.ensures.value in
-    c.is_some.ensures ∙ told_at is_some (λ f. is_code_moving c.args.kind c.args.from f.body.instrs) c.args.codes.now.items c.args.funcs.now.items c.loop-i.i c.index.result.now func c.requires.moves lt c.index.ensures here
+    let here = next_func (moved_func c.args.kind c.args.from) c.args.funcs.now.items c.loop-i.funcs.items c.loop-i.i func lt c.loop-i.invariant
+    c.index_mut.ensures.value in
+    c.is_some.ensures ∙ told_at is_some (λ f. is_code_moving c.args.kind c.args.from f.body.instrs) c.args.codes.now.items c.args.funcs.now.items
+    c.loop-i.i c.index.result.now func c.requires.moves lt c.index.ensures here
 
 pub loop-i-preserved : goal.loop-i-preserved
 loop-i-preserved c =
     let lt = within (goal.at.loop-i-preserved c).In-loop-i in
-    rw c.move_func.ensures (map_over_more (moved_func c.args.kind c.args.from) c.args.funcs.now.items c.loop-i.funcs.items c.loop-i.i c.index_mut.result.now lt c.loop-i.invariant c.index_mut.ensures.value)
+    rw c.move_func.ensures (map_over_more (moved_func c.args.kind c.args.from) c.args.funcs.now.items c.loop-i.funcs.items c.loop-i.i
+    c.index_mut.result.now lt c.loop-i.invariant c.index_mut.ensures.value)

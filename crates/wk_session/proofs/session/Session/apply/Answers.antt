@@ -1,7 +1,6 @@
-use Rattle.std.proofs.Common.{◌≡◌, ap, subst, sym, ◌∙◌, false}
+use Rattle.std.proofs.Common.{◌≡◌, ap, subst, ◌∙◌, false}
 use Rattle.std.specs.Prelude.{IfErr}
 use Rattle.wk_session.specs.declared.edit.Edit.{Edit}
-use Rattle.wk_session.specs.declared.edit.EditFault.{EditFault}
 use Rattle.wk_session.specs.declared.edit.EditFault.TheVariants.{Memory}
 use Rattle.wk_session.specs.Edits.{is_decided}
 use Rattle.wk_session.specs.Runs.{reply_of, is_memory}

@@ -14,11 +14,13 @@ pub invariant_of-self : goal.invariant_of-self
 invariant_of-self c =
     let shaped : IsShaped c.take_parts-parts.result = subst IsShaped (sym c.take_parts-parts.ensures.value) c.take_parts-parts.ensures.shaped in
     subst (λ (m : Parts). IsKept m c.edit_parts-reply.new.kept) (sym c.of.ensures)
-    (kept_after c.args.keep c.args.edit.now c.take_parts-parts.result c.edit_parts-reply.new.parts c.edit_parts-reply.new.kept c.edit_parts-reply.result shaped c.edit_parts-reply.ensures)
+    (kept_after c.args.keep c.args.edit.now c.take_parts-parts.result c.edit_parts-reply.new.parts c.edit_parts-reply.new.kept c.edit_parts-reply.result
+    shaped c.edit_parts-reply.ensures)
 
 pub returns-clause-reply : goal.returns-clause-reply
 returns-clause-reply c =
-    reply_after c.args.keep c.args.edit.now c.take_parts-parts.result c.edit_parts-reply.new.parts c.edit_parts-reply.new.kept c.edit_parts-reply.result c.edit_parts-reply.ensures
+    reply_after c.args.keep c.args.edit.now c.take_parts-parts.result c.edit_parts-reply.new.parts c.edit_parts-reply.new.kept c.edit_parts-reply.result
+    c.edit_parts-reply.ensures
     ∙ ap (reply_of c.args.keep c.args.edit.now (is_memory c.edit_parts-reply.result)) (c.take_parts-parts.ensures.value ∙ c.self.view_is)
 
 pub returns-clause-told : goal.returns-clause-told

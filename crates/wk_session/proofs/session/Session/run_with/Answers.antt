@@ -15,12 +15,18 @@ loop-edit-preserved c =
       body_never = c.reading_of_code.ensures.never_memory_body;
       expr_never = c.reading_of_code.ensures.never_memory_expr;
     } in
-    let replies = replies_more c.args.keep es i c.edit-item.result c.loop-edit.replies.items c.push_reserved.new.self.items c.apply_with-reply.result c.args.self.now c.loop-edit.self c.apply_with-reply.new.self c.loop-edit-test.true c.edit-item.is len c.push_reserved.ensures.items inv.module_is c.apply_with-reply.ensures.reply inv.replies in
+    let replies = replies_more c.args.keep es i c.edit-item.result c.loop-edit.replies.items c.push_reserved.new.self.items c.apply_with-reply.result
+    c.args.self.now c.loop-edit.self c.apply_with-reply.new.self c.loop-edit-test.true c.edit-item.is len c.push_reserved.ensures.items
+    inv.module_is c.apply_with-reply.ensures.reply inv.replies in
     record {
       replies = replies;
       told = told_by reads c.args.keep (take (i + 1) es) c.args.self.now c.push_reserved.new.self.items replies;
-      module_is = after_more c.args.keep es i c.edit-item.result c.loop-edit.replies.items c.push_reserved.new.self.items c.apply_with-reply.result c.args.self.now c.loop-edit.self c.apply_with-reply.new.self c.loop-edit-test.true c.edit-item.is len c.push_reserved.ensures.items inv.module_is c.apply_with-reply.ensures.module_is;
-      decided = undecided_more c.args.keep es i c.edit-item.result c.loop-edit.replies.items c.push_reserved.new.self.items c.apply_with-reply.result c.args.self.now c.loop-edit.self c.apply_with-reply.new.self c.loop-edit-test.true c.edit-item.is len c.push_reserved.ensures.items inv.module_is (was_undecided c.edit-item.result c.loop-edit.self c.apply_with-reply.result c.apply_with-reply.ensures.decided) inv.decided;
+      module_is = after_more c.args.keep es i c.edit-item.result c.loop-edit.replies.items c.push_reserved.new.self.items c.apply_with-reply.result
+          c.args.self.now c.loop-edit.self c.apply_with-reply.new.self c.loop-edit-test.true c.edit-item.is len c.push_reserved.ensures.items
+          inv.module_is c.apply_with-reply.ensures.module_is;
+      decided = undecided_more c.args.keep es i c.edit-item.result c.loop-edit.replies.items c.push_reserved.new.self.items c.apply_with-reply.result
+          c.args.self.now c.loop-edit.self c.apply_with-reply.new.self c.loop-edit-test.true c.edit-item.is len c.push_reserved.ensures.items
+          inv.module_is (was_undecided c.edit-item.result c.loop-edit.self c.apply_with-reply.result c.apply_with-reply.ensures.decided) inv.decided;
       count = omega (arith, c.push_reserved.ensures.len, inv.count);
       room = omega (arith, c.push_reserved.ensures.capacity, inv.room);
     }

@@ -1,4 +1,4 @@
-use Rattle.std.proofs.Common.{◌≡◌, ◌≤◌, length, sym, ap, ◌∙◌, arith}
+use Rattle.std.proofs.Common.{◌≡◌, length, sym, ap, ◌∙◌, arith}
 use Rattle.wk_module.specs.Writing.{encoded}
 use Rattle.wk_session.specs.Pieces.{entries_size}
 use Rattle.wk_session.specs.Recoded.{encoded_with}
@@ -32,8 +32,10 @@ returns-in-Err-clause-err g c = rw (← form g (goal.at.returns-in-Err-clause-er
 
 pub returns-in-Ok-clause-alone : goal.returns-in-Ok-clause-alone
 returns-in-Ok-clause-alone g c =
-    kept_alone c.self.inside.module c.args.self.now _ c.self.invariant c.parts.ensures.shaped c.self.view_is c.written_form_of_module.ensures.spells c.one_module.ensures.one
+    kept_alone c.self.inside.module c.args.self.now _ c.self.invariant c.parts.ensures.shaped c.self.view_is c.written_form_of_module.ensures.spells
+    c.one_module.ensures.one
 
 pub returns-in-Err-clause-alone : goal.returns-in-Err-clause-alone
 returns-in-Err-clause-alone g c =
-    kept_alone c.self.inside.module c.args.self.now _ c.self.invariant c.parts.ensures.shaped c.self.view_is c.written_form_of_module.ensures.spells c.one_module.ensures.one
+    kept_alone c.self.inside.module c.args.self.now _ c.self.invariant c.parts.ensures.shaped c.self.view_is c.written_form_of_module.ensures.spells
+    c.one_module.ensures.one

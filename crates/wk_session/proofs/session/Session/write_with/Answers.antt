@@ -11,7 +11,8 @@ use Rattle.wk_session.proofs.session.Session.write_with.Goals.{After-parts}
 pub with_new-codes-requires-clause-many : goal.with_new-codes-requires-clause-many
 with_new-codes-requires-clause-many g c =
     let m = c.self.inside.module in
-    c.requires.many ∙ ap (λ (n : Parts). length n.funcs) (sym c.self.view_is) ∙ sym (codes_length m c.self.inside.kept.pieces.codes.items c.self.invariant.pieces.codes)
+    c.requires.many ∙ ap (λ (n : Parts). length n.funcs) (sym c.self.view_is)
+    ∙ sym (codes_length m c.self.inside.kept.pieces.codes.items c.self.invariant.pieces.codes)
 
 pub with_new-codes-requires-clause-few : goal.with_new-codes-requires-clause-few
 with_new-codes-requires-clause-few g c =
@@ -22,7 +23,8 @@ with_new-codes-requires-clause-few g c =
     omega (arith, entries_in_form m (with_items kept news), ap length same, c.requires.fits)
 
 form : (g : Over) (c : After-parts g)
-    → encoded_with c.parts.result.now c.with_new-codes.result ≡ encoded_with c.args.self.now (with_items (map code_of c.args.self.now.funcs) c.args.codes.now.items)
+    → encoded_with c.parts.result.now c.with_new-codes.result
+    ≡ encoded_with c.args.self.now (with_items (map code_of c.args.self.now.funcs) c.args.codes.now.items)
 form g c =
     let kept = c.self.inside.kept.pieces.codes.items in
     let news = c.args.codes.now.items in

@@ -13,4 +13,6 @@ returns c =
     let items = c.as_slice.ensures ∙ ap (λ (n : Parts). n.customs) c.parts.ensures.value in
     let item = c.index-as_slice-index.result in
     let is : item ≡ slice_index_or m.customs c.args.index item = rw items at c.index-as_slice-index.is in
-    λ other. rw (← c.self.view_is) (c.unwrap_or.ensures ∙ told_custom m c.args.index item other c.custom_len.result within is c.parts.ensures.shaped.formed.order fits c.custom_len.ensures)
+    λ other. rw (← c.self.view_is)
+    (c.unwrap_or.ensures ∙ told_custom m c.args.index item other c.custom_len.result within is c.parts.ensures.shaped.formed.order fits
+    c.custom_len.ensures)
