@@ -70,7 +70,8 @@ passed why fault (Ok x) is p = is
 passed why fault (Err f) is p = subst why (sym is) p
 
 -- what was worked out is saved and printed
-pub given : (name : List ℕ) (a : Answer) (out : Option (List ℕ)) (status : ℕ) (text : List ℕ) (old new : Option (List Event)) (p : Printing) (r : Result ℕ ProgramFault)
+pub given : (name : List ℕ) (a : Answer) (out : Option (List ℕ)) (status : ℕ) (text : List ℕ) (old new : Option (List Event)) (p : Printing)
+    (r : Result ℕ ProgramFault)
     → out ≡ a.saved → status ≡ a.status → text ≡ a.text → Goes (Saves name out (Prints status text)) old new p r → Goes (Gives name a) old new p r
 given name a out status text old new p r is_saved is_status is_text g =
     let saved_is = subst (λ (o : Option (List ℕ)). Saves name o (Prints status text) g.events p r) is_saved g.went in
@@ -78,7 +79,8 @@ given name a out status text old new p r is_saved is_status is_text g =
     record { events = g.events; asked = g.asked; went = inl (subst (λ (t : List ℕ). Saves name a.saved (Prints a.status t) g.events p r) is_text status_is) }
 
 -- what is made of a module that was read
-pub on_read : (name : List ℕ) (answer : Parts → Answer) (read x : Result Parts ReadFault) (old new : Option (List Event)) (p : Printing) (r : Result ℕ ProgramFault)
+pub on_read : (name : List ℕ) (answer : Parts → Answer) (read x : Result Parts ReadFault) (old new : Option (List Event)) (p : Printing)
+    (r : Result ℕ ProgramFault)
     → read ≡ x → Goes (Gives name (on_module answer x)) old new p r → Goes (Gives name (on_module answer read)) old new p r
 on_read name answer read x old new p r is g = subst (λ (y : Result Parts ReadFault). Goes (Gives name (on_module answer y)) old new p r) (sym is) g
 
@@ -94,13 +96,16 @@ gives_refused name answer read fault p r fails (inl full) = inr (inl full)
 gives_refused name answer read fault p r fails (inr (other, printed)) =
     gives_read name answer read (Err fault) p r (other_fault fault fault.kind read other fails) (inl printed)
 
-pub on_refused : (name : List ℕ) (answer : Parts → Answer) (read : Result Parts ReadFault) (fault : ReadFault) (log : Option (List Event)) (p : Printing) (r : Result ℕ ProgramFault)
+pub on_refused : (name : List ℕ) (answer : Parts → Answer) (read : Result Parts ReadFault) (fault : ReadFault) (log : Option (List Event))
+    (p : Printing) (r : Result ℕ ProgramFault)
     → FailsAs fault fault.kind read → Refuses fault p r → Goes (Gives name (on_module answer read)) log log p r
 on_refused name answer read fault log p r fails refuses = ends (gives_refused name answer read fault p r fails refuses)
 
 -- an edited module, its report and how the edits ended
-pub given_edited : (name : List ℕ) (o : Outcome) (out : Option (List ℕ)) (status : Status) (code : ℕ) (written report text : List ℕ) (old new : Option (List Event)) (p : Printing) (r : Result ℕ ProgramFault)
-    → AreOf o status written report → out ≡ saved_of status written → code ≡ status_code status → text ≡ report → Goes (Saves name out (Prints code text)) old new p r → Goes (Gives name (answer_of o)) old new p r
+pub given_edited : (name : List ℕ) (o : Outcome) (out : Option (List ℕ)) (status : Status) (code : ℕ) (written report text : List ℕ)
+    (old new : Option (List Event)) (p : Printing) (r : Result ℕ ProgramFault)
+    → AreOf o status written report → out ≡ saved_of status written → code ≡ status_code status → text ≡ report
+    → Goes (Saves name out (Prints code text)) old new p r → Goes (Gives name (answer_of o)) old new p r
 given_edited name o out status code written report text old new p r of out_is code_is text_is g =
     given name (answer_of o) out code text old new p r
     (out_is ∙ ap (λ (s : Status). saved_of s written) of.status_is ∙ ap (λ (w : List ℕ). saved_of o.status w) of.written_is)
@@ -108,18 +113,21 @@ given_edited name o out status code written report text old new p r of out_is co
     (text_is ∙ of.report_is) g
 
 -- a listing to its end
-pub listed_whole : (these : List Part) (seen m : Parts) (p : Printing) → seen ≡ m → Appends p.before p.after (listed these seen).text → p.failed_after ≡ p.failed_before → Gives [] (listed these m) [] p (Ok 0)
+pub listed_whole : (these : List Part) (seen m : Parts) (p : Printing) → seen ≡ m → Appends p.before p.after (listed these seen).text
+    → p.failed_after ≡ p.failed_before → Gives [] (listed these m) [] p (Ok 0)
 listed_whole these seen m p same taken failed =
     inl (refl, refl, record { taken = subst (λ (x : Parts). Appends p.before p.after (listed these x).text) same taken; failed = failed })
 
 -- a listing that stopped
 stopped_at : (these : List Part) (m : Parts) (fault : ListFault) (p : Printing) (r : Result ℕ ProgramFault)
-    → TakesFront p.before p.after (listed these m).text → p.failed_after ≡ failed_after {T = Unit {0}} p.failed_before (Err fault) → IsErrAnd r (λ f. f ≡ of_list fault) → Gives [] (listed these m) [] p r
+    → TakesFront p.before p.after (listed these m).text → p.failed_after ≡ failed_after {T = Unit {0}} p.failed_before (Err fault)
+    → IsErrAnd r (λ f. f ≡ of_list fault) → Gives [] (listed these m) [] p r
 stopped_at these m fault p (Ok x) taken failed is = absurd is
 stopped_at these m lists.Write p (Err f) taken failed is = rw is (inl (refl, record { taken = taken; failed = failed }))
 stopped_at these m lists.Memory p (Err f) taken failed is = rw is (inr (inr (refl, refl, record { taken = taken; failed = failed }, refl)))
 
 pub stopped : (these : List Part) (seen m : Parts) (fault : ListFault) (p : Printing) (r : Result ℕ ProgramFault) → seen ≡ m
-    → TakesFront p.before p.after (listed these seen).text → p.failed_after ≡ failed_after {T = Unit {0}} p.failed_before (Err fault) → IsErrAnd r (λ f. f ≡ of_list fault) → Gives [] (listed these m) [] p r
+    → TakesFront p.before p.after (listed these seen).text → p.failed_after ≡ failed_after {T = Unit {0}} p.failed_before (Err fault)
+    → IsErrAnd r (λ f. f ≡ of_list fault) → Gives [] (listed these m) [] p r
 stopped these seen m fault p r same taken failed is =
     stopped_at these m fault p r (subst (λ (x : Parts). TakesFront p.before p.after (listed these x).text) same taken) failed is

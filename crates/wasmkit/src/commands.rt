@@ -34,7 +34,8 @@ use wk_strip::strip_bytes;
 // Loads a file.
 fn load<'a, S: Store>(store: &mut S, name: &'a str) -> Result<Vec<u8>, ProgramFault<'a>>
     ensures { MatchResult result
-        (λ bytes. S.asked store.new ≡ then_asked (S.asked store.old) (Loaded name.now (Ok bytes.items)))
+        (λ bytes. S.asked store.new
+        ≡ then_asked (S.asked store.old) (Loaded name.now (Ok bytes.items)))
         (λ fault. (why : Why) × IsOfLoad name.now why fault
         × (S.asked store.new ≡ then_asked (S.asked store.old) (Loaded name.now (Err why)))) }
 {
@@ -49,7 +50,8 @@ fn save<'a, S: Store>(store: &mut S, name: &'a str, bytes: &[u8]) -> Result<(), 
     ensures { MatchResult result
         (λ x. S.asked store.new ≡ then_asked (S.asked store.old) (Saved name.now bytes.now (Ok x)))
         (λ fault. (why : Why) × IsOfSave name.now why fault
-        × (S.asked store.new ≡ then_asked (S.asked store.old) (Saved name.now bytes.now (Err why)))) }
+        × (S.asked store.new
+        ≡ then_asked (S.asked store.old) (Saved name.now bytes.now (Err why)))) }
 {
     match store.save(name, bytes) {
         Ok(()) => Ok(()),
@@ -61,7 +63,8 @@ fn save<'a, S: Store>(store: &mut S, name: &'a str, bytes: &[u8]) -> Result<(), 
 fn print<'a, X: Out>(text: &[u8], status: u8, out: &mut X) -> Result<u8, ProgramFault<'a>>
     requires { X.failed out.old < 2 ^ 64 - 1 }
     ensures { Prints status text.now []
-        (printing (X.taken out.old) (X.taken out.new) (X.failed out.old) (X.failed out.new)) result }
+        (printing (X.taken out.old) (X.taken out.new) (X.failed out.old) (X.failed out.new))
+        result }
 {
     match put_all(out, text) {
         Ok(()) => Ok(status),
@@ -79,9 +82,11 @@ fn give<'a, S: Store, X: Out>(
     out: &mut X,
 ) -> Result<u8, ProgramFault<'a>>
     requires { X.failed out.old < 2 ^ 64 - 1 }
-    ensures { Goes (Saves name.now (option_map (λ bytes. bytes.now) saved.entry) (Prints status text.now))
+    ensures { Goes
+        (Saves name.now (option_map (λ bytes. bytes.now) saved.entry) (Prints status text.now))
         (S.asked store.old) (S.asked store.new)
-        (printing (X.taken out.old) (X.taken out.new) (X.failed out.old) (X.failed out.new)) result }
+        (printing (X.taken out.old) (X.taken out.new) (X.failed out.old) (X.failed out.new))
+        result }
 {
     if let Some(bytes) = saved {
         save(store, name, bytes)?;
@@ -97,7 +102,8 @@ fn refuse_module<'a, X: Out>(
 ) -> Result<u8, ProgramFault<'a>>
     requires { X.failed out.old < 2 ^ 64 - 1 }
     ensures { Refuses fault.now
-        (printing (X.taken out.old) (X.taken out.new) (X.failed out.old) (X.failed out.new)) result }
+        (printing (X.taken out.old) (X.taken out.new) (X.failed out.old) (X.failed out.new))
+        result }
 {
     if let ReadKind::Memory = fault.kind {
         return Err(ProgramFault::Memory);
@@ -117,7 +123,8 @@ struct Edited {
 impl Edited {
     // The bytes of OUT, if it is to be made.
     fn saved(&self) -> Option<&[u8]>
-        ensures { option_map (λ bytes. bytes.now) result ≡ saved_of self.now.status self.now.module.items }
+        ensures { option_map (λ bytes. bytes.now) result
+            ≡ saved_of self.now.status self.now.module.items }
     {
         match self.status {
             Status::Accepted | Status::Refused => Some(&self.module),
@@ -168,7 +175,8 @@ fn run_edit<'a, S: Store, X: Out>(
 ) -> Result<u8, ProgramFault<'a>>
     requires { X.failed out.old < 2 ^ 64 - 1 }
     ensures { Goes (Carries (asks.Edit command.entry)) (S.asked store.old) (S.asked store.new)
-        (printing (X.taken out.old) (X.taken out.new) (X.failed out.old) (X.failed out.new)) result }
+        (printing (X.taken out.old) (X.taken out.new) (X.failed out.old) (X.failed out.new))
+        result }
 {
     let input = load(store, command.file)?;
     let script = load(store, command.script)?;
@@ -193,7 +201,8 @@ fn list_module<'a, X: Out>(
     requires room { X.failed out.old < 2 ^ 64 - 1 }
     requires fits { Fits whole.now }
     ensures { Gives [] (listed parts.now whole.now) []
-        (printing (X.taken out.old) (X.taken out.new) (X.failed out.old) (X.failed out.new)) result }
+        (printing (X.taken out.old) (X.taken out.new) (X.failed out.old) (X.failed out.new))
+        result }
 {
     let layout = match Layout::of(alloc, whole) {
         Ok(layout) => layout,
@@ -214,7 +223,8 @@ fn list_summary<'a, X: Out>(
     requires room { X.failed out.old < 2 ^ 64 - 1 }
     requires parts { list_any lists_bodies parts.now ≡ false }
     ensures { Gives [] (listed parts.now summary.now) []
-        (printing (X.taken out.old) (X.taken out.new) (X.failed out.old) (X.failed out.new)) result }
+        (printing (X.taken out.old) (X.taken out.new) (X.failed out.old) (X.failed out.new))
+        result }
 {
     list_summary_parts(alloc, summary, parts, out)?;
     Ok(0)
@@ -230,7 +240,8 @@ fn list_whole<'a, X: Out>(
 ) -> Result<u8, ProgramFault<'a>>
     requires { X.failed out.old < 2 ^ 64 - 1 }
     ensures { Gives [] (on_module (listed parts.now) (module_at profile input.now)) []
-        (printing (X.taken out.old) (X.taken out.new) (X.failed out.old) (X.failed out.new)) result }
+        (printing (X.taken out.old) (X.taken out.new) (X.failed out.old) (X.failed out.new))
+        result }
 {
     match read_in(alloc, input, profile) {
         Ok(module) => list_module(alloc, &module, parts, out),
@@ -249,7 +260,8 @@ fn list_without_bodies<'a, X: Out>(
     requires room { X.failed out.old < 2 ^ 64 - 1 }
     requires parts { list_any lists_bodies parts.now ≡ false }
     ensures { Gives [] (on_module (listed parts.now) (module_at profile input.now)) []
-        (printing (X.taken out.old) (X.taken out.new) (X.failed out.old) (X.failed out.new)) result }
+        (printing (X.taken out.old) (X.taken out.new) (X.failed out.old) (X.failed out.new))
+        result }
 {
     match Summary::read(alloc, input, profile) {
         Ok(summary) => list_summary(alloc, &summary, parts, out),
@@ -266,7 +278,8 @@ fn run_objdump<'a, S: Store, X: Out>(
 ) -> Result<u8, ProgramFault<'a>>
     requires { X.failed out.old < 2 ^ 64 - 1 }
     ensures { Goes (Carries (asks.Objdump command.entry)) (S.asked store.old) (S.asked store.new)
-        (printing (X.taken out.old) (X.taken out.new) (X.failed out.old) (X.failed out.new)) result }
+        (printing (X.taken out.old) (X.taken out.new) (X.failed out.old) (X.failed out.new))
+        result }
 {
     let ObjdumpCommand {
         parts,
@@ -297,7 +310,8 @@ fn run_sections<'a, S: Store, X: Out>(
 ) -> Result<u8, ProgramFault<'a>>
     requires { X.failed out.old < 2 ^ 64 - 1 }
     ensures { Goes (Carries (asks.Sections file.entry)) (S.asked store.old) (S.asked store.new)
-        (printing (X.taken out.old) (X.taken out.new) (X.failed out.old) (X.failed out.new)) result }
+        (printing (X.taken out.old) (X.taken out.new) (X.failed out.old) (X.failed out.new))
+        result }
 {
     let input = load(store, file)?;
     let Listing { text, has_fault } = list_sections(alloc, &input)?;
@@ -313,7 +327,8 @@ fn run_strip<'a, S: Store, X: Out>(
 ) -> Result<u8, ProgramFault<'a>>
     requires { X.failed out.old < 2 ^ 64 - 1 }
     ensures { Goes (Carries (asks.Strip command.entry)) (S.asked store.old) (S.asked store.new)
-        (printing (X.taken out.old) (X.taken out.new) (X.failed out.old) (X.failed out.new)) result }
+        (printing (X.taken out.old) (X.taken out.new) (X.failed out.old) (X.failed out.new))
+        result }
 {
     let StripCommand {
         keep,
@@ -337,7 +352,8 @@ fn run_validate<'a, S: Store, X: Out>(
 ) -> Result<u8, ProgramFault<'a>>
     requires { X.failed out.old < 2 ^ 64 - 1 }
     ensures { Goes (Carries (asks.Validate command.entry)) (S.asked store.old) (S.asked store.new)
-        (printing (X.taken out.old) (X.taken out.new) (X.failed out.old) (X.failed out.new)) result }
+        (printing (X.taken out.old) (X.taken out.new) (X.failed out.old) (X.failed out.new))
+        result }
 {
     let ValidateCommand { profile, file } = command;
     let input = load(store, file)?;
@@ -354,7 +370,8 @@ fn run<'a, S: Store, X: Out>(
 ) -> Result<u8, ProgramFault<'a>>
     requires { X.failed out.old < 2 ^ 64 - 1 }
     ensures { Goes (Carries asked.entry) (S.asked store.old) (S.asked store.new)
-        (printing (X.taken out.old) (X.taken out.new) (X.failed out.old) (X.failed out.new)) result }
+        (printing (X.taken out.old) (X.taken out.new) (X.failed out.old) (X.failed out.new))
+        result }
 {
     match asked {
         Asked::Edit(command) => run_edit(alloc, command, store, out),
@@ -374,7 +391,8 @@ fn answer<'a, S: Store, X: Out>(
 ) -> Result<u8, ProgramFault<'a>>
     requires { X.failed out.old < 2 ^ 64 - 1 }
     ensures { IsAnswered (S.asked store.old) (S.asked store.new)
-        (printing (X.taken out.old) (X.taken out.new) (X.failed out.old) (X.failed out.new)) result }
+        (printing (X.taken out.old) (X.taken out.new) (X.failed out.old) (X.failed out.new))
+        result }
 {
     let asked = read_words(alloc, words)?;
     run(alloc, asked, store, out)
@@ -414,7 +432,8 @@ pub fn program<S: Store, X: Out, Y: Out>(
     ensures { (r : Result ℕ Fault)
         × IsAnswered (S.asked store.old) (S.asked store.new)
         (printing (X.taken out.old) (X.taken out.new) (X.failed out.old) (X.failed out.new)) r
-        × Exits r result (printing (Y.taken err.old) (Y.taken err.new) (Y.failed err.old) (Y.failed err.new)) }
+        × Exits r result
+        (printing (Y.taken err.old) (Y.taken err.new) (Y.failed err.old) (Y.failed err.new)) }
 {
     match answer(alloc, words, store, out) {
         Ok(status) => status,

@@ -19,7 +19,8 @@ pub trait Store {
 
     /// All bytes of a file.
     fn load(&mut self, name: &str) -> Result<Vec<u8>, StoreFault>
-        ensures { asked self.new ≡ then_asked (asked self.old) (Loaded name.now (bytes_of result)) };
+        ensures { asked self.new
+            ≡ then_asked (asked self.old) (Loaded name.now (bytes_of result)) };
 
     /// Makes the file of these bytes, in the place of one that is there.
     fn save(&mut self, name: &str, bytes: &[u8]) -> Result<(), StoreFault>

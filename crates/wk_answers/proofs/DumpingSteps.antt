@@ -18,7 +18,8 @@ on_err_known (Err e) p = p
 
 -- the text of the item at an index was taken
 pub more_taken : {A : Type 0} (text : A → List ℕ) (items : List A) (i : ℕ) (other : A) (a b c : Option (List ℕ)) (all : List ℕ)
-    → i < length items → Leaves a b all (flat_map text (drop i items)) → Appends b c (text (get_or items i other)) → Leaves a c all (flat_map text (drop (i + 1) items))
+    → i < length items → Leaves a b all (flat_map text (drop i items)) → Appends b c (text (get_or items i other))
+    → Leaves a c all (flat_map text (drop (i + 1) items))
 more_taken text items i other a b c all within so_far p =
     let x = text (get_or items i other) in
     let later = flat_map text (drop (i + 1) items) in (
@@ -34,13 +35,15 @@ some_taken text items i other a b c all within so_far p =
     let later = flat_map text (drop (i + 1) items) in (
       so_far.0 ++ p.0,
       p.1 ++ later,
-      so_far.1 ∙ ap (λ (r : List ℕ). so_far.0 ++ r) (at_drop_more (flat_map text) items i other within ∙ ap (λ (r : List ℕ). r ++ later) p.2 ∙ append_assoc p.0 p.1 later)
+      so_far.1 ∙ ap (λ (r : List ℕ). so_far.0 ++ r)
+          (at_drop_more (flat_map text) items i other within ∙ ap (λ (r : List ℕ). r ++ later) p.2 ∙ append_assoc p.0 p.1 later)
           ∙ sym (append_assoc so_far.0 p.0 (p.1 ++ later)),
       Appends-then a b c so_far.0 p.0 so_far.2 p.3,
     )
 
 -- each part tells nothing of bodies where none of them does
-pub no_bodies : (parts : List Part) (i : ℕ) (other : Part) → i < length parts → list_any lists_bodies parts ≡ false → lists_bodies (get_or parts i other) ≡ false
+pub no_bodies : (parts : List Part) (i : ℕ) (other : Part) → i < length parts → list_any lists_bodies parts ≡ false
+    → lists_bodies (get_or parts i other) ≡ false
 no_bodies parts i other within none =
     elim (cases_Bool (lists_bodies (get_or parts i other))) [
       | inl t ↦ absurd (let some : true ≡ false = sym (list_any_at lists_bodies parts i other within t) ∙ none in cc)

@@ -8,7 +8,8 @@ use Rattle.wk_bytes.specs.Frames.{Section}
 use Rattle.wk_bytes.specs.Raw.{item_view}
 use Rattle.wk_answers.specs.Listing.{is_fault, item_line, listing}
 
-pub text_more : (old new whole : List ℕ) (item : Result Section ReadFault) (it items : List (Result Section ReadFault)) → it ≡ item ∷ items → new ≡ old ++ item_line item → old ++ listing it ≡ whole → new ++ listing items ≡ whole
+pub text_more : (old new whole : List ℕ) (item : Result Section ReadFault) (it items : List (Result Section ReadFault)) → it ≡ item ∷ items
+    → new ≡ old ++ item_line item → old ++ listing it ≡ whole → new ++ listing items ≡ whole
 unfolding listing
 text_more old new whole item it items steps put e =
     ap (λ (t : List ℕ). t ++ listing items) put
@@ -23,11 +24,13 @@ either : (a b c : Bool) → ((a || b) || c) ≡ (a || (b || c))
 either true b c = refl
 either false b c = refl
 
-fault_here : (item : Result RawSection ReadFault) (items : List (Result Section ReadFault)) → (is_err item || list_any is_fault items) ≡ list_any is_fault (item_view item ∷ items)
+fault_here : (item : Result RawSection ReadFault) (items : List (Result Section ReadFault))
+    → (is_err item || list_any is_fault items) ≡ list_any is_fault (item_view item ∷ items)
 fault_here (Ok s) items = refl
 fault_here (Err e) items = refl
 
-pub fault_more : (seen here whole : Bool) (item : Result RawSection ReadFault) (it items : List (Result Section ReadFault)) → it ≡ item_view item ∷ items → here ≡ is_err item
+pub fault_more : (seen here whole : Bool) (item : Result RawSection ReadFault) (it items : List (Result Section ReadFault))
+    → it ≡ item_view item ∷ items → here ≡ is_err item
     → (seen || list_any is_fault it) ≡ whole → ((seen || here) || list_any is_fault items) ≡ whole
 fault_more seen here whole item it items steps is e =
     either seen here (list_any is_fault items)

@@ -23,8 +23,12 @@ pub fn list_parts<S: Shape, X: Out>(
     out: &mut X,
 ) -> Result<(), ListFault>
     requires { X.failed out.old < 2 ^ 64 - 1 }
-    ensures ok { OnOk result (Appends (X.taken out.old) (X.taken out.new) (flat_map (listing (S.seen shape.now)) parts.now)) }
-    ensures err { OnErr result (TakesFront (X.taken out.old) (X.taken out.new) (flat_map (listing (S.seen shape.now)) parts.now)) }
+    ensures ok { OnOk result
+        (Appends (X.taken out.old) (X.taken out.new)
+        (flat_map (listing (S.seen shape.now)) parts.now)) }
+    ensures err { OnErr result
+        (TakesFront (X.taken out.old) (X.taken out.new)
+        (flat_map (listing (S.seen shape.now)) parts.now)) }
     ensures failures { X.failed out.new ≡ failed_after (X.failed out.old) result }
 {
     for part in parts {
@@ -55,8 +59,11 @@ pub fn list_summary_parts<X: Out>(
 ) -> Result<(), ListFault>
     requires room { X.failed out.old < 2 ^ 64 - 1 }
     requires parts { list_any lists_bodies parts.now ≡ false }
-    ensures ok { OnOk result (Appends (X.taken out.old) (X.taken out.new) (flat_map (listing summary.now) parts.now)) }
-    ensures err { OnErr result (TakesFront (X.taken out.old) (X.taken out.new) (flat_map (listing summary.now) parts.now)) }
+    ensures ok { OnOk result
+        (Appends (X.taken out.old) (X.taken out.new) (flat_map (listing summary.now) parts.now)) }
+    ensures err { OnErr result
+        (TakesFront (X.taken out.old) (X.taken out.new)
+        (flat_map (listing summary.now) parts.now)) }
     ensures failures { X.failed out.new ≡ failed_after (X.failed out.old) result }
 {
     for part in parts {

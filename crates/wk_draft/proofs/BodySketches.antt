@@ -30,7 +30,8 @@ entry_same s os deferred x m d h =
     )
 
 -- the function is deferred no more
-drafted_given : (profile : Profile) (A : Ref → Found) (s : Shifts) (b : BodyOf) (i : ℕ) (os : List Func) (deferred : List Bool) (fs gs : List Func) → AreDrafted profile A s os deferred fs gs
+drafted_given : (profile : Profile) (A : Ref → Found) (s : Shifts) (b : BodyOf) (i : ℕ) (os : List Func) (deferred : List Bool) (fs gs : List Func)
+    → AreDrafted profile A s os deferred fs gs
     → AreDrafted profile A s os (set deferred i false) (funcs_given i b fs) (funcs_given i b gs)
 drafted_given profile A s b i [] [] fs gs h = ap (funcs_given i b) h
 drafted_given profile A s b zero (o ∷ os) (true ∷ deferred) (f ∷ fs) (g ∷ gs) h = (ap (λ (x : Func). record x { body = b }) (sym h.0.stands), h.1)
@@ -44,14 +45,17 @@ answers_given : (i : ℕ) (b : BodyOf) (m : Parts) → answers_of (with_body i b
 answers_given i b m =
     ap (λ (ts : List ℕ). answer_in (record (spaces_of (lists_of m)) { funcs = imported func_in m.imports ++ ts })) (types_given i b m.funcs)
 
-sketch_given : (s : Shifts) (os : List Func) (deferred : List Bool) (i : ℕ) (b : BodyOf) (m d : Parts) → IsSketch s os deferred m d → IsSketch s os (deferred_without (Some i) deferred) (with_body i b m) (with_body i b d)
+sketch_given : (s : Shifts) (os : List Func) (deferred : List Bool) (i : ℕ) (b : BodyOf) (m d : Parts) → IsSketch s os deferred m d
+    → IsSketch s os (deferred_without (Some i) deferred) (with_body i b m) (with_body i b d)
 sketch_given s os deferred i b m d h = record {
   rest = ap (with_body i b) h.rest;
-  funcs = subst (λ (A : Ref → Found). AreDrafted m.profile A s os (set deferred i false) (funcs_given i b m.funcs) (funcs_given i b d.funcs)) (sym (answers_given i b m)) (drafted_given m.profile (answers_of m) s b i os deferred m.funcs d.funcs h.funcs);
+  funcs = subst (λ (A : Ref → Found). AreDrafted m.profile A s os (set deferred i false) (funcs_given i b m.funcs) (funcs_given i b d.funcs))
+      (sym (answers_given i b m)) (drafted_given m.profile (answers_of m) s b i os deferred m.funcs d.funcs h.funcs);
 }
 
 -- A function with another body, whether its old one was deferred or not. Where none has the entry, nothing changes.
-pub body_sketch : (s : Shifts) (os : List Func) (deferred : List Bool) (i : ℕ) (b : BodyOf) (m d : Parts) → IsDraft s os deferred m d → IsDraft s os (deferred_without (Some i) deferred) (with_body i b m) (with_body i b d)
+pub body_sketch : (s : Shifts) (os : List Func) (deferred : List Bool) (i : ℕ) (b : BodyOf) (m d : Parts) → IsDraft s os deferred m d
+    → IsDraft s os (deferred_without (Some i) deferred) (with_body i b m) (with_body i b d)
 body_sketch s os deferred i b m d h = record {
   sketch = sketch_given s os deferred i b m d h.sketch;
   funcs_from = h.funcs_from;

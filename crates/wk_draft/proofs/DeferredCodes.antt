@@ -1,5 +1,6 @@
 -- The codes of deferred bodies, put in the place of stubs.
-use Rattle.std.proofs.Common.{◌≡◌, ℕ, zero, suc, ◌+◌, ◌-◌, ◌<◌, ◌≤◌, Bool, true, false, Option, Some, None, List, [], ◌∷◌, ◌++◌, length, map, take, get_or, refl, sym, ap, subst, ◌∙◌, arith, append_assoc}
+use Rattle.std.proofs.Common.{◌≡◌, ℕ, zero, suc, ◌+◌, ◌-◌, ◌<◌, ◌≤◌, Bool, true, false, Option, Some, None, List, [], ◌∷◌, ◌++◌, length, map, take, get_or}
+use Rattle.std.proofs.Common.{refl, sym, ap, subst, ◌∙◌, arith, append_assoc}
 use Rattle.std.proofs.lemmas.List.{append-nil, take_all, length-map, replicate-append-replicate}
 use Rattle.std.specs.Prelude.{replicate}
 use Rattle.std.specs.List.{AllByRecursion}
@@ -23,7 +24,8 @@ none_new [] k = refl
 none_new (x ∷ xs) zero = refl
 none_new (x ∷ xs) (suc k) = ap (λ ys. x ∷ ys) (none_new xs k)
 
-pub deferred_put : (profile : Profile) (A : Ref → Found) (s : Shifts) (os : List Func) (deferred : List Bool) (fs gs : List Func) (k : ℕ) → AreDrafted profile A s os deferred fs gs
+pub deferred_put : (profile : Profile) (A : Ref → Found) (s : Shifts) (os : List Func) (deferred : List Bool) (fs gs : List Func) (k : ℕ)
+    → AreDrafted profile A s os deferred fs gs
     → with_items (map code_of gs) (deferred_codes s os deferred ++ replicate k None) ≡ map code_of fs
 deferred_put profile A s [] [] fs gs k are = none_new (map code_of gs) k ∙ ap (map code_of) (sym are)
 deferred_put profile A s (o ∷ os) (true ∷ deferred) (f ∷ fs) (g ∷ gs) k are =
@@ -47,7 +49,8 @@ IsNew s code new true = (profile : Profile) (b : BodyOf) → IsCode profile b �
 IsNew s code new false = new ≡ None
 
 deferred_more : (s : Shifts) (profile : Profile) (os : List Func) (deferred : List Bool) (i : ℕ) (code : List ℕ) (b : Bool) (new : Option (List ℕ))
-    → AllByRecursion (λ (o : Func). IsCode profile o.body) os → i < length os → i < length deferred → code ≡ get_or (map code_of os) i code → IsNew s code new (get_or deferred i b)
+    → AllByRecursion (λ (o : Func). IsCode profile o.body) os → i < length os → i < length deferred → code ≡ get_or (map code_of os) i code
+    → IsNew s code new (get_or deferred i b)
     → deferred_codes s (take (suc i) os) deferred ≡ deferred_codes s (take i os) deferred ++ new ∷ []
 deferred_more s profile [] deferred i code b new all within inside at is = absurd (omega arith)
 deferred_more s profile (p ∷ os) [] i code b new all within inside at is = absurd (omega arith)
@@ -69,16 +72,20 @@ made_none s codes deferred news none profile os told all = none
 many_told : (codes : List (List ℕ)) (os : List Func) → codes ≡ map code_of os → length codes ≡ length os
 many_told codes os told = ap length told ∙ length-map os code_of
 
-pub made_more : (s : Shifts) (codes : List (List ℕ)) (deferred : List Bool) (i j : ℕ) (code : List ℕ) (b : Bool) (new : Option (List ℕ)) (news after : List (Option (List ℕ)))
-    → length deferred ≡ length codes → i < length codes → j ≡ suc i → code ≡ get_or codes i code → b ≡ get_or deferred i b → after ≡ news ++ new ∷ [] → IsNew s code new b
+pub made_more : (s : Shifts) (codes : List (List ℕ)) (deferred : List Bool) (i j : ℕ) (code : List ℕ) (b : Bool) (new : Option (List ℕ))
+    (news after : List (Option (List ℕ)))
+    → length deferred ≡ length codes → i < length codes → j ≡ suc i → code ≡ get_or codes i code → b ≡ get_or deferred i b → after ≡ news ++ new ∷ []
+    → IsNew s code new b
     → AreMade s codes deferred news i → AreMade s codes deferred after j
 made_more s codes deferred i j code b new news after many within next at flag pushed is sofar profile os told all =
     let count = many_told codes os told in
     pushed ∙ ap (λ ns. ns ++ new ∷ []) (sofar profile os told all)
-    ∙ sym (deferred_more s profile os deferred i code b new all (omega arith) (omega arith) (at ∙ ap (λ cs. get_or cs i code) told) (subst (IsNew s code new) flag is))
+    ∙ sym (deferred_more s profile os deferred i code b new all (omega arith) (omega arith) (at ∙ ap (λ cs. get_or cs i code) told)
+    (subst (IsNew s code new) flag is))
     ∙ ap (λ k. deferred_codes s (take k os) deferred) (sym next)
 
-pub made_all : (s : Shifts) (codes : List (List ℕ)) (deferred : List Bool) (news : List (Option (List ℕ))) (i : ℕ) → length codes ≤ i → AreMade s codes deferred news i
+pub made_all : (s : Shifts) (codes : List (List ℕ)) (deferred : List Bool) (news : List (Option (List ℕ))) (i : ℕ) → length codes ≤ i
+    → AreMade s codes deferred news i
     → (profile : Profile) (os : List Func) → codes ≡ map code_of os → AllByRecursion (λ (o : Func). IsCode profile o.body) os
     → news ≡ deferred_codes s os deferred
 made_all s codes deferred news i past made profile os told all =
@@ -95,7 +102,8 @@ filled_none {A} front news i j is same =
     let none : j - i ≡ 0 = omega arith in
     is ∙ sym (append-nil front) ∙ ap (λ (k : ℕ). front ++ replicate {A = Option A} k None) (sym none)
 
-pub filled_more : {A : Type 0} (front news after : List (Option A)) (i j k : ℕ) → i ≤ j → k ≡ j + 1 → after ≡ news ++ None ∷ [] → news ≡ front ++ replicate (j - i) None
+pub filled_more : {A : Type 0} (front news after : List (Option A)) (i j k : ℕ) → i ≤ j → k ≡ j + 1 → after ≡ news ++ None ∷ []
+    → news ≡ front ++ replicate (j - i) None
     → after ≡ front ++ replicate (k - i) None
 filled_more {A} front news after i j k order next pushed is =
     let one : suc (j - i) ≡ k - i = omega arith in

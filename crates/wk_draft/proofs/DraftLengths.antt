@@ -30,7 +30,8 @@ use Rattle.wk_draft.proofs.ShiftedLengths.{body_tripled}
 abbrev room_of : Func → ℕ
 room_of o = 3 * body_size o.body + 5
 
-code_deferred : (profile : Profile) (A : Ref → Found) (s : Shifts) (o f g : Func) → IsDeferred profile A s o f g → room_of o ≤ limit → length (written_code f.body) ≤ room_of o
+code_deferred : (profile : Profile) (A : Ref → Found) (s : Shifts) (o f g : Func) → IsDeferred profile A s o f g → room_of o ≤ limit
+    → length (written_code f.body) ≤ room_of o
 code_deferred profile A s o f g is_deferred few =
     let is : f.body ≡ shifted_body s o.body = ap (λ (h : Func). h.body) is_deferred.is in
     let code : IsCode profile (shifted_body s o.body) = subst (IsCode profile) is is_deferred.code in
@@ -45,14 +46,22 @@ record AreLonger (n : ℕ) (fs gs : List Func) : Type 0 where
   bytes : length (flat_map written_code (bodies_of fs)) ≤ length (flat_map written_code (bodies_of gs)) + n
 
 -- one more that is longer by up to n
-longer_more : (n most : ℕ) (f g : Func) (fs gs : List Func) → f.ty ≡ g.ty → length (written_code f.body) ≤ length (written_code g.body) + most → AreLonger n fs gs → AreLonger (most + n) (f ∷ fs) (g ∷ gs)
+longer_more : (n most : ℕ) (f g : Func) (fs gs : List Func) → f.ty ≡ g.ty → length (written_code f.body) ≤ length (written_code g.body) + most
+    → AreLonger n fs gs → AreLonger (most + n) (f ∷ fs) (g ∷ gs)
 longer_more n most f g fs gs ty le more = record {
   types = let rest = more.types in cc;
   many = omega (arith, more.many);
-  bytes = omega (arith, le, more.bytes, length-append (written_code f.body) (flat_map written_code (bodies_of fs)), length-append (written_code g.body) (flat_map written_code (bodies_of gs)));
+  bytes = omega (
+    arith,
+    le,
+    more.bytes,
+    length-append (written_code f.body) (flat_map written_code (bodies_of fs)),
+    length-append (written_code g.body) (flat_map written_code (bodies_of gs)),
+  );
 }
 
-are_longer : (profile : Profile) (A : Ref → Found) (s : Shifts) (os : List Func) (deferred : List Bool) (fs gs : List Func) → AreDrafted profile A s os deferred fs gs → sum_by room_of os ≤ limit → AreLonger (sum_by room_of os) fs gs
+are_longer : (profile : Profile) (A : Ref → Found) (s : Shifts) (os : List Func) (deferred : List Bool) (fs gs : List Func)
+    → AreDrafted profile A s os deferred fs gs → sum_by room_of os ≤ limit → AreLonger (sum_by room_of os) fs gs
 are_longer profile A s [] [] fs gs same few = record {
   types = ap types_of same;
   many = ap length same;
@@ -70,13 +79,15 @@ are_longer profile A s (o ∷ os) (false ∷ deferred) (f ∷ fs) (g ∷ gs) dra
     let same : f ≡ g = drafted.0 in
     let le = ap (λ (h : Func). length (written_code h.body)) same in
     let rest = are_longer profile A s os deferred fs gs drafted.1 (omega arith) in
-    subst (λ (n : ℕ). AreLonger n (f ∷ fs) (g ∷ gs)) (sym all) (longer_more (sum_by room_of os) (room_of o) f g fs gs (ap (λ (h : Func). h.ty) same) (omega (arith, le)) rest)
+    subst (λ (n : ℕ). AreLonger n (f ∷ fs) (g ∷ gs)) (sym all)
+    (longer_more (sum_by room_of os) (room_of o) f g fs gs (ap (λ (h : Func). h.ty) same) (omega (arith, le)) rest)
 are_longer profile A s _ _ _ _ none few = absurd none
 
 -- ---- modules
 
 each_section : (n : ℕ) (m : Parts) (gs : List Func) → AreLonger n m.funcs gs
-    → (k : SectionId) → length (written_section k (contents (lists_of m) k)) ≤ length (written_section k (contents (lists_of (record m { funcs = gs })) k)) + only CodeSection (n + length (short n)) k
+    → (k : SectionId) → length (written_section k (contents (lists_of m) k))
+    ≤ length (written_section k (contents (lists_of (record m { funcs = gs })) k)) + only CodeSection (n + length (short n)) k
 each_section n m gs longer FunctionSection = omega (arith, ap (λ (ts : List ℕ). length (list_section 3 short ts)) longer.types)
 each_section n m gs longer CodeSection =
     let new = length-map m.funcs (λ (f : Func). f.body) in
@@ -84,7 +95,8 @@ each_section n m gs longer CodeSection =
     omega (arith, changed_section 10 written_code (bodies_of m.funcs) (bodies_of gs) n (omega (arith, longer.many, new, old)) longer.bytes)
 each_section n m gs longer _ = omega arith
 
-pub draft_longer : (s : Shifts) (os : List Func) (deferred : List Bool) (m d : Parts) → IsSketch s os deferred m d → deferred_room os ≤ limit → length (encoded m) ≤ length (encoded d) + deferred_room os
+pub draft_longer : (s : Shifts) (os : List Func) (deferred : List Bool) (m d : Parts) → IsSketch s os deferred m d → deferred_room os ≤ limit
+    → length (encoded m) ≤ length (encoded d) + deferred_room os
 draft_longer s os deferred m d sketch few =
     let n = sum_by room_of os in
     let longer = are_longer m.profile (answers_of m) s os deferred m.funcs d.funcs sketch.funcs (omega arith) in
@@ -92,5 +104,6 @@ draft_longer s os deferred m d sketch few =
     omega (arith, le, ap (λ (p : Parts). length (encoded p)) sketch.rest, short_five n (omega arith))
 
 -- Where the draft has that room, the module fits.
-pub draft_fits : (s : Shifts) (os : List Func) (deferred : List Bool) (m d : Parts) → IsSketch s os deferred m d → IsInOrderFrom 0 m.customs → length (encoded d) + deferred_room os ≤ limit → Fits m
+pub draft_fits : (s : Shifts) (os : List Func) (deferred : List Bool) (m d : Parts) → IsSketch s os deferred m d → IsInOrderFrom 0 m.customs
+    → length (encoded d) + deferred_room os ≤ limit → Fits m
 draft_fits s os deferred m d sketch order room = omega (arith, room, draft_longer s os deferred m d sketch (omega arith))

@@ -30,7 +30,8 @@ all_deferred_more n =
 
 module _ (has : HasValidBodies) (m : Parts) (shaped : IsShaped m) (valid : module_verdict m ≡ Valid) where
   -- the parts of the draft are those of its session
-  pub begun : (parts : Parts) (d : Draft) (count len room : ℕ) → d.session ≡ outlined m → parts ≡ d.session → IsFirst parts d.shifts → count ≡ length parts.funcs → d.deferred.items ≡ replicate count true
+  pub begun : (parts : Parts) (d : Draft) (count len room : ℕ) → d.session ≡ outlined m → parts ≡ d.session → IsFirst parts d.shifts
+      → count ≡ length parts.funcs → d.deferred.items ≡ replicate count true
       → len ≡ length (encoded d.session) → room ≡ deferred_room m.funcs → len + room ≤ limit → IsHeld m.funcs m d
   begun parts d count len room is same first counted deferring measured roomy within =
       let all = same ∙ is in

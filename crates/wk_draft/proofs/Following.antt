@@ -1,5 +1,6 @@
 -- What an edit makes of a module follows from what it makes of its draft.
-use Rattle.std.proofs.Common.{◌≡◌, ℕ, ◌+◌, ◌≤◌, Bool, true, false, cond, Option, Some, None, List, [], ◌∷◌, length, Result, Ok, Err, refl, sym, ap, subst, arith}
+use Rattle.std.proofs.Common.{◌≡◌, ℕ, ◌+◌, ◌≤◌, Bool, true, false, cond, Option, Some, None, List, [], ◌∷◌, length, Result, Ok, Err, refl, sym, ap, subst}
+use Rattle.std.proofs.Common.{arith}
 use Rattle.std.specs.Prelude.{filter, not}
 use Rattle.std.specs.List.{list_any}
 use Rattle.std.proofs.lemmas.Bool.{cond_both}
@@ -29,8 +30,10 @@ use Rattle.wk_check.specs.Finds.{ValidFinds}
 use Rattle.wk_session.specs.declared.edit.Edit.{Edit}
 use Rattle.wk_session.specs.declared.edit.Edit.TheVariants as edits
 use Rattle.wk_session.specs.declared.edit.EditFault.{EditFault}
-use Rattle.wk_session.specs.declared.edit.EditFault.TheVariants.{NoSuchFunction, NoSuchExport, NoSuchCustom, IndexOverflow, TooLarge, BadBytes, WouldBreak, Memory}
-use Rattle.wk_session.specs.Edits.{fitting, from_bytes, import_place, entry_of, body_put, with_exports, is_named, without_customs, with_bytes, custom_put, with_custom, without_all_customs, lasting, made}
+use Rattle.wk_session.specs.declared.edit.EditFault.TheVariants.{NoSuchFunction, NoSuchExport, NoSuchCustom, IndexOverflow, TooLarge, BadBytes, WouldBreak}
+use Rattle.wk_session.specs.declared.edit.EditFault.TheVariants.{Memory}
+use Rattle.wk_session.specs.Edits.{fitting, from_bytes, import_place, entry_of, body_put, with_exports, is_named, without_customs, with_bytes, custom_put}
+use Rattle.wk_session.specs.Edits.{with_custom, without_all_customs, lasting, made}
 use Rattle.wk_session.specs.Imported.{after_import}
 use Rattle.wk_draft.specs.Drafts.{IsDraft, deferred_room}
 use Rattle.wk_body.specs.declared.shifts.Shifts.{Shifts}
@@ -58,7 +61,8 @@ module _ (keep : Bool) (s : Shifts) (os : List Func) (deferred : List Bool) (m d
   abbrev Room : Edit → Type 0
   Room e = (is_unmeasured e ≡ false) × ((length (encoded d) + deferred_room os) + edit_room e ≤ limit)
 
-  follows_led : (e : Edit) (r : Result Parts EditFault) → IsLed (Room e) (shifts_after e s) os (deferred_after e d deferred) r (made keep e m) → Follows keep e s os deferred m d r
+  follows_led : (e : Edit) (r : Result Parts EditFault) → IsLed (Room e) (shifts_after e s) os (deferred_after e d deferred) r (made keep e m)
+      → Follows keep e s os deferred m d r
   follows_led e (Ok n) led = led
   follows_led e (Err NoSuchFunction) led = λ sure. led
   follows_led e (Err NoSuchExport) led = λ sure. led
@@ -97,14 +101,16 @@ module _ (keeps : Keeps) (keeps_moved : KeepsMoved) (finds : ValidFinds)
   func_led t code bytes (Err f) is = refl
   func_led t code bytes (Ok b) is =
       let le = written_within least m.profile code bytes b is in
-      standing_led (Room keep s os deferred m d (edits.Func t code)) s os deferred (with_func t b m) (with_func t b d) (func_sketch keeps finds s os deferred m d h t b) order
+      standing_led (Room keep s os deferred m d (edits.Func t code)) s os deferred (with_func t b m) (with_func t b d)
+      (func_sketch keeps finds s os deferred m d h t b) order
       (λ r. let room = r.1 in omega (arith, room, func_grown t b code d le (omega arith))) keep
 
   func_follows : (t : ℕ) (code : List ℕ) → IsBytes code → Follows keep (edits.Func t code) s os deferred m d (made keep (edits.Func t code) d)
   func_follows t code bytes =
       let e = edits.Func t code in
       follows_led keep s os deferred m d e (made keep e d)
-      (subst (λ (profile : Profile). IsLed (Room keep s os deferred m d e) s os deferred ((from_bytes (whole_at (all_body_at profile) code) >>= λ b. fitting (settle (with_func t b d))) >>= lasting keep) (made keep e m))
+      (subst (λ (profile : Profile). IsLed (Room keep s os deferred m d e) s os deferred
+      ((from_bytes (whole_at (all_body_at profile) code) >>= λ b. fitting (settle (with_func t b d))) >>= lasting keep) (made keep e m))
       same_profile (func_led t code bytes (whole_at (all_body_at m.profile) code) refl))
 
   global_led : (t : GlobalType) (init : List ℕ) → IsBytes init → (r : Result Instrs ReadFault) → whole_at (all_expr_at m.profile) init ≡ r
@@ -114,14 +120,16 @@ module _ (keeps : Keeps) (keeps_moved : KeepsMoved) (finds : ValidFinds)
   global_led t init bytes (Err f) is = refl
   global_led t init bytes (Ok b) is =
       let le = written_expr_within least m.profile init bytes b is in
-      standing_led (Room keep s os deferred m d (edits.Global t init)) s os deferred (with_global t b m) (with_global t b d) (global_sketch keeps finds s os deferred m d h t b) order
+      standing_led (Room keep s os deferred m d (edits.Global t init)) s os deferred (with_global t b m) (with_global t b d)
+      (global_sketch keeps finds s os deferred m d h t b) order
       (λ r. let room = r.1 in omega (arith, room, global_grown t b init d le)) keep
 
   global_follows : (t : GlobalType) (init : List ℕ) → IsBytes init → Follows keep (edits.Global t init) s os deferred m d (made keep (edits.Global t init) d)
   global_follows t init bytes =
       let e = edits.Global t init in
       follows_led keep s os deferred m d e (made keep e d)
-      (subst (λ (profile : Profile). IsLed (Room keep s os deferred m d e) s os deferred ((from_bytes (whole_at (all_expr_at profile) init) >>= λ b. fitting (settle (with_global t b d))) >>= lasting keep) (made keep e m))
+      (subst (λ (profile : Profile). IsLed (Room keep s os deferred m d e) s os deferred
+      ((from_bytes (whole_at (all_expr_at profile) init) >>= λ b. fitting (settle (with_global t b d))) >>= lasting keep) (made keep e m))
       same_profile (global_led t init bytes (whole_at (all_expr_at m.profile) init) refl))
 
   export_follows : (x : Export) → Follows keep (edits.Export x) s os deferred m d (made keep (edits.Export x) d)
@@ -140,14 +148,18 @@ module _ (keeps : Keeps) (keeps_moved : KeepsMoved) (finds : ValidFinds)
   given_led x i code bytes (Err f) is = refl
   given_led x i code bytes (Ok b) is =
       let le = written_within least m.profile code bytes b is in
-      standing_led (Room keep s os deferred m d (edits.Body x code)) s os (deferred_without (Some i) deferred) (with_body i b m) (with_body i b d) (body_sketch s os deferred i b m d h) order
+      standing_led (Room keep s os deferred m d (edits.Body x code)) s os (deferred_without (Some i) deferred) (with_body i b m) (with_body i b d)
+      (body_sketch s os deferred i b m d h) order
       (λ r. let room = r.1 in omega (arith, room, body_grown x i b code d le)) keep
 
   body_led : (x : ℕ) (code : List ℕ) → IsBytes code → (entry : Option ℕ)
-      → IsLed (Room keep s os deferred m d (edits.Body x code)) s os (deferred_without entry deferred) (body_put entry code d >>= lasting keep) (body_put entry code m >>= lasting keep)
+      → IsLed (Room keep s os deferred m d (edits.Body x code)) s os (deferred_without entry deferred) (body_put entry code d >>= lasting keep)
+      (body_put entry code m >>= lasting keep)
   body_led x code bytes None = refl
   body_led x code bytes (Some i) =
-      subst (λ (profile : Profile). IsLed (Room keep s os deferred m d (edits.Body x code)) s os (deferred_without (Some i) deferred) ((from_bytes (whole_at (all_body_at profile) code) >>= λ b. fitting (settle (with_body i b d))) >>= lasting keep) (body_put (Some i) code m >>= lasting keep))
+      subst (λ (profile : Profile). IsLed (Room keep s os deferred m d (edits.Body x code)) s os (deferred_without (Some i) deferred)
+      ((from_bytes (whole_at (all_body_at profile) code) >>= λ b. fitting (settle (with_body i b d))) >>= lasting keep)
+      (body_put (Some i) code m >>= lasting keep))
       same_profile (given_led x i code bytes (whole_at (all_body_at m.profile) code) refl)
 
   body_follows : (x : ℕ) (code : List ℕ) → IsBytes code → Follows keep (edits.Body x code) s os deferred m d (made keep (edits.Body x code) d)
@@ -160,9 +172,11 @@ module _ (keeps : Keeps) (keeps_moved : KeepsMoved) (finds : ValidFinds)
 
   -- ---- exports and customs that go, which are not measured
 
-  exports_led : (name : List ℕ) (es : Option (List Export)) → IsLed (Room keep s os deferred m d (edits.Unexport name)) s os deferred (with_exports es d >>= lasting keep) (with_exports es m >>= lasting keep)
+  exports_led : (name : List ℕ) (es : Option (List Export)) → IsLed (Room keep s os deferred m d (edits.Unexport name)) s os deferred
+      (with_exports es d >>= lasting keep) (with_exports es m >>= lasting keep)
   exports_led name None = refl
-  exports_led name (Some es) = settled_led (Room keep s os deferred m d (edits.Unexport name)) s os deferred (record m { exports = es }) (record d { exports = es }) (exports_sketch s os deferred m d h es) keep
+  exports_led name (Some es) = settled_led (Room keep s os deferred m d (edits.Unexport name)) s os deferred (record m { exports = es })
+      (record d { exports = es }) (exports_sketch s os deferred m d h es) keep
 
   unexport_follows : (name : List ℕ) → Follows keep (edits.Unexport name) s os deferred m d (made keep (edits.Unexport name) d)
   unexport_follows name =
@@ -176,13 +190,15 @@ module _ (keeps : Keeps) (keeps_moved : KeepsMoved) (finds : ValidFinds)
       (cond b (Ok (settle (without_customs name m))) (Err NoSuchCustom) >>= lasting keep)
   strip_led name false = refl
   strip_led name true =
-      settled_led (Room keep s os deferred m d (edits.StripCustom name)) s os deferred (without_customs name m) (without_customs name d) (customs_sketch s os deferred m d h (filter (λ c. not (is_named name c)))) keep
+      settled_led (Room keep s os deferred m d (edits.StripCustom name)) s os deferred (without_customs name m) (without_customs name d)
+      (customs_sketch s os deferred m d h (filter (λ c. not (is_named name c)))) keep
 
   strip_follows : (name : List ℕ) → Follows keep (edits.StripCustom name) s os deferred m d (made keep (edits.StripCustom name) d)
   strip_follows name =
       let e = edits.StripCustom name in
       follows_led keep s os deferred m d e (made keep e d)
-      (subst (λ (b : Bool). IsLed (Room keep s os deferred m d e) s os deferred (made keep e d) (cond b (Ok (settle (without_customs name m))) (Err NoSuchCustom) >>= lasting keep))
+      (subst (λ (b : Bool). IsLed (Room keep s os deferred m d e) s os deferred (made keep e d)
+      (cond b (Ok (settle (without_customs name m))) (Err NoSuchCustom) >>= lasting keep))
       (ap (λ (p : Parts). list_any (is_named name) p.customs) h.sketch.rest) (strip_led name (list_any (is_named name) d.customs)))
 
   strip_all_follows : Follows keep edits.StripAll s os deferred m d (made keep edits.StripAll d)
@@ -198,10 +214,12 @@ module _ (keeps : Keeps) (keeps_moved : KeepsMoved) (finds : ValidFinds)
   custom_follows name bytes =
       let e = edits.SetCustom name bytes in
       follows_led keep s os deferred m d e (made keep e d)
-      (standing_led (Room keep s os deferred m d e) s os deferred (with_custom name bytes m) (with_custom name bytes d) (customs_sketch s os deferred m d h (custom_put name bytes))
+      (standing_led (Room keep s os deferred m d e) s os deferred (with_custom name bytes m) (with_custom name bytes d)
+      (customs_sketch s os deferred m d h (custom_put name bytes))
       (put_in_order name bytes 0 d.customs (omega arith) order) (λ r. let never = r.0 in absurd cc) keep)
 
-  import_led : (i : Import) (b : Bool) → are_parts_stuck (desc_kind i.desc) (import_place i m) m ≡ b → IsLed (Room keep s os deferred m d (edits.Import i)) (shifts_after (edits.Import i) s) os deferred
+  import_led : (i : Import) (b : Bool) → are_parts_stuck (desc_kind i.desc) (import_place i m) m ≡ b
+      → IsLed (Room keep s os deferred m d (edits.Import i)) (shifts_after (edits.Import i) s) os deferred
       (cond b (Err IndexOverflow) (fitting (settle (after_import i d))) >>= lasting keep)
       (cond b (Err IndexOverflow) (fitting (settle (after_import i m))) >>= lasting keep)
   import_led i true is = refl
@@ -214,7 +232,8 @@ module _ (keeps : Keeps) (keeps_moved : KeepsMoved) (finds : ValidFinds)
   import_follows i =
       let e = edits.Import i in
       follows_led keep s os deferred m d e (made keep e d)
-      (subst (λ (b : Bool). IsLed (Room keep s os deferred m d e) (shifts_after e s) os deferred (cond b (Err IndexOverflow) (fitting (settle (after_import i d))) >>= lasting keep) (made keep e m))
+      (subst (λ (b : Bool). IsLed (Room keep s os deferred m d e) (shifts_after e s) os deferred
+      (cond b (Err IndexOverflow) (fitting (settle (after_import i d))) >>= lasting keep) (made keep e m))
       (import_stuck_alike finds s os deferred i m d h fits) (import_led i (are_parts_stuck (desc_kind i.desc) (import_place i m) m) refl))
 
   -- ---- all edits

@@ -25,7 +25,8 @@ use Rattle.wk_module.specs.Types.{written_valtype, written_functype, written_glo
 use Rattle.wk_module.specs.Writing.{written_section, encoded}
 use Rattle.wk_session.specs.declared.edit.Edit.TheVariants as edits
 use Rattle.wk_draft.specs.Steps.{edit_room}
-use Rattle.wk_draft.proofs.SectionGrowth.{bodies_of, short_sum, short_eighth, short_five, list_section, pushed_section, changed_section, only, length-encoded_more}
+use Rattle.wk_draft.proofs.SectionGrowth.{bodies_of, short_sum, short_eighth, short_five, list_section, pushed_section, changed_section, only}
+use Rattle.wk_draft.proofs.SectionGrowth.{length-encoded_more}
 use Rattle.wk_draft.proofs.SketchTypes.{types_of}
 
 -- by how many bytes a section is longer with one more item of that many bytes
@@ -53,7 +54,8 @@ functype_length t =
       short_eighth (length t.results),
     )
 
-each_of_type : (t : FuncType) (d : Parts) (k : SectionId) → length (written_section k (contents (lists_of (with_type t d)) k)) ≤ length (written_section k (contents (lists_of d) k)) + only TypeSection (pushed_by (length (written_functype t))) k
+each_of_type : (t : FuncType) (d : Parts) (k : SectionId) → length (written_section k (contents (lists_of (with_type t d)) k))
+    ≤ length (written_section k (contents (lists_of d) k)) + only TypeSection (pushed_by (length (written_functype t))) k
 each_of_type t d TypeSection = omega (arith, pushed_section 1 written_functype d.types t)
 each_of_type t d _ = omega arith
 
@@ -72,16 +74,26 @@ code_length b most le =
 abbrev by_func : ℕ → BodyOf → SectionId → ℕ
 by_func t b k = only FunctionSection (pushed_by (length (short t))) k + only CodeSection (pushed_by (length (written_code b))) k
 
-each_of_func : (t : ℕ) (b : BodyOf) (d : Parts) (k : SectionId) → length (written_section k (contents (lists_of (with_func t b d)) k)) ≤ length (written_section k (contents (lists_of d) k)) + by_func t b k
+each_of_func : (t : ℕ) (b : BodyOf) (d : Parts) (k : SectionId)
+    → length (written_section k (contents (lists_of (with_func t b d)) k)) ≤ length (written_section k (contents (lists_of d) k)) + by_func t b k
 each_of_func t b d FunctionSection =
     let func : Func = record { ty = t; body = b } in
-    omega (arith, pushed_section 3 short (types_of d.funcs) t, ap (λ (ts : List ℕ). length (list_section 3 short ts)) (map_push (λ (f : Func). f.ty) d.funcs func))
+    omega (
+      arith,
+      pushed_section 3 short (types_of d.funcs) t,
+      ap (λ (ts : List ℕ). length (list_section 3 short ts)) (map_push (λ (f : Func). f.ty) d.funcs func),
+    )
 each_of_func t b d CodeSection =
     let func : Func = record { ty = t; body = b } in
-    omega (arith, pushed_section 10 written_code (bodies_of d.funcs) b, ap (λ (bs : List BodyOf). length (list_section 10 written_code bs)) (map_push (λ (f : Func). f.body) d.funcs func))
+    omega (
+      arith,
+      pushed_section 10 written_code (bodies_of d.funcs) b,
+      ap (λ (bs : List BodyOf). length (list_section 10 written_code bs)) (map_push (λ (f : Func). f.body) d.funcs func),
+    )
 each_of_func t b d _ = omega arith
 
-pub func_grown : (t : ℕ) (b : BodyOf) (code : List ℕ) (d : Parts) → length (written_body b) ≤ length code → length (short t) ≤ limit → length (encoded (with_func t b d)) ≤ length (encoded d) + edit_room (edits.Func t code)
+pub func_grown : (t : ℕ) (b : BodyOf) (code : List ℕ) (d : Parts) → length (written_body b) ≤ length code → length (short t) ≤ limit
+    → length (encoded (with_func t b d)) ≤ length (encoded d) + edit_room (edits.Func t code)
 func_grown t b code d le few =
     omega (
       arith,
@@ -91,19 +103,27 @@ func_grown t b code d le few =
       short_five (1 + length (short t)) (omega arith),
     )
 
-given_bytes : (entry : ℕ) (b : BodyOf) (fs : List Func) → length (flat_map written_code (bodies_of (funcs_given entry b fs))) ≤ length (flat_map written_code (bodies_of fs)) + length (written_code b)
+given_bytes : (entry : ℕ) (b : BodyOf) (fs : List Func) → length (flat_map written_code (bodies_of (funcs_given entry b fs)))
+    ≤ length (flat_map written_code (bodies_of fs)) + length (written_code b)
 given_bytes zero b [] = omega arith
 given_bytes zero b (f ∷ fs) =
     let rest = flat_map written_code (bodies_of fs) in
     omega (arith, length-append (written_code b) rest, length-append (written_code f.body) rest)
 given_bytes (suc entry) b [] = omega arith
 given_bytes (suc entry) b (f ∷ fs) =
-    omega (arith, given_bytes entry b fs, length-append (written_code f.body) (flat_map written_code (bodies_of (funcs_given entry b fs))), length-append (written_code f.body) (flat_map written_code (bodies_of fs)))
+    omega (
+      arith,
+      given_bytes entry b fs,
+      length-append (written_code f.body) (flat_map written_code (bodies_of (funcs_given entry b fs))),
+      length-append (written_code f.body) (flat_map written_code (bodies_of fs)),
+    )
 
 abbrev by_body : BodyOf → ℕ
 by_body b = length (written_code b) + length (short (length (written_code b)))
 
-each_of_body : (entry : ℕ) (b : BodyOf) (d : Parts) (k : SectionId) → length (written_section k (contents (lists_of (with_body entry b d)) k)) ≤ length (written_section k (contents (lists_of d) k)) + only CodeSection (by_body b) k
+each_of_body : (entry : ℕ) (b : BodyOf) (d : Parts) (k : SectionId)
+    → length (written_section k (contents (lists_of (with_body entry b d)) k))
+    ≤ length (written_section k (contents (lists_of d) k)) + only CodeSection (by_body b) k
 each_of_body entry b d FunctionSection = omega (arith, ap (λ (ts : List ℕ). length (list_section 3 short ts)) (types_given entry b d.funcs))
 each_of_body entry b d CodeSection =
     let given = funcs_given entry b d.funcs in
@@ -118,7 +138,8 @@ each_of_body entry b d CodeSection =
     omega (arith, changed_section 10 written_code (bodies_of given) (bodies_of d.funcs) (length (written_code b)) many (given_bytes entry b d.funcs))
 each_of_body entry b d _ = omega arith
 
-pub body_grown : (x entry : ℕ) (b : BodyOf) (code : List ℕ) (d : Parts) → length (written_body b) ≤ length code → length (encoded (with_body entry b d)) ≤ length (encoded d) + edit_room (edits.Body x code)
+pub body_grown : (x entry : ℕ) (b : BodyOf) (code : List ℕ) (d : Parts) → length (written_body b) ≤ length code
+    → length (encoded (with_body entry b d)) ≤ length (encoded d) + edit_room (edits.Body x code)
 body_grown x entry b code d le =
     omega (
       arith,
@@ -132,11 +153,14 @@ body_grown x entry b code d le =
 abbrev global_item : GlobalType → Instrs → GlobalDef
 global_item t e = record { ty = t; init = e }
 
-each_of_global : (t : GlobalType) (e : Instrs) (d : Parts) (k : SectionId) → length (written_section k (contents (lists_of (with_global t e d)) k)) ≤ length (written_section k (contents (lists_of d) k)) + only GlobalSection (pushed_by (length (written_global (global_item t e)))) k
+each_of_global : (t : GlobalType) (e : Instrs) (d : Parts) (k : SectionId)
+    → length (written_section k (contents (lists_of (with_global t e d)) k))
+    ≤ length (written_section k (contents (lists_of d) k)) + only GlobalSection (pushed_by (length (written_global (global_item t e)))) k
 each_of_global t e d GlobalSection = omega (arith, pushed_section 6 written_global d.globals (global_item t e))
 each_of_global t e d _ = omega arith
 
-pub global_grown : (t : GlobalType) (e : Instrs) (init : List ℕ) (d : Parts) → length (written_expr e) ≤ length init → length (encoded (with_global t e d)) ≤ length (encoded d) + edit_room (edits.Global t init)
+pub global_grown : (t : GlobalType) (e : Instrs) (init : List ℕ) (d : Parts) → length (written_expr e) ≤ length init
+    → length (encoded (with_global t e d)) ≤ length (encoded d) + edit_room (edits.Global t init)
 global_grown t e init d le =
     let n = length (written_global (global_item t e)) in
     omega (
@@ -148,7 +172,8 @@ global_grown t e init d le =
 
 -- ---- exports
 
-each_of_export : (e : Export) (d : Parts) (k : SectionId) → length (written_section k (contents (lists_of (with_export e d)) k)) ≤ length (written_section k (contents (lists_of d) k)) + only ExportSection (pushed_by (length (written_export e))) k
+each_of_export : (e : Export) (d : Parts) (k : SectionId) → length (written_section k (contents (lists_of (with_export e d)) k))
+    ≤ length (written_section k (contents (lists_of d) k)) + only ExportSection (pushed_by (length (written_export e))) k
 each_of_export e d ExportSection = omega (arith, pushed_section 7 written_export d.exports e)
 each_of_export e d _ = omega arith
 
@@ -156,7 +181,8 @@ export_length : (e : Export) → length (written_export e) ≡ length (short (le
 export_length e =
     omega (arith, length-append (written_bytes e.name) (kind_byte e.kind ∷ short e.index), length-append (short (length e.name)) e.name)
 
-pub export_grown : (e : Export) (d : Parts) → length (short e.index) ≤ limit → length (encoded (with_export e d)) ≤ length (encoded d) + edit_room (edits.Export e)
+pub export_grown : (e : Export) (d : Parts) → length (short e.index) ≤ limit
+    → length (encoded (with_export e d)) ≤ length (encoded d) + edit_room (edits.Export e)
 export_grown e d few =
     let name = length (short (length e.name)) + length e.name in
     let index = length (short e.index) in

@@ -27,7 +27,8 @@ all_still A B grows [] there = tt
 all_still A B grows (r ∷ rs) there = (grows r there.0, all_still A B grows rs there.1)
 
 -- one more function behind the others, in both
-drafted_push : (profile : Profile) (A : Ref → Found) (s : Shifts) (x : Func) (os : List Func) (deferred : List Bool) (fs gs : List Func) → AreDrafted profile A s os deferred fs gs
+drafted_push : (profile : Profile) (A : Ref → Found) (s : Shifts) (x : Func) (os : List Func) (deferred : List Bool) (fs gs : List Func)
+    → AreDrafted profile A s os deferred fs gs
     → AreDrafted profile A s os deferred (fs ++ x ∷ []) (gs ++ x ∷ [])
 drafted_push profile A s x [] [] fs gs h = ap (λ (hs : List Func). hs ++ x ∷ []) h
 drafted_push profile A s x (o ∷ os) (true ∷ deferred) (f ∷ fs) (g ∷ gs) h = (h.0, drafted_push profile A s x os deferred fs gs h.1)
@@ -111,7 +112,8 @@ module _ (s : Shifts) (os : List Func) (deferred : List Bool) (m d : Parts) (h :
   }
 
   -- other customs, by a change of those that are there
-  pub customs_sketch : (change : List Custom → List Custom) → IsDraft s os deferred (record m { customs = change m.customs }) (record d { customs = change d.customs })
+  pub customs_sketch : (change : List Custom → List Custom) → IsDraft s os deferred (record m { customs = change m.customs })
+      (record d { customs = change d.customs })
   customs_sketch change = record {
     sketch = record { rest = ap (λ (p : Parts). record p { customs = change p.customs }) h.sketch.rest; funcs = h.sketch.funcs };
     funcs_from = h.funcs_from;

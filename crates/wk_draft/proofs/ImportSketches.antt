@@ -43,7 +43,8 @@ use Rattle.wk_draft.proofs.ShiftedBodies.{func_shifts_more, global_shifts_more, 
 module _ (profile : Profile) (kind : Kind) (from : ℕ) (A B : Ref → Found) (s t : Shifts)
     (shifts : (is : Instrs) → moved_code kind from (map_plain (shifted_plain s) is) ≡ map_plain (shifted_plain t) is)
     (valid : (f : Func) → func_verdict A f ≡ Valid → func_verdict B (moved_func kind from f) ≡ Valid) where
-  deferred_moved : (o f g : Func) → IsCode profile (moved_func kind from f).body → IsDeferred profile A s o f g → IsDeferred profile B t o (moved_func kind from f) (moved_func kind from g)
+  deferred_moved : (o f g : Func) → IsCode profile (moved_func kind from f).body → IsDeferred profile A s o f g
+      → IsDeferred profile B t o (moved_func kind from f) (moved_func kind from g)
   deferred_moved o f g code h = record {
     is =
         ap (moved_func kind from) h.is
@@ -56,7 +57,8 @@ module _ (profile : Profile) (kind : Kind) (from : ℕ) (A B : Ref → Found) (s
     stub_valid = valid g h.stub_valid;
   }
 
-  drafted_moved : (os : List Func) (deferred : List Bool) (fs gs : List Func) → AllByRecursion (IsCode profile) (map (λ (f : Func). f.body) (map (moved_func kind from) fs)) → AreDrafted profile A s os deferred fs gs
+  drafted_moved : (os : List Func) (deferred : List Bool) (fs gs : List Func)
+      → AllByRecursion (IsCode profile) (map (λ (f : Func). f.body) (map (moved_func kind from) fs)) → AreDrafted profile A s os deferred fs gs
       → AreDrafted profile B t os deferred (map (moved_func kind from) fs) (map (moved_func kind from) gs)
   drafted_moved [] [] fs gs codes h = ap (map (moved_func kind from)) h
   drafted_moved (o ∷ os) (true ∷ deferred) (f ∷ fs) (g ∷ gs) codes h = (deferred_moved o f g codes.0 h.0, drafted_moved os deferred fs gs codes.1 h.1)
@@ -67,10 +69,13 @@ module _ (profile : Profile) (kind : Kind) (from : ℕ) (A B : Ref → Found) (s
 
 -- by where their references stood before it
 record IsLeaving (i : Import) (s : Shifts) (m : Parts) : Type 0 where
-  shifts : (is : Instrs) → moved_code (desc_kind i.desc) (import_place i m) (map_plain (shifted_plain s) is) ≡ map_plain (shifted_plain (one_more (desc_kind i.desc) s)) is
-  valid : (f : Func) → func_verdict (answers_of m) f ≡ Valid → func_verdict (answers_of (after_import i m)) (moved_func (desc_kind i.desc) (import_place i m) f) ≡ Valid
+  shifts : (is : Instrs) → moved_code (desc_kind i.desc) (import_place i m) (map_plain (shifted_plain s) is)
+      ≡ map_plain (shifted_plain (one_more (desc_kind i.desc) s)) is
+  valid : (f : Func) → func_verdict (answers_of m) f ≡ Valid
+      → func_verdict (answers_of (after_import i m)) (moved_func (desc_kind i.desc) (import_place i m) f) ≡ Valid
   funcs_from : import_count kinds.Func (after_import i m).imports ≡ (one_more (desc_kind i.desc) s).funcs_from + (one_more (desc_kind i.desc) s).funcs_by
-  globals_from : import_count kinds.Global (after_import i m).imports ≡ (one_more (desc_kind i.desc) s).globals_from + (one_more (desc_kind i.desc) s).globals_by
+  globals_from : import_count kinds.Global (after_import i m).imports
+      ≡ (one_more (desc_kind i.desc) s).globals_from + (one_more (desc_kind i.desc) s).globals_by
 
 -- each reference, moved, finds what it found
 all_moved : (kind : Moving) (from : ℕ) (A B : Ref → Found) → ((r : Ref) → B (moved_ref kind from r) ≡ A r) → (rs : List Ref) → AgreeMoved kind from A B rs
@@ -83,12 +88,16 @@ module _ (keeps : Keeps) (keeps_moved : KeepsMoved) (finds : ValidFinds) where
   abbrev with_desc : Import → ImportDesc → Import
   with_desc i d = record i { desc = d }
 
-  leaves : (i : Import) (d : ImportDesc) (s : Shifts) (m : Parts) → import_count kinds.Func m.imports ≡ s.funcs_from + s.funcs_by → import_count kinds.Global m.imports ≡ s.globals_from + s.globals_by → IsLeaving (with_desc i d) s m
+  leaves : (i : Import) (d : ImportDesc) (s : Shifts) (m : Parts) → import_count kinds.Func m.imports ≡ s.funcs_from + s.funcs_by
+      → import_count kinds.Global m.imports ≡ s.globals_from + s.globals_by → IsLeaving (with_desc i d) s m
   leaves i (desc.Func t) s m funcs globals =
       let j = with_desc i (desc.Func t) in
       record {
         shifts = λ is. func_shifts_more s (import_count kinds.Func m.imports) is funcs;
-        valid = λ f valid. keeps_moved moving.Func (import_count kinds.Func m.imports) (answers_of m) (answers_of (after_import j m)) f.ty f.ty f.body refl (all_moved moving.Func (import_count kinds.Func m.imports) (answers_of m) (answers_of (after_import j m)) (func_import_moves m j t refl) (refs_of f.body.instrs)) ∙ valid;
+        valid = λ f valid. keeps_moved moving.Func (import_count kinds.Func m.imports) (answers_of m)
+            (answers_of (after_import j m)) f.ty f.ty f.body refl
+            (all_moved moving.Func (import_count kinds.Func m.imports) (answers_of m) (answers_of (after_import j m)) (func_import_moves m j t refl)
+            (refs_of f.body.instrs)) ∙ valid;
         funcs_from = omega (arith, funcs, import_count_push kinds.Func m.imports j);
         globals_from = omega (arith, globals, import_count_push kinds.Global m.imports j);
       }
@@ -112,7 +121,10 @@ module _ (keeps : Keeps) (keeps_moved : KeepsMoved) (finds : ValidFinds) where
       let j = with_desc i (desc.Global g) in
       record {
         shifts = λ is. global_shifts_more s (import_count kinds.Global m.imports) is globals;
-        valid = λ f valid. keeps_moved moving.Global (import_count kinds.Global m.imports) (answers_of m) (answers_of (after_import j m)) f.ty f.ty f.body refl (all_moved moving.Global (import_count kinds.Global m.imports) (answers_of m) (answers_of (after_import j m)) (global_import_moves m j g refl) (refs_of f.body.instrs)) ∙ valid;
+        valid = λ f valid. keeps_moved moving.Global (import_count kinds.Global m.imports) (answers_of m)
+            (answers_of (after_import j m)) f.ty f.ty f.body refl
+            (all_moved moving.Global (import_count kinds.Global m.imports) (answers_of m) (answers_of (after_import j m))
+            (global_import_moves m j g refl) (refs_of f.body.instrs)) ∙ valid;
         funcs_from = omega (arith, funcs, import_count_push kinds.Func m.imports j);
         globals_from = omega (arith, globals, import_count_push kinds.Global m.imports j);
       }
@@ -121,7 +133,8 @@ module _ (keeps : Keeps) (keeps_moved : KeepsMoved) (finds : ValidFinds) where
 
   -- a module whose references have moved is formed, as `moving_of_module` ensures it
   module _ (formed : (kind : Kind) (from : ℕ) (m : Parts) → are_parts_stuck kind from m ≡ false → IsFormed m → IsFormed (moved_parts kind from m)) where
-    pub import_sketch : (s : Shifts) (os : List Func) (deferred : List Bool) (i : Import) (m d : Parts) → IsDraft s os deferred m d → IsFormed m → are_parts_stuck (desc_kind i.desc) (import_place i m) m ≡ false
+    pub import_sketch : (s : Shifts) (os : List Func) (deferred : List Bool) (i : Import) (m d : Parts) → IsDraft s os deferred m d → IsFormed m
+        → are_parts_stuck (desc_kind i.desc) (import_place i m) m ≡ false
         → IsDraft (shifts_after (edits.Import i) s) os deferred (after_import i m) (with_import i (moved_parts (desc_kind i.desc) (import_place i m) d))
     import_sketch s os deferred i m d h shaped free =
         let kind = desc_kind i.desc in
@@ -131,14 +144,16 @@ module _ (keeps : Keeps) (keeps_moved : KeepsMoved) (finds : ValidFinds) where
         record {
           sketch = record {
             rest = ap (λ (p : Parts). with_import i (moved_parts kind from p)) h.sketch.rest;
-            funcs = drafted_moved m.profile kind from (answers_of m) (answers_of (after_import i m)) s (one_more kind s) left.shifts left.valid os deferred m.funcs d.funcs codes h.sketch.funcs;
+            funcs = drafted_moved m.profile kind from (answers_of m) (answers_of (after_import i m)) s
+                (one_more kind s) left.shifts left.valid os deferred m.funcs d.funcs codes h.sketch.funcs;
           };
           funcs_from = left.funcs_from;
           globals_from = left.globals_from;
         }
 
     -- ... where the draft has it at its own place
-    pub import_after : (s : Shifts) (os : List Func) (deferred : List Bool) (i : Import) (m d : Parts) → IsDraft s os deferred m d → IsFormed m → are_parts_stuck (desc_kind i.desc) (import_place i m) m ≡ false
+    pub import_after : (s : Shifts) (os : List Func) (deferred : List Bool) (i : Import) (m d : Parts) → IsDraft s os deferred m d → IsFormed m
+        → are_parts_stuck (desc_kind i.desc) (import_place i m) m ≡ false
         → IsDraft (shifts_after (edits.Import i) s) os deferred (after_import i m) (after_import i d)
     import_after s os deferred i m d h shaped free =
         subst (λ (from : ℕ). IsDraft (shifts_after (edits.Import i) s) os deferred (after_import i m) (with_import i (moved_parts (desc_kind i.desc) from d)))

@@ -84,7 +84,8 @@ stub_valid A t b valid = stub_valid_by A (A (refs.Ty t)) b valid
 -- ---- all functions
 
 module _ (profile : Profile) (A : Ref → Found) (s : Shifts) (funcs_by : s.funcs_by ≡ 0) (globals_by : s.globals_by ≡ 0) where
-  all_drafted : (fs : List Func) → AllByRecursion (λ (f : Func). func_verdict A f ≡ bodies.Valid) fs → AllByRecursion (IsCode profile) (map (λ (f : Func). f.body) fs)
+  all_drafted : (fs : List Func) → AllByRecursion (λ (f : Func). func_verdict A f ≡ bodies.Valid) fs
+      → AllByRecursion (IsCode profile) (map (λ (f : Func). f.body) fs)
       → AreDrafted profile A s fs (map (λ (f : Func). true) fs) fs (map outlined_func fs)
   all_drafted [] valid codes = refl
   all_drafted (f ∷ fs) valid codes = (
@@ -106,7 +107,8 @@ all_deferred (f ∷ fs) = ap (λ (bs : List Bool). true ∷ bs) (all_deferred fs
 
 -- `has` is the clause `bodies` of `laws_of_valid_modules`
 module _ (m : Parts) (valid : module_verdict m ≡ Valid) (has : HasValidBodies) (formed : IsFormed m) where
-  pub opened_at : (s : Shifts) → s.funcs_from ≡ import_count kinds.Func m.imports → s.funcs_by ≡ 0 → s.globals_from ≡ import_count kinds.Global m.imports → s.globals_by ≡ 0
+  pub opened_at : (s : Shifts) → s.funcs_from ≡ import_count kinds.Func m.imports → s.funcs_by ≡ 0
+      → s.globals_from ≡ import_count kinds.Global m.imports → s.globals_by ≡ 0
       → IsDraft s m.funcs (map (λ (f : Func). true) m.funcs) m (outlined m)
   opened_at s funcs_from funcs_by globals_from globals_by = record {
     sketch = record {

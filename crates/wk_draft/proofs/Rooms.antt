@@ -21,13 +21,15 @@ sums_same (o ∷ os) =
     ∙ ap (λ n. grown (code_of o) + n) (sums_same os)
     ∙ sym (sum_by-cons (λ (f : Func). 3 * body_size f.body + 5) o os)
 
-pub one_grown : (codes : List (List ℕ)) (i size tripled more total next : ℕ) (code : List ℕ) → i < length codes → code ≡ get_or codes i code → size ≡ length code → tripled ≡ size * 3 → more ≡ tripled + 5
+pub one_grown : (codes : List (List ℕ)) (i size tripled more total next : ℕ) (code : List ℕ) → i < length codes → code ≡ get_or codes i code
+    → size ≡ length code → tripled ≡ size * 3 → more ≡ tripled + 5
     → next ≡ total + more → total ≡ sum_by grown (take i codes) → next ≡ sum_by grown (take (i + 1) codes)
 one_grown codes i size tripled more total next code within at measured is_tripled is_more is_next sofar =
     let same : grown code ≡ grown (get_or codes i code) = ap grown at in
     omega (arith, sum_by_more grown codes i code within, same, measured, is_tripled, is_more, is_next, sofar)
 
-pub all_grown : (P : Type 0) (codes : List (List ℕ)) (i total : ℕ) (room : Option ℕ) → length codes ≤ i → total ≡ sum_by grown (take i codes) → SomeIff room P (total + 16)
+pub all_grown : (P : Type 0) (codes : List (List ℕ)) (i total : ℕ) (room : Option ℕ) → length codes ≤ i → total ≡ sum_by grown (take i codes)
+    → SomeIff room P (total + 16)
     → IfSome room (λ n. (os : List Func) → codes ≡ map code_of os → n ≡ deferred_room os)
 all_grown P codes i total None past is sums = tt
 all_grown P codes i total (Some n) past is sums = λ os are.

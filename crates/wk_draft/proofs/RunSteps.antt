@@ -15,11 +15,13 @@ module _ (keep : Bool) where
   after_push [] e m = refl
   after_push (d ∷ es) e m = after_push es e (after_one keep d false m)
 
-  replies_push : (es : List Edit) (e : Edit) (m : Parts) → replies_of keep (es ++ e ∷ []) [] m ≡ replies_of keep es [] m ++ reply_of keep e false (after keep es [] m) ∷ []
+  replies_push : (es : List Edit) (e : Edit) (m : Parts) → replies_of keep (es ++ e ∷ []) [] m
+      ≡ replies_of keep es [] m ++ reply_of keep e false (after keep es [] m) ∷ []
   replies_push [] e m = refl
   replies_push (d ∷ es) e m = ap (λ rs. reply_of keep d false m ∷ rs) (replies_push es e (after_one keep d false m))
 
-pub alike_push : {A : Type 0} (rs : List (Result A EditFault)) (qs : List (Result Work EditFault)) (r : Result A EditFault) (q : Result Work EditFault) → AreAlike rs qs → IsAlike r q → AreAlike (rs ++ r ∷ []) (qs ++ q ∷ [])
+pub alike_push : {A : Type 0} (rs : List (Result A EditFault)) (qs : List (Result Work EditFault)) (r : Result A EditFault) (q : Result Work EditFault)
+    → AreAlike rs qs → IsAlike r q → AreAlike (rs ++ r ∷ []) (qs ++ q ∷ [])
 alike_push [] [] r q all last = (last, tt)
 alike_push [] (p ∷ qs) r q all last = absurd all
 alike_push (s ∷ rs) [] r q all last = absurd all
@@ -29,11 +31,13 @@ module _ (keep : Bool) (es : List Edit) (i : ℕ) (e : Edit) (within : i < lengt
   taken : take (i + 1) es ≡ take i es ++ e ∷ []
   taken = take_more es i e within ∙ ap (λ y. take i es ++ y ∷ []) (sym at)
 
-  pub held_more : (os : List Func) (m : Parts) (reply : Result (Unit {0}) EditFault) (d : Draft) → IsStepped keep e os (after keep (take i es) [] m) reply d → IsHeld os (after keep (take (i + 1) es) [] m) d
+  pub held_more : (os : List Func) (m : Parts) (reply : Result (Unit {0}) EditFault) (d : Draft)
+      → IsStepped keep e os (after keep (take i es) [] m) reply d → IsHeld os (after keep (take (i + 1) es) [] m) d
   held_more os m reply d is =
       subst (λ (n : Parts). IsHeld os n d) (sym (ap (λ (ds : List Edit). after keep ds [] m) taken ∙ after_push keep (take i es) e m)) is.0
 
-  pub alike_more : (os : List Func) (m : Parts) (rs rs' : List (Result (Unit {0}) EditFault)) (reply : Result (Unit {0}) EditFault) (d : Draft) → IsStepped keep e os (after keep (take i es) [] m) reply d
+  pub alike_more : (os : List Func) (m : Parts) (rs rs' : List (Result (Unit {0}) EditFault)) (reply : Result (Unit {0}) EditFault) (d : Draft)
+      → IsStepped keep e os (after keep (take i es) [] m) reply d
       → rs' ≡ rs ++ reply ∷ [] → AreAlike rs (replies_of keep (take i es) [] m) → AreAlike rs' (replies_of keep (take (i + 1) es) [] m)
   alike_more os m rs rs' reply d is pushed sofar =
       subst (λ (ts : List (Result (Unit {0}) EditFault)). AreAlike ts (replies_of keep (take (i + 1) es) [] m)) (sym pushed)

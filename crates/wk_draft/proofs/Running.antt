@@ -29,7 +29,8 @@ use Rattle.wk_draft.proofs.Sketches.{same_verdict, shaped_draft}
 
 -- ---- the module that was read
 
-codes_formed : (profile : Profile) (fs : List Func) → AllByRecursion (IsCode profile) (map (λ (f : Func). f.body) fs) → AllByRecursion (λ (f : Func). IsCode profile f.body) fs
+codes_formed : (profile : Profile) (fs : List Func) → AllByRecursion (IsCode profile) (map (λ (f : Func). f.body) fs)
+    → AllByRecursion (λ (f : Func). IsCode profile f.body) fs
 codes_formed profile [] all = tt
 codes_formed profile (f ∷ fs) all = (all.0, codes_formed profile fs all.1)
 
@@ -64,14 +65,16 @@ codes_by (Err e) outline codes is m at = absurd cc
 -- ---- the module that is written
 
 module _ (os : List Func) (m : Parts) (d : Draft) (held : IsHeld os m d) where
-  pub written : (news : List (Option (List ℕ))) → with_items (map code_of d.session.funcs) news ≡ map code_of m.funcs → encoded_with d.session (with_items (map code_of d.session.funcs) news) ≡ encoded m
+  pub written : (news : List (Option (List ℕ))) → with_items (map code_of d.session.funcs) news ≡ map code_of m.funcs
+      → encoded_with d.session (with_items (map code_of d.session.funcs) news) ≡ encoded m
   written news are =
       let rest = held.draft.sketch.rest in
       let back : m ≡ record d.session { funcs = m.funcs } = sym (ap (λ (p : Parts). record p { funcs = m.funcs }) rest) in
       ap (encoded_with d.session) are
       ∙ recoded d.session m back (sym (same_types m.profile (answers_of m) d.shifts os d.deferred.items m.funcs d.session.funcs held.draft.sketch.funcs))
 
-  pub written_fits : (news : List (Option (List ℕ))) → with_items (map code_of d.session.funcs) news ≡ map code_of m.funcs → length (encoded_with d.session (with_items (map code_of d.session.funcs) news)) ≤ limit
+  pub written_fits : (news : List (Option (List ℕ))) → with_items (map code_of d.session.funcs) news ≡ map code_of m.funcs
+      → length (encoded_with d.session (with_items (map code_of d.session.funcs) news)) ≤ limit
   written_fits news are = subst (λ (b : List ℕ). length b ≤ limit) (sym (written news are)) held.fits
 
   pub verdict_is : (v : Verdict) → v ≡ module_verdict d.session → v ≡ module_verdict m

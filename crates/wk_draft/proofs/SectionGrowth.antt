@@ -1,5 +1,6 @@
 -- By how many bytes a module is longer than another, by how many its sections are.
-use Rattle.std.proofs.Common.{◌≡◌, ℕ, zero, suc, ◌+◌, ◌*◌, ◌/◌, ◌^◌, ◌<◌, ◌≤◌, ◌==◌, if◌then◌else◌, not, inl, inr, Option, Some, None, List, [], ◌∷◌, ◌++◌, length, map, ap, ◌∙◌, arith, length-append}
+use Rattle.std.proofs.Common.{◌≡◌, ℕ, zero, suc, ◌+◌, ◌*◌, ◌/◌, ◌^◌, ◌<◌, ◌≤◌, ◌==◌, if◌then◌else◌, not, inl, inr, Option, Some, None, List, [], ◌∷◌, ◌++◌}
+use Rattle.std.proofs.Common.{length, map, ap, ◌∙◌, arith, length-append}
 use Rattle.std.proofs.lemmas.Bool.{cases_lt}
 use Rattle.std.proofs.lemmas.List.Sums.{sum_by-cons}
 use Rattle.std.specs.List.{flat_map, sum_by}
@@ -61,12 +62,14 @@ framed_longer id a b n le =
     omega (arith, length-framed id a, length-framed id b, short-rises (length a) (length b + n) le, short_sum (length b) n)
 
 -- one more item
-pushed_bytes : {A : Type 0} (written : A → List ℕ) (xs : List A) (x : A) → length (flat_map written (xs ++ x ∷ [])) ≡ length (flat_map written xs) + length (written x)
+pushed_bytes : {A : Type 0} (written : A → List ℕ) (xs : List A) (x : A)
+    → length (flat_map written (xs ++ x ∷ [])) ≡ length (flat_map written xs) + length (written x)
 pushed_bytes written [] x = omega (arith, length-append (written x) [])
 pushed_bytes written (y ∷ xs) x =
     omega (arith, pushed_bytes written xs x, length-append (written y) (flat_map written xs), length-append (written y) (flat_map written (xs ++ x ∷ [])))
 
-pushed_vector : {A : Type 0} (written : A → List ℕ) (xs : List A) (x : A) → length (written_vector written (xs ++ x ∷ [])) ≤ length (written_vector written xs) + (1 + length (written x))
+pushed_vector : {A : Type 0} (written : A → List ℕ) (xs : List A) (x : A)
+    → length (written_vector written (xs ++ x ∷ [])) ≤ length (written_vector written xs) + (1 + length (written x))
 pushed_vector written xs x =
     let more = xs ++ x ∷ [] in
     omega (
@@ -79,7 +82,8 @@ pushed_vector written xs x =
       length-append (short (length more)) (flat_map written more),
     )
 
-pub pushed_section : {A : Type 0} (id : ℕ) (written : A → List ℕ) (xs : List A) (x : A) → length (list_section id written (xs ++ x ∷ [])) ≤ length (list_section id written xs) + length (written x) + length (short (1 + length (written x))) + 4
+pub pushed_section : {A : Type 0} (id : ℕ) (written : A → List ℕ) (xs : List A) (x : A)
+    → length (list_section id written (xs ++ x ∷ [])) ≤ length (list_section id written xs) + length (written x) + length (short (1 + length (written x))) + 4
 pushed_section id written [] x =
     let none = written_vector written [] in
     omega (
@@ -96,7 +100,8 @@ pushed_section id written (y ∷ ys) x =
     omega (arith, framed_longer id (written_vector written (xs ++ x ∷ [])) (written_vector written xs) (1 + length (written x)) (pushed_vector written xs x))
 
 -- as many items that have so many bytes more
-pub changed_section : {A : Type 0} (id : ℕ) (written : A → List ℕ) (xs ys : List A) (n : ℕ) → length xs ≡ length ys → length (flat_map written xs) ≤ length (flat_map written ys) + n
+pub changed_section : {A : Type 0} (id : ℕ) (written : A → List ℕ) (xs ys : List A) (n : ℕ) → length xs ≡ length ys
+    → length (flat_map written xs) ≤ length (flat_map written ys) + n
     → length (list_section id written xs) ≤ length (list_section id written ys) + n + length (short n)
 changed_section id written [] [] n many le = omega arith
 changed_section id written [] (y ∷ ys) n many le = omega arith
@@ -117,7 +122,8 @@ changed_section id written (x ∷ xs) (y ∷ ys) n many le =
 abbrev pub bodies_of : List Func → List BodyOf
 bodies_of fs = map (λ f. f.body) fs
 
-length-flat_map_more : {A : Type 0} (f g : A → List ℕ) (more : A → ℕ) → ((x : A) → length (f x) ≤ length (g x) + more x) → (xs : List A) → length (flat_map f xs) ≤ length (flat_map g xs) + sum_by more xs
+length-flat_map_more : {A : Type 0} (f g : A → List ℕ) (more : A → ℕ) → ((x : A) → length (f x) ≤ length (g x) + more x) → (xs : List A)
+    → length (flat_map f xs) ≤ length (flat_map g xs) + sum_by more xs
 length-flat_map_more f g more le [] = omega arith
 length-flat_map_more f g more le (x ∷ xs) =
     omega (arith, le x, length-flat_map_more f g more le xs, sum_by-cons more x xs, length-append (f x) (flat_map f xs), length-append (g x) (flat_map g xs))
@@ -134,7 +140,8 @@ by_id more (Some k) = more k
 abbrev pub over_sections : (SectionId → ℕ) → ℕ
 over_sections more = sum_by (λ id. by_id more (of_number id)) ids
 
-by_longer : (l n : SectionLists) (more : SectionId → ℕ) → ((k : SectionId) → length (written_section k (contents l k)) ≤ length (written_section k (contents n k)) + more k)
+by_longer : (l n : SectionLists) (more : SectionId → ℕ)
+    → ((k : SectionId) → length (written_section k (contents l k)) ≤ length (written_section k (contents n k)) + more k)
     → (k : Option SectionId) → length (section_by l k) ≤ length (section_by n k) + by_id more k
 by_longer l n more each None = omega arith
 by_longer l n more each (Some k) = each k
@@ -145,5 +152,17 @@ pub length-encoded_more : (m n : Parts) (more : SectionId → ℕ) → m.customs
     → length (encoded m) ≤ length (encoded n) + over_sections more
 unfolding encoded
 length-encoded_more m n more same each =
-    let le = length-flat_map_more (section_and_customs m) (section_and_customs n) (λ (id : ℕ). by_id more (of_number id)) (λ id. omega (arith, by_longer (lists_of m) (lists_of n) more each (of_number id), ap (λ (cs : List Custom). length (customs_at id cs)) same, length-append (section_of m id) (customs_at id m.customs), length-append (section_of n id) (customs_at id n.customs))) ids in
-    omega (arith, le, length-append (magic ++ version) (flat_map (section_and_customs m) ids), length-append (magic ++ version) (flat_map (section_and_customs n) ids))
+    let le = length-flat_map_more (section_and_customs m) (section_and_customs n) (λ (id : ℕ). by_id more (of_number id))
+    (λ id. omega (
+      arith,
+      by_longer (lists_of m) (lists_of n) more each (of_number id),
+      ap (λ (cs : List Custom). length (customs_at id cs)) same,
+      length-append (section_of m id) (customs_at id m.customs),
+      length-append (section_of n id) (customs_at id n.customs),
+    )) ids in
+    omega (
+      arith,
+      le,
+      length-append (magic ++ version) (flat_map (section_and_customs m) ids),
+      length-append (magic ++ version) (flat_map (section_and_customs n) ids),
+    )

@@ -23,11 +23,13 @@ map_twice f g h both (If ty first second rest) = rw (map_twice f g h both first,
 moved_shifted : (from by x : ℕ) → moved (from + by) (shifted from by x) ≡ shifted from (by + 1) x
 moved_shifted from by x = grind (arith, nat_tests)
 
-func_one_more : (s : Shifts) (p : Plain) → moved_plain moving.Func (s.funcs_from + s.funcs_by) (shifted_plain s p) ≡ shifted_plain (record s { funcs_by = s.funcs_by + 1 }) p
+func_one_more : (s : Shifts) (p : Plain) → moved_plain moving.Func (s.funcs_from + s.funcs_by) (shifted_plain s p)
+    ≡ shifted_plain (record s { funcs_by = s.funcs_by + 1 }) p
 func_one_more s (Call x) = ap Call (moved_shifted s.funcs_from s.funcs_by x)
 func_one_more s p = refl
 
-global_one_more : (s : Shifts) (p : Plain) → moved_plain moving.Global (s.globals_from + s.globals_by) (shifted_plain s p) ≡ shifted_plain (record s { globals_by = s.globals_by + 1 }) p
+global_one_more : (s : Shifts) (p : Plain) → moved_plain moving.Global (s.globals_from + s.globals_by) (shifted_plain s p)
+    ≡ shifted_plain (record s { globals_by = s.globals_by + 1 }) p
 global_one_more s (GlobalGet x) = ap GlobalGet (moved_shifted s.globals_from s.globals_by x)
 global_one_more s (GlobalSet x) = ap GlobalSet (moved_shifted s.globals_from s.globals_by x)
 global_one_more s p = refl
@@ -36,13 +38,15 @@ pub func_shifts_more : (s : Shifts) (from : ℕ) (t : Instrs) → from ≡ s.fun
     → shift_instrs moving.Func from (map_plain (shifted_plain s) t) ≡ map_plain (shifted_plain (record s { funcs_by = s.funcs_by + 1 })) t
 func_shifts_more s from t is =
     ap (λ (k : ℕ). shift_instrs moving.Func k (map_plain (shifted_plain s) t)) is
-    ∙ map_twice (moved_plain moving.Func (s.funcs_from + s.funcs_by)) (shifted_plain s) (shifted_plain (record s { funcs_by = s.funcs_by + 1 })) (func_one_more s) t
+    ∙ map_twice (moved_plain moving.Func (s.funcs_from + s.funcs_by)) (shifted_plain s) (shifted_plain (record s { funcs_by = s.funcs_by + 1 }))
+    (func_one_more s) t
 
 pub global_shifts_more : (s : Shifts) (from : ℕ) (t : Instrs) → from ≡ s.globals_from + s.globals_by
     → shift_instrs moving.Global from (map_plain (shifted_plain s) t) ≡ map_plain (shifted_plain (record s { globals_by = s.globals_by + 1 })) t
 global_shifts_more s from t is =
     ap (λ (k : ℕ). shift_instrs moving.Global k (map_plain (shifted_plain s) t)) is
-    ∙ map_twice (moved_plain moving.Global (s.globals_from + s.globals_by)) (shifted_plain s) (shifted_plain (record s { globals_by = s.globals_by + 1 })) (global_one_more s) t
+    ∙ map_twice (moved_plain moving.Global (s.globals_from + s.globals_by)) (shifted_plain s)
+    (shifted_plain (record s { globals_by = s.globals_by + 1 })) (global_one_more s) t
 
 -- nothing of a stub moves
 pub stub_stays : (kind : Kind) (from : ℕ) → moved_code kind from stub.instrs ≡ stub.instrs

@@ -33,11 +33,13 @@ plain_tripled s p few = tripled (length (plain_bytes p))
 block_length : (byte : ℕ) (ty inside rest : List ℕ) → length (byte ∷ (ty ++ (inside ++ 0x0B ∷ rest))) ≡ 2 + length ty + length inside + length rest
 block_length byte ty inside rest = omega (arith, length-append ty (inside ++ 0x0B ∷ rest), length-append inside (0x0B ∷ rest))
 
-if_length : (byte : ℕ) (ty first second rest : List ℕ) → length (byte ∷ (ty ++ (first ++ (second ++ 0x0B ∷ rest)))) ≡ 2 + length ty + length first + length second + length rest
+if_length : (byte : ℕ) (ty first second rest : List ℕ) → length (byte ∷ (ty ++ (first ++ (second ++ 0x0B ∷ rest))))
+    ≡ 2 + length ty + length first + length second + length rest
 if_length byte ty first second rest =
     omega (arith, length-append ty (first ++ (second ++ 0x0B ∷ rest)), length-append first (second ++ 0x0B ∷ rest), length-append second (0x0B ∷ rest))
 
-else_tripled : (f : Plain → Plain) (t : Instrs) (new old : List ℕ) → length new ≤ 3 * length old → length (else_bytes (map_plain f t) new) ≤ 3 * length (else_bytes t old)
+else_tripled : (f : Plain → Plain) (t : Instrs) (new old : List ℕ) → length new ≤ 3 * length old
+    → length (else_bytes (map_plain f t) new) ≤ 3 * length (else_bytes t old)
 else_tripled f Finish new old le = omega arith
 else_tripled f (One p rest) new old le = omega arith
 else_tripled f (Block kind ty inside rest) new old le = omega arith
@@ -47,7 +49,13 @@ enc_tripled : (s : Shifts) (t : Instrs) → IsInRange (map_plain (shifted_plain 
 enc_tripled s Finish ranges = omega arith
 enc_tripled s (One p rest) ranges =
     let f = shifted_plain s in
-    omega (arith, plain_tripled s p ranges.0, enc_tripled s rest ranges.1, length-append (plain_bytes p) (enc rest), length-append (plain_bytes (f p)) (enc (map_plain f rest)))
+    omega (
+      arith,
+      plain_tripled s p ranges.0,
+      enc_tripled s rest ranges.1,
+      length-append (plain_bytes p) (enc rest),
+      length-append (plain_bytes (f p)) (enc (map_plain f rest)),
+    )
 enc_tripled s (Block kind ty inside rest) ranges =
     let f = shifted_plain s in
     omega (

@@ -18,7 +18,8 @@ abbrev pub types_of : List Func → List ℕ
 types_of fs = map (λ (f : Func). f.ty) fs
 
 -- the types of functions that are drafted
-pub same_types : (profile : Profile) (A : Ref → Found) (s : Shifts) (os : List Func) (deferred : List Bool) (fs gs : List Func) → AreDrafted profile A s os deferred fs gs → types_of gs ≡ types_of fs
+pub same_types : (profile : Profile) (A : Ref → Found) (s : Shifts) (os : List Func) (deferred : List Bool) (fs gs : List Func)
+    → AreDrafted profile A s os deferred fs gs → types_of gs ≡ types_of fs
 same_types profile A s [] [] fs gs h = ap types_of (sym h)
 same_types profile A s (o ∷ os) (true ∷ deferred) (f ∷ fs) (g ∷ gs) h =
     rw (ap (λ (x : Func). x.ty) h.0.stands, same_types profile A s os deferred fs gs h.1) refl

@@ -12,7 +12,8 @@ use Rattle.wk_module.specs.declared.types.Func.{Func}
 use Rattle.wk_module.specs.declared.types.Parts.{Parts}
 use Rattle.wk_module.specs.ChangeLaws.{funcs_formed}
 use Rattle.wk_module.specs.Items.{IsCode}
-use Rattle.wk_module.specs.Sections.{TypeSection, ImportSection, FunctionSection, TableSection, MemorySection, GlobalSection, ExportSection, StartSection, ElementSection, CodeSection, DataSection, AreItems}
+use Rattle.wk_module.specs.Sections.{TypeSection, ImportSection, FunctionSection, TableSection, MemorySection, GlobalSection, ExportSection, StartSection}
+use Rattle.wk_module.specs.Sections.{ElementSection, CodeSection, DataSection, AreItems}
 use Rattle.wk_module.specs.Shape.{lists_of, is_written, filled_ids, settled_custom, settle, is_filled, IsFormed, IsShaped}
 use Rattle.wk_check.specs.declared.fault.BodyVerdict.{BodyVerdict}
 use Rattle.wk_check.specs.declared.fault.Verdict.{Verdict}
@@ -28,7 +29,8 @@ use Rattle.wk_draft.proofs.SketchTypes.{types_of, same_types, same_count, same_a
 -- ---- functions
 
 -- the verdicts of functions that are drafted
-pub verdicts_drafted : (profile : Profile) (A : Ref → Found) (s : Shifts) (os : List Func) (deferred : List Bool) (fs gs : List Func) → AreDrafted profile A s os deferred fs gs
+pub verdicts_drafted : (profile : Profile) (A : Ref → Found) (s : Shifts) (os : List Func) (deferred : List Bool) (fs gs : List Func)
+    → AreDrafted profile A s os deferred fs gs
     → map (func_verdict A) gs ≡ map (func_verdict A) fs
 verdicts_drafted profile A s [] [] fs gs h = ap (map (func_verdict A)) (sym h)
 verdicts_drafted profile A s (o ∷ os) (true ∷ deferred) (f ∷ fs) (g ∷ gs) h =
@@ -40,7 +42,8 @@ verdicts_drafted profile A s (o ∷ os) (false ∷ deferred) (f ∷ fs) (g ∷ g
 verdicts_drafted profile A s _ _ _ _ h = absurd h
 
 -- the bodies of a module are codes where those of its draft are
-codes_drafted : (profile : Profile) (A : Ref → Found) (s : Shifts) (os : List Func) (deferred : List Bool) (fs gs : List Func) → AreDrafted profile A s os deferred fs gs
+codes_drafted : (profile : Profile) (A : Ref → Found) (s : Shifts) (os : List Func) (deferred : List Bool) (fs gs : List Func)
+    → AreDrafted profile A s os deferred fs gs
     → AllByRecursion (IsCode profile) (map (λ (f : Func). f.body) gs) → AllByRecursion (IsCode profile) (map (λ (f : Func). f.body) fs)
 codes_drafted profile A s [] [] fs gs h all = subst (λ (xs : List Func). AllByRecursion (IsCode profile) (map (λ (f : Func). f.body) xs)) (sym h) all
 codes_drafted profile A s (o ∷ os) (true ∷ deferred) (f ∷ fs) (g ∷ gs) h all = (h.0.code, codes_drafted profile A s os deferred fs gs h.1 all.1)
@@ -123,8 +126,10 @@ module _ (s : Shifts) (os : List Func) (deferred : List Bool) (m d : Parts) (h :
       let profile = ap (λ (p : Parts). p.profile) h.rest in
       let count = same_count s os deferred m d h in
       let types = subst (AreItems IsU32) types_drafted (formed.valid FunctionSection) in
-      let codes = codes_drafted m.profile (answers_of m) s os deferred m.funcs d.funcs h.funcs (subst (λ (p : Profile). AllByRecursion (IsCode p) (map (λ (f : Func). f.body) d.funcs)) profile (formed.valid CodeSection).1) in
-      let room : length (map (λ (f : Func). f.body) m.funcs) < 2 ^ 32 = omega (arith, few, count, length-map d.funcs (λ (f : Func). f.body), length-map m.funcs (λ (f : Func). f.body)) in
+      let codes = codes_drafted m.profile (answers_of m) s os deferred m.funcs d.funcs h.funcs
+      (subst (λ (p : Profile). AllByRecursion (IsCode p) (map (λ (f : Func). f.body) d.funcs)) profile (formed.valid CodeSection).1) in
+      let room : length (map (λ (f : Func). f.body) m.funcs) < 2 ^ 32 =
+      omega (arith, few, count, length-map d.funcs (λ (f : Func). f.body), length-map m.funcs (λ (f : Func). f.body)) in
       subst IsFormed (ap (λ (p : Parts). record p { funcs = m.funcs }) h.rest)
       (funcs_formed m.funcs d types (subst (λ (p : Profile). AreItems (IsCode p) (map (λ (f : Func). f.body) m.funcs)) (sym profile) (room, codes)) formed)
 

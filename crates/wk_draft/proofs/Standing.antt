@@ -39,7 +39,8 @@ module _ (room : Type 0) (s : Shifts) (os : List Func) (deferred : List Bool) (m
   pub lasting_led : (keep : Bool) → IsLed room s os deferred (lasting keep d) (lasting keep m)
   lasting_led false = λ shaped little. (m, refl, h)
   lasting_led true =
-      subst (λ (v : Verdict). IsLed room s os deferred (unbroken d (module_verdict d)) (unbroken m v)) (sym (same_verdict s os deferred m d h.sketch)) (unbroken_led (module_verdict d))
+      subst (λ (v : Verdict). IsLed room s os deferred (unbroken d (module_verdict d)) (unbroken m v)) (sym (same_verdict s os deferred m d h.sketch))
+      (unbroken_led (module_verdict d))
 
   -- ---- measured and judged
 
@@ -67,7 +68,8 @@ module _ (room : Type 0) (s : Shifts) (os : List Func) (deferred : List Bool) (m
   pub settled_led : (keep : Bool) → IsLed room s os deferred (lasting keep (settle d)) (lasting keep (settle m))
   settled_led = lasting_led room s os deferred (settle m) (settle d) (settled_draft s os deferred m d h)
 
-  pub standing_led : IsInOrderFrom 0 d.customs → (room → length (encoded d) + deferred_room os ≤ limit) → (keep : Bool) → IsLed room s os deferred (standing keep d) (standing keep m)
+  pub standing_led : IsInOrderFrom 0 d.customs → (room → length (encoded d) + deferred_room os ≤ limit) → (keep : Bool)
+      → IsLed room s os deferred (standing keep d) (standing keep m)
   standing_led order fits keep =
       measured_led room s os deferred (settle m) (settle d) (settled_draft s os deferred m d h) (settled_in_order (is_filled d) 0 d.customs order)
       (λ r. let little = fits r in omega (arith, length-encoded_settle d order, little)) keep (nat_le (length (encoded (settle d))) limit)

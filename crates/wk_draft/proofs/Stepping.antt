@@ -11,7 +11,8 @@ use Rattle.wk_module.specs.Writing.{encoded, Fits}
 use Rattle.wk_session.specs.declared.edit.Edit.{Edit}
 use Rattle.wk_session.specs.declared.edit.Edit.TheVariants as edits
 use Rattle.wk_session.specs.declared.edit.EditFault.{EditFault}
-use Rattle.wk_session.specs.declared.edit.EditFault.TheVariants.{NoSuchFunction, NoSuchExport, NoSuchCustom, IndexOverflow, TooLarge, BadBytes, WouldBreak, Memory}
+use Rattle.wk_session.specs.declared.edit.EditFault.TheVariants.{NoSuchFunction, NoSuchExport, NoSuchCustom, IndexOverflow, TooLarge, BadBytes, WouldBreak}
+use Rattle.wk_session.specs.declared.edit.EditFault.TheVariants.{Memory}
 use Rattle.wk_session.specs.declared.edit.Work.{Work}
 use Rattle.wk_session.specs.Edits.{made}
 use Rattle.wk_session.specs.Runs.{after_one, is_memory, left_by, reply_of, reply_to}
@@ -31,7 +32,8 @@ refused_by : (e : Edit) (d : Parts) (r : Result Parts EditFault) (f : EditFault)
 refused_by e d (Ok n) f is = absurd cc
 refused_by e d (Err g) f is = (cc, refl)
 
-unforgotten : (keep : Bool) (e : Edit) (d : Parts) (f : EditFault) → f ≢ Memory → Err f ≡ reply_of keep e (is_memory (Err f)) d → Err f ≡ reply_of keep e false d
+unforgotten : (keep : Bool) (e : Edit) (d : Parts) (f : EditFault) → f ≢ Memory → Err f ≡ reply_of keep e (is_memory (Err f)) d
+    → Err f ≡ reply_of keep e false d
 unforgotten keep e d NoSuchFunction other is = is
 unforgotten keep e d NoSuchExport other is = is
 unforgotten keep e d NoSuchCustom other is = is
@@ -41,7 +43,8 @@ unforgotten keep e d (BadBytes b) other is = is
 unforgotten keep e d (WouldBreak b) other is = is
 unforgotten keep e d Memory other is = absurd (other refl)
 
-unforgotten_left : (keep : Bool) (e : Edit) (d n : Parts) (f : EditFault) → f ≢ Memory → n ≡ after_one keep e (is_memory (Err f)) d → n ≡ after_one keep e false d
+unforgotten_left : (keep : Bool) (e : Edit) (d n : Parts) (f : EditFault) → f ≢ Memory → n ≡ after_one keep e (is_memory (Err f)) d
+    → n ≡ after_one keep e false d
 unforgotten_left keep e d n NoSuchFunction other is = is
 unforgotten_left keep e d n NoSuchExport other is = is
 unforgotten_left keep e d n NoSuchCustom other is = is
@@ -97,11 +100,13 @@ module _ (keep : Bool) (e : Edit) (os : List Func) (m : Parts) (old new : Draft)
       subst (λ (t : Shifts). IsDraft t os new.deferred.items p new.session) (sym shifts)
       (subst (λ (ms : List Bool). IsDraft (shifts_after e old.shifts) os ms p new.session) (sym deferred) led.2) in
       let same_customs : new.session.customs ≡ p.customs = ap (λ (q : Parts). q.customs) drafted.sketch.rest in
-      let fits : Fits p = draft_fits new.shifts os new.deferred.items p new.session drafted.sketch (subst (IsInOrderFrom 0) same_customs shaped.formed.order) room in
+      let fits : Fits p = draft_fits new.shifts os new.deferred.items p new.session drafted.sketch
+      (subst (IsInOrderFrom 0) same_customs shaped.formed.order) room in
       let stands : IsHeld os p new = record { draft = drafted; fits = fits } in
       subst (λ (q : Result Parts EditFault). IsHeld os (left_by m q) new × IsAlike {A = Unit {0}} (Ok tt) (reply_to e m q)) (sym comes) (stands, tt)
 
-  pub refused : (f : EditFault) → f ≢ Memory → Err f ≡ reply_of keep e (is_memory (Err f)) old.session → new.session ≡ after_one keep e (is_memory (Err f)) old.session
+  pub refused : (f : EditFault) → f ≢ Memory → Err f ≡ reply_of keep e (is_memory (Err f)) old.session
+      → new.session ≡ after_one keep e (is_memory (Err f)) old.session
       → IsSure e (length (encoded old.session) + deferred_room os) f → new.shifts ≡ old.shifts → new.deferred.items ≡ old.deferred.items
       → IsStepped keep e os m (Err f) new
   refused f other replied is sure shifts deferred =

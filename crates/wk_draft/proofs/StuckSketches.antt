@@ -78,8 +78,25 @@ spaces_small : (m : Parts) → Fits m → AreSmall (spaces_of (lists_of m))
 spaces_small m fits =
     let imports = items_within m ImportSection in
     record {
-      funcs = omega (arith, fits, imports, items_within m FunctionSection, length-append (imported func_in m.imports) (map (λ (f : Func). f.ty) m.funcs), imported_funcs m.imports, import_count_le kinds.Func m.imports);
-      globals = omega (arith, fits, imports, items_within m GlobalSection, length-append (imported global_in m.imports) (map (λ (g : GlobalDef). g.ty) m.globals), length-map m.globals (λ (g : GlobalDef). g.ty), imported_globals m.imports, import_count_le kinds.Global m.imports);
+      funcs = omega (
+        arith,
+        fits,
+        imports,
+        items_within m FunctionSection,
+        length-append (imported func_in m.imports) (map (λ (f : Func). f.ty) m.funcs),
+        imported_funcs m.imports,
+        import_count_le kinds.Func m.imports,
+      );
+      globals = omega (
+        arith,
+        fits,
+        imports,
+        items_within m GlobalSection,
+        length-append (imported global_in m.imports) (map (λ (g : GlobalDef). g.ty) m.globals),
+        length-map m.globals (λ (g : GlobalDef). g.ty),
+        imported_globals m.imports,
+        import_count_le kinds.Global m.imports,
+      );
     }
 
 -- ---- a module and its draft are stuck alike
@@ -101,14 +118,16 @@ module _ (finds : ValidFinds) where
         code_free spaces small kind from f (finds (answer_in spaces) f.ty f.body h.valid).1
         ∙ sym (ap (is_func_stuck kind from) h.stands ∙ stub_free kind from)
 
-    funcs_stuck : (os : List Func) (deferred : List Bool) (fs gs : List Func) → AreDrafted profile (answer_in spaces) s os deferred fs gs → list_any (is_func_stuck kind from) fs ≡ list_any (is_func_stuck kind from) gs
+    funcs_stuck : (os : List Func) (deferred : List Bool) (fs gs : List Func) → AreDrafted profile (answer_in spaces) s os deferred fs gs
+        → list_any (is_func_stuck kind from) fs ≡ list_any (is_func_stuck kind from) gs
     funcs_stuck [] [] fs gs h = ap (list_any (is_func_stuck kind from)) h
     funcs_stuck (o ∷ os) (true ∷ deferred) (f ∷ fs) (g ∷ gs) h = rw (deferred_free o f g h.0, funcs_stuck os deferred fs gs h.1) refl
     funcs_stuck (o ∷ os) (false ∷ deferred) (f ∷ fs) (g ∷ gs) h = rw (ap (is_func_stuck kind from) h.0, funcs_stuck os deferred fs gs h.1) refl
     funcs_stuck _ _ _ _ h = absurd h
 
   -- as an import of the kind comes in front of the index `from`
-  pub import_stuck : (s : Shifts) (os : List Func) (deferred : List Bool) (m d : Parts) (kind : Kind) (from : ℕ) → IsDraft s os deferred m d → Fits m → are_parts_stuck kind from m ≡ are_parts_stuck kind from d
+  pub import_stuck : (s : Shifts) (os : List Func) (deferred : List Bool) (m d : Parts) (kind : Kind) (from : ℕ) → IsDraft s os deferred m d → Fits m
+      → are_parts_stuck kind from m ≡ are_parts_stuck kind from d
   import_stuck s os deferred m d kind from h fits =
       let funcs = funcs_stuck m.profile (spaces_of (lists_of m)) (spaces_small m fits) s kind from os deferred m.funcs d.funcs h.sketch.funcs in
       let lists = ap (are_lists_stuck kind from) h.sketch.rest in

@@ -1,5 +1,6 @@
 -- What an edit makes of a module, by what it makes of its draft.
-use Rattle.std.specs.Prelude.{◌≡◌, ◌≤◌, nat_le, nat_lt, ℕ, ◌+◌, ◌-◌, ◌*◌, Bool, true, false, ◌&&◌, if◌then◌else◌, Option, Some, None, List, length, set, Result, Ok, Err}
+use Rattle.std.specs.Prelude.{◌≡◌, ◌≤◌, nat_le, nat_lt, ℕ, ◌+◌, ◌-◌, ◌*◌, Bool, true, false, ◌&&◌, if◌then◌else◌, Option, Some, None, List, length, set, Result}
+use Rattle.std.specs.Prelude.{Ok, Err}
 use Rattle.wk_bytes.specs.Frames.{limit}
 use Rattle.wk_bytes.specs.LebLaws.{IsBytes}
 use Rattle.wk_bytes.specs.Short.{short}

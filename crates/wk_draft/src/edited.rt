@@ -25,10 +25,13 @@ impl Model for Edited {
 
     ghost Value = { List ℕ };
 
-    ghost view = { λ e. encoded_with e.session (with_items (map code_of e.session.funcs) e.codes.items) };
+    ghost view = { λ e. encoded_with e.session
+        (with_items (map code_of e.session.funcs) e.codes.items) };
 
     ghost invariant = { λ e. (length e.codes.items ≡ length e.session.funcs)
-        × (length (encoded_with e.session (with_items (map code_of e.session.funcs) e.codes.items)) ≤ limit) };
+        × (length (encoded_with e.session
+        (with_items (map code_of e.session.funcs) e.codes.items))
+        ≤ limit) };
 }
 
 impl Edited {

@@ -33,7 +33,9 @@ fn renumber_code(
     code: Items<u8>,
     shifts: Shifts,
 ) -> Result<Option<Items<u8>>, OutOfMemory>
-    ensures { IfOk result (λ r. IfSome r (λ c. (profile : ProfileOf) (b : BodyOf) → IsCode profile b → code ≡ written_body b
+    ensures { IfOk result
+        (λ r. IfSome r
+        (λ c. (profile : ProfileOf) (b : BodyOf) → IsCode profile b → code ≡ written_body b
         → c ≡ written_body (shifted_body shifts b))) }
 {
     if are_still(shifts) {
@@ -54,9 +56,10 @@ fn renumber_codes(
     shifts: Shifts,
 ) -> Result<Option<Vec<Option<Items<u8>>>>, OutOfMemory>
     requires { length deferred.now.items ≡ length codes.items }
-    ensures { (profile : ProfileOf) (os : List FuncOf) → codes.items ≡ map code_of os → AllByRecursion (λ o. IsCode profile o.body) os
-        → IfOk result (λ r. IfSome r (λ news.
-        news.items ≡ deferred_codes shifts os deferred.now.items)) }
+    ensures { (profile : ProfileOf) (os : List FuncOf) → codes.items ≡ map code_of os
+        → AllByRecursion (λ o. IsCode profile o.body) os
+        → IfOk result
+        (λ r. IfSome r (λ news. news.items ≡ deferred_codes shifts os deferred.now.items)) }
 {
     let mut news = Vec::with_capacity(alloc, codes.len())?;
     let mut room = Vec::new(alloc);
@@ -81,10 +84,15 @@ pub(crate) fn put_back(
     codes: Vec<Items<u8>>,
 ) -> Result<Option<Vec<Option<Items<u8>>>>, OutOfMemory>
     requires { length draft.now.deferred.items ≡ length codes.items }
-    ensures many { IfOk result (λ r. IfSome r (λ news. length news.items ≡ length draft.now.session.funcs)) }
-    ensures codes { (profile : ProfileOf) (os : List FuncOf) (m : PartsOf) → codes.items ≡ map code_of os → AllByRecursion (λ o. IsCode profile o.body) os
+    ensures many { IfOk result
+        (λ r. IfSome r (λ news. length news.items ≡ length draft.now.session.funcs)) }
+    ensures codes { (profile : ProfileOf) (os : List FuncOf) (m : PartsOf)
+        → codes.items ≡ map code_of os → AllByRecursion (λ o. IsCode profile o.body) os
         → IsHeld os m draft.now
-        → IfOk result (λ r. IfSome r (λ news. with_items (map code_of draft.now.session.funcs) news.items ≡ map code_of m.funcs)) }
+        → IfOk result
+        (λ r. IfSome r
+        (λ news. with_items (map code_of draft.now.session.funcs) news.items
+        ≡ map code_of m.funcs)) }
 {
     let count = draft.session.parts().funcs.len();
     let Some(mut news) = renumber_codes(alloc, &draft.deferred, codes, draft.shifts)? else {

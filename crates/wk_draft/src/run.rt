@@ -225,8 +225,9 @@ fn edit_outlined(
 
 // What is left where no draft is made of an outline: its stubs go, and its codes stay, for a session over the whole module.
 fn give_up(verdict: Option<Verdict>, outline: Outline) -> Drafted
-    ensures { (keep : Bool) (m : PartsOf) (edits : List EditOf) → IfSome verdict (λ v. v ≡ module_verdict m)
-        → outline.codes.items ≡ map code_of m.funcs → IsDrafted keep m edits result }
+    ensures { (keep : Bool) (m : PartsOf) (edits : List EditOf)
+        → IfSome verdict (λ v. v ≡ module_verdict m) → outline.codes.items ≡ map code_of m.funcs
+        → IsDrafted keep m edits result }
 {
     let Outline { module, codes } = outline;
     drop(module);
@@ -244,7 +245,8 @@ fn give_up(verdict: Option<Verdict>, outline: Outline) -> Drafted
 /// `Memory` at 0.
 pub fn is_valid(alloc: Global, input: &[u8], profile: Profile) -> Result<bool, ReadFault>
     ensures exact { MatchResult result
-        (λ valid. (m : PartsOf) × (module_at profile input.now ≡ Ok m) × (valid ≡ true ↔ module_verdict m ≡ Verdict.Valid))
+        (λ valid. (m : PartsOf) × (module_at profile input.now ≡ Ok m)
+        × (valid ≡ true ↔ module_verdict m ≡ Verdict.Valid))
         (λ e. FailsAs e e.kind (module_at profile input.now)) }
     ensures is { IsReading profile input.now (module_at profile input.now) }
 {
@@ -271,7 +273,8 @@ pub fn edit_valid(
     edits: &[Edit],
     keep: bool,
 ) -> Result<Option<Run>, OutOfMemory>
-    requires { (m : PartsOf) × (module_at profile input.now ≡ Ok m) × (module_verdict m ≡ Verdict.Valid) }
+    requires { (m : PartsOf) × (module_at profile input.now ≡ Ok m)
+        × (module_verdict m ≡ Verdict.Valid) }
     ensures { (m : PartsOf) → module_at profile input.now ≡ Ok m
         → IfOk result (λ r. IfSome r (IsRun keep m edits.now)) }
 {
@@ -306,9 +309,11 @@ pub fn edit_outline(
     edits: &[Edit],
     keep: bool,
 ) -> Result<Drafted, OutOfMemory>
-    requires { (m : PartsOf) × (module_at profile input.now ≡ Ok m) × (outline.«module» ≡ outlined m)
+    requires { (m : PartsOf) × (module_at profile input.now ≡ Ok m)
+        × (outline.«module» ≡ outlined m)
         × (outline.codes.items ≡ map (λ f. written_body f.body) m.funcs) }
-    ensures { (m : PartsOf) → module_at profile input.now ≡ Ok m → IfOk result (IsDrafted keep m edits.now) }
+    ensures { (m : PartsOf) → module_at profile input.now ≡ Ok m
+        → IfOk result (IsDrafted keep m edits.now) }
 {
     // The proof asks what this says: the module is shaped and fits.
     reading_of_module(input, profile);

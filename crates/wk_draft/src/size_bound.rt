@@ -14,7 +14,8 @@ use wk_session::{Edit, EditFault};
 /// By how many bytes a module may be longer than its draft, whose deferred bodies have these codes at most; or nothing where that
 /// is too much to tell.
 pub(crate) fn deferred_room(codes: &Vec<Items<u8>>) -> Option<usize>
-    ensures { IfSome result (λ room. (os : List FuncOf) → codes.now.items ≡ map code_of os → room ≡ deferred_room os) }
+    ensures { IfSome result
+        (λ room. (os : List FuncOf) → codes.now.items ≡ map code_of os → room ≡ deferred_room os) }
 {
     let mut total: usize = 0;
     for code in codes {
@@ -57,7 +58,8 @@ fn edit_room(edit: &Edit) -> Option<usize>
 // Whether the module would be invalid where the draft would be, which has that length: where neither gets too large. Of an import and of
 // a custom section that is set this is not told.
 fn would_break(edit: &Edit, len: u32, room: usize) -> bool
-    ensures { result ≡ true → (fault : FaultOf) → IsSure edit.now (len + room) (EditFault.WouldBreak fault) }
+    ensures { result ≡ true → (fault : FaultOf)
+        → IsSure edit.now (len + room) (EditFault.WouldBreak fault) }
 {
     if let Edit::Import(_) | Edit::SetCustom { .. } = edit {
         return false;

@@ -22,7 +22,8 @@ alike_made (Err f) (Err g) alike = refl
 alike_made (Ok x) (Err g) alike = absurd alike
 alike_made (Err f) (Ok w) alike = absurd alike
 
-pub all_made : {A : Type 0} (rs : List (Result A EditFault)) (qs : List (Result Work EditFault)) → AreAlike rs qs → list_all is_made rs ≡ list_all is_accepted qs
+pub all_made : {A : Type 0} (rs : List (Result A EditFault)) (qs : List (Result Work EditFault)) → AreAlike rs qs
+    → list_all is_made rs ≡ list_all is_accepted qs
 all_made [] [] alike = refl
 all_made (r ∷ rs) (q ∷ qs) alike =
     ap (λ (b : Bool). b && list_all is_made rs) (alike_made r q alike.0)

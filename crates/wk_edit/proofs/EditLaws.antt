@@ -15,11 +15,16 @@ use Rattle.wk_session.specs.declared.edit.Edit.{Edit}
 use Rattle.wk_session.specs.declared.edit.Edit.TheVariants as edits
 use Rattle.wk_edit.specs.declared.verb.Verb.{Verb}
 use Rattle.wk_edit.specs.declared.verb.Verb.TheVariants as verbs
-use Rattle.wk_edit.specs.Words.{◌>>=◌, number_of, limits_of, kind_named, mutable_named, type_named, global_type_of, desc_of, types_of, name_of, data_of, is_graphic}
-use Rattle.wk_edit.specs.Script.{type_edit, import_edit, func_edit, body_edit, global_edit, export_edit, unexport_edit, custom_edit, strip_edit, verb_named, edit_by, edit_of}
-use Rattle.wk_edit.specs.ScriptGrammar.{type_name, types_word, mutable_word, kind_word, most_words, limits_words, desc_words, IsU32, AreU32Limits, IsU32Desc, SpellsEdit}
+use Rattle.wk_edit.specs.Words.{◌>>=◌, number_of, limits_of, kind_named, mutable_named, type_named, global_type_of, desc_of, types_of, name_of, data_of}
+use Rattle.wk_edit.specs.Words.{is_graphic}
+use Rattle.wk_edit.specs.Script.{type_edit, import_edit, func_edit, body_edit, global_edit, export_edit, unexport_edit, custom_edit, strip_edit, verb_named}
+use Rattle.wk_edit.specs.Script.{edit_by, edit_of}
+use Rattle.wk_edit.specs.ScriptGrammar.{type_name, types_word, mutable_word, kind_word, most_words, limits_words, desc_words, IsU32, AreU32Limits, IsU32Desc}
+use Rattle.wk_edit.specs.ScriptGrammar.{SpellsEdit}
 use Rattle.wk_edit.proofs.NumberLaws.{number_told, number_said, graphic_number}
-use Rattle.wk_edit.proofs.WordLaws.{bind_some, some_is, tested, type_is, type_back, graphic_type, types_told, types_said, graphic_types, kind_told, kind_said, graphic_kind, mutable_told, mutable_said, graphic_mutable, name_told, name_said, graphic_name, data_told, data_said, graphic_data}
+use Rattle.wk_edit.proofs.WordLaws.{bind_some, some_is, tested, type_is, type_back, graphic_type, types_told, types_said, graphic_types, kind_told, kind_said}
+use Rattle.wk_edit.proofs.WordLaws.{graphic_kind, mutable_told, mutable_said, graphic_mutable, name_told, name_said, graphic_name, data_told, data_said}
+use Rattle.wk_edit.proofs.WordLaws.{graphic_data}
 
 -- ---- limits, globals and imports
 
@@ -79,7 +84,8 @@ desc_told kinds.Global (a ∷ []) d h = absurd cc
 desc_told kinds.Global (a ∷ b ∷ []) d h =
     let x = bind_some (global_type_of a b) _ d h in
     let t = global_type_told a b x.0 x.1 in
-    subst (SaysDesc kinds.Global (a ∷ b ∷ [])) (some_is _ d x.2) (refl, ap (λ (w : List ℕ). w ∷ b ∷ []) t.0 ∙ ap (λ (w : List ℕ). type_name x.0.val ∷ w ∷ []) t.1, tt)
+    subst (SaysDesc kinds.Global (a ∷ b ∷ [])) (some_is _ d x.2)
+    (refl, ap (λ (w : List ℕ). w ∷ b ∷ []) t.0 ∙ ap (λ (w : List ℕ). type_name x.0.val ∷ w ∷ []) t.1, tt)
 desc_told kinds.Global (a ∷ b ∷ c ∷ ws) d h = absurd cc
 
 desc_said : (d : ImportDesc) → IsU32Desc d → desc_of (desc_kind d) (desc_words d) ≡ Some d
@@ -177,7 +183,8 @@ export_told (kind ∷ name ∷ index ∷ []) e h =
     let t = number_told index b.0 b.1 in
     subst (SpellsEdit (codes "export" ∷ kind ∷ name ∷ index ∷ [])) (some_is _ e c.2) (
       name,
-      ap (λ (w : List ℕ). codes "export" ∷ w ∷ name ∷ index ∷ []) (kind_told kind a.0 a.1) ∙ ap (λ (w : List ℕ). codes "export" ∷ kind_word a.0 ∷ name ∷ w ∷ []) t.0,
+      ap (λ (w : List ℕ). codes "export" ∷ w ∷ name ∷ index ∷ []) (kind_told kind a.0 a.1)
+          ∙ ap (λ (w : List ℕ). codes "export" ∷ kind_word a.0 ∷ name ∷ w ∷ []) t.0,
       name_told name c.0 c.1,
       t.1,
     )
@@ -200,14 +207,15 @@ custom_told (kind ∷ name ∷ []) e h = elim (tested kind (codes "strip") (name
       (name, ap (λ (w : List ℕ). codes "custom" ∷ w ∷ name ∷ []) p.0, name_told name a.0 a.1)
   | inr p ↦ absurd cc
 ]
-custom_told (kind ∷ name ∷ digits ∷ []) e h = elim (tested kind (codes "set") (name_of name >>= λ n. data_of digits >>= λ bytes. Some (edits.SetCustom n bytes)) None (Some e) h) [
-  | inl p ↦
-      let a = bind_some (name_of name) (λ n. data_of digits >>= λ bytes. Some (edits.SetCustom n bytes)) e p.1 in
-      let b = bind_some (data_of digits) (λ bytes. Some (edits.SetCustom a.0 bytes)) e a.2 in
-      subst (SpellsEdit (codes "custom" ∷ kind ∷ name ∷ digits ∷ [])) (some_is _ e b.2)
-      (name, digits, ap (λ (w : List ℕ). codes "custom" ∷ w ∷ name ∷ digits ∷ []) p.0, name_told name a.0 a.1, data_told digits b.0 b.1)
-  | inr p ↦ absurd cc
-]
+custom_told (kind ∷ name ∷ digits ∷ []) e h =
+    elim (tested kind (codes "set") (name_of name >>= λ n. data_of digits >>= λ bytes. Some (edits.SetCustom n bytes)) None (Some e) h) [
+      | inl p ↦
+          let a = bind_some (name_of name) (λ n. data_of digits >>= λ bytes. Some (edits.SetCustom n bytes)) e p.1 in
+          let b = bind_some (data_of digits) (λ bytes. Some (edits.SetCustom a.0 bytes)) e a.2 in
+          subst (SpellsEdit (codes "custom" ∷ kind ∷ name ∷ digits ∷ [])) (some_is _ e b.2)
+          (name, digits, ap (λ (w : List ℕ). codes "custom" ∷ w ∷ name ∷ digits ∷ []) p.0, name_told name a.0 a.1, data_told digits b.0 b.1)
+      | inr p ↦ absurd cc
+    ]
 custom_told (a ∷ b ∷ c ∷ d ∷ ws) e h = absurd cc
 
 strip_told : (ws : List (List ℕ)) (e : Edit) → strip_edit ws ≡ Some e → SpellsEdit (codes "strip" ∷ ws) e
@@ -315,7 +323,8 @@ graphic_desc (descs.Func t) fits = graphic_with (decimal t) [] (graphic_number t
 graphic_desc (descs.Table l) fits = graphic_limits l fits
 graphic_desc (descs.Memory l) fits = graphic_limits l fits
 graphic_desc (descs.Global g) fits =
-    graphic_with (type_name g.val) (mutable_word g.mutable ∷ []) (graphic_type g.val) (graphic_with (mutable_word g.mutable) [] (graphic_mutable g.mutable) none_graphic)
+    graphic_with (type_name g.val) (mutable_word g.mutable ∷ []) (graphic_type g.val)
+    (graphic_with (mutable_word g.mutable) [] (graphic_mutable g.mutable) none_graphic)
 
 -- the words of a spelled edit
 pub record AreWords (ws : List (List ℕ)) : Type 0 where
@@ -360,7 +369,8 @@ are_words ws v more parts are = record {
 pub words_told : (ws : List (List ℕ)) (e : Edit) → SpellsEdit ws e → AreWords ws
 unfolding verb_word
 words_told ws (edits.Ty t) h = are_words ws verbs.TypeLine (types_word t.params ∷ types_word t.results ∷ []) h
-    (graphic_with (types_word t.params) (types_word t.results ∷ []) (graphic_types t.params) (graphic_with (types_word t.results) [] (graphic_types t.results) none_graphic))
+    (graphic_with (types_word t.params) (types_word t.results ∷ []) (graphic_types t.params)
+    (graphic_with (types_word t.results) [] (graphic_types t.results) none_graphic))
 words_told ws (edits.Import i) h = are_words ws verbs.ImportLine (kind_word (desc_kind i.desc) ∷ h.0 ∷ h.1 ∷ desc_words i.desc) h.2
     (graphic_with (kind_word (desc_kind i.desc)) (h.0 ∷ h.1 ∷ desc_words i.desc) (graphic_kind (desc_kind i.desc))
     (graphic_with h.0 (h.1 ∷ desc_words i.desc) (graphic_name h.0 i.from h.3)
@@ -380,5 +390,6 @@ words_told ws (edits.SetCustom name bytes) h = are_words ws verbs.CustomLine (co
     (graphic_with (codes "set") (h.0 ∷ h.1 ∷ []) (AllPass-from_list_all is_graphic (codes "set") refl)
     (graphic_with h.0 (h.1 ∷ []) (graphic_name h.0 name h.3) (graphic_with h.1 [] (graphic_data h.1 bytes h.4) none_graphic)))
 words_told ws (edits.StripCustom name) h = are_words ws verbs.CustomLine (codes "strip" ∷ h.0 ∷ []) h.1
-    (graphic_with (codes "strip") (h.0 ∷ []) (AllPass-from_list_all is_graphic (codes "strip") refl) (graphic_with h.0 [] (graphic_name h.0 name h.2) none_graphic))
+    (graphic_with (codes "strip") (h.0 ∷ []) (AllPass-from_list_all is_graphic (codes "strip") refl)
+    (graphic_with h.0 [] (graphic_name h.0 name h.2) none_graphic))
 words_told ws edits.StripAll h = are_words ws verbs.StripLine [] h none_graphic

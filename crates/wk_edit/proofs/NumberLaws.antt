@@ -1,5 +1,6 @@
 -- Numbers in decimal.
-use Rattle.std.proofs.Common.{◌≡◌, ◌&&◌, ◌<◌, ◌^◌, ℕ, nat_lt, Bool, true, false, cond, List, [], ◌∷◌, Option, Some, None, Result, Ok, Err, refl, sym, ap, subst, ◌∙◌, arith}
+use Rattle.std.proofs.Common.{◌≡◌, ◌&&◌, ◌<◌, ◌^◌, ℕ, nat_lt, Bool, true, false, cond, List, [], ◌∷◌, Option, Some, None, Result, Ok, Err, refl, sym, ap, subst}
+use Rattle.std.proofs.Common.{◌∙◌, arith}
 use Rattle.std.specs.Prelude.{decimal}
 use Rattle.std.specs.Str.{IsUtf8, bytes_eq}
 use Rattle.std.specs.Str.Parse.{AllDigits, digits_value, ParsesUnsigned}
@@ -16,7 +17,8 @@ pub number_told : (w : List ℕ) (n : ℕ) → number_of w ≡ Some n → (w ≡
 unfolding number_of
 number_told w n e = by (nat_lt (digits_value 10 w) (2 ^ 32)) (bytes_eq w (decimal (digits_value 10 w))) refl refl e
   where
-    by : (a b : Bool) → nat_lt (digits_value 10 w) (2 ^ 32) ≡ a → bytes_eq w (decimal (digits_value 10 w)) ≡ b → cond (a && b) (Some (digits_value 10 w)) None ≡ Some n
+    by : (a b : Bool) → nat_lt (digits_value 10 w) (2 ^ 32) ≡ a → bytes_eq w (decimal (digits_value 10 w)) ≡ b
+        → cond (a && b) (Some (digits_value 10 w)) None ≡ Some n
         → (w ≡ decimal n) × (n < 2 ^ 32)
     by true true small same h =
         let is : digits_value 10 w ≡ n = cc in

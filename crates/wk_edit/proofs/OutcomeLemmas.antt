@@ -45,14 +45,16 @@ either true b h = absurd cc
 either false b h = (refl, h)
 
 module _ (keep : Bool) where
-  after_unmarked : (es : List Edit) (rs : List (Result Work EditFault)) (m : Parts) → list_any is_memory rs ≡ false → after keep es (refused_for_memory rs) m ≡ after keep es [] m
+  after_unmarked : (es : List Edit) (rs : List (Result Work EditFault)) (m : Parts) → list_any is_memory rs ≡ false
+      → after keep es (refused_for_memory rs) m ≡ after keep es [] m
   after_unmarked [] rs m h = refl
   after_unmarked (e ∷ es) [] m h = refl
   after_unmarked (e ∷ es) (r ∷ rs) m h =
       let parts = either (is_memory r) (list_any is_memory rs) h in
       ap (λ (b : Bool). after keep es (refused_for_memory rs) (after_one keep e b m)) parts.0 ∙ after_unmarked es rs (after_one keep e false m) parts.1
 
-  replies_unmarked : (es : List Edit) (rs : List (Result Work EditFault)) (m : Parts) → list_any is_memory rs ≡ false → replies_of keep es (refused_for_memory rs) m ≡ replies_of keep es [] m
+  replies_unmarked : (es : List Edit) (rs : List (Result Work EditFault)) (m : Parts) → list_any is_memory rs ≡ false
+      → replies_of keep es (refused_for_memory rs) m ≡ replies_of keep es [] m
   replies_unmarked [] rs m h = refl
   replies_unmarked (e ∷ es) [] m h = refl
   replies_unmarked (e ∷ es) (r ∷ rs) m h =
@@ -60,7 +62,9 @@ module _ (keep : Bool) where
       ap (λ (b : Bool). reply_of keep e b m ∷ replies_of keep es (refused_for_memory rs) (after_one keep e b m)) parts.0
       ∙ ap (λ (more : List (Result Work EditFault)). reply_of keep e false m ∷ more) (replies_unmarked es rs (after_one keep e false m) parts.1)
 
-module _ (keep : Bool) (m n : Parts) (es : List Edit) (rs : List (Result Work EditFault)) (v : Verdict) (no_memory : list_any is_memory rs ≡ false) (replies : rs ≡ replies_of keep es (refused_for_memory rs) m) (module_is : n ≡ after keep es (refused_for_memory rs) m) (judged : v ≡ module_verdict n) where
+module _ (keep : Bool) (m n : Parts) (es : List Edit) (rs : List (Result Work EditFault)) (v : Verdict) (no_memory : list_any is_memory rs ≡ false)
+    (replies : rs ≡ replies_of keep es (refused_for_memory rs) m) (module_is : n ≡ after keep es (refused_for_memory rs) m)
+    (judged : v ≡ module_verdict n) where
   n_is : n ≡ after keep es [] m
   n_is = module_is ∙ after_unmarked keep es rs m no_memory
 
@@ -84,11 +88,13 @@ module _ (keep : Bool) (m n : Parts) (es : List Edit) (rs : List (Result Work Ed
 
 -- ---- the outcome by what was read
 
-outcome_ran : (keep : Bool) (profile : Profile) (input script : List ℕ) (m : Parts) (s : Result (List Edit) ScriptFault) → module_at profile input ≡ Ok m → script_of script ≡ s → outcome_of keep profile input script ≡ outcome_on keep m s
+outcome_ran : (keep : Bool) (profile : Profile) (input script : List ℕ) (m : Parts) (s : Result (List Edit) ScriptFault)
+    → module_at profile input ≡ Ok m → script_of script ≡ s → outcome_of keep profile input script ≡ outcome_on keep m s
 unfolding outcome_of
 outcome_ran keep profile input script m s read said = rw (read, said) refl
 
-outcome_malformed : (keep : Bool) (profile : Profile) (input script : List ℕ) (e : ReadFault) → module_at profile input ≡ Err e → outcome_of keep profile input script ≡ malformed_outcome e
+outcome_malformed : (keep : Bool) (profile : Profile) (input script : List ℕ) (e : ReadFault) → module_at profile input ≡ Err e
+    → outcome_of keep profile input script ≡ malformed_outcome e
 unfolding outcome_of
 outcome_malformed keep profile input script e read = rw read refl
 
@@ -97,7 +103,8 @@ other_fault e ReadKind.Memory read other fails = absurd (other refl)
 other_fault e _ read other fails = fails
 
 -- bytes that are read again spell the same module
-pub same_module : (profile : Profile) (lent bytes : List ℕ) (s m : Parts) → lent ≡ bytes → module_at profile lent ≡ Ok s → module_at profile bytes ≡ Ok m → s ≡ m
+pub same_module : (profile : Profile) (lent bytes : List ℕ) (s m : Parts) → lent ≡ bytes → module_at profile lent ≡ Ok s
+    → module_at profile bytes ≡ Ok m → s ≡ m
 same_module profile lent bytes s m same exact at =
     let both : (let r : Result Parts ReadFault = Ok s in r) ≡ Ok m = sym exact ∙ ap (module_at profile) same ∙ at in
     cc
@@ -105,11 +112,14 @@ same_module profile lent bytes s m same exact at =
 -- ---- what `prepare` answers
 
 module _ (keep : Bool) (profile : Profile) (input script : List ℕ) where
-  pub malformed_ok : (r : Result Prepared RunFault) (e : ReadFault) → IfOk r (IsPrepared (malformed_outcome e)) → OnOk r (e.kind ≢ ReadKind.Memory) → FailsAs e e.kind (module_at profile input) → IfOk r (IsPrepared (outcome_of keep profile input script))
-  malformed_ok (Ok p) e is other fails = subst (λ (o : Outcome). IsPrepared o p) (sym (outcome_malformed keep profile input script e (other_fault e e.kind (module_at profile input) other fails))) is
+  pub malformed_ok : (r : Result Prepared RunFault) (e : ReadFault) → IfOk r (IsPrepared (malformed_outcome e)) → OnOk r (e.kind ≢ ReadKind.Memory)
+      → FailsAs e e.kind (module_at profile input) → IfOk r (IsPrepared (outcome_of keep profile input script))
+  malformed_ok (Ok p) e is other fails = subst (λ (o : Outcome). IsPrepared o p)
+      (sym (outcome_malformed keep profile input script e (other_fault e e.kind (module_at profile input) other fails))) is
   malformed_ok (Err f) e is other fails = tt
 
-  pub malformed_means : (r : Result Prepared RunFault) (e : ReadFault) → OnOk r (e.kind ≢ ReadKind.Memory) → FailsAs e e.kind (module_at profile input) → IsReading profile input (module_at profile input)
+  pub malformed_means : (r : Result Prepared RunFault) (e : ReadFault) → OnOk r (e.kind ≢ ReadKind.Memory) → FailsAs e e.kind (module_at profile input)
+      → IsReading profile input (module_at profile input)
       → OnOk r (IsReport keep profile input script (outcome_of keep profile input script))
   malformed_means (Ok p) e other fails is =
       let read = other_fault e e.kind (module_at profile input) other fails in
@@ -118,10 +128,12 @@ module _ (keep : Bool) (profile : Profile) (input script : List ℕ) where
       (inl (record { fault = e; none = told.0; stands = told.1; other = other; out = refl; report = refl; status = refl }))
   malformed_means (Err f) e other fails is = tt
 
-  pub ran_ok : (r : Result Prepared RunFault) (m : Parts) (s : Result (List Edit) ScriptFault) → IfOk r (IsPrepared (outcome_on keep m s)) → module_at profile input ≡ Ok m → script_of script ≡ s → IfOk r (IsPrepared (outcome_of keep profile input script))
+  pub ran_ok : (r : Result Prepared RunFault) (m : Parts) (s : Result (List Edit) ScriptFault) → IfOk r (IsPrepared (outcome_on keep m s))
+      → module_at profile input ≡ Ok m → script_of script ≡ s → IfOk r (IsPrepared (outcome_of keep profile input script))
   ran_ok r m s is read said = subst (λ (o : Outcome). IfOk r (IsPrepared o)) (sym (outcome_ran keep profile input script m s read said)) is
 
-  run_told : ReadsCode → (m : Parts) (es : List Edit) → IsScript script es → IsOnlyScript script es → IsSpelled (run_outcome keep m es).edited → IsRun keep m script (run_outcome keep m es)
+  run_told : ReadsCode → (m : Parts) (es : List Edit) → IsScript script es → IsOnlyScript script es → IsSpelled (run_outcome keep m es).edited
+      → IsRun keep m script (run_outcome keep m es)
   run_told reads m es is only spelled = record {
     edits = es;
     spelled = is;
@@ -141,7 +153,8 @@ module _ (keep : Bool) (profile : Profile) (input script : List ℕ) where
       let told : IsReading profile input (Ok m) = subst (IsReading profile input) read is in
       record { profile_is = told.0; spelled = told.1; only = told.2 }
 
-  pub ran_means : ReadsCode → (r : Result Prepared RunFault) (m : Parts) (es : List Edit) → IsReading profile input (module_at profile input) → module_at profile input ≡ Ok m → IsScript script es → IsOnlyScript script es → script_of script ≡ Ok es
+  pub ran_means : ReadsCode → (r : Result Prepared RunFault) (m : Parts) (es : List Edit) → IsReading profile input (module_at profile input)
+      → module_at profile input ≡ Ok m → IsScript script es → IsOnlyScript script es → script_of script ≡ Ok es
       → IfOk r (IsPrepared (outcome_of keep profile input script)) → OnOk r (IsReport keep profile input script (outcome_of keep profile input script))
   ran_means reads (Ok p) m es of read is only said prepared =
       let ran = outcome_ran keep profile input script m (Ok es) read said in
@@ -149,13 +162,17 @@ module _ (keep : Bool) (profile : Profile) (input script : List ℕ) where
       subst (IsReport keep profile input script) (sym ran) (inr (m, read_as m read of, inr (run_told reads m es is only spelled)))
   ran_means reads (Err e) m es of read is only said prepared = tt
 
-  pub script_means : (r : Result Prepared RunFault) (m : Parts) (f : ScriptFault) → OnOk r (f ≢ ScriptFault.Memory) → IsReading profile input (module_at profile input) → module_at profile input ≡ Ok m → (f ≢ ScriptFault.Memory → script_of script ≡ Err f) → (f ≢ ScriptFault.Memory → IsNoScript script) → (f ≢ ScriptFault.Memory → IsFaultOf script f)
+  pub script_means : (r : Result Prepared RunFault) (m : Parts) (f : ScriptFault) → OnOk r (f ≢ ScriptFault.Memory)
+      → IsReading profile input (module_at profile input) → module_at profile input ≡ Ok m → (f ≢ ScriptFault.Memory → script_of script ≡ Err f)
+      → (f ≢ ScriptFault.Memory → IsNoScript script) → (f ≢ ScriptFault.Memory → IsFaultOf script f)
       → OnOk r (IsReport keep profile input script (outcome_of keep profile input script))
   script_means (Ok p) m f other of read said none faulty =
       subst (IsReport keep profile input script) (sym (outcome_ran keep profile input script m (Err f) read (said other)))
       (inr (m, read_as m read of, inl (record { fault = f; none = none other; first = faulty other; out = refl; report = refl; status = refl })))
   script_means (Err e) m f other of read said none faulty = tt
 
-  pub script_ok : (r : Result Prepared RunFault) (m : Parts) (f : ScriptFault) → IfOk r (IsPrepared (script_outcome f)) → OnOk r (f ≢ ScriptFault.Memory) → module_at profile input ≡ Ok m → (f ≢ ScriptFault.Memory → script_of script ≡ Err f) → IfOk r (IsPrepared (outcome_of keep profile input script))
+  pub script_ok : (r : Result Prepared RunFault) (m : Parts) (f : ScriptFault) → IfOk r (IsPrepared (script_outcome f))
+      → OnOk r (f ≢ ScriptFault.Memory) → module_at profile input ≡ Ok m → (f ≢ ScriptFault.Memory → script_of script ≡ Err f)
+      → IfOk r (IsPrepared (outcome_of keep profile input script))
   script_ok (Ok p) m f is other read said = subst (λ (o : Outcome). IsPrepared o p) (sym (outcome_ran keep profile input script m (Err f) read (said other))) is
   script_ok (Err e) m f is other read said = tt

@@ -1,5 +1,6 @@
 -- Steps of the loop over replies, beside those of a module, of which they may tell less.
-use Rattle.std.proofs.Common.{◌≡◌, ◌<◌, ◌≤◌, ◌+◌, ℕ, zero, suc, List, [], ◌∷◌, ◌++◌, length, drop, get_or, Result, refl, sym, ap, subst, ◌∙◌, append_assoc, arith}
+use Rattle.std.proofs.Common.{◌≡◌, ◌<◌, ◌≤◌, ◌+◌, ℕ, zero, suc, List, [], ◌∷◌, ◌++◌, length, drop, get_or, Result, refl, sym, ap, subst, ◌∙◌, append_assoc}
+use Rattle.std.proofs.Common.{arith}
 use Rattle.std.proofs.lemmas.List.{drop_all}
 use Rattle.wk_session.specs.declared.edit.EditFault.{EditFault}
 use Rattle.wk_session.specs.declared.edit.Work.{Work}
@@ -21,8 +22,10 @@ alike_at (s ∷ rs) [] i r less alike = absurd alike
 alike_at (s ∷ rs) (q ∷ qs) zero r less alike = (q, alike.0, refl)
 alike_at (s ∷ rs) (q ∷ qs) (suc i) r less alike = alike_at rs qs i r (omega arith) alike.1
 
-pub more : {A : Type 0} (old new whole : List ℕ) (n i : ℕ) (rs : List (Result A EditFault)) (qs : List (Result Work EditFault)) (r : Result A EditFault) (v : Verdict) → i < length rs → r ≡ get_or rs i r → AreAlike rs qs
-    → ((q : Result Work EditFault) → IsAlike r q → new ≡ old ++ reply_line n q) → old ++ report_text n (drop i qs) v ≡ whole → new ++ report_text (n + 1) (drop (i + 1) qs) v ≡ whole
+pub more : {A : Type 0} (old new whole : List ℕ) (n i : ℕ) (rs : List (Result A EditFault)) (qs : List (Result Work EditFault)) (r : Result A EditFault)
+    (v : Verdict) → i < length rs → r ≡ get_or rs i r → AreAlike rs qs
+    → ((q : Result Work EditFault) → IsAlike r q → new ≡ old ++ reply_line n q) → old ++ report_text n (drop i qs) v ≡ whole
+    → new ++ report_text (n + 1) (drop (i + 1) qs) v ≡ whole
 unfolding report_text
 more old new whole n i rs qs r v less at alike put e =
     let here = alike_at rs qs i r less alike in
@@ -35,7 +38,8 @@ more old new whole n i rs qs r v less at alike put e =
     ∙ ap (λ (s : List (Result Work EditFault)). old ++ report_text n s v) (sym behind)
     ∙ e
 
-pub last : {A : Type 0} (old new line whole : List ℕ) (n i : ℕ) (rs : List (Result A EditFault)) (qs : List (Result Work EditFault)) (v : Verdict) → length rs ≤ i → AreAlike rs qs → new ≡ old ++ line → line ≡ verdict_line v
+pub last : {A : Type 0} (old new line whole : List ℕ) (n i : ℕ) (rs : List (Result A EditFault)) (qs : List (Result Work EditFault)) (v : Verdict)
+    → length rs ≤ i → AreAlike rs qs → new ≡ old ++ line → line ≡ verdict_line v
     → old ++ report_text n (drop i qs) v ≡ whole → new ≡ whole
 unfolding report_text
 last old new line whole n i rs qs v past alike put is e =

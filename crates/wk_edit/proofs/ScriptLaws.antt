@@ -1,5 +1,6 @@
 -- A script that is read is one, and one that is refused is none.
-use Rattle.std.proofs.Common.{◌≡◌, ◌==◌, ℕ, ◌+◌, ◌<◌, ◌≤◌, Bool, true, false, cond, inl, inr, ◌⊎◌, List, [], ◌∷◌, ◌++◌, length, Option, Some, None, Result, Ok, Err, refl, sym, ap, subst, ◌∙◌, arith}
+use Rattle.std.proofs.Common.{◌≡◌, ◌==◌, ℕ, ◌+◌, ◌<◌, ◌≤◌, Bool, true, false, cond, inl, inr, ◌⊎◌, List, [], ◌∷◌, ◌++◌, length, Option, Some, None, Result, Ok}
+use Rattle.std.proofs.Common.{Err, refl, sym, ap, subst, ◌∙◌, arith}
 use Rattle.std.specs.Prelude.{All, ◌≢◌, IfOk, IfErr}
 use Rattle.std.specs.List.{join_with_byte, list_any}
 use Rattle.std.proofs.lemmas.List.{nil_from_length, length-append}
@@ -39,7 +40,8 @@ clean : (line : List ℕ) (e : Edit) → SpellsLine line e → IsClean line
 clean line e s =
     let a = words_told s.0 e s.2 in
     subst IsClean (sym s.1) (record {
-      low = list_any_none is_high (join_with_byte 32 s.0) (All-join (λ x. is_high x ≡ false) 32 s.0 refl (λ k d within j c inside. graphic_below _ (a.graphic k d within j c inside)));
+      low = list_any_none is_high (join_with_byte 32 s.0)
+          (All-join (λ x. is_high x ≡ false) 32 s.0 refl (λ k d within j c inside. graphic_below _ (a.graphic k d within j c inside)));
       one = All-join (λ x. (x == 10) ≡ false) 32 s.0 refl (λ k d within j c inside. graphic_but 10 _ (omega arith) (a.graphic k d within j c inside));
       some = rw a.parts (omega (arith, length_join a.first a.more, a.some));
     })
@@ -62,7 +64,8 @@ line_said n line e s =
 line_told : (n : ℕ) (line : List ℕ) (o : Option Edit) → line_edit n line ≡ Ok o → ((line ≡ []) × (o ≡ None)) ⊎ ((e : Edit) × (o ≡ Some e) × SpellsLine line e)
 line_told n line o h = by (length line == 0) (list_any is_high line) (edit_of (pieces 32 line)) refl refl h
   where
-    by : (b c : Bool) (q : Option Edit) → (length line == 0) ≡ b → edit_of (pieces 32 line) ≡ q → cond b (Ok None) (cond c (Err (NotAscii n)) (or_bad_word n q)) ≡ Ok o
+    by : (b c : Bool) (q : Option Edit) → (length line == 0) ≡ b → edit_of (pieces 32 line) ≡ q
+        → cond b (Ok None) (cond c (Err (NotAscii n)) (or_bad_word n q)) ≡ Ok o
         → ((line ≡ []) × (o ≡ None)) ⊎ ((e : Edit) × (o ≡ Some e) × SpellsLine line e)
     by true c q empty words e = let none : length line ≡ 0 = grind (arith, empty) in inl (nil_from_length line none, cc)
     by false true q empty words e = absurd cc
@@ -141,19 +144,22 @@ IsFaultFrom n ls (NotAscii number) = IsWrongFrom n ls number true
 IsFaultFrom n ls Memory = ⊥
 
 here : (n : ℕ) (l : List ℕ) (ls : List (List ℕ)) (high : Bool) → list_any is_high l ≡ high → ¬ (IsFineLine l) → IsWrongFrom n (l ∷ ls) n high
-here n l ls high told wrong = record { before = []; line = l; after = ls; cut = refl; count = omega arith; fine = All-nil IsFineLine; wrong = wrong; told = told }
+here n l ls high told wrong =
+    record { before = []; line = l; after = ls; cut = refl; count = omega arith; fine = All-nil IsFineLine; wrong = wrong; told = told }
 
 here_told : (n : ℕ) (l : List ℕ) (ls : List (List ℕ)) (f : ScriptFault) → line_edit n l ≡ Err f → IsFaultFrom n (l ∷ ls) f
 unfolding IsFaultFrom
 here_told n l ls f h = by (length l == 0) (list_any is_high l) (edit_of (pieces 32 l)) refl h
   where
-    by : (b c : Bool) (q : Option Edit) → list_any is_high l ≡ c → cond b (Ok None) (cond c (Err (NotAscii n)) (or_bad_word n q)) ≡ Err f → IsFaultFrom n (l ∷ ls) f
+    by : (b c : Bool) (q : Option Edit) → list_any is_high l ≡ c → cond b (Ok None) (cond c (Err (NotAscii n)) (or_bad_word n q)) ≡ Err f
+        → IsFaultFrom n (l ∷ ls) f
     by true c q high e = absurd cc
     by false true q high e = let is : NotAscii n ≡ f = cc in subst (IsFaultFrom n (l ∷ ls)) is (here n l ls true high (not_fine n l f h))
     by false false None high e = let is : BadWord n ≡ f = cc in subst (IsFaultFrom n (l ∷ ls)) is (here n l ls false high (not_fine n l f h))
     by false false (Some d) high e = absurd cc
 
-later : (n : ℕ) (l : List ℕ) (ls : List (List ℕ)) (number : ℕ) (high : Bool) → IsFineLine l → IsWrongFrom (n + 1) ls number high → IsWrongFrom n (l ∷ ls) number high
+later : (n : ℕ) (l : List ℕ) (ls : List (List ℕ)) (number : ℕ) (high : Bool) → IsFineLine l → IsWrongFrom (n + 1) ls number high
+    → IsWrongFrom n (l ∷ ls) number high
 later n l ls number high fine w = record {
   before = l ∷ w.before;
   line = w.line;
@@ -189,7 +195,8 @@ lines_refused n (l ∷ ls) f h = elim (first_refused (line_edit n l) (lines_from
 ]
 
 whole : (bytes : List ℕ) (number : ℕ) (high : Bool) → IsWrongFrom 1 (pieces 10 bytes) number high → IsFirstWrong bytes number high
-whole bytes number high w = record { before = w.before; line = w.line; after = w.after; cut = w.cut; count = omega (arith, w.count); fine = w.fine; wrong = w.wrong; told = w.told }
+whole bytes number high w =
+    record { before = w.before; line = w.line; after = w.after; cut = w.cut; count = omega (arith, w.count); fine = w.fine; wrong = w.wrong; told = w.told }
 
 whole_told : (bytes : List ℕ) (f : ScriptFault) → IsFaultFrom 1 (pieces 10 bytes) f → IsFaultOf bytes f
 unfolding IsFaultFrom

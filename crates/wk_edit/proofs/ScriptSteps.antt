@@ -1,5 +1,6 @@
 -- Steps of the loops over the pieces of a script.
-use Rattle.std.proofs.Common.{◌≡◌, ◌≤◌, ◌+◌, ◌==◌, ℕ, suc, List, [], ◌∷◌, ◌++◌, length, Option, Some, None, Result, Ok, Err, refl, sym, ap, ◌∙◌, append_assoc, append-nil, arith}
+use Rattle.std.proofs.Common.{◌≡◌, ◌≤◌, ◌+◌, ◌==◌, ℕ, suc, List, [], ◌∷◌, ◌++◌, length, Option, Some, None, Result, Ok, Err, refl, sym, ap, ◌∙◌, append_assoc}
+use Rattle.std.proofs.Common.{append-nil, arith}
 use Rattle.std.proofs.lemmas.List.Splits.{length-slice_split}
 use Rattle.std.proofs.lemmas.List.Sums.{count_by-le-length}
 use Rattle.wk_body.specs.declared.types.ValType.{ValType}
@@ -28,11 +29,13 @@ onto_onto : (xs : List ValType) (t : ValType) (more : Option (List ValType)) →
 onto_onto xs t None = refl
 onto_onto xs t (Some ys) = ap Some (sym (append_assoc xs (t ∷ []) ys))
 
-pub type_more : (xs : List ValType) (w : List ℕ) (ws : List (List ℕ)) (t : ValType) (r : Option (List ValType)) → type_named w ≡ Some t → onto xs (all_named (w ∷ ws)) ≡ r → onto (xs ++ t ∷ []) (all_named ws) ≡ r
+pub type_more : (xs : List ValType) (w : List ℕ) (ws : List (List ℕ)) (t : ValType) (r : Option (List ValType)) → type_named w ≡ Some t
+    → onto xs (all_named (w ∷ ws)) ≡ r → onto (xs ++ t ∷ []) (all_named ws) ≡ r
 unfolding all_named
 type_more xs w ws t r named e = sym (onto_onto xs t (all_named ws)) ∙ ap (onto xs) (sym (one t (all_named ws))) ∙ (rw named at e)
 
-pub type_stops : (xs : List ValType) (w : List ℕ) (ws : List (List ℕ)) (r : Option (List ValType)) → type_named w ≡ None → onto xs (all_named (w ∷ ws)) ≡ r → r ≡ None
+pub type_stops : (xs : List ValType) (w : List ℕ) (ws : List (List ℕ)) (r : Option (List ValType)) → type_named w ≡ None
+    → onto xs (all_named (w ∷ ws)) ≡ r → r ≡ None
 unfolding all_named
 type_stops xs w ws r named e = sym e ∙ rw named refl
 
@@ -49,15 +52,19 @@ one_edit d (Ok more) = refl
 one_edit d (Err e) = refl
 
 -- a line with an edit
-pub edit_more : (es : List Edit) (n : ℕ) (l : List ℕ) (ls : List (List ℕ)) (d : Edit) (r : Result (List Edit) ScriptFault) → line_edit (n + 1) l ≡ Ok (Some d) → with_edits es (lines_from (n + 1) (l ∷ ls)) ≡ r → with_edits (es ++ d ∷ []) (lines_from (n + 1 + 1) ls) ≡ r
+pub edit_more : (es : List Edit) (n : ℕ) (l : List ℕ) (ls : List (List ℕ)) (d : Edit) (r : Result (List Edit) ScriptFault)
+    → line_edit (n + 1) l ≡ Ok (Some d) → with_edits es (lines_from (n + 1) (l ∷ ls)) ≡ r → with_edits (es ++ d ∷ []) (lines_from (n + 1 + 1) ls) ≡ r
 unfolding lines_from
-edit_more es n l ls d r line e = sym (with_with es d (lines_from (n + 1 + 1) ls)) ∙ ap (with_edits es) (sym (one_edit d (lines_from (n + 1 + 1) ls))) ∙ ap (λ (x : Result (Option Edit) ScriptFault). with_edits es (then_more x (lines_from (n + 1 + 1) ls))) (sym line) ∙ e
+edit_more es n l ls d r line e = sym (with_with es d (lines_from (n + 1 + 1) ls)) ∙ ap (with_edits es) (sym (one_edit d (lines_from (n + 1 + 1) ls)))
+    ∙ ap (λ (x : Result (Option Edit) ScriptFault). with_edits es (then_more x (lines_from (n + 1 + 1) ls))) (sym line) ∙ e
 
-pub line_without : (es : List Edit) (n : ℕ) (l : List ℕ) (ls : List (List ℕ)) (r : Result (List Edit) ScriptFault) → line_edit (n + 1) l ≡ Ok None → with_edits es (lines_from (n + 1) (l ∷ ls)) ≡ r → with_edits es (lines_from (n + 1 + 1) ls) ≡ r
+pub line_without : (es : List Edit) (n : ℕ) (l : List ℕ) (ls : List (List ℕ)) (r : Result (List Edit) ScriptFault) → line_edit (n + 1) l ≡ Ok None
+    → with_edits es (lines_from (n + 1) (l ∷ ls)) ≡ r → with_edits es (lines_from (n + 1 + 1) ls) ≡ r
 unfolding lines_from
 line_without es n l ls r line e = ap (λ (x : Result (Option Edit) ScriptFault). with_edits es (then_more x (lines_from (n + 1 + 1) ls))) (sym line) ∙ e
 
-pub line_stops : (es : List Edit) (n : ℕ) (l : List ℕ) (ls : List (List ℕ)) (f : ScriptFault) (r : Result (List Edit) ScriptFault) → line_edit (n + 1) l ≡ Err f → with_edits es (lines_from (n + 1) (l ∷ ls)) ≡ r → r ≡ Err f
+pub line_stops : (es : List Edit) (n : ℕ) (l : List ℕ) (ls : List (List ℕ)) (f : ScriptFault) (r : Result (List Edit) ScriptFault)
+    → line_edit (n + 1) l ≡ Err f → with_edits es (lines_from (n + 1) (l ∷ ls)) ≡ r → r ≡ Err f
 unfolding lines_from
 line_stops es n l ls f r line e = sym e ∙ ap (λ (x : Result (Option Edit) ScriptFault). with_edits es (then_more x (lines_from (n + 1 + 1) ls))) line
 
@@ -70,7 +77,9 @@ pub pieces_few : (c : ℕ) (bytes : List ℕ) → length (pieces c bytes) ≤ le
 pieces_few c bytes = rw (length-slice_split (λ b. b == c) bytes) (omega (arith, count_by-le-length (λ b. b == c) bytes))
 
 -- a turn of the loop over lines, whose line has an edit
-pub edit_step : (es new : List Edit) (n : ℕ) (l : List ℕ) (ls it : List (List ℕ)) (o : Option Edit) (d : Edit) (r : Result (List Edit) ScriptFault) → it ≡ l ∷ ls → line_edit (n + 1) l ≡ Ok o → o ≡ Some d → new ≡ es ++ d ∷ [] → with_edits es (lines_from (n + 1) it) ≡ r → with_edits new (lines_from (n + 1 + 1) ls) ≡ r
+pub edit_step : (es new : List Edit) (n : ℕ) (l : List ℕ) (ls it : List (List ℕ)) (o : Option Edit) (d : Edit) (r : Result (List Edit) ScriptFault)
+    → it ≡ l ∷ ls → line_edit (n + 1) l ≡ Ok o → o ≡ Some d → new ≡ es ++ d ∷ [] → with_edits es (lines_from (n + 1) it) ≡ r
+    → with_edits new (lines_from (n + 1 + 1) ls) ≡ r
 edit_step es new n l ls it o d r items line some pushed said =
     ap (λ (x : List Edit). with_edits x (lines_from (n + 1 + 1) ls)) pushed
     ∙ edit_more es n l ls d r (line ∙ ap Ok some) (ap (λ (x : List (List ℕ)). with_edits es (lines_from (n + 1) x)) (sym items) ∙ said)

@@ -1,5 +1,6 @@
 -- What words say is what they spell, and the other way round.
-use Rattle.std.proofs.Common.{◌≡◌, ◌==◌, not, ℕ, ◌<◌, Bool, true, false, cond, inl, inr, ◌⊎◌, List, [], ◌∷◌, ◌++◌, length, take, drop, map, Option, Some, None, Result, Ok, Err, codes, refl, sym, ap, subst, ◌∙◌, arith}
+use Rattle.std.proofs.Common.{◌≡◌, ◌==◌, not, ℕ, ◌<◌, Bool, true, false, cond, inl, inr, ◌⊎◌, List, [], ◌∷◌, ◌++◌, length, take, drop, map, Option, Some, None}
+use Rattle.std.proofs.Common.{Result, Ok, Err, codes, refl, sym, ap, subst, ◌∙◌, arith}
 use Rattle.std.specs.Prelude.{All, ◌≢◌, if◌then◌else◌, slice_index_or}
 use Rattle.std.specs.List.{AllPass, join_with_byte, list_all}
 use Rattle.std.specs.Str.{IsUtf8, bytes_eq, is_utf8}
@@ -247,7 +248,8 @@ graphic_name w name (inl n) = subst (AllPass is_graphic) (sym n.same) n.graphic
 graphic_name w name (inr n) =
     let digits = (decode_of-ok n.digits name n.spelled).1 in
     subst (AllPass is_graphic) (sym n.parts)
-    (All-append (λ x. is_graphic x ≡ true) (codes "x:") n.digits (AllPass-from_list_all is_graphic (codes "x:") refl) (λ k d within. hex_graphic (slice_index_or n.digits k d) (digits k d within)))
+    (All-append (λ x. is_graphic x ≡ true) (codes "x:") n.digits (AllPass-from_list_all is_graphic (codes "x:") refl)
+    (λ k d within. hex_graphic (slice_index_or n.digits k d) (digits k d within)))
 
 -- ---- bytes
 

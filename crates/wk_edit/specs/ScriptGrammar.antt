@@ -1,5 +1,6 @@
 -- Which bytes are a script, and which edits they spell, in the words of its rules.
-use Rattle.std.specs.Prelude.{◌≡◌, ◌≢◌, ◌⊎◌, ℕ, ◌+◌, ◌^◌, ◌<◌, Bool, true, false, Option, Some, None, IfSome, List, [], ◌∷◌, ◌++◌, length, take, map, All, Ok, codes, decimal}
+use Rattle.std.specs.Prelude.{◌≡◌, ◌≢◌, ◌⊎◌, ℕ, ◌+◌, ◌^◌, ◌<◌, Bool, true, false, Option, Some, None, IfSome, List, [], ◌∷◌, ◌++◌, length, take, map, All, Ok}
+use Rattle.std.specs.Prelude.{codes, decimal}
 use Rattle.std.specs.List.{AllPass, join_with_byte, list_any}
 use Rattle.std.specs.Str.{IsUtf8}
 use Rattle.hex.specs.Hex.{decode_of}

@@ -35,9 +35,12 @@ fn put_prepared<W: Out, X: Out>(
 ) -> Result<Status, RunFault>
     requires out { W.failed out.old < 2 ^ 64 - 1 }
     requires report { X.failed report.old < 2 ^ 64 - 1 }
-    ensures status { (o : Outcome) → IsPrepared o prepared.now → IfOk result (λ status. status ≡ o.status) }
-    ensures out { (o : Outcome) → IsPrepared o prepared.now → OutTakes (W.taken out.old) (W.taken out.new) o result }
-    ensures report { (o : Outcome) → IsPrepared o prepared.now → ReportTakes (X.taken report.old) (X.taken report.new) o result }
+    ensures status { (o : Outcome) → IsPrepared o prepared.now
+        → IfOk result (λ status. status ≡ o.status) }
+    ensures out { (o : Outcome) → IsPrepared o prepared.now
+        → OutTakes (W.taken out.old) (W.taken out.new) o result }
+    ensures report { (o : Outcome) → IsPrepared o prepared.now
+        → ReportTakes (X.taken report.old) (X.taken report.new) o result }
     ensures out_failures { W.failed out.new ≡ out_failures (W.failed out.old) result }
     ensures report_failures { X.failed report.new ≡ report_failures (X.failed report.old) result }
 {
@@ -70,13 +73,18 @@ pub fn edit_owned<W: Out, X: Out>(
 ) -> Result<Status, RunFault>
     requires out { W.failed out.old < 2 ^ 64 - 1 }
     requires report { X.failed report.old < 2 ^ 64 - 1 }
-    ensures status { IfOk result (λ status. status ≡ (outcome_of keep_valid profile input.items script.now).status) }
-    ensures out { OutTakes (W.taken out.old) (W.taken out.new) (outcome_of keep_valid profile input.items script.now) result }
-    ensures report { ReportTakes (X.taken report.old) (X.taken report.new) (outcome_of keep_valid profile input.items script.now) result }
+    ensures status { IfOk result
+        (λ status. status ≡ (outcome_of keep_valid profile input.items script.now).status) }
+    ensures out { OutTakes (W.taken out.old) (W.taken out.new)
+        (outcome_of keep_valid profile input.items script.now) result }
+    ensures report { ReportTakes (X.taken report.old) (X.taken report.new)
+        (outcome_of keep_valid profile input.items script.now) result }
     ensures out_failures { W.failed out.new ≡ out_failures (W.failed out.old) result }
     ensures report_failures { X.failed report.new ≡ report_failures (X.failed report.old) result }
     // The outcome is what the grammar, the edits and the verdict say, and what is written spells the edited module and no other.
-    ensures means { OnRun result (IsReport keep_valid profile input.items script.now (outcome_of keep_valid profile input.items script.now)) }
+    ensures means { OnRun result
+        (IsReport keep_valid profile input.items script.now
+        (outcome_of keep_valid profile input.items script.now)) }
 {
     let prepared = prepare(alloc, input, script, keep_valid, profile);
     let status = match &prepared {
@@ -100,12 +108,17 @@ pub fn edit_in<W: Out, X: Out>(
 ) -> Result<Status, RunFault>
     requires out { W.failed out.old < 2 ^ 64 - 1 }
     requires report { X.failed report.old < 2 ^ 64 - 1 }
-    ensures status { IfOk result (λ status. status ≡ (outcome_of keep_valid profile input.now script.now).status) }
-    ensures out { OutTakes (W.taken out.old) (W.taken out.new) (outcome_of keep_valid profile input.now script.now) result }
-    ensures report { ReportTakes (X.taken report.old) (X.taken report.new) (outcome_of keep_valid profile input.now script.now) result }
+    ensures status { IfOk result
+        (λ status. status ≡ (outcome_of keep_valid profile input.now script.now).status) }
+    ensures out { OutTakes (W.taken out.old) (W.taken out.new)
+        (outcome_of keep_valid profile input.now script.now) result }
+    ensures report { ReportTakes (X.taken report.old) (X.taken report.new)
+        (outcome_of keep_valid profile input.now script.now) result }
     ensures out_failures { W.failed out.new ≡ out_failures (W.failed out.old) result }
     ensures report_failures { X.failed report.new ≡ report_failures (X.failed report.old) result }
-    ensures means { OnRun result (IsReport keep_valid profile input.now script.now (outcome_of keep_valid profile input.now script.now)) }
+    ensures means { OnRun result
+        (IsReport keep_valid profile input.now script.now
+        (outcome_of keep_valid profile input.now script.now)) }
 {
     let input = Vec::from_slice(alloc, input)?;
     edit_owned(alloc, input, script, keep_valid, profile, out, report)
@@ -138,12 +151,17 @@ pub fn edit<W: Out, X: Out>(
 ) -> Result<Status, RunFault>
     requires out { W.failed out.old < 2 ^ 64 - 1 }
     requires report { X.failed report.old < 2 ^ 64 - 1 }
-    ensures status { IfOk result (λ status. status ≡ (outcome_of keep_valid Profile.Core input.now script.now).status) }
-    ensures out { OutTakes (W.taken out.old) (W.taken out.new) (outcome_of keep_valid Profile.Core input.now script.now) result }
-    ensures report { ReportTakes (X.taken report.old) (X.taken report.new) (outcome_of keep_valid Profile.Core input.now script.now) result }
+    ensures status { IfOk result
+        (λ status. status ≡ (outcome_of keep_valid Profile.Core input.now script.now).status) }
+    ensures out { OutTakes (W.taken out.old) (W.taken out.new)
+        (outcome_of keep_valid Profile.Core input.now script.now) result }
+    ensures report { ReportTakes (X.taken report.old) (X.taken report.new)
+        (outcome_of keep_valid Profile.Core input.now script.now) result }
     ensures out_failures { W.failed out.new ≡ out_failures (W.failed out.old) result }
     ensures report_failures { X.failed report.new ≡ report_failures (X.failed report.old) result }
-    ensures means { OnRun result (IsReport keep_valid Profile.Core input.now script.now (outcome_of keep_valid Profile.Core input.now script.now)) }
+    ensures means { OnRun result
+        (IsReport keep_valid Profile.Core input.now script.now
+        (outcome_of keep_valid Profile.Core input.now script.now)) }
 {
     edit_in(alloc, input, script, keep_valid, Profile::Core, out, report)
 }

@@ -106,7 +106,8 @@ fn are_accepted<T>(replies: &[Result<T, EditFault>]) -> bool
 // How a run ends.
 #[tactic(auto, using(crate::proofs::DraftOutcomes::all_made))]
 fn status_of<T>(replies: &[Result<T, EditFault>], verdict: &Verdict) -> Status
-    ensures { (told : List (Result WorkOf EditFaultOf)) → AreAlike replies.now told → result ≡ run_status told verdict.now }
+    ensures { (told : List (Result WorkOf EditFaultOf)) → AreAlike replies.now told
+        → result ≡ run_status told verdict.now }
 {
     if are_accepted(replies) && matches!(verdict, Verdict::Valid) {
         Status::Accepted
@@ -121,8 +122,11 @@ fn make_edits(
     edits: &[Edit],
     keep_valid: bool,
 ) -> Result<Vec<Reply>, OutOfMemory>
-    ensures replies { IfOk result (λ rs. rs.items ≡ replies_of keep_valid edits.now (refused_for_memory rs.items) session.old) }
-    ensures module_is { IfOk result (λ rs. session.new ≡ after keep_valid edits.now (refused_for_memory rs.items) session.old) }
+    ensures replies { IfOk result
+        (λ rs. rs.items
+        ≡ replies_of keep_valid edits.now (refused_for_memory rs.items) session.old) }
+    ensures module_is { IfOk result
+        (λ rs. session.new ≡ after keep_valid edits.now (refused_for_memory rs.items) session.old) }
 {
     if keep_valid {
         session.run_kept(edits)
@@ -241,7 +245,8 @@ fn run_whole(
     profile: Profile,
 ) -> Result<Prepared, RunFault>
     requires spelled { (m : PartsOf) × (module_at profile input.items ≡ Ok m) }
-    requires judged { (m : PartsOf) → module_at profile input.items ≡ Ok m → IfSome verdict (λ v. v ≡ module_verdict m) }
+    requires judged { (m : PartsOf) → module_at profile input.items ≡ Ok m
+        → IfSome verdict (λ v. v ≡ module_verdict m) }
     requires codes { (m : PartsOf) → module_at profile input.items ≡ Ok m
         → IfSome codes (λ cs. cs.items ≡ map code_of m.funcs) }
     ensures ok { (m : PartsOf) → module_at profile input.items ≡ Ok m
@@ -276,7 +281,8 @@ pub(crate) enum Opened {
 // a draft may serve, so that what is malformed is refused in the time of reading.
 fn open(alloc: Global, input: Vec<u8>, profile: Profile) -> Result<Opened, ReadFault>
     ensures exact { MatchResult result
-        (λ opened. (m : PartsOf) × (module_at profile input.items ≡ Ok m) × IsOpened profile m opened)
+        (λ opened. (m : PartsOf) × (module_at profile input.items ≡ Ok m)
+        × IsOpened profile m opened)
         (λ e. FailsAs e e.kind (module_at profile input.items)) }
     ensures is { IsReading profile input.items (module_at profile input.items) }
 {
@@ -298,7 +304,8 @@ fn run_edits(
     profile: Profile,
 ) -> Result<Prepared, RunFault>
     requires { (m : PartsOf) × IsOpened profile m opened }
-    ensures ok { (m : PartsOf) → IsOpened profile m opened → IfOk result (IsPrepared (run_outcome keep_valid m edits.now)) }
+    ensures ok { (m : PartsOf) → IsOpened profile m opened
+        → IfOk result (IsPrepared (run_outcome keep_valid m edits.now)) }
     ensures memory { IfErr result (λ e. e ≡ RunFault.Memory) }
 {
     let (outline, input) = match opened {

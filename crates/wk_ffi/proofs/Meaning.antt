@@ -19,7 +19,8 @@ refused_so : (Means : Result Parts ReadFault → Type 0) (profile : Profile) (by
 refused_so Means profile bytes read fault so fails none stands other =
     subst Means (sym (other_fault fault fault.kind read other fails)) (so fault (none other, stands, other))
 
-on_refused : {A B : Type 0} (Means : Result Parts ReadFault → Type 0) (profile : Profile) (bytes : List ℕ) (read : Result Parts ReadFault) (fault : ReadFault) (r : Result A B)
+on_refused : {A B : Type 0} (Means : Result Parts ReadFault → Type 0) (profile : Profile) (bytes : List ℕ) (read : Result Parts ReadFault)
+    (fault : ReadFault) (r : Result A B)
     → ((d : ReadFault) → MeansNone profile bytes d → Means (Err d))
     → FailsAs fault fault.kind read → (fault.kind ≢ Memory → SpellsNone profile bytes) → StandsIn bytes fault → OnOk r (fault.kind ≢ Memory)
     → OnOk r (Means read)
@@ -27,7 +28,8 @@ on_refused Means profile bytes read fault (Ok a) so fails none stands other = re
 on_refused Means profile bytes read fault (Err e) so fails none stands other = other
 
 -- of stripping
-pub means_refused : {A B : Type 0} (profile : Profile) (keep : Option (List ℕ)) (bytes : List ℕ) (read : Result Parts ReadFault) (fault : ReadFault) (r : Result A B)
+pub means_refused : {A B : Type 0} (profile : Profile) (keep : Option (List ℕ)) (bytes : List ℕ) (read : Result Parts ReadFault) (fault : ReadFault)
+    (r : Result A B)
     → FailsAs fault fault.kind read → (fault.kind ≢ Memory → SpellsNone profile bytes) → StandsIn bytes fault → OnOk r (fault.kind ≢ Memory)
     → OnOk r (MeansStripped profile keep bytes read)
 means_refused profile keep bytes read fault r = on_refused (MeansStripped profile keep bytes) profile bytes read fault r (λ d none. none)
@@ -38,5 +40,6 @@ pub list_refused : {A B : Type 0} (profile : Profile) (bytes : List ℕ) (read :
     → OnOk r (MeansListed profile bytes read)
 list_refused profile bytes read fault r = on_refused (MeansListed profile bytes) profile bytes read fault r (λ d none. none)
 
-pub means_read : (profile : Profile) (bytes : List ℕ) (m : Parts) (read : Result Parts ReadFault) → read ≡ Ok m → IsReading profile bytes read → MeansListed profile bytes read
+pub means_read : (profile : Profile) (bytes : List ℕ) (m : Parts) (read : Result Parts ReadFault) → read ≡ Ok m → IsReading profile bytes read
+    → MeansListed profile bytes read
 means_read profile bytes m read is reading = subst (MeansListed profile bytes) (sym is) (subst (IsReading profile bytes) is reading)

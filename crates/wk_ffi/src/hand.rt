@@ -50,7 +50,8 @@ pub fn hand_both(
     text: &mut [u8],
     text_len: &mut usize,
 ) -> u32
-    ensures { GivesBoth answer (output bytes.old bytes.new bytes_len.new) (output text.old text.new text_len.new) result }
+    ensures { GivesBoth answer (output bytes.old bytes.new bytes_len.new)
+        (output text.old text.new text_len.new) result }
 {
     let answer = match answer {
         Ok(answer) => answer,

@@ -149,8 +149,12 @@ fn strip_module(
     profile: Profile,
     keep: Option<&Text>,
 ) -> Result<Answer, CallFault>
-    ensures ok { IfOk result (λ a. told_of a ≡ strip_answer (option_map (λ name. name.now) keep.entry) (module_at profile bytes.now)) }
-    ensures means { OnOk result (MeansStripped profile (option_map (λ name. name.now) keep.entry) bytes.now
+    ensures ok { IfOk result
+        (λ a. told_of a
+        ≡ strip_answer (option_map (λ name. name.now) keep.entry)
+        (module_at profile bytes.now)) }
+    ensures means { OnOk result
+        (MeansStripped profile (option_map (λ name. name.now) keep.entry) bytes.now
         (module_at profile bytes.now)) }
     ensures memory { IfErr result (λ e. e ≡ CallFault.Memory) }
 {
@@ -191,8 +195,11 @@ fn edit_bytes(
     keep_valid: bool,
     profile: Profile,
 ) -> Result<Answer, CallFault>
-    ensures ok { IfOk result (λ a. told_of a ≡ outcome_told (outcome_of keep_valid profile bytes.now script.now)) }
-    ensures means { OnOk result (IsReport keep_valid profile bytes.now script.now (outcome_of keep_valid profile bytes.now script.now)) }
+    ensures ok { IfOk result
+        (λ a. told_of a ≡ outcome_told (outcome_of keep_valid profile bytes.now script.now)) }
+    ensures means { OnOk result
+        (IsReport keep_valid profile bytes.now script.now
+        (outcome_of keep_valid profile bytes.now script.now)) }
     ensures memory { IfErr result (λ e. e ≡ CallFault.Memory) }
 {
     let mut edited = Sink::new(Vec::new(alloc));

@@ -58,7 +58,8 @@ pub extern "C" fn wk_ffi_validate(
     text: &mut [u8],
     text_len: &mut usize,
 ) -> u32
-    ensures told { AnswersText (validation_told profile bytes.now) (output text.old text.new text_len.new) result }
+    ensures told { AnswersText (validation_told profile bytes.now)
+        (output text.old text.new text_len.new) result }
     ensures means { IsTold result → ValidationMeans profile bytes.now }
 {
     hand_text(jobs::validation(alloc, bytes, profile), text, text_len)
@@ -73,7 +74,8 @@ pub extern "C" fn wk_ffi_sections(
     text: &mut [u8],
     text_len: &mut usize,
 ) -> u32
-    ensures told { AnswersText (sections_told bytes.now) (output text.old text.new text_len.new) result }
+    ensures told { AnswersText (sections_told bytes.now) (output text.old text.new text_len.new)
+        result }
     ensures stands { IsTold result → All (ItemStands bytes.now) (sections_of bytes.now) }
 {
     hand_text(jobs::sections(alloc, bytes), text, text_len)
@@ -90,7 +92,8 @@ pub extern "C" fn wk_ffi_list(
     text: &mut [u8],
     text_len: &mut usize,
 ) -> u32
-    ensures told { AnswersText (list_told profile part bytes.now) (output text.old text.new text_len.new) result }
+    ensures told { AnswersText (list_told profile part bytes.now)
+        (output text.old text.new text_len.new) result }
     ensures means { IsTold result → ListMeans profile part bytes.now }
 {
     hand_text(jobs::listing(alloc, bytes, profile, part), text, text_len)
@@ -109,8 +112,8 @@ pub extern "C" fn wk_ffi_strip(
     text: &mut [u8],
     text_len: &mut usize,
 ) -> u32
-    ensures told { AnswersBoth (strip_told profile keep.now bytes.now) (output out.old out.new out_len.new)
-        (output text.old text.new text_len.new) result }
+    ensures told { AnswersBoth (strip_told profile keep.now bytes.now)
+        (output out.old out.new out_len.new) (output text.old text.new text_len.new) result }
     ensures means { IsTold result → StripMeans profile keep.now bytes.now }
 {
     let answer = jobs::strip(alloc, bytes, profile, keep);
@@ -131,8 +134,8 @@ pub extern "C" fn wk_ffi_edit(
     text: &mut [u8],
     text_len: &mut usize,
 ) -> u32
-    ensures told { AnswersBoth (edit_told profile keep_valid bytes.now script.now) (output out.old out.new out_len.new)
-        (output text.old text.new text_len.new) result }
+    ensures told { AnswersBoth (edit_told profile keep_valid bytes.now script.now)
+        (output out.old out.new out_len.new) (output text.old text.new text_len.new) result }
     ensures means { IsTold result → EditMeans profile keep_valid bytes.now script.now }
 {
     let answer = jobs::edit(alloc, bytes, script, keep_valid, profile);

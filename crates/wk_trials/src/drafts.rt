@@ -97,7 +97,8 @@ impl Draft {
     }
 
     fn edits(self, alloc: Global, edits: &[Edit]) -> Outcome
-        requires { (m : PartsOf) × (module_at self.sample.profile self.sample.bytes.now ≡ Ok m) × (module_verdict m ≡ Verdict.Valid) }
+        requires { (m : PartsOf) × (module_at self.sample.profile self.sample.bytes.now ≡ Ok m)
+            × (module_verdict m ≡ Verdict.Valid) }
     {
         let Sample { profile, bytes } = self.sample;
         call_begins(alloc);
@@ -143,7 +144,8 @@ impl Draft {
     }
 
     fn edits_and_writes(self, alloc: Global, edits: &[Edit], room: Room) -> Outcome
-        requires { (m : PartsOf) × (module_at self.sample.profile self.sample.bytes.now ≡ Ok m) × (module_verdict m ≡ Verdict.Valid) }
+        requires { (m : PartsOf) × (module_at self.sample.profile self.sample.bytes.now ≡ Ok m)
+            × (module_verdict m ≡ Verdict.Valid) }
     {
         let Sample { profile, bytes } = self.sample;
         match edit_valid(alloc, bytes, profile, edits, self.keep) {

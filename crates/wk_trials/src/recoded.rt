@@ -86,7 +86,9 @@ fn writes_codes(
 ) -> Outcome
     requires failed { ⟦<Sink as Out>⟧.failed sink ≡ 0 }
     requires many { length codes.now.items ≡ length (session.now).funcs }
-    requires fits { length (encoded_with session.now (with_items (map code_of (session.now).funcs) codes.now.items)) ≤ limit }
+    requires fits { length (encoded_with session.now
+        (with_items (map code_of (session.now).funcs) codes.now.items))
+        ≤ limit }
 {
     call_begins(alloc);
     let answer = session.write_with(codes, &mut sink);

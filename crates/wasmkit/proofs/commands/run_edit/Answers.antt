@@ -9,7 +9,8 @@ pub returns-in_err-input : goal.returns-in_err-input
 returns-in_err-input g c =
     let a = c.args.command in
     let e = c.in_err-input.ensures in
-    not_loaded a.file.now (λ input. Loads a.script.now (λ script. Gives a.out.now (edited a input script))) _ _ _ _ e.0 e.2 nothing (passed _ _ _ c.from_residual.ensures.1 e.1)
+    not_loaded a.file.now (λ input. Loads a.script.now (λ script. Gives a.out.now (edited a input script))) _ _ _ _ e.0 e.2 nothing
+    (passed _ _ _ c.from_residual.ensures.1 e.1)
 
 pub returns-in_err-script : goal.returns-in_err-script
 returns-in_err-script g c =
@@ -17,7 +18,8 @@ returns-in_err-script g c =
     let input = c.in_ok-input.input.items in
     let e = c.in_err-script.ensures in
     loaded a.file.now input (λ input. Loads a.script.now (λ script. Gives a.out.now (edited a input script))) _ _ _ _ _ c.in_ok-input.ensures
-    (not_loaded a.script.now (λ script. Gives a.out.now (edited a input script)) _ _ _ _ e.0 e.2 nothing (passed _ _ _ c.from_residual-in_err-script.ensures.1 e.1))
+    (not_loaded a.script.now (λ script. Gives a.out.now (edited a input script)) _ _ _ _ e.0 e.2 nothing
+    (passed _ _ _ c.from_residual-in_err-script.ensures.1 e.1))
 
 pub returns-in_err-edited : goal.returns-in_err-edited
 returns-in_err-edited g c =
@@ -37,4 +39,5 @@ returns g c =
     let of : AreOf (outcome_of a.keep_valid a.profile input script) e.status e.«module».items e.report.items = search rules in
     loaded a.file.now input (λ input. Loads a.script.now (λ script. Gives a.out.now (edited a input script))) _ _ _ _ _ c.in_ok-input.ensures
     (loaded a.script.now script (λ script. Gives a.out.now (edited a input script)) _ _ _ _ _ c.in_ok-script.ensures
-    (given_edited a.out.now (outcome_of a.keep_valid a.profile input script) _ e.status _ e.«module».items e.report.items _ _ _ _ _ of c.saved.ensures c.code.ensures c.deref-2.ensures.value c.give.ensures))
+    (given_edited a.out.now (outcome_of a.keep_valid a.profile input script) _ e.status _ e.«module».items e.report.items _ _ _ _ _ of c.saved.ensures
+    c.code.ensures c.deref-2.ensures.value c.give.ensures))

@@ -11,7 +11,8 @@ returns-in_err-input g c =
 
 pub returns-in_err-text : goal.returns-in_err-text
 returns-in_err-text g c =
-    loaded c.args.file.now c.in_ok-input.input.items (λ input. Gives [] (framed input)) _ _ _ _ _ c.in_ok-input.ensures (ends (inr (inl (refl, nothing, c.from_residual-in_err-text.ensures.1))))
+    loaded c.args.file.now c.in_ok-input.input.items (λ input. Gives [] (framed input)) _ _ _ _ _ c.in_ok-input.ensures
+    (ends (inr (inl (refl, nothing, c.from_residual-in_err-text.ensures.1))))
 
 pub returns : goal.returns
 returns g c =

@@ -23,7 +23,8 @@ returns-in-Ok g c =
     let read : module_at a.profile input ≡ Ok e.0 = search rules in
     let saved_is = c.as_slice.ensures ∙ e.2 ∙ ap (λ (k : Option (List ℕ)). encoded (settle (with_kept k e.0))) c.as_ref.ensures.value in
     loaded a.file.now input (λ input. Gives a.out.now (stripped a input)) _ _ _ _ _ c.in_ok-input.ensures
-    (on_read a.out.now (bare a.keep) _ _ _ _ _ _ read (given a.out.now (bare a.keep e.0) _ _ _ _ _ _ _ (ap (λ (b : List ℕ). Some b) saved_is) refl refl c.give.ensures))
+    (on_read a.out.now (bare a.keep) _ _ _ _ _ _ read
+    (given a.out.now (bare a.keep e.0) _ _ _ _ _ _ _ (ap (λ (b : List ℕ). Some b) saved_is) refl refl c.give.ensures))
 
 pub returns : goal.returns
 returns g c =

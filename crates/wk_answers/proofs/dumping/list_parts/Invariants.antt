@@ -6,6 +6,7 @@ use Rattle.wk_answers.proofs.dumping.list_parts.Given as goal
 
 abbrev pub invariant-loop-part : goal.invariant-loop-part
 invariant-loop-part g l = record {
-  so_far : Leaves (g.X.Out.taken l.fn.out) (g.X.Out.taken l.out) (flat_map (listing (g.S.Shape.seen l.shape)) l.parts) (flat_map (listing (g.S.Shape.seen l.shape)) (drop l.part-index l.parts));
+  so_far : Leaves (g.X.Out.taken l.fn.out) (g.X.Out.taken l.out) (flat_map (listing (g.S.Shape.seen l.shape)) l.parts)
+      (flat_map (listing (g.S.Shape.seen l.shape)) (drop l.part-index l.parts));
   failures : g.X.Out.failed l.out ≡ g.X.Out.failed l.fn.out;
 }

@@ -9,10 +9,12 @@ list_summary-requires-clause-part g c = no_bodies c.args.parts.now c.loop-part.p
 pub returns-in_err-list_summary-clause-err : goal.returns-in_err-list_summary-clause-err
 returns-in_err-list_summary-clause-err g c =
     on_err_known c.from_residual.result (
-    some_taken (listing c.args.summary.now) c.args.parts.now c.loop-part.part-index _ _ _ _ _ c.loop-part-test.true c.loop-part.invariant.so_far c.in_err-list_summary.ensures.err)
+    some_taken (listing c.args.summary.now) c.args.parts.now c.loop-part.part-index _ _ _ _ _ c.loop-part-test.true c.loop-part.invariant.so_far
+    c.in_err-list_summary.ensures.err)
 
 pub loop-part-preserved : goal.loop-part-preserved
 loop-part-preserved g c = record {
-  so_far = more_taken (listing c.args.summary.now) c.args.parts.now c.loop-part.part-index _ _ _ _ _ c.loop-part-test.true c.loop-part.invariant.so_far c.in_ok-list_summary.ensures.ok;
+  so_far = more_taken (listing c.args.summary.now) c.args.parts.now c.loop-part.part-index _ _ _ _ _ c.loop-part-test.true c.loop-part.invariant.so_far
+      c.in_ok-list_summary.ensures.ok;
   failures = c.in_ok-list_summary.ensures.failures ∙ c.loop-part.invariant.failures;
 }

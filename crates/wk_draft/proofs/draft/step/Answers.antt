@@ -23,15 +23,18 @@ returns-else-not-has_room c = λ os m room held.
       least_body = c.written_form_of_code.ensures.least_body;
       least_expr = c.written_form_of_code.ensures.least_expr;
     } in
-    let told = follows laws.frame laws.moved laws.there c.moving_of_module.ensures.formed least c.args.keep old.shifts os old.deferred.items m old.session held.draft c.parts.ensures.shaped held.fits e c.bytes_of_edit.ensures in
+    let told = follows laws.frame laws.moved laws.there c.moving_of_module.ensures.formed least c.args.keep old.shifts os old.deferred.items m
+    old.session held.draft c.parts.ensures.shaped held.fits e c.bytes_of_edit.ensures in
     let within = c.if-not-has_room.ensures refl in
     let fits : length (encoded c.apply.new.session) + deferred_room os ≤ _ = omega (arith, within, c.encoded_len.ensures.value, room) in
     let imported = old.shifts.funcs_from + old.shifts.funcs_by in
     let counted = ap (λ (p : Parts). import_count kinds.Func p.imports) held.draft.sketch.rest ∙ held.draft.funcs_from in
     let defined : c.len-defined.result ≡ length old.session.funcs = c.len-defined.ensures ∙ ap (λ (p : Parts). length p.funcs) c.parts.ensures.value in
     let entry = c.replaced_entry-entry.ensures ∙ ap (λ (n : ℕ). replaced_entry e imported n) defined in
-    let deferred = c.clear_deferred.ensures ∙ ap (λ (r : Option ℕ). deferred_without r old.deferred.items) entry ∙ sym (deferred_replaced e old.session imported old.deferred.items counted) in
-    stepped c.args.keep e os m old new held told c.in-Ok.field-0 c.in-Ok.ensures.reply c.in-Ok.ensures.module_is c.parts-parts.ensures.shaped fits c.in-Some.ensures deferred
+    let deferred = c.clear_deferred.ensures ∙ ap (λ (r : Option ℕ). deferred_without r old.deferred.items) entry
+    ∙ sym (deferred_replaced e old.session imported old.deferred.items counted) in
+    stepped c.args.keep e os m old new held told c.in-Ok.field-0 c.in-Ok.ensures.reply c.in-Ok.ensures.module_is c.parts-parts.ensures.shaped fits
+    c.in-Some.ensures deferred
 
 pub returns-in-Err : goal.returns-in-Err
 returns-in-Err c = λ os m room held.
@@ -45,8 +48,10 @@ returns-in-Err c = λ os m room held.
       least_body = c.written_form_of_code.ensures.least_body;
       least_expr = c.written_form_of_code.ensures.least_expr;
     } in
-    let told = follows laws.frame laws.moved laws.there c.moving_of_module.ensures.formed least c.args.keep old.shifts os old.deferred.items m old.session held.draft c.parts.ensures.shaped held.fits e c.bytes_of_edit.ensures in
+    let told = follows laws.frame laws.moved laws.there c.moving_of_module.ensures.formed least c.args.keep old.shifts os old.deferred.items m
+    old.session held.draft c.parts.ensures.shaped held.fits e c.bytes_of_edit.ensures in
     let size : c.encoded_len-len.result + c.args.room ≡ length (encoded old.session) + deferred_room os =
     omega (arith, c.encoded_len-len.ensures.value, room) in
     let sure = subst (λ (n : ℕ). IsSure e n c.in-Err.fault) size (c.if-is_sure.ensures refl) in
-    refused c.args.keep e os m old new held told c.in-Err.fault (sure_other e _ c.in-Err.fault sure) c.in-Err.ensures.reply c.in-Err.ensures.module_is sure refl refl
+    refused c.args.keep e os m old new held told c.in-Err.fault
+    (sure_other e _ c.in-Err.fault sure) c.in-Err.ensures.reply c.in-Err.ensures.module_is sure refl refl

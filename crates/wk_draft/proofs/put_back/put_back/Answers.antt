@@ -29,7 +29,15 @@ loop-news-preserved c =
 
 pub returns-clause-many : goal.returns-clause-many
 returns-clause-many c =
-    omega (arith, c.loop-news.invariant.few, c.loop-news-test.false, c.len-in-loop-news.ensures, c.loop-news.news.ok.0, c.len-count.ensures, ap (λ m. length m.funcs) c.parts.ensures.value)
+    omega (
+      arith,
+      c.loop-news.invariant.few,
+      c.loop-news-test.false,
+      c.len-in-loop-news.ensures,
+      c.loop-news.news.ok.0,
+      c.len-count.ensures,
+      ap (λ m. length m.funcs) c.parts.ensures.value,
+    )
 
 pub returns-clause-codes : goal.returns-clause-codes
 returns-clause-codes c = λ profile os m told all held.

@@ -15,13 +15,15 @@ loop-code-init c = record {
 pub index-requires : goal.index-requires
 index-requires c =
     let all = YieldsList-from_vec {s = c.into_iter-code-iterator.result} c.args.codes.items (search rules) (search rules) in
-    let turn = YieldsList-turn all c.loop-code.yielded c.loop-code.code-iterator c.loop-code.yielded_by c.next.result c.next.new.self c.in-Some.code c.in-Some.is c.next.ensures.steps in
+    let turn = YieldsList-turn all c.loop-code.yielded c.loop-code.code-iterator c.loop-code.yielded_by c.next.result c.next.new.self c.in-Some.code
+    c.in-Some.is c.next.ensures.steps in
     omega (arith, turn.0, c.loop-code.invariant.len, c.len-in-loop-code.ensures, c.requires, c.args.deferred.now.ok.0)
 
 pub push_reserved-requires : goal.push_reserved-requires
 push_reserved-requires c =
     let all = YieldsList-from_vec {s = c.into_iter-code-iterator.result} c.args.codes.items (search rules) (search rules) in
-    let turn = YieldsList-turn all c.loop-code.yielded c.loop-code.code-iterator c.loop-code.yielded_by c.next.result c.next.new.self c.in-Some.code c.in-Some.is c.next.ensures.steps in
+    let turn = YieldsList-turn all c.loop-code.yielded c.loop-code.code-iterator c.loop-code.yielded_by c.next.result c.next.new.self c.in-Some.code
+    c.in-Some.is c.next.ensures.steps in
     omega (arith, turn.0, c.loop-code.invariant.len, c.loop-code.invariant.room)
 
 pub loop-code-preserved-then-not-index : goal.loop-code-preserved-then-not-index
@@ -30,14 +32,16 @@ loop-code-preserved-then-not-index c =
     let i = length c.loop-code.yielded in
     let deferred = c.args.deferred.now.items in
     let all = YieldsList-from_vec {s = c.into_iter-code-iterator.result} c.args.codes.items (search rules) (search rules) in
-    let turn = YieldsList-turn all c.loop-code.yielded c.loop-code.code-iterator c.loop-code.yielded_by c.next.result c.next.new.self c.in-Some.code c.in-Some.is c.next.ensures.steps in
+    let turn = YieldsList-turn all c.loop-code.yielded c.loop-code.code-iterator c.loop-code.yielded_by c.next.result c.next.new.self c.in-Some.code
+    c.in-Some.is c.next.ensures.steps in
     let place : c.len-in-loop-code.result ≡ i = omega (arith, c.len-in-loop-code.ensures, inv.len) in
     let longer : length (c.loop-code.yielded ++ c.in-Some.code ∷ []) ≡ suc i = omega (arith, length_push c.loop-code.yielded c.in-Some.code) in
     let flag : c.index.result.now ≡ get_or deferred i c.index.result.now = c.index.ensures ∙ ap (λ k. get_or deferred k c.index.result.now) place in
     record {
       made = made_more c.args.shifts c.args.codes.items deferred i _ c.in-Some.code c.index.result.now None c.loop-code.news.items
           c.push_reserved.new.self.items
-          c.requires turn.0 longer turn.1 flag c.push_reserved.ensures.items (subst (IsNew c.args.shifts c.in-Some.code None) (sym c.if-not-index.true) refl) inv.made;
+          c.requires turn.0 longer turn.1 flag c.push_reserved.ensures.items
+          (subst (IsNew c.args.shifts c.in-Some.code None) (sym c.if-not-index.true) refl) inv.made;
       len = omega (arith, c.push_reserved.ensures.len, inv.len, longer);
       room = omega (arith, c.push_reserved.ensures.capacity, inv.room);
     }
@@ -45,7 +49,8 @@ loop-code-preserved-then-not-index c =
 pub push_reserved-requires-in-loop-code : goal.push_reserved-requires-in-loop-code
 push_reserved-requires-in-loop-code c =
     let all = YieldsList-from_vec {s = c.into_iter-code-iterator.result} c.args.codes.items (search rules) (search rules) in
-    let turn = YieldsList-turn all c.loop-code.yielded c.loop-code.code-iterator c.loop-code.yielded_by c.next.result c.next.new.self c.in-Some.code c.in-Some.is c.next.ensures.steps in
+    let turn = YieldsList-turn all c.loop-code.yielded c.loop-code.code-iterator c.loop-code.yielded_by c.next.result c.next.new.self c.in-Some.code
+    c.in-Some.is c.next.ensures.steps in
     omega (arith, turn.0, c.loop-code.invariant.len, c.loop-code.invariant.room)
 
 pub loop-code-preserved : goal.loop-code-preserved
@@ -55,15 +60,18 @@ loop-code-preserved c =
     let deferred = c.args.deferred.now.items in
     let new = c.in-Some-2.code in
     let all = YieldsList-from_vec {s = c.into_iter-code-iterator.result} c.args.codes.items (search rules) (search rules) in
-    let turn = YieldsList-turn all c.loop-code.yielded c.loop-code.code-iterator c.loop-code.yielded_by c.next.result c.next.new.self c.in-Some.code c.in-Some.is c.next.ensures.steps in
+    let turn = YieldsList-turn all c.loop-code.yielded c.loop-code.code-iterator c.loop-code.yielded_by c.next.result c.next.new.self c.in-Some.code
+    c.in-Some.is c.next.ensures.steps in
     let place : c.len-in-loop-code.result ≡ i = omega (arith, c.len-in-loop-code.ensures, inv.len) in
     let longer : length (c.loop-code.yielded ++ c.in-Some.code ∷ []) ≡ suc i = omega (arith, length_push c.loop-code.yielded c.in-Some.code) in
     let flag : c.index.result.now ≡ get_or deferred i c.index.result.now = c.index.ensures ∙ ap (λ k. get_or deferred k c.index.result.now) place in
     let is = rw c.in-Some-2.is at c.in_ok-code.ensures in
     record {
-      made = made_more c.args.shifts c.args.codes.items deferred i _ c.in-Some.code c.index.result.now (Some new) c.loop-code.news.items c.push_reserved-in-loop-code.new.self.items
+      made = made_more c.args.shifts c.args.codes.items deferred i _ c.in-Some.code c.index.result.now
+          (Some new) c.loop-code.news.items c.push_reserved-in-loop-code.new.self.items
           c.requires turn.0 longer turn.1 flag c.push_reserved-in-loop-code.ensures.items
-          (subst (IsNew c.args.shifts c.in-Some.code (Some new)) (sym c.if-not-index.false) (λ profile b is_code told. ap Some (is profile b is_code told))) inv.made;
+          (subst (IsNew c.args.shifts c.in-Some.code (Some new)) (sym c.if-not-index.false)
+          (λ profile b is_code told. ap Some (is profile b is_code told))) inv.made;
       len = omega (arith, c.push_reserved-in-loop-code.ensures.len, inv.len, longer);
       room = omega (arith, c.push_reserved-in-loop-code.ensures.capacity, inv.room);
     }
@@ -71,5 +79,7 @@ loop-code-preserved c =
 pub returns : goal.returns
 returns c =
     let all = YieldsList-from_vec {s = c.into_iter-code-iterator.result} c.args.codes.items (search rules) (search rules) in
-    let end = YieldsList-end all c.loop-code.yielded c.loop-code.code-iterator c.loop-code.yielded_by c.next.result c.next.new.self c.in-None.is c.next.ensures.steps in
-    made_all c.args.shifts c.args.codes.items c.args.deferred.now.items c.loop-code.news.items (length c.loop-code.yielded) (omega (arith, end.1)) c.loop-code.invariant.made
+    let end = YieldsList-end all c.loop-code.yielded c.loop-code.code-iterator c.loop-code.yielded_by c.next.result c.next.new.self c.in-None.is
+    c.next.ensures.steps in
+    made_all c.args.shifts c.args.codes.items c.args.deferred.now.items c.loop-code.news.items (length c.loop-code.yielded)
+    (omega (arith, end.1)) c.loop-code.invariant.made

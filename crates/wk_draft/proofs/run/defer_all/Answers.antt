@@ -21,4 +21,5 @@ loop-preserved c = record {
 }
 
 pub returns : goal.returns
-returns c = c.loop.invariant.items ∙ ap (λ n. replicate n true) (let same : c.loop.counter ≡ c.args.count = omega (arith, c.loop-test.false, c.loop.auto.counter-end) in same)
+returns c = c.loop.invariant.items ∙ ap (λ n. replicate n true)
+    (let same : c.loop.counter ≡ c.args.count = omega (arith, c.loop-test.false, c.loop.auto.counter-end) in same)

@@ -12,7 +12,8 @@ edit_outlined-requires c =
     let read = module_at c.args.profile c.args.input.now in
     let valid : module_verdict m ≡ Valid = sym (c.in-Ok.ensures.exact m c.requires.1) ∙ c.in-Valid.is in (
       m,
-      opened_by c.args.profile c.args.input.now c.args.outline.module c.args.outline.codes.items read (m, c.requires.1, valid) c.reading_of_module.ensures.is c.reading_of_module.ensures.fits
+      opened_by c.args.profile c.args.input.now c.args.outline.module c.args.outline.codes.items read
+          (m, c.requires.1, valid) c.reading_of_module.ensures.is c.reading_of_module.ensures.fits
           (m, c.requires.1, c.requires.2, c.requires.3) m c.requires.1,
     )
 
@@ -21,7 +22,8 @@ returns-in-Some c = λ m at.
     let read = module_at c.args.profile c.args.input.now in
     let n : Parts = c.requires.0 in
     let valid : module_verdict n ≡ Valid = sym (c.in-Ok.ensures.exact n c.requires.1) ∙ c.in-Valid.is in
-    let outlined = opened_by c.args.profile c.args.input.now c.args.outline.module c.args.outline.codes.items read (n, c.requires.1, valid) c.reading_of_module.ensures.is c.reading_of_module.ensures.fits
+    let outlined = opened_by c.args.profile c.args.input.now c.args.outline.module c.args.outline.codes.items read
+    (n, c.requires.1, valid) c.reading_of_module.ensures.is c.reading_of_module.ensures.fits
     (n, c.requires.1, c.requires.2, c.requires.3) m at in
     rw c.in-Some.is at (c.in_ok-run.ensures m outlined)
 
@@ -30,10 +32,12 @@ returns-in-None c = λ m at. (sym c.in-Valid.is ∙ c.in-Ok.ensures.exact m at, 
 
 pub returns-then-has_breaking_import : goal.returns-then-has_breaking_import
 returns-then-has_breaking_import c = λ m at.
-    let codes = codes_by (module_at c.args.profile c.args.input.now) c.args.outline.module c.args.outline.codes.items (c.requires.0, c.requires.1, c.requires.2, c.requires.3) m at in
+    let codes = codes_by (module_at c.args.profile c.args.input.now) c.args.outline.module c.args.outline.codes.items
+    (c.requires.0, c.requires.1, c.requires.2, c.requires.3) m at in
     c.give_up.ensures c.args.keep m c.args.edits.now tt codes
 
 pub returns-in_default : goal.returns-in_default
 returns-in_default c = λ m at.
-    let codes = codes_by (module_at c.args.profile c.args.input.now) c.args.outline.module c.args.outline.codes.items (c.requires.0, c.requires.1, c.requires.2, c.requires.3) m at in
+    let codes = codes_by (module_at c.args.profile c.args.input.now) c.args.outline.module c.args.outline.codes.items
+    (c.requires.0, c.requires.1, c.requires.2, c.requires.3) m at in
     c.give_up-in_default.ensures c.args.keep m c.args.edits.now (c.in-Ok.ensures.exact m at) codes

@@ -7,12 +7,14 @@ pub edit_outlined-requires : goal.edit_outlined-requires
 edit_outlined-requires c =
     let m : Parts = c.requires.0 in (
       m,
-      opened_by c.args.profile c.args.input.now c.in-Ok.outline.module c.in-Ok.outline.codes.items (module_at c.args.profile c.args.input.now) c.requires c.reading_of_module.ensures.is c.reading_of_module.ensures.fits
+      opened_by c.args.profile c.args.input.now c.in-Ok.outline.module c.in-Ok.outline.codes.items
+          (module_at c.args.profile c.args.input.now) c.requires c.reading_of_module.ensures.is c.reading_of_module.ensures.fits
           c.in-Ok.ensures.exact m c.requires.1,
     )
 
 pub returns : goal.returns
 returns c = λ m is.
     c.edit_outlined.ensures m
-    (opened_by c.args.profile c.args.input.now c.in-Ok.outline.module c.in-Ok.outline.codes.items (module_at c.args.profile c.args.input.now) c.requires c.reading_of_module.ensures.is c.reading_of_module.ensures.fits
+    (opened_by c.args.profile c.args.input.now c.in-Ok.outline.module c.in-Ok.outline.codes.items
+    (module_at c.args.profile c.args.input.now) c.requires c.reading_of_module.ensures.is c.reading_of_module.ensures.fits
     c.in-Ok.ensures.exact m is)

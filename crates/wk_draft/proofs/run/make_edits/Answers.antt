@@ -30,9 +30,11 @@ loop-edit-preserved c =
     → IsStepped c.args.keep c.edit-item.result os (after c.args.keep (take i es) [] m) c.in-Some.answer c.step.new.draft
     = λ os m room is. rw c.in-Some.is at (c.in_ok-answer.ensures os (after c.args.keep (take i es) [] m) room (inv.held os m room is)) in
     record {
-      held = λ os m room is. held_more c.args.keep es i c.edit-item.result c.loop-edit-test.true c.edit-item.is os m c.in-Some.answer c.step.new.draft (stepped os m room is);
+      held = λ os m room is. held_more c.args.keep es i c.edit-item.result c.loop-edit-test.true c.edit-item.is os m c.in-Some.answer c.step.new.draft
+          (stepped os m room is);
       alike = λ os m room is.
-          alike_more c.args.keep es i c.edit-item.result c.loop-edit-test.true c.edit-item.is os m c.loop-edit.replies.items c.push_reserved.new.self.items c.in-Some.answer c.step.new.draft (stepped os m room is)
+          alike_more c.args.keep es i c.edit-item.result c.loop-edit-test.true c.edit-item.is os m c.loop-edit.replies.items
+          c.push_reserved.new.self.items c.in-Some.answer c.step.new.draft (stepped os m room is)
           c.push_reserved.ensures.items (inv.alike os m room is);
       count = omega (arith, c.push_reserved.ensures.len, inv.count);
       capacity = omega (arith, c.push_reserved.ensures.capacity, inv.capacity);

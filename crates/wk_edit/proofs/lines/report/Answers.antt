@@ -10,7 +10,8 @@ loop-reply-init g c = record {
 
 pub loop-reply-preserved : goal.loop-reply-preserved
 loop-reply-preserved g c = record {
-  said = λ told alike. more _ _ _ _ _ _ told c.reply-item.result _ c.loop-reply-test.true c.reply-item.is alike c.in_ok-put_reply.ensures (c.loop-reply.invariant.said told alike);
+  said = λ told alike. more _ _ _ _ _ _ told c.reply-item.result _ c.loop-reply-test.true c.reply-item.is alike c.in_ok-put_reply.ensures
+      (c.loop-reply.invariant.said told alike);
   count = search rules;
 }
 

@@ -10,8 +10,10 @@ use Rattle.wk_edit.proofs.prepare.prepare_draft.Goals as goal
 pub returns-in-Ok-clause-ok : goal.returns-in-Ok-clause-ok
 returns-in-Ok-clause-ok c = λ keep m edits is.
     let qs = replies_of keep edits [] m in
-    let lent : AreAlike c.deref-2.result.now qs = subst (λ (rs : List (Result (Unit {0}) EditFault)). AreAlike rs qs) (sym c.deref-2.ensures.value) is.replies in
-    let lent_again : AreAlike c.deref.result.now qs = subst (λ (rs : List (Result (Unit {0}) EditFault)). AreAlike rs qs) (sym c.deref.ensures.value) is.replies in
+    let lent : AreAlike c.deref-2.result.now qs = subst (λ (rs : List (Result (Unit {0}) EditFault)). AreAlike rs qs)
+    (sym c.deref-2.ensures.value) is.replies in
+    let lent_again : AreAlike c.deref.result.now qs = subst (λ (rs : List (Result (Unit {0}) EditFault)). AreAlike rs qs)
+    (sym c.deref.ensures.value) is.replies in
     record {
       made = is.edited;
       spelled = spelled_once c.written_form_of_module.ensures.spells c.one_module.ensures.one (after keep edits [] m) is.shaped is.fits;

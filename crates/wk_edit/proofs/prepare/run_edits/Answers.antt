@@ -15,13 +15,15 @@ pub edit_outline-requires : goal.edit_outline-requires
 edit_outline-requires c =
     let m : Parts = c.requires.0 in
     let is = rw c.in-Outlined.is at c.requires.1 in
-    let lent : module_at c.args.profile c.deref.result.now ≡ Ok m = subst (λ (b : List ℕ). module_at c.args.profile b ≡ Ok m) (sym c.deref.ensures.value) is.0 in
+    let lent : module_at c.args.profile c.deref.result.now ≡ Ok m =
+    subst (λ (b : List ℕ). module_at c.args.profile b ≡ Ok m) (sym c.deref.ensures.value) is.0 in
     (m, lent, is.1, is.2)
 
 pub returns-in-Made-clause-ok : goal.returns-in-Made-clause-ok
 returns-in-Made-clause-ok c = λ m opened.
     let is = rw c.in-Outlined.is at opened in
-    let lent : module_at c.args.profile c.deref.result.now ≡ Ok m = subst (λ (b : List ℕ). module_at c.args.profile b ≡ Ok m) (sym c.deref.ensures.value) is.0 in
+    let lent : module_at c.args.profile c.deref.result.now ≡ Ok m =
+    subst (λ (b : List ℕ). module_at c.args.profile b ≡ Ok m) (sym c.deref.ensures.value) is.0 in
     c.prepare_draft.ensures.ok c.args.keep_valid m c.args.edits.now (rw c.in-Made.is at (c.in_ok-run.ensures m lent))
 
 pub run_whole-requires-clause-judged : goal.run_whole-requires-clause-judged

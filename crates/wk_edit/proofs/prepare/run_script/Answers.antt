@@ -11,7 +11,8 @@ use Rattle.wk_edit.proofs.prepare.run_script.Goals as goal
 
 pub returns-in-Err-clause-ok : goal.returns-in-Err-clause-ok
 returns-in-Err-clause-ok c = λ m input opened read.
-    script_ok c.args.keep_valid c.args.profile input c.args.script.now _ m c.in-Err.fault c.prepare_script_fault.ensures.ok c.prepare_script_fault.ensures.other read c.in-Err.ensures.exact
+    script_ok c.args.keep_valid c.args.profile input c.args.script.now _ m c.in-Err.fault c.prepare_script_fault.ensures.ok
+    c.prepare_script_fault.ensures.other read c.in-Err.ensures.exact
 
 pub returns-in-Err-clause-means : goal.returns-in-Err-clause-means
 returns-in-Err-clause-means c = λ m input opened read is.
@@ -40,5 +41,6 @@ returns-in-Ok-clause-means c = λ m input opened read is.
       body_never = c.reading_of_code.ensures.never_memory_body;
       expr_never = c.reading_of_code.ensures.never_memory_expr;
     } in
-    let prepared : IfOk r (IsPrepared (outcome_of keep c.args.profile input script)) = ran_ok keep c.args.profile input script r m (Ok edits) ran read c.in-Ok.ensures.exact in
+    let prepared : IfOk r (IsPrepared (outcome_of keep c.args.profile input script)) =
+    ran_ok keep c.args.profile input script r m (Ok edits) ran read c.in-Ok.ensures.exact in
     ran_means keep c.args.profile input script reads r m edits is read c.in-Ok.ensures.found c.in-Ok.ensures.only c.in-Ok.ensures.exact prepared

@@ -1,11 +1,13 @@
 use Rattle.std.proofs.Common.{[], arith}
 use Rattle.wk_module.specs.declared.types.Parts.{Parts}
-use Rattle.wk_module.specs.Sections.{SectionId, TypeSection, ImportSection, FunctionSection, TableSection, MemorySection, GlobalSection, ExportSection, StartSection, ElementSection, CodeSection, DataSection, contents, AreValid}
+use Rattle.wk_module.specs.Sections.{SectionId, TypeSection, ImportSection, FunctionSection, TableSection, MemorySection, GlobalSection, ExportSection}
+use Rattle.wk_module.specs.Sections.{StartSection, ElementSection, CodeSection, DataSection, contents, AreValid}
 use Rattle.wk_module.specs.Shape.{lists_of, IsFormed}
 use Rattle.wk_format_tests.proofs.modules.without_exports.Goals as goal
 
 -- the lists of a module are valid without its exports
-valid_without : (m : Parts) → ((k : SectionId) → AreValid m.profile k (contents (lists_of m) k)) → (k : SectionId) → AreValid m.profile k (contents (lists_of (record m { exports = [] })) k)
+valid_without : (m : Parts) → ((k : SectionId) → AreValid m.profile k (contents (lists_of m) k)) → (k : SectionId)
+    → AreValid m.profile k (contents (lists_of (record m { exports = [] })) k)
 valid_without m valid TypeSection = valid TypeSection
 valid_without m valid ImportSection = valid ImportSection
 valid_without m valid FunctionSection = valid FunctionSection

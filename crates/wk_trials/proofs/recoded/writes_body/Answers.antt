@@ -20,7 +20,8 @@ use Rattle.wk_trials.proofs.recoded.writes_body.Goals as goal
 with_body : Parts → Func → BodyOf → Parts
 with_body m f b = record m { funcs = record f { body = b } ∷ [] }
 
-written : (m : Parts) (f : Func) (b : BodyOf) (code : List ℕ) (codes : List (Option (List ℕ))) → m.funcs ≡ f ∷ [] → code ≡ written_body b → codes ≡ Some code ∷ []
+written : (m : Parts) (f : Func) (b : BodyOf) (code : List ℕ) (codes : List (Option (List ℕ))) → m.funcs ≡ f ∷ [] → code ≡ written_body b
+    → codes ≡ Some code ∷ []
     → encoded_with m (with_items (map code_of m.funcs) codes) ≡ encoded (with_body m f b)
 unfolding with_body
 written m f b code codes is same are =
@@ -50,8 +51,11 @@ writes_codes-requires-clause-fits c =
     let f = c.func-item.result in
     let b = c.args.body.now in
     let value = c.parts-parts.ensures.value in
-    let funcs : m.funcs ≡ f ∷ [] = sym (c.as_slice.ensures ∙ ap (λ (p : Parts). p.funcs) value) ∙ one c.as_slice.result.now f c.in-len1.len_at_least c.in-len1.len_below c.func-item.is in
+    let funcs : m.funcs ≡ f ∷ [] = sym (c.as_slice.ensures ∙ ap (λ (p : Parts). p.funcs) value)
+    ∙ one c.as_slice.result.now f c.in-len1.len_at_least c.in-len1.len_below c.func-item.is in
     let lists = c.of.ensures.lists ∙ ap (listed_with (f.ty ∷ [])) value in
     let same = c.in-Ok.ensures.exact.0 in
-    let short = fits m f b (listed c.of.result) c.in-Some._len c.len.result lists (c.len.ensures ∙ c.in-Ok.code.ok.0 ∙ ap length same) c.parts-parts.ensures.shaped.formed.order (rw value at c.in-Some.ensures) in
-    subst (λ (bytes : List ℕ). length bytes ≤ limit) (sym (written m f b c.in-Ok.code.items c.in-Some-one_code.codes.items funcs same c.in-Some-one_code.ensures)) short
+    let short = fits m f b (listed c.of.result) c.in-Some._len c.len.result lists
+    (c.len.ensures ∙ c.in-Ok.code.ok.0 ∙ ap length same) c.parts-parts.ensures.shaped.formed.order (rw value at c.in-Some.ensures) in
+    subst (λ (bytes : List ℕ). length bytes ≤ limit)
+    (sym (written m f b c.in-Ok.code.items c.in-Some-one_code.codes.items funcs same c.in-Some-one_code.ensures)) short
