@@ -162,7 +162,7 @@ def calls_of_block(head, body, crate, names, hidden):
     trait, type_name = owner_of(head)
     if head.startswith("pub trait"):
         return list(functions_in(body, crate, trait, True)) if trait in names else []
-    if type_name not in names or trait in hidden:
+    if type_name not in names or trait.partition("<")[0] in hidden:
         return []
     if not trait:
         return list(functions_in(body, crate, type_name, False))
