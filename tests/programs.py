@@ -1,4 +1,13 @@
-"""The built programs of the repository, for the scripts that test them."""
+"""The built programs of the repository, for the scripts that test them.
+
+The static library that C programs link is proved with the ten libraries below it, which takes `rt lib` as long as all of them. So each one that
+was built is kept in the machine's cache, under a name that tells what it was built from: the same sources and the same kit give the same
+library, and it is taken from there.
+
+`tests/programs.py take NAME` puts the library of a crate from the cache where the tests look for it, with status 1 where none is kept of these
+sources. `tests/programs.py keep NAME` keeps the one that stands there.
+"""
+import hashlib
 import os
 import shutil
 import subprocess
@@ -62,9 +71,69 @@ def built(name, words, rt=shutil.which("rt")):
     return current(f"{TOP}/crates/{name}/out/{name}", name, ["run", "--", *words], rt)
 
 
+def built_library(name):
+    """Where `rt lib` leaves the static library of a crate."""
+    return f"{TOP}/crates/{name}/out/lib{name}.a"
+
+
+def files_below(name):
+    """The files that `rt lib` reads for a crate, sorted."""
+    found = [f"{TOP}/crates.txt"]
+    for crate in libraries_below(name):
+        for part in ("src", "specs", "proofs"):
+            for folder, _, names in os.walk(f"{TOP}/crates/{crate}/{part}"):
+                found += [f"{folder}/{it}" for it in names]
+    return sorted(found)
+
+
+def kept_library(name, rt):
+    """Where the cache keeps the static library that these sources and this kit give."""
+    digest = hashlib.sha256(subprocess.run([rt, "version"], stdout=subprocess.PIPE, check=True).stdout)
+    for path in files_below(name):
+        with open(path, "rb") as it:
+            data = it.read()
+        digest.update(f"{os.path.relpath(path, TOP)} {len(data)}\n".encode() + data)
+    cache = os.environ.get("XDG_CACHE_HOME") or os.path.expanduser("~/.cache")
+    return f"{cache}/wasmkit/lib{name}-{digest.hexdigest()[:32]}.a"
+
+
+def copy_whole(source, target):
+    """Copies a file, so that nobody finds half of it."""
+    os.makedirs(os.path.dirname(target), exist_ok=True)
+    shutil.copyfile(source, f"{target}.{os.getpid()}")
+    os.replace(f"{target}.{os.getpid()}", target)
+
+
+def take_library(name, rt):
+    """Whether the cache keeps the static library of these sources. Then it is put where the tests look for it."""
+    if not rt or not os.path.isfile(kept_library(name, rt)):
+        return False
+    copy_whole(kept_library(name, rt), built_library(name))
+    return True
+
+
+def keep_library(name, rt):
+    """Keeps the static library that was built of these sources, in the place of those of others. One that is older than a source stays out."""
+    if not is_current(built_library(name), name):
+        return
+    kept = kept_library(name, rt)
+    try:
+        copy_whole(built_library(name), kept)
+        for it in os.listdir(os.path.dirname(kept)):
+            if it.startswith(f"lib{name}-") and it != os.path.basename(kept):
+                os.remove(f"{os.path.dirname(kept)}/{it}")
+    except OSError as why:
+        print(f"{name} is not kept: {why}", flush=True)
+
+
 def library(name, rt=shutil.which("rt")):
-    """The static library of a crate. Where it is not there or older than a source, `rt lib` builds it."""
-    return current(f"{TOP}/crates/{name}/out/lib{name}.a", name, ["lib"], rt)
+    """The static library of a crate. Where it is not there or older than a source, it comes from the cache, or `rt lib` builds it."""
+    path = built_library(name)
+    if is_current(path, name) or take_library(name, rt):
+        return path
+    current(path, name, ["lib"], rt)
+    keep_library(name, rt)
+    return path
 
 
 def allocations(rt=shutil.which("rt")):
@@ -94,3 +163,18 @@ def wasmkit():
     """The built program `wasmkit`."""
     examples = f"{TOP}/examples"
     return built("wasmkit", ["edit", f"{examples}/empty.wasm", f"{examples}/add-type.script", os.devnull])
+
+
+def main():
+    """Takes a library from the cache, or keeps one there."""
+    rt = shutil.which("rt")
+    if len(sys.argv) != 3 or sys.argv[1] not in ("take", "keep") or not rt:
+        return 2
+    if sys.argv[1] == "take":
+        return 0 if take_library(sys.argv[2], rt) else 1
+    keep_library(sys.argv[2], rt)
+    return 0
+
+
+if __name__ == "__main__":
+    sys.exit(main())
