@@ -83,187 +83,29 @@ in_eights u v fours fu fv is =
     let after : fours / 2 ^ 32 ≡ v = omega arith in
     omega (arith, after, is)
 
+-- more come after the first of these bytes, and after each of the others
+first_more : (a rest mask : ℕ) → a < 256 → bit_and (a + 256 * rest) (128 + 256 * mask) ≡ 128 + 256 * mask → (128 ≤ a) × (bit_and rest mask ≡ mask)
+first_more a rest mask fits high =
+    let bits : 128 + 256 * mask ≡ bit_and a 128 + 256 * bit_and rest mask = sym high ∙ lanes_8 a rest 128 mask fits (omega arith) in (
+      omega (arith, bits, and_le_l a 128, and_le_r a 128),
+      omega (arith, bits, and_le_l a 128, and_le_r a 128),
+    )
+
 -- more come after each byte
 pub all_more : (a b c d e f g h word : ℕ) → a < 256 → b < 256 → c < 256 → d < 256 → e < 256 → f < 256 → g < 256 → h < 256 → word ≡ word_of a b c d e f g h
     → bit_and word 0x8080808080808080 ≡ 0x8080808080808080
     → (128 ≤ a) × (128 ≤ b) × (128 ≤ c) × (128 ≤ d) × (128 ≤ e) × (128 ≤ f) × (128 ≤ g) × (128 ≤ h)
 all_more a b c d e f g h word fa fb fc fd fe ff fg fh is high =
-    let at_a = lanes_8 a (b + 256 * (c + 256 * (d + 256 * (e + 256 * (f + 256 * (g + 256 * (h))))))) 128
-    (128 + 256 * (128 + 256 * (128 + 256 * (128 + 256 * (128 + 256 * (128 + 256 * (128))))))) fa (omega arith) in
-    let at_b = lanes_8 b (c + 256 * (d + 256 * (e + 256 * (f + 256 * (g + 256 * (h)))))) 128
-    (128 + 256 * (128 + 256 * (128 + 256 * (128 + 256 * (128 + 256 * (128)))))) fb (omega arith) in
-    let at_c = lanes_8 c (d + 256 * (e + 256 * (f + 256 * (g + 256 * (h))))) 128 (128 + 256 * (128 + 256 * (128 + 256 * (128 + 256 * (128))))) fc
-    (omega arith) in
-    let at_d = lanes_8 d (e + 256 * (f + 256 * (g + 256 * (h)))) 128 (128 + 256 * (128 + 256 * (128 + 256 * (128)))) fd (omega arith) in
-    let at_e = lanes_8 e (f + 256 * (g + 256 * (h))) 128 (128 + 256 * (128 + 256 * (128))) fe (omega arith) in
-    let at_f = lanes_8 f (g + 256 * (h)) 128 (128 + 256 * (128)) ff (omega arith) in
-    let at_g = lanes_8 g (h) 128 (128) fg (omega arith) in
-    let bits : 0x8080808080808080
-    ≡ bit_and a 128 + 256 * (bit_and b 128
-    + 256 * (bit_and c 128 + 256
-    * (bit_and d 128 + 256 * (bit_and e 128 + 256 * (bit_and f 128 + 256 * (bit_and g 128 + 256 * (bit_and h 128))))))) =
-    sym high ∙ ap (λ (n : ℕ). bit_and n 0x8080808080808080) is ∙ rw (at_a, at_b, at_c, at_d, at_e, at_f, at_g) refl in (
-      omega (
-        arith,
-        bits,
-        and_le_l a 128,
-        and_le_r a 128,
-        and_le_l b 128,
-        and_le_r b 128,
-        and_le_l c 128,
-        and_le_r c 128,
-        and_le_l d 128,
-        and_le_r d 128,
-        and_le_l e 128,
-        and_le_r e 128,
-        and_le_l f 128,
-        and_le_r f 128,
-        and_le_l g 128,
-        and_le_r g 128,
-        and_le_l h 128,
-        and_le_r h 128,
-      ),
-      omega (
-        arith,
-        bits,
-        and_le_l a 128,
-        and_le_r a 128,
-        and_le_l b 128,
-        and_le_r b 128,
-        and_le_l c 128,
-        and_le_r c 128,
-        and_le_l d 128,
-        and_le_r d 128,
-        and_le_l e 128,
-        and_le_r e 128,
-        and_le_l f 128,
-        and_le_r f 128,
-        and_le_l g 128,
-        and_le_r g 128,
-        and_le_l h 128,
-        and_le_r h 128,
-      ),
-      omega (
-        arith,
-        bits,
-        and_le_l a 128,
-        and_le_r a 128,
-        and_le_l b 128,
-        and_le_r b 128,
-        and_le_l c 128,
-        and_le_r c 128,
-        and_le_l d 128,
-        and_le_r d 128,
-        and_le_l e 128,
-        and_le_r e 128,
-        and_le_l f 128,
-        and_le_r f 128,
-        and_le_l g 128,
-        and_le_r g 128,
-        and_le_l h 128,
-        and_le_r h 128,
-      ),
-      omega (
-        arith,
-        bits,
-        and_le_l a 128,
-        and_le_r a 128,
-        and_le_l b 128,
-        and_le_r b 128,
-        and_le_l c 128,
-        and_le_r c 128,
-        and_le_l d 128,
-        and_le_r d 128,
-        and_le_l e 128,
-        and_le_r e 128,
-        and_le_l f 128,
-        and_le_r f 128,
-        and_le_l g 128,
-        and_le_r g 128,
-        and_le_l h 128,
-        and_le_r h 128,
-      ),
-      omega (
-        arith,
-        bits,
-        and_le_l a 128,
-        and_le_r a 128,
-        and_le_l b 128,
-        and_le_r b 128,
-        and_le_l c 128,
-        and_le_r c 128,
-        and_le_l d 128,
-        and_le_r d 128,
-        and_le_l e 128,
-        and_le_r e 128,
-        and_le_l f 128,
-        and_le_r f 128,
-        and_le_l g 128,
-        and_le_r g 128,
-        and_le_l h 128,
-        and_le_r h 128,
-      ),
-      omega (
-        arith,
-        bits,
-        and_le_l a 128,
-        and_le_r a 128,
-        and_le_l b 128,
-        and_le_r b 128,
-        and_le_l c 128,
-        and_le_r c 128,
-        and_le_l d 128,
-        and_le_r d 128,
-        and_le_l e 128,
-        and_le_r e 128,
-        and_le_l f 128,
-        and_le_r f 128,
-        and_le_l g 128,
-        and_le_r g 128,
-        and_le_l h 128,
-        and_le_r h 128,
-      ),
-      omega (
-        arith,
-        bits,
-        and_le_l a 128,
-        and_le_r a 128,
-        and_le_l b 128,
-        and_le_r b 128,
-        and_le_l c 128,
-        and_le_r c 128,
-        and_le_l d 128,
-        and_le_r d 128,
-        and_le_l e 128,
-        and_le_r e 128,
-        and_le_l f 128,
-        and_le_r f 128,
-        and_le_l g 128,
-        and_le_r g 128,
-        and_le_l h 128,
-        and_le_r h 128,
-      ),
-      omega (
-        arith,
-        bits,
-        and_le_l a 128,
-        and_le_r a 128,
-        and_le_l b 128,
-        and_le_r b 128,
-        and_le_l c 128,
-        and_le_r c 128,
-        and_le_l d 128,
-        and_le_r d 128,
-        and_le_l e 128,
-        and_le_r e 128,
-        and_le_l f 128,
-        and_le_r f 128,
-        and_le_l g 128,
-        and_le_r g 128,
-        and_le_l h 128,
-        and_le_r h 128,
-      ),
-    )
+    let at_a = first_more a (b + 256 * (c + 256 * (d + 256 * (e + 256 * (f + 256 * (g + 256 * h)))))) 0x80808080808080 fa
+    (sym (ap (λ (n : ℕ). bit_and n 0x8080808080808080) is) ∙ high) in
+    let at_b = first_more b (c + 256 * (d + 256 * (e + 256 * (f + 256 * (g + 256 * h))))) 0x808080808080 fb at_a.1 in
+    let at_c = first_more c (d + 256 * (e + 256 * (f + 256 * (g + 256 * h)))) 0x8080808080 fc at_b.1 in
+    let at_d = first_more d (e + 256 * (f + 256 * (g + 256 * h))) 0x80808080 fd at_c.1 in
+    let at_e = first_more e (f + 256 * (g + 256 * h)) 0x808080 fe at_d.1 in
+    let at_f = first_more f (g + 256 * h) 0x8080 ff at_e.1 in
+    let at_g = first_more g h 128 fg at_f.1 in
+    let last : 128 ≤ h = omega (arith, at_g.1, and_le_l h 128) in
+    (at_a.0, at_b.0, at_c.0, at_d.0, at_e.0, at_f.0, at_g.0, last)
 
 word_less : (a b c d e f g h word : ℕ) → word ≡ word_of (128 + a) (128 + b) (128 + c) (128 + d) (128 + e) (128 + f) (128 + g) (128 + h)
     → word - 0x8080808080808080 ≡ word_of a b c d e f g h
