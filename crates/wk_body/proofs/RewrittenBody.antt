@@ -1,5 +1,5 @@
 -- Local groups that are passed over, and the body that they and its instructions make.
-use Rattle.std.proofs.Common.{◌≡◌, ℕ, ◌+◌, ◌-◌, ◌<◌, ◌≤◌, ◌^◌, List, [], ◌∷◌, ◌++◌, length, take, Ok, Err, refl, sym, ap, subst, ◌∙◌, arith, length-append}
+use Rattle.std.proofs.Common.{◌≡◌, ℕ, ◌+◌, ◌-◌, ◌<◌, ◌≤◌, ◌^◌, List, [], ◌∷◌, ◌++◌, length, take, Ok, refl, sym, ap, subst, ◌∙◌, arith, length-append}
 use Rattle.std.specs.List.{flat_map}
 use Rattle.std.proofs.lemmas.List.{append-nil, take_all}
 use Rattle.std.proofs.lemmas.List.Concat.{flat_map-append}
@@ -23,8 +23,8 @@ use Rattle.wk_body.specs.TokenReading.{local_groups_at}
 use Rattle.wk_body.specs.TokenReadingLaws.{body_read}
 use Rattle.wk_body.specs.Reencoding.{Adds, Passes, Keeps, PassesGroups}
 use Rattle.wk_body.proofs.Pieces.{valtype_takes}
-use Rattle.wk_body.proofs.GroupLoop.{Groups, with_groups, InGroups, groups_go_on, groups_end}
-use Rattle.wk_body.proofs.Walking.{passed, adds_none, adds_then}
+use Rattle.wk_body.proofs.GroupLoop.{InGroups, groups_go_on, groups_end}
+use Rattle.wk_body.proofs.Walking.{passed, adds_then}
 
 pub valtype_kept : (ty : ValType) (from to : Reencoder) → IsBytes from.cursor.rest
     → (valtype_at from.cursor.end from.cursor.rest ≡ Ok (ty, to.cursor.rest)) × (to.cursor.end ≡ from.cursor.end) → to.pending.now ≡ from.pending.now
@@ -41,23 +41,6 @@ GroupsPassed count left sum out from after to =
     (groups : List LocalGroup) × (length groups + left ≡ count)
     × InGroups groups left sum from.cursor to.cursor (groups_at count 0 from.cursor.end from.cursor.rest)
     × Adds (flat_map written_group groups) out from after to
-
-none_in_front : (read : Groups) → read ≡ with_groups [] read
-none_in_front (Ok x) = refl
-none_in_front (Err e) = refl
-
-pub groups_begin : (count : ℕ) (out : List ℕ) (from : Reencoder) → GroupsPassed count (count - 0) 0 out from out from
-groups_begin count out from =
-    let all : count ≡ count - 0 = omega arith in (
-      [],
-      omega arith,
-      record {
-        reads = none_in_front _ ∙ ap (λ (n : ℕ). with_groups [] (groups_at n 0 from.cursor.end from.cursor.rest)) all;
-        same_end =
-            refl;
-      },
-      adds_none out from,
-    )
 
 pub groups_one : (count i sum n : ℕ) (ty : ValType) (out after last : List ℕ) (from at mid to : Reencoder) → i < count → sum + n < 2 ^ 32
     → GroupsPassed count (count - i) sum out from after at → Passes u32_at n (short n) after at last mid → Keeps valtype_at ty (valtype_byte ty ∷ []) mid to

@@ -1,5 +1,5 @@
 -- What is read is spelled; what is spelled in front is read, whatever follows; and no spelling begins another.
-use Rattle.std.proofs.Common.{◌≡◌, ℤ, ℕ, List, [], ◌∷◌, ◌++◌, length, Result, Ok, Err, refl, sym, ap, subst, ◌∙◌, append_assoc}
+use Rattle.std.proofs.Common.{◌≡◌, ℤ, ℕ, List, ◌++◌, length, Result, Ok, Err, refl, sym, ap, subst, ◌∙◌, append_assoc}
 use Rattle.std.proofs.lemmas.Str.{is_utf8-from_IsUtf8, IsUtf8-from_is_utf8}
 use Rattle.std.proofs.lemmas.List.{append_cancel_right}
 use Rattle.wk_bytes.specs.declared.fault.ReadFault.{ReadFault}
@@ -7,7 +7,7 @@ use Rattle.wk_bytes.specs.Leb.{SpellsU, SpellsS, uint_at, sint_at}
 use Rattle.wk_bytes.specs.LebLaws.{IsBytes, uint_spells, uint_again, sint_spells, sint_again}
 use Rattle.wk_bytes.specs.PrefixFree.{IsPrefixFree}
 use Rattle.wk_bytes.specs.Span.{Span, byte_at, piece_at, u32_at, signed_at, word_at, name_at, Gives, TakesSpelling}
-use Rattle.wk_bytes.specs.SpanLaws.{not_both, ok_is, placed_ok, byte_at-takes, piece_at-takes, piece_at-again, word_at-takes, name_at-steps}
+use Rattle.wk_bytes.specs.SpanLaws.{not_both, ok_is, placed_ok, piece_at-takes, piece_at-again, word_at-takes, name_at-steps}
 use Rattle.wk_bytes.specs.Pieces.{SpellsByte, SpellsPiece, SpellsWord, SpellsName}
 
 -- ---- of any reader that reads each spelling in front, whatever follows
@@ -37,18 +37,11 @@ module _ {Y : Type 0} (Spells : List ℕ → Y → Type 0) (read : ℕ → List 
 
 -- ---- a byte
 
-pub byte_at-found : (end : ℕ) (bytes : List ℕ) (x : ℕ) (rest : List ℕ) → byte_at end bytes ≡ Ok (x, rest) → (b : List ℕ) × SpellsByte b x × (bytes ≡ b ++ rest)
-byte_at-found end bytes x rest e = (x ∷ [], refl, byte_at-takes end bytes x rest e)
-
 pub byte_at-again : (end : ℕ) (b : List ℕ) (x : ℕ) (rest : List ℕ) → SpellsByte b x → byte_at end (b ++ rest) ≡ Ok (x, rest)
 unfolding byte_at
 byte_at-again end b x rest s = rw s refl
 
 -- ---- a piece
-
-pub piece_at-found : (n end : ℕ) (bytes piece rest : List ℕ) → piece_at n end bytes ≡ Ok (piece, rest)
-    → (b : List ℕ) × SpellsPiece n b piece × (bytes ≡ b ++ rest)
-piece_at-found n end bytes piece rest e = let t = piece_at-takes n end bytes piece rest e in (piece, (refl, t.1), t.0)
 
 pub piece_at-spelled : (n end : ℕ) (b piece rest : List ℕ) → SpellsPiece n b piece → piece_at n end (b ++ rest) ≡ Ok (piece, rest)
 piece_at-spelled n end b piece rest s =

@@ -3,7 +3,6 @@ use Rattle.std.proofs.Common.{◌≡◌, ℕ, ◌+◌, ◌-◌, ◌<◌, ◌≤�
 use Rattle.std.proofs.Common.{subst, ◌∙◌, append_assoc, length-append, arith}
 use Rattle.std.proofs.lemmas.Bool.{false≢true}
 use Rattle.std.proofs.lemmas.List.{take-append-le, append-nil}
-use Rattle.std.specs.Prelude.{IfErr}
 use Rattle.std.specs.Str.{is_utf8}
 use Rattle.std.proofs.lemmas.Str.{is_utf8-from_IsUtf8}
 use Rattle.byteorder.specs.Endian.{little_number}
@@ -14,7 +13,7 @@ use Rattle.wk_bytes.specs.declared.fault.ReadKind.TheVariants.{LongInput, Memory
 use Rattle.wk_bytes.specs.declared.fault.ReadFault.{ReadFault}
 use Rattle.wk_bytes.specs.Leb.{◌>>=◌, IsTooLong, IsTooLarge, IsIntKind, lastU, lastS, uint_at, sint_at}
 use Rattle.wk_bytes.specs.LebLaws.{bind_ok, chosen, uint_wrong, sint_wrong}
-use Rattle.wk_bytes.specs.Span.{Span, fault, byte_at, piece_at, u32_at, signed_at, word_at, name_at, Gives}
+use Rattle.wk_bytes.specs.Span.{Span, fault, byte_at, piece_at, u32_at, signed_at, word_at, name_at}
 use Rattle.wk_bytes.specs.SpanLaws.{ok_is, err_is, placed_err, byte_at-takes, piece_at-takes, u32_at-takes, signed_at-takes}
 use Rattle.wk_bytes.specs.Frames.{Section}
 use Rattle.wk_bytes.specs.Stands.{BeginsOtherwise, Begins, IsWidth, StandsAt, Stands, StandsOrMemory, StandsIn, contents_of, whole, LiesIn}
@@ -130,15 +129,6 @@ pub Stands-at_end : (kind : ReadKind) (bytes : List ℕ) → StandsAt kind [] �
 Stands-at_end kind bytes stands = record { skipped = bytes; from = []; parts = sym (append-nil bytes); place = omega arith; stands = stands }
 
 -- ---- the same of calls that take memory
-
-pub StandsOrMemory-later : (front : List ℕ) (s t : Span) (e : ReadFault) → s.rest ≡ front ++ t.rest → s.end ≡ t.end → length s.rest ≤ s.end
-    → StandsOrMemory t e → StandsOrMemory s e
-StandsOrMemory-later front s t e parts ends fits (inl none) = inl none
-StandsOrMemory-later front s t e parts ends fits (inr stood) = inr (Stands-later front s t e parts ends fits stood)
-
-pub StandsOrMemory-contents : (bytes : List ℕ) (s : Section) (e : ReadFault) → LiesIn bytes s → StandsOrMemory (contents_of s) e → StandsIn bytes e
-StandsOrMemory-contents bytes s e lies (inl none) = inl none
-StandsOrMemory-contents bytes s e lies (inr stood) = inr (inr (Stands-contents bytes s e lies stood))
 
 pub StandsOrMemory-whole : (bytes : List ℕ) (e : ReadFault) → StandsOrMemory (whole bytes) e → StandsIn bytes e
 StandsOrMemory-whole bytes e (inl none) = inl none
@@ -279,9 +269,3 @@ unfolding name_at
 ReadsFront-name_at = ReadsFront-then u32_at text_at ReadsFront-u32_at (λ n. record { takes = text_at-takes n; faults = text_at-faults n })
 
 -- ---- of a call
-
--- a call that gives what such a reader gives answers faults that stand
-pub Gives-stands : {X Y : Type 0} (view : X → Y) (read : ℕ → List ℕ → Result (Y × List ℕ) ReadFault) (old new : Span) (result : Result X ReadFault)
-    → ReadsFront read → length old.rest ≤ old.end → Gives view read old result new → IfErr result (Stands old)
-Gives-stands view read old new (Ok x) reads fits given = tt
-Gives-stands view read old new (Err e) reads fits given = reads.faults old.end old.rest e given.0 fits

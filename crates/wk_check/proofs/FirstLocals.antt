@@ -7,14 +7,10 @@ use Rattle.std.proofs.lemmas.Option.{slice_get_read}
 use Rattle.wk_body.specs.declared.types.ValType.{ValType}
 use Rattle.wk_body.specs.declared.types.LocalGroup.{LocalGroup}
 use Rattle.wk_check.specs.Effects.{type_in_groups, local_type}
-use Rattle.wk_check.specs.Locals.{AreFirst}
 
 -- The locals are those that are written, and behind them those of the groups from an index on.
 abbrev pub AreWritten : List ValType → List LocalGroup → ℕ → List ValType → Type 0
 AreWritten params groups at first = (x : ℕ) → local_type first (drop at groups) x ≡ local_type params groups x
-
-pub written_params : (params : List ValType) (groups : List LocalGroup) (first : List ValType) → first ≡ params → AreWritten params groups 0 first
-written_params params groups first e = λ x. ap (λ (ts : List ValType). local_type ts groups x) e
 
 at_copies : (n : ℕ) (t : ValType) (x : ℕ) → x < n → slice_get (replicate n t) x ≡ Some t
 at_copies n t x inside = slice_get_read (replicate n t) n x t (sym (length-replicate n t)) inside (sym (get_or-replicate n x t t inside))
@@ -62,10 +58,6 @@ written_more params groups at first g inside w = λ x.
 
 below : (first : List ValType) (gs : List LocalGroup) (x : ℕ) → x < length first → local_type first gs x ≡ slice_get first x
 below first gs x inside = rw (lt-ltb x (length first) inside) refl
-
-pub are_first : (params : List ValType) (groups : List LocalGroup) (at : ℕ) (first : List ValType) → AreWritten params groups at first
-    → AreFirst params groups first
-are_first params groups at first w = λ x inside. sym (below first (drop at groups) x inside) ∙ w x
 
 -- what is written where a list is lengthened
 pub lengthened : (first : List ValType) (len n count : ℕ) (t : ValType) → len ≡ length first → n ≡ len + count

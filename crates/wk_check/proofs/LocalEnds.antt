@@ -10,7 +10,7 @@ use Rattle.std.proofs.lemmas.Option.{slice_get_past, slice_get_read}
 use Rattle.wk_body.specs.declared.types.ValType.{ValType}
 use Rattle.wk_body.specs.declared.types.LocalGroup.{LocalGroup}
 use Rattle.wk_body.specs.Bodies.{local_count}
-use Rattle.wk_check.specs.Effects.{type_in_groups, local_type}
+use Rattle.wk_check.specs.Effects.{type_in_groups}
 use Rattle.wk_check.specs.Locals.{ends_from}
 
 -- ---- counting
@@ -97,11 +97,6 @@ group_from (g ∷ gs) n x at (suc p) e s =
 pub group_found : (groups : List LocalGroup) (ends : List ℕ) (at p : ℕ) → ends ≡ ends_from 0 groups → IsSplit at ends p
     → type_in_groups groups at ≡ option_map (λ (g : LocalGroup). g.ty) (slice_get groups p)
 group_found groups ends at p e s = group_from groups 0 at at p (omega arith) (subst (λ (es : List ℕ). IsSplit at es p) e s)
-
--- a local behind the parameters
-pub behind_params : (params : List ValType) (groups : List LocalGroup) (x : ℕ) → length params ≤ x
-    → local_type params groups x ≡ type_in_groups groups (x - length params)
-behind_params params groups x h = rw (le-ltb x (length params) h) refl
 
 -- ---- the type of a group that is found
 

@@ -5,7 +5,7 @@ use Rattle.std.proofs.lemmas.Bool.{eqb-true, eqb-false}
 use Rattle.std.specs.Option.{option_eq}
 use Rattle.std.specs.List.{flat_map, sum_by}
 use Rattle.std.proofs.lemmas.Bool.{lt-leb, cond-false}
-use Rattle.std.proofs.lemmas.List.{flat_map_more, get_or-map, map-append, take_more, length-map}
+use Rattle.std.proofs.lemmas.List.{flat_map_more, get_or-map, take_more, length-map}
 use Rattle.std.proofs.lemmas.List.Folds.{flat_map-map}
 use Rattle.std.proofs.lemmas.List.Sums.{sum_by-cons}
 use Rattle.wk_bytes.specs.Frames.{limit}
@@ -109,13 +109,6 @@ pub size_at : (funcs : List Func) (sizes : List ℕ) (i : ℕ) (f : Func) (size 
 size_at funcs sizes i f size are within is sized =
     sized ∙ ap (λ (ns : List ℕ). get_or ns i size) are ∙ get_or-map (λ (g : Func). body_size g.body) funcs i f size within
     ∙ ap (λ (g : Func). body_size g.body) (sym is)
-
--- one more size
-pub sizes_more : (funcs : List Func) (i : ℕ) (f : Func) (size : ℕ) → i < length funcs → f ≡ get_or funcs i f → size ≡ body_size f.body
-    → body_sizes (take (i + 1) funcs) ≡ body_sizes (take i funcs) ++ size ∷ []
-sizes_more funcs i f size within is sized =
-    ap body_sizes (take_more funcs i f within ∙ ap (λ (g : Func). take i funcs ++ g ∷ []) (sym is))
-    ∙ (map-append (λ (g : Func). body_size g.body) (take i funcs) (f ∷ []) ∙ ap (λ (n : ℕ). body_sizes (take i funcs) ++ n ∷ []) (sym sized))
 
 entries_sized : (bodies : List BodyOf) → sum_by entry_size (map body_size bodies) ≡ length (flat_map written_code bodies)
 entries_sized [] = refl

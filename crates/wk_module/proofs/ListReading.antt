@@ -1,6 +1,6 @@
 -- Lists that are read without custom sections are those of the module that is read.
 use Rattle.std.proofs.Common.{◌≡◌, ◌≢◌, ℕ, zero, suc, All, Bool, true, false, eqb, max, List, [], ◌∷◌, length, Option, Some, None, Result, Ok, Err, IfOk, refl}
-use Rattle.std.proofs.Common.{sym, ap, ◌∙◌, inl, inr, arith, subst}
+use Rattle.std.proofs.Common.{sym, ap, ◌∙◌, inl, inr, subst}
 use Rattle.std.proofs.lemmas.Bool.{eqb-true}
 use Rattle.std.proofs.lemmas.List.Elements.{All-head, All-tail}
 use Rattle.wk_bytes.specs.declared.fault.ReadKind.{ReadKind}
@@ -85,11 +85,6 @@ codes_kept profile l s view (Err e) reads other = tt
 pub fair_fails : {Y : Type 0} (e : ReadFault) (kind : ReadKind) (read : Result Y ReadFault) → IsFair e kind → read ≡ Err e → FailsAs e kind read
 fair_fails e Memory read fair is = fair
 fair_fails e _ read fair is = is
-
--- behind the code section come sections of greater ids
-pub rise_behind : (last : ℕ) (s : Section) (items : List (Result Section ReadFault)) → s.id ≡ 10 → Rise last (Ok s ∷ items) → Rise 10 items
-rise_behind last s items is rise = subst (λ (n : ℕ). Rise n items)
-    (elim rise.0 [ inl zero_is ↦ absurd (omega (arith, is, zero_is)) | inr above ↦ omega (arith, is, above.0) ]) rise.1
 
 -- the same, whatever the fault is
 abbrev AreOrdered : ℕ → List (Result Section ReadFault) → Type 0

@@ -1,5 +1,5 @@
 -- The faults of reading a module stand in its bytes.
-use Rattle.std.proofs.Common.{◌≡◌, ℕ, ◌-◌, ◌≤◌, ◌==◌, ◌⊎◌, cond, List, [], ◌∷◌, ◌++◌, length, length-append, Option, Some, None, Result, Ok, Err, All, refl}
+use Rattle.std.proofs.Common.{◌≡◌, ℕ, ◌-◌, ◌≤◌, ◌==◌, ◌⊎◌, List, [], ◌∷◌, ◌++◌, length, length-append, Option, Some, None, Result, Ok, Err, All, refl}
 use Rattle.std.proofs.Common.{sym, ap, subst, ◌∙◌, inl, inr, arith}
 use Rattle.std.specs.Prelude.{IfErr, MatchResult}
 use Rattle.std.proofs.lemmas.List.Elements.{All-head, All-tail}
@@ -15,14 +15,14 @@ use Rattle.wk_bytes.specs.Frames.{Section, sections_of}
 use Rattle.wk_bytes.specs.FrameStands.{sections_of-stand}
 use Rattle.wk_bytes.specs.Stands.{Stands, StandsIn, StandsOrMemory, LiesIn, ItemStands, contents_of, whole}
 use Rattle.wk_bytes.specs.StandsLaws.{ReadsFront, ReadsFront-name_at, ReadsFront-u32_at, Stands-here, Stands-later, Stands-within, Stands-contents}
-use Rattle.wk_bytes.specs.StandsLaws.{Stands-at_end, stands_as}
+use Rattle.wk_bytes.specs.StandsLaws.{Stands-at_end}
 use Rattle.wk_body.specs.declared.types.Profile.{Profile}
 use Rattle.wk_body.specs.Reads.{FailsAs, Reads}
 use Rattle.wk_module.specs.declared.types.Custom.{Custom}
 use Rattle.wk_module.specs.declared.types.Parts.{Parts}
 use Rattle.wk_module.specs.Customs.{custom_at}
 use Rattle.wk_module.specs.Formats.{Reader, bytes_at, taking_all, all_at}
-use Rattle.wk_module.specs.ListReading.{listed_by, with_listed, lists_read, opened_at}
+use Rattle.wk_module.specs.ListReading.{listed_by, with_listed, lists_read}
 use Rattle.wk_module.specs.Sections.{SectionId, ContentsOf, SectionLists, of_number, with_contents, contents_at}
 use Rattle.wk_module.specs.Reading.{Progress, at_start, section_end, with_custom, with_lists, section_by, with_section, sections_read, module_of, joined}
 use Rattle.wk_module.specs.Reading.{module_at}
@@ -171,21 +171,6 @@ answer_stands view b (Ok x) read stands reads = tt
 answer_stands view b (Err e) read stands reads = told_stands b e read stands reads
 
 -- ---- codes
-
--- a count that is another one stands at the contents
-pub opened_stands : (funcs end : ℕ) (bytes : List ℕ) (e : ReadFault) → opened_at funcs end bytes ≡ Err e → length bytes ≤ end
-    → Stands (record { rest = bytes; end = end }) e
-unfolding opened_at
-opened_stands funcs end bytes e h fits = opened_by (u32_at end bytes) refl h
-  where
-    opened_by : (r : Result (ℕ × List ℕ) ReadFault) → u32_at end bytes ≡ r
-        → (r >>= λ n. cond (n.0 == funcs) (Ok n.1) (Err (fault FuncCodeCount end bytes))) ≡ Err e → Stands (record { rest = bytes; end = end }) e
-    opened_by (Err d) is h = ReadsFront-u32_at.faults end bytes e (is ∙ cc) fits
-    opened_by (Ok n) is h =
-        elim (chosen (n.0 == funcs) (Ok n.1) (Err (fault FuncCodeCount end bytes)) (Err e) h) [
-          | inl p ↦ absurd cc
-          | inr p ↦ stands_as FuncCodeCount end bytes e (err_is {A = List ℕ} _ _ p.1) tt
-        ]
 
 -- a fault behind a size stands in what was left in front of it
 pub behind_size : (old ahead after : Span) (n : ℕ) (e : ReadFault) → ahead ≡ old

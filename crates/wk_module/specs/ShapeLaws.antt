@@ -1,17 +1,15 @@
 -- Laws of settling, and what keeps a module shaped.
-use Rattle.std.proofs.Common.{◌≡◌, ℕ, zero, suc, ◌^◌, ◌<◌, ◌≤◌, Bool, true, false, not, inl, inr, List, [], ◌∷◌, ◌++◌, length, map, drop, filter, refl, sym, ap}
+use Rattle.std.proofs.Common.{◌≡◌, ℕ, zero, suc, ◌^◌, ◌<◌, ◌≤◌, Bool, true, false, inl, inr, List, [], ◌∷◌, ◌++◌, length, map, filter, refl, sym, ap}
 use Rattle.std.proofs.Common.{subst, ◌∙◌, arith}
 use Rattle.std.proofs.lemmas.Bool.{cases_Bool, cases_lt, cond-true, cond-false, cond_both}
-use Rattle.std.proofs.Common.{slice_index_or}
 use Rattle.std.specs.Str.{IsUtf8}
-use Rattle.wk_bytes.specs.ListWords.{is_empty}
 use Rattle.wk_module.specs.declared.types.Parts.{Parts}
 use Rattle.wk_module.specs.declared.types.Custom.{Custom}
 use Rattle.wk_module.specs.declared.types.FuncType.{FuncType}
 use Rattle.wk_body.specs.declared.types.Profile.{Profile}
 use Rattle.wk_module.specs.Sections.{SectionId, TypeSection, StartSection, ContentsOf, SectionLists, contents, omitted, with_contents, AreValid}
 use Rattle.wk_module.specs.SectionLaws.{same_or_other, contents-here, contents-elsewhere, contents-none}
-use Rattle.wk_module.specs.Shape.{lists_of, lowered, settled_custom, settle, filled_ids, is_filled, IsInOrderFrom, AreNamed, IsFormed, IsShaped, nothing}
+use Rattle.wk_module.specs.Shape.{lists_of, lowered, settled_custom, settle, is_filled, IsInOrderFrom, AreNamed, IsFormed, IsShaped, nothing}
 
 -- ---- the greatest id up to one that passes, or 0
 
@@ -134,20 +132,6 @@ named_push d (c ∷ cs) text n = (n.0, named_push d cs text n.1)
 
 -- ---- modules
 
-some_types : (t : FuncType) (ts : List FuncType) → not (is_empty (ts ++ t ∷ [])) ≡ true
-some_types t [] = refl
-some_types t (x ∷ ts) = refl
-
-second_more : (a b : Bool) (rest : List Bool) (id : ℕ) → (a ≡ true → b ≡ true) → slice_index_or (false ∷ a ∷ rest) id false ≡ true
-    → slice_index_or (false ∷ b ∷ rest) id false ≡ true
-second_more a b rest zero h t = t
-second_more a b rest (suc zero) h t = h t
-second_more a b rest (suc (suc id)) h t = t
-
-filled_type : (t : FuncType) (m : Parts) (id : ℕ) → is_filled m id ≡ true → is_filled (record m { types = m.types ++ t ∷ [] }) id ≡ true
-filled_type t m id filled = second_more (not (is_empty m.types)) (not (is_empty (m.types ++ t ∷ []))) (drop 2 (filled_ids m)) id
-    (λ _. some_types t m.types) filled
-
 -- ---- other contents of one section
 
 -- the contents of all sections are valid
@@ -212,13 +196,6 @@ filter_shaped keep m s =
       formed = filter_formed keep m s.formed;
       settled = ap (λ (cs : List Custom). record m { customs = cs }) (settled_filter (is_filled m) keep m.customs settled);
     }
-
--- one more type settles no custom anew
-pub settle-type : (t : FuncType) (m : Parts) → settle m ≡ m → settle (record m { types = m.types ++ t ∷ [] }) ≡ record m { types = m.types ++ t ∷ [] }
-settle-type t m settled =
-    let more : Parts = record m { types = m.types ++ t ∷ [] } in
-    ap (λ (cs : List Custom). record more { customs = cs })
-    (settled_more (is_filled m) (is_filled more) (filled_type t m) m.customs (ap (λ (n : Parts). n.customs) settled))
 
 -- a module with one more custom of the greatest place is formed
 pub push_formed : (c : Custom) (m : Parts) → c.place ≡ 11 → IsUtf8 c.name → IsFormed m → IsFormed (record m { customs = m.customs ++ c ∷ [] })

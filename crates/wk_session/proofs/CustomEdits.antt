@@ -97,10 +97,6 @@ pub stripped_made : (keep : Bool) (name : List ℕ) (m : Parts) → list_any (is
     → made keep (edits.StripCustom name) m ≡ lasting keep (settle (without_customs name m))
 stripped_made keep name m is = ap (λ (b : Bool). (if b then Ok (settle (without_customs name m)) else Err NoSuchCustom) >>= lasting keep) is
 
-pub absent_made : (keep : Bool) (name : List ℕ) (m : Parts) → list_any (is_named name) m.customs ≡ false
-    → made keep (edits.StripCustom name) m ≡ Err NoSuchCustom
-absent_made keep name m is = ap (λ (b : Bool). (if b then Ok (settle (without_customs name m)) else Err NoSuchCustom) >>= lasting keep) is
-
 -- what was put leads to the module with the custom
 pub put_leads : (keep : Bool) (name bytes : List ℕ) (m p : Parts) (k j : Cache)
     → standing keep (with_custom name bytes m) ≡ Ok (settle (with_custom name bytes m)) → p ≡ with_custom name bytes m

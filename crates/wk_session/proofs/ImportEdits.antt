@@ -1,5 +1,5 @@
 -- An import more.
-use Rattle.std.proofs.Common.{◌≡◌, ℕ, ◌-◌, ◌^◌, ◌<◌, Bool, true, false, ◌||◌, if◌then◌else◌, cond, List, [], ◌∷◌, ◌++◌, length, map, take, count_by, Err, refl}
+use Rattle.std.proofs.Common.{◌≡◌, ℕ, ◌-◌, ◌^◌, ◌<◌, Bool, true, false, if◌then◌else◌, cond, List, [], ◌∷◌, ◌++◌, length, map, take, count_by, Err, refl}
 use Rattle.std.proofs.Common.{ap, sym, subst, ◌∙◌, arith, length-append}
 use Rattle.std.specs.List.{list_any, AllByRecursion}
 use Rattle.std.proofs.lemmas.List.{length-map}
@@ -62,10 +62,6 @@ sets_stuck alike kind from m k kept =
     any_told (λ s. s.keys) uses_of (λ (keys : List Ref). (uses_movement kind from keys).stuck) (λ (f : Func). is_code_stuck kind from f.body.instrs)
     (λ f. ap (λ w. w.stuck) (uses_as_code alike kind from f (uses_of f) refl))
     k.refs.items m.funcs kept.refs
-
-pub or_true : (a b : Bool) → b ≡ true → (a || b) ≡ true
-or_true true b h = refl
-or_true false b h = h
 
 -- ---- the outcome
 

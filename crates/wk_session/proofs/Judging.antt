@@ -1,10 +1,9 @@
 -- What is found before and now, and what that says of a body's verdict.
-use Rattle.std.proofs.Common.{◌≡◌, ℕ, zero, suc, ◌+◌, ◌<◌, Bool, true, false, not, List, [], ◌∷◌, length, take, map, get_or, count_by, refl, sym, ap, ◌∙◌, inl}
-use Rattle.std.proofs.Common.{inr, arith}
+use Rattle.std.proofs.Common.{◌≡◌, ℕ, zero, suc, ◌+◌, ◌<◌, Bool, true, false, not, List, [], ◌∷◌, length, map, get_or, refl, sym, ap, ◌∙◌}
+use Rattle.std.proofs.Common.{arith}
 use Rattle.std.specs.Prelude.{OnOk, Result, Ok, Err}
 use Rattle.std.specs.List.{list_any}
-use Rattle.std.proofs.lemmas.Bool.{cases_Bool, or_parts}
-use Rattle.std.proofs.lemmas.List.Sums.{count_by_more_yes, count_by_more_no}
+use Rattle.std.proofs.lemmas.Bool.{or_parts}
 use Rattle.wk_body.specs.declared.references.Ref.{Ref}
 use Rattle.wk_module.specs.declared.types.Func.{Func}
 use Rattle.wk_list.specs.UsesLaws.{any_in_order}
@@ -45,14 +44,6 @@ module _ (A B : Ref → Found) where
   there_agree grows (r ∷ rs) h = (grows r h.0, there_agree grows rs h.1)
 
 -- ---- one more function
-
-pub count_more : (p : Func → Bool) (fs : List Func) (i : ℕ) (f : Func) → i < length fs → f ≡ get_or fs i f
-    → count_by p (take (i + 1) fs) ≡ count_by p (take i fs) + one_if (p f)
-count_more p fs i f within at =
-    elim (cases_Bool (p f)) [
-      | inl t ↦ count_by_more_yes p fs i f within (ap p (sym at) ∙ t) ∙ sym (ap (λ (b : Bool). count_by p (take i fs) + one_if b) t)
-      | inr n ↦ count_by_more_no p fs i f within (ap p (sym at) ∙ n) ∙ (omega arith ∙ sym (ap (λ (b : Bool). count_by p (take i fs) + one_if b) n))
-    ]
 
 -- ---- counts and answers
 

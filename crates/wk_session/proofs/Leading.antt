@@ -1,25 +1,21 @@
 -- What an edit leaves, by how judging the module that it makes was answered.
-use Rattle.std.proofs.Common.{◌≡◌, ◌≢◌, ℕ, Bool, true, false, Option, Some, None, Result, Ok, Err, length, map, unwrap_or, refl, sym, ap, subst, ◌∙◌}
+use Rattle.std.proofs.Common.{◌≡◌, ◌≢◌, ℕ, Bool, true, false, Option, Some, None, Result, Ok, Err, length, map, refl, sym, ap, subst, ◌∙◌}
 use Rattle.std.specs.Option.{is_some}
 use Rattle.wk_bytes.specs.Leb.{◌>>=◌}
-use Rattle.wk_body.specs.declared.references.Ref.{Ref}
 use Rattle.wk_body.specs.Lengths.{limited}
 use Rattle.wk_module.specs.declared.types.Parts.{Parts}
 use Rattle.wk_module.specs.Shape.{settle, IsFormed, IsInOrderFrom}
 use Rattle.wk_module.specs.Writing.{encoded}
 use Rattle.wk_module.specs.WritingLaws.{length-encoded_settle}
-use Rattle.wk_check.specs.Answers.{Found}
 use Rattle.wk_session.specs.declared.edit.Edit.{Edit}
 use Rattle.wk_session.specs.declared.edit.EditFault.{EditFault}
 use Rattle.wk_session.specs.declared.edit.EditFault.TheVariants.{TooLarge, Memory}
 use Rattle.wk_session.specs.declared.edit.Work.{Work}
-use Rattle.wk_session.specs.declared.edits.plan_append.Judgement.{Judgement}
 use Rattle.wk_session.specs.declared.cache.Cache.{Cache}
 use Rattle.wk_session.specs.Dependents.{work_of}
 use Rattle.wk_session.specs.Edits.{fitting, lasting, made, is_decided}
-use Rattle.wk_session.specs.Judged.{AreKept, IsUnchanged, MayStay}
+use Rattle.wk_session.specs.Judged.{IsUnchanged}
 use Rattle.wk_session.specs.Kept.{IsKept, IsAppraised, Leads, standing}
-use Rattle.wk_session.specs.Pieces.{section_pieces}
 use Rattle.wk_session.proofs.Outcomes.{fitting-kept, fitting-none}
 
 -- ---- a refusal that an edit passes on
@@ -82,31 +78,6 @@ kept_again m k new same kept = record {
 }
 
 -- ---- an acceptance
-
--- a judgement of the new module comes to what is kept
-pub judged_kept : (keep : Bool) (before : Ref → Found) (n : Parts) (typed : ℕ) (k new : Cache) (j : Judgement) → AreKept before n k
-    → MayStay keep before n k typed j
-    → new ≡ record k {
-      verdict = j.appraisal.verdict;
-      len = j.appraisal.len;
-      verdicts = unwrap_or j.verdicts k.verdicts;
-      pieces =
-          record k.pieces { sections = new.pieces.sections };
-    }
-    → new.pieces.sections.items ≡ section_pieces n → IsKept n new
-judged_kept keep before n typed k new j kept may is sections = record {
-  verdict = ap (λ (x : Cache). x.verdict) is ∙ may.appraised.1;
-  len = may.appraised.2 ∙ ap (λ (x : Cache). Some x.len) (sym is);
-  types = ap (λ (x : Cache). x.types.items) is ∙ kept.types;
-  verdicts = ap (λ (x : Cache). x.verdicts.items) is ∙ may.verdicts;
-  refs = ap (λ (x : Cache). map (λ s. s.keys) x.refs.items) is ∙ kept.refs;
-  pieces = record {
-    sections = sections;
-    codes = ap (λ (x : Cache). x.pieces.codes.items) is ∙ kept.codes;
-    codes_len = ap (λ (x : Cache). x.pieces.codes_len) is ∙ kept.codes_len;
-    customs_len = ap (λ (x : Cache). x.pieces.customs_len) is ∙ kept.customs_len;
-  };
-}
 
 pub accepted : (keep : Bool) (e : Edit) (m n p : Parts) (k new : Cache) (w : Work) → p ≡ n → made keep e m ≡ standing keep n
     → standing keep n ≡ Ok (settle n) → w ≡ work_of e m (settle n) → IsFormed n → IsKept n new → Leads keep e m (Ok w) p new

@@ -1,6 +1,6 @@
 -- What the outcome of an edit makes of its reply and of the module.
-use Rattle.std.proofs.Common.{◌≡◌, ◌≢◌, ℕ, ◌<◌, ◌≤◌, Bool, true, false, cond, leb, length, Some, None, Result, Ok, Err, refl, sym, ap, inl, inr}
-use Rattle.std.proofs.lemmas.Bool.{leb-true, leb-false}
+use Rattle.std.proofs.Common.{◌≡◌, ◌≢◌, ℕ, ◌≤◌, Bool, true, false, cond, leb, length, Some, None, Result, Ok, Err, refl, sym, ap, inl, inr}
+use Rattle.std.proofs.lemmas.Bool.{leb-true}
 use Rattle.wk_bytes.specs.LebLaws.{chosen}
 use Rattle.wk_bytes.specs.Frames.{limit}
 use Rattle.wk_module.specs.declared.types.Parts.{Parts}
@@ -62,13 +62,6 @@ limited-some n len h =
     elim (chosen (leb n limit) (Some n) None (Some len) h) [
       | inl p ↦ leb-true n limit p.0
       | inr p ↦ absurd cc
-    ]
-
-pub limited-none : (n : ℕ) → limited n ≡ None → limit < n
-limited-none n h =
-    elim (chosen (leb n limit) (Some n) None None h) [
-      | inl p ↦ absurd cc
-      | inr p ↦ leb-false n limit p.0
     ]
 
 -- a module whose length is kept is not too large

@@ -12,7 +12,7 @@ use Rattle.wk_bytes.specs.LebLaws.{done}
 use Rattle.wk_bytes.specs.Short.{short}
 use Rattle.wk_bytes.specs.ShortLaws.{short-last, short-least, short-more, short-some}
 use Rattle.wk_bytes.specs.Span.{Span, fault, piece_at, u32_at}
-use Rattle.wk_bytes.specs.Stands.{Stands, StandsAt}
+use Rattle.wk_bytes.specs.Stands.{StandsAt}
 use Rattle.wk_body.specs.declared.types.Profile.{Profile}
 use Rattle.wk_body.specs.Bodies.{BodyOf}
 use Rattle.wk_body.specs.Reading.{all_body_at}
@@ -35,20 +35,7 @@ by_kind : {A : Type 0} (e : ReadFault) (kind : ReadKind) (r : Result A ReadFault
 by_kind e Memory r from stands is = absurd stands
 by_kind e _ r from stands is = is
 
--- a fault that stands is no want of memory
-pub fails_as : {A : Type 0} (s : Span) (e : ReadFault) (r : Result A ReadFault) → Stands s e → r ≡ Err e → FailsAs e e.kind r
-fails_as s e r stands is = by_kind e e.kind r stands.from stands.stands is
-
 -- ---- a code is taken
-
-pub size_fails : (end : ℕ) (bytes : List ℕ) (e : ReadFault) → u32_at end bytes ≡ Err e → bytes_at end bytes ≡ Err e
-unfolding bytes_at
-size_fails end bytes e bad = rw bad refl
-
-pub piece_fails : (end : ℕ) (bytes rest : List ℕ) (size : ℕ) (e : ReadFault) → u32_at end bytes ≡ Ok (size, rest) → piece_at size end rest ≡ Err e
-    → bytes_at end bytes ≡ Err e
-unfolding bytes_at
-piece_fails end bytes rest size e read bad = rw (read, bad) refl
 
 both_taken : (end : ℕ) (bytes rest piece last : List ℕ) (size : ℕ) → u32_at end bytes ≡ Ok (size, rest) → piece_at size end rest ≡ Ok (piece, last)
     → bytes_at end bytes ≡ Ok (piece, last)
