@@ -2,7 +2,6 @@
 use Rattle.std.proofs.Common.{◌≡◌, ℕ, ◌+◌, ◌<◌, true, false, Option, List, ◌++◌, length, get_or, drop, sym, ap, ◌∙◌, inl, inr, append_assoc}
 use Rattle.std.proofs.lemmas.Bool.{cases_Bool}
 use Rattle.std.proofs.lemmas.List.{at_drop_more}
-use Rattle.std.specs.Prelude.{Result, Ok, Err, OnErr}
 use Rattle.std.proofs.lemmas.List.Folds.{list_any_at}
 use Rattle.std.specs.List.{flat_map, list_any}
 use Rattle.std.specs.Io.KnownBytes.{Appends}
@@ -11,10 +10,6 @@ use Rattle.wk_bytes.specs.TakenLaws.{Appends-then}
 use Rattle.wk_list.specs.declared.listing.Part.{Part}
 use Rattle.wk_list.specs.Listing.{lists_bodies}
 use Rattle.wk_list.specs.Taken.{Leaves}
-
-pub on_err_known : {T E P : Type 0} (r : Result T E) → P → OnErr r P
-on_err_known (Ok x) p = tt
-on_err_known (Err e) p = p
 
 -- the text of the item at an index was taken
 pub more_taken : {A : Type 0} (text : A → List ℕ) (items : List A) (i : ℕ) (other : A) (a b c : Option (List ℕ)) (all : List ℕ)

@@ -1,11 +1,11 @@
 -- The bytes of integers and of types, of which the last alone is below 128.
-use Rattle.std.proofs.Common.{◌≡◌, ℕ, zero, suc, ◌+◌, ◌*◌, ◌/◌, ◌%◌, ◌<◌, ◌≤◌, ℤ, pos, negsuc, false, inl, inr, List, [], ◌∷◌, ◌++◌, length, refl, sym, ap}
+use Rattle.std.proofs.Common.{◌≡◌, ℕ, zero, suc, ◌+◌, ◌*◌, ◌/◌, ◌%◌, ◌<◌, ◌≤◌, ℤ, pos, negsuc, inl, inr, List, [], ◌∷◌, ◌++◌, length, refl, sym, ap}
 use Rattle.std.proofs.Common.{subst, ◌∙◌, arith, append_assoc}
 use Rattle.std.specs.List.{flat_map}
-use Rattle.std.proofs.lemmas.Bool.{cases_Bool, cases_lt, ltb-false}
+use Rattle.std.proofs.lemmas.Bool.{cases_Bool, cases_lt}
 use Rattle.std.proofs.lemmas.List.{append-nil}
 use Rattle.wk_bytes.specs.Short.{short, short_signed, is_lastS, lowS, highS, sizeS}
-use Rattle.wk_bytes.specs.ShortLaws.{short-last, short-more, short_signed-last, short_signed-more}
+use Rattle.wk_bytes.specs.ShortLaws.{short-last, short-more, short_signed-last, short_signed-more, smaller_signed}
 use Rattle.wk_body.specs.declared.types.BlockType.{BlockType}
 use Rattle.wk_body.specs.declared.types.BlockType.TheVariants.{Empty, Value, Index}
 use Rattle.wk_body.specs.declared.types.ValType.{ValType}
@@ -36,21 +36,17 @@ low_small : (z : ℤ) → lowS z < 128
 low_small (pos n) = omega arith
 low_small (negsuc n) = omega arith
 
-high_less : (z : ℤ) → is_lastS z ≡ false → sizeS (highS z) < sizeS z
-high_less (pos n) more = omega (arith, ltb-false n 64 more)
-high_less (negsuc n) more = omega (arith, ltb-false n 64 more)
-
 signed_up_to : (k : ℕ) (z : ℤ) → sizeS z ≤ k → IsInteger (short_signed z)
 signed_up_to zero z le =
     elim (cases_Bool (is_lastS z)) [
       | inl one ↦ rw (short_signed-last z one) (low_small z)
-      | inr more ↦ absurd (omega (arith, high_less z more))
+      | inr more ↦ absurd (omega (arith, smaller_signed z more))
     ]
 signed_up_to (suc k) z le =
     elim (cases_Bool (is_lastS z)) [
       | inl one ↦ rw (short_signed-last z one) (low_small z)
       | inr more ↦
-          let less = high_less z more in
+          let less = smaller_signed z more in
           rw (short_signed-more z more) (more_bytes (lowS z + 128) (short_signed (highS z)) (omega arith) (signed_up_to k (highS z) (omega arith)))
     ]
 

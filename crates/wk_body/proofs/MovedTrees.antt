@@ -1,10 +1,9 @@
 -- Tokens whose references move spell the tree whose references move, and it stays one that bytes can spell.
-use Rattle.std.proofs.Common.{◌≡◌, ℕ, zero, suc, ◌+◌, ◌<◌, ◌≤◌, ◌^◌, Bool, true, false, List, [], ◌∷◌, ◌++◌, length, map, take, drop, get_or, refl, sym, ap}
+use Rattle.std.proofs.Common.{◌≡◌, ℕ, zero, suc, ◌+◌, ◌<◌, ◌≤◌, Bool, true, false, List, [], ◌∷◌, ◌++◌, length, map, take, drop, get_or, refl, sym, ap}
 use Rattle.std.proofs.Common.{subst, ◌∙◌, arith, Result, Ok, Err, MatchResult, IfOk}
 use Rattle.std.specs.Prelude.{◌||◌}
 use Rattle.std.specs.List.{flat_map, AllByRecursion}
 use Rattle.std.proofs.lemmas.Bool.{or_parts, or_left, or_right}
-use Rattle.std.proofs.lemmas.Bool.Decides.{nat_tests}
 use Rattle.std.proofs.lemmas.List.{append-nil, map-append, length-map, length-take-le, drop_more, get_or_at}
 use Rattle.std.proofs.lemmas.List.Concat.{flat_map-append}
 use Rattle.wk_body.specs.declared.references.Ref.{Ref}
@@ -18,9 +17,10 @@ use Rattle.wk_body.specs.declared.renumber.ShiftFault.TheVariants as faults
 use Rattle.wk_body.specs.Instructions.{Plain, Call, GlobalGet, GlobalSet, immediates, Allows}
 use Rattle.wk_body.specs.Tree.{Instrs, Finish, One, Block, If, Tok, Simple, Open, OpenIf, Otherwise, Close, else_part, flatten, tokens_of, tree_of}
 use Rattle.wk_body.specs.TreeLaws.{tree_of-flatten}
-use Rattle.wk_body.specs.References.{plain_refs, type_refs, refs_of, tok_refs, map_plain, map_tok, moved, moved_plain, shift_instrs, is_stuck_at, is_stuck}
+use Rattle.wk_body.specs.References.{plain_refs, type_refs, refs_of, tok_refs, map_plain, map_tok, moved_plain, shift_instrs, is_stuck_at, is_stuck}
 use Rattle.wk_body.specs.References.{any_stuck, IsRefused}
 use Rattle.wk_body.specs.Moved.{moved_kept, IsMoved, AreMoved, MayRefuse}
+use Rattle.wk_body.specs.MovedLaws.{moved_small}
 use Rattle.wk_body.specs.Kept.{told, all_told, IsWithin, IsKept, tree_kept}
 use Rattle.wk_body.specs.Shape.{deep, AreInRange, IsInRange, IsShaped, IsOf, depth_limit}
 use Rattle.wk_body.proofs.Built.{all-push}
@@ -93,14 +93,11 @@ free_parts : (kind : Moving) (from : ℕ) (a b : List Ref) → any_stuck kind fr
     → (any_stuck kind from a ≡ false) × (any_stuck kind from b ≡ false)
 free_parts kind from a b h = or_parts (any_stuck kind from a) (any_stuck kind from b) (sym (any_stuck_append kind from a b) ∙ h)
 
-moved_index : (from x : ℕ) → is_stuck_at from x ≡ false → x < 2 ^ 32 → moved from x < 2 ^ 32
-moved_index from x free small = grind (arith, nat_tests)
-
 moved_in_range : (kind : Moving) (from : ℕ) (p : Plain) → any_stuck kind from (plain_refs p) ≡ false → AreInRange (immediates p)
     → AreInRange (immediates (moved_plain kind from p))
-moved_in_range moving.Func from (Call x) free h = moved_index from x (or_parts (is_stuck_at from x) false free).0 h
-moved_in_range moving.Global from (GlobalGet x) free h = moved_index from x (or_parts (is_stuck_at from x) false free).0 h
-moved_in_range moving.Global from (GlobalSet x) free h = moved_index from x (or_parts (is_stuck_at from x) false free).0 h
+moved_in_range moving.Func from (Call x) free h = moved_small from x (or_parts (is_stuck_at from x) false free).0 h
+moved_in_range moving.Global from (GlobalGet x) free h = moved_small from x (or_parts (is_stuck_at from x) false free).0 h
+moved_in_range moving.Global from (GlobalSet x) free h = moved_small from x (or_parts (is_stuck_at from x) false free).0 h
 moved_in_range kind from p free h = h
 
 shift_in_range : (kind : Moving) (from : ℕ) (t : Instrs) → any_stuck kind from (refs_of t) ≡ false → IsInRange t → IsInRange (shift_instrs kind from t)

@@ -1,5 +1,6 @@
 -- What is read is spelled; what is spelled in front is read, whatever follows; and no spelling begins another.
-use Rattle.std.proofs.Common.{◌≡◌, ℤ, ℕ, List, ◌++◌, length, Result, Ok, Err, refl, sym, ap, subst, ◌∙◌, append_assoc}
+use Rattle.std.proofs.Common.{◌≡◌, ℤ, ℕ, Bool, true, false, List, ◌++◌, length, Result, Ok, Err, refl, sym, ap, subst, ◌∙◌, append_assoc}
+use Rattle.std.specs.Str.{IsUtf8, is_utf8}
 use Rattle.std.proofs.lemmas.Str.{is_utf8-from_IsUtf8, IsUtf8-from_is_utf8}
 use Rattle.std.proofs.lemmas.List.{append_cancel_right}
 use Rattle.wk_bytes.specs.declared.fault.ReadFault.{ReadFault}
@@ -78,6 +79,14 @@ unfolding signed_at
 signed_at-again N end b z rest s = rw (sint_again N b z rest s) refl
 
 -- ---- a name
+
+-- a text that is no UTF-8 is told apart
+pub not_utf8 : (text : List ℕ) → ¬ (IsUtf8 text) → is_utf8 text ≡ false
+not_utf8 text bad = unless (is_utf8 text) (IsUtf8-from_is_utf8 text)
+  where
+    unless : (b : Bool) → (b ≡ true → IsUtf8 text) → b ≡ false
+    unless true tells = absurd (bad (tells refl))
+    unless false tells = refl
 
 pub name_at-found : (end : ℕ) (bytes text rest : List ℕ) → IsBytes bytes → name_at end bytes ≡ Ok (text, rest)
     → (b : List ℕ) × SpellsName b text × (bytes ≡ b ++ rest)

@@ -1,7 +1,13 @@
 -- What calls of an `Out` take, one after the other.
 use Rattle.std.proofs.Common.{ℕ, List, [], ◌++◌, Option, Some, None, refl, sym, ap, ◌∙◌, append_assoc, append-nil}
+use Rattle.std.specs.Prelude.{Result, Ok, Err, OnErr}
 use Rattle.std.specs.Io.KnownBytes.{Appends}
 use Rattle.wk_bytes.specs.Taken.{TakesFront}
+
+-- what holds in any case holds after a failure
+pub on_err_known : {T E P : Type 0} (r : Result T E) → P → OnErr r P
+on_err_known (Ok x) p = tt
+on_err_known (Err e) p = p
 
 -- a call that takes nothing
 pub Appends-none : (a : Option (List ℕ)) → Appends a a []

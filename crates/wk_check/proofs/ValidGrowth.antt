@@ -8,6 +8,7 @@ use Rattle.std.proofs.lemmas.List.Folds.{list_any-append}
 use Rattle.std.specs.Prelude.{slice_get, option_map, remove}
 use Rattle.std.specs.List.{AllByRecursion, list_any}
 use Rattle.std.specs.Str.{bytes_eq}
+use Rattle.wk_bytes.specs.LebLaws.{some_is}
 use Rattle.wk_body.specs.declared.references.Ref.{Ref}
 use Rattle.wk_body.specs.declared.references.Ref.TheVariants as refs
 use Rattle.wk_body.specs.Bodies.{BodyOf}
@@ -289,9 +290,6 @@ first_of_fine : (section item : ℕ) (w : Option Flaw) (ws : List (Option Flaw))
 first_of_fine section item None ws fine = none_in section (item + 1) ws fine
 first_of_fine section item (Some w) ws fine = refl
 
-some_is : (x y : ℕ) → Some x ≡ Some y → y ≡ x
-some_is x y e = cc
-
 module _ (A : Ref → Found) (section ty : ℕ) (b : BodyOf) where
   codes_replaced : (item place : ℕ) (fs : List Func) → Some ty ≡ option_map (λ (f : Func). f.ty) (slice_get fs place)
       → AreFine (map body_flaw (map (func_verdict A) fs))
@@ -300,7 +298,7 @@ module _ (A : Ref → Found) (section ty : ℕ) (b : BodyOf) where
   codes_replaced item place [] is fine = absurd cc
   codes_replaced item zero (f ∷ fs) is fine =
       first_of_fine section item (body_flaw (body_verdict A f.ty b)) _ fine.1
-      ∙ ap (λ t. first_in section item (body_flaw (body_verdict A t b) ∷ [])) (some_is ty f.ty is)
+      ∙ ap (λ t. first_in section item (body_flaw (body_verdict A t b) ∷ [])) (sym (some_is ty f.ty is))
       ∙ ap (λ n. first_in section n (body_flaw (body_verdict A ty b) ∷ [])) (omega arith)
   codes_replaced item (suc place) (f ∷ fs) is fine =
       rw (fine.0)

@@ -4,6 +4,7 @@ use Rattle.std.specs.Prelude.{All, IfSome, decimal}
 use Rattle.std.specs.List.{AllPass}
 use Rattle.std.proofs.lemmas.List.Elements.{All-nil, All-cons}
 use Rattle.std.proofs.lemmas.List.Sums.{AllPass-from_list_all}
+use Rattle.wk_bytes.specs.LebLaws.{some_is}
 use Rattle.wk_module.specs.declared.types.GlobalType.{GlobalType}
 use Rattle.wk_module.specs.declared.types.ImportDesc.{ImportDesc}
 use Rattle.wk_module.specs.declared.types.ImportDesc.TheVariants as descs
@@ -22,7 +23,7 @@ use Rattle.wk_edit.specs.Script.{edit_by, edit_of}
 use Rattle.wk_edit.specs.ScriptGrammar.{type_name, types_word, mutable_word, kind_word, most_words, limits_words, desc_words, IsU32, AreU32Limits, IsU32Desc}
 use Rattle.wk_edit.specs.ScriptGrammar.{SpellsEdit}
 use Rattle.wk_edit.proofs.NumberLaws.{number_told, number_said, graphic_number}
-use Rattle.wk_edit.proofs.WordLaws.{bind_some, some_is, tested, type_is, type_back, graphic_type, types_told, types_said, graphic_types, kind_told, kind_said}
+use Rattle.wk_edit.proofs.WordLaws.{bind_some, tested, type_is, type_back, graphic_type, types_told, types_said, graphic_types, kind_told, kind_said}
 use Rattle.wk_edit.proofs.WordLaws.{graphic_kind, mutable_told, mutable_said, graphic_mutable, name_told, name_said, graphic_name, data_told, data_said}
 use Rattle.wk_edit.proofs.WordLaws.{graphic_data}
 

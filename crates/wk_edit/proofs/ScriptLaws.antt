@@ -7,6 +7,7 @@ use Rattle.std.proofs.lemmas.List.{nil_from_length, length-append}
 use Rattle.std.proofs.lemmas.List.Elements.{All-nil, All-cons}
 use Rattle.std.proofs.lemmas.List.Folds.{list_any_none}
 use Rattle.std.proofs.lemmas.List.Splits.{join_with_byte-slice_split}
+use Rattle.wk_bytes.specs.LebLaws.{some_is}
 use Rattle.wk_session.specs.declared.edit.Edit.{Edit}
 use Rattle.wk_edit.specs.declared.fault.ScriptFault.{ScriptFault}
 use Rattle.wk_edit.specs.declared.fault.ScriptFault.TheVariants.{BadWord, NotAscii, Memory}
@@ -16,7 +17,6 @@ use Rattle.wk_edit.specs.Script.{Reads, edit_of, or_bad_word, is_high, line_edit
 use Rattle.wk_edit.specs.ScriptGrammar.{SpellsLine, SpellsLines, IsScript, IsOnlyScript, IsNoScript, IsFineLine, IsFirstWrong, IsFaultOf}
 use Rattle.wk_edit.proofs.EditLaws.{edit_told, edit_said, words_told}
 use Rattle.wk_edit.proofs.Joining.{IsWithout, pieces-join, All-join}
-use Rattle.wk_edit.proofs.WordLaws.{some_is}
 
 -- ---- lines
 

@@ -2,20 +2,17 @@
 use Rattle.std.proofs.Common.{◌≡◌, ◌<◌, ◌&&◌, ◌==◌, not, ℕ, zero, suc, slice_index, nat_le, Bool, true, false, List, [], ◌∷◌, length, Some, None, Result, Ok}
 use Rattle.std.proofs.Common.{refl, arith}
 use Rattle.std.specs.List.{list_all}
-use Rattle.std.specs.Str.{IsUtf8, is_utf8}
-use Rattle.std.proofs.lemmas.Str.{is_utf8-from_IsUtf8, IsUtf8-from_is_utf8, IsUtf8-from_ascii}
+use Rattle.std.specs.Str.{IsUtf8}
+use Rattle.std.proofs.lemmas.Str.{is_utf8-from_IsUtf8, IsUtf8-from_ascii}
 use Rattle.hex.specs.declared.error.FromHexError.{FromHexError}
+use Rattle.wk_bytes.specs.PieceLaws.{not_utf8}
 use Rattle.wk_edit.specs.Words.{utf8_of, is_plain, is_graphic}
-
-false_unless : (b : Bool) (P : Type 0) → (b ≡ true → P) → ¬ P → b ≡ false
-false_unless true P tells never = absurd (never (tells refl))
-false_unless false P tells never = refl
 
 pub utf8_is : (r : Result (List ℕ) FromHexError) (bytes : List ℕ) → r ≡ Ok bytes → IsUtf8 bytes → utf8_of r ≡ Some bytes
 utf8_is r bytes e utf8 = rw (e, is_utf8-from_IsUtf8 bytes utf8) refl
 
 pub utf8_not : (r : Result (List ℕ) FromHexError) (bytes : List ℕ) → r ≡ Ok bytes → ¬ (IsUtf8 bytes) → utf8_of r ≡ None
-utf8_not r bytes e bad = rw (e, false_unless (is_utf8 bytes) (IsUtf8 bytes) (IsUtf8-from_is_utf8 bytes) bad) refl
+utf8_not r bytes e bad = rw (e, not_utf8 bytes bad) refl
 
 graphic_small : (x : ℕ) (b c : Bool) → b ≡ nat_le x 126 → c && b ≡ true → x < 128
 graphic_small x true c test e = grind (arith, test)

@@ -13,6 +13,7 @@ use Rattle.std.proofs.lemmas.Str.{is_utf8-from_IsUtf8, IsUtf8-from_is_utf8}
 use Rattle.hex.specs.Hex.{decode_of, is_hex_digit}
 use Rattle.hex.specs.declared.error.FromHexError.{FromHexError}
 use Rattle.hex.proofs.HexLemmas.{decode_of-ok}
+use Rattle.wk_bytes.specs.LebLaws.{some_is}
 use Rattle.wk_body.specs.declared.types.ValType.{ValType}
 use Rattle.wk_body.specs.declared.types.ValType.TheVariants.{I32, I64, F32, F64}
 use Rattle.wk_module.specs.declared.types.Kind.{Kind}
@@ -27,9 +28,6 @@ use Rattle.wk_edit.proofs.Joining.{IsWithout, pieces-join, All-join}
 pub bind_some : {A B : Type 0} (o : Option A) (f : A → Option B) (y : B) → (o >>= f) ≡ Some y → (x : A) × (o ≡ Some x) × (f x ≡ Some y)
 bind_some (Some x) f y e = (x, refl, e)
 bind_some None f y e = absurd cc
-
-pub some_is : {A : Type 0} (x y : A) → (Some x) ≡ (Some y) → x ≡ y
-some_is x y e = cc
 
 -- which way a test of bytes went
 pub tested : {A : Type 0} (a b : List ℕ) (x y z : A) → cond (bytes_eq a b) x y ≡ z → ((a ≡ b) × (x ≡ z)) ⊎ ((bytes_eq a b ≡ false) × (y ≡ z))

@@ -1,12 +1,9 @@
 -- Names to keep.
-use Rattle.std.proofs.Common.{◌≡◌, ◌==◌, ℕ, Bool, true, false, List, [], ◌∷◌, length, Some, None, refl, ap, ◌∙◌}
-use Rattle.std.specs.Str.{IsUtf8, is_utf8}
-use Rattle.std.proofs.lemmas.Str.{is_utf8-from_IsUtf8, IsUtf8-from_is_utf8}
+use Rattle.std.proofs.Common.{◌≡◌, ◌==◌, ℕ, false, List, [], ◌∷◌, length, Some, None, refl, ap, ◌∙◌}
+use Rattle.std.specs.Str.{IsUtf8}
+use Rattle.std.proofs.lemmas.Str.{is_utf8-from_IsUtf8}
+use Rattle.wk_bytes.specs.PieceLaws.{not_utf8}
 use Rattle.wk_ffi.specs.Asked.{keep_of}
-
-false_unless : (b : Bool) (P : Type 0) → (b ≡ true → P) → ¬ P → b ≡ false
-false_unless true P tells never = absurd (never (tells refl))
-false_unless false P tells never = refl
 
 keep_is : (name : List ℕ) → false ≡ (length name == 0) → IsUtf8 name → Some (Some name) ≡ keep_of name
 keep_is [] some utf8 = absurd cc
@@ -17,4 +14,4 @@ kept text name e some utf8 = ap (λ (n : List ℕ). Some (Some n)) e ∙ keep_is
 
 pub not_kept : (name : List ℕ) → false ≡ (length name == 0) → ¬ (IsUtf8 name) → None ≡ keep_of name
 not_kept [] some bad = absurd cc
-not_kept (x ∷ xs) some bad = rw (false_unless (is_utf8 (x ∷ xs)) (IsUtf8 (x ∷ xs)) (IsUtf8-from_is_utf8 (x ∷ xs)) bad) refl
+not_kept (x ∷ xs) some bad = rw (not_utf8 (x ∷ xs) bad) refl

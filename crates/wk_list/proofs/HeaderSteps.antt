@@ -10,8 +10,9 @@ use Rattle.wk_module.specs.Customs.{written_custom}
 use Rattle.wk_module.specs.Sections.{of_number}
 use Rattle.wk_module.specs.Writing.{section_of, customs_at, section_and_customs, ids, encoded, Fits}
 use Rattle.wk_module.specs.WritingLaws.{length-framed}
+use Rattle.wk_module.specs.WritingLaws.{drop-ids}
 use Rattle.wk_list.specs.Headers.{placed, custom_frame, custom_header, customs_of, contents_start, header_by, headers_of}
-use Rattle.wk_list.proofs.Walk.{drop-ids, length-ids, drop-of, drop-others, length-of}
+use Rattle.wk_list.proofs.Walk.{length-ids, drop-of, drop-others, length-of}
 
 -- ---- a custom section of the place
 

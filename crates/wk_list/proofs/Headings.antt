@@ -17,7 +17,8 @@ heading_put id lines none (x ∷ xs) n t new many put =
 
 -- ---- the start section
 
-regroup : (t a b c : List ℕ) → ((t ++ a) ++ b) ++ c ≡ t ++ (a ++ (b ++ c))
+-- what was put in three pieces
+pub regroup : (t a b c : List ℕ) → ((t ++ a) ++ b) ++ c ≡ t ++ (a ++ (b ++ c))
 regroup t a b c = simp append_assoc
 
 pub start_put : (start : Option ℕ) (index n : ℕ) (t one two three : List ℕ) → start ≡ Some index → n ≡ index → one ≡ t ++ codes "Start:\n - start "

@@ -4,10 +4,10 @@ use Rattle.std.specs.List.{flat_map}
 use Rattle.wk_module.specs.declared.types.Parts.{Parts}
 use Rattle.wk_module.specs.Sections.{of_number}
 use Rattle.wk_module.specs.Writing.{ids}
+use Rattle.wk_module.specs.WritingLaws.{drop-ids}
 use Rattle.wk_list.specs.Sketches.{IsSketch}
 use Rattle.wk_list.specs.Details.{details_by, details_of}
 use Rattle.wk_list.proofs.CustomSteps.{details_at}
-use Rattle.wk_list.proofs.Walk.{drop-ids}
 
 -- the details from an id on
 abbrev pub details_from : Parts → ℕ → List ℕ

@@ -1,6 +1,6 @@
 -- Sections as they stand in the written form and in the listing of headers: none without contents, and else one with its own id.
 use Rattle.std.proofs.Common.{◌≡◌, ℕ, ◌<◌, Bool, true, false, if◌then◌else◌, Option, Some, None, List, [], ◌++◌, length, refl, sym, ap, ◌∙◌, arith}
-use Rattle.std.proofs.Common.{append_assoc, append-nil}
+use Rattle.std.proofs.Common.{append-nil}
 use Rattle.std.specs.Prelude.{codes}
 use Rattle.std.proofs.lemmas.List.{length-map}
 use Rattle.wk_module.specs.declared.types.Func.{Func}
@@ -13,6 +13,7 @@ use Rattle.wk_module.specs.SectionLaws.{number-of_number}
 use Rattle.wk_module.specs.WritingLaws.{some_contents}
 use Rattle.wk_list.specs.Sketches.{IsSketch}
 use Rattle.wk_list.specs.Headers.{count_text, header_text, header_line, header_tail, header_by, tail_by, contents_start}
+use Rattle.wk_list.proofs.Headings.{regroup}
 
 -- ---- without contents
 
@@ -45,15 +46,12 @@ header_some m at id (Some k) is some =
 
 -- ---- lines
 
-three : (t a b c : List ℕ) → ((t ++ a) ++ b) ++ c ≡ t ++ (a ++ (b ++ c))
-three t a b c = simp append_assoc
-
 -- a line that was gathered piece by piece
 line : (id at size start : ℕ) (t tail a b c : List ℕ) → start ≡ contents_start at size → a ≡ t ++ header_text id start size → b ≡ a ++ tail
     → c ≡ b ++ codes "\n" → c ≡ t ++ header_line id at size tail
 line id at size start t tail a b c is head behind end =
     end ∙ ap (λ (x : List ℕ). x ++ codes "\n") (behind ∙ ap (λ (x : List ℕ). x ++ tail) (head ∙ ap (λ (s : ℕ). t ++ header_text id s size) is))
-    ∙ three t (header_text id (contents_start at size) size) tail (codes "\n")
+    ∙ regroup t (header_text id (contents_start at size) size) tail (codes "\n")
 
 pub section_line : (m : Parts) (id at size start : ℕ) (t a b c : List ℕ) → size ≡ length (contents_by (lists_of m) (of_number id)) → 0 < size
     → start ≡ contents_start at size → a ≡ t ++ header_text id start size → b ≡ a ++ tail_by m (of_number id) → c ≡ b ++ codes "\n"

@@ -1,16 +1,12 @@
 -- What an `Out` takes of a text, piece after piece.
 use Rattle.std.proofs.Common.{◌≡◌, ℕ, List, ◌++◌, refl, [], Option, sym, ap, ◌∙◌, subst, append_assoc, append-nil}
-use Rattle.std.specs.Prelude.{Result, Ok, Err, OnErr}
+use Rattle.std.specs.Prelude.{Result, Ok, Err}
 use Rattle.std.specs.Result.{IsErr, IsErrAnd}
 use Rattle.wk_bytes.specs.Taken.{TakesFront}
 use Rattle.wk_bytes.specs.TakenLaws.{Appends-none, Appends-then}
 use Rattle.wk_list.specs.declared.fault.ListFault.{ListFault}
 use Rattle.wk_list.specs.declared.fault.ListFault.TheVariants.{Write, Memory}
 use Rattle.wk_list.specs.Taken.{Leaves, PutsOut, failed_after}
-
-pub on_err_known : {T E P : Type 0} (r : Result T E) → P → OnErr r P
-on_err_known (Ok x) p = tt
-on_err_known (Err e) p = p
 
 -- on the way: of the text that goes out, so much is left
 abbrev pub IsLeft : {W : Type 0} → (W → Option (List ℕ)) → (W → ℕ) → W → W → List ℕ → List ℕ → Type 0

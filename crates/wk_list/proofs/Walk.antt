@@ -3,7 +3,6 @@ use Rattle.std.proofs.Common.{◌≡◌, ℕ, suc, ◌+◌, ◌<◌, ◌≤◌, 
 use Rattle.std.proofs.Common.{arith, nat_le, add-one, drop-cons, length-append}
 use Rattle.std.specs.Prelude.{unwrap_or}
 use Rattle.std.proofs.lemmas.Bool.{cond-true, le-leb, eq-eqb}
-use Rattle.std.proofs.lemmas.List.FromFn.{get_or-range_with_len}
 use Rattle.std.specs.List.{flat_map}
 use Rattle.wk_bytes.specs.Short.{short}
 use Rattle.wk_bytes.specs.ShortLaws.{short-few}
@@ -12,6 +11,7 @@ use Rattle.wk_body.specs.Lengths.{limited}
 use Rattle.wk_module.specs.declared.types.Parts.{Parts}
 use Rattle.wk_module.specs.declared.types.Custom.{Custom}
 use Rattle.wk_module.specs.Writing.{section_of, customs_at, section_and_customs, ids, encoded}
+use Rattle.wk_module.specs.WritingLaws.{drop-ids}
 use Rattle.wk_list.specs.Headers.{custom_frame, customs_of}
 
 -- ---- lengths
@@ -24,12 +24,6 @@ pub told : (len : Option ℕ) (n : ℕ) → len ≡ limited n → n ≤ limit �
 told len n is within = ap (λ (l : Option ℕ). unwrap_or l 0) (is ∙ cond-true (nat_le n limit) (Some n) None (le-leb n limit within))
 
 -- ---- ids one after the other
-
--- the ids from one on
-pub drop-ids : (id : ℕ) → id < 12 → drop id ids ≡ id ∷ drop (id + 1) ids
-drop-ids id lt =
-    let here : get_or ids id 0 ≡ id = omega (arith, get_or-range_with_len 0 12 id 0 lt) in
-    rw (add-one id) (drop-cons ids id 0 lt ∙ ap (λ (n : ℕ). n ∷ drop (suc id) ids) here)
 
 -- the pieces from one id on begin with its section and the custom sections behind that
 pub length-ids : (m : Parts) (id : ℕ) → id < 12

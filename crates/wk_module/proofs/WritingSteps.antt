@@ -1,14 +1,13 @@
 -- Steps of writing a module: ids one after the other, and parts that are no longer than the whole.
-use Rattle.std.proofs.Common.{◌≡◌, ℕ, zero, suc, ◌+◌, ◌<◌, ◌≤◌, List, [], ◌∷◌, ◌++◌, length, drop, get_or, refl, sym, ap, ◌∙◌, arith, add-one, append_assoc}
-use Rattle.std.proofs.Common.{drop-cons, length-append}
+use Rattle.std.proofs.Common.{◌≡◌, ℕ, zero, suc, ◌+◌, ◌<◌, ◌≤◌, List, [], ◌∷◌, ◌++◌, length, drop, get_or, refl, sym, ap, ◌∙◌, arith, append_assoc}
+use Rattle.std.proofs.Common.{length-append}
 use Rattle.std.proofs.lemmas.Bool.{eq-eqb}
-use Rattle.std.proofs.lemmas.List.FromFn.{get_or-range_with_len}
 use Rattle.std.specs.List.{flat_map}
 use Rattle.wk_bytes.specs.Frames.{limit, magic, version}
 use Rattle.wk_module.specs.declared.types.Parts.{Parts}
 use Rattle.wk_module.specs.declared.types.Custom.{Custom}
 use Rattle.wk_module.specs.Writing.{section_of, customs_at, section_and_customs, ids, encoded, Fits}
-use Rattle.wk_module.specs.WritingLaws.{at_place, written_frame, customs_at-cons, piece_le, id_is}
+use Rattle.wk_module.specs.WritingLaws.{at_place, written_frame, customs_at-cons, piece_le, id_is, drop-ids}
 
 -- a custom is no longer than all customs of its place
 pub custom_le : (cs : List Custom) (i : ℕ) (c : Custom) → i < length cs → c ≡ get_or cs i c → length (written_frame c) ≤ length (customs_at c.place cs)
@@ -24,12 +23,6 @@ custom_le (d ∷ cs) (suc i) c within is =
       ap length (customs_at-cons d cs c.place),
       length-append (at_place d.place (written_frame d) c.place) (customs_at c.place cs),
     )
-
--- the ids from one on
-pub drop-ids : (id : ℕ) → id < 12 → drop id ids ≡ id ∷ drop (id + 1) ids
-drop-ids id lt =
-    let here : get_or ids id 0 ≡ id = omega (arith, get_or-range_with_len 0 12 id 0 lt) in
-    rw (add-one id) (drop-cons ids id 0 lt ∙ ap (λ (n : ℕ). n ∷ drop (suc id) ids) here)
 
 -- in a module that fits, a section and the customs behind it do
 pub both_fit : (m : Parts) (id : ℕ) → id < 12 → Fits m → length (section_of m id) + length (customs_at id m.customs) ≤ limit

@@ -5,6 +5,7 @@ use Rattle.std.specs.Prelude.{option_map}
 use Rattle.std.specs.List.{AllByRecursion, flat_map}
 use Rattle.std.specs.Str.{bytes_eq}
 use Rattle.std.proofs.lemmas.List.{length-map, map_push}
+use Rattle.wk_bytes.specs.LebLaws.{some_is}
 use Rattle.wk_bytes.specs.Short.{short}
 use Rattle.wk_body.specs.Bodies.{BodyOf}
 use Rattle.wk_body.specs.Shape.{IsU32}
@@ -133,9 +134,6 @@ less_more e es rest less = record {
     length-append (written_export e) (flat_map written_export es),
   );
 }
-
-some_is : (x y : List Export) → Some x ≡ Some y → x ≡ y
-some_is x y e = cc
 
 less_mapped : (e : Export) (es rest : List Export) (o : Option (List Export)) → ((less : List Export) → o ≡ Some less → IsLess es less)
     → option_map (λ more. e ∷ more) o ≡ Some rest → IsLess (e ∷ es) rest

@@ -1,6 +1,6 @@
 -- Laws of the written form: its parts have bytes, how long it is, and by which parts.
 use Rattle.std.proofs.Common.{◌≡◌, ◌≢◌, ℕ, zero, suc, ◌+◌, ◌/◌, ◌^◌, ◌<◌, ◌≤◌, ◌==◌, Bool, true, false, inl, inr, Option, Some, None, List, [], ◌∷◌, ◌++◌}
-use Rattle.std.proofs.Common.{length, map, get_or, filter, if◌then◌else◌, refl, sym, ap, ◌∙◌, arith, length-append}
+use Rattle.std.proofs.Common.{length, map, drop, add-one, drop-cons, get_or, filter, if◌then◌else◌, refl, sym, ap, ◌∙◌, arith, length-append}
 use Rattle.std.proofs.lemmas.Bool.{cases_Bool, cases_eq, cases_lt, cond_both, eq-eqb, ne_eqb}
 use Rattle.std.proofs.lemmas.List.{append-nil, length-map}
 use Rattle.std.proofs.lemmas.List.Folds.{length-flat_map-take, flat_map-map}
@@ -262,6 +262,12 @@ piece_le f xs i x within is = omega (arith, ap (λ y. length (f y)) is, length-f
 -- an id stands at its own place among the ids
 pub id_is : (id : ℕ) → id < 12 → id ≡ get_or ids id id
 id_is id lt = omega (arith, get_or-range_with_len 0 12 id id lt)
+
+-- the ids from one on
+pub drop-ids : (id : ℕ) → id < 12 → drop id ids ≡ id ∷ drop (id + 1) ids
+drop-ids id lt =
+    let here : get_or ids id 0 ≡ id = omega (arith, get_or-range_with_len 0 12 id 0 lt) in
+    rw (add-one id) (drop-cons ids id 0 lt ∙ ap (λ (n : ℕ). n ∷ drop (suc id) ids) here)
 
 -- of a section
 pub section_within : (m : Parts) (k : SectionId) → length (written_section k (contents (lists_of m) k)) ≤ length (encoded m)

@@ -1,9 +1,10 @@
 -- A custom given other bytes, or put behind all others.
-use Rattle.std.proofs.Common.{◌≡◌, ℕ, zero, suc, ◌+◌, ◌<◌, ◌≤◌, nat_lt, Bool, true, false, cond, inl, inr, Some, None, List, [], ◌∷◌, ◌++◌, length}
+use Rattle.std.proofs.Common.{◌≡◌, ℕ, zero, suc, ◌+◌, ◌<◌, ◌≤◌, nat_lt, inl, inr, Some, None, List, [], ◌∷◌, ◌++◌, length}
 use Rattle.std.proofs.Common.{slice_index_or, slice_set, refl, ap, ◌∙◌, arith, length-append}
 use Rattle.std.proofs.lemmas.Bool.{cases_Bool}
 use Rattle.std.specs.List.{flat_map, position, position_or_len}
 use Rattle.std.specs.Str.{IsUtf8}
+use Rattle.wk_bytes.specs.LebLaws.{found_below, none_below}
 use Rattle.wk_module.specs.declared.types.Parts.{Parts}
 use Rattle.wk_module.specs.declared.types.Custom.{Custom}
 use Rattle.wk_module.specs.Shape.{IsInOrderFrom, AreNamed, IsFormed}
@@ -14,14 +15,6 @@ use Rattle.wk_session.specs.Customs.{bytes_at, last_custom}
 use Rattle.wk_session.specs.Edits.{is_named, with_bytes, custom_put}
 
 -- ---- the first custom of a name
-
-found : (b : Bool) (k n i : ℕ) → nat_lt k n ≡ b → cond b (Some k) None ≡ Some i → (k < n) × (k ≡ i)
-found true k n i test e = grind (arith, test, e)
-found false k n i test e = grind (arith, e)
-
-missed : (b : Bool) (k n : ℕ) → nat_lt k n ≡ b → cond b (Some k) None ≡ None → n ≤ k
-missed true k n test e = grind (arith, e)
-missed false k n test e = grind (arith, test)
 
 module _ (name bytes : List ℕ) where
   put_first : (cs : List Custom) → position_or_len (is_named name) cs < length cs
@@ -47,13 +40,13 @@ module _ (name bytes : List ℕ) where
   pub put_at : (cs : List Custom) (i : ℕ) → position (is_named name) cs ≡ Some i → custom_put name bytes cs ≡ bytes_at i bytes cs
   put_at cs i e =
       let n = position_or_len (is_named name) cs in
-      let f = found (nat_lt n (length cs)) n (length cs) i refl e in
+      let f = found_below (nat_lt n (length cs)) n (length cs) i refl e in
       put_first cs f.0 ∙ ap (λ k. bytes_at k bytes cs) f.1
 
   pub put_last : (cs : List Custom) → position (is_named name) cs ≡ None → custom_put name bytes cs ≡ cs ++ last_custom name bytes ∷ []
   put_last cs e =
       let n = position_or_len (is_named name) cs in
-      put_new cs (missed (nat_lt n (length cs)) n (length cs) refl e)
+      put_new cs (none_below (nat_lt n (length cs)) n (length cs) refl e)
 
 -- ---- other bytes
 

@@ -13,7 +13,7 @@ use Rattle.wk_bytes.specs.Frames.{limit, magic, version}
 use Rattle.wk_bytes.specs.Short.{short}
 use Rattle.wk_bytes.specs.ShortLaws.{short-some}
 use Rattle.wk_bytes.specs.Taken.{TakesFront}
-use Rattle.wk_bytes.specs.TakenLaws.{Appends-then, TakesFront-first, TakesFront-then}
+use Rattle.wk_bytes.specs.TakenLaws.{Appends-then, TakesFront-first, TakesFront-then, on_err_known}
 use Rattle.wk_body.specs.Vectors.{written_vector}
 use Rattle.wk_module.specs.declared.types.Custom.{Custom}
 use Rattle.wk_module.specs.declared.types.Parts.{Parts}
@@ -31,14 +31,10 @@ use Rattle.wk_session.specs.RecodedLaws.{recoded}
 
 -- ---- what calls take, one after the other
 
-known : {T E P : Type 0} (r : Result T E) → P → OnErr r P
-known (Ok x) p = tt
-known (Err e) p = p
-
 module _ {T E : Type 0} where
   -- the first of them failed
   pub fails_first : (r : Result T E) (a b : Option (List ℕ)) (xs ys all : List ℕ) → TakesFront a b xs → all ≡ xs ++ ys → OnErr r (TakesFront a b all)
-  fails_first r a b xs ys all p is = known r (rw is (TakesFront-first a b xs ys p))
+  fails_first r a b xs ys all p is = on_err_known r (rw is (TakesFront-first a b xs ys p))
 
   -- the first of them took all of its bytes, and the others may have failed
   pub fails_later : (r : Result T E) (a b c : Option (List ℕ)) (xs ys all : List ℕ) → Appends a b xs → OnErr r (TakesFront b c ys) → all ≡ xs ++ ys

@@ -10,6 +10,7 @@ use Rattle.wk_bytes.specs.Frames.{Section, sections_of}
 use Rattle.wk_bytes.specs.FrameStands.{sections_of-stand}
 use Rattle.wk_bytes.specs.declared.raw.RawSection.{RawSection}
 use Rattle.wk_bytes.specs.Leb.{◌>>=◌}
+use Rattle.wk_bytes.specs.LebLaws.{some_is}
 use Rattle.wk_bytes.specs.Raw.{raw_view}
 use Rattle.wk_bytes.specs.Stands.{ItemStands, LiesIn}
 use Rattle.wk_body.specs.declared.types.Profile.{Profile}
@@ -40,9 +41,6 @@ lies_then : (profile : Profile) (b : List ℕ) (items : List (Result Section Rea
     → ((q : SectionLists) → Lies b (front_read profile q items)) → Lies b (r >>= λ q. front_read profile q items)
 lies_then profile b items (Ok q) more = more q
 lies_then profile b items (Err e) more = tt
-
-some_is : (s t : Section) → Some s ≡ Some t → s ≡ t
-some_is s t is = cc
 
 lies_here : (profile : Profile) (b : List ℕ) (s : Section) (items : List (Result Section ReadFault)) (l : SectionLists) (code : Bool)
     (other : Result Front ReadFault) → LiesIn b s → Lies b other

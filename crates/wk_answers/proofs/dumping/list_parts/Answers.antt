@@ -1,6 +1,7 @@
 use Rattle.std.proofs.Common.{◌∙◌}
+use Rattle.wk_bytes.specs.TakenLaws.{on_err_known}
 use Rattle.wk_list.specs.Listing.{listing}
-use Rattle.wk_answers.proofs.DumpingSteps.{on_err_known, more_taken, some_taken}
+use Rattle.wk_answers.proofs.DumpingSteps.{more_taken, some_taken}
 use Rattle.wk_answers.proofs.dumping.list_parts.Goals as goal
 
 pub returns-in_err-list-clause-err : goal.returns-in_err-list-clause-err

@@ -1,6 +1,7 @@
 use Rattle.std.proofs.Common.{◌∙◌}
+use Rattle.wk_bytes.specs.TakenLaws.{on_err_known}
 use Rattle.wk_list.specs.Listing.{listing}
-use Rattle.wk_answers.proofs.DumpingSteps.{on_err_known, more_taken, no_bodies, some_taken}
+use Rattle.wk_answers.proofs.DumpingSteps.{more_taken, no_bodies, some_taken}
 use Rattle.wk_answers.proofs.dumping.list_summary_parts.Goals as goal
 
 pub list_summary-requires-clause-part : goal.list_summary-requires-clause-part
