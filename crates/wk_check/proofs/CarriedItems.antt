@@ -12,8 +12,8 @@ use Rattle.wk_module.specs.declared.types.Elem.{Elem}
 use Rattle.wk_module.specs.declared.types.DataSeg.{DataSeg}
 use Rattle.wk_module.specs.declared.types.Kind.{Kind}
 use Rattle.wk_module.specs.declared.types.Kind.TheVariants as kinds
-use Rattle.wk_check.specs.declared.fault.FaultKind.TheVariants.{UnknownFunc, UnknownTable, UnknownMemory, DuplicateExport, StartType}
-use Rattle.wk_check.specs.Constants.{constant_flaw}
+use Rattle.wk_typing.specs.declared.fault.FaultKind.TheVariants.{UnknownFunc, UnknownTable, UnknownMemory, DuplicateExport, StartType}
+use Rattle.wk_typing.specs.Constants.{constant_flaw}
 use Rattle.wk_check.specs.Flaws.{numbered, AreFine}
 use Rattle.wk_check.specs.Items.{flaw, unless, within, all_within, elem_flaw, data_flaw, index_flaw, export_flaw, is_start, start_flaws}
 use Rattle.wk_check.specs.Spaces.{Spaces, answer_in}

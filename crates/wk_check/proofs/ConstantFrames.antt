@@ -13,16 +13,16 @@ use Rattle.wk_body.specs.Instructions as plain
 use Rattle.wk_body.specs.Instructions.{Plain, GlobalGet}
 use Rattle.wk_body.specs.References.{plain_refs, refs_of, map_plain, moved_plain}
 use Rattle.wk_body.specs.Tree.{Instrs, Finish, One, Block, If}
-use Rattle.wk_check.specs.declared.fault.Flaw.{Flaw}
-use Rattle.wk_check.specs.Answers.{Found}
-use Rattle.wk_check.specs.Carried.{moved_ref, Agree, AgreeMoved}
-use Rattle.wk_check.specs.Constants.{is_constant, is_constant_global, first_varying, no_locals, token_flaw, constant_by, constant_flaw}
-use Rattle.wk_check.specs.Finds.{AreThere, Grows}
-use Rattle.wk_check.specs.Own.{TokenFault, at_token, fresh, ended}
-use Rattle.wk_check.specs.Typing.{typed, count, code_result}
-use Rattle.wk_check.proofs.All.{front, back, both}
-use Rattle.wk_check.proofs.Frames.{GoesTogether, count_mapped, same_typed, same_effect, stays, moved_effect, type_stays}
-use Rattle.wk_check.proofs.ValidFinds.{all_there}
+use Rattle.wk_typing.specs.declared.fault.Flaw.{Flaw}
+use Rattle.wk_typing.specs.Answers.{Found}
+use Rattle.wk_typing.specs.Carried.{moved_ref, Agree, AgreeMoved}
+use Rattle.wk_typing.specs.Constants.{is_constant, is_constant_global, first_varying, no_locals, token_flaw, constant_by, constant_flaw}
+use Rattle.wk_typing.specs.Finds.{AreThere, Grows}
+use Rattle.wk_typing.specs.Own.{TokenFault, at_token, fresh, ended}
+use Rattle.wk_typing.specs.Typing.{typed, count, code_result}
+use Rattle.wk_typing.proofs.All.{front, back, both}
+use Rattle.wk_typing.proofs.Frames.{GoesTogether, count_mapped, same_typed, same_effect, stays, moved_effect, type_stays}
+use Rattle.wk_typing.proofs.ValidFinds.{all_there}
 
 module _ (f : Plain → Plain) (g : Ref → Ref) (A1 A2 : Ref → Found) (goes : GoesTogether f g A1 A2)
     (constants : (p : Plain) → AllByRecursion (λ r. A2 (g r) ≡ A1 r) (plain_refs p) → is_constant A2 (f p) ≡ is_constant A1 p) where

@@ -8,14 +8,14 @@ use Rattle.wk_body.specs.declared.references.Ref.TheVariants as refs
 use Rattle.wk_body.specs.Instructions as plain
 use Rattle.wk_body.specs.Instructions.{Plain}
 use Rattle.wk_body.specs.Tree.{Instrs, Finish, One, Block, If}
-use Rattle.wk_check.specs.Answers.{Found, TypeIs, NoType, FuncIs, FuncOfNoType, NoFunc, GlobalIs, NoGlobal, IsPresent, IsAbsent}
-use Rattle.wk_check.specs.Effects.{Effect, global_get, effect_of}
-use Rattle.wk_check.specs.Derives.{Derives}
-use Rattle.wk_check.specs.Own.{TokenFault}
-use Rattle.wk_check.specs.Typing.{code_result}
-use Rattle.wk_check.specs.Constants.{is_constant, is_constant_global, first_varying, no_locals, token_flaw, constant_by, constant_flaw}
+use Rattle.wk_typing.specs.Answers.{Found, TypeIs, NoType, FuncIs, FuncOfNoType, NoFunc, GlobalIs, NoGlobal, IsPresent, IsAbsent}
+use Rattle.wk_typing.specs.Effects.{Effect, global_get, effect_of}
+use Rattle.wk_typing.specs.Derives.{Derives}
+use Rattle.wk_typing.specs.Own.{TokenFault}
+use Rattle.wk_typing.specs.Typing.{code_result}
+use Rattle.wk_typing.specs.Constants.{is_constant, is_constant_global, first_varying, no_locals, token_flaw, constant_by, constant_flaw}
 use Rattle.wk_check.specs.ConstantRules.{IsConstant, AreConstant, IsConstantOf}
-use Rattle.wk_check.proofs.Sound.{code_derived, code_typed}
+use Rattle.wk_typing.proofs.Sound.{code_derived, code_typed}
 
 -- ---- one instruction
 

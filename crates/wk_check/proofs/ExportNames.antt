@@ -13,9 +13,10 @@ use Rattle.std.proofs.lemmas.List.Folds.{list_any-append}
 use Rattle.std.proofs.lemmas.Map.Text.{is_eq-slice_cmp}
 use Rattle.std.proofs.lemmas.Slice.Eq.{bytes_eq-Decides}
 use Rattle.wk_module.specs.declared.types.Export.{Export}
-use Rattle.wk_check.specs.declared.fault.FaultKind.TheVariants.{DuplicateExport}
-use Rattle.wk_check.specs.declared.fault.Flaw.{Flaw}
-use Rattle.wk_check.specs.Flaws.{numbered, first_in, fault_at}
+use Rattle.wk_typing.specs.declared.fault.FaultKind.TheVariants.{DuplicateExport}
+use Rattle.wk_typing.specs.declared.fault.Flaw.{Flaw}
+use Rattle.wk_typing.specs.Faults.{fault_at}
+use Rattle.wk_check.specs.Flaws.{numbered, first_in}
 use Rattle.wk_check.specs.Items.{earlier, flaw, index_flaw, export_flaw}
 use Rattle.wk_check.specs.Spaces.{Spaces}
 

@@ -12,10 +12,11 @@ use Rattle.wk_module.specs.declared.types.Parts.{Parts}
 use Rattle.wk_module.specs.declared.types.FuncType.{FuncType}
 use Rattle.wk_module.specs.Sections.{SectionLists}
 use Rattle.wk_module.specs.Shape.{lists_of}
-use Rattle.wk_check.specs.declared.fault.Flaw.{Flaw}
-use Rattle.wk_check.specs.declared.fault.Fault.{Fault}
-use Rattle.wk_check.specs.declared.fault.FaultKind.TheVariants.{TypeArity}
-use Rattle.wk_check.specs.Flaws.{fault_at, numbered, first_in, first_fault, verdict_by, AreFine, IsFirst, IsVerdictOn}
+use Rattle.wk_typing.specs.declared.fault.Flaw.{Flaw}
+use Rattle.wk_typing.specs.declared.fault.Fault.{Fault}
+use Rattle.wk_typing.specs.declared.fault.FaultKind.TheVariants.{TypeArity}
+use Rattle.wk_typing.specs.Faults.{fault_at}
+use Rattle.wk_check.specs.Flaws.{numbered, first_in, first_fault, verdict_by, AreFine, IsFirst, IsVerdictOn}
 use Rattle.wk_check.specs.Items.{earlier, unless, type_flaw}
 use Rattle.wk_check.specs.Spaces.{and_more, imported}
 use Rattle.wk_check.specs.SpacesLaws.{imported_push}

@@ -20,18 +20,18 @@ use Rattle.wk_module.specs.Changes.{with_import}
 use Rattle.wk_module.specs.Imports.{import_count}
 use Rattle.wk_module.specs.Moving.{moved_index, moved_expr, moved_func, moved_parts}
 use Rattle.wk_module.specs.Shape.{lists_of}
-use Rattle.wk_check.specs.declared.fault.BodyVerdict.TheVariants as bodies
-use Rattle.wk_check.specs.Answers.{Found}
-use Rattle.wk_check.specs.Carried.{moved_ref}
-use Rattle.wk_check.specs.Constants.{constant_flaw}
-use Rattle.wk_check.specs.Finds.{Grows}
+use Rattle.wk_typing.specs.declared.fault.BodyVerdict.TheVariants as bodies
+use Rattle.wk_typing.specs.Answers.{Found}
+use Rattle.wk_typing.specs.Carried.{moved_ref}
+use Rattle.wk_typing.specs.Constants.{constant_flaw}
+use Rattle.wk_typing.specs.Finds.{Grows}
 use Rattle.wk_check.specs.Items.{is_start}
 use Rattle.wk_check.specs.Spaces.{answer_in, initial_spaces, global_found, imported, global_in}
 use Rattle.wk_check.specs.SpacesLaws.{answers_of, imported_aside, imported_last, at_moved, imported_globals, func_import_moves, global_import_moves}
 use Rattle.wk_check.specs.SpacesLaws.{table_import_grows, memory_import_grows}
 use Rattle.wk_check.specs.Verdict.{func_verdict}
 use Rattle.wk_check.proofs.ConstantFrames.{constant_fine, constant_by_globals, constant_renumbered, all_moved}
-use Rattle.wk_check.proofs.Frames.{renumbered}
+use Rattle.wk_typing.proofs.Frames.{renumbered}
 use Rattle.wk_check.proofs.LargerSpaces.{starts_there, func_still}
 
 -- what an initialiser finds

@@ -9,9 +9,9 @@ use Rattle.wk_module.specs.declared.types.ImportDesc.TheVariants as desc
 use Rattle.wk_module.specs.declared.types.Kind.TheVariants as kinds
 use Rattle.wk_module.specs.declared.types.Limits.{Limits}
 use Rattle.wk_module.specs.Imports.{is_of_kind, import_count}
-use Rattle.wk_check.specs.declared.fault.FaultKind.{FaultKind}
-use Rattle.wk_check.specs.declared.fault.Flaw.{Flaw}
-use Rattle.wk_check.specs.Answers.{IsPresent}
+use Rattle.wk_typing.specs.declared.fault.FaultKind.{FaultKind}
+use Rattle.wk_typing.specs.declared.fault.Flaw.{Flaw}
+use Rattle.wk_typing.specs.Answers.{IsPresent}
 use Rattle.wk_check.specs.Items.{unless, within}
 use Rattle.wk_check.specs.Spaces.{and_more, imported, func_in, table_in, memory_in, global_in, any_found}
 use Rattle.wk_check.specs.SpacesLaws.{imported_push, counted}

@@ -28,11 +28,12 @@ use Rattle.wk_module.specs.Shape.{lists_of}
 use Rattle.wk_module.specs.ListReading.{PartlyRead, lists_read, rest_read, Rise, AreListsOfModule, IsReading}
 use Rattle.wk_module.proofs.CodesApart.{HasLists, with_codes, read_lists}
 use Rattle.wk_module.proofs.CodesApart as apart
-use Rattle.wk_check.specs.declared.fault.Flaw.{Flaw}
-use Rattle.wk_check.specs.declared.fault.Fault.{Fault}
-use Rattle.wk_check.specs.declared.fault.Verdict.{Verdict}
+use Rattle.wk_typing.specs.declared.fault.Flaw.{Flaw}
+use Rattle.wk_typing.specs.declared.fault.Fault.{Fault}
+use Rattle.wk_typing.specs.declared.fault.Verdict.{Verdict}
 use Rattle.wk_check.specs.Flaws.{verdict_by}
-use Rattle.wk_check.specs.Items.{earlier, body_flaw}
+use Rattle.wk_typing.specs.Faults.{body_flaw}
+use Rattle.wk_check.specs.Items.{earlier}
 use Rattle.wk_check.specs.Spaces.{answer_in, spaces_of}
 use Rattle.wk_check.specs.Spelled.{judged, IsVerdictOf, first_of, fault_read, codes_judged, opened_judged, left_judged}
 use Rattle.wk_check.specs.Verdict.{func_verdict, front_fault, verdict_from, verdict_around, module_verdict, IsVerdict}

@@ -16,22 +16,23 @@ use Rattle.wk_module.specs.declared.types.ImportDesc.{ImportDesc}
 use Rattle.wk_module.specs.declared.types.ImportDesc.TheVariants as desc
 use Rattle.wk_module.specs.declared.types.Kind.{Kind}
 use Rattle.wk_module.specs.declared.types.Kind.TheVariants as kinds
-use Rattle.wk_check.specs.declared.fault.FaultKind.{FaultKind}
-use Rattle.wk_check.specs.declared.fault.FaultKind.TheVariants.{UnknownType, UnknownFunc, UnknownTable, UnknownMemory, UnknownGlobal}
-use Rattle.wk_check.specs.declared.fault.BodyVerdict.TheVariants as bodies
-use Rattle.wk_check.specs.Answers.{Found, FuncIs}
-use Rattle.wk_check.specs.Carried.{Agree}
-use Rattle.wk_check.specs.Finds.{is_there, Grows}
+use Rattle.wk_typing.specs.declared.fault.FaultKind.{FaultKind}
+use Rattle.wk_typing.specs.declared.fault.FaultKind.TheVariants.{UnknownType, UnknownFunc, UnknownTable, UnknownMemory, UnknownGlobal}
+use Rattle.wk_typing.specs.declared.fault.BodyVerdict.TheVariants as bodies
+use Rattle.wk_typing.specs.Answers.{Found, FuncIs}
+use Rattle.wk_typing.specs.Carried.{Agree}
+use Rattle.wk_typing.specs.Finds.{is_there, Grows}
 use Rattle.wk_check.specs.Flaws.{numbered, AreFine}
-use Rattle.wk_check.specs.Items.{within, import_flaw, global_flaw, elem_flaw, data_flaw, index_flaw, export_flaw, is_start, start_flaws, body_flaw}
+use Rattle.wk_typing.specs.Faults.{body_flaw}
+use Rattle.wk_check.specs.Items.{within, import_flaw, global_flaw, elem_flaw, data_flaw, index_flaw, export_flaw, is_start, start_flaws}
 use Rattle.wk_check.specs.Spaces.{Spaces, answer_in}
 use Rattle.wk_check.specs.Verdict.{func_verdict}
 use Rattle.wk_check.proofs.CarriedItems.{Carries, carried_elem, exports_carried, start_carried, elems_carried, datas_carried}
 use Rattle.wk_check.proofs.ConstantFrames.{agree, constant_fine}
 use Rattle.wk_check.proofs.FlawLists.{still_fine}
-use Rattle.wk_check.proofs.Frames.{frame}
+use Rattle.wk_typing.proofs.Frames.{frame}
 use Rattle.wk_check.proofs.Valid.{is_valid, within_less, less_within}
-use Rattle.wk_check.proofs.ValidFinds.{valid_finds}
+use Rattle.wk_typing.proofs.ValidFinds.{valid_finds}
 
 -- ---- indexes
 

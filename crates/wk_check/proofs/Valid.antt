@@ -14,30 +14,31 @@ use Rattle.wk_module.specs.declared.types.Elem.{Elem}
 use Rattle.wk_module.specs.declared.types.DataSeg.{DataSeg}
 use Rattle.wk_module.specs.declared.types.Parts.{Parts}
 use Rattle.wk_module.specs.Shape.{lists_of}
-use Rattle.wk_check.specs.declared.fault.BodyVerdict.{BodyVerdict}
-use Rattle.wk_check.specs.declared.fault.BodyVerdict.TheVariants as bodies
-use Rattle.wk_check.specs.declared.fault.FaultKind.{FaultKind}
-use Rattle.wk_check.specs.declared.fault.FaultKind.TheVariants.{UnknownTable, UnknownMemory, UnknownFunc}
-use Rattle.wk_check.specs.declared.fault.Flaw.{Flaw}
-use Rattle.wk_check.specs.declared.fault.Fault.{Fault}
-use Rattle.wk_check.specs.declared.fault.Verdict.{Verdict}
-use Rattle.wk_check.specs.declared.fault.Verdict.TheVariants.{Valid, Invalid}
-use Rattle.wk_check.specs.Answers.{Found}
-use Rattle.wk_check.specs.Constants.{constant_flaw}
+use Rattle.wk_typing.specs.declared.fault.BodyVerdict.{BodyVerdict}
+use Rattle.wk_typing.specs.declared.fault.BodyVerdict.TheVariants as bodies
+use Rattle.wk_typing.specs.declared.fault.FaultKind.{FaultKind}
+use Rattle.wk_typing.specs.declared.fault.FaultKind.TheVariants.{UnknownTable, UnknownMemory, UnknownFunc}
+use Rattle.wk_typing.specs.declared.fault.Flaw.{Flaw}
+use Rattle.wk_typing.specs.declared.fault.Fault.{Fault}
+use Rattle.wk_typing.specs.declared.fault.Verdict.{Verdict}
+use Rattle.wk_typing.specs.declared.fault.Verdict.TheVariants.{Valid, Invalid}
+use Rattle.wk_typing.specs.Answers.{Found}
+use Rattle.wk_typing.specs.Constants.{constant_flaw}
 use Rattle.wk_check.specs.ConstantRules.{IsConstantOf}
-use Rattle.wk_check.specs.Derives.{IsDerived}
+use Rattle.wk_typing.specs.Derives.{IsDerived}
 use Rattle.wk_check.specs.Flaws.{numbered, AreFine, IsFirst}
-use Rattle.wk_check.specs.Items.{earlier, unless, within, all_within, global_flaw, start_flaws, elem_flaw, data_flaw, body_flaw}
+use Rattle.wk_typing.specs.Faults.{body_flaw}
+use Rattle.wk_check.specs.Items.{earlier, unless, within, all_within, global_flaw, start_flaws, elem_flaw, data_flaw}
 use Rattle.wk_check.specs.Spaces.{Spaces, answer_in, spaces_of, initial_spaces}
 use Rattle.wk_check.specs.Spelled.{judged}
-use Rattle.wk_check.specs.Typing.{body_verdict}
+use Rattle.wk_typing.specs.Typing.{body_verdict}
 use Rattle.wk_check.specs.Valid.{IsValidElem, IsValidData, IsValidModule, IsValidRead}
 use Rattle.wk_check.specs.Verdict.{type_flaws, import_flaws, func_flaws, table_flaws, memory_flaws, global_flaws, export_flaws, elem_flaws, code_flaws}
 use Rattle.wk_check.specs.Verdict.{data_flaws, func_verdict, module_flaws, IsVerdict}
-use Rattle.wk_check.proofs.All.{back}
+use Rattle.wk_typing.proofs.All.{back}
 use Rattle.wk_check.proofs.ConstantRules.{constant_derived, derived_constant}
 use Rattle.wk_check.proofs.JudgedCodes.{told_meaning}
-use Rattle.wk_check.proofs.Sound.{valid_derived, derived_valid}
+use Rattle.wk_typing.proofs.Sound.{valid_derived, derived_valid}
 
 -- ---- bodies
 

@@ -22,18 +22,19 @@ use Rattle.wk_module.specs.declared.types.Parts.{Parts}
 use Rattle.wk_module.specs.Changes.{with_type, with_func, first_given, with_body, with_global, with_export}
 use Rattle.wk_module.specs.Sections.{SectionLists}
 use Rattle.wk_module.specs.Shape.{lists_of}
-use Rattle.wk_check.specs.declared.fault.FaultKind.TheVariants.{UnknownType, DuplicateExport}
-use Rattle.wk_check.specs.declared.fault.Flaw.{Flaw}
-use Rattle.wk_check.specs.declared.fault.Verdict.TheVariants.{Valid}
-use Rattle.wk_check.specs.Answers.{Found}
-use Rattle.wk_check.specs.Constants.{constant_flaw}
-use Rattle.wk_check.specs.Finds.{Grows}
+use Rattle.wk_typing.specs.declared.fault.FaultKind.TheVariants.{UnknownType, DuplicateExport}
+use Rattle.wk_typing.specs.declared.fault.Flaw.{Flaw}
+use Rattle.wk_typing.specs.declared.fault.Verdict.TheVariants.{Valid}
+use Rattle.wk_typing.specs.Answers.{Found}
+use Rattle.wk_typing.specs.Constants.{constant_flaw}
+use Rattle.wk_typing.specs.Finds.{Grows}
 use Rattle.wk_check.specs.Flaws.{numbered, first_in, first_fault, verdict_by, AreFine, IsVerdictOn}
 use Rattle.wk_check.specs.Growth.{StaysWithout, HasValidBodies, VerdictsStay, ReferencesStay}
-use Rattle.wk_check.specs.Items.{earlier, flaw, unless, within, type_flaw, global_flaw, export_flaw, index_flaw, start_flaws, elem_flaw, body_flaw, data_flaw}
+use Rattle.wk_typing.specs.Faults.{body_flaw}
+use Rattle.wk_check.specs.Items.{earlier, flaw, unless, within, type_flaw, global_flaw, export_flaw, index_flaw, start_flaws, elem_flaw, data_flaw}
 use Rattle.wk_check.specs.Spaces.{Spaces, answer_in, spaces_of, initial_spaces, global_found, imported, func_in, global_in}
 use Rattle.wk_check.specs.SpacesLaws.{answers_of, type_grows, func_grows, global_grows}
-use Rattle.wk_check.specs.Typing.{body_verdict}
+use Rattle.wk_typing.specs.Typing.{body_verdict}
 use Rattle.wk_check.specs.Verdict.{type_flaws, import_flaws, func_flaws, table_flaws, memory_flaws, global_flaws, export_flaws, elem_flaws, code_flaws}
 use Rattle.wk_check.specs.Verdict.{data_flaws, flaws_before_code, func_verdict, module_verdict, module_flaws}
 use Rattle.wk_check.proofs.FlawLists.{none_in, none_from, first_behind, first_alone, first_last, numbered_push, length-numbered, behind, numbered_behind}

@@ -21,17 +21,17 @@ use Rattle.wk_module.specs.Imports.{import_count}
 use Rattle.wk_module.specs.ImportLaws.{import_count_push}
 use Rattle.wk_module.specs.Shape.{lists_of}
 use Rattle.wk_module.specs.Types.{kind_byte}
-use Rattle.wk_check.specs.declared.fault.Fault.{Fault}
-use Rattle.wk_check.specs.declared.fault.FaultKind.{FaultKind}
-use Rattle.wk_check.specs.declared.fault.FaultKind.TheVariants.{UnknownType, UnknownFunc, UnknownTable, UnknownMemory, UnknownGlobal, LimitsOrder, MemoryRange}
-use Rattle.wk_check.specs.declared.fault.FaultKind.TheVariants.{TooManyTables, TooManyMemories}
-use Rattle.wk_check.specs.declared.fault.Flaw.{Flaw}
-use Rattle.wk_check.specs.declared.fault.BodyVerdict.TheVariants as bodies
-use Rattle.wk_check.specs.declared.fault.Verdict.TheVariants.{Valid}
+use Rattle.wk_typing.specs.declared.fault.Fault.{Fault}
+use Rattle.wk_typing.specs.declared.fault.FaultKind.{FaultKind}
+use Rattle.wk_typing.specs.declared.fault.FaultKind.TheVariants.{UnknownType, UnknownFunc, UnknownTable, UnknownMemory, UnknownGlobal, LimitsOrder, MemoryRange}
+use Rattle.wk_typing.specs.declared.fault.FaultKind.TheVariants.{TooManyTables, TooManyMemories}
+use Rattle.wk_typing.specs.declared.fault.Flaw.{Flaw}
+use Rattle.wk_typing.specs.declared.fault.BodyVerdict.TheVariants as bodies
+use Rattle.wk_typing.specs.declared.fault.Verdict.TheVariants.{Valid}
 use Rattle.wk_check.specs.Flaws.{numbered, first_in, first_fault, verdict_by, AreFine}
 use Rattle.wk_check.specs.Growth.{crowded, crowded_by}
 use Rattle.wk_check.specs.Items.{earlier, unless, within, alone, in_order, in_range, table_flaw, memory_flaw, import_flaw, global_flaw, index_flaw, start_flaws}
-use Rattle.wk_check.specs.Items.{body_flaw}
+use Rattle.wk_typing.specs.Faults.{body_flaw}
 use Rattle.wk_check.specs.Spaces.{Spaces, spaces_of, imported, func_in, table_in, memory_in, global_in}
 use Rattle.wk_check.specs.SpacesLaws.{answers_of, imported_aside, imported_last, imported_funcs, imported_globals}
 use Rattle.wk_check.specs.Verdict.{type_flaws, import_flaws, func_flaws, table_flaws, memory_flaws, global_flaws, export_flaws, elem_flaws, code_flaws}

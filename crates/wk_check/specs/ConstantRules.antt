@@ -5,9 +5,9 @@ use Rattle.wk_body.specs.declared.references.Ref.{Ref}
 use Rattle.wk_body.specs.declared.references.Ref.TheVariants as refs
 use Rattle.wk_body.specs.Instructions.{Plain, GlobalGet, I32Const, I64Const, F32Const, F64Const}
 use Rattle.wk_body.specs.Tree.{Instrs, Finish, One, Block, If}
-use Rattle.wk_check.specs.Answers.{Found, GlobalIs}
-use Rattle.wk_check.specs.Constants.{no_locals}
-use Rattle.wk_check.specs.Derives.{Derives}
+use Rattle.wk_typing.specs.Answers.{Found, GlobalIs}
+use Rattle.wk_typing.specs.Constants.{no_locals}
+use Rattle.wk_typing.specs.Derives.{Derives}
 
 -- A `const` is constant, and so is the value of a global that is there and may not be set.
 abbrev pub IsConstant : (Ref → Found) → Plain → Type 0

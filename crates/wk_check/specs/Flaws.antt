@@ -1,15 +1,12 @@
 -- The first of many flaws, by section and item.
 use Rattle.std.specs.Prelude.{◌≡◌, ℕ, ◌+◌, Option, Some, None, List, [], ◌∷◌, ◌++◌, length}
 use Rattle.std.specs.List.{AllByRecursion}
-use Rattle.wk_check.specs.declared.fault.Flaw.{Flaw}
-use Rattle.wk_check.specs.declared.fault.Fault.{Fault}
-use Rattle.wk_check.specs.declared.fault.Verdict.{Verdict}
-use Rattle.wk_check.specs.declared.fault.Verdict.TheVariants.{Valid, Invalid}
+use Rattle.wk_typing.specs.declared.fault.Flaw.{Flaw}
+use Rattle.wk_typing.specs.declared.fault.Fault.{Fault}
+use Rattle.wk_typing.specs.declared.fault.Verdict.{Verdict}
+use Rattle.wk_typing.specs.declared.fault.Verdict.TheVariants.{Valid, Invalid}
+use Rattle.wk_typing.specs.Faults.{fault_at}
 use Rattle.wk_check.specs.Items.{earlier}
-
--- a flaw of an item, at its place
-abbrev pub fault_at : ℕ → ℕ → Flaw → Fault
-fault_at section item w = record { kind = w.kind; place = record { section = section; item = item; token = w.token } }
 
 -- what a rule finds at each item, from an index on
 abbrev pub numbered : {X : Type 0} → (ℕ → X → Option Flaw) → ℕ → List X → List (Option Flaw)

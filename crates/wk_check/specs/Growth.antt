@@ -9,15 +9,15 @@ use Rattle.wk_module.specs.declared.types.ImportDesc.{ImportDesc}
 use Rattle.wk_module.specs.declared.types.ImportDesc.TheVariants as desc
 use Rattle.wk_module.specs.declared.types.Limits.{Limits}
 use Rattle.wk_module.specs.declared.types.Parts.{Parts}
-use Rattle.wk_check.specs.declared.fault.Fault.{Fault}
-use Rattle.wk_check.specs.declared.fault.FaultKind.{FaultKind}
-use Rattle.wk_check.specs.declared.fault.FaultKind.TheVariants.{TooManyTables, TooManyMemories}
-use Rattle.wk_check.specs.declared.fault.Verdict.TheVariants.{Valid}
-use Rattle.wk_check.specs.declared.fault.BodyVerdict.TheVariants as bodies
-use Rattle.wk_check.specs.Answers.{Found}
-use Rattle.wk_check.specs.Carried.{Agree}
-use Rattle.wk_check.specs.Finds.{Grows}
-use Rattle.wk_check.specs.Flaws.{fault_at}
+use Rattle.wk_typing.specs.declared.fault.Fault.{Fault}
+use Rattle.wk_typing.specs.declared.fault.FaultKind.{FaultKind}
+use Rattle.wk_typing.specs.declared.fault.FaultKind.TheVariants.{TooManyTables, TooManyMemories}
+use Rattle.wk_typing.specs.declared.fault.Verdict.TheVariants.{Valid}
+use Rattle.wk_typing.specs.declared.fault.BodyVerdict.TheVariants as bodies
+use Rattle.wk_typing.specs.Answers.{Found}
+use Rattle.wk_typing.specs.Carried.{Agree}
+use Rattle.wk_typing.specs.Finds.{Grows}
+use Rattle.wk_typing.specs.Faults.{fault_at}
 use Rattle.wk_check.specs.SpacesLaws.{answers_of}
 use Rattle.wk_check.specs.Verdict.{func_verdict, module_verdict}
 

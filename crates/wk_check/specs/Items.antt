@@ -19,16 +19,14 @@ use Rattle.wk_module.specs.declared.types.Export.{Export}
 use Rattle.wk_module.specs.declared.types.GlobalDef.{GlobalDef}
 use Rattle.wk_module.specs.declared.types.Elem.{Elem}
 use Rattle.wk_module.specs.declared.types.DataSeg.{DataSeg}
-use Rattle.wk_check.specs.declared.fault.FaultKind.{FaultKind}
-use Rattle.wk_check.specs.declared.fault.FaultKind.TheVariants.{TypeArity, UnknownType, LimitsOrder, MemoryRange, TooManyTables, TooManyMemories, UnknownFunc}
-use Rattle.wk_check.specs.declared.fault.FaultKind.TheVariants.{UnknownTable, UnknownMemory, UnknownGlobal, DuplicateExport, StartType}
-use Rattle.wk_check.specs.declared.fault.Flaw.{Flaw}
-use Rattle.wk_check.specs.declared.fault.BodyVerdict.{BodyVerdict}
-use Rattle.wk_check.specs.declared.fault.BodyVerdict.TheVariants as bodies
-use Rattle.wk_check.specs.Answers.{Found, FuncIs}
+use Rattle.wk_typing.specs.declared.fault.FaultKind.{FaultKind}
+use Rattle.wk_typing.specs.declared.fault.FaultKind.TheVariants.{TypeArity, UnknownType, LimitsOrder, MemoryRange, TooManyTables, TooManyMemories, UnknownFunc}
+use Rattle.wk_typing.specs.declared.fault.FaultKind.TheVariants.{UnknownTable, UnknownMemory, UnknownGlobal, DuplicateExport, StartType}
+use Rattle.wk_typing.specs.declared.fault.Flaw.{Flaw}
+use Rattle.wk_typing.specs.Answers.{Found, FuncIs}
 use Rattle.wk_check.specs.Spaces.{Spaces, answer_in, imported, table_in, memory_in}
-use Rattle.wk_check.specs.Own.{is_empty}
-use Rattle.wk_check.specs.Constants.{constant_flaw}
+use Rattle.wk_typing.specs.Own.{is_empty}
+use Rattle.wk_typing.specs.Constants.{constant_flaw}
 
 -- the first of two, if either is there
 abbrev pub earlier : {X : Type 0} → Option X → Option X → Option X
@@ -134,9 +132,3 @@ start_flaw s x = earlier (within UnknownFunc s.funcs x) (unless StartType (is_st
 abbrev pub start_flaws : Spaces → Option ℕ → List (Option Flaw)
 start_flaws s None = []
 start_flaws s (Some x) = start_flaw s x ∷ []
-
--- ---- bodies
-
-abbrev pub body_flaw : BodyVerdict → Option Flaw
-body_flaw bodies.Valid = None
-body_flaw (bodies.Invalid kind token) = Some (record { kind = kind; token = Some token })

@@ -9,7 +9,7 @@ use Rattle.wk_module.specs.declared.types.ImportDesc.{ImportDesc}
 use Rattle.wk_module.specs.declared.types.ImportDesc.TheVariants as desc
 use Rattle.wk_module.specs.declared.types.Limits.{Limits}
 use Rattle.wk_module.specs.Sections.{SectionLists}
-use Rattle.wk_check.specs.Answers.{Found, TypeIs, NoType, FuncIs, FuncOfNoType, NoFunc, GlobalIs, NoGlobal, IsPresent, IsAbsent, IsOfKind}
+use Rattle.wk_typing.specs.Answers.{Found, TypeIs, NoType, FuncIs, FuncOfNoType, NoFunc, GlobalIs, NoGlobal, IsPresent, IsAbsent, IsOfKind}
 
 -- ---- what is imported of a kind, in order
 

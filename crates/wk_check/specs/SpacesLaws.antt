@@ -28,9 +28,9 @@ use Rattle.wk_module.specs.ImportLaws.{counts_imports}
 use Rattle.wk_module.specs.MovedLaws.{types_stay, global_types_stay}
 use Rattle.wk_module.specs.Moving.{moved_func, moved_global, moved_parts}
 use Rattle.wk_module.specs.Shape.{lists_of}
-use Rattle.wk_check.specs.Answers.{Found}
-use Rattle.wk_check.specs.Carried.{moved_ref}
-use Rattle.wk_check.specs.Finds.{is_there, Grows}
+use Rattle.wk_typing.specs.Answers.{Found}
+use Rattle.wk_typing.specs.Carried.{moved_ref}
+use Rattle.wk_typing.specs.Finds.{is_there, Grows}
 use Rattle.wk_check.specs.Spaces.{Spaces, answer_in, spaces_of, type_found, typed_found, func_found, global_found, any_found, imported, and_more, func_in}
 use Rattle.wk_check.specs.Spaces.{table_in, memory_in, global_in}
 

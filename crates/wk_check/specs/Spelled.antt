@@ -14,8 +14,8 @@ use Rattle.wk_module.specs.Items.{code_at}
 use Rattle.wk_module.specs.ListReading.{PartlyRead, lists_read}
 use Rattle.wk_module.specs.Reading.{section_end, zipped}
 use Rattle.wk_module.specs.Sections.{SectionLists, codes_at}
-use Rattle.wk_check.specs.declared.fault.Fault.{Fault}
-use Rattle.wk_check.specs.declared.fault.Verdict.{Verdict}
+use Rattle.wk_typing.specs.declared.fault.Fault.{Fault}
+use Rattle.wk_typing.specs.declared.fault.Verdict.{Verdict}
 use Rattle.wk_check.specs.Flaws.{first_in}
 use Rattle.wk_check.specs.Items.{earlier}
 use Rattle.wk_check.specs.Verdict.{code_flaws, front_fault, verdict_from, module_verdict, IsVerdict}

@@ -10,7 +10,7 @@ use Rattle.wk_module.specs.declared.types.DataSeg.{DataSeg}
 use Rattle.wk_module.specs.declared.types.Parts.{Parts}
 use Rattle.wk_module.specs.Shape.{lists_of}
 use Rattle.wk_check.specs.ConstantRules.{IsConstantOf}
-use Rattle.wk_check.specs.Derives.{IsDerived}
+use Rattle.wk_typing.specs.Derives.{IsDerived}
 use Rattle.wk_check.specs.Flaws.{AreFine}
 use Rattle.wk_check.specs.Spaces.{Spaces, answer_in, spaces_of, initial_spaces}
 use Rattle.wk_check.specs.Verdict.{type_flaws, import_flaws, func_flaws, table_flaws, memory_flaws, export_flaws}

@@ -7,17 +7,17 @@ use Rattle.wk_module.specs.declared.types.Func.{Func}
 use Rattle.wk_module.specs.declared.types.Parts.{Parts}
 use Rattle.wk_module.specs.Sections.{SectionLists}
 use Rattle.wk_module.specs.Shape.{lists_of}
-use Rattle.wk_check.specs.declared.fault.FaultKind.TheVariants.{TypeArity, UnknownType}
-use Rattle.wk_check.specs.declared.fault.Flaw.{Flaw}
-use Rattle.wk_check.specs.declared.fault.Fault.{Fault}
-use Rattle.wk_check.specs.declared.fault.Verdict.{Verdict}
-use Rattle.wk_check.specs.declared.fault.Verdict.TheVariants.{Valid, Invalid}
-use Rattle.wk_check.specs.declared.fault.BodyVerdict.{BodyVerdict}
-use Rattle.wk_check.specs.Answers.{Found}
-use Rattle.wk_check.specs.Typing.{body_verdict}
+use Rattle.wk_typing.specs.declared.fault.FaultKind.TheVariants.{TypeArity, UnknownType}
+use Rattle.wk_typing.specs.declared.fault.Flaw.{Flaw}
+use Rattle.wk_typing.specs.declared.fault.Fault.{Fault}
+use Rattle.wk_typing.specs.declared.fault.Verdict.{Verdict}
+use Rattle.wk_typing.specs.declared.fault.Verdict.TheVariants.{Valid, Invalid}
+use Rattle.wk_typing.specs.declared.fault.BodyVerdict.{BodyVerdict}
+use Rattle.wk_typing.specs.Answers.{Found}
+use Rattle.wk_typing.specs.Typing.{body_verdict}
 use Rattle.wk_check.specs.Spaces.{answer_in, spaces_of, initial_spaces, imported, table_in, memory_in}
 use Rattle.wk_check.specs.Items.{earlier, within, type_flaw, import_flaw, table_flaw, memory_flaw, global_flaw, export_flaw, start_flaws, elem_flaw, data_flaw}
-use Rattle.wk_check.specs.Items.{body_flaw}
+use Rattle.wk_typing.specs.Faults.{body_flaw}
 use Rattle.wk_check.specs.Flaws.{numbered, first_in, first_fault, verdict_by, IsVerdictOn}
 
 -- ---- the flaws of the items of each section

@@ -8,12 +8,12 @@ ghost use Rattle.wk_check.specs.Flaws.{numbered, first_in};
 ghost use Rattle.wk_check.specs.Items.{index_flaw, export_flaw, unless};
 ghost use Rattle.wk_check.specs.Spaces.{spaces_of};
 
-use crate::fault::{Fault, FaultKind, Flaw};
 use crate::whole::Whole;
 use std::alloc::Global;
 use std::collections::BTreeSet;
 use wk_bytes::{OutOfMemory, Text};
 use wk_module::{Export, Kind, Lists, import_count, section_id};
+use wk_typing::{Fault, FaultKind, Flaw};
 
 // What is wrong with the index of an export.
 fn flaw_of_index(whole: &Whole<'_>, kind: Kind, index: u32) -> Option<Flaw>

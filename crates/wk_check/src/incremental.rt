@@ -12,20 +12,18 @@ ghost use Rattle.wk_module.specs.Shape.{lists_of};
 ghost use Rattle.wk_check.specs.Flaws.{first_in, verdict_by};
 ghost use Rattle.wk_check.specs.Growth.{crowded_by, StaysWithout, HasValidBodies, VerdictsStay, ReferencesStay};
 ghost use Rattle.wk_check.specs.SpacesLaws.{answers_of};
-ghost use Rattle.wk_check.specs.Typing.{body_verdict};
+ghost use Rattle.wk_typing.specs.Typing.{body_verdict};
 ghost use Rattle.wk_check.specs.Verdict.{module_verdict};
 
-use crate::constant::constant_flaw;
 use crate::exports::flaw_of_export;
-use crate::fault::{BodyVerdict, FaultKind, Flaw, Verdict};
 use crate::rules::{flaw_of_next_import, flaw_of_type};
-use crate::typing::Room;
 use crate::whole::{Initial, Whole};
 use std::alloc::Global;
 use wk_bytes::OutOfMemory;
 use wk_module::{
     Export, Expr, FuncType, GlobalType, Import, ImportDesc, Lists, Profile, section_id,
 };
+use wk_typing::{BodyVerdict, FaultKind, Flaw, Room, Verdict, constant_flaw};
 
 // The verdict of a module where nothing but this may be wrong.
 fn verdict_by_flaw(flaw: Option<Flaw>, section: u8, item: u32) -> Verdict

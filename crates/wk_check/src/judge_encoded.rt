@@ -9,25 +9,23 @@ ghost use Rattle.wk_module.specs.Listed.{listed, AreNumbered};
 ghost use Rattle.wk_module.specs.ListReading.{IsReading, Rise, lists_read, rest_read};
 ghost use Rattle.wk_module.specs.Reading.{module_at};
 ghost use Rattle.wk_module.specs.Sections.{SectionLists, no_lists};
-ghost use Rattle.wk_check.specs.declared.fault.Fault.{Fault as FaultOf};
-ghost use Rattle.wk_check.specs.declared.fault.Verdict.{Verdict};
+ghost use Rattle.wk_typing.specs.declared.fault.Fault.{Fault as FaultOf};
+ghost use Rattle.wk_typing.specs.declared.fault.Verdict.{Verdict};
 ghost use Rattle.wk_check.specs.Items.{earlier};
 ghost use Rattle.wk_check.specs.Spelled.{judged, IsVerdictOf, first_of, fault_read, codes_judged, opened_judged, left_judged};
 ghost use Rattle.wk_check.specs.Valid.{IsValidRead};
 ghost use Rattle.wk_check.specs.Verdict.{module_verdict};
 ghost use Rattle.wk_check.specs.Whole.{IsImported};
 
-use crate::fault::{Fault, Verdict};
 use crate::judging::{fault_before_code, judge_around, verdict_behind};
 use crate::rule::Rule;
-use crate::streaming::{StreamRoom, is_valid_body};
-use crate::typing::Room;
 use crate::whole::{Imported, Whole};
 use std::alloc::Global;
 use wk_bytes::{Cursor, OutOfMemory, RawSection, ReadFault, ReadKind};
 use wk_module::{
     CodeReader, Func, Lists, Profile, Scratch, SectionReader, reading_of_module, section_id,
 };
+use wk_typing::{Fault, Room, StreamRoom, Verdict, is_valid_body};
 
 // A function whose code is still to be read.
 #[derive(Drop)]

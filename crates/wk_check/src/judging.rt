@@ -3,7 +3,7 @@
 ghost use Rattle.std.specs.Prelude.{◌≡◌, ◌↔◌, ◌<◌, ◌^◌, [], ◌∷◌, length, map, IfOk};
 ghost use Rattle.wk_module.specs.Listed.{listed, AreNumbered};
 ghost use Rattle.wk_module.specs.Shape.{lists_of};
-ghost use Rattle.wk_check.specs.declared.fault.Verdict.{Verdict};
+ghost use Rattle.wk_typing.specs.declared.fault.Verdict.{Verdict};
 ghost use Rattle.wk_check.specs.Flaws.{first_in, first_fault};
 ghost use Rattle.wk_check.specs.Items.{earlier, start_flaws};
 ghost use Rattle.wk_check.specs.Spaces.{spaces_of};
@@ -11,14 +11,13 @@ ghost use Rattle.wk_check.specs.Valid.{IsValidModule};
 ghost use Rattle.wk_check.specs.Verdict.{type_flaws, import_flaws, func_flaws, table_flaws, memory_flaws, global_flaws, export_flaws, elem_flaws, code_flaws, front_fault, verdict_from, verdict_around, module_verdict, IsVerdict, IsNotArity, extended};
 
 use crate::exports::exports_fault;
-use crate::fault::{Fault, Verdict};
 use crate::rule::first_fault;
 use crate::rules::{FuncRule, StorageRule, TypeRule, flaw_of_start, imports_fault};
-use crate::typing::Room;
 use crate::whole::Whole;
 use std::alloc::Global;
 use wk_bytes::OutOfMemory;
 use wk_module::{Func, Lists, Module, Parts, Profile, section_id};
+use wk_typing::{Fault, Room, Verdict};
 
 // The first fault of the types, the imports and the functions.
 fn fault_of_types(

@@ -3,14 +3,13 @@
 ghost use Rattle.std.specs.Prelude.{◌≡◌, ◌<◌, ◌^◌, length, IfOk};
 ghost use Rattle.wk_check.specs.Flaws.{numbered, first_in};
 
-use crate::fault::{Fault, Flaw};
-use crate::typing::Room;
 use wk_bytes::OutOfMemory;
+use wk_typing::{Fault, Flaw, Room};
 
 /// What is asked of each item of a section that holds these (3.4).
 pub(crate) trait Rule<Item> {
     ghost use Rattle.std.specs.Prelude.{◌≡◌, ℕ, Option, IfOk};
-    ghost use Rattle.wk_check.specs.declared.fault.Flaw.{Flaw as Wrong};
+    ghost use Rattle.wk_typing.specs.declared.fault.Flaw.{Flaw as Wrong};
 
     // What is wrong with an item at an index, if anything is.
     ghost wrong: { Self → ℕ → Item → Option Wrong };

@@ -2,22 +2,20 @@
 
 ghost use Rattle.std.specs.Prelude.{◌≡◌, ◌+◌, ◌<◌, ◌^◌, ℕ, length, take, nat_lt, if◌then◌else◌};
 ghost use Rattle.wk_check.specs.Flaws.{numbered, first_in};
-ghost use Rattle.wk_check.specs.Items.{in_order, in_range, all_within, table_flaw, memory_flaw, type_flaw, global_flaw, elem_flaw, data_flaw, body_flaw, import_flaw, unless, import_flaw_by, is_start, start_flaw};
+ghost use Rattle.wk_typing.specs.Faults.{body_flaw};
+ghost use Rattle.wk_check.specs.Items.{in_order, in_range, all_within, table_flaw, memory_flaw, type_flaw, global_flaw, elem_flaw, data_flaw, import_flaw, unless, import_flaw_by, is_start, start_flaw};
 ghost use Rattle.wk_check.specs.Spaces.{answer_in, spaces_of, initial_spaces};
 ghost use Rattle.wk_check.specs.Verdict.{func_verdict};
-ghost use Rattle.wk_check.specs.Answers.{found};
+ghost use Rattle.wk_typing.specs.Answers.{found};
 
-use crate::constant::constant_flaw;
-use crate::env::{Answer, Env};
-use crate::fault::{Fault, FaultKind, Flaw};
 use crate::rule::Rule;
-use crate::typing::{Room, type_body};
 use crate::whole::{Initial, Whole};
 use wk_bytes::OutOfMemory;
 use wk_module::{
     DataSeg, Elem, Func, FuncType, GlobalDef, Import, ImportDesc, Kind, Limits, Lists, Profile,
     Ref, ValType, import_count, section_id,
 };
+use wk_typing::{Answer, Env, Fault, FaultKind, Flaw, Room, constant_flaw, type_body};
 
 /// The most pages that a memory may have, 4 GiB in all.
 const MAX_PAGES: u32 = 1 << 16;
@@ -107,7 +105,7 @@ pub(crate) struct FuncRule {
 }
 
 impl Rule<u32> for FuncRule {
-    ghost use Rattle.wk_check.specs.declared.fault.FaultKind.TheVariants.{UnknownType};
+    ghost use Rattle.wk_typing.specs.declared.fault.FaultKind.TheVariants.{UnknownType};
 
     ghost wrong = { λ rule _ x. unless UnknownType (nat_lt x rule.types) };
 

@@ -2,16 +2,16 @@
 
 ghost use Rattle.std.specs.Prelude.{◌≡◌, ◌++◌, ◌∷◌, [], IfOk, OnOk, length, nat_lt, slice_get};
 ghost use Rattle.wk_module.specs.Listed.{listed};
-ghost use Rattle.wk_check.specs.Answers.{found};
+ghost use Rattle.wk_typing.specs.Answers.{found};
 ghost use Rattle.wk_check.specs.Spaces.{answer_in, spaces_of, initial_spaces, imported, table_in, memory_in};
 ghost use Rattle.wk_check.specs.Whole.{IsImported};
 ghost use Rattle.wk_body.specs.declared.references.Ref.{Ref};
 
-use crate::env::{Answer, Env};
 use std::alloc::Global;
 use std::marker::Model;
 use wk_bytes::OutOfMemory;
 use wk_module::{GlobalType, Import, ImportDesc, Lists, Ref};
+use wk_typing::{Answer, Env};
 
 /// What is counted of a module's imports, which come first in their spaces (2.5.1).
 #[derive(Debug, Drop)]

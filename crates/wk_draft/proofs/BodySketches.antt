@@ -11,7 +11,7 @@ use Rattle.wk_module.specs.Changes.{with_body}
 use Rattle.wk_module.specs.ChangeLaws.{funcs_given, types_given}
 use Rattle.wk_module.specs.Imports.{import_count}
 use Rattle.wk_module.specs.Shape.{lists_of}
-use Rattle.wk_check.specs.Answers.{Found}
+use Rattle.wk_typing.specs.Answers.{Found}
 use Rattle.wk_check.specs.Spaces.{answer_in, spaces_of, imported, func_in}
 use Rattle.wk_check.specs.SpacesLaws.{answers_of}
 use Rattle.wk_session.specs.Edits.{entry_of}

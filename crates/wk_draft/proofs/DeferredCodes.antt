@@ -12,7 +12,7 @@ use Rattle.wk_body.specs.Shifts.{shifted_body}
 use Rattle.wk_body.specs.Written.{written_body}
 use Rattle.wk_module.specs.declared.types.Func.{Func}
 use Rattle.wk_module.specs.Items.{IsCode}
-use Rattle.wk_check.specs.Answers.{Found}
+use Rattle.wk_typing.specs.Answers.{Found}
 use Rattle.wk_session.specs.Overlays.{with_items}
 use Rattle.wk_session.specs.Pieces.{code_of}
 use Rattle.wk_draft.specs.Drafts.{AreDrafted}

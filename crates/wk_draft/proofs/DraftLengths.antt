@@ -15,7 +15,7 @@ use Rattle.wk_module.specs.Sections.{SectionId, FunctionSection, CodeSection, co
 use Rattle.wk_module.specs.Shape.{lists_of, IsInOrderFrom}
 use Rattle.wk_module.specs.Sizes.{body_size}
 use Rattle.wk_module.specs.Writing.{written_section, encoded, Fits}
-use Rattle.wk_check.specs.Answers.{Found}
+use Rattle.wk_typing.specs.Answers.{Found}
 use Rattle.wk_check.specs.SpacesLaws.{answers_of}
 use Rattle.wk_draft.specs.Drafts.{IsDeferred, AreDrafted, IsSketch, deferred_room}
 use Rattle.wk_body.specs.declared.shifts.Shifts.{Shifts}

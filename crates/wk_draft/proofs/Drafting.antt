@@ -10,7 +10,7 @@ use Rattle.wk_module.specs.Imports.{import_count}
 use Rattle.wk_module.specs.Outlines.{outlined, outlined_func}
 use Rattle.wk_module.specs.Shape.{IsShaped}
 use Rattle.wk_module.specs.Writing.{encoded}
-use Rattle.wk_check.specs.declared.fault.Verdict.TheVariants.{Valid}
+use Rattle.wk_typing.specs.declared.fault.Verdict.TheVariants.{Valid}
 use Rattle.wk_check.specs.Growth.{HasValidBodies}
 use Rattle.wk_check.specs.Verdict.{module_verdict}
 use Rattle.wk_draft.specs.declared.draft.Draft.{Draft}

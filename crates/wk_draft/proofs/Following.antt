@@ -25,8 +25,8 @@ use Rattle.wk_module.specs.Items.{desc_kind}
 use Rattle.wk_module.specs.Moving.{moved_parts, are_parts_stuck}
 use Rattle.wk_module.specs.Shape.{settle, IsInOrderFrom, IsFormed, IsShaped}
 use Rattle.wk_module.specs.Writing.{encoded, Fits}
-use Rattle.wk_check.specs.Carried.{Keeps, KeepsMoved}
-use Rattle.wk_check.specs.Finds.{ValidFinds}
+use Rattle.wk_typing.specs.Carried.{Keeps, KeepsMoved}
+use Rattle.wk_typing.specs.Finds.{ValidFinds}
 use Rattle.wk_session.specs.declared.edit.Edit.{Edit}
 use Rattle.wk_session.specs.declared.edit.Edit.TheVariants as edits
 use Rattle.wk_session.specs.declared.edit.EditFault.{EditFault}

@@ -12,10 +12,10 @@ use Rattle.wk_module.specs.declared.types.FuncType.{FuncType}
 use Rattle.wk_module.specs.declared.types.GlobalType.{GlobalType}
 use Rattle.wk_module.specs.declared.types.Parts.{Parts}
 use Rattle.wk_module.specs.Changes.{with_type, with_func, with_global, with_export}
-use Rattle.wk_check.specs.declared.fault.BodyVerdict.TheVariants.{Valid}
-use Rattle.wk_check.specs.Answers.{Found}
-use Rattle.wk_check.specs.Carried.{Agree, Keeps}
-use Rattle.wk_check.specs.Finds.{AreThere, ValidFinds, Grows}
+use Rattle.wk_typing.specs.declared.fault.BodyVerdict.TheVariants.{Valid}
+use Rattle.wk_typing.specs.Answers.{Found}
+use Rattle.wk_typing.specs.Carried.{Agree, Keeps}
+use Rattle.wk_typing.specs.Finds.{AreThere, ValidFinds, Grows}
 use Rattle.wk_check.specs.SpacesLaws.{answers_of, type_grows, func_grows, global_grows}
 use Rattle.wk_check.specs.Verdict.{func_verdict}
 use Rattle.wk_draft.specs.Drafts.{IsDeferred, AreDrafted, IsDraft}

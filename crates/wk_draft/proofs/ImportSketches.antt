@@ -21,10 +21,10 @@ use Rattle.wk_module.specs.Items.{desc_kind, IsCode}
 use Rattle.wk_module.specs.Moving.{moved_code, moved_func, moved_parts, are_parts_stuck}
 use Rattle.wk_module.specs.Sections.{CodeSection}
 use Rattle.wk_module.specs.Shape.{IsFormed}
-use Rattle.wk_check.specs.declared.fault.BodyVerdict.TheVariants.{Valid}
-use Rattle.wk_check.specs.Answers.{Found}
-use Rattle.wk_check.specs.Carried.{moved_ref, AgreeMoved, Keeps, KeepsMoved}
-use Rattle.wk_check.specs.Finds.{ValidFinds}
+use Rattle.wk_typing.specs.declared.fault.BodyVerdict.TheVariants.{Valid}
+use Rattle.wk_typing.specs.Answers.{Found}
+use Rattle.wk_typing.specs.Carried.{moved_ref, AgreeMoved, Keeps, KeepsMoved}
+use Rattle.wk_typing.specs.Finds.{ValidFinds}
 use Rattle.wk_check.specs.SpacesLaws.{answers_of, func_import_moves, global_import_moves, table_import_grows, memory_import_grows}
 use Rattle.wk_check.specs.Verdict.{func_verdict}
 use Rattle.wk_session.specs.declared.edit.Edit.TheVariants as edits

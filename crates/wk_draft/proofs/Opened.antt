@@ -18,15 +18,15 @@ use Rattle.wk_module.specs.Imports.{import_count}
 use Rattle.wk_module.specs.Items.{IsCode}
 use Rattle.wk_module.specs.Sections.{CodeSection}
 use Rattle.wk_module.specs.Shape.{IsFormed}
-use Rattle.wk_check.specs.declared.fault.BodyVerdict.{BodyVerdict}
-use Rattle.wk_check.specs.declared.fault.BodyVerdict.TheVariants as bodies
-use Rattle.wk_check.specs.declared.fault.Verdict.TheVariants.{Valid}
-use Rattle.wk_check.specs.Answers.{Found, TypeIs}
-use Rattle.wk_check.specs.Effects.{local_type, params_found, results_found, known_found}
+use Rattle.wk_typing.specs.declared.fault.BodyVerdict.{BodyVerdict}
+use Rattle.wk_typing.specs.declared.fault.BodyVerdict.TheVariants as bodies
+use Rattle.wk_typing.specs.declared.fault.Verdict.TheVariants.{Valid}
+use Rattle.wk_typing.specs.Answers.{Found, TypeIs}
+use Rattle.wk_typing.specs.Effects.{local_type, params_found, results_found, known_found}
 use Rattle.wk_check.specs.Growth.{HasValidBodies}
-use Rattle.wk_check.specs.Own.{at_token, popped, stopped}
+use Rattle.wk_typing.specs.Own.{at_token, popped, stopped}
 use Rattle.wk_check.specs.SpacesLaws.{answers_of}
-use Rattle.wk_check.specs.Typing.{code_result, verdict_of, body_verdict}
+use Rattle.wk_typing.specs.Typing.{code_result, verdict_of, body_verdict}
 use Rattle.wk_check.specs.Verdict.{func_verdict, module_verdict}
 use Rattle.wk_draft.specs.Drafts.{AreDrafted, IsDraft}
 use Rattle.wk_module.specs.Outlines.{stub, outlined_func, outlined}

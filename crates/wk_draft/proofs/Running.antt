@@ -14,8 +14,8 @@ use Rattle.wk_module.specs.Outlines.{outlined}
 use Rattle.wk_module.specs.Sections.{CodeSection}
 use Rattle.wk_module.specs.Shape.{IsShaped}
 use Rattle.wk_module.specs.Writing.{encoded, Fits}
-use Rattle.wk_check.specs.declared.fault.Verdict.{Verdict}
-use Rattle.wk_check.specs.declared.fault.Verdict.TheVariants.{Valid}
+use Rattle.wk_typing.specs.declared.fault.Verdict.{Verdict}
+use Rattle.wk_typing.specs.declared.fault.Verdict.TheVariants.{Valid}
 use Rattle.wk_check.specs.SpacesLaws.{answers_of}
 use Rattle.wk_check.specs.Verdict.{module_verdict}
 use Rattle.wk_session.specs.Overlays.{with_items}

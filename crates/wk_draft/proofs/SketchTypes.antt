@@ -7,7 +7,7 @@ use Rattle.wk_module.specs.declared.types.Func.{Func}
 use Rattle.wk_module.specs.declared.types.Import.{Import}
 use Rattle.wk_module.specs.declared.types.Parts.{Parts}
 use Rattle.wk_module.specs.Shape.{lists_of}
-use Rattle.wk_check.specs.Answers.{Found}
+use Rattle.wk_typing.specs.Answers.{Found}
 use Rattle.wk_check.specs.Spaces.{answer_in, spaces_of, imported, func_in}
 use Rattle.wk_check.specs.SpacesLaws.{answers_of}
 use Rattle.wk_session.specs.Edits.{import_place}

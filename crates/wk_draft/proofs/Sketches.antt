@@ -15,11 +15,11 @@ use Rattle.wk_module.specs.Items.{IsCode}
 use Rattle.wk_module.specs.Sections.{TypeSection, ImportSection, FunctionSection, TableSection, MemorySection, GlobalSection, ExportSection, StartSection}
 use Rattle.wk_module.specs.Sections.{ElementSection, CodeSection, DataSection, AreItems}
 use Rattle.wk_module.specs.Shape.{lists_of, is_written, filled_ids, settled_custom, settle, is_filled, IsFormed, IsShaped}
-use Rattle.wk_check.specs.declared.fault.BodyVerdict.{BodyVerdict}
-use Rattle.wk_check.specs.declared.fault.Verdict.{Verdict}
-use Rattle.wk_check.specs.Answers.{Found}
+use Rattle.wk_typing.specs.declared.fault.BodyVerdict.{BodyVerdict}
+use Rattle.wk_typing.specs.declared.fault.Verdict.{Verdict}
+use Rattle.wk_typing.specs.Answers.{Found}
 use Rattle.wk_check.specs.Flaws.{first_in}
-use Rattle.wk_check.specs.Items.{body_flaw}
+use Rattle.wk_typing.specs.Faults.{body_flaw}
 use Rattle.wk_check.specs.SpacesLaws.{answers_of}
 use Rattle.wk_check.specs.Verdict.{func_verdict, verdict_around, module_verdict}
 use Rattle.wk_draft.specs.Drafts.{AreDrafted, IsSketch, IsDraft}

@@ -27,7 +27,7 @@ use Rattle.wk_module.specs.Sections.{ImportSection, FunctionSection, GlobalSecti
 use Rattle.wk_module.specs.Shape.{lists_of}
 use Rattle.wk_module.specs.Writing.{Fits}
 use Rattle.wk_module.specs.WritingLaws.{items_within}
-use Rattle.wk_check.specs.Finds.{is_there, AreThere, ValidFinds}
+use Rattle.wk_typing.specs.Finds.{is_there, AreThere, ValidFinds}
 use Rattle.wk_check.specs.Spaces.{Spaces, answer_in, spaces_of, func_found, global_found, imported, func_in, global_in}
 use Rattle.wk_check.specs.SpacesLaws.{imported_funcs, imported_globals}
 use Rattle.wk_session.specs.Edits.{import_place}

@@ -12,8 +12,8 @@ use Rattle.wk_module.specs.Imports.{import_count}
 use Rattle.wk_module.specs.Items.{IsCode}
 use Rattle.wk_module.specs.Outlines.{stub}
 use Rattle.wk_module.specs.Sizes.{body_size}
-use Rattle.wk_check.specs.declared.fault.BodyVerdict.TheVariants.{Valid}
-use Rattle.wk_check.specs.Answers.{Found}
+use Rattle.wk_typing.specs.declared.fault.BodyVerdict.TheVariants.{Valid}
+use Rattle.wk_typing.specs.Answers.{Found}
 use Rattle.wk_check.specs.SpacesLaws.{answers_of}
 use Rattle.wk_check.specs.Verdict.{func_verdict}
 

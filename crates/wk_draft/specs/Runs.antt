@@ -12,7 +12,7 @@ use Rattle.wk_module.specs.Items.{IsCode}
 use Rattle.wk_module.specs.Outlines.{outlined}
 use Rattle.wk_module.specs.Shape.{IsShaped}
 use Rattle.wk_module.specs.Writing.{encoded, Fits}
-use Rattle.wk_check.specs.declared.fault.Verdict.TheVariants.{Valid}
+use Rattle.wk_typing.specs.declared.fault.Verdict.TheVariants.{Valid}
 use Rattle.wk_check.specs.Verdict.{module_verdict}
 use Rattle.wk_session.specs.declared.edit.Edit.{Edit}
 use Rattle.wk_session.specs.declared.edit.EditFault.{EditFault}

@@ -3,7 +3,7 @@
 ghost use Rattle.std.specs.Prelude.{◌≡◌, ◌+◌, ◌≤◌, true, List, length, map, IfSome};
 ghost use Rattle.wk_bytes.specs.Frames.{limit};
 ghost use Rattle.wk_module.specs.declared.types.Func.{Func as FuncOf};
-ghost use Rattle.wk_check.specs.declared.fault.Fault.{Fault as FaultOf};
+ghost use Rattle.wk_typing.specs.declared.fault.Fault.{Fault as FaultOf};
 ghost use Rattle.wk_session.specs.Pieces.{code_of};
 ghost use Rattle.wk_draft.specs.Drafts.{deferred_room};
 ghost use Rattle.wk_draft.specs.Steps.{edit_room, IsSure};

@@ -13,7 +13,7 @@ use Rattle.wk_module.specs.Modules.{Spells}
 use Rattle.wk_module.specs.Reading.{module_at}
 use Rattle.wk_module.specs.Shape.{IsShaped}
 use Rattle.wk_module.specs.Writing.{encoded, Fits}
-use Rattle.wk_check.specs.declared.fault.Verdict.{Verdict}
+use Rattle.wk_typing.specs.declared.fault.Verdict.{Verdict}
 use Rattle.wk_check.specs.Verdict.{module_verdict}
 use Rattle.wk_session.specs.declared.edit.Edit.{Edit}
 use Rattle.wk_session.specs.declared.edit.Work.{Work}

@@ -4,7 +4,7 @@ use Rattle.std.proofs.Common.{arith}
 use Rattle.std.proofs.lemmas.List.{drop_all}
 use Rattle.wk_session.specs.declared.edit.EditFault.{EditFault}
 use Rattle.wk_session.specs.declared.edit.Work.{Work}
-use Rattle.wk_check.specs.declared.fault.Verdict.{Verdict}
+use Rattle.wk_typing.specs.declared.fault.Verdict.{Verdict}
 use Rattle.wk_draft.specs.Runs.{AreAlike, IsAlike}
 use Rattle.wk_edit.specs.ReportText.{reply_line, report_text, verdict_line}
 

@@ -17,9 +17,9 @@ use Rattle.wk_module.specs.Listed.{listed_with}
 use Rattle.wk_module.specs.Sections.{SectionLists}
 use Rattle.wk_module.specs.Shape.{IsInOrderFrom, settle}
 use Rattle.wk_module.specs.Sizes.{entry_size}
-use Rattle.wk_check.specs.declared.fault.BodyVerdict.{BodyVerdict}
-use Rattle.wk_check.specs.Answers.{Found}
-use Rattle.wk_check.specs.Carried.{Agree}
+use Rattle.wk_typing.specs.declared.fault.BodyVerdict.{BodyVerdict}
+use Rattle.wk_typing.specs.Answers.{Found}
+use Rattle.wk_typing.specs.Carried.{Agree}
 use Rattle.wk_check.specs.Spaces.{answer_in, spaces_of}
 use Rattle.wk_check.specs.SpacesLaws.{answers_of}
 use Rattle.wk_check.specs.Verdict.{func_verdict}

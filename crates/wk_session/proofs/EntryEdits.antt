@@ -26,9 +26,9 @@ use Rattle.wk_module.specs.Shape.{IsFormed, IsInOrderFrom, settle}
 use Rattle.wk_module.specs.Sizes.{entry_size}
 use Rattle.wk_module.specs.Writing.{encoded, Fits}
 use Rattle.wk_module.specs.WritingLaws.{code_within, room_for_func}
-use Rattle.wk_check.specs.declared.fault.BodyVerdict.{BodyVerdict}
-use Rattle.wk_check.specs.Answers.{Found}
-use Rattle.wk_check.specs.Finds.{Grows}
+use Rattle.wk_typing.specs.declared.fault.BodyVerdict.{BodyVerdict}
+use Rattle.wk_typing.specs.Answers.{Found}
+use Rattle.wk_typing.specs.Finds.{Grows}
 use Rattle.wk_check.specs.Spaces.{answer_in, spaces_of}
 use Rattle.wk_check.specs.SpacesLaws.{answers_of}
 use Rattle.wk_check.specs.Verdict.{func_verdict}

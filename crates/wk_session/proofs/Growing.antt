@@ -5,11 +5,11 @@ use Rattle.std.specs.List.{AllByRecursion}
 use Rattle.wk_body.specs.declared.references.Ref.{Ref}
 use Rattle.wk_module.specs.declared.types.Func.{Func}
 use Rattle.wk_module.specs.declared.types.Parts.{Parts}
-use Rattle.wk_check.specs.declared.fault.Verdict.{Verdict}
-use Rattle.wk_check.specs.declared.fault.Verdict.TheVariants.{Valid}
-use Rattle.wk_check.specs.Answers.{Found}
-use Rattle.wk_check.specs.Carried.{Agree}
-use Rattle.wk_check.specs.Finds.{Grows}
+use Rattle.wk_typing.specs.declared.fault.Verdict.{Verdict}
+use Rattle.wk_typing.specs.declared.fault.Verdict.TheVariants.{Valid}
+use Rattle.wk_typing.specs.Answers.{Found}
+use Rattle.wk_typing.specs.Carried.{Agree}
+use Rattle.wk_typing.specs.Finds.{Grows}
 use Rattle.wk_check.specs.Growth.{ReferencesStay, VerdictsStay}
 use Rattle.wk_check.specs.SpacesLaws.{answers_of}
 use Rattle.wk_check.specs.Verdict.{func_verdict, module_verdict}

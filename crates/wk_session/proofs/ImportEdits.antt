@@ -34,11 +34,11 @@ use Rattle.wk_module.specs.Sections.{SectionLists, ImportSection}
 use Rattle.wk_module.specs.Shape.{IsFormed, settle}
 use Rattle.wk_module.specs.Writing.{encoded}
 use Rattle.wk_module.specs.WritingLaws.{room}
-use Rattle.wk_check.specs.Answers.{Found}
-use Rattle.wk_check.specs.declared.fault.BodyVerdict.{BodyVerdict}
-use Rattle.wk_check.specs.Finds.{Grows}
+use Rattle.wk_typing.specs.Answers.{Found}
+use Rattle.wk_typing.specs.declared.fault.BodyVerdict.{BodyVerdict}
+use Rattle.wk_typing.specs.Finds.{Grows}
 use Rattle.wk_check.specs.Spaces.{answer_in, spaces_of}
-use Rattle.wk_check.specs.Carried.{moved_ref, KeepsMoved}
+use Rattle.wk_typing.specs.Carried.{moved_ref, KeepsMoved}
 use Rattle.wk_check.specs.SpacesLaws.{answers_of, func_import_moves, global_import_moves, table_import_grows, memory_import_grows}
 use Rattle.wk_check.specs.Verdict.{func_verdict}
 use Rattle.wk_session.specs.declared.edit.Edit.TheVariants as edits

@@ -7,9 +7,9 @@ use Rattle.std.proofs.lemmas.Bool.{or_parts}
 use Rattle.wk_body.specs.declared.references.Ref.{Ref}
 use Rattle.wk_module.specs.declared.types.Func.{Func}
 use Rattle.wk_list.specs.UsesLaws.{any_in_order}
-use Rattle.wk_check.specs.Answers.{Found}
-use Rattle.wk_check.specs.Carried.{Agree}
-use Rattle.wk_check.specs.Finds.{AreThere, Grows}
+use Rattle.wk_typing.specs.Answers.{Found}
+use Rattle.wk_typing.specs.Carried.{Agree}
+use Rattle.wk_typing.specs.Finds.{AreThere, Grows}
 use Rattle.wk_session.specs.Dependents.{same_found, held, differs_in, one_if}
 use Rattle.wk_session.specs.Kept.{uses_of}
 use Rattle.wk_session.proofs.SameFound.{found_exact, found_same}

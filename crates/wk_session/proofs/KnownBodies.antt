@@ -8,15 +8,17 @@ use Rattle.wk_body.specs.declared.references.Ref.{Ref}
 use Rattle.wk_module.specs.declared.types.Func.{Func}
 use Rattle.wk_module.specs.declared.types.Parts.{Parts}
 use Rattle.wk_module.specs.Shape.{lists_of}
-use Rattle.wk_check.specs.declared.fault.BodyVerdict.{BodyVerdict}
-use Rattle.wk_check.specs.declared.fault.BodyVerdict.TheVariants as bodies
-use Rattle.wk_check.specs.declared.fault.Fault.{Fault}
-use Rattle.wk_check.specs.declared.fault.FaultKind.{FaultKind}
-use Rattle.wk_check.specs.declared.fault.Verdict.{Verdict}
-use Rattle.wk_check.specs.declared.fault.Verdict.TheVariants.{Valid, Invalid}
-use Rattle.wk_check.specs.Answers.{Found}
-use Rattle.wk_check.specs.Flaws.{fault_at, first_in, first_fault, verdict_by, AreFine}
-use Rattle.wk_check.specs.Items.{body_flaw, earlier}
+use Rattle.wk_typing.specs.declared.fault.BodyVerdict.{BodyVerdict}
+use Rattle.wk_typing.specs.declared.fault.BodyVerdict.TheVariants as bodies
+use Rattle.wk_typing.specs.declared.fault.Fault.{Fault}
+use Rattle.wk_typing.specs.declared.fault.FaultKind.{FaultKind}
+use Rattle.wk_typing.specs.declared.fault.Verdict.{Verdict}
+use Rattle.wk_typing.specs.declared.fault.Verdict.TheVariants.{Valid, Invalid}
+use Rattle.wk_typing.specs.Answers.{Found}
+use Rattle.wk_typing.specs.Faults.{fault_at}
+use Rattle.wk_check.specs.Flaws.{first_in, first_fault, verdict_by, AreFine}
+use Rattle.wk_typing.specs.Faults.{body_flaw}
+use Rattle.wk_check.specs.Items.{earlier}
 use Rattle.wk_check.specs.SpacesLaws.{answers_of}
 use Rattle.wk_check.specs.Verdict.{func_verdict, code_flaws, data_flaws, code_fault, flaws_before_code, front_fault, module_verdict}
 use Rattle.wk_session.specs.Known.{AreKnown, body_told, told_by}

@@ -3,8 +3,8 @@ use Rattle.std.proofs.Common.{◌≡◌, Bool, true, false, List, [], ◌∷◌,
 use Rattle.std.specs.Prelude.{IfOk, OnErr}
 use Rattle.wk_bytes.specs.Leb.{◌>>=◌}
 use Rattle.wk_module.specs.declared.types.Parts.{Parts}
-use Rattle.wk_check.specs.declared.fault.Verdict.{Verdict}
-use Rattle.wk_check.specs.declared.fault.Verdict.TheVariants.{Valid, Invalid}
+use Rattle.wk_typing.specs.declared.fault.Verdict.{Verdict}
+use Rattle.wk_typing.specs.declared.fault.Verdict.TheVariants.{Valid, Invalid}
 use Rattle.wk_check.specs.Verdict.{module_verdict}
 use Rattle.wk_session.specs.declared.edit.Edit.{Edit}
 use Rattle.wk_session.specs.declared.edit.EditFault.{EditFault}

@@ -13,9 +13,9 @@ use Rattle.wk_module.specs.declared.types.ImportDesc.TheVariants as desc
 use Rattle.wk_module.specs.declared.types.Kind.TheVariants as kinds
 use Rattle.wk_module.specs.Moving.{moved_parts}
 use Rattle.wk_module.specs.Shape.{nothing, settle}
-use Rattle.wk_check.specs.declared.fault.FaultKind.TheVariants.{UnknownFunc}
+use Rattle.wk_typing.specs.declared.fault.FaultKind.TheVariants.{UnknownFunc}
 use Rattle.wk_check.specs.Verdict.{module_verdict}
-use Rattle.wk_check.specs.declared.fault.Verdict.TheVariants.{Valid, Invalid}
+use Rattle.wk_typing.specs.declared.fault.Verdict.TheVariants.{Valid, Invalid}
 use Rattle.wk_session.specs.declared.edit.Edit.TheVariants as edits
 use Rattle.wk_session.specs.declared.edit.Work.{Work}
 use Rattle.wk_session.specs.declared.edit.EditFault.TheVariants.{NoSuchExport}

@@ -13,10 +13,10 @@ use Rattle.wk_module.specs.declared.types.Func.{Func as Function}
 use Rattle.wk_module.specs.declared.types.Parts.{Parts}
 use Rattle.wk_module.specs.Items.{desc_kind}
 use Rattle.wk_module.specs.Moving.{is_code_moving, is_expr_moving, is_index_moving, is_start_moving, is_elem_moving, is_data_moving}
-use Rattle.wk_check.specs.Answers.{Found, TypeIs, NoType, FuncIs, FuncOfNoType, NoFunc, GlobalIs, NoGlobal, IsPresent, IsAbsent}
-use Rattle.wk_check.specs.Carried.{moved_ref}
-use Rattle.wk_check.specs.Effects.{same_types}
-use Rattle.wk_check.specs.Slots.{same}
+use Rattle.wk_typing.specs.Answers.{Found, TypeIs, NoType, FuncIs, FuncOfNoType, NoFunc, GlobalIs, NoGlobal, IsPresent, IsAbsent}
+use Rattle.wk_typing.specs.Carried.{moved_ref}
+use Rattle.wk_typing.specs.Effects.{same_types}
+use Rattle.wk_typing.specs.Slots.{same}
 use Rattle.wk_check.specs.SpacesLaws.{answers_of}
 use Rattle.wk_session.specs.declared.edit.Edit.{Edit}
 use Rattle.wk_session.specs.declared.edit.Edit.TheVariants as edits

@@ -28,7 +28,7 @@ use Rattle.wk_module.specs.Changes.{with_type, with_import, with_func, with_body
 use Rattle.wk_module.specs.Items.{desc_kind}
 use Rattle.wk_module.specs.Moving.{is_code_moving, are_parts_stuck, moved_func, moved_parts}
 use Rattle.wk_module.specs.Shape.{settle}
-use Rattle.wk_check.specs.Carried.{moved_ref}
+use Rattle.wk_typing.specs.Carried.{moved_ref}
 use Rattle.wk_check.specs.SpacesLaws.{answers_of}
 use Rattle.wk_session.specs.declared.edit.Edit.{Edit}
 use Rattle.wk_session.specs.declared.edit.Edit.TheVariants as edits

@@ -9,7 +9,7 @@ use Rattle.wk_module.specs.declared.types.Parts.{Parts}
 use Rattle.wk_module.specs.Listed.{listed, listed_with}
 use Rattle.wk_module.specs.Shape.{IsFormed, settle}
 use Rattle.wk_module.specs.Writing.{encoded}
-use Rattle.wk_check.specs.declared.fault.BodyVerdict.{BodyVerdict}
+use Rattle.wk_typing.specs.declared.fault.BodyVerdict.{BodyVerdict}
 use Rattle.wk_check.specs.SpacesLaws.{answers_of}
 use Rattle.wk_check.specs.Verdict.{func_verdict, module_verdict}
 use Rattle.wk_list.specs.Uses.{in_order}

@@ -1,12 +1,12 @@
 -- What the verdict of a module tells of its bodies.
 use Rattle.std.specs.Prelude.{◌≡◌, ℕ, List, Option, None, Some, IfSome, nat_lt, option_map, slice_get, if◌then◌else◌}
 use Rattle.wk_module.specs.declared.types.Func.{Func}
-use Rattle.wk_check.specs.declared.fault.BodyVerdict.{BodyVerdict}
-use Rattle.wk_check.specs.declared.fault.BodyVerdict.TheVariants as bodies
-use Rattle.wk_check.specs.declared.fault.Fault.{Fault}
-use Rattle.wk_check.specs.declared.fault.Verdict.{Verdict}
-use Rattle.wk_check.specs.declared.fault.Verdict.TheVariants.{Valid, Invalid}
-use Rattle.wk_check.specs.Answers.{Found}
+use Rattle.wk_typing.specs.declared.fault.BodyVerdict.{BodyVerdict}
+use Rattle.wk_typing.specs.declared.fault.BodyVerdict.TheVariants as bodies
+use Rattle.wk_typing.specs.declared.fault.Fault.{Fault}
+use Rattle.wk_typing.specs.declared.fault.Verdict.{Verdict}
+use Rattle.wk_typing.specs.declared.fault.Verdict.TheVariants.{Valid, Invalid}
+use Rattle.wk_typing.specs.Answers.{Found}
 use Rattle.wk_check.specs.Verdict.{func_verdict}
 use Rattle.wk_body.specs.declared.references.Ref.{Ref}
 

@@ -10,8 +10,8 @@ use Rattle.wk_module.specs.declared.types.Parts.{Parts}
 use Rattle.wk_module.specs.Changes.{with_body}
 use Rattle.wk_module.specs.Shape.{settle}
 use Rattle.wk_module.specs.Writing.{encoded}
-use Rattle.wk_check.specs.declared.fault.Verdict.{Verdict}
-use Rattle.wk_check.specs.declared.fault.Verdict.TheVariants.{Valid, Invalid}
+use Rattle.wk_typing.specs.declared.fault.Verdict.{Verdict}
+use Rattle.wk_typing.specs.declared.fault.Verdict.TheVariants.{Valid, Invalid}
 use Rattle.wk_check.specs.Verdict.{module_verdict}
 use Rattle.wk_session.specs.declared.edit.EditFault.{EditFault}
 use Rattle.wk_session.specs.declared.edit.EditFault.TheVariants.{NoSuchCustom, IndexOverflow, TooLarge}

@@ -16,8 +16,8 @@ use Rattle.wk_module.specs.Items.{desc_kind}
 use Rattle.wk_module.specs.Moving.{are_parts_stuck, moved_parts}
 use Rattle.wk_module.specs.Shape.{settle}
 use Rattle.wk_module.specs.Writing.{encoded}
-use Rattle.wk_check.specs.declared.fault.Verdict.{Verdict}
-use Rattle.wk_check.specs.declared.fault.Verdict.TheVariants.{Valid, Invalid}
+use Rattle.wk_typing.specs.declared.fault.Verdict.{Verdict}
+use Rattle.wk_typing.specs.declared.fault.Verdict.TheVariants.{Valid, Invalid}
 use Rattle.wk_check.specs.Verdict.{module_verdict}
 use Rattle.wk_session.specs.declared.edit.Edit.{Edit}
 use Rattle.wk_session.specs.declared.edit.Edit.TheVariants as edits

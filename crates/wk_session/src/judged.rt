@@ -2,9 +2,9 @@
 
 ghost use Rattle.std.specs.Prelude.{◌≡◌, ◌+◌, ◌<◌, ◌^◌, not, true, count_by, length, map, IfOk, OnOk};
 ghost use Rattle.std.specs.List.{list_any};
-ghost use Rattle.wk_check.specs.Answers.{found};
-ghost use Rattle.wk_check.specs.Typing.{body_verdict};
-ghost use Rattle.wk_check.specs.Finds.{is_there, Grows};
+ghost use Rattle.wk_typing.specs.Answers.{found};
+ghost use Rattle.wk_typing.specs.Typing.{body_verdict};
+ghost use Rattle.wk_typing.specs.Finds.{is_there, Grows};
 ghost use Rattle.wk_check.specs.Verdict.{func_verdict};
 ghost use Rattle.wk_session.specs.Dependents.{same_found, differs_in, is_retyped_in, one_if};
 ghost use Rattle.wk_session.specs.Kept.{uses_of};

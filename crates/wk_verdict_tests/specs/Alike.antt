@@ -7,8 +7,8 @@ use Rattle.wk_body.specs.declared.references.Ref.{Ref}
 use Rattle.wk_body.specs.declared.references.Ref.TheVariants.{Ty, Func, Global, Table, Memory}
 use Rattle.wk_module.specs.declared.types.FuncType.{FuncType}
 use Rattle.wk_module.specs.declared.types.GlobalType.{GlobalType}
-use Rattle.wk_check.specs.Answers.{Found, TypeIs, FuncIs, GlobalIs, IsPresent, IsOfKind}
-use Rattle.wk_check.specs.Carried.{Agree, AgreeMoved, moved_ref}
+use Rattle.wk_typing.specs.Answers.{Found, TypeIs, FuncIs, GlobalIs, IsPresent, IsOfKind}
+use Rattle.wk_typing.specs.Carried.{Agree, AgreeMoved, moved_ref}
 
 abbrev pub alike : FuncType → GlobalType → Ref → Found
 alike t g (Ty x) = TypeIs t

@@ -5,14 +5,17 @@ ghost use Rattle.std.specs.Prelude.{◌<◌};
 use std::alloc::Global;
 use std::process::Abort;
 use std::test::Fail;
+use wk_bytes::Cursor;
 use wk_check::FaultKind::{
-    Alignment, GlobalImmutable, StackUnderflow, UnknownFunc, UnknownGlobal, UnknownMemory,
-    UnknownTable, UnknownType,
+    Alignment, ConstantExpected, GlobalImmutable, StackHeight, StackUnderflow, TypeMismatch,
+    UnknownFunc, UnknownGlobal, UnknownMemory, UnknownTable, UnknownType,
 };
 use wk_check::{Answer, BodyVerdict, Env, FaultKind, Meter, Whole, judge_body};
 use wk_module::{
-    FuncType, GlobalType, Limits, Lists, Parts, Profile, Ref, ValType, read_body_in, read_in,
+    FuncType, GlobalType, Limits, Lists, Parts, Profile, Ref, ValType, read_body_in, read_expr_in,
+    read_in,
 };
+use wk_typing::{Fault, Flaw, Place, Room, StreamRoom, constant_flaw, is_valid_body, type_body};
 
 // The types [] -> [], [i32] -> [i32] and [] -> [i32, i32].
 const TYPES: &[u8] = b"\0asm\x01\0\0\0\x01\x0e\x03\x60\0\0\x60\x01\x7f\x01\x7f\x60\0\x02\x7f\x7f";
@@ -91,7 +94,22 @@ fn judged<E: Env>(
     Ok(judge_body(env, own_type, &body, meter)?)
 }
 
-// Judges bodies, each under the type of an index, with one meter: valid, or a fault and its token.
+// The verdict of the same body by the call that counts nothing, and whether it is valid by the one that keeps nothing of it.
+fn typed<E: Env>(
+    alloc: Global,
+    env: &E,
+    own_type: u32,
+    code: &[u8],
+    rooms: &mut (Room, StreamRoom),
+) -> Result<(BodyVerdict, bool), Fail> {
+    let body = read_body_in(alloc, code, Profile::Extended)?;
+    let verdict = type_body(env, own_type, &body, &mut rooms.0)?;
+    let cursor = Cursor::new(code);
+    let valid = is_valid_body(env, own_type, Profile::Extended, &cursor, &mut rooms.1)?;
+    Ok((verdict, valid))
+}
+
+// Judges bodies, each under the type of an index, with one meter and in one room: valid, or a fault and its token.
 fn looks<E: Env>(
     rt: &impl Abort,
     alloc: Global,
@@ -99,6 +117,7 @@ fn looks<E: Env>(
     rows: &[(u32, &[u8], Option<(FaultKind, u32)>)],
 ) -> Result<(), Fail> {
     let mut meter = Meter::new(alloc);
+    let mut rooms = (Room::new(alloc), StreamRoom::new(alloc));
     let mut count = 0;
     for &(own_type, code, fault) in rows {
         assert_eq!(rt; meter.typed(), count);
@@ -110,6 +129,8 @@ fn looks<E: Env>(
             Some((kind, token)) => BodyVerdict::Invalid { kind, token },
         };
         assert_eq!(rt; verdict, wanted, "{code:?}");
+        let again = typed(alloc, env, own_type, code, &mut rooms)?;
+        assert_eq!(rt; again, (wanted, fault.is_none()), "{code:?}");
     }
     assert_eq!(rt; meter.typed(), count);
     Ok(())
@@ -224,4 +245,44 @@ fn judges_by_lists(rt: HostRuntime) -> Result<(), Fail> {
     ];
     let module = read_in(rt.alloc(), IMPORTS, Profile::Core)?;
     judges_by_parts(&rt, rt.alloc(), module.parts(), &rows)
+}
+
+// What is wrong with constant expressions of i32, one after the other in one room, and with bodies: each stands at its item.
+#[test]
+fn finds_flaws_at_their_places(rt: HostRuntime) -> Result<(), Fail> {
+    let rows: [(&[u8], Option<(FaultKind, u32)>); 6] = [
+        (b"\x41\0\x0b", None),
+        (b"\x23\0\x0b", None),
+        // a nop, and a global that can be set, are not constant
+        (b"\x41\0\x01\x0b", Some((ConstantExpected, 1))),
+        (b"\x23\x01\x0b", Some((ConstantExpected, 0))),
+        (b"\x42\0\x0b", Some((TypeMismatch, 1))),
+        (b"\x41\0\x41\0\x0b", Some((StackHeight, 2))),
+    ];
+    let alloc = rt.alloc();
+    let env = Lent {
+        types: &[],
+        funcs: &[],
+        globals: &GLOBALS,
+        tables: &[],
+        memories: &[],
+    };
+    let mut room = Room::new(alloc);
+    for (code, fault) in rows {
+        let expr = read_expr_in(alloc, code, Profile::Core)?;
+        let flaw = constant_flaw(&env, ValType::I32, &expr, &mut room)?;
+        let wanted = match fault {
+            None => BodyVerdict::Valid,
+            Some((kind, token)) => BodyVerdict::Invalid { kind, token },
+        };
+        assert_eq!(rt; flaw, wanted.flaw(), "{code:?}");
+    }
+    let place = Place {
+        section: 6,
+        item: 2,
+        token: None,
+    };
+    let kind = StackHeight;
+    assert_eq!(rt; Flaw::of(kind).at(6, 2), Fault { kind, place });
+    Ok(())
 }

@@ -12,7 +12,7 @@ ghost use Rattle.wk_module.specs.Items.{IsCode};
 ghost use Rattle.wk_module.specs.Shape.{IsShaped};
 ghost use Rattle.wk_module.specs.Writing.{encoded};
 ghost use Rattle.wk_check.specs.SpacesLaws.{answers_of};
-ghost use Rattle.wk_check.specs.Typing.{body_verdict};
+ghost use Rattle.wk_typing.specs.Typing.{body_verdict};
 ghost use Rattle.wk_check.specs.Verdict.{func_verdict};
 ghost use Rattle.wk_session.specs.declared.edit.Edit.{Edit};
 ghost use Rattle.wk_session.specs.Edits.{entry_of as entry_of_index};

@@ -12,7 +12,7 @@ ghost use Rattle.wk_module.specs.Changes.{with_export};
 ghost use Rattle.wk_module.specs.Items.{IsExport, written_export};
 ghost use Rattle.wk_module.specs.Shape.{IsFormed, IsInOrderFrom, IsShaped};
 ghost use Rattle.wk_module.specs.Writing.{encoded, list_contents};
-ghost use Rattle.wk_check.specs.Answers.{Found};
+ghost use Rattle.wk_typing.specs.Answers.{Found};
 ghost use Rattle.wk_check.specs.SpacesLaws.{answers_of};
 ghost use Rattle.wk_check.specs.Verdict.{module_verdict};
 ghost use Rattle.wk_session.specs.declared.edit.Edit.{Edit};

@@ -9,7 +9,7 @@ ghost use Rattle.wk_module.specs.Changes.{with_import};
 ghost use Rattle.wk_module.specs.Listed.{IsListId, listed, listed_with};
 ghost use Rattle.wk_module.specs.Moving.{moved_func, moved_lists, is_code_moving, is_code_stuck, are_parts_stuck, with_lists};
 ghost use Rattle.wk_module.specs.Shape.{IsShaped, IsFormed};
-ghost use Rattle.wk_check.specs.Finds.{Grows};
+ghost use Rattle.wk_typing.specs.Finds.{Grows};
 ghost use Rattle.wk_check.specs.Spaces.{answer_in, spaces_of};
 ghost use Rattle.wk_check.specs.SpacesLaws.{answers_of};
 ghost use Rattle.wk_check.specs.Verdict.{func_verdict, module_verdict};

@@ -1,8 +1,8 @@
 use Rattle.std.proofs.Common.{Some, ap, sym, ◌∙◌}
-use Rattle.wk_check.specs.declared.fault.Flaw.{Flaw}
-use Rattle.wk_check.specs.declared.fault.Fault.{Fault}
+use Rattle.wk_typing.specs.declared.fault.Flaw.{Flaw}
+use Rattle.wk_typing.specs.declared.fault.Fault.{Fault}
 use Rattle.wk_check.specs.Spaces.{spaces_of}
-use Rattle.wk_check.specs.Flaws.{fault_at}
+use Rattle.wk_typing.specs.Faults.{fault_at}
 use Rattle.wk_check.proofs.ExportNames.{was_there, was_new, exports_begin, exports_end, index_wrong, name_wrong, export_fine}
 use Rattle.wk_check.proofs.exports.exports_fault.Goals as goal
 

@@ -2,7 +2,7 @@ use Rattle.std.proofs.Common.{map, refl, sym, ◌∙◌}
 use Rattle.std.proofs.lemmas.List.{length-map}
 use Rattle.wk_module.specs.declared.types.GlobalDef.{GlobalDef}
 use Rattle.wk_module.specs.Listed.{listed}
-use Rattle.wk_check.specs.declared.fault.FaultKind.TheVariants.{UnknownFunc, UnknownTable, UnknownMemory, UnknownGlobal}
+use Rattle.wk_typing.specs.declared.fault.FaultKind.TheVariants.{UnknownFunc, UnknownTable, UnknownMemory, UnknownGlobal}
 use Rattle.wk_check.specs.Spaces.{imported, func_in, table_in, memory_in, global_in}
 use Rattle.wk_check.specs.SpacesLaws.{imported_funcs, imported_globals}
 use Rattle.wk_check.proofs.Imported.{imported_tables, imported_memories, flaw_beyond_is}

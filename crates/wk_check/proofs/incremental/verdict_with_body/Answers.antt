@@ -1,5 +1,5 @@
 use Rattle.std.proofs.Common.{◌∙◌, sym, ap, refl}
-use Rattle.wk_check.specs.Items.{body_flaw}
+use Rattle.wk_typing.specs.Faults.{body_flaw}
 use Rattle.wk_check.proofs.ValidGrowth.{valid_with_body, told_at}
 use Rattle.wk_check.proofs.incremental.verdict_with_body.Goals as goal
 

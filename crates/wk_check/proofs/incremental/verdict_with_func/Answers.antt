@@ -1,5 +1,5 @@
 use Rattle.std.proofs.Common.{◌∙◌, Some, sym, ap, arith}
-use Rattle.wk_check.specs.Items.{body_flaw}
+use Rattle.wk_typing.specs.Faults.{body_flaw}
 use Rattle.wk_check.proofs.ValidGrowth.{func_of_no_type, func_of_type, told_at}
 use Rattle.wk_check.proofs.incremental.verdict_with_func.Goals as goal
 

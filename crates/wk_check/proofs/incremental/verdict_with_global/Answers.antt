@@ -1,6 +1,6 @@
 use Rattle.std.proofs.Common.{◌∙◌, length, sym, ap}
 use Rattle.wk_module.specs.Sections.{SectionLists}
-use Rattle.wk_check.specs.Constants.{constant_flaw}
+use Rattle.wk_typing.specs.Constants.{constant_flaw}
 use Rattle.wk_check.specs.Spaces.{answer_in, initial_spaces}
 use Rattle.wk_check.proofs.ValidGrowth.{valid_with_global, told_at}
 use Rattle.wk_check.proofs.incremental.verdict_with_global.Goals as goal

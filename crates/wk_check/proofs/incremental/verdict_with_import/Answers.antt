@@ -1,7 +1,7 @@
 use Rattle.std.proofs.Common.{◌∙◌, Some, None, length, sym, ap}
 use Rattle.wk_module.specs.Sections.{SectionLists}
-use Rattle.wk_check.specs.declared.fault.Verdict.TheVariants.{Invalid}
-use Rattle.wk_check.specs.Flaws.{fault_at}
+use Rattle.wk_typing.specs.declared.fault.Verdict.TheVariants.{Invalid}
+use Rattle.wk_typing.specs.Faults.{fault_at}
 use Rattle.wk_check.specs.Items.{import_flaw}
 use Rattle.wk_check.proofs.ValidImports.{import_told}
 use Rattle.wk_check.proofs.incremental.verdict_with_import.Goals as goal

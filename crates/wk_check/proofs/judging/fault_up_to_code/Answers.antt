@@ -1,5 +1,5 @@
 use Rattle.std.proofs.Common.{◌≡◌, None, sym, ◌∙◌}
-use Rattle.wk_check.specs.Items.{body_flaw}
+use Rattle.wk_typing.specs.Faults.{body_flaw}
 use Rattle.wk_check.specs.Spaces.{answer_in, spaces_of}
 use Rattle.wk_check.specs.Verdict.{front_fault, func_verdict}
 use Rattle.wk_check.proofs.Flaws.{numbered_map}

@@ -1,7 +1,7 @@
 use Rattle.std.proofs.Common.{◌≡◌, [], refl, sym, ap, ◌∙◌, subst}
 use Rattle.std.proofs.lemmas.Result.{IfOk-weaker}
 use Rattle.wk_module.specs.declared.types.Parts.{Parts}
-use Rattle.wk_check.specs.declared.fault.Verdict.{Verdict}
+use Rattle.wk_typing.specs.declared.fault.Verdict.{Verdict}
 use Rattle.wk_check.specs.Verdict.{module_verdict, IsVerdict, IsNotArity, extended}
 use Rattle.wk_check.proofs.Flaws.{verdict_of_lists, module_verdict_told, verdict_extended}
 use Rattle.wk_check.proofs.Valid.{valid_exactly}

@@ -1,7 +1,7 @@
 use Rattle.std.proofs.Common.{◌≡◌, sym, ◌∙◌}
 use Rattle.wk_module.specs.declared.types.Parts.{Parts}
 use Rattle.wk_module.specs.Reading.{module_at}
-use Rattle.wk_check.specs.declared.fault.Verdict.TheVariants.{Valid}
+use Rattle.wk_typing.specs.declared.fault.Verdict.TheVariants.{Valid}
 use Rattle.wk_check.specs.Verdict.{module_verdict}
 use Rattle.wk_draft.proofs.Running.{codes_by, opened_by}
 use Rattle.wk_draft.proofs.run.edit_outline.Goals as goal

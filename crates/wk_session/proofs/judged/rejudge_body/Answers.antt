@@ -1,6 +1,6 @@
 use Rattle.std.proofs.Common.{◌≡◌, sym, ◌∙◌, true, false}
 use Rattle.std.specs.List.{list_any}
-use Rattle.wk_check.specs.Carried.{Agree}
+use Rattle.wk_typing.specs.Carried.{Agree}
 use Rattle.wk_session.specs.Dependents.{held, differs_in}
 use Rattle.wk_session.proofs.Judging.{any_used, none_agree, agree_none, there_agree, count_none, count_one, on_ok}
 use Rattle.wk_session.proofs.judged.rejudge_body.Goals as goal

@@ -1,8 +1,8 @@
 use Rattle.std.proofs.Common.{◌≡◌, List, map, ap, sym, ◌∙◌}
 use Rattle.wk_module.specs.Listed.{listed}
-use Rattle.wk_check.specs.declared.fault.BodyVerdict.{BodyVerdict}
+use Rattle.wk_typing.specs.declared.fault.BodyVerdict.{BodyVerdict}
 use Rattle.wk_check.specs.Flaws.{first_in}
-use Rattle.wk_check.specs.Items.{body_flaw}
+use Rattle.wk_typing.specs.Faults.{body_flaw}
 use Rattle.wk_check.specs.Verdict.{verdict_around, module_verdict}
 use Rattle.wk_session.proofs.Appraising.{verdict_lent, too_large}
 use Rattle.wk_session.proofs.Leading.{is_none_at}

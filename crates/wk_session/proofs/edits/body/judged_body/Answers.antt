@@ -7,8 +7,8 @@ use Rattle.wk_module.specs.Listed.{listed}
 use Rattle.wk_module.specs.NumberedLaws.{funcs_numbered}
 use Rattle.wk_module.specs.Shape.{IsFormed}
 use Rattle.wk_body.specs.declared.references.Ref.{Ref}
-use Rattle.wk_check.specs.Answers.{Found}
-use Rattle.wk_check.specs.Typing.{body_verdict}
+use Rattle.wk_typing.specs.Answers.{Found}
+use Rattle.wk_typing.specs.Typing.{body_verdict}
 use Rattle.wk_check.specs.SpacesLaws.{answers_of}
 use Rattle.wk_check.specs.Verdict.{func_verdict, module_verdict}
 use Rattle.wk_session.specs.Kept.{IsPending}

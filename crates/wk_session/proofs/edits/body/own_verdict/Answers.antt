@@ -1,8 +1,8 @@
 use Rattle.std.proofs.Common.{◌≡◌, ◌∙◌, ap, sym}
 use Rattle.std.proofs.lemmas.Result.{IfOk-weaker}
 use Rattle.wk_body.specs.declared.references.Ref.{Ref}
-use Rattle.wk_check.specs.Answers.{Found}
-use Rattle.wk_check.specs.Typing.{body_verdict}
+use Rattle.wk_typing.specs.Answers.{Found}
+use Rattle.wk_typing.specs.Typing.{body_verdict}
 use Rattle.wk_session.proofs.EntryEdits.{answers_lent, lent, lent_is}
 use Rattle.wk_session.proofs.BodyEdits.{answers_stay}
 use Rattle.wk_session.proofs.edits.body.own_verdict.Goals as goal

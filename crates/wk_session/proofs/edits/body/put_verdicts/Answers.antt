@@ -1,6 +1,6 @@
 use Rattle.std.proofs.Common.{List, map, set, ap, subst, sym, ◌∙◌}
 use Rattle.std.proofs.lemmas.List.{map-set}
-use Rattle.wk_check.specs.declared.fault.BodyVerdict.{BodyVerdict}
+use Rattle.wk_typing.specs.declared.fault.BodyVerdict.{BodyVerdict}
 use Rattle.wk_check.specs.SpacesLaws.{answers_of}
 use Rattle.wk_check.specs.Verdict.{func_verdict}
 use Rattle.wk_session.specs.declared.edits.code_entry.Verdicts.{Verdicts}

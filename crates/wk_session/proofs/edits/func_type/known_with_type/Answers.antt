@@ -4,7 +4,7 @@ use Rattle.wk_module.specs.Sections.{TypeSection}
 use Rattle.wk_module.specs.Writing.{encoded}
 use Rattle.wk_module.specs.WritingLaws.{room}
 use Rattle.wk_check.specs.SpacesLaws.{type_grows}
-use Rattle.wk_check.specs.declared.fault.Verdict.{Verdict}
+use Rattle.wk_typing.specs.declared.fault.Verdict.{Verdict}
 use Rattle.wk_check.specs.Verdict.{module_verdict}
 use Rattle.wk_session.proofs.Growing.{grown_known}
 use Rattle.wk_session.proofs.Outcomes.{limited-some}

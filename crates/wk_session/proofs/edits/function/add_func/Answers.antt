@@ -2,7 +2,7 @@ use Rattle.std.proofs.Common.{◌<◌, ◌^◌, List, [], ◌∷◌, ◌++◌, a
 use Rattle.wk_module.specs.Changes.{with_func}
 use Rattle.wk_check.specs.SpacesLaws.{answers_of}
 use Rattle.wk_session.specs.declared.cache.Cache.{Cache}
-use Rattle.wk_check.specs.declared.fault.BodyVerdict.{BodyVerdict}
+use Rattle.wk_typing.specs.declared.fault.BodyVerdict.{BodyVerdict}
 use Rattle.wk_session.specs.Functions.{AreVerdicts, IsPlanned}
 use Rattle.wk_session.specs.Dependents.{is_retyped_in}
 use Rattle.wk_session.proofs.EntryEdits.{few_typed, func_kept, func_leads, one_more}

@@ -7,10 +7,10 @@ use Rattle.wk_module.specs.Sections.{TypeSection}
 use Rattle.wk_module.specs.Shape.{IsFormed}
 use Rattle.wk_module.specs.Writing.{Fits, encoded}
 use Rattle.wk_module.specs.WritingLaws.{room}
-use Rattle.wk_check.specs.declared.fault.Verdict.{Verdict}
-use Rattle.wk_check.specs.Answers.{Found}
+use Rattle.wk_typing.specs.declared.fault.Verdict.{Verdict}
+use Rattle.wk_typing.specs.Answers.{Found}
 use Rattle.wk_check.specs.SpacesLaws.{answers_of, func_grows}
-use Rattle.wk_check.specs.Typing.{body_verdict}
+use Rattle.wk_typing.specs.Typing.{body_verdict}
 use Rattle.wk_check.specs.Verdict.{module_verdict}
 use Rattle.wk_session.proofs.EntryEdits.{answers_lent, func_formed_from, lent_is, types_with}
 use Rattle.wk_session.proofs.Growing.{none_retyped}

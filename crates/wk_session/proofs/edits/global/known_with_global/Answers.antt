@@ -2,7 +2,7 @@ use Rattle.std.proofs.Common.{◌≡◌, refl, sym, ◌∙◌}
 use Rattle.wk_module.specs.Changes.{with_global}
 use Rattle.wk_module.specs.Listed.{listed}
 use Rattle.wk_check.specs.SpacesLaws.{global_grows}
-use Rattle.wk_check.specs.declared.fault.Verdict.{Verdict}
+use Rattle.wk_typing.specs.declared.fault.Verdict.{Verdict}
 use Rattle.wk_check.specs.Verdict.{module_verdict}
 use Rattle.wk_session.proofs.Growing.{grown_known}
 use Rattle.wk_session.proofs.EntryEdits.{lent, lent_is, numbered_lent}

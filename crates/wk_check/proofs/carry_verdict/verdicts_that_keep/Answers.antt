@@ -1,6 +1,0 @@
-use Rattle.wk_check.proofs.Frames.{frame, renumbered}
-use Rattle.wk_check.proofs.ValidFinds.{valid_finds}
-use Rattle.wk_check.proofs.carry_verdict.verdicts_that_keep.Goals as goal
-
-pub returns : goal.returns
-returns c = record { frame = frame; moved = renumbered; there = valid_finds }

@@ -1,5 +1,0 @@
-use Rattle.wk_check.proofs.LocalEnds.{AreEnding}
-use Rattle.wk_check.proofs.locals.put_ends.Given as goal
-
-abbrev pub invariant-loop-group : goal.invariant-loop-group
-invariant-loop-group l = AreEnding l.groups l.group-index l.total l.ends.items

@@ -1,5 +1,0 @@
-use Rattle.wk_check.proofs.DerivedParts.{part_by_part}
-use Rattle.wk_check.proofs.meter.declarative_rules.Goals as goal
-
-pub returns : goal.returns
-returns c = part_by_part

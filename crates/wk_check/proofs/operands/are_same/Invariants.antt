@@ -1,6 +1,0 @@
-use Rattle.std.proofs.Common.{◌≡◌, drop}
-use Rattle.wk_check.specs.Effects.{same_types}
-use Rattle.wk_check.proofs.operands.are_same.Given as goal
-
-abbrev pub invariant-loop-i : goal.invariant-loop-i
-invariant-loop-i l = same_types l.a l.b ≡ same_types (drop l.i l.a) (drop l.i l.b)

@@ -1,5 +1,0 @@
-use Rattle.wk_check.proofs.Alignment.{over}
-use Rattle.wk_check.proofs.step.is_over.Goals as goal
-
-pub returns : goal.returns
-returns c = over c.natural_align.result c.args.align _ c.natural_align.ensures

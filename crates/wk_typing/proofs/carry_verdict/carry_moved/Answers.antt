@@ -1,0 +1,9 @@
+use Rattle.std.proofs.Common.{◌∙◌, sym}
+use Rattle.wk_typing.proofs.Frames.{renumbered}
+use Rattle.wk_typing.proofs.carry_verdict.carry_moved.Goals as goal
+
+-- src/carry_verdict.rt:32:1
+pub returns : goal.returns
+returns g c =
+    c.requires.was ∙ sym (renumbered c.args._kind c.args._from (g.O.Env.answers c.args._old.now)
+    (g.N.Env.answers c.args._new.now) _ _ c.args._body.now c.requires.own_type c.requires.agree)
