@@ -1,6 +1,6 @@
 """The built programs of the repository, for the scripts that test them.
 
-The static library that C programs link is proved with the ten libraries below it, which takes `rt lib` as long as all of them. So each one that
+The static library that C programs link is proved with the libraries below it, which takes `rt lib` as long as all of them. So each one that
 was built is kept in the machine's cache, under a name that tells what it was built from: the same sources and the same kit give the same
 library, and it is taken from there.
 
