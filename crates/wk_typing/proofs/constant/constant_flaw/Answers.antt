@@ -14,8 +14,8 @@ pub returns : goal.returns
 returns g c =
     let flaw : Option Flaw = constant_flaw (g.E.Env.answers c.args.env.now) c.args.ty c.args.expr.now in
     let typed : flaw_of c.in_ok-type_code.field-0 ≡ flaw = constant_typed (g.E.Env.answers c.args.env.now) c.args.ty c.args.expr.now
-        c.tokens.result.1.now c.tokens.result.0.now c.none.result c.one.result.now c.in_ok-type_code.field-0 c.tokens.ensures.tokens
-        c.in_default.ensures c.none.ensures c.one.ensures c.in_ok-type_code.ensures in
+    c.tokens.result.1.now c.tokens.result.0.now c.none.result c.one.result.now c.in_ok-type_code.field-0 c.tokens.ensures.tokens
+    c.in_default.ensures c.none.ensures c.one.ensures c.in_ok-type_code.ensures in
     elim c.match-branch-2.branch [
       | in-None w ↦ subst (λ x. IfOk x (λ r. r ≡ flaw)) (sym w.result-is) (ap flaw_of (sym w.in-None.is) ∙ typed)
       | in-Some-2 w ↦ subst (λ x. IfOk x (λ r. r ≡ flaw)) (sym w.result-is) (ap flaw_of (sym w.in-Some-2.is) ∙ typed)
