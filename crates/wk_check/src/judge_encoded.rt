@@ -11,21 +11,19 @@ ghost use Rattle.wk_module.specs.Reading.{module_at};
 ghost use Rattle.wk_module.specs.Sections.{SectionLists, no_lists};
 ghost use Rattle.wk_typing.specs.declared.fault.Fault.{Fault as FaultOf};
 ghost use Rattle.wk_typing.specs.declared.fault.Verdict.{Verdict};
-ghost use Rattle.wk_check.specs.Items.{earlier};
-ghost use Rattle.wk_check.specs.Spelled.{judged, IsVerdictOf, first_of, fault_read, codes_judged, opened_judged, left_judged};
+ghost use Rattle.wk_check.specs.Spelled.{judged, IsVerdictOf, fault_read, codes_judged, opened_judged, left_judged};
 ghost use Rattle.wk_check.specs.Valid.{IsValidRead};
 ghost use Rattle.wk_check.specs.Verdict.{module_verdict};
 ghost use Rattle.wk_check.specs.Whole.{IsImported};
 
 use crate::judging::{fault_before_code, judge_around, verdict_behind};
-use crate::rule::Rule;
 use crate::whole::{Imported, Whole};
 use std::alloc::Global;
 use wk_bytes::{Cursor, OutOfMemory, RawSection, ReadFault, ReadKind};
 use wk_module::{
-    CodeReader, Func, Lists, Profile, Scratch, SectionReader, reading_of_module, section_id,
+    CodeReader, Lists, Profile, Scratch, SectionReader, reading_of_module, section_id,
 };
-use wk_typing::{Fault, Room, StreamRoom, Verdict, is_valid_body};
+use wk_typing::{Fault, Room, Rooms, StreamRoom, Verdict, type_encoded_body};
 
 // A function whose code is still to be read.
 #[derive(Drop)]
@@ -36,56 +34,45 @@ struct Unread<'a> {
     code: Cursor<'a>,
 }
 
-// The room in which a module is read and judged: made once, and used again from one section and one body to the next.
-#[derive(Drop)]
-struct Rooms {
-    scratch: Scratch,
-    stream: StreamRoom,
-    room: Room,
+/// The rooms in which modules are read and judged: those of one call, or those that are kept from one module to the next.
+#[derive(Debug, Drop)]
+pub(crate) struct Workspace {
+    rooms: Rooms,
+    is_kept: bool,
 }
 
-impl Rooms {
-    // Rooms that are still to grow.
-    fn new(alloc: Global) -> Rooms {
-        Rooms {
-            scratch: Scratch::new(alloc),
-            stream: StreamRoom::new(alloc),
-            room: Room::new(alloc),
+impl Workspace {
+    // That of one call, still to grow.
+    fn of_call(alloc: Global) -> Workspace {
+        Workspace {
+            rooms: Rooms::new(alloc),
+            is_kept: false,
         }
     }
 
-    // Gives back what grew with the codes: the scratch too, where bodies were held in it.
+    /// One that is kept, still to grow.
+    pub(crate) fn kept(alloc: Global) -> Workspace {
+        Workspace {
+            rooms: Rooms::new(alloc),
+            is_kept: true,
+        }
+    }
+
+    // Gives back what grew with the codes, where it isn't kept: the scratch too, where bodies were held in it.
     fn give_back(&mut self, alloc: Global, has_held_bodies: bool) {
-        self.stream = StreamRoom::new(alloc);
-        self.room = Room::new(alloc);
+        if self.is_kept {
+            return;
+        }
+        self.rooms.stream = StreamRoom::new(alloc);
+        self.rooms.room = Room::new(alloc);
         if has_held_bodies {
-            self.scratch = Scratch::new(alloc);
+            self.rooms.scratch = Scratch::new(alloc);
         }
     }
 }
 
-// The first fault of the functions up to this one, where that of those before it is given.
-fn fault_behind(
-    whole: &Whole<'_>,
-    fault: Option<Fault>,
-    index: u32,
-    func: &Func,
-    room: &mut Room,
-) -> Result<Option<Fault>, OutOfMemory>
-    ensures { IfOk result
-        (λ r. r ≡ earlier fault (first_of whole.now index (func.now ∷ []))) }
-{
-    if fault.is_some() {
-        return Ok(fault);
-    }
-    match whole.flaw(index as usize, func, room)? {
-        Some(flaw) => Ok(Some(flaw.at(section_id::CODE, index))),
-        None => Ok(None),
-    }
-}
-
-// The same of a function whose code is still to be read. Where no fault is known it is typed while it is read, and where that finds
-// it valid, this is all. Else it is read as a whole, to tell its fault or that it can't be read.
+// The first fault of the functions up to this one, whose code is still to be read, where that of those before it is given. Behind a fault
+// the code is only read.
 fn fault_up_to(
     alloc: Global,
     whole: &Whole<'_>,
@@ -103,15 +90,15 @@ fn fault_up_to(
         profile,
         code,
     } = func;
-    if fault.is_none() && is_valid_body(whole, *ty, *profile, code, &mut rooms.stream)? {
-        return Ok(None);
+    if fault.is_some() {
+        // (Here and below, what is owned is freed by a call, which is proved apart.)
+        drop(rooms.scratch.read_body(alloc, code, *profile)?);
+        return Ok(fault);
     }
-    let body = rooms.scratch.read_body(alloc, code, *profile)?;
-    let read = Func { ty: *ty, body };
-    let found = fault_behind(whole, fault, *index, &read, &mut rooms.room);
-    // (Here and below, what is owned is freed by a call, which is proved apart.)
-    drop(read);
-    Ok(found?)
+    match type_encoded_body(alloc, whole, *ty, *profile, code, rooms)?.flaw() {
+        Some(flaw) => Ok(Some(flaw.at(section_id::CODE, *index))),
+        None => Ok(None),
+    }
 }
 
 // The first fault of the sections up to a code section that was opened, in a module with these lists, each body judged when it is
@@ -181,7 +168,7 @@ fn fault_of_section(
 // those up to the code section is `fault`.
 fn judge_to_end(
     alloc: Global,
-    rooms: &mut Rooms,
+    workspace: &mut Workspace,
     reader: SectionReader<'_>,
     imported: Imported,
     fault: Option<Fault>,
@@ -189,10 +176,11 @@ fn judge_to_end(
     requires { (l : SectionLists) → rest_read reader ≡ Ok l → IsImported l.imports imported }
     ensures { Reads (λ v. v) result (left_judged reader.entry fault) }
 {
-    rooms.give_back(alloc, fault.is_some());
-    let reader = reader.to_end(alloc, &mut rooms.scratch)?;
+    workspace.give_back(alloc, fault.is_some());
+    let Rooms { scratch, room, .. } = &mut workspace.rooms;
+    let reader = reader.to_end(alloc, scratch)?;
     let whole = Whole::with(reader.lists(), imported);
-    let verdict = verdict_behind(&whole, fault, &mut rooms.room);
+    let verdict = verdict_behind(&whole, fault, room);
     drop(whole);
     drop(reader);
     Ok(verdict?)
@@ -202,7 +190,7 @@ fn judge_to_end(
 // spell one.
 fn judge_from_code(
     alloc: Global,
-    rooms: &mut Rooms,
+    workspace: &mut Workspace,
     bytes: &[u8],
     reader: SectionReader<'_>,
     section: &RawSection<'_>,
@@ -219,8 +207,8 @@ fn judge_from_code(
 {
     let lists = reader.lists();
     reading_of_module(bytes, lists.profile);
-    match fault_of_section(alloc, rooms, &lists, section, is_spelled) {
-        Ok((fault, imported)) => judge_to_end(alloc, rooms, reader, imported, fault),
+    match fault_of_section(alloc, &mut workspace.rooms, &lists, section, is_spelled) {
+        Ok((fault, imported)) => judge_to_end(alloc, workspace, reader, imported, fault),
         Err(fault) => {
             drop(reader);
             Err(fault)
@@ -250,10 +238,10 @@ fn judge_without_code(
     Ok(judge_around(alloc, &lists, None)?)
 }
 
-// Judges the module that these bytes spell. Where it is known that they spell one, no body behind the first fault is read.
-fn judge_sections(
+/// Judges the module that these bytes spell. Where it is known that they spell one, no body behind the first fault is read.
+pub(crate) fn judge_sections(
     alloc: Global,
-    rooms: &mut Rooms,
+    workspace: &mut Workspace,
     bytes: &[u8],
     profile: Profile,
     is_spelled: bool,
@@ -263,9 +251,9 @@ fn judge_sections(
 {
     reading_of_module(bytes, profile);
     let reader = SectionReader::new(alloc, bytes, profile);
-    let (reader, section) = reader.up_to_code(alloc, &mut rooms.scratch)?;
+    let (reader, section) = reader.up_to_code(alloc, &mut workspace.rooms.scratch)?;
     match section {
-        Some(section) => judge_from_code(alloc, rooms, bytes, reader, &section, is_spelled),
+        Some(section) => judge_from_code(alloc, workspace, bytes, reader, &section, is_spelled),
         None => {
             let verdict = judge_without_code(alloc, bytes, &reader);
             drop(reader);
@@ -274,7 +262,7 @@ fn judge_sections(
     }
 }
 
-// The same in a room of its own.
+// The same in a workspace of its own.
 fn judge_spelling(
     alloc: Global,
     bytes: &[u8],
@@ -284,7 +272,13 @@ fn judge_spelling(
     requires { is_spelled ≡ true → (m : PartsOf) × (module_at profile bytes.now ≡ Ok m) }
     ensures { Reads (λ v. v) result (judged (module_at profile bytes.now)) }
 {
-    judge_sections(alloc, &mut Rooms::new(alloc), bytes, profile, is_spelled)
+    judge_sections(
+        alloc,
+        &mut Workspace::of_call(alloc),
+        bytes,
+        profile,
+        is_spelled,
+    )
 }
 
 /// Judges the module of a profile that bytes spell (5.5.15, 3.4.10): valid, or the first fault by section, item, and what is

@@ -13,7 +13,8 @@
 //! - [`judge_bytes`] is `module_verdict` of the module that bytes spell in a profile, or the fault of reading it (`judged` of
 //!   `specs/Spelled`), or `Memory` at 0. Its clauses `meaning` and `valid` tell the verdict in words, and `is` says what that module
 //!   and that fault are. So it answers what [`judge`] does of what `read_in` gives; that it keeps no body is no clause.
-//!   [`judge_spelled`] is `module_verdict` of the module that bytes are known to spell, with the same clauses.
+//!   [`judge_spelled`] is `module_verdict` of the module that bytes are known to spell, with the same clauses. A [`Validator`] answers what
+//!   [`judge_bytes`] does, with its clauses, of one module after the other, and keeps room from one to the next.
 //! - [`first_code_fault`] is the first flaw of the code section, by the verdicts of its bodies.
 //! - [`verdict_with_type`], [`verdict_with_func`], [`verdict_with_body`], [`verdict_with_global`], [`verdict_with_export`] and
 //!   [`verdict_with_import`] are `module_verdict` of a valid module with that one item more, or with that other body, for every module
@@ -37,6 +38,7 @@ mod judge_encoded;
 mod judging;
 mod rule;
 mod rules;
+mod validator;
 mod whole;
 
 pub use code_faults::first_code_fault;
@@ -46,8 +48,9 @@ pub use incremental::{
 };
 pub use judge_encoded::{judge_bytes, judge_spelled};
 pub use judging::{judge, judge_around};
+pub use validator::Validator;
 pub use whole::Whole;
 pub use wk_typing::{
-    Answer, BodyVerdict, Env, Fault, FaultKind, Meter, Place, Verdict, carry, carry_moved,
+    Answer, BodyVerdict, Env, Fault, FaultKind, Flaw, Meter, Place, Verdict, carry, carry_moved,
     declarative_rules, judge_body, verdicts_that_keep,
 };

@@ -9,8 +9,9 @@ use crate::scenario::and_drop;
 use std::alloc::Global;
 use wk_bytes::OutOfMemory;
 use wk_check::{
-    BodyVerdict, Meter, Verdict, Whole, first_code_fault, judge, judge_around, judge_body,
-    judge_bytes, verdict_with_export, verdict_with_global, verdict_with_import, verdict_with_type,
+    BodyVerdict, Meter, Validator, Verdict, Whole, first_code_fault, judge, judge_around,
+    judge_body, judge_bytes, verdict_with_export, verdict_with_global, verdict_with_import,
+    verdict_with_type,
 };
 use wk_module::{Func, Lists, Module};
 use wk_samples::outcome::Outcome;
@@ -49,6 +50,49 @@ pub(crate) fn judges_bytes(alloc: Global, sample: Sample) -> Outcome {
     match answer {
         Ok(verdict) => Outcome::answered(verdict == Verdict::Valid),
         Err(fault) => Outcome::refused(fault == NO_MEMORY),
+    }
+}
+
+/// `Validator::judge_bytes` of a valid module.
+#[derive(Clone, Copy)]
+pub(crate) enum Validate {
+    /// By one that has judged nothing.
+    New,
+    /// By one that has judged an invalid module and a malformed one.
+    Used,
+}
+
+// A function without results, of `i32.const 0`, `block` and two `end`s: it leaves an operand.
+const INVALID: &[u8] =
+    b"\0asm\x01\0\0\0\x01\x04\x01\x60\0\0\x03\x02\x01\0\x0a\x09\x01\x07\0\x41\0\x02\x40\x0b\x0b";
+
+// The same, whose code ends in a block.
+const CUT: &[u8] =
+    b"\0asm\x01\0\0\0\x01\x04\x01\x60\0\0\x03\x02\x01\0\x0a\x08\x01\x06\0\x41\0\x02\x40\x0b";
+
+impl Validate {
+    /// Makes the call, and another one behind it, which is to answer whatever this one did.
+    pub(crate) fn run(self, alloc: Global, sample: Sample) -> Outcome {
+        let mut validator = Validator::new(alloc);
+        match self {
+            Validate::New => {}
+            Validate::Used => {
+                let invalid = validator.judge_bytes(alloc, INVALID, sample.profile);
+                let cut = validator.judge_bytes(alloc, CUT, sample.profile);
+                if !matches!(invalid, Ok(Verdict::Invalid(_))) || cut.is_ok() {
+                    return Outcome::NO_SAMPLE;
+                }
+            }
+        }
+        call_begins(alloc);
+        let answer = validator.judge_bytes(alloc, sample.bytes, sample.profile);
+        call_ends(alloc);
+        let next = validator.judge_bytes(alloc, sample.bytes, sample.profile);
+        let serves_on = next == Ok(Verdict::Valid);
+        match answer {
+            Ok(verdict) => Outcome::answered(serves_on && verdict == Verdict::Valid),
+            Err(fault) => Outcome::refused(serves_on && fault == NO_MEMORY),
+        }
     }
 }
 

@@ -7,7 +7,7 @@ use crate::drafts::Draft;
 use crate::edits::{TooLarge, Trial};
 use crate::exprs::{OfExpr, ReadExpr};
 use crate::jobs::Job;
-use crate::judging::OfValid;
+use crate::judging::{OfValid, Validate};
 use crate::lines::Line;
 use crate::modules::Sample;
 use crate::runs::Edits;
@@ -68,6 +68,8 @@ pub(crate) enum Scenario {
     Judge(Sample),
     /// `judge_bytes` of a valid module.
     JudgeBytes(Sample),
+    /// `Validator::judge_bytes` of a valid module.
+    Validate(Validate, Sample),
     /// A call that is lent a valid module in which all that can move does.
     OfValid(OfValid, Sample),
     /// `Plain::of`.
@@ -176,6 +178,7 @@ impl Scenario {
             Scenario::Walk(walk, sample) => walk.run(alloc, sample),
             Scenario::Judge(sample) => judging::judges(alloc, sample),
             Scenario::JudgeBytes(sample) => judging::judges_bytes(alloc, sample),
+            Scenario::Validate(call, sample) => call.run(alloc, sample),
             Scenario::OfValid(call, sample) => call.run(alloc, sample),
             Scenario::Plain(sample) => listings::sees_plain(alloc, sample),
             Scenario::Layout(sample) => listings::lays_out(alloc, sample),

@@ -11,8 +11,8 @@
 //!   law that a list has a type exactly where each of two parts has one, so that they are the standard's, which go from the last one
 //!   back.
 //! - [`type_body`] is the same verdict without the count, [`constant_flaw`] what is wrong with a constant expression (`specs/Constants`).
-//!   [`is_valid_body`] types a body of bytes while it reads them, and keeps nothing: where it says yes, the bytes encode a body that is
-//!   valid (`IsValidBody` of `specs/Streaming`); where it says no, another call is to tell why.
+//!   [`type_encoded_body`] is the verdict of the body that bytes encode, or the first fault of reading it (`encoded_verdict` of
+//!   `specs/Faults`): it types a body while it reads it, and one that is valid is not kept.
 //! - [`carry`] and [`carry_moved`] take no memory and give the verdict that they were given: that of the same body, or of the body
 //!   moved, where its own type and what its references find is the same (`Agree`, `AgreeMoved` of `specs/Carried`).
 //!   [`verdicts_that_keep`] has these laws for all bodies at once, and that all that a valid body refers to is there.
@@ -29,6 +29,7 @@ mod carry_verdict;
 mod constant;
 mod control;
 mod display;
+mod encoded_body;
 mod env;
 mod fast_blocks;
 mod fast_extended;
@@ -46,8 +47,9 @@ mod typing;
 
 pub use carry_verdict::{carry, carry_moved, verdicts_that_keep};
 pub use constant::constant_flaw;
+pub use encoded_body::{Rooms, type_encoded_body};
 pub use env::{Answer, Env};
 pub use fault::{BodyVerdict, Fault, FaultKind, Flaw, Place, Verdict};
 pub use meter::{Meter, declarative_rules, judge_body};
-pub use streaming::{StreamRoom, is_valid_body};
+pub use streaming::StreamRoom;
 pub use typing::{Room, type_body};

@@ -27,8 +27,8 @@ struct Stream {
     stacks: Stacks,
 }
 
-/// The room in which bodies are typed while they are read. It is used again from one body to the next, and its value is the unit, since
-/// no answer depends on what it holds.
+/// The room in which bodies are typed while they are read. It is used again from one body to the next, and its value is the unit: each
+/// call clears it, and no clause can speak of what it holds.
 #[derive(Debug, Drop)]
 pub struct StreamRoom {
     stream: Stream,
@@ -228,9 +228,9 @@ fn type_expr<E: Env>(
 }
 
 /// Whether all of the bytes are a code of the profile (its groups of locals and its body) that is valid under the function type of an
-/// index (3.4.1). Where it says no, [`type_body`](crate::type_body) of what is read tells why, and proves it. Want of memory is the only
-/// refusal.
-pub fn is_valid_body<E: Env>(
+/// index (3.4.1). It says no where the bytes are no code of the profile, and no clause says that it does so nowhere else: then the body is
+/// read whole, and that decides. Want of memory is the only refusal.
+pub(crate) fn is_valid_body<E: Env>(
     env: &E,
     own_type: u32,
     profile: Profile,

@@ -15,7 +15,7 @@ use wk_module::{
     FuncType, GlobalType, Limits, Lists, Parts, Profile, Ref, ValType, read_body_in, read_expr_in,
     read_in,
 };
-use wk_typing::{Fault, Flaw, Place, Room, StreamRoom, constant_flaw, is_valid_body, type_body};
+use wk_typing::{Fault, Flaw, Place, Room, Rooms, constant_flaw, type_body, type_encoded_body};
 
 // The types [] -> [], [i32] -> [i32] and [] -> [i32, i32].
 const TYPES: &[u8] = b"\0asm\x01\0\0\0\x01\x0e\x03\x60\0\0\x60\x01\x7f\x01\x7f\x60\0\x02\x7f\x7f";
@@ -94,19 +94,19 @@ fn judged<E: Env>(
     Ok(judge_body(env, own_type, &body, meter)?)
 }
 
-// The verdict of the same body by the call that counts nothing, and whether it is valid by the one that keeps nothing of it.
+// The verdict of the same body by the call that counts nothing, and by the one that reads it too.
 fn typed<E: Env>(
     alloc: Global,
     env: &E,
     own_type: u32,
     code: &[u8],
-    rooms: &mut (Room, StreamRoom),
-) -> Result<(BodyVerdict, bool), Fail> {
+    rooms: &mut Rooms,
+) -> Result<(BodyVerdict, BodyVerdict), Fail> {
     let body = read_body_in(alloc, code, Profile::Extended)?;
-    let verdict = type_body(env, own_type, &body, &mut rooms.0)?;
+    let verdict = type_body(env, own_type, &body, &mut rooms.room)?;
     let cursor = Cursor::new(code);
-    let valid = is_valid_body(env, own_type, Profile::Extended, &cursor, &mut rooms.1)?;
-    Ok((verdict, valid))
+    let encoded = type_encoded_body(alloc, env, own_type, Profile::Extended, &cursor, rooms)?;
+    Ok((verdict, encoded))
 }
 
 // Judges bodies, each under the type of an index, with one meter and in one room: valid, or a fault and its token.
@@ -117,7 +117,7 @@ fn looks<E: Env>(
     rows: &[(u32, &[u8], Option<(FaultKind, u32)>)],
 ) -> Result<(), Fail> {
     let mut meter = Meter::new(alloc);
-    let mut rooms = (Room::new(alloc), StreamRoom::new(alloc));
+    let mut rooms = Rooms::new(alloc);
     let mut count = 0;
     for &(own_type, code, fault) in rows {
         assert_eq!(rt; meter.typed(), count);
@@ -130,7 +130,7 @@ fn looks<E: Env>(
         };
         assert_eq!(rt; verdict, wanted, "{code:?}");
         let again = typed(alloc, env, own_type, code, &mut rooms)?;
-        assert_eq!(rt; again, (wanted, fault.is_none()), "{code:?}");
+        assert_eq!(rt; again, (wanted, wanted), "{code:?}");
     }
     assert_eq!(rt; meter.typed(), count);
     Ok(())

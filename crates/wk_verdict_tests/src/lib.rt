@@ -1,4 +1,4 @@
-//! Tests of verdicts: modules and bodies judged through the calls of `wk_check`.
+//! Tests of verdicts: bodies typed through the calls of `wk_typing`, and modules and bodies judged through those of `wk_check`.
 #![tactic(auto)]
 
 #[cfg(test)]
@@ -27,3 +27,5 @@ mod sections;
 mod spelled;
 #[cfg(test)]
 mod streaming;
+#[cfg(test)]
+mod validators;

@@ -1,6 +1,6 @@
 //! Calls of `wk_module`, `wk_check`, `wk_list` and `wk_strip`.
 
-use crate::judging::OfValid;
+use crate::judging::{OfValid, Validate};
 use crate::modules::{OF_ALL, OF_MANY, OF_MOVING, OF_TWO, OF_TYPES, OF_VALID, OF_WIDE};
 use crate::scenario::{Named, Scenario};
 use crate::sections::{OfWhole, Walk};
@@ -10,7 +10,7 @@ use wk_list::Part;
 use wk_module::Profile::{Core, Extended};
 
 /// Calls of `wk_module`, `wk_check`, `wk_list` and `wk_strip`.
-pub(crate) static MODULES: [Named; 75] = [
+pub(crate) static MODULES: [Named; 79] = [
     ("read-types", Scenario::Read(OF_TYPES)),
     ("read-whole", Scenario::Read(OF_ALL)),
     ("read-valid", Scenario::Read(OF_VALID)),
@@ -58,6 +58,16 @@ pub(crate) static MODULES: [Named; 75] = [
     ("judge-types-in-room", Scenario::Judge(OF_TYPES)),
     ("judge-bytes", Scenario::JudgeBytes(OF_VALID)),
     ("judge-bytes-wide", Scenario::JudgeBytes(OF_WIDE)),
+    ("validator", Scenario::Validate(Validate::New, OF_VALID)),
+    ("validator-wide", Scenario::Validate(Validate::New, OF_WIDE)),
+    (
+        "validator-used",
+        Scenario::Validate(Validate::Used, OF_VALID),
+    ),
+    (
+        "validator-used-wide",
+        Scenario::Validate(Validate::Used, OF_WIDE),
+    ),
     (
         "judge-around",
         Scenario::OfValid(OfValid::Around, OF_MOVING),
