@@ -16,10 +16,10 @@ use wk_module::{Profile, reading_of_module};
 use wk_typing::Verdict;
 
 /// Judges modules, one after the other, for a host that is given many: what it takes to read and type code is kept from one module to the
-/// next. Its value is the unit, so no answer depends on the modules before.
+/// next. Its value is the unit, so no verdict and no fault depends on the modules before.
 ///
-/// It keeps room alone, as much as the module asked for that asked for most of it; [`shrink`](Validator::shrink) gives it back. What else
-/// a module asks for, as its lists, goes with the call.
+/// It keeps room alone (no clause says so), of each part as much as the module asked for that asked for most of it, and
+/// [`shrink`](Validator::shrink) gives it back. What else a module asks for, as its lists, goes with the call.
 ///
 /// # Example
 ///

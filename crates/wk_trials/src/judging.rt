@@ -7,14 +7,15 @@ use crate::mark::{call_begins, call_ends};
 use crate::modules::Sample;
 use crate::scenario::and_drop;
 use std::alloc::Global;
-use wk_bytes::OutOfMemory;
+use wk_bytes::{OutOfMemory, RawSection, ReadFault};
 use wk_check::{
     BodyVerdict, Meter, Validator, Verdict, Whole, first_code_fault, judge, judge_around,
     judge_body, judge_bytes, verdict_with_export, verdict_with_global, verdict_with_import,
     verdict_with_type,
 };
-use wk_module::{Func, Lists, Module};
+use wk_module::{CodeReader, Func, Lists, Module, SectionReader};
 use wk_samples::outcome::Outcome;
+use wk_typing::{Rooms, type_encoded_body};
 
 // The types of the functions that the modules define which have everything that moves.
 const TYPES: &[u32] = &[1, 0];
@@ -60,6 +61,10 @@ pub(crate) enum Validate {
     New,
     /// By one that has judged an invalid module and a malformed one.
     Used,
+    /// By one that has judged this module.
+    Again,
+    /// By one that has judged this module, and gave its room back.
+    Shrunk,
 }
 
 // A function without results, of `i32.const 0`, `block` and two `end`s: it leaves an operand.
@@ -71,18 +76,30 @@ const CUT: &[u8] =
     b"\0asm\x01\0\0\0\x01\x04\x01\x60\0\0\x03\x02\x01\0\x0a\x08\x01\x06\0\x41\0\x02\x40\x0b";
 
 impl Validate {
-    /// Makes the call, and another one behind it, which is to answer whatever this one did.
-    pub(crate) fn run(self, alloc: Global, sample: Sample) -> Outcome {
-        let mut validator = Validator::new(alloc);
+    // Judges what comes before. Says whether that was judged as it should be.
+    fn is_prepared(self, alloc: Global, sample: Sample, validator: &mut Validator) -> bool {
         match self {
-            Validate::New => {}
+            Validate::New => true,
             Validate::Used => {
                 let invalid = validator.judge_bytes(alloc, INVALID, sample.profile);
                 let cut = validator.judge_bytes(alloc, CUT, sample.profile);
-                if !matches!(invalid, Ok(Verdict::Invalid(_))) || cut.is_ok() {
-                    return Outcome::NO_SAMPLE;
-                }
+                matches!(invalid, Ok(Verdict::Invalid(_))) && cut.is_err()
             }
+            Validate::Again | Validate::Shrunk => {
+                let answer = validator.judge_bytes(alloc, sample.bytes, sample.profile);
+                if let Validate::Shrunk = self {
+                    validator.shrink(alloc);
+                }
+                answer == Ok(Verdict::Valid)
+            }
+        }
+    }
+
+    /// Makes the call, and another one behind it, which is to answer whatever this one did.
+    pub(crate) fn run(self, alloc: Global, sample: Sample) -> Outcome {
+        let mut validator = Validator::new(alloc);
+        if !self.is_prepared(alloc, sample, &mut validator) {
+            return Outcome::NO_SAMPLE;
         }
         call_begins(alloc);
         let answer = validator.judge_bytes(alloc, sample.bytes, sample.profile);
@@ -93,6 +110,56 @@ impl Validate {
             Ok(verdict) => Outcome::answered(serves_on && verdict == Verdict::Valid),
             Err(fault) => Outcome::refused(serves_on && fault == NO_MEMORY),
         }
+    }
+}
+
+// Whether each code of a section is valid, by rooms that are lent.
+fn are_valid(
+    alloc: Global,
+    whole: &Whole<'_>,
+    lists: &Lists<'_>,
+    section: &RawSection<'_>,
+    rooms: &mut Rooms,
+) -> Result<bool, ReadFault> {
+    let mut codes = CodeReader::open(section, lists.funcs.len())?;
+    let mut are_valid = true;
+    for ty in lists.funcs {
+        let code = codes.next_code()?;
+        let verdict = type_encoded_body(alloc, whole, *ty, lists.profile, &code, rooms)?;
+        are_valid = are_valid && verdict == BodyVerdict::Valid;
+    }
+    Ok(are_valid)
+}
+
+/// `type_encoded_body` of each code of a valid module, in rooms that have typed them before.
+pub(crate) fn types_codes(alloc: Global, sample: Sample) -> Outcome {
+    let mut rooms = Rooms::new(alloc);
+    let reader = SectionReader::new(alloc, sample.bytes, sample.profile);
+    match reader.up_to_code(alloc, &mut rooms.scratch) {
+        Ok((reader, section)) => match section {
+            Some(section) => types_each(alloc, &reader.lists(), &section, &mut rooms),
+            None => Outcome::NO_SAMPLE,
+        },
+        Err(_) => Outcome::NO_SAMPLE,
+    }
+}
+
+fn types_each(
+    alloc: Global,
+    lists: &Lists<'_>,
+    section: &RawSection<'_>,
+    rooms: &mut Rooms,
+) -> Outcome {
+    let Ok(whole) = Whole::of(alloc, *lists) else {
+        return Outcome::NO_SAMPLE;
+    };
+    let before = are_valid(alloc, &whole, lists, section, rooms);
+    call_begins(alloc);
+    let answer = are_valid(alloc, &whole, lists, section, rooms);
+    call_ends(alloc);
+    match answer {
+        Ok(are_valid) => Outcome::answered(are_valid && before == Ok(true)),
+        Err(fault) => Outcome::refused(fault == NO_MEMORY),
     }
 }
 

@@ -70,6 +70,8 @@ pub(crate) enum Scenario {
     JudgeBytes(Sample),
     /// `Validator::judge_bytes` of a valid module.
     Validate(Validate, Sample),
+    /// `type_encoded_body` of each code of a valid module, again.
+    TypeCodes(Sample),
     /// A call that is lent a valid module in which all that can move does.
     OfValid(OfValid, Sample),
     /// `Plain::of`.
@@ -179,6 +181,7 @@ impl Scenario {
             Scenario::Judge(sample) => judging::judges(alloc, sample),
             Scenario::JudgeBytes(sample) => judging::judges_bytes(alloc, sample),
             Scenario::Validate(call, sample) => call.run(alloc, sample),
+            Scenario::TypeCodes(sample) => judging::types_codes(alloc, sample),
             Scenario::OfValid(call, sample) => call.run(alloc, sample),
             Scenario::Plain(sample) => listings::sees_plain(alloc, sample),
             Scenario::Layout(sample) => listings::lays_out(alloc, sample),

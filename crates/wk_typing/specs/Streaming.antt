@@ -89,7 +89,7 @@ abbrev pub IsAlone : ℕ → Type 0
 IsAlone opcode = is_among (0x00 ∷ 0x01 ∷ 0x0F ∷ 0x1A ∷ 0x1B ∷ []) opcode ≡ true
 
 abbrev pub HasIndex : ℕ → Type 0
-HasIndex opcode = is_among (0x0C ∷ 0x0D ∷ 0x10 ∷ 0x20 ∷ 0x21 ∷ 0x22 ∷ 0x23 ∷ 0x24 ∷ []) opcode ≡ true
+HasIndex opcode = is_among (0x0C ∷ 0x0D ∷ 0x20 ∷ 0x21 ∷ 0x22 ∷ 0x23 ∷ 0x24 ∷ []) opcode ≡ true
 
 abbrev pub HasReserved : ℕ → Type 0
 HasReserved opcode = is_among (0x3F ∷ 0x40 ∷ []) opcode ≡ true

@@ -1,7 +1,8 @@
 //! Typing a body that is still to be read.
 
-ghost use Rattle.std.specs.Prelude.{◌≡◌, IfErr, IfOk};
+ghost use Rattle.std.specs.Prelude.{◌≡◌, [], IfErr};
 ghost use Rattle.wk_bytes.specs.Stands.{StandsOrMemory};
+ghost use Rattle.wk_body.specs.Building.{kinds_of, size_of, toks_of};
 ghost use Rattle.wk_body.specs.Reads.{Reads};
 ghost use Rattle.wk_typing.specs.Faults.{encoded_verdict};
 
@@ -14,7 +15,7 @@ use wk_bytes::{Cursor, ReadFault};
 use wk_module::{Profile, Scratch};
 
 /// The rooms in which code is read and typed. They are used again from one body, expression or module to the next: what they hold is
-/// forgotten by each call, and no answer depends on it.
+/// forgotten by each call, and no verdict and no fault of reading depends on it.
 #[derive(Debug, Drop)]
 pub struct Rooms {
     /// The room in which bodies and expressions are read.
@@ -28,8 +29,9 @@ pub struct Rooms {
 impl Rooms {
     /// Rooms that are still to grow: they take no memory yet.
     pub fn new(alloc: Global) -> Rooms
-        ensures stream { result.stream ≡ tt }
-        ensures room { result.room ≡ tt }
+        ensures toks { toks_of result.scratch ≡ [] }
+        ensures kinds { kinds_of result.scratch ≡ [] }
+        ensures size { size_of result.scratch ≡ 0 }
     {
         Rooms {
             scratch: Scratch::new(alloc),
@@ -61,8 +63,8 @@ fn type_read_body<E: Env>(
 /// Types the body that all of the bytes encode, a code without its size (5.5.13), under the function type of an index (3.4.1): valid, or
 /// the first fault and its token.
 ///
-/// A valid body is typed while it is read, and nothing of it is kept. Where that finds a fault, or no body, the bytes are read whole, to tell
-/// which.
+/// A valid body is typed while it is read, and nothing of it is kept (no clause says so). Where that finds a fault, or no body, the bytes
+/// are read whole, to tell which.
 ///
 /// # Errors
 ///

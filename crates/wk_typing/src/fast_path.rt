@@ -52,12 +52,29 @@ fn from_registers(told: Result<Growth, FaultKind>) -> Result<(), Stop>
     }
 }
 
-// A `call`, out of line, whose answer goes in registers.
+// What a `call` came to. (It goes in one register, so that the loop asks once. The kind of a fault isn't told: whoever asks for it
+// reads the whole body.)
+#[derive(Clone, Copy, Debug, PartialEq, Eq)]
+enum Called {
+    // It was typed.
+    Typed,
+    // It has a fault.
+    Wrong,
+    // Memory was refused.
+    Memory,
+}
+
+// A `call`, out of line.
 #[inline(never)]
-fn call_typed<E: Env>(env: &E, s: &mut Stacks, x: u32) -> Result<Growth, FaultKind>
-    ensures { MadeBy (acting (call_effect (E.answers env.now (Ref.Func x))) s.old) result s.new }
+fn call_typed<E: Env>(env: &E, s: &mut Stacks, x: u32) -> Called
+    ensures { result ≡ Called.Typed
+        → acting (call_effect (E.answers env.now (Ref.Func x))) s.old ≡ Ok s.new }
 {
-    to_registers(call_in_line(env, s, x))
+    match call_in_line(env, s, x) {
+        Ok(()) => Called::Typed,
+        Err(Stop::Fault(_)) => Called::Wrong,
+        Err(Stop::Memory) => Called::Memory,
+    }
 }
 
 // A `call_indirect`, out of line, whose answer goes in registers.
@@ -154,7 +171,6 @@ fn type_indexed<E: Env>(
     match opcode {
         0x0C => br(env, s, x),
         0x0D => br_if(env, s, x),
-        0x10 => from_registers(call_typed(env, s, x)),
         0x20 => get_local(&f.locals, s, x),
         0x21 => set_local(&f.locals, s, x),
         0x22 => tee_local(&f.locals, s, x),
@@ -182,6 +198,28 @@ fn fast_index<E: Env>(
     };
     type_indexed(env, f, opcode, s, x)?;
     Ok(true)
+}
+
+// The one with an index that is a `call`.
+#[tactic(auto, unfolding(wk_body::specs::Reading::plain_at, wk_body::specs::Reading::behind_form, wk_body::specs::Instructions::form_of))]
+#[inline(always)]
+fn fast_call<E: Env>(
+    env: &E,
+    f: &Function<'_>,
+    s: &mut Stacks,
+    cursor: &mut Cursor<'_>,
+) -> Result<bool, Stop>
+    ensures { IfOk result
+        (TakesBehind (E.answers env.now) f.now 0x10 cursor.old cursor.new s.old s.new) }
+{
+    let Ok(x) = cursor.u32() else {
+        return Ok(false);
+    };
+    match call_typed(env, s, x) {
+        Called::Typed => Ok(true),
+        Called::Wrong => Err(Stop::Fault(FaultKind::UnknownFunc)),
+        Called::Memory => Err(Stop::Memory),
+    }
 }
 
 // The one with an index and a byte 00: a `call_indirect`.
@@ -381,7 +419,7 @@ fn type_operator<E: Env>(
         0x0C => fast_index(env, f, 0x0C, s, cursor), // br
         0x0D => fast_index(env, f, 0x0D, s, cursor), // br_if
         0x0F => fast_alone(env, f, 0x0F, s, cursor), // return
-        0x10 => fast_index(env, f, 0x10, s, cursor), // call
+        0x10 => fast_call(env, f, s, cursor), // call
         0x11 => fast_index_reserved(env, f, s, cursor), // call_indirect
         0x1A => fast_alone(env, f, 0x1A, s, cursor), // drop
         0x1B => fast_alone(env, f, 0x1B, s, cursor), // select

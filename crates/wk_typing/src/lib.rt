@@ -12,7 +12,7 @@
 //!   back.
 //! - [`type_body`] is the same verdict without the count, [`constant_flaw`] what is wrong with a constant expression (`specs/Constants`).
 //!   [`type_encoded_body`] is the verdict of the body that bytes encode, or the first fault of reading it (`encoded_verdict` of
-//!   `specs/Faults`): it types a body while it reads it, and one that is valid is not kept.
+//!   `specs/Faults`): it types a body while it reads it, and one that is valid is not kept, which no clause says.
 //! - [`carry`] and [`carry_moved`] take no memory and give the verdict that they were given: that of the same body, or of the body
 //!   moved, where its own type and what its references find is the same (`Agree`, `AgreeMoved` of `specs/Carried`).
 //!   [`verdicts_that_keep`] has these laws for all bodies at once, and that all that a valid body refers to is there.

@@ -21,7 +21,7 @@ use wk_bytes::OutOfMemory;
 use wk_module::{BlockType, Body, Expr, Token, ValType};
 
 /// The room in which code is typed: an operand stack, the control frames, and the locals of a body. It is used again from one body to
-/// the next, and its value is the unit, since no answer depends on what it holds.
+/// the next, and its value is the unit, since no verdict depends on what it holds.
 #[derive(Debug, Drop)]
 pub struct Room {
     pub(crate) stacks: Stacks,

@@ -10,7 +10,7 @@ use wk_list::Part;
 use wk_module::Profile::{Core, Extended};
 
 /// Calls of `wk_module`, `wk_check`, `wk_list` and `wk_strip`.
-pub(crate) static MODULES: [Named; 79] = [
+pub(crate) static MODULES: [Named; 85] = [
     ("read-types", Scenario::Read(OF_TYPES)),
     ("read-whole", Scenario::Read(OF_ALL)),
     ("read-valid", Scenario::Read(OF_VALID)),
@@ -68,6 +68,24 @@ pub(crate) static MODULES: [Named; 79] = [
         "validator-used-wide",
         Scenario::Validate(Validate::Used, OF_WIDE),
     ),
+    (
+        "validator-again",
+        Scenario::Validate(Validate::Again, OF_VALID),
+    ),
+    (
+        "validator-again-wide",
+        Scenario::Validate(Validate::Again, OF_WIDE),
+    ),
+    (
+        "validator-shrunk",
+        Scenario::Validate(Validate::Shrunk, OF_VALID),
+    ),
+    (
+        "validator-shrunk-wide",
+        Scenario::Validate(Validate::Shrunk, OF_WIDE),
+    ),
+    ("type-codes-in-room", Scenario::TypeCodes(OF_VALID)),
+    ("type-codes-wide-in-room", Scenario::TypeCodes(OF_WIDE)),
     (
         "judge-around",
         Scenario::OfValid(OfValid::Around, OF_MOVING),
