@@ -77,7 +77,7 @@ const CUT: &[u8] =
 
 impl Validate {
     // Judges what comes before. Says whether that was judged as it should be.
-    fn is_prepared(self, alloc: Global, sample: Sample, validator: &mut Validator) -> bool {
+    fn prepare(self, alloc: Global, sample: Sample, validator: &mut Validator) -> bool {
         match self {
             Validate::New => true,
             Validate::Used => {
@@ -98,7 +98,7 @@ impl Validate {
     /// Makes the call, and another one behind it, which is to answer whatever this one did.
     pub(crate) fn run(self, alloc: Global, sample: Sample) -> Outcome {
         let mut validator = Validator::new(alloc);
-        if !self.is_prepared(alloc, sample, &mut validator) {
+        if !self.prepare(alloc, sample, &mut validator) {
             return Outcome::NO_SAMPLE;
         }
         call_begins(alloc);
