@@ -4,6 +4,7 @@ use Rattle.std.proofs.Common.{Result, Ok, Err, codes, refl, sym, ap, subst, ◌�
 use Rattle.std.specs.Prelude.{All, ◌≢◌, if◌then◌else◌, slice_index_or}
 use Rattle.std.specs.List.{AllPass, join_with_byte, list_all}
 use Rattle.std.specs.Str.{IsUtf8, bytes_eq, is_utf8}
+use Rattle.std.proofs.lemmas.Bool.{false_from_ne_true}
 use Rattle.std.proofs.lemmas.List.{take-append-drop}
 use Rattle.std.proofs.lemmas.List.Elements.{All-nil, All-cons, All-append}
 use Rattle.std.proofs.lemmas.List.Sums.{AllPass-from_list_all, list_all-from_AllPass}
@@ -38,28 +39,25 @@ tested {A} a b x y z e = by (bytes_eq a b) refl e
     by false is h = inr (is, h)
 
 pub unequal : (a b : List ℕ) → a ≢ b → bytes_eq a b ≡ false
-unequal a b differ = by (bytes_eq a b) refl
-  where
-    by : (t : Bool) → bytes_eq a b ≡ t → bytes_eq a b ≡ false
-    by true is = absurd (differ ((bytes_eq-Decides a b).0 is))
-    by false is = is
+unequal a b differ = false_from_ne_true (bytes_eq a b) (λ is. differ ((bytes_eq-Decides a b).0 is))
+
+-- which of the values a word names, where each has a word
+abbrev pub named_of : {A : Type 0} → (A → List ℕ) → List A → List ℕ → Option A
+named_of word [] w = None
+named_of word (x ∷ xs) w = if bytes_eq w (word x) then Some x else named_of word xs w
+
+-- a word that names a value is the value's word
+pub named_told : {A : Type 0} (word : A → List ℕ) (xs : List A) (w : List ℕ) (x : A) → named_of word xs w ≡ Some x → w ≡ word x
+named_told word [] w x e = absurd cc
+named_told word (y ∷ ys) w x e = elim (tested w (word y) (Some y) (named_of word ys w) (Some x) e) [
+  | inl p ↦ p.0 ∙ ap word (some_is y x p.1)
+  | inr p ↦ named_told word ys w x p.1
+]
 
 -- ---- types
 
 pub type_is : (w : List ℕ) (t : ValType) → type_named w ≡ Some t → w ≡ type_name t
-type_is w t e = elim (tested w (codes "i32") _ _ _ e) [
-  | inl p ↦ p.0 ∙ ap type_name (some_is I32 t p.1)
-  | inr p ↦ elim (tested w (codes "i64") _ _ _ p.1) [
-    | inl q ↦ q.0 ∙ ap type_name (some_is I64 t q.1)
-    | inr q ↦ elim (tested w (codes "f32") _ _ _ q.1) [
-      | inl r ↦ r.0 ∙ ap type_name (some_is F32 t r.1)
-      | inr r ↦ elim (tested w (codes "f64") _ _ _ r.1) [
-        | inl s ↦ s.0 ∙ ap type_name (some_is F64 t s.1)
-        | inr s ↦ absurd cc
-      ]
-    ]
-  ]
-]
+type_is w t e = named_told type_name (I32 ∷ I64 ∷ F32 ∷ F64 ∷ []) w t e
 
 types_are : (ws : List (List ℕ)) (ts : List ValType) → all_named ws ≡ Some ts → ws ≡ map type_name ts
 unfolding all_named
@@ -88,9 +86,7 @@ types_told w ts e = elim (tested w (codes "-") (Some []) (all_named (pieces 44 w
 
 pub type_back : (t : ValType) → type_named (type_name t) ≡ Some t
 type_back I32 = refl
-type_back I64 = refl
-type_back F32 = refl
-type_back F64 = refl
+type_back t = refl
 
 types_back : (ts : List ValType) → all_named (map type_name ts) ≡ Some ts
 unfolding all_named
@@ -98,10 +94,8 @@ types_back [] = refl
 types_back (t ∷ ts) = rw (type_back t, types_back ts) refl
 
 pub graphic_type : (t : ValType) → AllPass is_graphic (type_name t)
-graphic_type I32 = AllPass-from_list_all is_graphic (codes "i32") refl
-graphic_type I64 = AllPass-from_list_all is_graphic (codes "i64") refl
-graphic_type F32 = AllPass-from_list_all is_graphic (codes "f32") refl
-graphic_type F64 = AllPass-from_list_all is_graphic (codes "f64") refl
+graphic_type I32 = AllPass-from_list_all is_graphic (type_name I32) refl
+graphic_type t = AllPass-from_list_all is_graphic (type_name t) refl
 
 not_true : (b : Bool) → not b ≡ true → b ≡ false
 not_true true e = absurd cc
@@ -111,10 +105,8 @@ without : (c : ℕ) (w : List ℕ) → list_all (λ x. not (x == c)) w ≡ true 
 without c w e k d within = not_true _ (AllPass-from_list_all (λ x. not (x == c)) w e k d within)
 
 free_type : (t : ValType) → IsWithout 44 (type_name t)
-free_type I32 = without 44 (codes "i32") refl
-free_type I64 = without 44 (codes "i64") refl
-free_type F32 = without 44 (codes "f32") refl
-free_type F64 = without 44 (codes "f64") refl
+free_type I32 = without 44 (type_name I32) refl
+free_type t = without 44 (type_name t) refl
 
 each_type : (P : List ℕ → Type 0) → ((t : ValType) → P (type_name t)) → (ts : List ValType) → All P (map type_name ts)
 each_type P holds [] = All-nil P
@@ -122,13 +114,9 @@ each_type P holds (t ∷ ts) = All-cons P (type_name t) (map type_name ts) (hold
 
 no_dash : (t : ValType) (ts : List ValType) → bytes_eq (types_word (t ∷ ts)) (codes "-") ≡ false
 no_dash I32 [] = refl
-no_dash I64 [] = refl
-no_dash F32 [] = refl
-no_dash F64 [] = refl
 no_dash I32 (u ∷ ts) = refl
-no_dash I64 (u ∷ ts) = refl
-no_dash F32 (u ∷ ts) = refl
-no_dash F64 (u ∷ ts) = refl
+no_dash t [] = refl
+no_dash t (u ∷ ts) = refl
 
 -- the word of types says them
 pub types_said : (ts : List ValType) → types_of (types_word ts) ≡ Some ts
@@ -143,40 +131,18 @@ graphic_types (t ∷ ts) = All-join (λ x. is_graphic x ≡ true) 44 (map type_n
 -- ---- kinds and globals
 
 pub kind_told : (w : List ℕ) (k : Kind) → kind_named w ≡ Some k → w ≡ kind_word k
-kind_told w k e = elim (tested w (codes "func") _ _ _ e) [
-  | inl p ↦ p.0 ∙ ap kind_word (some_is kinds.Func k p.1)
-  | inr p ↦ elim (tested w (codes "table") _ _ _ p.1) [
-    | inl q ↦ q.0 ∙ ap kind_word (some_is kinds.Table k q.1)
-    | inr q ↦ elim (tested w (codes "memory") _ _ _ q.1) [
-      | inl r ↦ r.0 ∙ ap kind_word (some_is kinds.Memory k r.1)
-      | inr r ↦ elim (tested w (codes "global") _ _ _ r.1) [
-        | inl s ↦ s.0 ∙ ap kind_word (some_is kinds.Global k s.1)
-        | inr s ↦ absurd cc
-      ]
-    ]
-  ]
-]
+kind_told w k e = named_told kind_word (kinds.Func ∷ kinds.Table ∷ kinds.Memory ∷ kinds.Global ∷ []) w k e
 
 pub kind_said : (k : Kind) → kind_named (kind_word k) ≡ Some k
 kind_said kinds.Func = refl
-kind_said kinds.Table = refl
-kind_said kinds.Memory = refl
-kind_said kinds.Global = refl
+kind_said k = refl
 
 pub graphic_kind : (k : Kind) → AllPass is_graphic (kind_word k)
-graphic_kind kinds.Func = AllPass-from_list_all is_graphic (codes "func") refl
-graphic_kind kinds.Table = AllPass-from_list_all is_graphic (codes "table") refl
-graphic_kind kinds.Memory = AllPass-from_list_all is_graphic (codes "memory") refl
-graphic_kind kinds.Global = AllPass-from_list_all is_graphic (codes "global") refl
+graphic_kind kinds.Func = AllPass-from_list_all is_graphic (kind_word kinds.Func) refl
+graphic_kind k = AllPass-from_list_all is_graphic (kind_word k) refl
 
 pub mutable_told : (w : List ℕ) (b : Bool) → mutable_named w ≡ Some b → w ≡ mutable_word b
-mutable_told w b e = elim (tested w (codes "const") _ _ _ e) [
-  | inl p ↦ p.0 ∙ ap mutable_word (some_is false b p.1)
-  | inr p ↦ elim (tested w (codes "var") _ _ _ p.1) [
-    | inl q ↦ q.0 ∙ ap mutable_word (some_is true b q.1)
-    | inr q ↦ absurd cc
-  ]
-]
+mutable_told w b e = named_told mutable_word (false ∷ true ∷ []) w b e
 
 pub mutable_said : (b : Bool) → mutable_named (mutable_word b) ≡ Some b
 mutable_said false = refl

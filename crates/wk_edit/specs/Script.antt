@@ -31,21 +31,21 @@ import_edit (kind ∷ «module» ∷ name ∷ more) = do
   Some (edits.Import (record { from = from; name = n; desc = desc }))
 import_edit _ = None
 
+-- a number and bytes, and what is made of them
+abbrev pub numbered_edit : (ℕ → List ℕ → Edit) → List (List ℕ) → Option Edit
+numbered_edit make (number ∷ digits ∷ []) = do
+  n ← number_of number
+  code ← data_of digits
+  Some (make n code)
+numbered_edit make _ = None
+
 -- `func TYPE CODE`
 abbrev pub func_edit : List (List ℕ) → Option Edit
-func_edit (ty ∷ digits ∷ []) = do
-  t ← number_of ty
-  code ← data_of digits
-  Some (edits.Func t code)
-func_edit _ = None
+func_edit words = numbered_edit edits.Func words
 
 -- `body FUNCTION CODE`
 abbrev pub body_edit : List (List ℕ) → Option Edit
-body_edit (func ∷ digits ∷ []) = do
-  x ← number_of func
-  code ← data_of digits
-  Some (edits.Body x code)
-body_edit _ = None
+body_edit words = numbered_edit edits.Body words
 
 -- `global VALTYPE MUT INIT`
 abbrev pub global_edit : List (List ℕ) → Option Edit
