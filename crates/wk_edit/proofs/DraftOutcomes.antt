@@ -1,5 +1,5 @@
 -- Replies that tell less than those of a module make the same status.
-use Rattle.std.proofs.Common.{◌≡◌, ◌&&◌, List, [], ◌∷◌, Bool, Result, Ok, Err, refl, ap, ◌∙◌}
+use Rattle.std.proofs.Common.{◌≡◌, ◌&&◌, List, [], ◌∷◌, Bool, Result, Ok, Err, refl, ap, subst, ◌∙◌}
 use Rattle.std.specs.List.{list_all}
 use Rattle.wk_session.specs.declared.edit.EditFault.{EditFault}
 use Rattle.wk_session.specs.declared.edit.Work.{Work}
@@ -12,9 +12,12 @@ same_alike : (r : Result Work EditFault) → IsAlike r r
 same_alike (Ok w) = tt
 same_alike (Err f) = refl
 
-pub all_same : (rs : List (Result Work EditFault)) → AreAlike rs rs
-all_same [] = tt
-all_same (r ∷ rs) = (same_alike r, all_same rs)
+all_alike : (rs : List (Result Work EditFault)) → AreAlike rs rs
+all_alike [] = tt
+all_alike (r ∷ rs) = (same_alike r, all_alike rs)
+
+pub all_same : {rs qs : List (Result Work EditFault)} → rs ≡ qs → AreAlike rs qs
+all_same {rs} same = subst (AreAlike rs) same (all_alike rs)
 
 alike_made : {A : Type 0} (r : Result A EditFault) (q : Result Work EditFault) → IsAlike r q → is_made r ≡ is_accepted q
 alike_made (Ok x) (Ok w) alike = refl

@@ -1,7 +1,8 @@
 -- What is prepared is the outcome.
 use Rattle.std.proofs.Common.{◌≡◌, ◌≢◌, ℕ, Bool, true, false, ◌||◌, List, [], ◌∷◌, Result, Ok, Err, refl, sym, ap, subst, ◌∙◌, inl, inr}
-use Rattle.std.specs.Prelude.{IfOk, OnOk, Some}
+use Rattle.std.specs.Prelude.{IfOk, OnOk, Some, string_bytes}
 use Rattle.std.specs.List.{list_any}
+use Rattle.std.proofs.lemmas.Bool.{or_parts}
 use Rattle.wk_bytes.specs.declared.fault.ReadKind.{ReadKind}
 use Rattle.wk_bytes.specs.declared.fault.ReadFault.{ReadFault}
 use Rattle.wk_module.specs.declared.types.Parts.{Parts}
@@ -27,7 +28,7 @@ use Rattle.wk_edit.specs.Script.{script_of}
 use Rattle.wk_edit.specs.ScriptGrammar.{IsScript, IsOnlyScript, IsNoScript, IsFaultOf}
 use Rattle.wk_edit.specs.ReportText.{report_text}
 use Rattle.wk_edit.specs.Outcome.{Outcome, out_of, malformed_outcome, run_status, run_outcome, script_outcome, outcome_on, outcome_of}
-use Rattle.wk_edit.specs.Prepared.{IsPrepared, IsSpelled}
+use Rattle.wk_edit.specs.Prepared.{made_bytes, IsPrepared, IsSpelled}
 use Rattle.wk_edit.specs.Theorem.{IsRun, IsRead, IsReport}
 use Rattle.wk_session.specs.ToldLaws.{ReadsCode, all_told}
 
@@ -40,17 +41,13 @@ spelled_once spells one m shaped fits =
 
 -- ---- no edit was refused for want of memory
 
-either : (a b : Bool) → (a || b) ≡ false → (a ≡ false) × (b ≡ false)
-either true b h = absurd cc
-either false b h = (refl, h)
-
 module _ (keep : Bool) where
   after_unmarked : (es : List Edit) (rs : List (Result Work EditFault)) (m : Parts) → list_any is_memory rs ≡ false
       → after keep es (refused_for_memory rs) m ≡ after keep es [] m
   after_unmarked [] rs m h = refl
   after_unmarked (e ∷ es) [] m h = refl
   after_unmarked (e ∷ es) (r ∷ rs) m h =
-      let parts = either (is_memory r) (list_any is_memory rs) h in
+      let parts = or_parts (is_memory r) (list_any is_memory rs) h in
       ap (λ (b : Bool). after keep es (refused_for_memory rs) (after_one keep e b m)) parts.0 ∙ after_unmarked es rs (after_one keep e false m) parts.1
 
   replies_unmarked : (es : List Edit) (rs : List (Result Work EditFault)) (m : Parts) → list_any is_memory rs ≡ false
@@ -58,33 +55,20 @@ module _ (keep : Bool) where
   replies_unmarked [] rs m h = refl
   replies_unmarked (e ∷ es) [] m h = refl
   replies_unmarked (e ∷ es) (r ∷ rs) m h =
-      let parts = either (is_memory r) (list_any is_memory rs) h in
+      let parts = or_parts (is_memory r) (list_any is_memory rs) h in
       ap (λ (b : Bool). reply_of keep e b m ∷ replies_of keep es (refused_for_memory rs) (after_one keep e b m)) parts.0
       ∙ ap (λ (more : List (Result Work EditFault)). reply_of keep e false m ∷ more) (replies_unmarked es rs (after_one keep e false m) parts.1)
 
-module _ (keep : Bool) (m n : Parts) (es : List Edit) (rs : List (Result Work EditFault)) (v : Verdict) (no_memory : list_any is_memory rs ≡ false)
-    (replies : rs ≡ replies_of keep es (refused_for_memory rs) m) (module_is : n ≡ after keep es (refused_for_memory rs) m)
-    (judged : v ≡ module_verdict n) where
-  n_is : n ≡ after keep es [] m
-  n_is = module_is ∙ after_unmarked keep es rs m no_memory
-
-  rs_are : rs ≡ replies_of keep es [] m
-  rs_are = replies ∙ replies_unmarked keep es rs m no_memory
-
-  v_is : v ≡ module_verdict (after keep es [] m)
-  v_is = judged ∙ ap module_verdict n_is
-
-  pub ran_made : encoded n ≡ out_of (run_outcome keep m es)
-  ran_made = ap encoded n_is
-
-  pub ran_spelled : IsSpelled (Some n) → IsSpelled (run_outcome keep m es).edited
-  ran_spelled is = subst (λ (p : Parts). IsSpelled (Some p)) n_is is
-
-  pub ran_report : (text : List ℕ) → text ≡ report_text 1 rs v → text ≡ (run_outcome keep m es).report
-  ran_report text is = is ∙ ap (λ (r : List (Result Work EditFault)). report_text 1 r v) rs_are ∙ ap (report_text 1 (replies_of keep es [] m)) v_is
-
-  pub ran_status : (status : Status) → status ≡ run_status rs v → status ≡ (run_outcome keep m es).status
-  ran_status status is = is ∙ ap (λ (r : List (Result Work EditFault)). run_status r v) rs_are ∙ ap (run_status (replies_of keep es [] m)) v_is
+-- what a session made of a module is prepared
+pub ran_prepared : (keep : Bool) (m n : Parts) (es : List Edit) (rs : List (Result Work EditFault)) (v w : Verdict) (p : Prepared)
+    → list_any is_memory rs ≡ false → rs ≡ replies_of keep es (refused_for_memory rs) m → n ≡ after keep es (refused_for_memory rs) m
+    → IsSpelled (Some n) → v ≡ module_verdict n → w ≡ module_verdict n
+    → made_bytes p.made ≡ encoded n → string_bytes p.text ≡ report_text 1 rs v → p.status ≡ run_status rs w
+    → IsPrepared (run_outcome keep m es) p
+ran_prepared keep m n es rs v w p no_memory replies module_is own v_is w_is made text status =
+    let n_is : n ≡ after keep es [] m = module_is ∙ after_unmarked keep es rs m no_memory in
+    let rs_are : rs ≡ replies_of keep es [] m = replies ∙ replies_unmarked keep es rs m no_memory in
+    record { made = made ∙ ap encoded n_is; spelled = subst (λ (x : Parts). IsSpelled (Some x)) n_is own; report = cc; status = cc }
 
 -- ---- the outcome by what was read
 

@@ -10,13 +10,9 @@ use Rattle.wk_edit.proofs.prepare.prepare_draft.Goals as goal
 pub returns-in-Ok-clause-ok : goal.returns-in-Ok-clause-ok
 returns-in-Ok-clause-ok c = λ keep m edits is.
     let qs = replies_of keep edits [] m in
-    let lent : AreAlike c.deref-2.result.now qs = subst (λ (rs : List (Result (Unit {0}) EditFault)). AreAlike rs qs)
-    (sym c.deref-2.ensures.value) is.replies in
-    let lent_again : AreAlike c.deref.result.now qs = subst (λ (rs : List (Result (Unit {0}) EditFault)). AreAlike rs qs)
-    (sym c.deref.ensures.value) is.replies in
     record {
       made = is.edited;
       spelled = spelled_once c.written_form_of_module.ensures.spells c.one_module.ensures.one (after keep edits [] m) is.shaped is.fits;
-      report = c.in-Ok.ensures qs lent ∙ ap (report_text 1 qs) is.verdict;
-      status = c.status_of-status.ensures qs lent_again ∙ ap (run_status qs) is.verdict;
+      report = c.in-Ok.ensures qs (rw (← c.deref-2.ensures.value) at is.replies) ∙ ap (report_text 1 qs) is.verdict;
+      status = c.status_of-status.ensures qs (rw (← c.deref.ensures.value) at is.replies) ∙ ap (run_status qs) is.verdict;
     }

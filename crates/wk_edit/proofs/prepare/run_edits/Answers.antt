@@ -1,4 +1,4 @@
-use Rattle.std.proofs.Common.{◌≡◌, ℕ, List, Ok, sym, subst}
+use Rattle.std.proofs.Common.{◌≡◌, ap, subst, ◌∙◌}
 use Rattle.std.specs.Prelude.{IfOk}
 use Rattle.wk_module.specs.declared.types.Parts.{Parts}
 use Rattle.wk_module.specs.Reading.{module_at}
@@ -13,28 +13,21 @@ returns-in-Whole-clause-ok c = λ m is.
 
 pub edit_outline-requires : goal.edit_outline-requires
 edit_outline-requires c =
-    let m : Parts = c.requires.0 in
     let is = rw c.in-Outlined.is at c.requires.1 in
-    let lent : module_at c.args.profile c.deref.result.now ≡ Ok m =
-    subst (λ (b : List ℕ). module_at c.args.profile b ≡ Ok m) (sym c.deref.ensures.value) is.0 in
-    (m, lent, is.1, is.2)
+    (c.requires.0, ap (module_at c.args.profile) c.deref.ensures.value ∙ is.0, is.1, is.2)
 
 pub returns-in-Made-clause-ok : goal.returns-in-Made-clause-ok
 returns-in-Made-clause-ok c = λ m opened.
-    let is = rw c.in-Outlined.is at opened in
-    let lent : module_at c.args.profile c.deref.result.now ≡ Ok m =
-    subst (λ (b : List ℕ). module_at c.args.profile b ≡ Ok m) (sym c.deref.ensures.value) is.0 in
+    let lent = ap (module_at c.args.profile) c.deref.ensures.value ∙ (rw c.in-Outlined.is at opened).0 in
     c.prepare_draft.ensures.ok c.args.keep_valid m c.args.edits.now (rw c.in-Made.is at (c.in_ok-run.ensures m lent))
 
 pub run_whole-requires-clause-judged : goal.run_whole-requires-clause-judged
 run_whole-requires-clause-judged c = λ m at.
-    let lent : module_at c.args.profile c.deref.result.now ≡ Ok m = subst (λ (b : List ℕ). module_at c.args.profile b ≡ Ok m) (sym c.deref.ensures.value) at in
-    (rw c.in-Unmade.is at (c.in_ok-run.ensures m lent)).0
+    (rw c.in-Unmade.is at (c.in_ok-run.ensures m (ap (module_at c.args.profile) c.deref.ensures.value ∙ at))).0
 
 pub run_whole-requires-clause-codes : goal.run_whole-requires-clause-codes
 run_whole-requires-clause-codes c = λ m at.
-    let lent : module_at c.args.profile c.deref.result.now ≡ Ok m = subst (λ (b : List ℕ). module_at c.args.profile b ≡ Ok m) (sym c.deref.ensures.value) at in
-    (rw c.in-Unmade.is at (c.in_ok-run.ensures m lent)).1
+    (rw c.in-Unmade.is at (c.in_ok-run.ensures m (ap (module_at c.args.profile) c.deref.ensures.value ∙ at))).1
 
 pub returns-in-Unmade-clause-ok : goal.returns-in-Unmade-clause-ok
 returns-in-Unmade-clause-ok c = λ m opened. c.run_whole.ensures.ok m (rw c.in-Outlined.is at opened).0

@@ -29,18 +29,11 @@ returns-in-Ok-clause-ok c = λ m input opened read.
 
 pub returns-in-Ok-clause-means : goal.returns-in-Ok-clause-means
 returns-in-Ok-clause-means c = λ m input opened read is.
-    let keep = c.args.keep_valid in
-    let script = c.args.script.now in
-    let edits = c.in-Ok.edits.items in
-    let r : Result Prepared RunFault = c.run_edits.result in
-    let ran : IfOk r (IsPrepared (run_outcome keep m edits)) =
-    subst (λ (es : List Edit). IfOk r (IsPrepared (run_outcome keep m es))) c.deref.ensures.value (c.run_edits.ensures.ok m opened) in
     let reads : ReadsCode = record {
       body = c.reading_of_code.ensures.body;
       expr = c.reading_of_code.ensures.all_expr;
       body_never = c.reading_of_code.ensures.never_memory_body;
       expr_never = c.reading_of_code.ensures.never_memory_expr;
     } in
-    let prepared : IfOk r (IsPrepared (outcome_of keep c.args.profile input script)) =
-    ran_ok keep c.args.profile input script r m (Ok edits) ran read c.in-Ok.ensures.exact in
-    ran_means keep c.args.profile input script reads r m edits is read c.in-Ok.ensures.found c.in-Ok.ensures.only c.in-Ok.ensures.exact prepared
+    ran_means c.args.keep_valid c.args.profile input c.args.script.now reads c.run_edits.result m c.in-Ok.edits.items is read c.in-Ok.ensures.found
+    c.in-Ok.ensures.only c.in-Ok.ensures.exact (returns-in-Ok-clause-ok c m input opened read)

@@ -1,4 +1,4 @@
-use Rattle.std.proofs.Common.{◌≡◌, ℕ, List, Ok, subst}
+use Rattle.std.proofs.Common.{ap, subst, sym, ◌∙◌}
 use Rattle.std.specs.Prelude.{IfOk}
 use Rattle.wk_module.specs.declared.types.Parts.{Parts}
 use Rattle.wk_module.specs.Reading.{module_at}
@@ -8,12 +8,10 @@ use Rattle.wk_edit.proofs.OutcomeLemmas.{same_module}
 use Rattle.wk_edit.proofs.prepare.run_whole.Goals as goal
 
 pub open_session-opened-requires-clause-judged : goal.open_session-opened-requires-clause-judged
-open_session-opened-requires-clause-judged c = λ m at.
-    c.requires.judged m (subst (λ (b : List ℕ). module_at c.args.profile b ≡ Ok m) c.deref.ensures.value at)
+open_session-opened-requires-clause-judged c = λ m at. c.requires.judged m (ap (module_at c.args.profile) (sym c.deref.ensures.value) ∙ at)
 
 pub open_session-opened-requires-clause-codes : goal.open_session-opened-requires-clause-codes
-open_session-opened-requires-clause-codes c = λ m at.
-    c.requires.codes m (subst (λ (b : List ℕ). module_at c.args.profile b ≡ Ok m) c.deref.ensures.value at)
+open_session-opened-requires-clause-codes c = λ m at. c.requires.codes m (ap (module_at c.args.profile) (sym c.deref.ensures.value) ∙ at)
 
 pub returns-in-Ok-clause-ok : goal.returns-in-Ok-clause-ok
 returns-in-Ok-clause-ok c = λ m at.
