@@ -14,7 +14,7 @@ ghost use Rattle.wasmkit.specs.declared.store.StoreFault.{StoreFault as Why};
 ghost use Rattle.wasmkit.specs.Answers.{listed, on_module, saved_of, AreOf};
 ghost use Rattle.wasmkit.specs.Events.{Loaded, Saved, then_asked};
 ghost use Rattle.wasmkit.specs.Faults.{fault_status, IsOfLoad, IsOfSave};
-ghost use Rattle.wasmkit.specs.Runs.{printing, Carries, Exits, Gives, Goes, IsAnswered, Prints, Refuses, Saves};
+ghost use Rattle.wasmkit.specs.Runs.{between, printing, Carries, Exits, Gives, Goes, IsAnswered, Prints, Refuses, Saves};
 
 use crate::command::{
     Asked, EditCommand, ObjdumpCommand, StripCommand, ValidateCommand, read_words,
@@ -62,9 +62,7 @@ fn save<'a, S: Store>(store: &mut S, name: &'a str, bytes: &[u8]) -> Result<(), 
 // Prints a text, behind which there is only the status.
 fn print<'a, X: Out>(text: &[u8], status: u8, out: &mut X) -> Result<u8, ProgramFault<'a>>
     requires { X.failed out.old < 2 ^ 64 - 1 }
-    ensures { Prints status text.now []
-        (printing (X.taken out.old) (X.taken out.new) (X.failed out.old) (X.failed out.new))
-        result }
+    ensures { Prints status text.now [] (between X.taken X.failed out.old out.new) result }
 {
     match put_all(out, text) {
         Ok(()) => Ok(status),
@@ -85,8 +83,7 @@ fn give<'a, S: Store, X: Out>(
     ensures { Goes
         (Saves name.now (option_map (λ bytes. bytes.now) saved.entry) (Prints status text.now))
         (S.asked store.old) (S.asked store.new)
-        (printing (X.taken out.old) (X.taken out.new) (X.failed out.old) (X.failed out.new))
-        result }
+        (between X.taken X.failed out.old out.new) result }
 {
     if let Some(bytes) = saved {
         save(store, name, bytes)?;
@@ -101,9 +98,7 @@ fn refuse_module<'a, X: Out>(
     out: &mut X,
 ) -> Result<u8, ProgramFault<'a>>
     requires { X.failed out.old < 2 ^ 64 - 1 }
-    ensures { Refuses fault.now
-        (printing (X.taken out.old) (X.taken out.new) (X.failed out.old) (X.failed out.new))
-        result }
+    ensures { Refuses fault.now (between X.taken X.failed out.old out.new) result }
 {
     if let ReadKind::Memory = fault.kind {
         return Err(ProgramFault::Memory);
@@ -175,8 +170,7 @@ fn run_edit<'a, S: Store, X: Out>(
 ) -> Result<u8, ProgramFault<'a>>
     requires { X.failed out.old < 2 ^ 64 - 1 }
     ensures { Goes (Carries (asks.Edit command.entry)) (S.asked store.old) (S.asked store.new)
-        (printing (X.taken out.old) (X.taken out.new) (X.failed out.old) (X.failed out.new))
-        result }
+        (between X.taken X.failed out.old out.new) result }
 {
     let input = load(store, command.file)?;
     let script = load(store, command.script)?;
@@ -201,8 +195,7 @@ fn list_module<'a, X: Out>(
     requires room { X.failed out.old < 2 ^ 64 - 1 }
     requires fits { Fits whole.now }
     ensures { Gives [] (listed parts.now whole.now) []
-        (printing (X.taken out.old) (X.taken out.new) (X.failed out.old) (X.failed out.new))
-        result }
+        (between X.taken X.failed out.old out.new) result }
 {
     let layout = match Layout::of(alloc, whole) {
         Ok(layout) => layout,
@@ -223,8 +216,7 @@ fn list_summary<'a, X: Out>(
     requires room { X.failed out.old < 2 ^ 64 - 1 }
     requires parts { list_any lists_bodies parts.now ≡ false }
     ensures { Gives [] (listed parts.now summary.now) []
-        (printing (X.taken out.old) (X.taken out.new) (X.failed out.old) (X.failed out.new))
-        result }
+        (between X.taken X.failed out.old out.new) result }
 {
     list_summary_parts(alloc, summary, parts, out)?;
     Ok(0)
@@ -240,8 +232,7 @@ fn list_whole<'a, X: Out>(
 ) -> Result<u8, ProgramFault<'a>>
     requires { X.failed out.old < 2 ^ 64 - 1 }
     ensures { Gives [] (on_module (listed parts.now) (module_at profile input.now)) []
-        (printing (X.taken out.old) (X.taken out.new) (X.failed out.old) (X.failed out.new))
-        result }
+        (between X.taken X.failed out.old out.new) result }
 {
     match read_in(alloc, input, profile) {
         Ok(module) => list_module(alloc, &module, parts, out),
@@ -260,8 +251,7 @@ fn list_without_bodies<'a, X: Out>(
     requires room { X.failed out.old < 2 ^ 64 - 1 }
     requires parts { list_any lists_bodies parts.now ≡ false }
     ensures { Gives [] (on_module (listed parts.now) (module_at profile input.now)) []
-        (printing (X.taken out.old) (X.taken out.new) (X.failed out.old) (X.failed out.new))
-        result }
+        (between X.taken X.failed out.old out.new) result }
 {
     match Summary::read(alloc, input, profile) {
         Ok(summary) => list_summary(alloc, &summary, parts, out),
@@ -278,8 +268,7 @@ fn run_objdump<'a, S: Store, X: Out>(
 ) -> Result<u8, ProgramFault<'a>>
     requires { X.failed out.old < 2 ^ 64 - 1 }
     ensures { Goes (Carries (asks.Objdump command.entry)) (S.asked store.old) (S.asked store.new)
-        (printing (X.taken out.old) (X.taken out.new) (X.failed out.old) (X.failed out.new))
-        result }
+        (between X.taken X.failed out.old out.new) result }
 {
     let ObjdumpCommand {
         parts,
@@ -310,8 +299,7 @@ fn run_sections<'a, S: Store, X: Out>(
 ) -> Result<u8, ProgramFault<'a>>
     requires { X.failed out.old < 2 ^ 64 - 1 }
     ensures { Goes (Carries (asks.Sections file.entry)) (S.asked store.old) (S.asked store.new)
-        (printing (X.taken out.old) (X.taken out.new) (X.failed out.old) (X.failed out.new))
-        result }
+        (between X.taken X.failed out.old out.new) result }
 {
     let input = load(store, file)?;
     let Listing { text, has_fault } = list_sections(alloc, &input)?;
@@ -327,8 +315,7 @@ fn run_strip<'a, S: Store, X: Out>(
 ) -> Result<u8, ProgramFault<'a>>
     requires { X.failed out.old < 2 ^ 64 - 1 }
     ensures { Goes (Carries (asks.Strip command.entry)) (S.asked store.old) (S.asked store.new)
-        (printing (X.taken out.old) (X.taken out.new) (X.failed out.old) (X.failed out.new))
-        result }
+        (between X.taken X.failed out.old out.new) result }
 {
     let StripCommand {
         keep,
@@ -352,8 +339,7 @@ fn run_validate<'a, S: Store, X: Out>(
 ) -> Result<u8, ProgramFault<'a>>
     requires { X.failed out.old < 2 ^ 64 - 1 }
     ensures { Goes (Carries (asks.Validate command.entry)) (S.asked store.old) (S.asked store.new)
-        (printing (X.taken out.old) (X.taken out.new) (X.failed out.old) (X.failed out.new))
-        result }
+        (between X.taken X.failed out.old out.new) result }
 {
     let ValidateCommand { profile, file } = command;
     let input = load(store, file)?;
@@ -370,8 +356,7 @@ fn run<'a, S: Store, X: Out>(
 ) -> Result<u8, ProgramFault<'a>>
     requires { X.failed out.old < 2 ^ 64 - 1 }
     ensures { Goes (Carries asked.entry) (S.asked store.old) (S.asked store.new)
-        (printing (X.taken out.old) (X.taken out.new) (X.failed out.old) (X.failed out.new))
-        result }
+        (between X.taken X.failed out.old out.new) result }
 {
     match asked {
         Asked::Edit(command) => run_edit(alloc, command, store, out),
@@ -391,8 +376,7 @@ fn answer<'a, S: Store, X: Out>(
 ) -> Result<u8, ProgramFault<'a>>
     requires { X.failed out.old < 2 ^ 64 - 1 }
     ensures { IsAnswered (S.asked store.old) (S.asked store.new)
-        (printing (X.taken out.old) (X.taken out.new) (X.failed out.old) (X.failed out.new))
-        result }
+        (between X.taken X.failed out.old out.new) result }
 {
     let asked = read_words(alloc, words)?;
     run(alloc, asked, store, out)

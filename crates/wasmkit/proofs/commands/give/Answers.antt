@@ -1,11 +1,10 @@
-use Rattle.wasmkit.proofs.Steps.{ends, saved, not_saved, nothing, passed}
+use Rattle.wasmkit.proofs.Steps.{ends, saved, not_saved}
 use Rattle.wasmkit.proofs.commands.give.Goals as goal
 use Rattle.wasmkit.proofs.commands.give.Goals.{in-Some+in_ok-save, in_default}
 
 pub returns-in_err-save : goal.returns-in_err-save
 returns-in_err-save g c =
-    let e = c.in_err-save.ensures in
-    rw c.in-Some.is (not_saved c.args.name.now c.in-Some.bytes.now _ _ _ _ _ e.0 e.2 nothing (passed _ _ _ c.from_residual.ensures.1 e.1))
+    rw c.in-Some.is (not_saved c.args.name.now c.in-Some.bytes.now _ _ _ _ _ _ _ c.from_residual.ensures.1 c.in_err-save.ensures)
 
 pub returns : goal.returns
 returns g c = elim c.match-saved.branch [

@@ -1,14 +1,13 @@
 use Rattle.std.proofs.Common.{[]}
 use Rattle.wasmkit.specs.Answers.{dumped}
 use Rattle.wasmkit.specs.Runs.{Gives}
-use Rattle.wasmkit.proofs.Steps.{ends, loaded, not_loaded, nothing, passed}
+use Rattle.wasmkit.proofs.Steps.{ends, loaded, not_loaded}
 use Rattle.wasmkit.proofs.commands.run_objdump.Goals as goal
 
 pub returns-in_err-input : goal.returns-in_err-input
 returns-in_err-input g c =
     let a = c.args.command in
-    let e = c.in_err-input.ensures in
-    not_loaded a.file.now (λ input. Gives [] (dumped a input)) _ _ _ _ e.0 e.2 nothing (passed _ _ _ c.from_residual.ensures.1 e.1)
+    not_loaded a.file.now (λ input. Gives [] (dumped a input)) _ _ _ _ _ _ c.from_residual.ensures.1 c.in_err-input.ensures
 
 pub returns-then-list_bodies : goal.returns-then-list_bodies
 returns-then-list_bodies g c =

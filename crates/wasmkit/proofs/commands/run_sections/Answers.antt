@@ -1,13 +1,12 @@
 use Rattle.std.proofs.Common.{[], rules, refl, inl, inr}
 use Rattle.wasmkit.specs.Answers.{framed}
 use Rattle.wasmkit.specs.Runs.{Gives}
-use Rattle.wasmkit.proofs.Steps.{ends, loaded, not_loaded, nothing, passed}
+use Rattle.wasmkit.proofs.Steps.{ends, loaded, not_loaded, nothing}
 use Rattle.wasmkit.proofs.commands.run_sections.Goals as goal
 
 pub returns-in_err-input : goal.returns-in_err-input
 returns-in_err-input g c =
-    let e = c.in_err-input.ensures in
-    not_loaded c.args.file.now (λ input. Gives [] (framed input)) _ _ _ _ e.0 e.2 nothing (passed _ _ _ c.from_residual.ensures.1 e.1)
+    not_loaded c.args.file.now (λ input. Gives [] (framed input)) _ _ _ _ _ _ c.from_residual.ensures.1 c.in_err-input.ensures
 
 pub returns-in_err-text : goal.returns-in_err-text
 returns-in_err-text g c =

@@ -1,14 +1,13 @@
 use Rattle.std.proofs.Common.{[], rules, refl, inl, inr}
 use Rattle.wasmkit.specs.Answers.{judged}
 use Rattle.wasmkit.specs.Runs.{Gives}
-use Rattle.wasmkit.proofs.Steps.{ends, loaded, not_loaded, nothing, passed}
+use Rattle.wasmkit.proofs.Steps.{ends, loaded, not_loaded, nothing}
 use Rattle.wasmkit.proofs.commands.run_validate.Goals as goal
 
 pub returns-in_err-input : goal.returns-in_err-input
 returns-in_err-input g c =
     let a = c.args.command in
-    let e = c.in_err-input.ensures in
-    not_loaded a.file.now (λ input. Gives [] (judged a input)) _ _ _ _ e.0 e.2 nothing (passed _ _ _ c.from_residual.ensures.1 e.1)
+    not_loaded a.file.now (λ input. Gives [] (judged a input)) _ _ _ _ _ _ c.from_residual.ensures.1 c.in_err-input.ensures
 
 pub returns-in_err-line : goal.returns-in_err-line
 returns-in_err-line g c =
