@@ -28,8 +28,6 @@ alike_made (Err f) (Ok w) alike = absurd alike
 pub all_made : {A : Type 0} (rs : List (Result A EditFault)) (qs : List (Result Work EditFault)) → AreAlike rs qs
     → list_all is_made rs ≡ list_all is_accepted qs
 all_made [] [] alike = refl
-all_made (r ∷ rs) (q ∷ qs) alike =
-    ap (λ (b : Bool). b && list_all is_made rs) (alike_made r q alike.0)
-    ∙ ap (λ (b : Bool). is_accepted q && b) (all_made rs qs alike.1)
+all_made (r ∷ rs) (q ∷ qs) alike = rw (alike_made r q alike.0, all_made rs qs alike.1) refl
 all_made [] (q ∷ qs) alike = absurd alike
 all_made (r ∷ rs) [] alike = absurd alike

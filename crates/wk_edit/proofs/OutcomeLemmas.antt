@@ -48,7 +48,7 @@ module _ (keep : Bool) where
   after_unmarked (e ∷ es) [] m h = refl
   after_unmarked (e ∷ es) (r ∷ rs) m h =
       let parts = or_parts (is_memory r) (list_any is_memory rs) h in
-      ap (λ (b : Bool). after keep es (refused_for_memory rs) (after_one keep e b m)) parts.0 ∙ after_unmarked es rs (after_one keep e false m) parts.1
+      rw parts.0 (after_unmarked es rs (after_one keep e false m) parts.1)
 
   replies_unmarked : (es : List Edit) (rs : List (Result Work EditFault)) (m : Parts) → list_any is_memory rs ≡ false
       → replies_of keep es (refused_for_memory rs) m ≡ replies_of keep es [] m
@@ -56,8 +56,8 @@ module _ (keep : Bool) where
   replies_unmarked (e ∷ es) [] m h = refl
   replies_unmarked (e ∷ es) (r ∷ rs) m h =
       let parts = or_parts (is_memory r) (list_any is_memory rs) h in
-      ap (λ (b : Bool). reply_of keep e b m ∷ replies_of keep es (refused_for_memory rs) (after_one keep e b m)) parts.0
-      ∙ ap (λ (more : List (Result Work EditFault)). reply_of keep e false m ∷ more) (replies_unmarked es rs (after_one keep e false m) parts.1)
+      rw parts.0 (ap (λ (more : List (Result Work EditFault)). reply_of keep e false m ∷ more)
+      (replies_unmarked es rs (after_one keep e false m) parts.1))
 
 -- what a session made of a module is prepared
 pub ran_prepared : (keep : Bool) (m n : Parts) (es : List Edit) (rs : List (Result Work EditFault)) (v w : Verdict) (p : Prepared)
@@ -98,8 +98,8 @@ same_module profile lent bytes s m same exact at =
 module _ (keep : Bool) (profile : Profile) (input script : List ℕ) where
   pub malformed_ok : (r : Result Prepared RunFault) (e : ReadFault) → IfOk r (IsPrepared (malformed_outcome e)) → OnOk r (e.kind ≢ ReadKind.Memory)
       → FailsAs e e.kind (module_at profile input) → IfOk r (IsPrepared (outcome_of keep profile input script))
-  malformed_ok (Ok p) e is other fails = subst (λ (o : Outcome). IsPrepared o p)
-      (sym (outcome_malformed keep profile input script e (other_fault e e.kind (module_at profile input) other fails))) is
+  malformed_ok (Ok p) e is other fails =
+      rw (outcome_malformed keep profile input script e (other_fault e e.kind (module_at profile input) other fails)) is
   malformed_ok (Err f) e is other fails = tt
 
   pub malformed_means : (r : Result Prepared RunFault) (e : ReadFault) → OnOk r (e.kind ≢ ReadKind.Memory) → FailsAs e e.kind (module_at profile input)
@@ -107,14 +107,14 @@ module _ (keep : Bool) (profile : Profile) (input script : List ℕ) where
       → OnOk r (IsReport keep profile input script (outcome_of keep profile input script))
   malformed_means (Ok p) e other fails is =
       let read = other_fault e e.kind (module_at profile input) other fails in
-      let told : IsReading profile input (Err e) = subst (IsReading profile input) read is in
-      subst (IsReport keep profile input script) (sym (outcome_malformed keep profile input script e read))
+      let told = rw read at is in
+      rw (outcome_malformed keep profile input script e read)
       (inl (record { fault = e; none = told.0; stands = told.1; other = other; out = refl; report = refl; status = refl }))
   malformed_means (Err f) e other fails is = tt
 
   pub ran_ok : (r : Result Prepared RunFault) (m : Parts) (s : Result (List Edit) ScriptFault) → IfOk r (IsPrepared (outcome_on keep m s))
       → module_at profile input ≡ Ok m → script_of script ≡ s → IfOk r (IsPrepared (outcome_of keep profile input script))
-  ran_ok r m s is read said = subst (λ (o : Outcome). IfOk r (IsPrepared o)) (sym (outcome_ran keep profile input script m s read said)) is
+  ran_ok r m s is read said = rw (outcome_ran keep profile input script m s read said) is
 
   run_told : ReadsCode → (m : Parts) (es : List Edit) → IsScript script es → IsOnlyScript script es → IsSpelled (run_outcome keep m es).edited
       → IsRun keep m script (run_outcome keep m es)
@@ -134,7 +134,7 @@ module _ (keep : Bool) (profile : Profile) (input script : List ℕ) where
 
   read_as : (m : Parts) → module_at profile input ≡ Ok m → IsReading profile input (module_at profile input) → IsRead profile input m
   read_as m read is =
-      let told : IsReading profile input (Ok m) = subst (IsReading profile input) read is in
+      let told = rw read at is in
       record { profile_is = told.0; spelled = told.1; only = told.2 }
 
   pub ran_means : ReadsCode → (r : Result Prepared RunFault) (m : Parts) (es : List Edit) → IsReading profile input (module_at profile input)
@@ -142,8 +142,7 @@ module _ (keep : Bool) (profile : Profile) (input script : List ℕ) where
       → IfOk r (IsPrepared (outcome_of keep profile input script)) → OnOk r (IsReport keep profile input script (outcome_of keep profile input script))
   ran_means reads (Ok p) m es of read is only said prepared =
       let ran = outcome_ran keep profile input script m (Ok es) read said in
-      let spelled : IsSpelled (run_outcome keep m es).edited = subst (λ (o : Outcome). IsSpelled o.edited) ran prepared.spelled in
-      subst (IsReport keep profile input script) (sym ran) (inr (m, read_as m read of, inr (run_told reads m es is only spelled)))
+      rw ran (inr (m, read_as m read of, inr (run_told reads m es is only (rw ran at prepared.spelled))))
   ran_means reads (Err e) m es of read is only said prepared = tt
 
   pub script_means : (r : Result Prepared RunFault) (m : Parts) (f : ScriptFault) → OnOk r (f ≢ ScriptFault.Memory)
@@ -151,12 +150,12 @@ module _ (keep : Bool) (profile : Profile) (input script : List ℕ) where
       → (f ≢ ScriptFault.Memory → IsNoScript script) → (f ≢ ScriptFault.Memory → IsFaultOf script f)
       → OnOk r (IsReport keep profile input script (outcome_of keep profile input script))
   script_means (Ok p) m f other of read said none faulty =
-      subst (IsReport keep profile input script) (sym (outcome_ran keep profile input script m (Err f) read (said other)))
+      rw (outcome_ran keep profile input script m (Err f) read (said other))
       (inr (m, read_as m read of, inl (record { fault = f; none = none other; first = faulty other; out = refl; report = refl; status = refl })))
   script_means (Err e) m f other of read said none faulty = tt
 
   pub script_ok : (r : Result Prepared RunFault) (m : Parts) (f : ScriptFault) → IfOk r (IsPrepared (script_outcome f))
       → OnOk r (f ≢ ScriptFault.Memory) → module_at profile input ≡ Ok m → (f ≢ ScriptFault.Memory → script_of script ≡ Err f)
       → IfOk r (IsPrepared (outcome_of keep profile input script))
-  script_ok (Ok p) m f is other read said = subst (λ (o : Outcome). IsPrepared o p) (sym (outcome_ran keep profile input script m (Err f) read (said other))) is
+  script_ok (Ok p) m f is other read said = rw (outcome_ran keep profile input script m (Err f) read (said other)) is
   script_ok (Err e) m f is other read said = tt

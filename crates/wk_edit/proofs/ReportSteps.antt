@@ -33,10 +33,7 @@ more old new whole n i rs qs r v less at alike put e =
     let like : IsAlike r q = subst (λ s. IsAlike s q) (sym at) here.1 in
     let next : suc i ≡ i + 1 = omega arith in
     let behind : drop i qs ≡ q ∷ drop (i + 1) qs = here.2 ∙ ap (λ (k : ℕ). q ∷ drop k qs) next in
-    ap (λ (t : List ℕ). t ++ report_text (n + 1) (drop (i + 1) qs) v) (put q like)
-    ∙ append_assoc old (reply_line n q) (report_text (n + 1) (drop (i + 1) qs) v)
-    ∙ ap (λ (s : List (Result Work EditFault)). old ++ report_text n s v) (sym behind)
-    ∙ e
+    rw (put q like, append_assoc) (rw behind at e)
 
 pub last : {A : Type 0} (old new line whole : List ℕ) (n i : ℕ) (rs : List (Result A EditFault)) (qs : List (Result Work EditFault)) (v : Verdict)
     → length rs ≤ i → AreAlike rs qs → new ≡ old ++ line → line ≡ verdict_line v
@@ -44,4 +41,4 @@ pub last : {A : Type 0} (old new line whole : List ℕ) (n i : ℕ) (rs : List (
 unfolding report_text
 last old new line whole n i rs qs v past alike put is e =
     let all : length qs ≤ i = omega (arith, alike_len rs qs alike, past) in
-    put ∙ ap (λ (t : List ℕ). old ++ t) is ∙ ap (λ (r : List (Result Work EditFault)). old ++ report_text n r v) (sym (drop_all i qs all)) ∙ e
+    put ∙ ap (λ (t : List ℕ). old ++ t) is ∙ (rw (drop_all i qs all) at e)

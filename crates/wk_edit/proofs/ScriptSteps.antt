@@ -55,18 +55,18 @@ one_edit d (Err e) = refl
 pub edit_more : (es : List Edit) (n : ℕ) (l : List ℕ) (ls : List (List ℕ)) (d : Edit) (r : Result (List Edit) ScriptFault)
     → line_edit (n + 1) l ≡ Ok (Some d) → with_edits es (lines_from (n + 1) (l ∷ ls)) ≡ r → with_edits (es ++ d ∷ []) (lines_from (n + 1 + 1) ls) ≡ r
 unfolding lines_from
-edit_more es n l ls d r line e = sym (with_with es d (lines_from (n + 1 + 1) ls)) ∙ ap (with_edits es) (sym (one_edit d (lines_from (n + 1 + 1) ls)))
-    ∙ ap (λ (x : Result (Option Edit) ScriptFault). with_edits es (then_more x (lines_from (n + 1 + 1) ls))) (sym line) ∙ e
+edit_more es n l ls d r line e =
+    sym (with_with es d (lines_from (n + 1 + 1) ls)) ∙ ap (with_edits es) (sym (one_edit d (lines_from (n + 1 + 1) ls))) ∙ (rw line at e)
 
 pub line_without : (es : List Edit) (n : ℕ) (l : List ℕ) (ls : List (List ℕ)) (r : Result (List Edit) ScriptFault) → line_edit (n + 1) l ≡ Ok None
     → with_edits es (lines_from (n + 1) (l ∷ ls)) ≡ r → with_edits es (lines_from (n + 1 + 1) ls) ≡ r
 unfolding lines_from
-line_without es n l ls r line e = ap (λ (x : Result (Option Edit) ScriptFault). with_edits es (then_more x (lines_from (n + 1 + 1) ls))) (sym line) ∙ e
+line_without es n l ls r line e = rw line at e
 
 pub line_stops : (es : List Edit) (n : ℕ) (l : List ℕ) (ls : List (List ℕ)) (f : ScriptFault) (r : Result (List Edit) ScriptFault)
     → line_edit (n + 1) l ≡ Err f → with_edits es (lines_from (n + 1) (l ∷ ls)) ≡ r → r ≡ Err f
 unfolding lines_from
-line_stops es n l ls f r line e = sym e ∙ ap (λ (x : Result (Option Edit) ScriptFault). with_edits es (then_more x (lines_from (n + 1 + 1) ls))) line
+line_stops es n l ls f r line e = sym (rw line at e)
 
 pub edits_done : (es : List Edit) (n : ℕ) (r : Result (List Edit) ScriptFault) → with_edits es (lines_from n []) ≡ r → r ≡ Ok es
 unfolding lines_from
@@ -81,8 +81,7 @@ pub edit_step : (es new : List Edit) (n : ℕ) (l : List ℕ) (ls it : List (Lis
     → it ≡ l ∷ ls → line_edit (n + 1) l ≡ Ok o → o ≡ Some d → new ≡ es ++ d ∷ [] → with_edits es (lines_from (n + 1) it) ≡ r
     → with_edits new (lines_from (n + 1 + 1) ls) ≡ r
 edit_step es new n l ls it o d r items line some pushed said =
-    ap (λ (x : List Edit). with_edits x (lines_from (n + 1 + 1) ls)) pushed
-    ∙ edit_more es n l ls d r (line ∙ ap Ok some) (ap (λ (x : List (List ℕ)). with_edits es (lines_from (n + 1) x)) (sym items) ∙ said)
+    rw pushed (edit_more es n l ls d r (line ∙ ap Ok some) (rw items at said))
 
 pub count_step : (n m : ℕ) (l : List ℕ) (ls it : List (List ℕ)) → it ≡ l ∷ ls → n + length it ≡ m → n + 1 + length ls ≡ m
 count_step n m l ls it items count =

@@ -67,8 +67,7 @@ types_are (w ∷ ws) ts e =
     let b = bind_some (all_named ws) (λ more. Some (a.0 ∷ more)) ts a.2 in
     let front : w ≡ type_name a.0 = type_is w a.0 a.1 in
     let back : ws ≡ map type_name b.0 = types_are ws b.0 b.1 in
-    let whole : a.0 ∷ b.0 ≡ ts = some_is (a.0 ∷ b.0) ts b.2 in
-    ap (λ (v : List ℕ). v ∷ ws) front ∙ ap (λ (vs : List (List ℕ)). type_name a.0 ∷ vs) back ∙ ap (map type_name) whole
+    subst (λ (us : List ValType). w ∷ ws ≡ map type_name us) (some_is (a.0 ∷ b.0) ts b.2) cc
 
 some_pieces : (w : List ℕ) → 0 < length (pieces 44 w)
 some_pieces w = omega (arith, length-slice_split (λ b. b == 44) w)

@@ -8,8 +8,7 @@ use Rattle.wk_edit.proofs.prepare.run_edits.Goals as goal
 
 pub returns-in-Whole-clause-ok : goal.returns-in-Whole-clause-ok
 returns-in-Whole-clause-ok c = λ m is.
-    let same : c.in-Whole.session ≡ m = rw c.in-Whole.is at is in
-    subst (λ (p : Parts). IfOk c.prepare_run.result (IsPrepared (run_outcome c.args.keep_valid p c.args.edits.now))) same c.prepare_run.ensures.ok
+    let same : c.in-Whole.session ≡ m = rw c.in-Whole.is at is in rw same at c.prepare_run.ensures.ok
 
 pub edit_outline-requires : goal.edit_outline-requires
 edit_outline-requires c =

@@ -21,11 +21,8 @@ returns-in-Err-clause-means c = λ m input opened read is.
 
 pub returns-in-Ok-clause-ok : goal.returns-in-Ok-clause-ok
 returns-in-Ok-clause-ok c = λ m input opened read.
-    let keep = c.args.keep_valid in
-    let r : Result Prepared RunFault = c.run_edits.result in
-    let ran : IfOk r (IsPrepared (run_outcome keep m c.in-Ok.edits.items)) =
-    subst (λ (es : List Edit). IfOk r (IsPrepared (run_outcome keep m es))) c.deref.ensures.value (c.run_edits.ensures.ok m opened) in
-    ran_ok keep c.args.profile input c.args.script.now r m (Ok c.in-Ok.edits.items) ran read c.in-Ok.ensures.exact
+    ran_ok c.args.keep_valid c.args.profile input c.args.script.now c.run_edits.result m (Ok c.in-Ok.edits.items)
+    (rw c.deref.ensures.value at (c.run_edits.ensures.ok m opened)) read c.in-Ok.ensures.exact
 
 pub returns-in-Ok-clause-means : goal.returns-in-Ok-clause-means
 returns-in-Ok-clause-means c = λ m input opened read is.

@@ -16,4 +16,4 @@ open_session-opened-requires-clause-codes c = λ m at. c.requires.codes m (ap (m
 pub returns-in-Ok-clause-ok : goal.returns-in-Ok-clause-ok
 returns-in-Ok-clause-ok c = λ m at.
     let same = same_module c.args.profile c.deref.result.now c.args.input.items c.in-Ok.session m c.deref.ensures.value c.in-Ok.ensures at in
-    subst (λ (p : Parts). IfOk c.prepare_run.result (IsPrepared (run_outcome c.args.keep_valid p c.args.edits.now))) same c.prepare_run.ensures.ok
+    rw same at c.prepare_run.ensures.ok
