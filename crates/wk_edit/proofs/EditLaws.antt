@@ -1,5 +1,5 @@
 -- What the words of a line say is what they spell, and the other way round.
-use Rattle.std.proofs.Common.{◌≡◌, ◌<◌, ℕ, inl, inr, List, [], ◌∷◌, length, map, Option, Some, None, codes, refl, sym, ap, subst, ◌∙◌, arith}
+use Rattle.std.proofs.Common.{◌≡◌, ◌<◌, ℕ, inl, inr, List, [], ◌∷◌, length, map, Option, Some, None, codes, refl, sym, subst, arith}
 use Rattle.std.specs.Prelude.{All, IfSome, decimal}
 use Rattle.std.specs.List.{AllPass}
 use Rattle.std.proofs.lemmas.List.Elements.{All-nil, All-cons}
@@ -20,7 +20,7 @@ use Rattle.wk_edit.specs.Words.{◌>>=◌, number_of, limits_of, kind_named, mut
 use Rattle.wk_edit.specs.Words.{is_graphic}
 use Rattle.wk_edit.specs.Script.{type_edit, import_edit, numbered_edit, global_edit, export_edit, unexport_edit, custom_edit, strip_edit, verb_named}
 use Rattle.wk_edit.specs.Script.{edit_by, edit_of}
-use Rattle.wk_edit.specs.ScriptGrammar.{type_name, types_word, mutable_word, kind_word, most_words, limits_words, desc_words, IsU32, AreU32Limits, IsU32Desc}
+use Rattle.wk_edit.specs.ScriptGrammar.{type_name, mutable_word, most_words, limits_words, desc_words, IsU32, AreU32Limits, IsU32Desc}
 use Rattle.wk_edit.specs.ScriptGrammar.{SpellsData, SpellsEdit}
 use Rattle.wk_edit.proofs.NumberLaws.{number_told, number_said, graphic_number}
 use Rattle.wk_edit.proofs.WordLaws.{bind_some, tested, named_told, type_is, type_back, graphic_type, types_told, types_said, graphic_types, kind_told, kind_said}

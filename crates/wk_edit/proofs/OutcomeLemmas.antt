@@ -1,5 +1,5 @@
 -- What is prepared is the outcome.
-use Rattle.std.proofs.Common.{◌≡◌, ◌≢◌, ℕ, Bool, true, false, ◌||◌, List, [], ◌∷◌, Result, Ok, Err, refl, sym, ap, subst, ◌∙◌, inl, inr}
+use Rattle.std.proofs.Common.{◌≡◌, ◌≢◌, ℕ, Bool, false, List, [], ◌∷◌, Result, Ok, Err, refl, sym, ap, subst, ◌∙◌, inl, inr}
 use Rattle.std.specs.Prelude.{IfOk, OnOk, Some, string_bytes}
 use Rattle.std.specs.List.{list_any}
 use Rattle.std.proofs.lemmas.Bool.{or_parts}
@@ -21,13 +21,12 @@ use Rattle.wk_session.specs.declared.edit.Work.{Work}
 use Rattle.wk_session.specs.declared.edit.EditFault.{EditFault}
 use Rattle.wk_session.specs.Runs.{is_memory, reply_of, after_one, replies_of, after, refused_for_memory}
 use Rattle.wk_edit.specs.declared.fault.ScriptFault.{ScriptFault}
-use Rattle.wk_edit.specs.declared.fault.Status.{Status}
 use Rattle.wk_edit.specs.declared.fault.RunFault.{RunFault}
 use Rattle.wk_edit.specs.declared.prepare.Prepared.{Prepared}
 use Rattle.wk_edit.specs.Script.{script_of}
 use Rattle.wk_edit.specs.ScriptGrammar.{IsScript, IsOnlyScript, IsNoScript, IsFaultOf}
 use Rattle.wk_edit.specs.ReportText.{report_text}
-use Rattle.wk_edit.specs.Outcome.{Outcome, out_of, malformed_outcome, run_status, run_outcome, script_outcome, outcome_on, outcome_of}
+use Rattle.wk_edit.specs.Outcome.{malformed_outcome, run_status, run_outcome, script_outcome, outcome_on, outcome_of}
 use Rattle.wk_edit.specs.Prepared.{made_bytes, IsPrepared, IsSpelled}
 use Rattle.wk_edit.specs.Theorem.{IsRun, IsRead, IsReport}
 use Rattle.wk_session.specs.ToldLaws.{ReadsCode, all_told}

@@ -1,5 +1,5 @@
 -- Names are UTF-8.
-use Rattle.std.proofs.Common.{◌≡◌, ◌<◌, ◌&&◌, ◌==◌, not, ℕ, zero, suc, slice_index, nat_le, Bool, true, false, List, [], ◌∷◌, length, Some, None, Result, Ok}
+use Rattle.std.proofs.Common.{◌≡◌, ◌<◌, ◌==◌, not, ℕ, true, List, length, Some, None, Result, Ok}
 use Rattle.std.proofs.Common.{refl, arith}
 use Rattle.std.specs.List.{list_all}
 use Rattle.std.specs.Str.{IsUtf8}

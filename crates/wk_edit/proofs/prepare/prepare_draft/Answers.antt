@@ -1,7 +1,5 @@
-use Rattle.std.proofs.Common.{[], List, Result, ap, subst, sym, ◌∙◌}
-use Rattle.wk_session.specs.declared.edit.EditFault.{EditFault}
+use Rattle.std.proofs.Common.{[], ap, ◌∙◌}
 use Rattle.wk_session.specs.Runs.{after, replies_of}
-use Rattle.wk_draft.specs.Runs.{AreAlike}
 use Rattle.wk_edit.specs.Outcome.{run_status}
 use Rattle.wk_edit.specs.ReportText.{report_text}
 use Rattle.wk_edit.proofs.OutcomeLemmas.{spelled_once}

@@ -1,11 +1,5 @@
-use Rattle.std.proofs.Common.{List, Result, Ok, subst}
-use Rattle.std.specs.Prelude.{IfOk}
-use Rattle.wk_session.specs.declared.edit.Edit.{Edit}
+use Rattle.std.proofs.Common.{Ok}
 use Rattle.wk_session.specs.ToldLaws.{ReadsCode}
-use Rattle.wk_edit.specs.declared.fault.RunFault.{RunFault}
-use Rattle.wk_edit.specs.declared.prepare.Prepared.{Prepared}
-use Rattle.wk_edit.specs.Outcome.{outcome_of, run_outcome}
-use Rattle.wk_edit.specs.Prepared.{IsPrepared}
 use Rattle.wk_edit.proofs.OutcomeLemmas.{ran_ok, ran_means, script_ok, script_means}
 use Rattle.wk_edit.proofs.prepare.run_script.Goals as goal
 

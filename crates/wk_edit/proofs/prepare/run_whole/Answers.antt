@@ -1,9 +1,5 @@
-use Rattle.std.proofs.Common.{ap, subst, sym, ◌∙◌}
-use Rattle.std.specs.Prelude.{IfOk}
-use Rattle.wk_module.specs.declared.types.Parts.{Parts}
+use Rattle.std.proofs.Common.{ap, sym, ◌∙◌}
 use Rattle.wk_module.specs.Reading.{module_at}
-use Rattle.wk_edit.specs.Outcome.{run_outcome}
-use Rattle.wk_edit.specs.Prepared.{IsPrepared}
 use Rattle.wk_edit.proofs.OutcomeLemmas.{same_module}
 use Rattle.wk_edit.proofs.prepare.run_whole.Goals as goal
 
