@@ -8,7 +8,7 @@ use Rattle.wk_edit.specs.ReportText.{malformed_text}
 use Rattle.wasmkit.specs.declared.command.Asked.{Asked}
 use Rattle.wasmkit.specs.declared.command.Asked.TheVariants.{Edit, Objdump, Sections, Strip, Validate}
 use Rattle.wasmkit.specs.declared.fault.ProgramFault.{ProgramFault}
-use Rattle.wasmkit.specs.declared.fault.ProgramFault.TheVariants.{Read, Output, Memory}
+use Rattle.wasmkit.specs.declared.fault.ProgramFault.TheVariants.{Output, Memory}
 use Rattle.wasmkit.specs.Answers.{Answer, edited, dumped, framed, stripped, judged}
 use Rattle.wasmkit.specs.Events.{Event, Loaded, Saved, then_all}
 use Rattle.wasmkit.specs.Faults.{fault_status, IsOfLoad, IsOfSave, IsOfWords}
