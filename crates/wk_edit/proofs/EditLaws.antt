@@ -59,11 +59,10 @@ global_type_said : (g : GlobalType) → global_type_of (type_name g.val) (mutabl
 global_type_said g = rw (type_back g.val, mutable_said g.mutable) refl
 
 -- the kind and the words are those of the import
-SaysDesc : Kind → List (List ℕ) → ImportDesc → Type 0
+abbrev SaysDesc : Kind → List (List ℕ) → ImportDesc → Type 0
 SaysDesc k ws d = (k ≡ desc_kind d) × (ws ≡ desc_words d) × IsU32Desc d
 
 desc_told : (k : Kind) (ws : List (List ℕ)) (d : ImportDesc) → desc_of k ws ≡ Some d → SaysDesc k ws d
-unfolding SaysDesc
 desc_told kinds.Func (a ∷ []) d h =
     let x = bind_some (number_of a) _ d h in
     let t = number_told a x.0 x.1 in
@@ -107,7 +106,6 @@ import_short word (a ∷ b ∷ []) few = refl
 import_short word (a ∷ b ∷ c ∷ ws) few = absurd (omega (arith, few))
 
 import_told : (ws : List (List ℕ)) (e : Edit) → import_edit ws ≡ Some e → SpellsEdit (codes "import" ∷ ws) e
-unfolding SaysDesc
 import_told (kind ∷ from ∷ name ∷ more) e h =
     let a = bind_some (kind_named kind) _ e h in
     let b = bind_some (desc_of a.0 more) _ e a.2 in

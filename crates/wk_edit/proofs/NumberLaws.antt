@@ -1,31 +1,28 @@
 -- Numbers in decimal.
-use Rattle.std.proofs.Common.{◌≡◌, ◌&&◌, ◌<◌, ◌^◌, ℕ, nat_lt, Bool, true, false, cond, List, [], ◌∷◌, Option, Some, None, Result, Ok, Err, refl, sym, ap, subst}
+use Rattle.std.proofs.Common.{◌≡◌, ◌&&◌, ◌<◌, ◌^◌, ℕ, nat_lt, true, false, List, [], ◌∷◌, Option, Some, None, Result, Ok, Err, refl, sym, ap, subst}
 use Rattle.std.proofs.Common.{◌∙◌, arith}
 use Rattle.std.specs.Prelude.{decimal}
 use Rattle.std.specs.Str.{IsUtf8, bytes_eq}
 use Rattle.std.specs.Str.Parse.{AllDigits, digits_value, ParsesUnsigned}
 use Rattle.std.proofs.lemmas.Fmt.{IsAscii-decimal, decimal_is_IsNumeral, parse-decimal}
+use Rattle.std.proofs.lemmas.Bool.{and_parts}
 use Rattle.std.proofs.lemmas.Slice.Eq.{bytes_eq-Decides}
 use Rattle.std.proofs.lemmas.Str.{IsUtf8-from_ascii}
 use Rattle.std.specs.List.{AllPass}
 use Rattle.std.proofs.lemmas.List.Elements.{All-nil, All-cons}
 use Rattle.std.proofs.lemmas.Str.Parse.{digit_from_value}
 use Rattle.wk_edit.specs.Words.{is_graphic, number_of}
+use Rattle.wk_edit.proofs.WordLaws.{tested_some}
 
 -- a word that says a number is its text
 pub number_told : (w : List ℕ) (n : ℕ) → number_of w ≡ Some n → (w ≡ decimal n) × (n < 2 ^ 32)
 unfolding number_of
-number_told w n e = by (nat_lt (digits_value 10 w) (2 ^ 32)) (bytes_eq w (decimal (digits_value 10 w))) refl refl e
-  where
-    by : (a b : Bool) → nat_lt (digits_value 10 w) (2 ^ 32) ≡ a → bytes_eq w (decimal (digits_value 10 w)) ≡ b
-        → cond (a && b) (Some (digits_value 10 w)) None ≡ Some n
-        → (w ≡ decimal n) × (n < 2 ^ 32)
-    by true true small same h =
-        let is : digits_value 10 w ≡ n = cc in
-        let less : digits_value 10 w < 2 ^ 32 = grind (arith, small) in
-        ((bytes_eq-Decides w (decimal (digits_value 10 w))).0 same ∙ ap decimal is, subst (λ (k : ℕ). k < 2 ^ 32) is less)
-    by true false small same h = absurd cc
-    by false b small same h = absurd cc
+number_told w n e =
+    let value = digits_value 10 w in
+    let p = tested_some (nat_lt value (2 ^ 32) && bytes_eq w (decimal value)) value n e in
+    let q = and_parts (nat_lt value (2 ^ 32)) (bytes_eq w (decimal value)) p.0 in
+    let less : value < 2 ^ 32 = grind (arith, q.0) in
+    ((bytes_eq-Decides w (decimal value)).0 q.1 ∙ ap decimal p.1, subst (λ (k : ℕ). k < 2 ^ 32) p.1 less)
 
 -- the text of a number says it
 pub number_said : (n : ℕ) → n < 2 ^ 32 → number_of (decimal n) ≡ Some n

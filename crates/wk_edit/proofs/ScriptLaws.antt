@@ -138,7 +138,7 @@ record IsWrongFrom (n : ℕ) (ls : List (List ℕ)) (number : ℕ) (high : Bool)
   wrong : ¬ (IsFineLine line)
   told : list_any is_high line ≡ high
 
-IsFaultFrom : ℕ → List (List ℕ) → ScriptFault → Type 0
+abbrev IsFaultFrom : ℕ → List (List ℕ) → ScriptFault → Type 0
 IsFaultFrom n ls (BadWord number) = IsWrongFrom n ls number false
 IsFaultFrom n ls (NotAscii number) = IsWrongFrom n ls number true
 IsFaultFrom n ls Memory = ⊥
@@ -148,7 +148,6 @@ here n l ls high told wrong =
     record { before = []; line = l; after = ls; cut = refl; count = omega arith; fine = All-nil IsFineLine; wrong = wrong; told = told }
 
 here_told : (n : ℕ) (l : List ℕ) (ls : List (List ℕ)) (f : ScriptFault) → line_edit n l ≡ Err f → IsFaultFrom n (l ∷ ls) f
-unfolding IsFaultFrom
 here_told n l ls f h = by (length l == 0) (list_any is_high l) (edit_of (pieces 32 l)) refl h
   where
     by : (b c : Bool) (q : Option Edit) → list_any is_high l ≡ c → cond b (Ok None) (cond c (Err (NotAscii n)) (or_bad_word n q)) ≡ Err f
@@ -172,7 +171,6 @@ later n l ls number high fine w = record {
 }
 
 later_told : (n : ℕ) (l : List ℕ) (ls : List (List ℕ)) (f : ScriptFault) → IsFineLine l → IsFaultFrom (n + 1) ls f → IsFaultFrom n (l ∷ ls) f
-unfolding IsFaultFrom
 later_told n l ls (BadWord number) fine w = later n l ls number false fine w
 later_told n l ls (NotAscii number) fine w = later n l ls number true fine w
 later_told n l ls Memory fine w = w
@@ -199,7 +197,6 @@ whole bytes number high w =
     record { before = w.before; line = w.line; after = w.after; cut = w.cut; count = omega (arith, w.count); fine = w.fine; wrong = w.wrong; told = w.told }
 
 whole_told : (bytes : List ℕ) (f : ScriptFault) → IsFaultFrom 1 (pieces 10 bytes) f → IsFaultOf bytes f
-unfolding IsFaultFrom
 whole_told bytes (BadWord number) w = whole bytes number false w
 whole_told bytes (NotAscii number) w = whole bytes number true w
 whole_told bytes Memory w = w

@@ -30,6 +30,11 @@ pub bind_some : {A B : Type 0} (o : Option A) (f : A → Option B) (y : B) → (
 bind_some (Some x) f y e = (x, refl, e)
 bind_some None f y e = absurd cc
 
+-- what is there only where a test holds
+pub tested_some : {A : Type 0} (b : Bool) (x y : A) → (if b then Some x else None) ≡ Some y → (b ≡ true) × (x ≡ y)
+tested_some true x y e = (refl, some_is x y e)
+tested_some false x y e = absurd cc
+
 -- which way a test of bytes went
 pub tested : {A : Type 0} (a b : List ℕ) (x y z : A) → cond (bytes_eq a b) x y ≡ z → ((a ≡ b) × (x ≡ z)) ⊎ ((bytes_eq a b ≡ false) × (y ≡ z))
 tested {A} a b x y z e = by (bytes_eq a b) refl e
@@ -155,26 +160,19 @@ graphic_mutable true = AllPass-from_list_all is_graphic (codes "var") refl
 
 utf8_told : (r : Result (List ℕ) FromHexError) (name : List ℕ) → utf8_of r ≡ Some name → (r ≡ Ok name) × IsUtf8 name
 utf8_told (Err d) name e = absurd cc
-utf8_told (Ok bytes) name e = let p = by (is_utf8 bytes) refl e in (ap Ok p.0, p.1)
-  where
-    by : (b : Bool) → is_utf8 bytes ≡ b → cond b (Some bytes) None ≡ Some name → (bytes ≡ name) × IsUtf8 name
-    by true is h = let same = some_is bytes name h in (same, subst IsUtf8 same (IsUtf8-from_is_utf8 bytes is))
-    by false is h = absurd cc
+utf8_told (Ok bytes) name e =
+    let p = tested_some (is_utf8 bytes) bytes name e in
+    (ap Ok p.1, subst IsUtf8 p.1 (IsUtf8-from_is_utf8 bytes p.0))
 
 plain_told : (w name : List ℕ) → take 2 w ≢ codes "x:" → (if is_plain w then Some w else None) ≡ Some name → IsPlainName w name
-plain_told w name bare e = by (is_plain w) refl e
-  where
-    made : is_plain w ≡ true → IsPlainName w w
-    made is = record {
+plain_told w name bare e =
+    let p = tested_some (is_plain w) w name e in
+    subst (IsPlainName w) p.1 (record {
       same = refl;
-      some = λ none. absurd (grind (arith, is, none));
-      graphic = AllPass-from_list_all is_graphic w (grind (arith, is));
+      some = λ none. absurd (grind (arith, p.0, none));
+      graphic = AllPass-from_list_all is_graphic w (grind (arith, p.0));
       bare = bare;
-    }
-
-    by : (b : Bool) → is_plain w ≡ b → cond b (Some w) None ≡ Some name → IsPlainName w name
-    by true is h = subst (IsPlainName w) (some_is w name h) (made is)
-    by false is h = absurd cc
+    })
 
 -- a word that says a name spells it
 pub name_told : (w name : List ℕ) → name_of w ≡ Some name → SpellsName w name
