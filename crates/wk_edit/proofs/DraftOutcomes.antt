@@ -16,18 +16,17 @@ all_alike : (rs : List (Result Work EditFault)) → AreAlike rs rs
 all_alike [] = tt
 all_alike (r ∷ rs) = (same_alike r, all_alike rs)
 
+-- equal replies tell the same
 pub all_same : {rs qs : List (Result Work EditFault)} → rs ≡ qs → AreAlike rs qs
 all_same {rs} same = subst (AreAlike rs) same (all_alike rs)
 
 alike_made : {A : Type 0} (r : Result A EditFault) (q : Result Work EditFault) → IsAlike r q → is_made r ≡ is_accepted q
 alike_made (Ok x) (Ok w) alike = refl
 alike_made (Err f) (Err g) alike = refl
-alike_made (Ok x) (Err g) alike = absurd alike
-alike_made (Err f) (Ok w) alike = absurd alike
+alike_made _ _ alike = absurd alike
 
 pub all_made : {A : Type 0} (rs : List (Result A EditFault)) (qs : List (Result Work EditFault)) → AreAlike rs qs
     → list_all is_made rs ≡ list_all is_accepted qs
 all_made [] [] alike = refl
 all_made (r ∷ rs) (q ∷ qs) alike = rw (alike_made r q alike.0, all_made rs qs alike.1) refl
-all_made [] (q ∷ qs) alike = absurd alike
-all_made (r ∷ rs) [] alike = absurd alike
+all_made _ _ alike = absurd alike

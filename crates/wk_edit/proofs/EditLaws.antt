@@ -23,8 +23,8 @@ use Rattle.wk_edit.specs.Script.{edit_by, edit_of}
 use Rattle.wk_edit.specs.ScriptGrammar.{type_name, mutable_word, most_words, limits_words, desc_words, IsU32, AreU32Limits, IsU32Desc}
 use Rattle.wk_edit.specs.ScriptGrammar.{SpellsData, SpellsEdit}
 use Rattle.wk_edit.proofs.NumberLaws.{number_told, number_said, graphic_number}
-use Rattle.wk_edit.proofs.WordLaws.{bind_some, tested, named_told, type_is, type_back, graphic_type, types_told, types_said, graphic_types, kind_told, kind_said}
-use Rattle.wk_edit.proofs.WordLaws.{graphic_kind, mutable_told, mutable_said, graphic_mutable, name_told, name_said, graphic_name, data_told, data_said}
+use Rattle.wk_edit.proofs.WordLaws.{bind_some, tested, named_told, type_is, type_back, graphic_type, types_told, types_said, graphic_types, kind_told}
+use Rattle.wk_edit.proofs.WordLaws.{kind_said, graphic_kind, mutable_told, mutable_said, graphic_mutable, name_told, name_said, graphic_name, data_told, data_said}
 use Rattle.wk_edit.proofs.WordLaws.{graphic_data}
 
 -- ---- limits, globals and imports
@@ -228,6 +228,7 @@ edit_said ws edits.StripAll h = rw h refl
 
 -- ---- words of an edit are seen in print
 
+-- each of the words is
 record AreGraphic (ws : List (List ℕ)) : Type 0 where
   each : All (AllPass is_graphic) ws
 

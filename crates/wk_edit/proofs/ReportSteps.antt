@@ -10,9 +10,8 @@ use Rattle.wk_edit.specs.ReportText.{reply_line, report_text, verdict_line}
 
 alike_len : {A : Type 0} (rs : List (Result A EditFault)) (qs : List (Result Work EditFault)) → AreAlike rs qs → length rs ≡ length qs
 alike_len [] [] alike = refl
-alike_len [] (q ∷ qs) alike = absurd alike
-alike_len (r ∷ rs) [] alike = absurd alike
 alike_len (r ∷ rs) (q ∷ qs) alike = ap suc (alike_len rs qs alike.1)
+alike_len _ _ alike = absurd alike
 
 -- the reply of the module at an index, and those behind it
 alike_at : {A : Type 0} (rs : List (Result A EditFault)) (qs : List (Result Work EditFault)) (i : ℕ) (r : Result A EditFault) → i < length rs → AreAlike rs qs

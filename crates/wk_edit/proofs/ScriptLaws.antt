@@ -68,19 +68,17 @@ line_told n line o h = by (length line == 0) (list_any is_high line) (edit_of (p
         → cond b (Ok None) (cond c (Err (NotAscii n)) (or_bad_word n q)) ≡ Ok o
         → ((line ≡ []) × (o ≡ None)) ⊎ ((e : Edit) × (o ≡ Some e) × SpellsLine line e)
     by true c q empty words e = let none : length line ≡ 0 = grind (arith, empty) in inl (nil_from_length line none, cc)
-    by false true q empty words e = absurd cc
-    by false false None empty words e = absurd cc
     by false false (Some d) empty words e = inr (d, cc, (pieces 32 line, sym (join_with_byte-slice_split 32 line), edit_told (pieces 32 line) d words))
+    by false _ _ empty words e = absurd cc
 
 -- ---- all lines
 
 -- what comes first, and what is left
 first_told : (r : Result (Option Edit) ScriptFault) (m : Result (List Edit) ScriptFault) (es : List Edit) → then_more r m ≡ Ok es
     → ((r ≡ Ok None) × (m ≡ Ok es)) ⊎ ((e : Edit) × (later : List Edit) × (es ≡ e ∷ later) × (r ≡ Ok (Some e)) × (m ≡ Ok later))
-first_told (Err f) m es h = absurd cc
 first_told (Ok None) m es h = inl (refl, h)
 first_told (Ok (Some e)) (Ok later) es h = inr (e, later, cc, refl, refl)
-first_told (Ok (Some e)) (Err f) es h = absurd cc
+first_told _ _ es h = absurd cc
 
 lines_told : (n : ℕ) (ls : List (List ℕ)) (es : List Edit) → lines_from n ls ≡ Ok es → SpellsLines ls es
 unfolding lines_from
@@ -152,10 +150,9 @@ here_told n l ls f h = by (length l == 0) (list_any is_high l) (edit_of (pieces 
   where
     by : (b c : Bool) (q : Option Edit) → list_any is_high l ≡ c → cond b (Ok None) (cond c (Err (NotAscii n)) (or_bad_word n q)) ≡ Err f
         → IsFaultFrom n (l ∷ ls) f
-    by true c q high e = absurd cc
     by false true q high e = let is : NotAscii n ≡ f = cc in subst (IsFaultFrom n (l ∷ ls)) is (here n l ls true high (not_fine n l f h))
     by false false None high e = let is : BadWord n ≡ f = cc in subst (IsFaultFrom n (l ∷ ls)) is (here n l ls false high (not_fine n l f h))
-    by false false (Some d) high e = absurd cc
+    by _ _ _ high e = absurd cc
 
 later : (n : ℕ) (l : List ℕ) (ls : List (List ℕ)) (number : ℕ) (high : Bool) → IsFineLine l → IsWrongFrom (n + 1) ls number high
     → IsWrongFrom n (l ∷ ls) number high
