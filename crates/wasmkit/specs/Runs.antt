@@ -25,7 +25,7 @@ pub record Printing : Type 0 where
 abbrev pub printing : Option (List ℕ) → Option (List ℕ) → ℕ → ℕ → Printing
 printing before after failed_before failed_after = record { before = before; after = after; failed_before = failed_before; failed_after = failed_after }
 
--- .. of what took and failed so, from one state to the next
+-- .. of an output in two states, by what it took and how often it failed
 abbrev pub between : {X : Type 0} → (X → Option (List ℕ)) → (X → ℕ) → X → X → Printing
 between taken failed old new = printing (taken old) (taken new) (failed old) (failed new)
 
