@@ -19,7 +19,7 @@ use Rattle.wk_body.specs.Tree.{Instrs, Finish, One, Block, If, Tok, Simple, Open
 use Rattle.wk_body.specs.TreeLaws.{tree_of-flatten}
 use Rattle.wk_body.specs.References.{plain_refs, type_refs, refs_of, tok_refs, map_plain, map_tok, moved_plain, shift_instrs, is_stuck_at, is_stuck}
 use Rattle.wk_body.specs.References.{any_stuck, IsRefused}
-use Rattle.wk_body.specs.Moved.{moved_kept, IsMoved, AreMoved, MayRefuse}
+use Rattle.wk_body.specs.Moved.{moved_kept, IsMoved, AreMoved}
 use Rattle.wk_body.specs.MovedLaws.{moved_small}
 use Rattle.wk_body.specs.Kept.{told, all_told, IsWithin, IsKept, tree_kept}
 use Rattle.wk_body.specs.Shape.{deep, AreInRange, IsInRange, IsShaped, IsOf, depth_limit}
@@ -144,54 +144,6 @@ kept_moved kind from pool ts ms t written within few shaped m =
       e,
       free,
     )
-
--- ---- one token after the other
-
-all_parts : {X : Type 0} (P : X → Type 0) (xs : List X) (x : X) → AllByRecursion P (xs ++ x ∷ []) → AllByRecursion P xs × P x
-all_parts P [] x h = (tt, h.0)
-all_parts P (y ∷ ys) x h = let r = all_parts P ys x h.1 in ((h.0, r.0), r.1)
-
--- no reference is stuck in one token more
-pub free_more : (kind : Moving) (from : ℕ) (xs : List Token) (x : Token) → any_stuck kind from (flat_map tok_refs (all_told [] xs)) ≡ false
-    → any_stuck kind from (tok_refs (told [] x)) ≡ false → any_stuck kind from (flat_map tok_refs (all_told [] (xs ++ x ∷ []))) ≡ false
-free_more kind from xs x p q =
-    rw (
-      map-append (told []) xs (x ∷ []),
-      flat_map-append tok_refs (all_told [] xs) (told [] x ∷ []),
-      append-nil (tok_refs (told [] x)),
-      any_stuck_append kind from (flat_map tok_refs (all_told [] xs)) (tok_refs (told [] x)),
-      p,
-    ) q
-
-pub moved_more : (kind : Moving) (from : ℕ) (xs ms : List Token) (x m : Token) → AreMoved kind from xs ms → IsMoved kind from x m
-    → AreMoved kind from (xs ++ x ∷ []) (ms ++ m ∷ [])
-moved_more kind from xs ms x m p q = record {
-  fits = free_more kind from xs x p.fits q.fits;
-  told_moved = λ pool. rw (map-append (told pool) ms (m ∷ []), map-append (told pool) xs (x ∷ []), p.told_moved pool, q.told_moved pool)
-      (sym (map-append (map_tok (moved_plain kind from)) (all_told pool xs) (told pool x ∷ [])));
-  within = λ len h. let r = all_parts (IsWithin len) xs x h in all-push (IsWithin len) ms m (p.within len r.0) (q.within len r.1);
-}
-
--- a reference of a token that can't move is one of all
-pub stuck_at : (kind : Moving) (from : ℕ) (ts : List Token) (i : ℕ) (d : Token) → i < length ts
-    → any_stuck kind from (tok_refs (told [] (get_or ts i d))) ≡ true → any_stuck kind from (flat_map tok_refs (all_told [] ts)) ≡ true
-stuck_at kind from [] i d lt h = absurd (omega arith)
-stuck_at kind from (t ∷ ts) zero d lt h = any_stuck_append kind from (tok_refs (told [] t)) (flat_map tok_refs (all_told [] ts))
-    ∙ or_left (any_stuck kind from (tok_refs (told [] t))) (any_stuck kind from (flat_map tok_refs (all_told [] ts))) h
-stuck_at kind from (t ∷ ts) (suc i) d lt h =
-    any_stuck_append kind from (tok_refs (told [] t)) (flat_map tok_refs (all_told [] ts))
-    ∙ or_right (any_stuck kind from (tok_refs (told [] t))) (any_stuck kind from (flat_map tok_refs (all_told [] ts)))
-    (stuck_at kind from ts i d (omega arith) h)
-
-pub refused_whole : (e : ShiftFault) (kind : Moving) (from : ℕ) (ts : List Token) (i : ℕ) (d : Token) → i < length ts
-    → MayRefuse e (any_stuck kind from (tok_refs (told [] (get_or ts i d)))) → MayRefuse e (any_stuck kind from (flat_map tok_refs (all_told [] ts)))
-refused_whole faults.Overflow kind from ts i d lt h = stuck_at kind from ts i d lt h
-refused_whole faults.Memory kind from ts i d lt h = tt
-
--- a refusal on the way, where moving is defined
-pub refused_free : (e : ShiftFault) (stuck whole : Bool) → stuck ≡ false → stuck ≡ whole → MayRefuse e stuck → IsRefused e whole
-refused_free faults.Overflow stuck whole free same h = absurd cc
-refused_free faults.Memory stuck whole free same h = sym same ∙ free
 
 -- ---- tokens that move where they stand
 

@@ -1,6 +1,6 @@
 //! Expressions, kept flat.
 
-ghost use Rattle.std.specs.Prelude.{◌≡◌, ◌≤◌, false, length};
+ghost use Rattle.std.specs.Prelude.{◌≡◌, ◌≤◌, false, length, IfOk};
 ghost use Rattle.std.specs.List.{AllByRecursion};
 ghost use Rattle.wk_body.specs.Tree.{tokens_of};
 ghost use Rattle.wk_body.specs.Shape.{IsShaped};
@@ -9,9 +9,13 @@ ghost use Rattle.wk_body.specs.References.{refs_of, any_stuck, shift_instrs};
 
 use crate::renumber::{Moving, shift_tokens};
 use crate::token::Token;
-use std::alloc::AllocError;
+use smallvec::SmallVec;
+use std::alloc::{AllocError, Global};
 use std::marker::Model;
 use wk_bytes::LIMIT;
+
+/// How many tokens an expression holds without memory of its own: a constant and its `end`, as most initialisers are.
+pub(crate) const INLINE: usize = 2;
 
 /// Instructions up to their last `end` (2.4.6): an initialiser or an offset, or what a body holds beside its locals.
 ///
@@ -20,7 +24,7 @@ use wk_bytes::LIMIT;
 /// are open at one place.
 #[derive(Debug, Drop)]
 pub struct Expr {
-    tokens: Vec<Token>,
+    tokens: SmallVec<Token, INLINE>,
     labels: Vec<u32>,
 }
 
@@ -45,17 +49,19 @@ impl Clone for Expr {
     fn clone(&self) -> Result<Expr, AllocError> {
         let tokens = self.tokens.clone()?;
         let labels = self.labels.clone()?;
-        Ok(Expr::of(tokens, labels))
+        Ok(Expr { tokens, labels })
     }
 }
 
 impl Expr {
-    // What was put together.
-    pub(crate) fn of(tokens: Vec<Token>, labels: Vec<u32>) -> Expr
-        requires { IsKept labels.items tokens.items }
-        ensures { result ≡ tree_kept labels.items tokens.items }
+    // A copy of what was put together.
+    pub(crate) fn of(alloc: Global, tokens: &[Token], labels: &[u32]) -> Result<Expr, AllocError>
+        requires { IsKept labels.now tokens.now }
+        ensures { IfOk result (λ e. e ≡ tree_kept labels.now tokens.now) }
     {
-        Expr { tokens, labels }
+        let tokens = SmallVec::from_slice(alloc, tokens)?;
+        let labels = Vec::from_slice(alloc, labels)?;
+        Ok(Expr { tokens, labels })
     }
 
     /// The tokens in the order in which they are written, the last `end` among them, and the pool of their labels.
@@ -67,7 +73,7 @@ impl Expr {
         ensures few { length result.0.now ≤ LIMIT }
         ensures shaped { IsShaped self.now }
     {
-        (&self.tokens, &self.labels)
+        (self.tokens.as_slice(), &self.labels)
     }
 
     // Moves its references where they stand.
@@ -75,6 +81,6 @@ impl Expr {
         requires { any_stuck kind from (refs_of self.old) ≡ false }
         ensures { self.new ≡ shift_instrs kind from self.old }
     {
-        shift_tokens(kind, from, &mut self.tokens);
+        shift_tokens(kind, from, self.tokens.as_mut_slice());
     }
 }

@@ -6,7 +6,7 @@ ghost use Rattle.wk_body.specs.declared.renumber.ShiftFault.TheVariants.{Overflo
 ghost use Rattle.wk_body.specs.Kept.{told, all_told};
 ghost use Rattle.wk_body.specs.Shape.{IsOf};
 ghost use Rattle.wk_body.specs.References.{refs_of, tok_refs, moved, shift_instrs, shift_body, is_stuck_at, any_stuck, IsRefused};
-ghost use Rattle.wk_body.specs.Moved.{moved_kept, IsMoved, AreMoved, MayRefuse};
+ghost use Rattle.wk_body.specs.Moved.{moved_kept};
 ghost use Rattle.wk_body.specs.Moves.{index_movement, movement_of, ShiftKeepsShape, ShiftKeepsProfile, StayUnmoved, MoveAlike};
 
 use crate::body::Body;
@@ -106,38 +106,6 @@ pub fn shift_index(from: u32, x: u32) -> Result<u32, ShiftFault>
     x.checked_add(1).ok_or(ShiftFault::Overflow)
 }
 
-// A token with its reference moved.
-fn moved_token(kind: Moving, from: u32, token: &Token) -> Result<Token, ShiftFault>
-    ensures { MatchResult result
-        (λ t. IsMoved kind from token.now t)
-        (λ e. MayRefuse e (any_stuck kind from (tok_refs (told [] token.now)))) }
-{
-    match (kind, *token) {
-        (Moving::Func, Token::Call(x)) => Ok(Token::Call(shift_index(from, x)?)),
-        (Moving::Global, Token::GlobalGet(x)) => Ok(Token::GlobalGet(shift_index(from, x)?)),
-        (Moving::Global, Token::GlobalSet(x)) => Ok(Token::GlobalSet(shift_index(from, x)?)),
-        (_, other) => Ok(other),
-    }
-}
-
-// Tokens with their references moved.
-fn moved_tokens(
-    alloc: Global,
-    kind: Moving,
-    from: u32,
-    tokens: &[Token],
-) -> Result<Vec<Token>, ShiftFault>
-    ensures { MatchResult result
-        (λ v. AreMoved kind from tokens.now v.items)
-        (λ e. MayRefuse e (any_stuck kind from (flat_map tok_refs (all_told [] tokens.now)))) }
-{
-    let mut moved = Vec::with_capacity(alloc, tokens.len())?;
-    for token in tokens {
-        moved.push(moved_token(kind, from, token)?)?;
-    }
-    Ok(moved)
-}
-
 // An index of the kind that moves and has a next, moved.
 pub(crate) fn next_index(from: u32, x: u32) -> u32
     requires { is_stuck_at from x ≡ false }
@@ -208,13 +176,12 @@ fn moved_expr(alloc: Global, expr: &Expr, kind: Moving, from: u32) -> Result<Exp
         × (e ≡ shift_instrs kind from expr.now))
         (λ e. IsRefused e (any_stuck kind from (refs_of expr.now))) }
 {
-    let (tokens, labels) = expr.tokens();
-    if tokens_movement(kind, from, tokens).stuck {
+    if expr_movement(expr, kind, from).stuck {
         return Err(ShiftFault::Overflow);
     }
-    let tokens = moved_tokens(alloc, kind, from, tokens)?;
-    let labels = Vec::from_slice(alloc, labels)?;
-    Ok(Expr::of(tokens, labels))
+    let mut moved = expr.clone()?;
+    moved.shift_in_place(kind, from);
+    Ok(moved)
 }
 
 /// The body after an import of the kind was put in at the index `from`: each reference of the kind to `from` or above is one

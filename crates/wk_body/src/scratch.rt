@@ -228,8 +228,6 @@ impl Scratch {
         requires { IsKept self.now.labels.items self.now.tokens.items }
         ensures { IfOk result (λ e. e ≡ tree_kept self.now.labels.items self.now.tokens.items) }
     {
-        let tokens = Vec::from_slice(alloc, &self.tokens)?;
-        let labels = Vec::from_slice(alloc, &self.labels)?;
-        Ok(Expr::of(tokens, labels))
+        Ok(Expr::of(alloc, &self.tokens, &self.labels)?)
     }
 }

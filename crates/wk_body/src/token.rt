@@ -15,8 +15,9 @@ use crate::types::BlockType;
 /// Among the tokens of a body or an expression `skip` is how many tokens stand between this one and the `End` that closes it, and
 /// an `Else` stands only where its branch holds an instruction. Of a token that a [`TokenReader`](crate::TokenReader) reads, which
 /// keeps none, `skip` is 0, and an `Else` is told of wherever it is spelled, so it may stand right before its `End`.
-#[derive(Clone, Copy, Debug, PartialEq, Eq)]
+#[derive(Clone, Copy, Debug, Default, PartialEq, Eq)]
 pub enum Token {
+    #[default]
     Unreachable,
     Nop,
     Block {

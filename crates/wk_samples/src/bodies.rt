@@ -60,6 +60,12 @@ pub const PADDED_EXPR: &[u8] = b"\x23\x87\x00\x0b";
 /// The global 8.
 pub const MOVED_EXPR: &[u8] = b"\x23\x08\x0b";
 
+/// The global 7, and a constant: an expression of three tokens, which is not held in line.
+pub const LONG_EXPR: &[u8] = b"\x23\x07\x41\x00\x0b";
+
+/// The global 8, and the constant.
+pub const MOVED_LONG_EXPR: &[u8] = b"\x23\x08\x41\x00\x0b";
+
 /// The global 4,294,967,295.
 pub const GREATEST_EXPR: &[u8] = b"\x23\xff\xff\xff\xff\x0f\x0b";
 

@@ -9,7 +9,7 @@ use wk_body::{
     next_expr_in, read_expr, read_expr_in, shift_expr,
 };
 use wk_bytes::{Cursor, OutOfMemory, ReadFault};
-use wk_samples::bodies::{EXPR, MOVED_EXPR};
+use wk_samples::bodies::{EXPR, LONG_EXPR, MOVED_EXPR, MOVED_LONG_EXPR};
 use wk_samples::outcome::Outcome;
 
 // Whether the expression is written as these bytes.
@@ -31,8 +31,8 @@ pub(crate) enum ReadExpr {
     InScratch,
 }
 
-// The expression, and a byte behind it.
-const FRONT: &[u8] = b"\x23\x07\x0b\xff";
+// The long expression, and a byte behind it.
+const FRONT: &[u8] = b"\x23\x07\x41\x00\x0b\xff";
 
 impl ReadExpr {
     /// The call.
@@ -44,10 +44,10 @@ impl ReadExpr {
         call_ends(alloc);
         let at = match self {
             ReadExpr::Whole => 0,
-            _ => 3,
+            _ => 5,
         };
         match &answer {
-            Ok(expr) => Outcome::answered(cursor.at() == at && is_expr(alloc, expr, EXPR)),
+            Ok(expr) => Outcome::answered(cursor.at() == at && is_expr(alloc, expr, LONG_EXPR)),
             Err(fault) => Outcome::refused(*fault == NO_MEMORY && cursor.at() == 0),
         }
     }
@@ -60,8 +60,8 @@ impl ReadExpr {
         scratch: &mut Scratch,
     ) -> Result<Expr, ReadFault> {
         match (self, profile) {
-            (ReadExpr::Whole, Profile::Core) => read_expr(alloc, EXPR),
-            (ReadExpr::Whole, profile) => read_expr_in(alloc, EXPR, profile),
+            (ReadExpr::Whole, Profile::Core) => read_expr(alloc, LONG_EXPR),
+            (ReadExpr::Whole, profile) => read_expr_in(alloc, LONG_EXPR, profile),
             (ReadExpr::Next, Profile::Core) => next_expr(alloc, cursor),
             (ReadExpr::Next, profile) => next_expr_in(alloc, cursor, profile),
             (ReadExpr::InScratch, profile) => scratch.next_expr(alloc, cursor, profile),
@@ -82,36 +82,57 @@ pub(crate) enum OfExpr {
     Clone,
 }
 
+/// An expression, and what becomes of it where its globals move.
+#[derive(Clone, Copy)]
+pub(crate) struct ExprSample {
+    spelled: &'static [u8],
+    moved: &'static [u8],
+}
+
+/// One of two tokens, which are held in line.
+pub(crate) const SHORT: ExprSample = ExprSample {
+    spelled: EXPR,
+    moved: MOVED_EXPR,
+};
+
+/// One of three.
+pub(crate) const LONG: ExprSample = ExprSample {
+    spelled: LONG_EXPR,
+    moved: MOVED_LONG_EXPR,
+};
+
 impl OfExpr {
     /// The call.
-    pub(crate) fn run(self, alloc: Global) -> Outcome {
-        match read_expr(alloc, EXPR) {
-            Ok(expr) => self.run_on(alloc, &expr),
+    pub(crate) fn run(self, alloc: Global, sample: ExprSample) -> Outcome {
+        match read_expr(alloc, sample.spelled) {
+            Ok(expr) => self.run_on(alloc, sample, &expr),
             Err(_) => Outcome::NO_SAMPLE,
         }
     }
 
-    fn run_on(self, alloc: Global, expr: &Expr) -> Outcome {
+    fn run_on(self, alloc: Global, sample: ExprSample, expr: &Expr) -> Outcome {
         match self {
-            OfExpr::Encode => encodes(alloc, expr),
-            OfExpr::Append => appends(alloc, expr),
-            OfExpr::Shift => shifts(alloc, expr),
-            OfExpr::Clone => clones(alloc, expr),
+            OfExpr::Encode => encodes(alloc, sample, expr),
+            OfExpr::Append => appends(alloc, sample, expr),
+            OfExpr::Shift => shifts(alloc, sample, expr),
+            OfExpr::Clone => clones(alloc, sample, expr),
         }
     }
 }
 
-fn encodes(alloc: Global, expr: &Expr) -> Outcome {
+fn encodes(alloc: Global, sample: ExprSample, expr: &Expr) -> Outcome {
     call_begins(alloc);
     let answer = encode_expr(alloc, expr);
     call_ends(alloc);
     match answer {
-        Ok(bytes) => Outcome::answered(bytes.as_slice() == EXPR),
-        Err(fault) => Outcome::refused(fault == EncodeFault::Memory && is_expr(alloc, expr, EXPR)),
+        Ok(bytes) => Outcome::answered(bytes.as_slice() == sample.spelled),
+        Err(fault) => Outcome::refused(
+            fault == EncodeFault::Memory && is_expr(alloc, expr, sample.spelled),
+        ),
     }
 }
 
-fn appends(alloc: Global, expr: &Expr) -> Outcome {
+fn appends(alloc: Global, sample: ExprSample, expr: &Expr) -> Outcome {
     let Some(mut bytes) = vector(alloc, Room::Full) else {
         return Outcome::NO_SAMPLE;
     };
@@ -119,27 +140,29 @@ fn appends(alloc: Global, expr: &Expr) -> Outcome {
     let answer = append_expr(&mut bytes, expr);
     call_ends(alloc);
     match answer {
-        Ok(()) => Outcome::answered(has_appended(&bytes, EXPR)),
+        Ok(()) => Outcome::answered(has_appended(&bytes, sample.spelled)),
         Err(OutOfMemory) => Outcome::refused(bytes.starts_with(&BEFORE)),
     }
 }
 
-fn shifts(alloc: Global, expr: &Expr) -> Outcome {
+fn shifts(alloc: Global, sample: ExprSample, expr: &Expr) -> Outcome {
     call_begins(alloc);
     let answer = shift_expr(alloc, expr, 0);
     call_ends(alloc);
     match answer {
-        Ok(moved) => Outcome::answered(is_expr(alloc, &moved, MOVED_EXPR)),
-        Err(fault) => Outcome::refused(fault == ShiftFault::Memory && is_expr(alloc, expr, EXPR)),
+        Ok(moved) => Outcome::answered(is_expr(alloc, &moved, sample.moved)),
+        Err(fault) => Outcome::refused(
+            fault == ShiftFault::Memory && is_expr(alloc, expr, sample.spelled),
+        ),
     }
 }
 
-fn clones(alloc: Global, expr: &Expr) -> Outcome {
+fn clones(alloc: Global, sample: ExprSample, expr: &Expr) -> Outcome {
     call_begins(alloc);
     let answer: Result<Expr, AllocError> = expr.clone();
     call_ends(alloc);
     match answer {
-        Ok(copy) => Outcome::answered(is_expr(alloc, &copy, EXPR)),
-        Err(AllocError) => Outcome::refused(is_expr(alloc, expr, EXPR)),
+        Ok(copy) => Outcome::answered(is_expr(alloc, &copy, sample.spelled)),
+        Err(AllocError) => Outcome::refused(is_expr(alloc, expr, sample.spelled)),
     }
 }

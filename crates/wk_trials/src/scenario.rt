@@ -5,7 +5,7 @@ use crate::bodies::{Code, OfBody, ReadCode};
 use crate::bytes::{Holder, Integer, Put};
 use crate::drafts::Draft;
 use crate::edits::{TooLarge, Trial};
-use crate::exprs::{OfExpr, ReadExpr};
+use crate::exprs::{ExprSample, OfExpr, ReadExpr};
 use crate::jobs::Job;
 use crate::judging::{OfValid, Validate};
 use crate::lines::Line;
@@ -47,7 +47,7 @@ pub(crate) enum Scenario {
     /// A call that reads an expression.
     ReadExpr(ReadExpr, Profile),
     /// A call that is lent an expression.
-    OfExpr(OfExpr),
+    OfExpr(OfExpr, ExprSample),
     /// `read` or `read_in`.
     Read(Sample),
     /// `read_outline`.
@@ -169,7 +169,7 @@ impl Scenario {
             Scenario::OfBody(call, code) => call.run(alloc, code),
             Scenario::ManyRefs => bodies::finds_many(alloc),
             Scenario::ReadExpr(call, profile) => call.run(alloc, profile),
-            Scenario::OfExpr(call) => call.run(alloc),
+            Scenario::OfExpr(call, sample) => call.run(alloc, sample),
             Scenario::Read(sample) => sample.reads(alloc),
             Scenario::Outline(sample) => sample.outlines(alloc),
             Scenario::Skeleton(sample) => sample.measures(alloc),

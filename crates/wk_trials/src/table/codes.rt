@@ -2,13 +2,13 @@
 
 use crate::bodies::{CORE_CODE, OfBody, ReadCode, WIDE_CODE};
 use crate::bytes::{Holder, Integer, Put};
-use crate::exprs::{OfExpr, ReadExpr};
+use crate::exprs::{LONG, OfExpr, ReadExpr, SHORT};
 use crate::scenario::{Named, Scenario};
 use crate::sinks::Room::{Ample, Full};
 use wk_module::Profile::{Core, Extended};
 
 /// Calls of `wk_bytes` and `wk_body`.
-pub(crate) static CODES: [Named; 54] = [
+pub(crate) static CODES: [Named; 56] = [
     ("put-u32", Scenario::Put(Integer::U32)),
     ("put-s32", Scenario::Put(Integer::S32)),
     ("put-s33", Scenario::Put(Integer::S33)),
@@ -119,8 +119,16 @@ pub(crate) static CODES: [Named; 54] = [
         "next-expr-in-scratch-wide",
         Scenario::ReadExpr(ReadExpr::InScratch, Extended),
     ),
-    ("encode-expr", Scenario::OfExpr(OfExpr::Encode)),
-    ("append-expr", Scenario::OfExpr(OfExpr::Append)),
-    ("shift-expr", Scenario::OfExpr(OfExpr::Shift)),
-    ("clone-expr", Scenario::OfExpr(OfExpr::Clone)),
+    ("encode-expr", Scenario::OfExpr(OfExpr::Encode, LONG)),
+    ("append-expr", Scenario::OfExpr(OfExpr::Append, LONG)),
+    ("shift-expr", Scenario::OfExpr(OfExpr::Shift, LONG)),
+    ("clone-expr", Scenario::OfExpr(OfExpr::Clone, LONG)),
+    (
+        "shift-short-expr-in-room",
+        Scenario::OfExpr(OfExpr::Shift, SHORT),
+    ),
+    (
+        "clone-short-expr-in-room",
+        Scenario::OfExpr(OfExpr::Clone, SHORT),
+    ),
 ];

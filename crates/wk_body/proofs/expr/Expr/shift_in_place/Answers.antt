@@ -1,6 +1,7 @@
-use Rattle.std.proofs.Common.{◌≡◌, [], ◌++◌, length, map, take, drop, ap, subst, sym, ◌∙◌, false}
-use Rattle.std.specs.List.{flat_map}
+use Rattle.std.proofs.Common.{◌≡◌, List, [], length, map, drop, ap, subst, sym, ◌∙◌, false}
+use Rattle.std.specs.List.{flat_map, refill}
 use Rattle.std.proofs.Math.Seq.{take-append_seam}
+use Rattle.wk_body.specs.declared.token.Token.{Token}
 use Rattle.wk_body.specs.Kept.{IsKept, tree_kept, all_told}
 use Rattle.wk_body.specs.Moved.{moved_kept}
 use Rattle.wk_body.specs.References.{any_stuck, refs_of, tok_refs, shift_instrs}
@@ -19,14 +20,13 @@ free c =
     ∙ c.requires
 
 -- what is written back
-moved : (c : After-shift_tokens) → take c.self.inside.tokens.len
-    (c.shift_tokens.new.tokens ++ drop (length c.shift_tokens.new.tokens) c.self.inside.tokens.items)
+moved : (c : After-shift_tokens) → refill (length c.self.inside.tokens.items) c.self.inside.tokens.items c.shift_tokens.new.tokens
     ≡ map (moved_kept c.args.kind c.args.from) c.self.inside.tokens.items
 moved c =
     let now = c.shift_tokens.new.tokens in
-    let len : c.self.inside.tokens.len ≡ length now = sym (c.shift_tokens.auto.tokens ∙ c.deref_mut.ensures.len) in
-    rw len (take-append_seam now (drop (length now) c.self.inside.tokens.items)) ∙ c.shift_tokens.ensures
-    ∙ ap (map (moved_kept c.args.kind c.args.from)) c.deref_mut.ensures.value
+    let ts = c.self.inside.tokens.items in
+    let len : length ts ≡ length now = sym (c.shift_tokens.auto.tokens ∙ ap (λ (xs : List Token). length xs) c.as_mut_slice.ensures.value) in
+    rw len (take-append_seam now (drop (length now) ts)) ∙ c.shift_tokens.ensures ∙ ap (map (moved_kept c.args.kind c.args.from)) c.as_mut_slice.ensures.value
 
 kept : (c : After-shift_tokens) → any_stuck c.args.kind c.args.from (flat_map tok_refs (all_told [] c.self.inside.tokens.items)) ≡ false
     → let ms = map (moved_kept c.args.kind c.args.from) c.self.inside.tokens.items in
@@ -40,7 +40,7 @@ kept c none =
     (k.0, k.1 ∙ ap (shift_instrs c.args.kind c.args.from) c.self.view_is)
 
 pub shift_tokens-requires : goal.shift_tokens-requires
-shift_tokens-requires c = rw c.deref_mut.ensures.value (free (goal.at.shift_tokens-requires c).After-self)
+shift_tokens-requires c = rw c.as_mut_slice.ensures.value (free (goal.at.shift_tokens-requires c).After-self)
 
 pub invariant_of-self : goal.invariant_of-self
 invariant_of-self c =
