@@ -1,24 +1,32 @@
 -- Edits by which an item comes to a list of a module that no function and no custom section is in.
-use Rattle.std.proofs.Common.{◌≡◌, ℕ, Bool, Option, List, Result, Err, refl, sym, ap, subst, ◌∙◌}
+use Rattle.std.proofs.Common.{◌≡◌, ℕ, Bool, true, false, Option, List, length, Result, Err, refl, sym, ap, subst, ◌∙◌}
 use Rattle.std.specs.Prelude.{IfSome}
+use Rattle.std.specs.Option.{is_some}
 use Rattle.wk_body.specs.declared.fault.EncodeFault.{EncodeFault}
 use Rattle.wk_body.specs.declared.references.Ref.{Ref}
+use Rattle.wk_body.specs.Lengths.{limited}
 use Rattle.wk_module.specs.declared.types.Parts.{Parts}
-use Rattle.wk_module.specs.Shape.{IsInOrderFrom}
+use Rattle.wk_module.specs.Shape.{IsInOrderFrom, settle}
+use Rattle.wk_module.specs.Writing.{encoded}
 use Rattle.wk_typing.specs.declared.fault.Verdict.{Verdict}
 use Rattle.wk_typing.specs.Answers.{Found}
 use Rattle.wk_typing.specs.Finds.{Grows}
 use Rattle.wk_check.specs.SpacesLaws.{answers_of}
 use Rattle.wk_session.specs.declared.cache.Cache.{Cache}
+use Rattle.wk_session.specs.declared.edit.Edit.{Edit}
 use Rattle.wk_session.specs.declared.edit.EditFault.{EditFault}
+use Rattle.wk_session.specs.declared.edit.EditFault.TheVariants.{TooLarge}
+use Rattle.wk_session.specs.declared.edit.Work.{Work}
 use Rattle.wk_session.specs.declared.edits.plan_append.Judgement.{Judgement}
 use Rattle.wk_session.specs.declared.edits.plan_append.NewItem.{NewItem}
 use Rattle.wk_session.specs.Judged.{AreKept, IsGrown, IsJudged, IsKnown}
-use Rattle.wk_session.specs.Kept.{IsKept}
+use Rattle.wk_session.specs.Edits.{fitting, is_decided, is_large, made}
+use Rattle.wk_session.specs.Kept.{IsKept, Leads, standing}
 use Rattle.wk_session.specs.Longer.{IsLonger, IsNewItem}
 use Rattle.wk_session.specs.Pieces.{IsOverlong, section_piece}
 use Rattle.wk_session.specs.Refusals.{encode_refusal}
 use Rattle.wk_session.proofs.Keeping.{others_kept}
+use Rattle.wk_session.proofs.Leading.{Returns, returned, refused, kept_again, too_large, is_none_at, not_large}
 use Rattle.wk_session.proofs.LongerLists.{longer_by, overlong_more}
 use Rattle.wk_session.proofs.Piecing.{unwritten}
 
@@ -47,12 +55,10 @@ module _ (before : Ref → Found) (m n p : Parts) (k : Cache) (found : before �
 module _ (keep : Bool) (m n : Parts) (k : Cache) (typed id count : ℕ) (alone : List ℕ) (longer : IsLonger id count alone k.pieces.sections.items n) where
   -- it can't be made
   pub item_refused : (e : EncodeFault) (r : Result ℕ EditFault) → IsInOrderFrom 0 n.customs → IsOverlong alone e
-      → ((f : EditFault) × (r ≡ Err f) × (f ≡ encode_refusal e))
-      → IsGrown keep (answers_of m) n typed 1 k k r
+      → Returns r (encode_refusal e) → IsGrown keep (answers_of m) n typed 1 k k r
   item_refused e r order over returns =
-      let is = returns.1 ∙ ap (λ (f : EditFault). let q : Result ℕ EditFault = Err f in q) returns.2 in
       let due = unwritten keep id n e order (overlong_more alone (section_piece id n) e longer.within over) in
-      subst (λ (q : Result ℕ EditFault). IsGrown keep (answers_of m) n typed 1 k k q) (sym is) (due, record { others = refl; sections = refl })
+      subst (λ (q : Result ℕ EditFault). IsGrown keep (answers_of m) n typed 1 k k q) (sym (returned r (encode_refusal e) returns)) (due, record { others = refl; sections = refl })
 
   -- it is kept there, if the module with it may stay
   pub item_grown : (new : Cache) (item : NewItem) (judged : Result Judgement EditFault) (r : Result ℕ EditFault) → IsNewItem id count alone item
@@ -64,3 +70,21 @@ module _ (keep : Bool) (m n : Parts) (k : Cache) (typed id count : ℕ) (alone :
   item_grown new item judged r is funcs customs kept told grown =
       subst (λ (made : ℕ). IsGrown keep (answers_of m) n typed made k new r) is.made
       (grown (others_kept m n k funcs customs kept) (longer_by id count alone k.pieces.sections.items n item is longer) told)
+
+-- ---- what the edit leads to
+
+-- a refusal by which nothing has grown, where the edit makes n if that may stay
+pub grown_refused : (keep : Bool) (e : Edit) (m n p : Parts) (k new : Cache) (typed sections : ℕ) (f : EditFault) (r : Result Work EditFault) → Returns r f
+    → made keep e m ≡ standing keep n → IsGrown keep (answers_of m) n typed sections k new (Err f) → is_decided e m ≡ false → p ≡ m → IsKept m k
+    → Leads keep e m r p new
+grown_refused keep e m n p k new typed sections f r returns makes grown decided same kept =
+    refused keep e m new (kept_again m k new grown.1 kept) n p f r returns makes grown.0 (λ wanted. decided) same
+
+-- where how long n gets is known before memory is asked for, and the edit is refused first if that is too long
+module _ (keep : Bool) (e : Edit) (m n : Parts) (k : Cache) (len : Option ℕ) (order : IsInOrderFrom 0 n.customs) (is : len ≡ limited (length (encoded n)))
+    (kept : IsKept m k) where
+  pub length_refused : is_some len ≡ false → made keep e m ≡ standing keep n → Leads keep e m (Err TooLarge) m k
+  length_refused none makes = ((λ other. makes ∙ too_large keep n order (sym (is_none_at len none) ∙ is)), (λ same. absurd cc), refl, kept)
+
+  pub length_undecided : is_some len ≡ true → is_decided e m ≡ is_large (fitting (settle n)) → is_decided e m ≡ false
+  length_undecided some decides = decides ∙ ap is_large (not_large n len order is some)

@@ -7,7 +7,7 @@ use Rattle.wk_module.specs.declared.lists.Lists.{Lists}
 use Rattle.wk_module.specs.declared.types.Parts.{Parts}
 use Rattle.wk_module.specs.Listed.{listed}
 use Rattle.wk_module.specs.Sections.{SectionLists}
-use Rattle.wk_module.specs.Shape.{IsFormed, lists_of, settle}
+use Rattle.wk_module.specs.Shape.{IsInOrderFrom, lists_of, settle}
 use Rattle.wk_module.specs.Writing.{encoded}
 use Rattle.wk_module.specs.WritingLaws.{length-encoded_settle}
 use Rattle.wk_typing.specs.declared.fault.BodyVerdict.{BodyVerdict}
@@ -20,7 +20,7 @@ use Rattle.wk_session.specs.declared.edit.EditFault.{EditFault}
 use Rattle.wk_session.specs.declared.edit.EditFault.TheVariants.{TooLarge, WouldBreak}
 use Rattle.wk_session.specs.Edits.{lasting, unbroken}
 use Rattle.wk_session.specs.Kept.{IsPending, standing}
-use Rattle.wk_session.proofs.Outcomes.{fitting-kept, fitting-none}
+use Rattle.wk_session.proofs.Leading.{fits_settled}
 
 -- their verdict is that of the module
 pub verdict_lent : (l : Lists) (vs : List BodyVerdict) (len : Option ℕ) (n : Parts) → IsPending l vs len n
@@ -30,15 +30,9 @@ verdict_lent l vs len n p =
     ∙ ap (λ (s : SectionLists). verdict_around n.profile s (first_in 10 0 (map body_flaw vs))) p.lists
     ∙ ap (λ (ws : List BodyVerdict). verdict_around n.profile (lists_of n) (first_in 10 0 (map body_flaw ws))) p.verdicts
 
-module _ (keep : Bool) (n : Parts) (formed : IsFormed n) where
-  settled_length : limited (length (encoded (settle n))) ≡ limited (length (encoded n))
-  settled_length = ap limited (length-encoded_settle n formed.order)
-
-  pub too_large : limited (length (encoded n)) ≡ None → standing keep n ≡ Err TooLarge
-  too_large none = ap (λ (r : Result Parts EditFault). r >>= lasting keep) (fitting-none (settle n) (settled_length ∙ none))
-
-  pub fitting_stands : (len : ℕ) → limited (length (encoded n)) ≡ Some len → standing keep n ≡ lasting keep (settle n)
-  fitting_stands len some = ap (λ (r : Result Parts EditFault). r >>= lasting keep) (fitting-kept (settle n) len (settled_length ∙ some))
+pub fitting_stands : (keep : Bool) (n : Parts) → IsInOrderFrom 0 n.customs → (len : ℕ) → limited (length (encoded n)) ≡ Some len
+    → standing keep n ≡ lasting keep (settle n)
+fitting_stands keep n order len some = ap (λ (r : Result Parts EditFault). r >>= lasting keep) (fits_settled n len order some)
 
 pub any_lasts : (keep : Bool) (n : Parts) → keep ≡ false → lasting keep (settle n) ≡ Ok (settle n)
 any_lasts keep n is = ap (λ (k : Bool). lasting k (settle n)) is

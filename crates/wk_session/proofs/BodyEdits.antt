@@ -1,6 +1,6 @@
 -- Another body for a function: what references find stays, and so do the verdicts of the others.
-use Rattle.std.proofs.Common.{◌≡◌, ◌≢◌, ℕ, zero, suc, ◌+◌, ◌<◌, ◌≤◌, Bool, Option, Some, List, [], ◌∷◌, length, map, set, get_or, count_by, Result, Ok, Err}
-use Rattle.std.proofs.Common.{refl, sym, ap, ◌∙◌, arith}
+use Rattle.std.proofs.Common.{◌≡◌, ◌≢◌, ℕ, zero, suc, ◌+◌, ◌<◌, ◌≤◌, Bool, false, Option, Some, List, [], ◌∷◌, length, map, set, get_or, count_by}
+use Rattle.std.proofs.Common.{Result, Ok, Err, refl, sym, ap, ◌∙◌, arith}
 use Rattle.std.specs.Prelude.{slice_get, slice_set, option_map}
 use Rattle.std.proofs.lemmas.List.{map-set, length-set, get_or-set_same}
 use Rattle.std.proofs.lemmas.List.Sums.{get_or-le-sum_by, sum_by-set}
@@ -19,7 +19,6 @@ use Rattle.wk_module.specs.Shape.{IsInOrderFrom, settle}
 use Rattle.wk_module.specs.Sizes.{entry_size}
 use Rattle.wk_typing.specs.declared.fault.BodyVerdict.{BodyVerdict}
 use Rattle.wk_typing.specs.Answers.{Found}
-use Rattle.wk_typing.specs.Carried.{Agree}
 use Rattle.wk_check.specs.Spaces.{answer_in, spaces_of}
 use Rattle.wk_check.specs.SpacesLaws.{answers_of}
 use Rattle.wk_check.specs.Verdict.{func_verdict}
@@ -29,17 +28,17 @@ use Rattle.wk_session.specs.declared.edit.EditFault.TheVariants.{Memory}
 use Rattle.wk_session.specs.declared.edit.Work.{Work}
 use Rattle.wk_session.specs.declared.edits.code_entry.Entry.{Entry}
 use Rattle.wk_session.specs.declared.cache.Cache.{Cache}
-use Rattle.wk_session.specs.Dependents.{held, all_but, is_retyped_in, work_of}
+use Rattle.wk_session.specs.Dependents.{all_but, is_retyped_in, work_of}
 use Rattle.wk_session.specs.Edits.{entry_of, fitting, lasting, made, body_put}
 use Rattle.wk_session.specs.Functions.{IsPlanned, body_spelled}
 use Rattle.wk_session.specs.Kept.{IsKept, Leads, uses_of, standing}
 use Rattle.wk_session.specs.Pieces.{IsOverlong, code_of, codes_size, contents_of, entries_size, section_pieces}
 use Rattle.wk_session.specs.Refusals.{encode_refusal}
-use Rattle.wk_session.proofs.EntryEdits.{lent, lent_is, none_of, unencoded}
-use Rattle.wk_session.proofs.Judging.{agree_none}
+use Rattle.wk_session.proofs.EntryEdits.{unencoded}
+use Rattle.wk_session.proofs.Lent.{lent, lent_is}
 use Rattle.wk_session.proofs.Leading.{accepted}
 use Rattle.wk_session.proofs.Piecing.{entries_codes}
-use Rattle.wk_session.proofs.Works.{work_is}
+use Rattle.wk_session.proofs.Works.{count_zero, none_retyped, work_is}
 
 -- ---- one item of a list
 
@@ -130,23 +129,14 @@ made_body keep x code m entry b is read =
     ap (λ (o : Option ℕ). body_put o code m >>= lasting keep) is
     ∙ ap (λ (r : Result BodyOf EditFault). (r >>= λ (body : BodyOf). fitting (settle (with_body entry body m))) >>= lasting keep) read
 
-all_agree : (A : Ref → Found) (rs : List Ref) → Agree A A rs
-all_agree A [] = tt
-all_agree A (r ∷ rs) = (refl, all_agree A rs)
-
--- where the same is found, nothing is found to be another thing
-none_retyped : (A : Ref → Found) (fs : List Func) → count_by (is_retyped_in A A) fs ≡ 0
-none_retyped A [] = refl
-none_retyped A (f ∷ fs) = rw (agree_none A A (held f) (all_agree A (held f))) (none_retyped A fs)
-
 pub body_work : (x : ℕ) (code : List ℕ) (m : Parts) (entry : ℕ) (b : BodyOf) (typed encoded sections : ℕ) → typed ≡ 1 → encoded ≡ 1 → sections ≡ 0
     → record { typed = typed; encoded = encoded; sections = sections } ≡ work_of (edits.Body x code) m (settle (with_body entry b m))
 body_work x code m entry b typed encoded sections once one none_made =
     let others = all_but (entry_of x m) m.funcs in
-    let none : count_by (is_retyped_in (answers_of m) (answers_of (with_body entry b m))) others ≡ 0 =
-    ap (λ (B : Ref → Found). count_by (is_retyped_in (answers_of m) B) others) (answers_stay entry b m) ∙ none_retyped (answers_of m) others in
-    work_is (edits.Body x code) m (settle (with_body entry b m)) typed encoded sections (once ∙ ap (λ (k : ℕ). 1 + k) (sym none))
-    (one ∙ ap (λ (k : ℕ). 1 + k) (sym (none_of others))) none_made
+    let found : (Ref → Found) → ℕ = λ B. 1 + count_by (is_retyped_in (answers_of m) B) others in
+    work_is typed encoded sections (work_of (edits.Body x code) m (settle (with_body entry b m)))
+    (omega (arith, once, none_retyped (answers_of m) (answers_of m) (λ r. refl) others) ∙ ap found (sym (answers_stay entry b m)))
+    (omega (arith, one, count_zero (λ f. false) (λ f. refl) others)) none_made
 
 -- what is told of each item, where that one is another
 told_set : {A B C : Type 0} (f : A → C) (g : B → C) (xs : List A) (ys : List B) (i : ℕ) (x : A) (y : B) → map f xs ≡ map g ys → f x ≡ g y

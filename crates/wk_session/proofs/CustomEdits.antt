@@ -12,19 +12,21 @@ use Rattle.wk_module.specs.declared.types.Parts.{Parts}
 use Rattle.wk_module.specs.Shape.{IsFormed, IsInOrderFrom, settle}
 use Rattle.wk_module.specs.Writing.{encoded, Fits}
 use Rattle.wk_module.specs.WritingLaws.{length-encoded_filter, length-encoded_settle}
+use Rattle.wk_session.specs.declared.edit.Edit.{Edit}
 use Rattle.wk_session.specs.declared.edit.Edit.TheVariants as edits
 use Rattle.wk_session.specs.declared.edit.EditFault.{EditFault}
 use Rattle.wk_session.specs.declared.edit.EditFault.TheVariants.{NoSuchCustom, Memory}
 use Rattle.wk_session.specs.declared.edit.Work.{Work}
 use Rattle.wk_session.specs.declared.cache.Cache.{Cache}
 use Rattle.wk_session.specs.Customs.{IsChecked, IsPut, with_customs_len}
+use Rattle.wk_session.specs.Dependents.{work_of}
 use Rattle.wk_session.specs.Edits.{fitting, is_large, is_named, with_custom, without_customs, lasting, made}
 use Rattle.wk_session.specs.Kept.{IsKept, Leads, standing}
 use Rattle.wk_session.specs.Pieces.{customs_size}
 use Rattle.wk_session.proofs.CustomPuts.{length_customs}
-use Rattle.wk_session.proofs.Outcomes.{fitting-kept}
-use Rattle.wk_session.proofs.Piecing.{customs_within}
-use Rattle.wk_session.proofs.Works.{set_work}
+use Rattle.wk_session.proofs.Keeping.{kept_with_customs}
+use Rattle.wk_session.proofs.Leading.{Returns, returned}
+use Rattle.wk_session.proofs.Piecing.{customs_within, limited_within}
 
 pub filtered_fits : (keep : Custom → Bool) (m n : Parts) → n ≡ record m { customs = filter keep m.customs } → Fits m → Fits n
 filtered_fits keep m n is fits = omega (arith, fits, length-encoded_filter keep m, ap (λ (p : Parts). length (encoded p)) is)
@@ -36,14 +38,6 @@ none_kept (c ∷ cs) = none_kept cs
 pub bare_fits : (m : Parts) → Fits m → Fits (record m { customs = [] })
 bare_fits m fits = filtered_fits (λ c. false) m (record m { customs = [] })
     (ap (λ (cs : List Custom). let p : Parts = record m { customs = cs } in p) (sym (none_kept m.customs))) fits
-
--- a module that has a length is not too large
-pub fits_settled : (n : Parts) (len : ℕ) → IsFormed n → limited (length (encoded n)) ≡ Some len → fitting (settle n) ≡ Ok (settle n)
-fits_settled n len formed is = fitting-kept (settle n) len (ap limited (length-encoded_settle n formed.order) ∙ is)
-
--- the length of a module that is not too large
-pub limited_fits : (n len : ℕ) → n ≤ limit → len ≡ n → limited n ≡ Some len
-limited_fits n len fits is = cond-true (nat_le n limit) (Some n) None (le-leb n limit fits) ∙ ap Some (sym is)
 
 -- ---- what is kept, with other customs
 
@@ -61,33 +55,40 @@ module _ (m : Parts) (cs : List Custom) (k : Cache) (order : IsInOrderFrom 0 m.c
   -- all stays but for the length, and how much of it the customs are
   pub customs_kept : IsInOrderFrom 0 cs → (len : ℕ) → limited (length (encoded (record m { customs = cs }))) ≡ Some len
       → IsKept (record m { customs = cs }) (with_customs_len len k)
-  customs_kept new len is = record {
-    verdict = kept.verdict;
-    len = is;
-    types = kept.types;
-    verdicts = kept.verdicts;
-    refs = kept.refs;
-    pieces = record {
-      sections = kept.pieces.sections;
-      codes = kept.pieces.codes;
-      codes_len = kept.pieces.codes_len;
-      customs_len = omega (arith, customs_length new, limited_some len (length (encoded (record m { customs = cs }))) (sym is), customs_before);
-    };
-  }
+  customs_kept new len is =
+      let all = limited_some len (length (encoded (record m { customs = cs }))) (sym is) in
+      kept_with_customs m cs k len (len - (k.len - k.pieces.customs_len)) kept is (omega (arith, customs_length new, all, customs_before))
+
+  -- by a module that is the one with them, which is not too large
+  module _ (p : Parts) (same : p ≡ record m { customs = cs }) (formed : IsFormed (record m { customs = cs })) (fits : Fits (record m { customs = cs })) where
+    size_is : k.len - k.pieces.customs_len + customs_size p.customs ≡ length (encoded (record m { customs = cs }))
+    size_is = ap (λ (q : Parts). k.len - k.pieces.customs_len + customs_size q.customs) same ∙ customs_length formed.order
+
+    pub size_fits : k.len - k.pieces.customs_len + customs_size p.customs ≤ limit
+    size_fits = omega (arith, fits, size_is)
+
+    -- an edit leads to it
+    pub customs_lead : (keep : Bool) (e : Edit) (new : Cache) (w : Work) → let n : Parts = record m { customs = cs } in made keep e m ≡ Ok (settle n)
+        → w ≡ work_of e m (settle n) → new ≡ with_customs_len (k.len - k.pieces.customs_len + customs_size p.customs) k → Leads keep e m (Ok w) p new
+    customs_lead keep e new w makes works is =
+        let n : Parts = record m { customs = cs } in
+        let long = sym (limited_within (length (encoded n)) fits) ∙ ap Some (sym size_is) in
+        let kept_new = subst (IsKept n) (sym is) (customs_kept formed.order _ long) in
+        let leads : Leads keep e m (Ok w) n new = (makes, works, formed, kept_new) in
+        subst (λ (q : Parts). Leads keep e m (Ok w) q new) (sym same) leads
 
 module _ {A : Type 0} (keep : Bool) (m n p : Parts) (k : Cache) (same : p ≡ m) where
-  put_refused : (r : Result A EditFault) (f : EditFault) → (y : EditFault) × (r ≡ Err y) × (y ≡ f) → (f ≢ Memory → standing keep n ≡ Err f)
+  put_refused : (r : Result A EditFault) (f : EditFault) → Returns r f → (f ≢ Memory → standing keep n ≡ Err f)
       → (f ≡ Memory → fitting (settle n) ≡ Ok (settle n)) → IsPut keep m n k r p k
   put_refused r f returns due fits =
       let refused : Result A EditFault = Err f in
       let at : IsPut keep m n k refused p k = (due, fits, same, refl) in
-      subst (λ (q : Result A EditFault). IsPut keep m n k q p k)
-      (sym (returns.1 ∙ ap (λ (y : EditFault). let q : Result A EditFault = Err y in q) returns.2)) at
+      subst (λ (q : Result A EditFault). IsPut keep m n k q p k) (sym (returned r f returns)) at
 
-  pub put_checked : (r : Result A EditFault) (f : EditFault) → (y : EditFault) × (r ≡ Err y) × (y ≡ f) → IsChecked keep n (Err f) → IsPut keep m n k r p k
+  pub put_checked : (r : Result A EditFault) (f : EditFault) → Returns r f → IsChecked keep n (Err f) → IsPut keep m n k r p k
   put_checked r f returns at = put_refused r f returns (λ other. at.1) (λ wanted. absurd (at.0 wanted))
 
-  pub put_wanting : (r : Result A EditFault) → (y : EditFault) × (r ≡ Err y) × (y ≡ Memory) → fitting (settle n) ≡ Ok (settle n) → IsPut keep m n k r p k
+  pub put_wanting : (r : Result A EditFault) → Returns r Memory → fitting (settle n) ≡ Ok (settle n) → IsPut keep m n k r p k
   put_wanting r returns fits = put_refused r Memory returns (λ other. absurd (other refl)) (λ wanted. fits)
 
 -- ---- what an edit of customs makes
@@ -96,27 +97,3 @@ module _ {A : Type 0} (keep : Bool) (m n p : Parts) (k : Cache) (same : p ≡ m)
 pub stripped_made : (keep : Bool) (name : List ℕ) (m : Parts) → list_any (is_named name) m.customs ≡ true
     → made keep (edits.StripCustom name) m ≡ lasting keep (settle (without_customs name m))
 stripped_made keep name m is = ap (λ (b : Bool). (if b then Ok (settle (without_customs name m)) else Err NoSuchCustom) >>= lasting keep) is
-
--- what was put leads to the module with the custom
-pub put_leads : (keep : Bool) (name bytes : List ℕ) (m p : Parts) (k j : Cache)
-    → standing keep (with_custom name bytes m) ≡ Ok (settle (with_custom name bytes m)) → p ≡ with_custom name bytes m
-    → IsFormed (with_custom name bytes m) → IsKept (with_custom name bytes m) j
-    → Leads keep (edits.SetCustom name bytes) m (Ok (record { typed = 0; encoded = 0; sections = 1 })) p j
-put_leads keep name bytes m p k j stands same formed kept =
-    let e = edits.SetCustom name bytes in
-    let n = with_custom name bytes m in
-    let w : Work = record { typed = 0; encoded = 0; sections = 1 } in
-    let at : Leads keep e m (Ok w) n j = (stands, set_work name bytes m (settle n) (λ r. refl), formed, kept) in
-    subst (λ (q : Parts). Leads keep e m (Ok w) q j) (sym same) at
-
-pub put_refusal : (keep : Bool) (name bytes : List ℕ) (m p : Parts) (k j : Cache) (out : Result Work EditFault) (f : EditFault)
-    → (y : EditFault) × (out ≡ Err y) × (y ≡ f) → IsKept m k
-    → (f ≢ Memory → standing keep (with_custom name bytes m) ≡ Err f)
-    → (f ≡ Memory → fitting (settle (with_custom name bytes m)) ≡ Ok (settle (with_custom name bytes m))) → p ≡ m → j ≡ k
-    → Leads keep (edits.SetCustom name bytes) m out p j
-put_refusal keep name bytes m p k j out f returns kept due fits same stays =
-    let e = edits.SetCustom name bytes in
-    let refused : Result Work EditFault = Err f in
-    let at : Leads keep e m refused p j = (due, (λ wanted. ap is_large (fits wanted)), same, subst (IsKept m) (sym stays) kept) in
-    subst (λ (q : Result Work EditFault). Leads keep e m q p j)
-    (sym (returns.1 ∙ ap (λ (y : EditFault). let q : Result Work EditFault = Err y in q) returns.2)) at

@@ -1,6 +1,6 @@
 -- Edits that give or replace a code entry: what the module that they make is judged by, and what is kept of it.
-use Rattle.std.proofs.Common.{◌≡◌, ◌≢◌, ℕ, ◌+◌, ◌<◌, ◌≤◌, ◌^◌, Bool, false, Some, None, List, [], ◌∷◌, ◌++◌, length, map, take, get_or, count_by, Result, Ok}
-use Rattle.std.proofs.Common.{Err, refl, sym, ap, subst, ◌∙◌, arith, length-append}
+use Rattle.std.proofs.Common.{◌≡◌, ◌≢◌, ℕ, ◌+◌, ◌<◌, ◌≤◌, ◌^◌, Bool, false, Option, Some, None, List, [], ◌∷◌, ◌++◌, length, map, take, get_or, count_by}
+use Rattle.std.proofs.Common.{Result, Ok, Err, refl, sym, ap, subst, ◌∙◌, arith, length-append}
 use Rattle.std.proofs.Math.Seq.{take-append_seam}
 use Rattle.std.proofs.lemmas.List.{length-map, map_push}
 use Rattle.std.proofs.lemmas.List.Sums.{count_by-le-length, sum_by_push}
@@ -11,7 +11,7 @@ use Rattle.wk_body.specs.declared.fault.EncodeFault.{EncodeFault}
 use Rattle.wk_body.specs.declared.fault.EncodeFault.TheVariants as encoding
 use Rattle.wk_body.specs.Bodies.{BodyOf}
 use Rattle.wk_body.specs.Lengths.{limited}
-use Rattle.wk_body.specs.LengthsLaws.{limited_none}
+use Rattle.wk_body.specs.LengthsLaws.{limited_none, limited_some}
 use Rattle.wk_body.specs.Written.{written_body}
 use Rattle.wk_body.specs.declared.references.Ref.{Ref}
 use Rattle.wk_module.specs.declared.types.Func.{Func}
@@ -45,45 +45,11 @@ use Rattle.wk_session.specs.Functions.{IsPlanned, body_spelled}
 use Rattle.wk_session.specs.Kept.{IsKept, Leads, uses_of, standing}
 use Rattle.wk_session.specs.Pieces.{ArePieces, IsOverlong, code_of, codes_size, entries_size, section_pieces}
 use Rattle.wk_session.specs.Refusals.{encode_refusal}
+use Rattle.wk_session.proofs.Keeping.{kept_fits}
 use Rattle.wk_session.proofs.Leading.{accepted, too_large}
-use Rattle.wk_session.proofs.Outcomes.{limited-some}
+use Rattle.wk_session.proofs.Lent.{answers_in, answers_lent, lent}
 use Rattle.wk_session.proofs.Piecing.{codes_within, entries_codes, limited_within, past_limit}
-use Rattle.wk_session.proofs.Works.{work_is}
-
--- ---- lists that are lent
-
--- the lists of a module, as they are lent
-abbrev pub lent : Parts → SectionLists
-lent m = listed_with (map (λ f. f.ty) m.funcs) m
-
-pub lent_is : (m : Parts) (types : List ℕ) (w : SectionLists) → w ≡ listed_with types m → types ≡ map (λ f. f.ty) m.funcs → w ≡ lent m
-lent_is m types w is told = is ∙ ap (λ (ts : List ℕ). listed_with ts m) told
-
-abbrev pub answers_in : SectionLists → Ref → Found
-answers_in w = answer_in (spaces_of w)
-
-pub answers_lent : (m : Parts) (w : SectionLists) → w ≡ lent m → answers_in w ≡ answers_of m
-answers_lent m w is = ap answers_in is
-
-pub grows_lent : (m n : Parts) (w v : SectionLists) → w ≡ lent m → v ≡ lent n → Grows (answers_of m) (answers_of n) → Grows (answers_in w) (answers_in v)
-grows_lent m n w v old new grows =
-    subst (λ (A : Ref → Found). Grows A (answers_in v)) (sym (answers_lent m w old))
-    (subst (λ (B : Ref → Found). Grows (answers_of m) B) (sym (answers_lent n v new)) grows)
-
-pub verdicts_lent : (m : Parts) (w : SectionLists) (fs : List Func) (vs : List BodyVerdict) → w ≡ lent m → vs ≡ map (func_verdict (answers_of m)) fs
-    → vs ≡ map (func_verdict (answers_in w)) fs
-verdicts_lent m w fs vs is told = told ∙ ap (λ (A : Ref → Found). map (func_verdict A) fs) (sym (answers_lent m w is))
-
-pub count_lent : (m n : Parts) (w v : SectionLists) (fs : List Func) → w ≡ lent m → v ≡ lent n
-    → count_by (is_retyped_in (answers_in w) (answers_in v)) fs ≡ count_by (is_retyped_in (answers_of m) (answers_of n)) fs
-count_lent m n w v fs old new =
-    ap (λ (A : Ref → Found). count_by (is_retyped_in A (answers_in v)) fs) (answers_lent m w old)
-    ∙ ap (λ (B : Ref → Found). count_by (is_retyped_in (answers_of m) B) fs) (answers_lent n v new)
-
-pub numbered_lent : (n : Parts) (w : SectionLists) → w ≡ lent n → IsFormed n → AreNumbered w
-numbered_lent n w is formed =
-    subst AreNumbered (sym is)
-    (module_numbered_with (map (λ f. f.ty) n.funcs) n (omega (arith, funcs_numbered n formed, length-map n.funcs (λ (f : Func). f.ty))) formed)
+use Rattle.wk_session.proofs.Works.{count_zero, work_is}
 
 -- ---- one more item
 
@@ -97,9 +63,6 @@ at_end [] x d = refl
 at_end (y ∷ xs) x d = at_end xs x d
 
 -- ---- lengths
-
-pub kept_fits : (m : Parts) (k : Cache) → IsKept m k → Fits m
-kept_fits m k kept = limited-some (length (encoded m)) k.len kept.len
 
 -- a module whose codes are too long together
 pub codes_large : (keep : Bool) (n : Parts) → IsInOrderFrom 0 n.customs → None ≡ limited (codes_size n.funcs) → standing keep n ≡ Err TooLarge
@@ -125,6 +88,10 @@ pub codes_kept : (m : Parts) (k : EncodedSections) → Fits m → ArePieces m k 
 codes_kept m k fits kept =
     let less : codes_size m.funcs ≤ limit = omega (arith, codes_within m, fits) in
     ap Some kept.codes_len ∙ limited_within (codes_size m.funcs) less
+
+-- it is that, where all codes together are not too long
+pub codes_len_is : (n : Parts) (codes : Option ℕ) (len : ℕ) → codes ≡ Some len → codes ≡ limited (codes_size n.funcs) → len ≡ codes_size n.funcs
+codes_len_is n codes len is told = (limited_some len (codes_size n.funcs) (sym is ∙ told)).0
 
 -- with one code more
 pub codes_more : (fs : List Func) (f : Func) → codes_size (fs ++ f ∷ []) ≡ codes_size fs + entry_size (length (code_of f))
@@ -178,16 +145,12 @@ pub made_func : (keep : Bool) (t : ℕ) (code : List ℕ) (m : Parts) (b : BodyO
 made_func keep t code m b read =
     ap (λ (r : Result BodyOf EditFault). (r >>= λ (body : BodyOf). fitting (settle (with_func t body m))) >>= lasting keep) read
 
--- nothing is encoded again but for what is given
-pub none_of : {A : Type 0} (xs : List A) → count_by (λ x. false) xs ≡ 0
-none_of [] = refl
-none_of (x ∷ xs) = none_of xs
-
 pub func_work : (t : ℕ) (code : List ℕ) (m n : Parts) (typed encoded sections : ℕ)
     → typed ≡ 1 + count_by (is_retyped_in (answers_of m) (answers_of n)) m.funcs → encoded ≡ 1 → sections ≡ 1
     → record { typed = typed; encoded = encoded; sections = sections } ≡ work_of (edits.Func t code) m (settle n)
 func_work t code m n typed encoded sections counted once one =
-    work_is (edits.Func t code) m (settle n) typed encoded sections counted (once ∙ ap (λ (k : ℕ). 1 + k) (sym (none_of m.funcs))) one
+    work_is typed encoded sections (work_of (edits.Func t code) m (settle n)) counted
+    (omega (arith, once, count_zero (λ f. false) (λ f. refl) m.funcs)) one
 
 pub told_more : {A B C : Type 0} (f : A → C) (g : B → C) (xs : List A) (ys : List B) (x : A) (y : B) → map f xs ≡ map g ys → f x ≡ g y
     → map f (xs ++ x ∷ []) ≡ map g (ys ++ y ∷ [])

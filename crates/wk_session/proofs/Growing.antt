@@ -16,20 +16,13 @@ use Rattle.wk_check.specs.Verdict.{func_verdict, module_verdict}
 use Rattle.wk_session.specs.Dependents.{held, is_retyped_in}
 use Rattle.wk_session.specs.Judged.{IsKnown}
 use Rattle.wk_session.proofs.Judging.{agree_none}
+use Rattle.wk_session.proofs.Works.{count_zero_in}
 
--- ---- references that find what they found
-
-module _ (before now : Ref → Found) where
-  pub none_retyped : (fs : List Func) → AllByRecursion (λ f. Agree before now (held f)) fs → 0 ≡ count_by (is_retyped_in before now) fs
-  none_retyped [] h = refl
-  none_retyped (f ∷ fs) h =
-      let p = is_retyped_in before now in
-      omega (
-        arith,
-        sum_by-cons (λ (g : Func). cond (p g) 1 0) f fs,
-        ap {B = ℕ} (λ (b : Bool). cond b 1 0) (agree_none before now (held f) h.0),
-        none_retyped fs h.1,
-      )
+-- no function is typed again, where what it refers to is found as it was
+pub none_retyped : (before now : Ref → Found) (fs : List Func) → AllByRecursion (λ f. Agree before now (held f)) fs
+    → 0 ≡ count_by (is_retyped_in before now) fs
+none_retyped before now fs all =
+    sym (count_zero_in (is_retyped_in before now) (λ f. Agree before now (held f)) (λ f. agree_none before now (held f)) fs all)
 
 -- what is known then, where the functions are those that were there
 pub grown_known : VerdictsStay → ReferencesStay → (m n : Parts) (v : Verdict) → module_verdict m ≡ Valid → Grows (answers_of m) (answers_of n)

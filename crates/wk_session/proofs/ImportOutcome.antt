@@ -14,7 +14,6 @@ use Rattle.wk_module.specs.Writing.{encoded}
 use Rattle.wk_session.specs.declared.edit.Edit.TheVariants as edits
 use Rattle.wk_session.specs.declared.edit.EditFault.{EditFault}
 use Rattle.wk_session.specs.declared.edit.EditFault.TheVariants.{Memory}
-use Rattle.wk_session.specs.declared.edit.Work.{Work}
 use Rattle.wk_session.specs.declared.edits.import.ImportPlan.{ImportPlan}
 use Rattle.wk_session.specs.Edits.{import_place, made}
 use Rattle.wk_session.specs.Imported.{after_import, IsImportPlan, IsUnplanned}
@@ -62,10 +61,3 @@ laid_refs i m plan sets now were planned is =
     ∙ map-with_items set_keys sets news
     ∙ ap (λ (xs : List (List Ref)). with_items xs (map (option_map set_keys) news)) were
     ∙ planned.entries.refs
-
-pub same_work : (typed encoded sections : ℕ) (w : Work) → typed ≡ w.typed → encoded ≡ w.encoded → sections ≡ w.sections
-    → record { typed = typed; encoded = encoded; sections = sections } ≡ w
-same_work typed encoded sections w a b c =
-    ap (λ (n : ℕ). record w { typed = n; encoded = encoded; sections = sections }) a
-    ∙ ap (λ (n : ℕ). record w { encoded = n; sections = sections }) b
-    ∙ ap (λ (n : ℕ). record w { sections = n }) c

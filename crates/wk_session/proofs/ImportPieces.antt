@@ -110,9 +110,3 @@ unwritten keep n l encoding.TooLarge order lent why some =
     let found = long (λ same. absurd cc) in
     section_large keep found.0 n order found.1
 unwritten keep n l encoding.Memory order lent why some = absurd (some refl)
-
-pub codes_large : (keep : Bool) (n : Parts) (codes : List (List ℕ)) → IsInOrderFrom 0 n.customs → codes ≡ map code_of n.funcs
-    → None ≡ limited (entries_size codes) → standing keep n ≡ Err TooLarge
-codes_large keep n codes order are none =
-    too_large keep n order (past_limit (length (encoded n))
-    (omega (arith, limited_none (entries_size codes) none, ap entries_size are, entries_codes n.funcs, codes_within n)))

@@ -1,10 +1,13 @@
 -- What is kept of a module is kept of it with its customs settled, which have no say in it but by their length; and what of it is kept of
 -- functions is kept of a module with the same.
-use Rattle.std.proofs.Common.{◌≡◌, map, ap, sym, ◌∙◌, arith}
+use Rattle.std.proofs.Common.{◌≡◌, ℕ, Some, List, length, map, ap, sym, ◌∙◌, arith}
+use Rattle.std.proofs.lemmas.List.{length-map}
 use Rattle.wk_body.specs.Lengths.{limited}
+use Rattle.wk_module.specs.declared.types.Custom.{Custom}
 use Rattle.wk_module.specs.declared.types.Parts.{Parts}
 use Rattle.wk_module.specs.Shape.{is_filled, settle, IsFormed}
 use Rattle.wk_module.specs.ShapeLaws.{settled_in_order}
+use Rattle.wk_module.specs.Writing.{encoded, Fits}
 use Rattle.wk_module.specs.WritingLaws.{length-encoded, length-encoded_settle}
 use Rattle.wk_check.specs.SpacesLaws.{answers_of}
 use Rattle.wk_check.specs.Verdict.{func_verdict}
@@ -12,6 +15,11 @@ use Rattle.wk_session.specs.declared.cache.Cache.{Cache}
 use Rattle.wk_session.specs.Judged.{AreKept}
 use Rattle.wk_session.specs.Kept.{IsKept, uses_of}
 use Rattle.wk_session.specs.Pieces.{code_of, codes_size, customs_size}
+use Rattle.wk_session.proofs.Outcomes.{limited-some}
+
+-- a module that something is kept of is not too large
+pub kept_fits : (m : Parts) (k : Cache) → IsKept m k → Fits m
+kept_fits m k kept = limited-some (length (encoded m)) k.len kept.len
 
 -- settled custom sections have as many bytes
 customs_settled : (m : Parts) → IsFormed m → customs_size m.customs ≡ customs_size (settle m).customs
@@ -23,10 +31,13 @@ customs_settled m formed =
       length-encoded (settle m) (settled_in_order (is_filled m) 0 m.customs formed.order),
     )
 
-pub kept_settled : (m : Parts) (k : Cache) → IsFormed m → IsKept m k → IsKept (settle m) k
-kept_settled m k formed kept = record {
+-- with other customs all stays but for the length, and how many bytes they have
+pub kept_with_customs : (m : Parts) (cs : List Custom) (k : Cache) (len size : ℕ) → IsKept m k
+    → limited (length (encoded (record m { customs = cs }))) ≡ Some len → size ≡ customs_size cs
+    → IsKept (record m { customs = cs }) (record k { len = len; pieces = record k.pieces { customs_len = size } })
+kept_with_customs m cs k len size kept is sized = record {
   verdict = kept.verdict;
-  len = ap limited (length-encoded_settle m formed.order) ∙ kept.len;
+  len = is;
   types = kept.types;
   verdicts = kept.verdicts;
   refs = kept.refs;
@@ -34,9 +45,21 @@ kept_settled m k formed kept = record {
     sections = kept.pieces.sections;
     codes = kept.pieces.codes;
     codes_len = kept.pieces.codes_len;
-    customs_len = kept.pieces.customs_len ∙ customs_settled m formed;
+    customs_len = sized;
   };
 }
+
+pub kept_settled : (m : Parts) (k : Cache) → IsFormed m → IsKept m k → IsKept (settle m) k
+kept_settled m k formed kept =
+    kept_with_customs m (settle m).customs k k.len k.pieces.customs_len kept (ap limited (length-encoded_settle m formed.order) ∙ kept.len)
+    (kept.pieces.customs_len ∙ customs_settled m formed)
+
+-- as many sets of references and verdicts as functions
+pub refs_count : (m : Parts) (k : Cache) → IsKept m k → length k.refs.items ≡ length m.funcs
+refs_count m k kept = sym (length-map k.refs.items (λ s. s.keys)) ∙ ap length kept.refs ∙ length-map m.funcs uses_of
+
+pub verdicts_count : (m : Parts) (k : Cache) → IsKept m k → length k.verdicts.items ≡ length m.funcs
+verdicts_count m k kept = ap length kept.verdicts ∙ length-map m.funcs (func_verdict (answers_of m))
 
 pub others_kept : (m n : Parts) (k : Cache) → n.funcs ≡ m.funcs → n.customs ≡ m.customs → IsKept m k → AreKept (answers_of m) n k
 others_kept m n k funcs customs kept = record {

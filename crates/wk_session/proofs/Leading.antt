@@ -21,11 +21,11 @@ use Rattle.wk_session.proofs.Outcomes.{fitting-kept, fitting-none}
 -- ---- a refusal that an edit passes on
 
 -- the fault that the exit of a `?` returns
-abbrev pub Returns : Result Work EditFault → EditFault → Type 0
+abbrev pub Returns : {A : Type 0} → Result A EditFault → EditFault → Type 0
 Returns r f = (y : EditFault) × (r ≡ Err y) × (y ≡ f)
 
-returned : (r : Result Work EditFault) (f : EditFault) → Returns r f → r ≡ Err f
-returned r f p = p.1 ∙ ap (λ (y : EditFault). let r : Result Work EditFault = Err y in r) p.2
+pub returned : {A : Type 0} (r : Result A EditFault) (f : EditFault) → Returns r f → r ≡ Err f
+returned {A = A} r f p = p.1 ∙ ap (λ (y : EditFault). let r : Result A EditFault = Err y in r) p.2
 
 module _ (keep : Bool) (e : Edit) (m : Parts) (k : Cache) (kept : IsKept m k) where
   pub wants_memory : (r : Result Work EditFault) → Returns r Memory → is_decided e m ≡ false → Leads keep e m r m k
@@ -51,10 +51,13 @@ pub too_large : (keep : Bool) (n : Parts) → IsInOrderFrom 0 n.customs → None
 too_large keep n order none =
     ap (λ (r : Result Parts EditFault). r >>= lasting keep) (fitting-none (settle n) (ap limited (length-encoded_settle n order) ∙ sym none))
 
+pub fits_settled : (n : Parts) (len : ℕ) → IsInOrderFrom 0 n.customs → limited (length (encoded n)) ≡ Some len → fitting (settle n) ≡ Ok (settle n)
+fits_settled n len order is = fitting-kept (settle n) len (ap limited (length-encoded_settle n order) ∙ is)
+
 pub not_large : (n : Parts) (o : Option ℕ) → IsInOrderFrom 0 n.customs → o ≡ limited (length (encoded n)) → is_some o ≡ true
     → fitting (settle n) ≡ Ok (settle n)
 not_large n None order is some = absurd cc
-not_large n (Some len) order is some = fitting-kept (settle n) len (ap limited (length-encoded_settle n order) ∙ sym is)
+not_large n (Some len) order is some = fits_settled n len order (sym is)
 
 pub is_none_at : (o : Option ℕ) → is_some o ≡ false → o ≡ None
 is_none_at None h = refl

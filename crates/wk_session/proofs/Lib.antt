@@ -16,6 +16,7 @@ pub mod WrittenBack
 pub mod Keeping
 pub mod Settling
 pub mod Leading
+pub mod Lent
 pub mod Used
 pub mod Lasting
 pub mod EntryEdits

@@ -1,6 +1,6 @@
 -- The contents of a list with one item more, by those of the list without it.
 use Rattle.std.proofs.Common.{get_or, ◌≡◌, ℕ, ◌+◌, ◌≤◌, Option, Some, List, [], ◌∷◌, ◌++◌, length, map, drop, set, sym, ap, ◌∙◌, arith, length-append}
-use Rattle.std.proofs.Common.{length-drop}
+use Rattle.std.proofs.Common.{length-drop, refl, subst}
 use Rattle.std.proofs.Math.Seq.{drop-append_seam, drop-nil}
 use Rattle.std.proofs.lemmas.List.{length-map, map_push}
 use Rattle.std.proofs.lemmas.List.Concat.{flat_map-append}
@@ -22,7 +22,7 @@ use Rattle.wk_module.specs.Types.{written_functype}
 use Rattle.wk_module.specs.Writing.{list_contents}
 use Rattle.wk_session.specs.Longer.{IsLonger, IsNewItem, with_item}
 use Rattle.wk_session.specs.declared.edits.plan_append.NewItem.{NewItem}
-use Rattle.wk_session.specs.Pieces.{IsOverlong, section_pieces}
+use Rattle.wk_session.specs.Pieces.{IsOverlong, section_piece, section_pieces}
 use Rattle.wk_session.proofs.Piecing.{limited_within}
 
 one_byte : short 1 ≡ 1 ∷ []
@@ -81,44 +81,38 @@ item_told item len few is =
 
 -- ---- of a module
 
+-- the contents of an id are those of a list of m, and those of the list with one item more in n
+pub list_longer : {A : Type 0} (written : A → List ℕ) (id : ℕ) (xs : List A) (x : A) (m n : Parts) (pieces : List (List ℕ)) → pieces ≡ section_pieces m
+    → get_or (section_pieces m) id [] ≡ list_contents written xs → set (section_pieces m) id (list_contents written (xs ++ x ∷ [])) ≡ section_pieces n
+    → section_piece id n ≡ list_contents written (xs ++ x ∷ []) → IsLonger id (length xs) (list_contents written (x ∷ [])) pieces n
+list_longer written id xs x m n pieces is before after piece =
+    let item = drop 1 (list_contents written (x ∷ [])) in
+    record {
+      sections =
+          ap (λ (ps : List (List ℕ)). set ps id (with_item (get_or ps id []) (length xs) item)) is
+          ∙ ap (λ (bytes : List ℕ). set (section_pieces m) id (with_item bytes (length xs) item)) before
+          ∙ ap (set (section_pieces m) id) (longer_is written xs x)
+          ∙ after;
+      within = omega (arith, alone_within written xs x, ap length piece);
+    }
+
 pub type_longer : (t : FuncType) (m : Parts) (pieces : List (List ℕ)) → pieces ≡ section_pieces m
     → IsLonger 1 (length m.types) (list_contents written_functype (t ∷ [])) pieces (with_type t m)
-type_longer t m pieces is = record {
-  sections =
-      ap (λ (ps : List (List ℕ)). set ps 1 (with_item (get_or ps 1 []) (length m.types) (drop 1 (list_contents written_functype (t ∷ []))))) is
-      ∙ ap (λ (bytes : List ℕ). set (section_pieces m) 1 bytes) (longer_is written_functype m.types t);
-  within = alone_within written_functype m.types t;
-}
+type_longer t m pieces is = list_longer written_functype 1 m.types t m (with_type t m) pieces is refl refl refl
 
 pub global_longer : (g : GlobalDef) (m : Parts) (pieces : List (List ℕ)) → pieces ≡ section_pieces m
     → IsLonger 6 (length m.globals) (list_contents written_global (g ∷ [])) pieces (record m { globals = m.globals ++ g ∷ [] })
-global_longer g m pieces is = record {
-  sections =
-      ap (λ (ps : List (List ℕ)). set ps 6 (with_item (get_or ps 6 []) (length m.globals) (drop 1 (list_contents written_global (g ∷ []))))) is
-      ∙ ap (λ (bytes : List ℕ). set (section_pieces m) 6 bytes) (longer_is written_global m.globals g);
-  within = alone_within written_global m.globals g;
-}
+global_longer g m pieces is = list_longer written_global 6 m.globals g m (record m { globals = m.globals ++ g ∷ [] }) pieces is refl refl refl
 
 pub export_longer : (e : Export) (m : Parts) (pieces : List (List ℕ)) → pieces ≡ section_pieces m
     → IsLonger 7 (length m.exports) (list_contents written_export (e ∷ [])) pieces (with_export e m)
-export_longer e m pieces is = record {
-  sections =
-      ap (λ (ps : List (List ℕ)). set ps 7 (with_item (get_or ps 7 []) (length m.exports) (drop 1 (list_contents written_export (e ∷ []))))) is
-      ∙ ap (λ (bytes : List ℕ). set (section_pieces m) 7 bytes) (longer_is written_export m.exports e);
-  within = alone_within written_export m.exports e;
-}
+export_longer e m pieces is = list_longer written_export 7 m.exports e m (with_export e m) pieces is refl refl refl
 
 pub func_longer : (t : ℕ) (b : BodyOf) (m : Parts) (pieces : List (List ℕ)) → pieces ≡ section_pieces m
     → IsLonger 3 (length m.funcs) (list_contents short (t ∷ [])) pieces (with_func t b m)
 func_longer t b m pieces is =
     let types : List ℕ = map (λ (f : Func). f.ty) m.funcs in
-    let alone = list_contents short (t ∷ []) in
     let pushed : map (λ (f : Func). f.ty) (with_func t b m).funcs ≡ types ++ t ∷ [] = map_push (λ (f : Func). f.ty) m.funcs (record { ty = t; body = b }) in
-    record {
-      sections =
-          ap (λ (ps : List (List ℕ)). set ps 3 (with_item (get_or ps 3 []) (length m.funcs) (drop 1 alone))) is
-          ∙ ap (λ (n : ℕ). set (section_pieces m) 3 (with_item (list_contents short types) n (drop 1 alone))) (sym (length-map m.funcs (λ (f : Func). f.ty)))
-          ∙ ap (λ (bytes : List ℕ). set (section_pieces m) 3 bytes) (longer_is short types t)
-          ∙ ap (λ (ts : List ℕ). set (section_pieces m) 3 (list_contents short ts)) (sym pushed);
-      within = omega (arith, alone_within short types t, ap (λ (ts : List ℕ). length (list_contents short ts)) pushed);
-    }
+    subst (λ (n : ℕ). IsLonger 3 n (list_contents short (t ∷ [])) pieces (with_func t b m)) (length-map m.funcs (λ (f : Func). f.ty))
+    (list_longer short 3 types t m (with_func t b m) pieces is refl
+    (ap (λ (ts : List ℕ). set (section_pieces m) 3 (list_contents short ts)) (sym pushed)) (ap (list_contents short) pushed))

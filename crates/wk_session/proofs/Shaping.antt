@@ -1,6 +1,6 @@
 -- The lengths of pieces that a listing asks for.
 use Rattle.std.proofs.Common.{◌≡◌, ℕ, zero, suc, ◌+◌, ◌<◌, ◌≤◌, ◌==◌, if◌then◌else◌, Option, Some, List, [], ◌∷◌, length, map, slice_index_or, refl}
-use Rattle.std.proofs.Common.{ap, ◌∙◌, arith, length-append}
+use Rattle.std.proofs.Common.{sym, ap, ◌∙◌, arith, length-append}
 use Rattle.std.specs.Prelude.{unwrap_or}
 use Rattle.std.proofs.lemmas.List.{get_or_default}
 use Rattle.std.specs.List.{flat_map}
@@ -19,8 +19,7 @@ use Rattle.wk_module.specs.Writing.{section_contents, Fits}
 use Rattle.wk_module.specs.WritingLaws.{contents_within, custom_within, length-framed}
 use Rattle.wk_session.specs.Pieces.{ArePieces, code_of, codes_size}
 use Rattle.wk_session.specs.declared.pieces.EncodedSections.{EncodedSections}
-use Rattle.wk_session.proofs.CustomEdits.{limited_fits}
-use Rattle.wk_session.proofs.Piecing.{code_contents_size, codes_within, section_within}
+use Rattle.wk_session.proofs.Piecing.{code_contents_size, codes_within, limited_within, section_within}
 use Rattle.wk_session.proofs.Putting.{codes_length, piece_at}
 
 -- a code of a list is no longer than all of them
@@ -67,5 +66,5 @@ pub told_custom : (m : Parts) (i : ℕ) (c other : Custom) (len : Option ℕ) �
 told_custom m i c other len within is order fits told =
     let size = length (written_custom c) in
     let few : size ≤ limit = omega (arith, fits, custom_within m i c within is order, length-framed 0 (written_custom c)) in
-    ap (λ (o : Option ℕ). unwrap_or o 0) (told ∙ limited_fits size size few refl)
+    ap (λ (o : Option ℕ). unwrap_or o 0) (told ∙ sym (limited_within size few))
     ∙ ap (λ (d : Custom). length (written_custom d)) (is ∙ get_or_default m.customs i c other within)

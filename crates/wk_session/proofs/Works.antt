@@ -1,93 +1,54 @@
--- The work of edits by which references find what they found, and no body is encoded.
-use Rattle.std.proofs.Common.{◌≡◌, ℕ, ◌+◌, Bool, false, cond, List, [], ◌∷◌, count_by, refl, sym, ap, ◌∙◌, zero-add, arith}
+-- The work of edits, by how many bodies are typed and encoded.
+use Rattle.std.proofs.Common.{◌≡◌, ℕ, ◌+◌, Bool, false, cond, List, [], ◌∷◌, count_by, refl, sym, ap, ◌∙◌, arith}
+use Rattle.std.specs.List.{AllByRecursion}
 use Rattle.std.proofs.lemmas.List.Sums.{sum_by-cons}
 use Rattle.wk_body.specs.declared.references.Ref.{Ref}
-use Rattle.wk_module.specs.declared.types.Export.{Export}
 use Rattle.wk_module.specs.declared.types.Func.{Func}
 use Rattle.wk_module.specs.declared.types.Parts.{Parts}
 use Rattle.wk_typing.specs.Answers.{Found}
-use Rattle.wk_typing.specs.Carried.{Agree}
 use Rattle.wk_check.specs.SpacesLaws.{answers_of}
 use Rattle.wk_session.specs.declared.edit.Edit.{Edit}
-use Rattle.wk_session.specs.declared.edit.Edit.TheVariants as edits
 use Rattle.wk_session.specs.declared.edit.Work.{Work}
-use Rattle.wk_session.specs.Dependents.{given, held, left, is_retyped, is_retyped_in, is_reencoded, sections_made, work_of}
+use Rattle.wk_session.specs.Dependents.{answers_after, given, held, left, is_retyped, is_retyped_in, is_reencoded, sections_made, work_of}
 use Rattle.wk_session.proofs.Judging.{agree_none}
 
+-- ---- lists of which all items are alike
+
+pub all_of : {A : Type 0} (P : A → Type 0) → ((x : A) → P x) → (xs : List A) → AllByRecursion P xs
+all_of P h [] = tt
+all_of P h (x ∷ xs) = (h x, all_of P h xs)
+
+-- where no item passes that all items are known to be
+pub count_zero_in : {A : Type 0} (p : A → Bool) (P : A → Type 0) → ((x : A) → P x → p x ≡ false) → (xs : List A) → AllByRecursion P xs → count_by p xs ≡ 0
+count_zero_in p P none [] all = refl
+count_zero_in p P none (x ∷ xs) all =
+    omega (arith, sum_by-cons (λ y. cond (p y) 1 0) x xs, ap {B = ℕ} (λ (b : Bool). cond b 1 0) (none x all.0), count_zero_in p P none xs all.1)
+
 pub count_zero : {A : Type 0} (p : A → Bool) → ((x : A) → p x ≡ false) → (xs : List A) → count_by p xs ≡ 0
-count_zero p none [] = refl
-count_zero p none (x ∷ xs) =
-    omega (arith, sum_by-cons (λ y. cond (p y) 1 0) x xs, ap {B = ℕ} (λ (b : Bool). cond b 1 0) (none x), count_zero p none xs)
+count_zero p none xs = count_zero_in p (λ x. p x ≡ false) (λ x is. is) xs (all_of (λ x. p x ≡ false) none xs)
 
--- ---- references that find what they found
-
-same_agree : (A B : Ref → Found) → ((r : Ref) → B r ≡ A r) → (rs : List Ref) → Agree A B rs
-same_agree A B same [] = tt
-same_agree A B same (r ∷ rs) = (same r, same_agree A B same rs)
-
-pub not_retyped : (A B : Ref → Found) → ((r : Ref) → B r ≡ A r) → (f : Func) → is_retyped_in A B f ≡ false
-not_retyped A B same f = agree_none A B (held f) (same_agree A B same (held f))
+-- no function is typed again, where each reference finds what it found
+pub none_retyped : (A B : Ref → Found) → ((r : Ref) → B r ≡ A r) → (fs : List Func) → count_by (is_retyped_in A B) fs ≡ 0
+none_retyped A B same = count_zero (is_retyped_in A B) (λ f. agree_none A B (held f) (all_of (λ r. B r ≡ A r) same (held f)))
 
 -- ---- works by their numbers
 
-pub work_is : (e : Edit) (m n : Parts) (typed encoded sections : ℕ) → typed ≡ given e + count_by (is_retyped e m n) (left e m)
-    → encoded ≡ given e + count_by (is_reencoded e m) (left e m) → sections ≡ sections_made e m
-    → record { typed = typed; encoded = encoded; sections = sections } ≡ work_of e m n
-work_is e m n typed encoded sections is_typed is_encoded is_sections =
-    ap (λ (t : ℕ). let w : Work = record { typed = t; encoded = encoded; sections = sections } in w) is_typed
-    ∙ ap (λ (c : ℕ). let w : Work = record { typed = given e + count_by (is_retyped e m n) (left e m); encoded = c; sections = sections } in w) is_encoded
-    ∙ ap
-    (λ (s : ℕ).
-    let w : Work = record {
-      typed = given e + count_by (is_retyped e m n) (left e m);
-      encoded =
-          given e + count_by (is_reencoded e m) (left e m);
-      sections = s;
-    } in w) is_sections
+pub work_is : (typed encoded sections : ℕ) (w : Work) → typed ≡ w.typed → encoded ≡ w.encoded → sections ≡ w.sections
+    → record { typed = typed; encoded = encoded; sections = sections } ≡ w
+work_is typed encoded sections w a b c =
+    ap (λ (n : ℕ). record w { typed = n; encoded = encoded; sections = sections }) a
+    ∙ ap (λ (n : ℕ). record w { encoded = n; sections = sections }) b
+    ∙ ap (λ (n : ℕ). record w { sections = n }) c
 
--- the work of an edit by which that many sections are made anew
-abbrev pub one_section : ℕ → Work
-one_section made = record { typed = 0; encoded = 0; sections = made }
+-- the work of an edit that gives no code and moves nothing
+module _ (e : Edit) (m n : Parts) (none : given e ≡ 0) (stay : (f : Func) → is_reencoded e m f ≡ false) where
+  pub codeless_work : (typed sections : ℕ) → typed ≡ count_by (is_retyped e m n) (left e m) → sections ≡ sections_made e m
+      → record { typed = typed; encoded = 0; sections = sections } ≡ work_of e m n
+  codeless_work typed sections counted made =
+      let encoded = count_zero (is_reencoded e m) stay (left e m) in
+      work_is typed 0 sections (work_of e m n) (omega (arith, none, counted)) (omega (arith, none, encoded)) made
 
--- edits of the exports, which no reference sees
-pub export_work : (x : Export) (m n : Parts) → ((r : Ref) → answers_of n r ≡ answers_of m r)
-    → record { typed = 0; encoded = 0; sections = 1 } ≡ work_of (edits.Export x) m n
-export_work x m n same =
-    work_is (edits.Export x) m n 0 0 1
-    (sym (zero-add (count_by (is_retyped (edits.Export x) m n) m.funcs)
-    ∙ count_zero (is_retyped (edits.Export x) m n) (not_retyped (answers_of m) (answers_of n) same) m.funcs))
-    (sym (zero-add (count_by (is_reencoded (edits.Export x) m) m.funcs) ∙ count_zero (is_reencoded (edits.Export x) m) (λ f. refl) m.funcs))
-    refl
-
-pub unexport_work : (name : List ℕ) (m n : Parts) → ((r : Ref) → answers_of n r ≡ answers_of m r)
-    → record { typed = 0; encoded = 0; sections = 1 } ≡ work_of (edits.Unexport name) m n
-unexport_work name m n same =
-    work_is (edits.Unexport name) m n 0 0 1
-    (sym (zero-add (count_by (is_retyped (edits.Unexport name) m n) m.funcs)
-    ∙ count_zero (is_retyped (edits.Unexport name) m n) (not_retyped (answers_of m) (answers_of n) same) m.funcs))
-    (sym (zero-add (count_by (is_reencoded (edits.Unexport name) m) m.funcs) ∙ count_zero (is_reencoded (edits.Unexport name) m) (λ f. refl) m.funcs))
-    refl
-
-pub set_work : (name bytes : List ℕ) (m n : Parts) → ((r : Ref) → answers_of n r ≡ answers_of m r)
-    → record { typed = 0; encoded = 0; sections = 1 } ≡ work_of (edits.SetCustom name bytes) m n
-set_work name bytes m n same =
-    let e = edits.SetCustom name bytes in
-    work_is e m n 0 0 1
-    (sym (zero-add (count_by (is_retyped e m n) m.funcs) ∙ count_zero (is_retyped e m n) (λ f. not_retyped (answers_of m) (answers_of n) same f) m.funcs))
-    (sym (zero-add (count_by (is_reencoded e m) m.funcs) ∙ count_zero (is_reencoded e m) (λ f. refl) m.funcs)) refl
-
-pub strip_work : (name : List ℕ) (m n : Parts) → ((r : Ref) → answers_of n r ≡ answers_of m r)
-    → record { typed = 0; encoded = 0; sections = 0 } ≡ work_of (edits.StripCustom name) m n
-strip_work name m n same =
-    let e = edits.StripCustom name in
-    work_is e m n 0 0 0
-    (sym (zero-add (count_by (is_retyped e m n) m.funcs) ∙ count_zero (is_retyped e m n) (not_retyped (answers_of m) (answers_of n) same) m.funcs))
-    (sym (zero-add (count_by (is_reencoded e m) m.funcs) ∙ count_zero (is_reencoded e m) (λ f. refl) m.funcs)) refl
-
-pub strip_all_work : (m n : Parts) → ((r : Ref) → answers_of n r ≡ answers_of m r)
-    → record { typed = 0; encoded = 0; sections = 0 } ≡ work_of edits.StripAll m n
-strip_all_work m n same =
-    let e = edits.StripAll in
-    work_is e m n 0 0 0
-    (sym (zero-add (count_by (is_retyped e m n) m.funcs) ∙ count_zero (is_retyped e m n) (not_retyped (answers_of m) (answers_of n) same) m.funcs))
-    (sym (zero-add (count_by (is_reencoded e m) m.funcs) ∙ count_zero (is_reencoded e m) (λ f. refl) m.funcs)) refl
+  -- by which references find what they found, too
+  pub typeless_work : (sections : ℕ) → ((r : Ref) → answers_after e m n r ≡ answers_of m r) → sections ≡ sections_made e m
+      → record { typed = 0; encoded = 0; sections = sections } ≡ work_of e m n
+  typeless_work sections finds = codeless_work 0 sections (sym (none_retyped (answers_of m) (answers_after e m n) finds (left e m)))

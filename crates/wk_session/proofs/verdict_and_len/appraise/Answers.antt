@@ -4,13 +4,13 @@ use Rattle.wk_typing.specs.declared.fault.BodyVerdict.{BodyVerdict}
 use Rattle.wk_check.specs.Flaws.{first_in}
 use Rattle.wk_typing.specs.Faults.{body_flaw}
 use Rattle.wk_check.specs.Verdict.{verdict_around, module_verdict}
-use Rattle.wk_session.proofs.Appraising.{verdict_lent, too_large}
-use Rattle.wk_session.proofs.Leading.{is_none_at}
+use Rattle.wk_session.proofs.Appraising.{verdict_lent}
+use Rattle.wk_session.proofs.Leading.{is_none_at, too_large}
 use Rattle.wk_session.proofs.verdict_and_len.appraise.Goals as goal
 
 pub returns-then-is_none : goal.returns-then-is_none
 returns-then-is_none c =
-    λ n p other. too_large c.args.keep n p.formed (sym p.len ∙ is_none_at c.args.len c.if-is_none.ensures)
+    λ n p other. too_large c.args.keep n p.formed.order (sym (is_none_at c.args.len c.if-is_none.ensures) ∙ p.len)
 
 pub returns : goal.returns
 returns c =

@@ -6,7 +6,7 @@ use Rattle.wk_module.specs.declared.types.Parts.{Parts}
 use Rattle.wk_module.specs.Listed.{listed, listed_with, AreNumbered}
 use Rattle.wk_module.specs.NumberedLaws.{funcs_numbered, module_numbered_with}
 use Rattle.wk_module.specs.Sections.{SectionLists}
-use Rattle.wk_module.specs.Shape.{IsInOrderFrom}
+use Rattle.wk_module.specs.Shape.{IsFormed, IsInOrderFrom}
 use Rattle.wk_module.specs.Writing.{encoded, Fits}
 use Rattle.wk_typing.specs.declared.fault.BodyVerdict.{BodyVerdict}
 use Rattle.wk_check.specs.Flaws.{first_in}
@@ -18,6 +18,7 @@ use Rattle.wk_session.specs.Kept.{IsPending, uses_of}
 use Rattle.wk_session.specs.Known.{AreKnown}
 use Rattle.wk_session.specs.Pieces.{ArePieces}
 use Rattle.wk_session.proofs.KnownBodies.{told_bodies}
+use Rattle.wk_session.proofs.Lent.{answers_in, lent, lent_is, numbered_lent, verdicts_few}
 use Rattle.wk_session.proofs.Putting.{codes_length}
 use Rattle.wk_module.specs.WritingLaws.{room_for_func}
 use Rattle.wk_session.proofs.Appraising.{verdict_lent}
@@ -25,11 +26,9 @@ use Rattle.wk_session.proofs.cache.Cache.of.Goals as goal
 use Rattle.wk_session.proofs.cache.Cache.of.Goals.{After-of-lists}
 
 -- the lists that are lent are those of the module
-lent : (c : After-of-lists) → listed c.of-lists.result ≡ listed_with (map (λ f. f.ty) c.args.module.now.funcs) c.args.module.now
-lent c =
-    c.of-lists.ensures.lists
-    ∙ ap (λ (ts : List ℕ). listed_with ts c.parts-parts.result.now) (c.deref.ensures.value ∙ c.in_ok-types.ensures)
-    ∙ ap (λ (p : Parts). listed_with (map (λ (f : Func). f.ty) p.funcs) p) c.parts-parts.ensures.value
+lists_are : (c : After-of-lists) → listed c.of-lists.result ≡ lent c.args.module.now
+lists_are c =
+    lent_is c.parts-parts.result.now _ _ c.of-lists.ensures.lists (c.deref.ensures.value ∙ c.in_ok-types.ensures) ∙ ap lent c.parts-parts.ensures.value
 
 pub entries_of-requires-clause-few : goal.entries_of-requires-clause-few
 entries_of-requires-clause-few c = subst (λ (p : Parts). length p.funcs < 2 ^ 32) (sym c.parts-parts.ensures.value)
@@ -38,26 +37,21 @@ entries_of-requires-clause-few c = subst (λ (p : Parts). length p.funcs < 2 ^ 3
 pub entries_of-requires-clause-told : goal.entries_of-requires-clause-told
 entries_of-requires-clause-told c =
     let m = c.args.module.now in
-    let lists = lent (goal.at.entries_of-requires-clause-told c).After-of-lists in
+    let lists = lists_are (goal.at.entries_of-requires-clause-told c).After-of-lists in
     subst (λ (l : SectionLists). AreKnown c.args.known.now (answer_in (spaces_of l)) c.parts-parts.result.now.funcs) (sym lists)
     (subst (λ (p : Parts). AreKnown c.args.known.now (answers_of m) p.funcs) (sym c.parts-parts.ensures.value)
     (told_bodies m c.args.known.now c.requires.known))
 
 pub module_verdict_of-requires-clause-few : goal.module_verdict_of-requires-clause-few
 module_verdict_of-requires-clause-few c =
-    let few : length c.parts-parts.result.now.funcs < 2 ^ 32 =
-    subst (λ (p : Parts). length p.funcs < 2 ^ 32) (sym c.parts-parts.ensures.value)
-    (funcs_numbered c.args.module.now c.parts-parts.ensures.shaped.formed) in
-    let count = ap length (c.deref-2.ensures.value ∙ c.in_ok-entries.ensures.verdicts) ∙ length-map c.parts-parts.result.now.funcs _ in
-    omega (arith, few, count)
+    let p = c.parts-parts.result.now in
+    let formed : IsFormed p = subst IsFormed (sym c.parts-parts.ensures.value) c.parts-parts.ensures.shaped.formed in
+    verdicts_few p (answers_in (listed c.of-lists.result)) _ (c.deref-2.ensures.value ∙ c.in_ok-entries.ensures.verdicts) formed
 
 pub module_verdict_of-requires-clause-numbered : goal.module_verdict_of-requires-clause-numbered
 module_verdict_of-requires-clause-numbered c =
-    let m = c.args.module.now in
-    let formed = c.parts-parts.ensures.shaped.formed in
-    let types = map (λ (f : Func). f.ty) m.funcs in
-    subst AreNumbered (sym (lent (goal.at.module_verdict_of-requires-clause-numbered c).After-of-lists))
-    (module_numbered_with types m (omega (arith, funcs_numbered m formed, length-map m.funcs (λ (f : Func). f.ty))) formed)
+    let at = (goal.at.module_verdict_of-requires-clause-numbered c).After-of-lists in
+    numbered_lent c.args.module.now _ (lists_are at) c.parts-parts.ensures.shaped.formed
 
 pub of-requires-clause-types : goal.of-requires-clause-types
 of-requires-clause-types c = c.deref-3.ensures.value ∙ c.in_ok-types.ensures
@@ -78,7 +72,7 @@ pub returns : goal.returns
 returns c =
     let m = c.args.module.now in
     let value = c.parts-parts.ensures.value in
-    let lists = lent (goal.at.returns c).After-of-lists in
+    let lists = lists_are (goal.at.returns c).After-of-lists in
     let verdicts : c.in_ok-entries.entries.verdicts.items ≡ map (func_verdict (answers_of m)) m.funcs =
     c.in_ok-entries.ensures.verdicts
     ∙ ap (λ (l : SectionLists). map (func_verdict (answer_in (spaces_of l))) c.parts-parts.result.now.funcs) lists

@@ -13,7 +13,7 @@ use Rattle.wk_check.specs.SpacesLaws.{answers_of}
 use Rattle.wk_check.specs.Verdict.{func_verdict, module_verdict}
 use Rattle.wk_session.specs.Kept.{IsPending}
 use Rattle.wk_session.proofs.BodyEdits.{answers_stay, lent_given, others_stay, told_given}
-use Rattle.wk_session.proofs.EntryEdits.{lent, numbered_lent}
+use Rattle.wk_session.proofs.Lent.{lent, numbered_lent, verdicts_few}
 use Rattle.wk_session.proofs.edits.body.judged_body.Goals as goal
 use Rattle.wk_session.proofs.edits.body.judged_body.Goals.{After-of-lists, After-verdict_with_body-verdict, In_ok-own, In_ok-verdicts}
 
@@ -88,14 +88,9 @@ appraise-requires-clause-numbered c =
 
 pub appraise-requires-clause-few : goal.appraise-requires-clause-few
 appraise-requires-clause-few c =
+    let at = goal.at.appraise-requires-clause-few c in
     let n = with_body c.args.entry c.args.body.now c.args.basis.parts.now in
-    omega (
-      arith,
-      ap length (all_are (goal.at.appraise-requires-clause-few c).In_ok-verdicts
-          (others (goal.at.appraise-requires-clause-few c).In_ok-own)),
-      length-map n.funcs (func_verdict (answers_of n)),
-      funcs_numbered n (formed (goal.at.appraise-requires-clause-few c).After-of-lists),
-    )
+    verdicts_few n (answers_of n) _ (all_are at.In_ok-verdicts (others at.In_ok-own)) (formed at.After-of-lists)
 
 pub returns-in_err-appraisal-2-clause-judged : goal.returns-in_err-appraisal-2-clause-judged
 returns-in_err-appraisal-2-clause-judged c =

@@ -3,7 +3,7 @@ use Rattle.std.proofs.lemmas.Result.{IfOk-weaker}
 use Rattle.wk_body.specs.declared.references.Ref.{Ref}
 use Rattle.wk_typing.specs.Answers.{Found}
 use Rattle.wk_typing.specs.Typing.{body_verdict}
-use Rattle.wk_session.proofs.EntryEdits.{answers_lent, lent, lent_is}
+use Rattle.wk_session.proofs.Lent.{answers_lent, lent, lent_is}
 use Rattle.wk_session.proofs.BodyEdits.{answers_stay}
 use Rattle.wk_session.proofs.edits.body.own_verdict.Goals as goal
 use Rattle.wk_session.proofs.edits.body.own_verdict.Goals.{In_ok-whole}

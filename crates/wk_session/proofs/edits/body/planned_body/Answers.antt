@@ -1,18 +1,17 @@
 use Rattle.std.proofs.Common.{◌≡◌, ℕ, List, length, map, set, ap, sym, ◌∙◌, refl, arith}
 use Rattle.std.proofs.lemmas.Result.{err_from_is_err_and}
 use Rattle.wk_body.specs.Lengths.{limited}
-use Rattle.wk_body.specs.LengthsLaws.{limited_some}
 use Rattle.wk_module.specs.Changes.{with_body}
 use Rattle.wk_module.specs.ChangeLaws.{body_formed}
 use Rattle.wk_module.specs.NumberedLaws.{funcs_numbered}
 use Rattle.wk_module.specs.Writing.{encoded}
 use Rattle.wk_session.specs.Pieces.{codes_size, entries_size, section_pieces}
-use Rattle.wk_session.proofs.EntryEdits.{codes_large}
+use Rattle.wk_session.proofs.EntryEdits.{codes_large, codes_len_is}
 use Rattle.wk_session.proofs.BodyEdits.{body_sections, body_unencoded, codes_given, length-given}
-use Rattle.wk_session.proofs.Outcomes.{limited-some}
+use Rattle.wk_session.proofs.Keeping.{kept_fits}
 use Rattle.wk_session.proofs.Piecing.{codes_within, entries_codes}
 use Rattle.wk_session.proofs.edits.body.planned_body.Goals as goal
-use Rattle.wk_session.proofs.edits.body.planned_body.Goals.{After-codes_len_with, In-Some}
+use Rattle.wk_session.proofs.edits.body.planned_body.Goals.{After-codes_len_with}
 
 pub returns-in_err-code-clause-planned : goal.returns-in_err-code-clause-planned
 returns-in_err-code-clause-planned c =
@@ -28,7 +27,7 @@ codes_len_with-requires-clause-len c =
 pub codes_len_with-requires-clause-fits : goal.codes_len_with-requires-clause-fits
 codes_len_with-requires-clause-fits c =
     let m = c.args.basis.parts.now in
-    omega (arith, c.requires.kept.pieces.codes_len, codes_within m, limited-some (length (encoded m)) c.args.basis.kept.now.len c.requires.kept.len)
+    omega (arith, c.requires.kept.pieces.codes_len, codes_within m, kept_fits m c.args.basis.kept.now c.requires.kept)
 
 -- the length of all codes with the one that is another
 codes_are : (c : After-codes_len_with) → c.codes_len_with.result ≡ limited (codes_size (with_body c.args.entry c.args.body.now c.args.basis.parts.now).funcs)
@@ -48,12 +47,6 @@ returns-in_default-clause-planned c =
 pub module_len-len-requires : goal.module_len-len-requires
 module_len-len-requires c = omega (arith, c.len.ensures, funcs_numbered c.args.basis.parts.now c.requires.shaped.formed)
 
--- the length that is kept of all codes
-codes_len_is : (c : In-Some) → c.codes_len_with.result ≡ limited (codes_size (with_body c.args.entry c.args.body.now c.args.basis.parts.now).funcs)
-    → c.in-Some.codes_len ≡ codes_size (with_body c.args.entry c.args.body.now c.args.basis.parts.now).funcs
-codes_len_is c codes =
-    (limited_some c.in-Some.codes_len (codes_size (with_body c.args.entry c.args.body.now c.args.basis.parts.now).funcs) (sym c.in-Some.is ∙ codes)).0
-
 -- the sections stay
 sections_are : (c : After-codes_len_with) → c.args.basis.kept.now.pieces.sections.items
     ≡ section_pieces (with_body c.args.entry c.args.body.now c.args.basis.parts.now)
@@ -67,7 +60,7 @@ judged_body-requires-clause-len c =
     let m = c.args.basis.parts.now in
     let n = with_body c.args.entry c.args.body.now m in
     let at = goal.at.judged_body-requires-clause-len c in
-    let codes = codes_len_is at.In-Some (codes_are at.After-codes_len_with) in
+    let codes = codes_len_is n _ _ c.in-Some.is (codes_are at.After-codes_len_with) in
     let count : c.len.result ≡ length n.funcs = omega (arith, c.len.ensures, length-given c.args.entry c.args.body.now m.funcs c.args.ty c.requires.ty) in
     let sizes = c.sizes_of-sizes.ensures ∙ ap (map length) (sections_are at.After-codes_len_with) in
     c.module_len-len.ensures n c.requires.shaped.formed.order sizes count codes c.requires.kept.pieces.customs_len
@@ -86,7 +79,7 @@ returns-clause-planned c =
       uses = c.in_ok-uses.ensures (record { ty = c.args.ty; body = c.args.body.now }) refl refl;
       verdicts = c.in_ok-verdicts.ensures.judged.0;
       code = c.in_ok-code.ensures.code;
-      codes_len = codes_len_is at.In-Some (codes_are at.After-codes_len_with);
+      codes_len = codes_len_is (with_body c.args.entry c.args.body.now c.args.basis.parts.now) _ _ c.in-Some.is (codes_are at.After-codes_len_with);
       encoded = c.in_ok-code.ensures.made;
       made = refl;
     }

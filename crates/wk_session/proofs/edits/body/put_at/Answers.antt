@@ -8,32 +8,18 @@ use Rattle.wk_session.specs.Functions.{AreVerdicts}
 use Rattle.wk_session.specs.declared.cache.Cache.{Cache}
 use Rattle.wk_session.specs.Kept.{uses_of}
 use Rattle.wk_session.proofs.BodyEdits.{body_kept, body_leads, given_set, other_at}
+use Rattle.wk_session.proofs.Keeping.{refs_count, verdicts_count}
 use Rattle.wk_session.proofs.edits.body.put_at.Goals as goal
 
 pub index_mut-requires : goal.index_mut-requires
 index_mut-requires c =
-    let m = c.args.parts.now in
-    let k = c.args.kept.now in
-    omega (
-      arith,
-      c.requires.within,
-      ap (λ (x : Cache). length x.refs.items) c.keep_entry.ensures,
-      ap length c.requires.kept.refs,
-      length-map k.refs.items (λ s. s.keys),
-      length-map m.funcs uses_of,
-    )
+    let same = ap (λ (x : Cache). length x.refs.items) c.keep_entry.ensures in
+    omega (arith, c.requires.within, same, refs_count c.args.parts.now c.args.kept.now c.requires.kept)
 
 pub put_verdicts-requires : goal.put_verdicts-requires
 put_verdicts-requires c =
-    let m = c.args.parts.now in
-    let k = c.args.kept.now in
-    omega (
-      arith,
-      c.requires.within,
-      ap (λ (x : Cache). length x.verdicts.items) c.keep_entry.ensures,
-      ap length c.requires.kept.verdicts,
-      length-map m.funcs (func_verdict (answers_of m)),
-    )
+    let same = ap (λ (x : Cache). length x.verdicts.items) c.keep_entry.ensures in
+    omega (arith, c.requires.within, same, verdicts_count c.args.parts.now c.args.kept.now c.requires.kept)
 
 pub returns : goal.returns
 returns c =

@@ -1,15 +1,16 @@
 use Rattle.std.proofs.Common.{sym, ◌∙◌}
-use Rattle.wk_session.proofs.Appraising.{too_large, fitting_stands, any_lasts, valid_lasts, broken}
+use Rattle.wk_session.proofs.Appraising.{fitting_stands, any_lasts, valid_lasts, broken}
+use Rattle.wk_session.proofs.Leading.{too_large}
 use Rattle.wk_session.proofs.edits.custom.check_module.Goals as goal
 
 pub returns-in_default : goal.returns-in_default
-returns-in_default c = λ n formed verdict len. ((λ wanted. absurd cc), too_large c.args.keep n formed (sym len ∙ c.in_default.is))
+returns-in_default c = λ n formed verdict len. ((λ wanted. absurd cc), too_large c.args.keep n formed.order (sym c.in_default.is ∙ len))
 
 pub returns-in-Invalid : goal.returns-in-Invalid
 returns-in-Invalid c =
     λ n formed verdict len. (
       (λ wanted. absurd cc),
-      fitting_stands c.args.keep n formed c.in-Some.len (sym len ∙ c.in-Some.is)
+      fitting_stands c.args.keep n formed.order c.in-Some.len (sym len ∙ c.in-Some.is)
           ∙ broken c.args.keep n c.in-Invalid.fault c.if-keep.true (verdict ∙ c.in-Invalid.is),
     )
 
@@ -17,10 +18,10 @@ pub returns-in_default-verdict : goal.returns-in_default-verdict
 returns-in_default-verdict c =
     λ n formed verdict len.
     let long = sym len ∙ c.in-Some.is in
-    (fitting_stands c.args.keep n formed c.in-Some.len long ∙ any_lasts c.args.keep n c.if-keep.false, long)
+    (fitting_stands c.args.keep n formed.order c.in-Some.len long ∙ any_lasts c.args.keep n c.if-keep.false, long)
 
 pub returns-in_default-verdict-2 : goal.returns-in_default-verdict-2
 returns-in_default-verdict-2 c =
     λ n formed verdict len.
     let long = sym len ∙ c.in-Some.is in
-    (fitting_stands c.args.keep n formed c.in-Some.len long ∙ valid_lasts c.args.keep n (verdict ∙ c.in_default-verdict.is), long)
+    (fitting_stands c.args.keep n formed.order c.in-Some.len long ∙ valid_lasts c.args.keep n (verdict ∙ c.in_default-verdict.is), long)

@@ -3,8 +3,9 @@ use Rattle.std.proofs.lemmas.Result.{err_from_is_err_and}
 use Rattle.wk_module.specs.declared.types.Parts.{Parts}
 use Rattle.wk_session.specs.Customs.{bytes_at}
 use Rattle.wk_session.specs.Kept.{IsKept}
-use Rattle.wk_session.proofs.CustomEdits.{fits_settled, customs_before, customs_after, customs_kept, put_checked, put_wanting}
+use Rattle.wk_session.proofs.CustomEdits.{customs_before, customs_after, customs_kept, put_checked, put_wanting}
 use Rattle.wk_session.proofs.CustomPuts.{bytes_formed}
+use Rattle.wk_session.proofs.Leading.{fits_settled}
 use Rattle.wk_session.proofs.edits.custom.replace_bytes.Goals as goal
 
 pub returns-in_err-len : goal.returns-in_err-len
@@ -24,7 +25,7 @@ returns-in_err-bytes c =
     let checked = c.in_ok-len.ensures n formed (sym c.requires.kept.verdict) c.len_with_bytes-len.ensures in
     let result = c.from_residual-in_err-bytes.result in
     put_wanting c.args.keep m n c.args.parts.now c.args.kept.now refl result (err_from_is_err_and result c.from_residual-in_err-bytes.ensures.1)
-    (fits_settled n c.in_ok-len.len formed checked.1)
+    (fits_settled n c.in_ok-len.len formed.order checked.1)
 
 pub keep_len-requires-clause-before : goal.keep_len-requires-clause-before
 keep_len-requires-clause-before c = customs_before c.args.parts.now [] c.args.kept.now c.requires.shaped.formed.order c.requires.kept

@@ -1,29 +1,25 @@
-use Rattle.std.proofs.Common.{◌≡◌, ◌+◌, ◌-◌, List, [], Some, Ok, length, refl, sym, ap, subst, ◌∙◌, arith}
-use Rattle.wk_body.specs.Lengths.{limited}
+use Rattle.std.proofs.Common.{◌≡◌, List, [], refl, sym, ap, ◌∙◌}
 use Rattle.wk_module.specs.declared.types.Custom.{Custom}
-use Rattle.wk_module.specs.Shape.{settle}
+use Rattle.wk_module.specs.declared.types.Parts.{Parts}
+use Rattle.wk_module.specs.Shape.{settle, IsFormed}
 use Rattle.wk_module.specs.ShapeLaws.{customs_formed}
-use Rattle.wk_module.specs.Writing.{encoded, Fits}
+use Rattle.wk_module.specs.Writing.{Fits}
 use Rattle.wk_session.specs.declared.edit.Edit.TheVariants as edits
 use Rattle.wk_session.specs.Edits.{without_all_customs}
-use Rattle.wk_session.specs.Kept.{IsKept, Leads}
-use Rattle.wk_session.specs.Pieces.{customs_size}
-use Rattle.wk_session.proofs.CustomEdits.{bare_fits, customs_before, customs_length, customs_kept, limited_fits}
-use Rattle.wk_session.proofs.Outcomes.{limited-some}
-use Rattle.wk_session.proofs.Works.{strip_all_work}
+use Rattle.wk_session.proofs.CustomEdits.{bare_fits, customs_before, customs_lead, size_fits}
+use Rattle.wk_session.proofs.Keeping.{kept_fits}
+use Rattle.wk_session.proofs.Works.{typeless_work}
 use Rattle.wk_session.proofs.edits.custom.strip_all.Goals as goal
 use Rattle.wk_session.proofs.edits.custom.strip_all.Goals.{After-new}
 
--- the length of the module without customs, as it is kept
-length_is : (c : After-new) → c.args.kept.now.len - c.args.kept.now.pieces.customs_len + customs_size c.new.result
-    ≡ length (encoded (without_all_customs c.args.parts.now))
-length_is c =
-    let k = c.args.kept.now in
-    ap (λ (cs : List Custom). k.len - k.pieces.customs_len + customs_size cs) c.new.ensures
-    ∙ customs_length c.args.parts.now [] k c.requires.shaped.formed.order c.requires.kept tt
+without : (c : After-new) → record c.args.parts.now { customs = c.new.result } ≡ without_all_customs c.args.parts.now
+without c = ap (λ (cs : List Custom). let p : Parts = record c.args.parts.now { customs = cs } in p) c.new.ensures
+
+formed : (c : After-new) → IsFormed (without_all_customs c.args.parts.now)
+formed c = customs_formed [] c.args.parts.now tt tt c.requires.shaped.formed
 
 fits : (c : After-new) → Fits (without_all_customs c.args.parts.now)
-fits c = bare_fits c.args.parts.now (limited-some (length (encoded c.args.parts.now)) c.args.kept.now.len c.requires.kept.len)
+fits c = bare_fits c.args.parts.now (kept_fits c.args.parts.now c.args.kept.now c.requires.kept)
 
 pub keep_customs-requires-clause-before : goal.keep_customs-requires-clause-before
 keep_customs-requires-clause-before c = customs_before c.args.parts.now [] c.args.kept.now c.requires.shaped.formed.order c.requires.kept
@@ -31,21 +27,15 @@ keep_customs-requires-clause-before c = customs_before c.args.parts.now [] c.arg
 pub keep_customs-requires-clause-fits : goal.keep_customs-requires-clause-fits
 keep_customs-requires-clause-fits c =
     let at = (goal.at.keep_customs-requires-clause-fits c).After-new in
-    omega (arith, fits at, length_is at)
+    size_fits c.args.parts.now [] c.args.kept.now c.requires.shaped.formed.order c.requires.kept _ (without at) (formed at) (fits at)
 
 pub returns : goal.returns
 returns c =
     let m = c.args.parts.now in
-    let k = c.args.kept.now in
-    let keep = c.args.keep in
     let n = without_all_customs m in
     let e = edits.StripAll in
     let at = (goal.at.returns c).After-new in
-    let len = k.len - k.pieces.customs_len + customs_size c.new.result in
-    let is : limited (length (encoded n)) ≡ Some len = limited_fits (length (encoded n)) len (fits at) (length_is at) in
     let makes = c.in_ok-check_verdict.ensures (settle n) (sym c.requires.kept.verdict) in
-    let kept = subst (IsKept n) (sym c.keep_customs.ensures) (customs_kept m [] k c.requires.shaped.formed.order c.requires.kept tt len is) in
-    let formed = customs_formed [] m tt tt c.requires.shaped.formed in
-    let leads : Leads keep e m (Ok c.work_on.result) n c.keep_customs.new.kept =
-    (makes, c.work_on.ensures ∙ strip_all_work m (settle n) (λ r. refl), formed, kept) in
-    subst (λ (cs : List Custom). Leads keep e m (Ok c.work_on.result) (record m { customs = cs }) c.keep_customs.new.kept) (sym c.new.ensures) leads
+    let works = c.work_on.ensures ∙ typeless_work e m (settle n) refl (λ f. refl) 0 (λ r. refl) refl in
+    customs_lead m [] c.args.kept.now c.requires.shaped.formed.order c.requires.kept _ (without at) (formed at) (fits at) c.args.keep e
+    c.keep_customs.new.kept c.work_on.result makes works c.keep_customs.ensures

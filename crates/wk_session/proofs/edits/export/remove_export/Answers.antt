@@ -9,10 +9,12 @@ use Rattle.wk_module.specs.Shape.{settle, IsFormed}
 use Rattle.wk_session.specs.declared.edit.Edit.TheVariants as edits
 use Rattle.wk_session.specs.Edits.{is_none, lasting, made, with_exports}
 use Rattle.wk_session.specs.Kept.{standing}
-use Rattle.wk_session.proofs.Leading.{refused, kept_again, accepted}
+use Rattle.wk_session.proofs.Appending.{grown_refused}
+use Rattle.wk_session.proofs.Keeping.{kept_fits}
+use Rattle.wk_session.proofs.Leading.{accepted}
 use Rattle.wk_session.proofs.Removals.{found_within, without_found, without_missing}
 use Rattle.wk_session.proofs.Shrinking.{shrunk_stands}
-use Rattle.wk_session.proofs.Works.{one_section, unexport_work}
+use Rattle.wk_session.proofs.Works.{typeless_work}
 use Rattle.wk_session.proofs.edits.export.remove_export.Goals as goal
 use Rattle.wk_session.proofs.edits.export.remove_export.Goals.{In-Some}
 
@@ -32,8 +34,8 @@ makes : (c : In-Some) → made c.args.keep (edits.Unexport c.args.name.now) c.ar
 makes c =
     let m = c.args.parts.now in
     ap (λ (o : Option (List Export)). with_exports o m >>= lasting c.args.keep) (without c)
-    ∙ shrunk_stands c.args.keep c.args.name.now (remove m.exports c.in-Some.place) m c.args.kept.now.len
-    (without c) c.requires.shaped.formed c.requires.kept.len
+    ∙ shrunk_stands c.args.keep c.args.name.now (remove m.exports c.in-Some.place) m (without c) c.requires.shaped.formed.order
+    (kept_fits m c.args.kept.now c.requires.kept)
 
 formed : (c : In-Some) → IsFormed (record c.args.parts.now { exports = remove c.args.parts.now.exports c.in-Some.place })
 formed c =
@@ -49,14 +51,12 @@ take_export-requires-clause-formed c = formed (goal.at.take_export-requires-clau
 pub returns-in_err-sections : goal.returns-in_err-sections
 returns-in_err-sections c =
     let m = c.args.parts.now in
-    let k = c.args.kept.now in
-    let new = c.take_export.new.kept in
+    let new = c.take_export.new in
     let at = (goal.at.returns-in_err-sections c).In-Some in
     let result = c.from_residual.result in
-    let shrunk = c.in_err-sections.ensures.shrunk in
-    refused c.args.keep (edits.Unexport c.args.name.now) m new (kept_again m k new shrunk.1 c.requires.kept)
-    (record m { exports = remove m.exports c.in-Some.place }) c.take_export.new.parts c.in_err-sections.field-0.0 result
-    (err_from_is_err_and result c.from_residual.ensures.1) (makes at) shrunk.0 (λ same. ap is_none (without at)) c.in_err-sections.ensures.err
+    grown_refused c.args.keep (edits.Unexport c.args.name.now) m (record m { exports = remove m.exports c.in-Some.place }) new.parts c.args.kept.now
+    new.kept 0 1 c.in_err-sections.field-0.0 result (err_from_is_err_and result c.from_residual.ensures.1) (makes at) c.in_err-sections.ensures.shrunk
+    (ap is_none (without at)) c.in_err-sections.ensures.err c.requires.kept
 
 pub returns : goal.returns
 returns c =
@@ -68,4 +68,4 @@ returns c =
     let shrunk = c.in_ok-sections.ensures.shrunk in
     accepted c.args.keep (edits.Unexport c.args.name.now) m n c.take_export.new.parts k c.take_export.new.kept
     (record { typed = 0; encoded = 0; sections = made }) c.in_ok-sections.ensures.ok (makes at) shrunk.0
-    (ap one_section shrunk.3 ∙ unexport_work c.args.name.now m (settle n) (λ r. refl)) (formed at) shrunk.1
+    (typeless_work (edits.Unexport c.args.name.now) m (settle n) refl (λ f. refl) made (λ r. refl) shrunk.3) (formed at) shrunk.1

@@ -17,8 +17,7 @@ use Rattle.wk_session.specs.Judged.{IsGrown, IsJudged}
 use Rattle.wk_session.specs.Kept.{IsKept}
 use Rattle.wk_session.specs.Pieces.{section_pieces}
 use Rattle.wk_session.specs.Shorter.{without_item}
-use Rattle.wk_session.proofs.Keeping.{others_kept}
-use Rattle.wk_session.proofs.Outcomes.{limited-some}
+use Rattle.wk_session.proofs.Keeping.{kept_fits, others_kept}
 use Rattle.wk_session.proofs.Piecing.{section_within}
 use Rattle.wk_session.proofs.ShorterLists.{before, export_shorter, items_within, itself, span_within}
 use Rattle.wk_session.proofs.edits.export.take_export.Goals as goal
@@ -29,12 +28,12 @@ contents_are : (m : Parts) (k : Cache) → IsKept m k → get_or k.pieces.sectio
 contents_are m k kept = ap (λ (ps : List (List ℕ)). get_or ps 7 []) kept.pieces.sections
 
 contents_few : (m : Parts) (k : Cache) → IsKept m k → length (list_contents written_export m.exports) ≤ limit
-contents_few m k kept = omega (arith, section_within 7 m, limited-some (length (encoded m)) k.len kept.len)
+contents_few m k kept = omega (arith, section_within 7 m, kept_fits m k kept)
 
 pub overflow_cast-count : goal.overflow_cast-count
 overflow_cast-count c =
     let m = c.args.parts.now in
-    omega (arith, c.len-count.ensures, room m ExportSection (limited-some (length (encoded m)) c.args.kept.now.len c.requires.kept.len))
+    omega (arith, c.len-count.ensures, room m ExportSection (kept_fits m c.args.kept.now c.requires.kept))
 
 pub span_of-span-requires-clause-few : goal.span_of-span-requires-clause-few
 span_of-span-requires-clause-few c =
@@ -103,32 +102,29 @@ judge_exports-judged-requires-clause-len c =
 pub keep_shrunk-requires-clause-within : goal.keep_shrunk-requires-clause-within
 keep_shrunk-requires-clause-within c = inside (goal.at.keep_shrunk-requires-clause-within c).After-span_of-span
 
+-- what is kept and returned without it
 shrunk_is : (c : After-keep_shrunk) → c.deref.result.now ≡ remove c.args.parts.now.exports c.args.place
     → set c.args.kept.now.pieces.sections.items 7
     (without_item (get_or c.args.kept.now.pieces.sections.items 7 []) c.len-count.result c.span_of-span.result.at c.span_of-span.result.size)
     ≡ section_pieces (record c.args.parts.now { exports = remove c.args.parts.now.exports c.args.place })
+    → (r : Result ℕ EditFault) → c.keep_shrunk.result ≡ r
     → IsGrown c.args.keep (answers_of c.args.parts.now) (record c.args.parts.now { exports = remove c.args.parts.now.exports c.args.place }) 0 1
-    c.args.kept.now c.keep_shrunk.new.kept c.keep_shrunk.result
-shrunk_is c rest sections =
+    c.args.kept.now c.keep_shrunk.new.kept r
+shrunk_is c rest sections r is =
     let m = c.args.parts.now in
     let k = c.args.kept.now in
     let n : Parts = record m { exports = remove m.exports c.args.place } in
     let judged = subst (λ (es : List Export). IsJudged c.args.keep (answers_of m) (record m { exports = es }) k 0 c.judge_exports-judged.result) rest
     c.judge_exports-judged.ensures in
-    c.keep_shrunk.ensures c.args.keep (answers_of m) n 0 (others_kept m n k refl refl c.requires.kept) sections judged
+    subst (IsGrown c.args.keep (answers_of m) n 0 1 k c.keep_shrunk.new.kept) is
+    (c.keep_shrunk.ensures c.args.keep (answers_of m) n 0 (others_kept m n k refl refl c.requires.kept) sections judged)
 
 pub returns-in-Ok-clause-shrunk : goal.returns-in-Ok-clause-shrunk
 returns-in-Ok-clause-shrunk c =
-    let m = c.args.parts.now in
     let at = goal.at.returns-in-Ok-clause-shrunk c in
-    subst (λ (r : Result ℕ EditFault). IsGrown c.args.keep (answers_of m)
-    (record m { exports = remove m.exports c.args.place }) 0 1 c.args.kept.now c.keep_shrunk.new.kept r) c.in-Ok.is
-    (shrunk_is at.After-keep_shrunk (rest_is at.After-deref) (shorter at.After-span_of-span))
+    shrunk_is at.After-keep_shrunk (rest_is at.After-deref) (shorter at.After-span_of-span) _ c.in-Ok.is
 
 pub returns-in-Err-clause-shrunk : goal.returns-in-Err-clause-shrunk
 returns-in-Err-clause-shrunk c =
-    let m = c.args.parts.now in
     let at = goal.at.returns-in-Err-clause-shrunk c in
-    subst (λ (r : Result ℕ EditFault). IsGrown c.args.keep (answers_of m)
-    (record m { exports = remove m.exports c.args.place }) 0 1 c.args.kept.now c.keep_shrunk.new.kept r) c.in-Err.is
-    (shrunk_is at.After-keep_shrunk (rest_is at.After-deref) (shorter at.After-span_of-span))
+    shrunk_is at.After-keep_shrunk (rest_is at.After-deref) (shorter at.After-span_of-span) _ c.in-Err.is

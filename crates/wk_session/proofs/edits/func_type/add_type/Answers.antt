@@ -1,4 +1,4 @@
-use Rattle.std.proofs.Common.{◌≡◌, ◌<◌, ◌+◌, ◌^◌, ℕ, ◌∙◌, sym, ap, subst, refl, arith, zero-add, length, false, Ok, Err, count_by, [], ◌∷◌, ◌++◌, length-append}
+use Rattle.std.proofs.Common.{◌≡◌, ◌<◌, ◌+◌, ◌^◌, ℕ, ◌∙◌, sym, ap, subst, refl, arith, length, false, Ok, Err, count_by, [], ◌∷◌, ◌++◌, length-append}
 use Rattle.std.proofs.lemmas.Result.{err_from_is_err_and}
 use Rattle.std.proofs.lemmas.List.Sums.{count_by-le-length}
 use Rattle.wk_body.specs.Lengths.{limited}
@@ -14,16 +14,18 @@ use Rattle.wk_module.specs.WritingLaws.{room}
 use Rattle.wk_module.specs.Writing.{encoded, list_contents}
 use Rattle.wk_check.specs.SpacesLaws.{answers_of}
 use Rattle.wk_session.specs.declared.edit.Edit.TheVariants as edits
+use Rattle.wk_session.specs.declared.edit.Work.{Work}
 use Rattle.wk_session.specs.declared.cache.Cache.{Cache}
-use Rattle.wk_session.specs.Dependents.{is_retyped_in, is_reencoded}
-use Rattle.wk_session.specs.Edits.{is_large, is_decided}
+use Rattle.wk_session.specs.Dependents.{is_retyped_in}
+use Rattle.wk_session.specs.Edits.{is_decided}
 use Rattle.wk_session.specs.Judged.{IsGrown}
-use Rattle.wk_session.specs.Kept.{IsKept}
+use Rattle.wk_session.specs.Kept.{IsKept, Leads}
 use Rattle.wk_session.specs.Longer.{IsLonger}
-use Rattle.wk_session.proofs.Leading.{wants_memory, refused, too_large, not_large, is_none_at, kept_again, accepted}
+use Rattle.wk_session.proofs.Leading.{wants_memory, accepted}
 use Rattle.wk_session.proofs.LongerLists.{alone_len, type_longer}
-use Rattle.wk_session.proofs.Outcomes.{limited-some}
-use Rattle.wk_session.proofs.Works.{work_is, count_zero}
+use Rattle.wk_session.proofs.Appending.{grown_refused, length_refused, length_undecided}
+use Rattle.wk_session.proofs.Keeping.{kept_fits}
+use Rattle.wk_session.proofs.Works.{codeless_work}
 use Rattle.wk_session.proofs.edits.func_type.add_type.Goals as goal
 use Rattle.wk_session.proofs.edits.func_type.add_type.Goals.{After-len_grown-len, Else-is_none}
 
@@ -31,7 +33,7 @@ pub len_grown-len-requires-clause-sections : goal.len_grown-len-requires-clause-
 len_grown-len-requires-clause-sections c = ap length c.requires.kept.pieces.sections
 
 few : (m : Parts) (k : Cache) → IsKept m k → length m.types + 1 < 2 ^ 32
-few m k kept = room m TypeSection (limited-some (length (encoded m)) k.len kept.len)
+few m k kept = room m TypeSection (kept_fits m k kept)
 
 pub overflow_cast-len : goal.overflow_cast-len
 overflow_cast-len c = omega (arith, c.len.ensures, few c.args.parts.now c.args.kept.now c.requires.kept)
@@ -58,21 +60,22 @@ pub returns-then-is_none : goal.returns-then-is_none
 returns-then-is_none c =
     let t = c.args.ty.now in
     let m = c.args.parts.now in
-    let len = len_is (goal.at.returns-then-is_none c).After-len_grown-len in
-    let none = is_none_at c.len_grown-len.result c.if-is_none.ensures in
-    ((λ other. too_large c.args.keep (with_type t m) c.requires.shaped.formed.order (sym none ∙ len)), (λ same. absurd cc), refl, c.requires.kept)
+    length_refused c.args.keep (edits.Ty t) m (with_type t m) c.args.kept.now _ c.requires.shaped.formed.order
+    (len_is (goal.at.returns-then-is_none c).After-len_grown-len) c.requires.kept c.if-is_none.ensures refl
 
 -- the outcome is not decided without memory
-decided : (c : Else-is_none) → c.len_grown-len.result ≡ limited (length (encoded (with_type c.args.ty.now c.args.parts.now)))
+undecided : (c : Else-is_none) → c.len_grown-len.result ≡ limited (length (encoded (with_type c.args.ty.now c.args.parts.now)))
     → is_decided (edits.Ty c.args.ty.now) c.args.parts.now ≡ false
-decided c len =
-    ap is_large (not_large (with_type c.args.ty.now c.args.parts.now) c.len_grown-len.result c.requires.shaped.formed.order len c.if-is_none.ensures)
+undecided c len =
+    let t = c.args.ty.now in
+    let m = c.args.parts.now in
+    length_undecided c.args.keep (edits.Ty t) m (with_type t m) c.args.kept.now _ c.requires.shaped.formed.order len c.requires.kept c.if-is_none.ensures refl
 
 pub returns-in_err-ty : goal.returns-in_err-ty
 returns-in_err-ty c =
     let at = goal.at.returns-in_err-ty c in
     wants_memory c.args.keep (edits.Ty c.args.ty.now) c.args.parts.now c.args.kept.now c.requires.kept c.from_residual.result
-    (err_from_is_err_and c.from_residual.result c.from_residual.ensures.1) (decided at.Else-is_none (len_is at.After-len_grown-len))
+    (err_from_is_err_and c.from_residual.result c.from_residual.ensures.1) (undecided at.Else-is_none (len_is at.After-len_grown-len))
 
 pub push_type-requires-clause-len : goal.push_type-requires-clause-len
 push_type-requires-clause-len c =
@@ -83,17 +86,16 @@ push_type-requires-clause-len c =
 pub returns-in_err-sections : goal.returns-in_err-sections
 returns-in_err-sections c =
     let at = goal.at.returns-in_err-sections c in
-    let t = c.args.ty.now in
     let m = c.args.parts.now in
-    let k = c.args.kept.now in
     let new = c.push_type.new.kept in
     let f = c.in_err-sections.field-0.0 in
+    let typed = c.push_type.new.meter in
     let result = c.from_residual-in_err-sections.result in
-    let grown = subst (λ (u : FuncType). IsGrown c.args.keep (answers_of m) (with_type u m) c.push_type.new.meter 1 k new (Err f)) c.in_ok-ty.ensures
+    let grown = subst (λ (u : FuncType). IsGrown c.args.keep (answers_of m) (with_type u m) typed 1 c.args.kept.now new (Err f)) c.in_ok-ty.ensures
     c.in_err-sections.ensures.grown in
-    refused c.args.keep (edits.Ty t) m new (kept_again m k new grown.1 c.requires.kept) (with_type t m) c.push_type.new.parts f result
-    (err_from_is_err_and result c.from_residual-in_err-sections.ensures.1) refl grown.0
-    (λ same. decided at.Else-is_none (len_is at.After-len_grown-len)) c.in_err-sections.ensures.err
+    grown_refused c.args.keep (edits.Ty c.args.ty.now) m (with_type c.args.ty.now m) c.push_type.new.parts c.args.kept.now new typed 1 f result
+    (err_from_is_err_and result c.from_residual-in_err-sections.ensures.1) refl grown (undecided at.Else-is_none (len_is at.After-len_grown-len))
+    c.in_err-sections.ensures.err c.requires.kept
 
 pub overflow_cast-result : goal.overflow_cast-result
 overflow_cast-result c =
@@ -104,20 +106,14 @@ overflow_cast-result c =
 
 pub returns : goal.returns
 returns c =
-    let t = c.args.ty.now in
     let m = c.args.parts.now in
-    let n = with_type t m in
-    let e = edits.Ty t in
-    let k = c.args.kept.now in
-    let new = c.push_type.new.kept in
-    let made = c.in_ok-sections.sections in
-    let grown = subst (λ (u : FuncType). IsGrown c.args.keep (answers_of m) (with_type u m) c.push_type.new.meter 1 k new (Ok made)) c.in_ok-ty.ensures
-    c.in_ok-sections.ensures.grown in
-    let same = c.in_ok-sections.ensures.ok ∙ ap (λ (u : FuncType). with_type u m) c.in_ok-ty.ensures in
-    let formed : IsFormed n = types_formed (m.types ++ t ∷ []) m
-    (omega (arith, few m k c.requires.kept, length-append m.types (t ∷ []))) c.requires.shaped.formed in
-    let works = work_is e m (settle n) c.typed.result 0 made
-    (c.typed.ensures ∙ grown.2 ∙ sym (zero-add (count_by (is_retyped_in (answers_of m) (answers_of n)) m.funcs)))
-    (sym (zero-add (count_by (is_reencoded e m) m.funcs) ∙ count_zero (is_reencoded e m) (λ f. refl) m.funcs)) grown.3 in
-    accepted c.args.keep e m n c.push_type.new.parts k new (record { typed = c.typed.result; encoded = 0; sections = made }) same refl grown.0 works
-    formed grown.1
+    let u = c.in_ok-ty.ty in
+    let new = c.push_type.new in
+    let w : Work = record { typed = c.typed.result; encoded = 0; sections = c.in_ok-sections.sections } in
+    let grown = c.in_ok-sections.ensures.grown in
+    let works = codeless_work (edits.Ty u) m (settle (with_type u m)) refl (λ f. refl) c.typed.result w.sections (c.typed.ensures ∙ grown.2) grown.3 in
+    let few_more : length (m.types ++ u ∷ []) < 2 ^ 32 = omega (arith, few m c.args.kept.now c.requires.kept, length-append m.types (u ∷ [])) in
+    let leads : Leads c.args.keep (edits.Ty u) m (Ok w) new.parts new.kept =
+    accepted c.args.keep (edits.Ty u) m (with_type u m) new.parts c.args.kept.now new.kept w c.in_ok-sections.ensures.ok refl grown.0 works
+    (types_formed (m.types ++ u ∷ []) m few_more c.requires.shaped.formed) grown.1 in
+    subst (λ (t : FuncType). Leads c.args.keep (edits.Ty t) m (Ok w) new.parts new.kept) c.in_ok-ty.ensures leads

@@ -7,13 +7,13 @@ use Rattle.wk_check.specs.SpacesLaws.{type_grows}
 use Rattle.wk_typing.specs.declared.fault.Verdict.{Verdict}
 use Rattle.wk_check.specs.Verdict.{module_verdict}
 use Rattle.wk_session.proofs.Growing.{grown_known}
-use Rattle.wk_session.proofs.Outcomes.{limited-some}
+use Rattle.wk_session.proofs.Keeping.{kept_fits}
 use Rattle.wk_session.proofs.edits.func_type.known_with_type.Goals as goal
 
 pub overflow_cast-len : goal.overflow_cast-len
 overflow_cast-len c =
     let m = c.args.parts.now in
-    omega (arith, c.len.ensures, room m TypeSection (limited-some (length (encoded m)) c.args.kept.now.len c.requires.kept.len))
+    omega (arith, c.len.ensures, room m TypeSection (kept_fits m c.args.kept.now c.requires.kept))
 
 pub returns-in-Valid-clause-some : goal.returns-in-Valid-clause-some
 returns-in-Valid-clause-some c =

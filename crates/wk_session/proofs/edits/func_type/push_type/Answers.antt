@@ -1,10 +1,10 @@
-use Rattle.std.proofs.Common.{◌≡◌, List, [], ◌∷◌, length, refl, sym, ap, ◌∙◌, arith, length-append}
+use Rattle.std.proofs.Common.{◌≡◌, ℕ, List, [], ◌∷◌, length, refl, sym, ap, ◌∙◌, arith, length-append}
 use Rattle.std.proofs.lemmas.Result.{err_from_is_err_and}
 use Rattle.wk_body.specs.Lengths.{limited}
 use Rattle.wk_module.specs.declared.types.FuncType.{FuncType}
 use Rattle.wk_module.specs.declared.types.Parts.{Parts}
 use Rattle.wk_module.specs.Changes.{with_type}
-use Rattle.wk_module.specs.Listed.{listed}
+use Rattle.wk_module.specs.Listed.{listed, listed_with}
 use Rattle.wk_module.specs.Sections.{SectionLists, TypeSection}
 use Rattle.wk_module.specs.ShapeLaws.{types_formed}
 use Rattle.wk_module.specs.WritingLaws.{room}
@@ -13,8 +13,8 @@ use Rattle.wk_check.specs.Spaces.{answer_in, spaces_of}
 use Rattle.wk_check.specs.SpacesLaws.{answers_of, type_grows}
 use Rattle.wk_session.proofs.Appending.{grows_before, item_grown, item_refused, judged_before, kept_before, known_before}
 use Rattle.wk_session.proofs.LongerLists.{type_longer}
-use Rattle.wk_session.proofs.Outcomes.{limited-some}
-use Rattle.wk_session.proofs.LastItems.{but_last, types_before}
+use Rattle.wk_session.proofs.Keeping.{kept_fits}
+use Rattle.wk_session.proofs.LastItems.{but_last, push_before}
 use Rattle.wk_session.proofs.edits.func_type.push_type.Goals as goal
 use Rattle.wk_session.proofs.edits.func_type.push_type.Goals.{After-without_last_type-before}
 
@@ -25,13 +25,14 @@ pushed c = ap (λ (ts : List FuncType). let p : Parts = record c.args.parts.now 
 before_is : (c : After-without_last_type-before) → answer_in (spaces_of (listed c.without_last_type-before.result)) ≡ answers_of c.args.parts.now
 before_is c =
     let lists = c.without_last_type-before.ensures ∙ ap (λ (l : SectionLists). record l { types = but_last l.types }) c.of.ensures.lists in
-    types_before c.args.parts.now c.args.ty c.push.new.self c.deref.result.now (listed c.without_last_type-before.result) lists c.in_ok-push.ensures.ok
-    (c.deref.ensures.value ∙ c.requires.kept.types)
+    let m = c.args.parts.now in
+    push_before m (λ (ts : List FuncType) (fs : List ℕ). record (listed_with fs m) { types = ts }) m.types c.push.new.self c.args.ty c.deref.result.now
+    (listed c.without_last_type-before.result) refl lists c.in_ok-push.ensures.ok (c.deref.ensures.value ∙ c.requires.kept.types)
 
 pub judge_grown-judged-requires-clause-formed : goal.judge_grown-judged-requires-clause-formed
 judge_grown-judged-requires-clause-formed c =
     let m = c.args.parts.now in
-    let few = room m TypeSection (limited-some (length (encoded m)) c.args.kept.now.len c.requires.kept.len) in
+    let few = room m TypeSection (kept_fits m c.args.kept.now c.requires.kept) in
     let count = ap length c.in_ok-push.ensures.ok ∙ length-append m.types (c.args.ty ∷ []) in
     types_formed c.push.new.self m (omega (arith, few, count)) c.requires.shaped.formed
 
@@ -59,7 +60,7 @@ judge_grown-judged-requires-clause-len c =
 pub new_type-requires : goal.new_type-requires
 new_type-requires c =
     let m = c.args.parts.now in
-    omega (arith, room m TypeSection (limited-some (length (encoded m)) c.args.kept.now.len c.requires.kept.len))
+    omega (arith, room m TypeSection (kept_fits m c.args.kept.now c.requires.kept))
 
 pub returns-in_err-item-clause-grown : goal.returns-in_err-item-clause-grown
 returns-in_err-item-clause-grown c =
@@ -76,7 +77,7 @@ keep_grown-grown-requires-clause-id c = omega (arith, c.in_ok-item.ensures.id_is
 pub keep_grown-grown-requires-clause-count : goal.keep_grown-grown-requires-clause-count
 keep_grown-grown-requires-clause-count c =
     let m = c.args.parts.now in
-    omega (arith, c.in_ok-item.ensures.count_is, room m TypeSection (limited-some (length (encoded m)) c.args.kept.now.len c.requires.kept.len))
+    omega (arith, c.in_ok-item.ensures.count_is, room m TypeSection (kept_fits m c.args.kept.now c.requires.kept))
 
 pub returns-clause-grown : goal.returns-clause-grown
 returns-clause-grown c =

@@ -9,7 +9,8 @@ use Rattle.wk_module.specs.Writing.{encoded}
 use Rattle.wk_check.specs.SpacesLaws.{answers_of}
 use Rattle.wk_check.specs.Verdict.{func_verdict}
 use Rattle.wk_session.specs.Kept.{IsPending}
-use Rattle.wk_session.proofs.EntryEdits.{func_formed_from, lent, lent_is, numbered_lent, types_with}
+use Rattle.wk_session.proofs.EntryEdits.{func_formed_from, types_with}
+use Rattle.wk_session.proofs.Lent.{lent, lent_is, numbered_lent, verdicts_few}
 use Rattle.wk_session.proofs.Outcomes.{limited-some}
 use Rattle.wk_session.proofs.edits.function.judged_func.Goals as goal
 use Rattle.wk_session.proofs.edits.function.judged_func.Goals.{After-of-lists}
@@ -46,12 +47,8 @@ appraise-requires-clause-numbered c =
 pub appraise-requires-clause-few : goal.appraise-requires-clause-few
 appraise-requires-clause-few c =
     let n = with_func c.args.ty c.args.body.now c.args.basis.parts.now in
-    omega (
-      arith,
-      ap length c.in_ok-verdicts.ensures.verdicts,
-      length-map n.funcs (func_verdict (answers_of n)),
-      funcs_numbered n (formed (goal.at.appraise-requires-clause-few c).After-of-lists),
-    )
+    verdicts_few n (answers_of n) _ c.in_ok-verdicts.ensures.verdicts
+    (formed (goal.at.appraise-requires-clause-few c).After-of-lists)
 
 pub returns-in_err-appraisal-clause-judged : goal.returns-in_err-appraisal-clause-judged
 returns-in_err-appraisal-clause-judged c =

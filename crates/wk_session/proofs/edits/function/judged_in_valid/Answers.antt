@@ -12,7 +12,8 @@ use Rattle.wk_typing.specs.Answers.{Found}
 use Rattle.wk_check.specs.SpacesLaws.{answers_of, func_grows}
 use Rattle.wk_typing.specs.Typing.{body_verdict}
 use Rattle.wk_check.specs.Verdict.{module_verdict}
-use Rattle.wk_session.proofs.EntryEdits.{answers_lent, func_formed_from, lent_is, types_with}
+use Rattle.wk_session.proofs.EntryEdits.{func_formed_from, types_with}
+use Rattle.wk_session.proofs.Lent.{answers_lent, lent_is}
 use Rattle.wk_session.proofs.Growing.{none_retyped}
 use Rattle.wk_session.proofs.Outcomes.{limited-some}
 use Rattle.wk_session.proofs.edits.function.judged_in_valid.Goals as goal

@@ -2,7 +2,6 @@ use Rattle.std.proofs.Common.{◌≡◌, ◌+◌, ℕ, List, length, ap, sym, �
 use Rattle.std.proofs.lemmas.Result.{err_from_is_err_and}
 use Rattle.std.proofs.lemmas.List.{length-map}
 use Rattle.wk_body.specs.Lengths.{limited}
-use Rattle.wk_body.specs.LengthsLaws.{limited_some}
 use Rattle.wk_module.specs.Changes.{with_func}
 use Rattle.wk_module.specs.NumberedLaws.{funcs_numbered}
 use Rattle.wk_module.specs.Shape.{IsFormed}
@@ -10,11 +9,11 @@ use Rattle.wk_module.specs.Sizes.{entry_size}
 use Rattle.wk_module.specs.Writing.{encoded, Fits}
 use Rattle.wk_module.specs.WritingLaws.{room_for_func}
 use Rattle.wk_session.specs.Pieces.{codes_size}
-use Rattle.wk_session.proofs.EntryEdits.{codes_kept, codes_large, codes_more, func_formed_from, func_unencoded, types_with}
+use Rattle.wk_session.proofs.EntryEdits.{codes_kept, codes_large, codes_len_is, codes_more, func_formed_from, func_unencoded, types_with}
 use Rattle.wk_session.proofs.LongerLists.{func_longer, item_told, longer_by}
 use Rattle.wk_session.proofs.Outcomes.{limited-some}
 use Rattle.wk_session.proofs.edits.function.planned_func.Goals as goal
-use Rattle.wk_session.proofs.edits.function.planned_func.Goals.{After-plus_code, In-Some}
+use Rattle.wk_session.proofs.edits.function.planned_func.Goals.{After-plus_code}
 
 fits : (c : After-plus_code) → Fits c.args.basis.parts.now
 fits c = limited-some (length (encoded c.args.basis.parts.now)) c.args.basis.kept.now.len c.requires.kept.len
@@ -74,17 +73,11 @@ len_grown-len-requires-clause-funcs c =
     let at = (goal.at.len_grown-len-requires-clause-funcs c).After-plus_code in
     omega (arith, c.len.ensures, types_count at, funcs_numbered (with_func c.args.ty c.args.body.now c.args.basis.parts.now) (formed at))
 
--- the length that is kept of all codes
-codes_len_is : (c : In-Some) → c.plus_code.result ≡ limited (codes_size (with_func c.args.ty c.args.body.now c.args.basis.parts.now).funcs)
-    → c.in-Some.codes_len ≡ codes_size (with_func c.args.ty c.args.body.now c.args.basis.parts.now).funcs
-codes_len_is c codes =
-    (limited_some c.in-Some.codes_len (codes_size (with_func c.args.ty c.args.body.now c.args.basis.parts.now).funcs) (sym c.in-Some.is ∙ codes)).0
-
 pub judged_func-requires-clause-len : goal.judged_func-requires-clause-len
 judged_func-requires-clause-len c =
     let n = with_func c.args.ty c.args.body.now c.args.basis.parts.now in
     let at = goal.at.judged_func-requires-clause-len c in
-    let codes = codes_len_is at.In-Some (codes_are at.After-plus_code (fits at.After-plus_code)) in
+    let codes = codes_len_is n _ _ c.in-Some.is (codes_are at.After-plus_code (fits at.After-plus_code)) in
     let count : c.len.result ≡ length n.funcs = omega (arith, c.len.ensures, types_count at.After-plus_code) in
     let m = c.args.basis.parts.now in
     let item = c.args.item.now in
@@ -107,7 +100,8 @@ returns-clause-planned c =
       uses = c.in_ok-uses.ensures (record { ty = c.args.ty; body = c.args.body.now }) refl refl;
       verdicts = c.in_ok-verdicts.ensures.judged.0;
       code = c.in_ok-code.ensures.code;
-      codes_len = codes_len_is at.In-Some (codes_are at.After-plus_code (fits at.After-plus_code));
+      codes_len = codes_len_is (with_func c.args.ty c.args.body.now c.args.basis.parts.now) _ _ c.in-Some.is
+          (codes_are at.After-plus_code (fits at.After-plus_code));
       encoded = c.in_ok-code.ensures.made;
       made = c.requires.item.made;
     }

@@ -1,7 +1,8 @@
 use Rattle.std.proofs.Common.{◌≡◌, ◌∙◌}
 use Rattle.wk_module.specs.Changes.{with_func}
 use Rattle.wk_check.specs.SpacesLaws.{func_grows}
-use Rattle.wk_session.proofs.EntryEdits.{lent, lent_is, grows_lent, verdicts_lent, count_lent, types_before, types_with, verdicts_more, typed_once}
+use Rattle.wk_session.proofs.EntryEdits.{types_before, types_with, verdicts_more, typed_once}
+use Rattle.wk_session.proofs.Lent.{lent, lent_is, grows_lent, verdicts_lent, count_lent}
 use Rattle.wk_session.proofs.edits.function.verdicts_with.Goals as goal
 use Rattle.wk_session.proofs.edits.function.verdicts_with.Goals.{In_ok-new}
 

@@ -1,4 +1,4 @@
-use Rattle.std.proofs.Common.{◌≡◌, ◌≢◌, ◌∙◌, sym, ap, refl, arith, zero-add, length, Result, Err, count_by}
+use Rattle.std.proofs.Common.{◌≡◌, ◌≢◌, ◌∙◌, sym, ap, refl, arith, length, Result, Err, count_by}
 use Rattle.std.proofs.lemmas.Result.{err_from_is_err_and}
 use Rattle.std.proofs.lemmas.List.Sums.{count_by-le-length}
 use Rattle.wk_bytes.specs.Leb.{◌>>=◌}
@@ -13,12 +13,13 @@ use Rattle.wk_module.specs.WritingLaws.{room}
 use Rattle.wk_check.specs.SpacesLaws.{answers_of}
 use Rattle.wk_session.specs.declared.edit.Edit.TheVariants as edits
 use Rattle.wk_session.specs.declared.edit.EditFault.{EditFault}
-use Rattle.wk_session.specs.Dependents.{is_retyped_in, is_reencoded}
+use Rattle.wk_session.specs.Dependents.{is_retyped_in}
 use Rattle.wk_session.specs.Edits.{fitting, lasting, made}
 use Rattle.wk_session.specs.Kept.{standing}
-use Rattle.wk_session.proofs.Leading.{refused_for, refused, kept_again, accepted}
-use Rattle.wk_session.proofs.Outcomes.{limited-some}
-use Rattle.wk_session.proofs.Works.{work_is, count_zero}
+use Rattle.wk_session.proofs.Leading.{refused_for, accepted}
+use Rattle.wk_session.proofs.Appending.{grown_refused}
+use Rattle.wk_session.proofs.Keeping.{kept_fits}
+use Rattle.wk_session.proofs.Works.{codeless_work}
 use Rattle.wk_session.proofs.edits.global.add_global.Goals as goal
 use Rattle.wk_session.proofs.edits.global.add_global.Goals.{In_ok-init}
 
@@ -42,15 +43,11 @@ makes c =
 pub returns-in_err-sections : goal.returns-in_err-sections
 returns-in_err-sections c =
     let m = c.args.parts.now in
-    let k = c.args.kept.now in
-    let new = c.push_global.new.kept in
-    let f = c.in_err-sections.field-0.0 in
+    let new = c.push_global.new in
     let result = c.from_residual-in_err-sections.result in
-    let grown = c.in_err-sections.ensures.grown in
-    refused c.args.keep (edits.Global c.args.ty c.args.init.now) m new (kept_again m k new grown.1 c.requires.kept)
-    (with_global c.args.ty c.in_ok-init.init m) c.push_global.new.parts f result
-    (err_from_is_err_and result c.from_residual-in_err-sections.ensures.1) (makes (goal.at.returns-in_err-sections c).In_ok-init) grown.0
-    (λ same. refl) c.in_err-sections.ensures.err
+    grown_refused c.args.keep (edits.Global c.args.ty c.args.init.now) m (with_global c.args.ty c.in_ok-init.init m) new.parts c.args.kept.now new.kept
+    new.meter 1 c.in_err-sections.field-0.0 result (err_from_is_err_and result c.from_residual-in_err-sections.ensures.1)
+    (makes (goal.at.returns-in_err-sections c).In_ok-init) c.in_err-sections.ensures.grown refl c.in_err-sections.ensures.err c.requires.kept
 
 pub overflow_cast-result : goal.overflow_cast-result
 overflow_cast-result c =
@@ -68,11 +65,9 @@ returns c =
     let k = c.args.kept.now in
     let made = c.in_ok-sections.sections in
     let grown = c.in_ok-sections.ensures.grown in
-    let few = room m GlobalSection (limited-some (length (encoded m)) k.len c.requires.kept.len) in
+    let few = room m GlobalSection (kept_fits m k c.requires.kept) in
     let formed : IsFormed n = global_formed c.args.ty i m few c.in_ok-init.ensures.valid c.requires.shaped.formed in
-    let works = work_is e m (settle n) c.typed.result 0 made
-    (c.typed.ensures ∙ grown.2 ∙ sym (zero-add (count_by (is_retyped_in (answers_of m) (answers_of n)) m.funcs)))
-    (sym (zero-add (count_by (is_reencoded e m) m.funcs) ∙ count_zero (is_reencoded e m) (λ f. refl) m.funcs)) grown.3 in
+    let works = codeless_work e m (settle n) refl (λ f. refl) c.typed.result made (c.typed.ensures ∙ grown.2) grown.3 in
     accepted c.args.keep e m n c.push_global.new.parts k c.push_global.new.kept
     (record { typed = c.typed.result; encoded = 0; sections = made }) c.in_ok-sections.ensures.ok
     (makes (goal.at.returns c).In_ok-init) grown.0 works formed grown.1

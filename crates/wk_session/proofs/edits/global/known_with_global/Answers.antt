@@ -5,7 +5,7 @@ use Rattle.wk_check.specs.SpacesLaws.{global_grows}
 use Rattle.wk_typing.specs.declared.fault.Verdict.{Verdict}
 use Rattle.wk_check.specs.Verdict.{module_verdict}
 use Rattle.wk_session.proofs.Growing.{grown_known}
-use Rattle.wk_session.proofs.EntryEdits.{lent, lent_is, numbered_lent}
+use Rattle.wk_session.proofs.Lent.{lent, lent_is, numbered_lent}
 use Rattle.wk_session.proofs.edits.global.known_with_global.Goals as goal
 use Rattle.wk_session.proofs.edits.global.known_with_global.Goals.{After-of-lists}
 

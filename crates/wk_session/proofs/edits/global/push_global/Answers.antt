@@ -1,8 +1,8 @@
-use Rattle.std.proofs.Common.{◌≡◌, ◌+◌, ◌<◌, ◌^◌, List, [], ◌∷◌, ◌++◌, arith, length, refl, sym, ap, subst, ◌∙◌}
+use Rattle.std.proofs.Common.{◌≡◌, ◌+◌, ◌<◌, ◌^◌, ℕ, List, [], ◌∷◌, ◌++◌, arith, length, refl, sym, ap, subst, ◌∙◌}
 use Rattle.std.proofs.lemmas.Result.{err_from_is_err_and}
 use Rattle.wk_body.specs.Lengths.{limited}
 use Rattle.wk_module.specs.declared.types.GlobalDef.{GlobalDef}
-use Rattle.wk_module.specs.Listed.{listed}
+use Rattle.wk_module.specs.Listed.{listed, listed_with}
 use Rattle.wk_module.specs.Sections.{SectionLists, GlobalSection}
 use Rattle.wk_module.specs.Shape.{IsFormed}
 use Rattle.wk_module.specs.ChangeLaws.{global_formed}
@@ -16,8 +16,8 @@ use Rattle.wk_session.specs.Kept.{IsKept}
 use Rattle.wk_module.specs.NumberedLaws.{funcs_numbered}
 use Rattle.wk_session.proofs.Appending.{grows_before, item_grown, item_refused, judged_before, kept_before, known_before}
 use Rattle.wk_session.proofs.LongerLists.{global_longer, item_told, longer_by}
-use Rattle.wk_session.proofs.Outcomes.{limited-some}
-use Rattle.wk_session.proofs.LastItems.{but_last, globals_before}
+use Rattle.wk_session.proofs.Keeping.{kept_fits}
+use Rattle.wk_session.proofs.LastItems.{but_last, push_before}
 use Rattle.wk_session.proofs.edits.global.push_global.Goals as goal
 use Rattle.wk_session.proofs.edits.global.push_global.Goals.{After-without_last_global-before}
 
@@ -29,13 +29,14 @@ pushed c = ap (λ (gs : List GlobalDef). let p : Parts = record c.args.parts.now
 before_is : (c : After-without_last_global-before) → answer_in (spaces_of (listed c.without_last_global-before.result)) ≡ answers_of c.args.parts.now
 before_is c =
     let lists = c.without_last_global-before.ensures ∙ ap (λ (l : SectionLists). record l { globals = but_last l.globals }) c.of.ensures.lists in
-    globals_before c.args.parts.now c.args.global c.push.new.self c.deref.result.now
-    (listed c.without_last_global-before.result) lists c.in_ok-push.ensures.ok (c.deref.ensures.value ∙ c.requires.kept.types)
+    let m = c.args.parts.now in
+    push_before m (λ (gs : List GlobalDef) (fs : List ℕ). record (listed_with fs m) { globals = gs }) m.globals c.push.new.self c.args.global
+    c.deref.result.now (listed c.without_last_global-before.result) refl lists c.in_ok-push.ensures.ok (c.deref.ensures.value ∙ c.requires.kept.types)
 
 pub judge_grown-judged-requires-clause-formed : goal.judge_grown-judged-requires-clause-formed
 judge_grown-judged-requires-clause-formed c =
     let m = c.args.parts.now in
-    let few = room m GlobalSection (limited-some (length (encoded m)) c.args.kept.now.len c.requires.kept.len) in
+    let few = room m GlobalSection (kept_fits m c.args.kept.now c.requires.kept) in
     let g = c.args.global in
     subst (λ (gs : List GlobalDef). IsFormed (record m { globals = gs })) (sym c.in_ok-push.ensures.ok)
     (global_formed g.ty g.init m few c.requires.valid c.requires.shaped.formed)
@@ -57,7 +58,7 @@ judge_grown-judged-requires-clause-known c =
     known_before _ c.args.parts.now _ _ c.args.kept.now (before_is at) (pushed at) c.in_ok-known.known c.in_ok-known.ensures.some
 
 few : (m : Parts) (k : Cache) → IsKept m k → length m.globals + 1 < 2 ^ 32
-few m k kept = room m GlobalSection (limited-some (length (encoded m)) k.len kept.len)
+few m k kept = room m GlobalSection (kept_fits m k kept)
 
 pub new_global-requires : goal.new_global-requires
 new_global-requires c = omega (arith, few c.args.parts.now c.args.kept.now c.requires.kept)

@@ -21,7 +21,9 @@ use Rattle.wk_session.specs.Imported.{after_import, IsImportPlan}
 use Rattle.wk_session.specs.Kept.{IsKept, uses_of}
 use Rattle.wk_session.specs.Overlays.{with_items}
 use Rattle.wk_session.proofs.ImportEdits.{made_free}
-use Rattle.wk_session.proofs.ImportOutcome.{unplanned, laid_parts, laid_refs, same_work}
+use Rattle.wk_session.proofs.ImportOutcome.{unplanned, laid_parts, laid_refs}
+use Rattle.wk_session.proofs.Keeping.{refs_count}
+use Rattle.wk_session.proofs.Works.{work_is}
 use Rattle.wk_session.proofs.edits.import.add_import.Goals as goal
 use Rattle.wk_session.proofs.edits.import.add_import.Goals.{After-import_count-from, In_ok-plan, After-put_import}
 
@@ -80,10 +82,7 @@ overflow_cast-work c =
 
 pub put_import-requires-clause-refs : goal.put_import-requires-clause-refs
 put_import-requires-clause-refs c =
-    let m = c.args.parts.now in
-    let sets = c.args.kept.now.refs.items in
-    let same = sym (length-map sets (λ s. s.keys)) ∙ ap length c.requires.kept.refs ∙ length-map m.funcs uses_of in
-    omega (arith, same, c.in_ok-plan.ensures.entries.ref_count)
+    omega (arith, refs_count c.args.parts.now c.args.kept.now c.requires.kept, c.in_ok-plan.ensures.entries.ref_count)
 
 pub put_import-requires-clause-moves : goal.put_import-requires-clause-moves
 put_import-requires-clause-moves c =
@@ -120,7 +119,7 @@ work_now : (c : After-put_import) → IsImportPlan (desc_kind c.args.import.now.
 work_now c plan =
     let i = c.args.import.now in
     let m = c.args.parts.now in
-    same_work c.typed.result c.in_ok-plan.plan.entries.encoded c.in_ok-judgement.judgement.remade.made (work_of (edits.Import i) m (settle (after_import i m)))
+    work_is c.typed.result c.in_ok-plan.plan.entries.encoded c.in_ok-judgement.judgement.remade.made (work_of (edits.Import i) m (settle (after_import i m)))
     (omega (arith, c.typed.ensures, c.in_ok-judgement.ensures.typed))
     (omega (arith, plan.entries.encoded))
     c.in_ok-judgement.ensures.judgement.made

@@ -17,16 +17,18 @@ use Rattle.wk_session.specs.Imported.{before_import, after_import}
 use Rattle.wk_session.specs.Kept.{IsPending}
 use Rattle.wk_session.specs.Overlays.{with_items}
 use Rattle.wk_session.specs.Pieces.{code_of, codes_size, entries_size, section_pieces}
-use Rattle.wk_session.proofs.ImportEdits.{pending_lists, numbered_after}
-use Rattle.wk_session.proofs.ImportPieces.{pieces_after, made_after, unwritten, codes_large}
+use Rattle.wk_session.proofs.EntryEdits.{codes_large, codes_len_is}
+use Rattle.wk_session.proofs.ImportEdits.{pending_lists}
+use Rattle.wk_session.proofs.Lent.{lent, numbered_lent, verdicts_few}
+use Rattle.wk_session.proofs.ImportPieces.{pieces_after, made_after, unwritten}
 use Rattle.wk_session.proofs.Piecing.{entries_codes}
 use Rattle.wk_session.proofs.edits.import.judged_import.Goals as goal
 use Rattle.wk_session.proofs.edits.import.judged_import.Goals.{After-with_moved-now, In_ok-remade, After-codes_len_after, After-len, After-module_len-len}
 use Rattle.wk_session.proofs.edits.import.judged_import.Goals.{After-verdicts_or-verdicts_now}
 
-lent : (c : After-with_moved-now) → let n = after_import c.args.import.now (before_import c.args.basis.parts.now) in
-    listed c.with_moved-now.result ≡ listed_with (map (λ (f : Func). f.ty) n.funcs) n
-lent c =
+-- the lists that are lent are those of the module with the import
+lists_are : (c : After-with_moved-now) → listed c.with_moved-now.result ≡ lent (after_import c.args.import.now (before_import c.args.basis.parts.now))
+lists_are c =
     let ready = c.requires.ready in
     c.with_moved-now.ensures.lists
     ∙ ap (λ (l : SectionLists). with_moved c.args.plan.now.lists l) c.of.ensures.lists
@@ -35,13 +37,12 @@ lent c =
     (c.deref.ensures.value ∙ ready.kept.types) ready.plan.lists
 
 pub verdicts_after-requires-clause-lists : goal.verdicts_after-requires-clause-lists
-verdicts_after-requires-clause-lists c = lent (goal.at.verdicts_after-requires-clause-lists c).After-with_moved-now
+verdicts_after-requires-clause-lists c = lists_are (goal.at.verdicts_after-requires-clause-lists c).After-with_moved-now
 
 pub appraise_unless_known-requires-clause-numbered : goal.appraise_unless_known-requires-clause-numbered
 appraise_unless_known-requires-clause-numbered c =
-    let n = after_import c.args.import.now (before_import c.args.basis.parts.now) in
-    numbered_after (listed c.with_moved-now.result) n (lent (goal.at.appraise_unless_known-requires-clause-numbered c).After-with_moved-now)
-    c.requires.ready.formed
+    let at = (goal.at.appraise_unless_known-requires-clause-numbered c).After-with_moved-now in
+    numbered_lent (after_import c.args.import.now (before_import c.args.basis.parts.now)) _ (lists_are at) c.requires.ready.formed
 
 verdicts : (c : After-verdicts_or-verdicts_now) → let n = after_import c.args.import.now (before_import c.args.basis.parts.now) in
     c.verdicts_or-verdicts_now.result.now.items ≡ map (func_verdict (answers_of n)) n.funcs
@@ -50,23 +51,21 @@ verdicts c = ap (λ v. v.items) c.verdicts_or-verdicts_now.ensures ∙ c.in_ok-v
 pub appraise_unless_known-requires-clause-few : goal.appraise_unless_known-requires-clause-few
 appraise_unless_known-requires-clause-few c =
     let n = after_import c.args.import.now (before_import c.args.basis.parts.now) in
-    omega (
-      arith,
-      funcs_numbered n c.requires.ready.formed,
-      length-map n.funcs (func_verdict (answers_of n)),
-      ap length (verdicts (goal.at.appraise_unless_known-requires-clause-few c).After-verdicts_or-verdicts_now),
-    )
+    verdicts_few n (answers_of n) _
+    (verdicts (goal.at.appraise_unless_known-requires-clause-few c).After-verdicts_or-verdicts_now) c.requires.ready.formed
 
--- the pieces with those that are made anew are those of the module
-codes_now : (c : After-codes_len_after) → with_items c.args.basis.kept.now.pieces.codes.items c.args.plan.now.entries.codes.items
-    ≡ map code_of (after_import c.args.import.now (before_import c.args.basis.parts.now)).funcs
-codes_now c =
+-- the length of all codes, and with those that are made anew
+codes_are : (c : After-codes_len_after) → c.codes_len_after.result
+    ≡ limited (codes_size (after_import c.args.import.now (before_import c.args.basis.parts.now)).funcs)
+codes_are c =
     let ready = c.requires.ready in
-    ap (λ (codes : List (List ℕ)). with_items codes c.args.plan.now.entries.codes.items) ready.kept.pieces.codes ∙ ready.plan.entries.codes
+    let now = ap (λ (codes : List (List ℕ)). with_items codes c.args.plan.now.entries.codes.items) ready.kept.pieces.codes ∙ ready.plan.entries.codes in
+    c.codes_len_after.ensures
+    ∙ ap limited (ap entries_size now ∙ entries_codes (after_import c.args.import.now (before_import c.args.basis.parts.now)).funcs)
 
+-- the sections with those that are made anew are those of the module
 sections_now : (c : In_ok-remade) → listed c.with_moved-now.result
-    ≡ listed_with (map (λ (f : Func). f.ty) (after_import c.args.import.now (before_import c.args.basis.parts.now)).funcs)
-    (after_import c.args.import.now (before_import c.args.basis.parts.now))
+    ≡ lent (after_import c.args.import.now (before_import c.args.basis.parts.now))
     → with_items c.args.basis.kept.now.pieces.sections.items c.in_ok-remade.remade.sections.items
     ≡ section_pieces (after_import c.args.import.now (before_import c.args.basis.parts.now))
 sections_now c lists =
@@ -79,16 +78,15 @@ pub returns-in_err-remade-clause-judgement : goal.returns-in_err-remade-clause-j
 returns-in_err-remade-clause-judgement c =
     let p = err_from_is_err_and c.from_residual.result c.from_residual.ensures.1 in
     let n = after_import c.args.import.now (before_import c.args.basis.parts.now) in
-    let lists = lent (goal.at.returns-in_err-remade-clause-judgement c).After-with_moved-now in
+    let lists = lists_are (goal.at.returns-in_err-remade-clause-judgement c).After-with_moved-now in
     rw (p.1, p.2) (unwritten c.args.basis.keep n (listed c.with_moved-now.result) c.in_err-remade.field-0.0 c.requires.ready.formed.order lists
     c.in_err-remade.ensures)
 
 pub returns-in_default-clause-judgement : goal.returns-in_default-clause-judgement
 returns-in_default-clause-judgement c =
     let n = after_import c.args.import.now (before_import c.args.basis.parts.now) in
-    let codes = with_items c.args.basis.kept.now.pieces.codes.items c.args.plan.now.entries.codes.items in
-    λ some. codes_large c.args.basis.keep n codes c.requires.ready.formed.order
-    (codes_now (goal.at.returns-in_default-clause-judgement c).After-codes_len_after) (sym c.in_default.is ∙ c.codes_len_after.ensures)
+    λ some. codes_large c.args.basis.keep n c.requires.ready.formed.order
+    (sym c.in_default.is ∙ codes_are (goal.at.returns-in_default-clause-judgement c).After-codes_len_after)
 
 count_now : (c : After-len) → c.len.result ≡ length (after_import c.args.import.now (before_import c.args.basis.parts.now)).funcs
 count_now c =
@@ -103,14 +101,6 @@ module_len-len-requires c =
       funcs_numbered (after_import c.args.import.now (before_import c.args.basis.parts.now)) c.requires.ready.formed,
     )
 
-codes_len_now : (c : After-len) → with_items c.args.basis.kept.now.pieces.codes.items c.args.plan.now.entries.codes.items
-    ≡ map code_of (after_import c.args.import.now (before_import c.args.basis.parts.now)).funcs
-    → c.in-Some.codes_len ≡ codes_size (after_import c.args.import.now (before_import c.args.basis.parts.now)).funcs
-codes_len_now c codes =
-    let told = limited_some c.in-Some.codes_len (entries_size (with_items c.args.basis.kept.now.pieces.codes.items c.args.plan.now.entries.codes.items))
-    (sym c.in-Some.is ∙ c.codes_len_after.ensures) in
-    told.0 ∙ ap entries_size codes ∙ entries_codes (after_import c.args.import.now (before_import c.args.basis.parts.now)).funcs
-
 -- how long the module gets
 len_now : (c : After-module_len-len) → with_items c.args.basis.kept.now.pieces.sections.items c.in_ok-remade.remade.sections.items
     ≡ section_pieces (after_import c.args.import.now (before_import c.args.basis.parts.now))
@@ -124,8 +114,7 @@ len_now c sections count codes =
     ready.kept.pieces.customs_len
 
 pending : (c : After-verdicts_or-verdicts_now) → listed c.with_moved-now.result
-    ≡ listed_with (map (λ (f : Func). f.ty) (after_import c.args.import.now (before_import c.args.basis.parts.now)).funcs)
-    (after_import c.args.import.now (before_import c.args.basis.parts.now))
+    ≡ lent (after_import c.args.import.now (before_import c.args.basis.parts.now))
     → c.module_len-len.result ≡ limited (length (encoded (after_import c.args.import.now (before_import c.args.basis.parts.now))))
     → IsPending c.with_moved-now.result c.verdicts_or-verdicts_now.result.now.items c.module_len-len.result
     (after_import c.args.import.now (before_import c.args.basis.parts.now))
@@ -142,9 +131,9 @@ returns-in_err-appraisal-clause-judgement c =
     let at = goal.at.returns-in_err-appraisal-clause-judgement c in
     let p = err_from_is_err_and c.from_residual-in_err-appraisal.result c.from_residual-in_err-appraisal.ensures.1 in
     let n = after_import c.args.import.now (before_import c.args.basis.parts.now) in
-    let lists = lent at.After-with_moved-now in
+    let lists = lists_are at.After-with_moved-now in
     let len = len_now at.After-module_len-len (sections_now at.In_ok-remade lists) (count_now at.After-len)
-    (codes_len_now at.After-len (codes_now at.After-codes_len_after)) in
+    (codes_len_is n _ _ c.in-Some.is (codes_are at.After-codes_len_after)) in
     rw (p.1, p.2) (λ some. c.in_err-appraisal.ensures n (pending at.After-verdicts_or-verdicts_now lists len) c.requires.known some)
 
 pub returns-clause-judgement : goal.returns-clause-judgement
@@ -153,9 +142,9 @@ returns-clause-judgement c =
     let n = after_import c.args.import.now m in
     let at = goal.at.returns-clause-judgement c in
     let ready = c.requires.ready in
-    let lists = lent at.After-with_moved-now in
+    let lists = lists_are at.After-with_moved-now in
     let sections = sections_now at.In_ok-remade lists in
-    let codes = codes_len_now at.After-len (codes_now at.After-codes_len_after) in
+    let codes = codes_len_is n _ _ c.in-Some.is (codes_are at.After-codes_len_after) in
     record {
       appraised = c.in_ok-appraisal.ensures n
           (pending at.After-verdicts_or-verdicts_now lists (len_now at.After-module_len-len sections (count_now at.After-len) codes)) c.requires.known;

@@ -1,6 +1,6 @@
 use Rattle.std.proofs.Common.{◌≡◌, sym, ◌∙◌}
 use Rattle.wk_module.specs.Listed.{listed}
-use Rattle.wk_session.proofs.EntryEdits.{lent, lent_is, numbered_lent}
+use Rattle.wk_session.proofs.Lent.{lent, lent_is, numbered_lent}
 use Rattle.wk_session.proofs.edits.import.known_with_import.Goals as goal
 use Rattle.wk_session.proofs.edits.import.known_with_import.Goals.{After-of}
 

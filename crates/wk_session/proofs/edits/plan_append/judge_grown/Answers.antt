@@ -10,25 +10,21 @@ use Rattle.wk_check.specs.SpacesLaws.{answers_of}
 use Rattle.wk_check.specs.Verdict.{func_verdict}
 use Rattle.wk_session.specs.Judged.{IsKnown}
 use Rattle.wk_session.specs.Kept.{IsPending}
+use Rattle.wk_session.proofs.Lent.{lent, lent_is, numbered_lent, verdicts_few}
 use Rattle.wk_session.proofs.edits.plan_append.judge_grown.Goals as goal
 use Rattle.wk_session.proofs.edits.plan_append.judge_grown.Goals.{After-of-lists}
 
 -- the lists that are lent are those of the module
-lent : (c : After-of-lists) → listed c.of-lists.result ≡ listed_with (map (λ f. f.ty) c.args.basis.parts.now.funcs) c.args.basis.parts.now
-lent c = c.of-lists.ensures.lists ∙ ap (λ (ts : List ℕ). listed_with ts c.args.basis.parts.now) (c.deref.ensures.value ∙ c.requires.kept.types)
+lists_are : (c : After-of-lists) → listed c.of-lists.result ≡ lent c.args.basis.parts.now
+lists_are c = lent_is c.args.basis.parts.now _ _ c.of-lists.ensures.lists (c.deref.ensures.value ∙ c.requires.kept.types)
 
 pub appraise-requires-clause-numbered : goal.appraise-requires-clause-numbered
 appraise-requires-clause-numbered c =
-    let n = c.args.basis.parts.now in
-    let same = ap length c.deref.ensures.value in
-    let few : length c.deref.result.now < 2 ^ 32 =
-    omega (arith, same, ap length c.requires.kept.types, length-map n.funcs (λ (f : Func). f.ty), funcs_numbered n c.requires.formed) in
-    rw c.of-lists.ensures.lists (module_numbered_with c.deref.result.now n few c.requires.formed)
+    numbered_lent c.args.basis.parts.now _ (lists_are (goal.at.appraise-requires-clause-numbered c).After-of-lists) c.requires.formed
 
 pub appraise-requires-clause-few : goal.appraise-requires-clause-few
 appraise-requires-clause-few c =
-    let n = c.args.basis.parts.now in
-    omega (arith, ap length c.in_ok-verdicts.ensures.verdicts, length-map n.funcs (func_verdict (answers_of n)), funcs_numbered n c.requires.formed)
+    verdicts_few c.args.basis.parts.now (answers_of c.args.basis.parts.now) _ c.in_ok-verdicts.ensures.verdicts c.requires.formed
 
 pub returns-in-Some : goal.returns-in-Some
 returns-in-Some c =
@@ -46,7 +42,7 @@ returns c =
     let pending : IsPending c.of-lists.result c.in_ok-verdicts.verdicts.items c.args.len n = record {
       formed = c.requires.formed;
       profile = c.of-lists.ensures.profile;
-      lists = lent (goal.at.returns c).After-of-lists;
+      lists = lists_are (goal.at.returns c).After-of-lists;
       verdicts = c.in_ok-verdicts.ensures.verdicts;
       len = c.requires.len;
     } in
