@@ -1,5 +1,5 @@
 -- A function of a module that is given another body, in the module and in its draft.
-use Rattle.std.proofs.Common.{◌≡◌, ℕ, zero, suc, ◌-◌, Bool, true, false, if◌then◌else◌, Option, Some, None, List, [], ◌∷◌, ◌++◌, set, sym, ap, subst, ◌∙◌}
+use Rattle.std.proofs.Common.{◌≡◌, ℕ, zero, suc, ◌-◌, Bool, true, false, if◌then◌else◌, Option, Some, None, List, [], ◌∷◌, ◌++◌, set, refl, sym, ap, subst, ◌∙◌}
 use Rattle.std.specs.Prelude.{nat_le, nat_lt, ◌&&◌}
 use Rattle.wk_body.specs.Bodies.{BodyOf}
 use Rattle.wk_body.specs.declared.references.Ref.{Ref}
@@ -18,6 +18,7 @@ use Rattle.wk_session.specs.Edits.{entry_of}
 use Rattle.wk_draft.specs.Drafts.{AreDrafted, IsSketch, IsDraft}
 use Rattle.wk_body.specs.declared.shifts.Shifts.{Shifts}
 use Rattle.wk_draft.specs.Steps.{deferred_without}
+use Rattle.wk_draft.proofs.Sketches.{still_draft}
 use Rattle.wk_draft.proofs.SketchTypes.{same_count}
 
 -- an index is that of the same function
@@ -56,8 +57,5 @@ sketch_given s os deferred i b m d h = record {
 -- A function with another body, whether its old one was deferred or not. Where none has the entry, nothing changes.
 pub body_sketch : (s : Shifts) (os : List Func) (deferred : List Bool) (i : ℕ) (b : BodyOf) (m d : Parts) → IsDraft s os deferred m d
     → IsDraft s os (deferred_without (Some i) deferred) (with_body i b m) (with_body i b d)
-body_sketch s os deferred i b m d h = record {
-  sketch = sketch_given s os deferred i b m d h.sketch;
-  funcs_from = h.funcs_from;
-  globals_from = h.globals_from;
-}
+body_sketch s os deferred i b m d h =
+    still_draft s os deferred (deferred_without (Some i) deferred) m d (with_body i b m) (with_body i b d) refl h (sketch_given s os deferred i b m d h.sketch)

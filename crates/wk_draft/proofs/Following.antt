@@ -35,6 +35,7 @@ use Rattle.wk_session.specs.declared.edit.EditFault.TheVariants.{Memory}
 use Rattle.wk_session.specs.Edits.{fitting, from_bytes, import_place, entry_of, body_put, with_exports, is_named, without_customs, with_bytes, custom_put}
 use Rattle.wk_session.specs.Edits.{with_custom, without_all_customs, lasting, made}
 use Rattle.wk_session.specs.Imported.{after_import}
+use Rattle.wk_session.specs.Kept.{standing}
 use Rattle.wk_draft.specs.Drafts.{IsDraft, deferred_room}
 use Rattle.wk_body.specs.declared.shifts.Shifts.{Shifts}
 use Rattle.wk_draft.specs.Steps.{deferred_without, deferred_after, shifts_after, edit_room, is_unmeasured, HasBytes, Follows}
@@ -94,43 +95,41 @@ module _ (keeps : Keeps) (keeps_moved : KeepsMoved) (finds : ValidFinds)
       (standing_led (Room keep s os deferred m d e) s os deferred (with_type t m) (with_type t d) (type_sketch keeps finds s os deferred m d h t) order
       (λ r. let room = r.1 in omega (arith, room, type_grown t d)) keep)
 
-  func_led : (t : ℕ) (code : List ℕ) → IsBytes code → (r : Result BodyOf ReadFault) → whole_at (all_body_at m.profile) code ≡ r
-      → IsLed (Room keep s os deferred m d (edits.Func t code)) s os deferred
-      ((from_bytes r >>= λ b. fitting (settle (with_func t b d))) >>= lasting keep)
-      ((from_bytes r >>= λ b. fitting (settle (with_func t b m))) >>= lasting keep)
-  func_led t code bytes (Err f) is = refl
-  func_led t code bytes (Ok b) is =
-      let le = written_within least m.profile code bytes b is in
-      standing_led (Room keep s os deferred m d (edits.Func t code)) s os deferred (with_func t b m) (with_func t b d)
-      (func_sketch keeps finds s os deferred m d h t b) order
-      (λ r. let room = r.1 in omega (arith, room, func_grown t b code d le (omega arith))) keep
+  -- what bytes spell comes to a list of both, or is given to both
+  read_led : {A : Type 0} (e : Edit) (now : List Bool) (put : A → Parts → Parts) (r : Result A ReadFault)
+      → ((x : A) → r ≡ Ok x → IsLed (Room keep s os deferred m d e) s os now (standing keep (put x d)) (standing keep (put x m)))
+      → IsLed (Room keep s os deferred m d e) s os now ((from_bytes r >>= λ x. fitting (settle (put x d))) >>= lasting keep)
+      ((from_bytes r >>= λ x. fitting (settle (put x m))) >>= lasting keep)
+  read_led e now put (Err f) led = refl
+  read_led e now put (Ok x) led = led x refl
+
+  spelled_led : {A : Type 0} (e : Edit) (now : List Bool) (put : A → Parts → Parts) (spelled : Profile → Result A ReadFault)
+      → ((x : A) → spelled m.profile ≡ Ok x → IsLed (Room keep s os deferred m d e) s os now (standing keep (put x d)) (standing keep (put x m)))
+      → IsLed (Room keep s os deferred m d e) s os now ((from_bytes (spelled d.profile) >>= λ x. fitting (settle (put x d))) >>= lasting keep)
+      ((from_bytes (spelled m.profile) >>= λ x. fitting (settle (put x m))) >>= lasting keep)
+  spelled_led {A = A} e now put spelled led =
+      subst (λ (profile : Profile). IsLed (Room keep s os deferred m d e) s os now
+      ((from_bytes (spelled profile) >>= λ (x : A). fitting (settle (put x d))) >>= lasting keep)
+      ((from_bytes (spelled m.profile) >>= λ (x : A). fitting (settle (put x m))) >>= lasting keep))
+      same_profile (read_led e now put (spelled m.profile) led)
 
   func_follows : (t : ℕ) (code : List ℕ) → IsBytes code → Follows keep (edits.Func t code) s os deferred m d (made keep (edits.Func t code) d)
   func_follows t code bytes =
       let e = edits.Func t code in
       follows_led keep s os deferred m d e (made keep e d)
-      (subst (λ (profile : Profile). IsLed (Room keep s os deferred m d e) s os deferred
-      ((from_bytes (whole_at (all_body_at profile) code) >>= λ b. fitting (settle (with_func t b d))) >>= lasting keep) (made keep e m))
-      same_profile (func_led t code bytes (whole_at (all_body_at m.profile) code) refl))
-
-  global_led : (t : GlobalType) (init : List ℕ) → IsBytes init → (r : Result Instrs ReadFault) → whole_at (all_expr_at m.profile) init ≡ r
-      → IsLed (Room keep s os deferred m d (edits.Global t init)) s os deferred
-      ((from_bytes r >>= λ b. fitting (settle (with_global t b d))) >>= lasting keep)
-      ((from_bytes r >>= λ b. fitting (settle (with_global t b m))) >>= lasting keep)
-  global_led t init bytes (Err f) is = refl
-  global_led t init bytes (Ok b) is =
-      let le = written_expr_within least m.profile init bytes b is in
-      standing_led (Room keep s os deferred m d (edits.Global t init)) s os deferred (with_global t b m) (with_global t b d)
-      (global_sketch keeps finds s os deferred m d h t b) order
-      (λ r. let room = r.1 in omega (arith, room, global_grown t b init d le)) keep
+      (spelled_led e deferred (λ b p. with_func t b p) (λ profile. whole_at (all_body_at profile) code) (λ b is.
+      let le = written_within least m.profile code bytes b is in
+      standing_led (Room keep s os deferred m d e) s os deferred (with_func t b m) (with_func t b d) (func_sketch keeps finds s os deferred m d h t b) order
+      (λ r. let room = r.1 in omega (arith, room, func_grown t b code d le (omega arith))) keep))
 
   global_follows : (t : GlobalType) (init : List ℕ) → IsBytes init → Follows keep (edits.Global t init) s os deferred m d (made keep (edits.Global t init) d)
   global_follows t init bytes =
       let e = edits.Global t init in
       follows_led keep s os deferred m d e (made keep e d)
-      (subst (λ (profile : Profile). IsLed (Room keep s os deferred m d e) s os deferred
-      ((from_bytes (whole_at (all_expr_at profile) init) >>= λ b. fitting (settle (with_global t b d))) >>= lasting keep) (made keep e m))
-      same_profile (global_led t init bytes (whole_at (all_expr_at m.profile) init) refl))
+      (spelled_led e deferred (λ x p. with_global t x p) (λ profile. whole_at (all_expr_at profile) init) (λ x is.
+      let le = written_expr_within least m.profile init bytes x is in
+      standing_led (Room keep s os deferred m d e) s os deferred (with_global t x m) (with_global t x d) (global_sketch keeps finds s os deferred m d h t x) order
+      (λ r. let room = r.1 in omega (arith, room, global_grown t x init d le)) keep))
 
   export_follows : (x : Export) → Follows keep (edits.Export x) s os deferred m d (made keep (edits.Export x) d)
   export_follows x =
@@ -141,26 +140,16 @@ module _ (keeps : Keeps) (keeps_moved : KeepsMoved) (finds : ValidFinds)
 
   -- ---- another body
 
-  given_led : (x i : ℕ) (code : List ℕ) → IsBytes code → (r : Result BodyOf ReadFault) → whole_at (all_body_at m.profile) code ≡ r
-      → IsLed (Room keep s os deferred m d (edits.Body x code)) s os (deferred_without (Some i) deferred)
-      ((from_bytes r >>= λ b. fitting (settle (with_body i b d))) >>= lasting keep)
-      ((from_bytes r >>= λ b. fitting (settle (with_body i b m))) >>= lasting keep)
-  given_led x i code bytes (Err f) is = refl
-  given_led x i code bytes (Ok b) is =
-      let le = written_within least m.profile code bytes b is in
-      standing_led (Room keep s os deferred m d (edits.Body x code)) s os (deferred_without (Some i) deferred) (with_body i b m) (with_body i b d)
-      (body_sketch s os deferred i b m d h) order
-      (λ r. let room = r.1 in omega (arith, room, body_grown x i b code d le)) keep
-
   body_led : (x : ℕ) (code : List ℕ) → IsBytes code → (entry : Option ℕ)
       → IsLed (Room keep s os deferred m d (edits.Body x code)) s os (deferred_without entry deferred) (body_put entry code d >>= lasting keep)
       (body_put entry code m >>= lasting keep)
   body_led x code bytes None = refl
   body_led x code bytes (Some i) =
-      subst (λ (profile : Profile). IsLed (Room keep s os deferred m d (edits.Body x code)) s os (deferred_without (Some i) deferred)
-      ((from_bytes (whole_at (all_body_at profile) code) >>= λ b. fitting (settle (with_body i b d))) >>= lasting keep)
-      (body_put (Some i) code m >>= lasting keep))
-      same_profile (given_led x i code bytes (whole_at (all_body_at m.profile) code) refl)
+      let e = edits.Body x code in
+      spelled_led e (deferred_without (Some i) deferred) (λ b p. with_body i b p) (λ profile. whole_at (all_body_at profile) code) (λ b is.
+      let le = written_within least m.profile code bytes b is in
+      standing_led (Room keep s os deferred m d e) s os (deferred_without (Some i) deferred) (with_body i b m) (with_body i b d)
+      (body_sketch s os deferred i b m d h) order (λ r. let room = r.1 in omega (arith, room, body_grown x i b code d le)) keep)
 
   body_follows : (x : ℕ) (code : List ℕ) → IsBytes code → Follows keep (edits.Body x code) s os deferred m d (made keep (edits.Body x code) d)
   body_follows x code bytes =

@@ -1,5 +1,5 @@
 -- An edit makes a module longer by no more than its room.
-use Rattle.std.proofs.Common.{◌≡◌, ℕ, zero, suc, ◌+◌, ◌*◌, ◌≤◌, List, [], ◌∷◌, length, refl, ap, arith, length-append}
+use Rattle.std.proofs.Common.{◌≡◌, ℕ, zero, suc, ◌+◌, ◌*◌, ◌≤◌, List, [], ◌∷◌, ◌++◌, length, map, refl, ap, arith, length-append}
 use Rattle.std.proofs.lemmas.List.{length-map, map_push}
 use Rattle.std.specs.List.{flat_map}
 use Rattle.wk_bytes.specs.Frames.{limit}
@@ -32,6 +32,16 @@ use Rattle.wk_draft.proofs.SketchTypes.{types_of}
 -- by how many bytes a section is longer with one more item of that many bytes
 abbrev pushed_by : ℕ → ℕ
 pushed_by n = n + length (short (1 + n)) + 4
+
+-- one that is made of one more function
+pushed_func : {A : Type 0} (id : ℕ) (written : A → List ℕ) (part : Func → A) (fs : List Func) (f : Func)
+    → length (list_section id written (map part (fs ++ f ∷ []))) ≤ length (list_section id written (map part fs)) + pushed_by (length (written (part f)))
+pushed_func {A = A} id written part fs f =
+    omega (
+      arith,
+      pushed_section id written (map part fs) (part f),
+      ap (λ (xs : List A). length (list_section id written xs)) (map_push part fs f),
+    )
 
 -- ---- types
 
@@ -76,20 +86,8 @@ by_func t b k = only FunctionSection (pushed_by (length (short t))) k + only Cod
 
 each_of_func : (t : ℕ) (b : BodyOf) (d : Parts) (k : SectionId)
     → length (written_section k (contents (lists_of (with_func t b d)) k)) ≤ length (written_section k (contents (lists_of d) k)) + by_func t b k
-each_of_func t b d FunctionSection =
-    let func : Func = record { ty = t; body = b } in
-    omega (
-      arith,
-      pushed_section 3 short (types_of d.funcs) t,
-      ap (λ (ts : List ℕ). length (list_section 3 short ts)) (map_push (λ (f : Func). f.ty) d.funcs func),
-    )
-each_of_func t b d CodeSection =
-    let func : Func = record { ty = t; body = b } in
-    omega (
-      arith,
-      pushed_section 10 written_code (bodies_of d.funcs) b,
-      ap (λ (bs : List BodyOf). length (list_section 10 written_code bs)) (map_push (λ (f : Func). f.body) d.funcs func),
-    )
+each_of_func t b d FunctionSection = omega (arith, pushed_func 3 short (λ f. f.ty) d.funcs (record { ty = t; body = b }))
+each_of_func t b d CodeSection = omega (arith, pushed_func 10 written_code (λ f. f.body) d.funcs (record { ty = t; body = b }))
 each_of_func t b d _ = omega arith
 
 pub func_grown : (t : ℕ) (b : BodyOf) (code : List ℕ) (d : Parts) → length (written_body b) ≤ length code → length (short t) ≤ limit

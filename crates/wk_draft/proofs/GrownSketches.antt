@@ -1,5 +1,5 @@
 -- What comes to a module behind what it has, to its draft too: deferred bodies find what they found.
-use Rattle.std.proofs.Common.{◌≡◌, ℕ, Bool, true, false, List, [], ◌∷◌, ◌++◌, ap, ◌∙◌}
+use Rattle.std.proofs.Common.{◌≡◌, ℕ, Bool, true, false, List, [], ◌∷◌, ◌++◌, refl, ap, ◌∙◌}
 use Rattle.wk_body.specs.declared.references.Ref.{Ref}
 use Rattle.wk_body.specs.declared.types.Profile.{Profile}
 use Rattle.wk_body.specs.Bodies.{BodyOf}
@@ -20,6 +20,7 @@ use Rattle.wk_check.specs.SpacesLaws.{answers_of, type_grows, func_grows, global
 use Rattle.wk_check.specs.Verdict.{func_verdict}
 use Rattle.wk_draft.specs.Drafts.{IsDeferred, AreDrafted, IsDraft}
 use Rattle.wk_body.specs.declared.shifts.Shifts.{Shifts}
+use Rattle.wk_draft.proofs.Sketches.{still_draft}
 
 -- what is there is found as it was
 all_still : (A B : Ref → Found) → Grows A B → (rs : List Ref) → AreThere A rs → Agree A B rs
@@ -62,60 +63,44 @@ module _ (keeps : Keeps) (finds : ValidFinds) where
     drafted_still _ _ _ _ h = absurd h
 
   module _ (s : Shifts) (os : List Func) (deferred : List Bool) (m d : Parts) (h : IsDraft s os deferred m d) where
+    -- all functions, by what references find in n
+    all_still_drafted : (n : Parts) → Grows (answers_of m) (answers_of n) → AreDrafted m.profile (answers_of n) s os deferred m.funcs d.funcs
+    all_still_drafted n grows = drafted_still m.profile (answers_of m) (answers_of n) grows s os deferred m.funcs d.funcs h.sketch.funcs
+
     pub type_sketch : (t : FuncType) → IsDraft s os deferred (with_type t m) (with_type t d)
-    type_sketch t = record {
-      sketch = record {
-        rest = ap (with_type t) h.sketch.rest;
-        funcs = drafted_still m.profile (answers_of m) (answers_of (with_type t m)) (type_grows m t) s os deferred m.funcs d.funcs h.sketch.funcs;
-      };
-      funcs_from = h.funcs_from;
-      globals_from = h.globals_from;
-    }
+    type_sketch t =
+        still_draft s os deferred deferred m d (with_type t m) (with_type t d) refl h
+        (record { rest = ap (with_type t) h.sketch.rest; funcs = all_still_drafted (with_type t m) (type_grows m t) })
 
     pub func_sketch : (t : ℕ) (b : BodyOf) → IsDraft s os deferred (with_func t b m) (with_func t b d)
-    func_sketch t b = record {
-      sketch = record {
-        rest = ap (with_func t b) h.sketch.rest;
-        funcs =
-            drafted_push m.profile (answers_of (with_func t b m)) s (record { ty = t; body = b }) os deferred m.funcs d.funcs
-            (drafted_still m.profile (answers_of m) (answers_of (with_func t b m)) (func_grows m t b) s os deferred m.funcs d.funcs h.sketch.funcs);
-      };
-      funcs_from = h.funcs_from;
-      globals_from = h.globals_from;
-    }
+    func_sketch t b =
+        let n = with_func t b m in
+        still_draft s os deferred deferred m d n (with_func t b d) refl h (record {
+          rest = ap (with_func t b) h.sketch.rest;
+          funcs = drafted_push m.profile (answers_of n) s (record { ty = t; body = b }) os deferred m.funcs d.funcs (all_still_drafted n (func_grows m t b));
+        })
 
     pub global_sketch : (t : GlobalType) (e : Instrs) → IsDraft s os deferred (with_global t e m) (with_global t e d)
-    global_sketch t e = record {
-      sketch = record {
-        rest = ap (with_global t e) h.sketch.rest;
-        funcs = drafted_still m.profile (answers_of m) (answers_of (with_global t e m)) (global_grows m t e) s os deferred m.funcs d.funcs h.sketch.funcs;
-      };
-      funcs_from = h.funcs_from;
-      globals_from = h.globals_from;
-    }
+    global_sketch t e =
+        still_draft s os deferred deferred m d (with_global t e m) (with_global t e d) refl h
+        (record { rest = ap (with_global t e) h.sketch.rest; funcs = all_still_drafted (with_global t e m) (global_grows m t e) })
 
 -- ---- what no reference finds
 
 module _ (s : Shifts) (os : List Func) (deferred : List Bool) (m d : Parts) (h : IsDraft s os deferred m d) where
   pub export_sketch : (e : Export) → IsDraft s os deferred (with_export e m) (with_export e d)
-  export_sketch e = record {
-    sketch = record { rest = ap (with_export e) h.sketch.rest; funcs = h.sketch.funcs };
-    funcs_from = h.funcs_from;
-    globals_from = h.globals_from;
-  }
+  export_sketch e =
+      still_draft s os deferred deferred m d (with_export e m) (with_export e d) refl h
+      (record { rest = ap (with_export e) h.sketch.rest; funcs = h.sketch.funcs })
 
   pub exports_sketch : (es : List Export) → IsDraft s os deferred (record m { exports = es }) (record d { exports = es })
-  exports_sketch es = record {
-    sketch = record { rest = ap (λ (p : Parts). record p { exports = es }) h.sketch.rest; funcs = h.sketch.funcs };
-    funcs_from = h.funcs_from;
-    globals_from = h.globals_from;
-  }
+  exports_sketch es =
+      still_draft s os deferred deferred m d (record m { exports = es }) (record d { exports = es }) refl h
+      (record { rest = ap (λ (p : Parts). record p { exports = es }) h.sketch.rest; funcs = h.sketch.funcs })
 
   -- other customs, by a change of those that are there
   pub customs_sketch : (change : List Custom → List Custom) → IsDraft s os deferred (record m { customs = change m.customs })
       (record d { customs = change d.customs })
-  customs_sketch change = record {
-    sketch = record { rest = ap (λ (p : Parts). record p { customs = change p.customs }) h.sketch.rest; funcs = h.sketch.funcs };
-    funcs_from = h.funcs_from;
-    globals_from = h.globals_from;
-  }
+  customs_sketch change =
+      still_draft s os deferred deferred m d (record m { customs = change m.customs }) (record d { customs = change d.customs }) refl h
+      (record { rest = ap (λ (p : Parts). record p { customs = change p.customs }) h.sketch.rest; funcs = h.sketch.funcs })

@@ -9,8 +9,10 @@ use Rattle.wk_body.specs.declared.types.Profile.{Profile}
 use Rattle.wk_body.specs.Shape.{IsU32}
 use Rattle.wk_module.specs.declared.types.Custom.{Custom}
 use Rattle.wk_module.specs.declared.types.Func.{Func}
+use Rattle.wk_module.specs.declared.types.Kind.TheVariants as kinds
 use Rattle.wk_module.specs.declared.types.Parts.{Parts}
 use Rattle.wk_module.specs.ChangeLaws.{funcs_formed}
+use Rattle.wk_module.specs.Imports.{import_count}
 use Rattle.wk_module.specs.Items.{IsCode}
 use Rattle.wk_module.specs.Sections.{TypeSection, ImportSection, FunctionSection, TableSection, MemorySection, GlobalSection, ExportSection, StartSection}
 use Rattle.wk_module.specs.Sections.{ElementSection, CodeSection, DataSection, AreItems}
@@ -139,10 +141,16 @@ module _ (s : Shifts) (os : List Func) (deferred : List Bool) (m d : Parts) (h :
     settled = ap (λ (cs : List Custom). record m { customs = cs }) (sym same_settled ∙ ap (λ (p : Parts). p.customs) shaped.settled ∙ same_customs);
   }
 
--- the same of a draft
-pub settled_draft : (s : Shifts) (os : List Func) (deferred : List Bool) (m d : Parts) → IsDraft s os deferred m d → IsDraft s os deferred (settle m) (settle d)
-settled_draft s os deferred m d h = record {
-  sketch = settled_sketch s os deferred m d h.sketch;
-  funcs_from = h.funcs_from;
-  globals_from = h.globals_from;
+-- ---- drafts
+
+-- a sketch of a module with the imports of one that has a draft is a draft
+pub still_draft : (s : Shifts) (os : List Func) (deferred now : List Bool) (m d n c : Parts) → n.imports ≡ m.imports → IsDraft s os deferred m d
+    → IsSketch s os now n c → IsDraft s os now n c
+still_draft s os deferred now m d n c same h sketch = record {
+  sketch = sketch;
+  funcs_from = ap (import_count kinds.Func) same ∙ h.funcs_from;
+  globals_from = ap (import_count kinds.Global) same ∙ h.globals_from;
 }
+
+pub settled_draft : (s : Shifts) (os : List Func) (deferred : List Bool) (m d : Parts) → IsDraft s os deferred m d → IsDraft s os deferred (settle m) (settle d)
+settled_draft s os deferred m d h = still_draft s os deferred deferred m d (settle m) (settle d) refl h (settled_sketch s os deferred m d h.sketch)

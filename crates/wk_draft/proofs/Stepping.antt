@@ -32,27 +32,15 @@ refused_by : (e : Edit) (d : Parts) (r : Result Parts EditFault) (f : EditFault)
 refused_by e d (Ok n) f is = absurd cc
 refused_by e d (Err g) f is = (cc, refl)
 
-unforgotten : (keep : Bool) (e : Edit) (d : Parts) (f : EditFault) → f ≢ Memory → Err f ≡ reply_of keep e (is_memory (Err f)) d
-    → Err f ≡ reply_of keep e false d
-unforgotten keep e d NoSuchFunction other is = is
-unforgotten keep e d NoSuchExport other is = is
-unforgotten keep e d NoSuchCustom other is = is
-unforgotten keep e d IndexOverflow other is = is
-unforgotten keep e d TooLarge other is = is
-unforgotten keep e d (BadBytes b) other is = is
-unforgotten keep e d (WouldBreak b) other is = is
-unforgotten keep e d Memory other is = absurd (other refl)
-
-unforgotten_left : (keep : Bool) (e : Edit) (d n : Parts) (f : EditFault) → f ≢ Memory → n ≡ after_one keep e (is_memory (Err f)) d
-    → n ≡ after_one keep e false d
-unforgotten_left keep e d n NoSuchFunction other is = is
-unforgotten_left keep e d n NoSuchExport other is = is
-unforgotten_left keep e d n NoSuchCustom other is = is
-unforgotten_left keep e d n IndexOverflow other is = is
-unforgotten_left keep e d n TooLarge other is = is
-unforgotten_left keep e d n (BadBytes b) other is = is
-unforgotten_left keep e d n (WouldBreak b) other is = is
-unforgotten_left keep e d n Memory other is = absurd (other refl)
+other_fault : (f : EditFault) → f ≢ Memory → is_memory (Err f) ≡ false
+other_fault NoSuchFunction other = refl
+other_fault NoSuchExport other = refl
+other_fault NoSuchCustom other = refl
+other_fault IndexOverflow other = refl
+other_fault TooLarge other = refl
+other_fault (BadBytes b) other = refl
+other_fault (WouldBreak b) other = refl
+other_fault Memory other = absurd (other refl)
 
 -- what is sure is no want of memory
 pub sure_other : (e : Edit) (n : ℕ) (f : EditFault) → IsSure e n f → f ≢ Memory
@@ -111,9 +99,9 @@ module _ (keep : Bool) (e : Edit) (os : List Func) (m : Parts) (old new : Draft)
       → IsStepped keep e os m (Err f) new
   refused f other replied is sure shifts deferred =
       let r = made keep e old.session in
-      let told = refused_by e old.session r f (unforgotten keep e old.session f other replied) in
+      let told = refused_by e old.session r f (replied ∙ ap (λ (b : Bool). reply_of keep e b old.session) (other_fault f other)) in
       let comes : made keep e m ≡ Err f = subst (Follows keep e old.shifts os old.deferred.items m old.session) told.0 follows sure in
-      let same : new.session ≡ old.session = unforgotten_left keep e old.session new.session f other is ∙ told.1 in
+      let same : new.session ≡ old.session = is ∙ ap (λ (b : Bool). after_one keep e b old.session) (other_fault f other) ∙ told.1 in
       let drafted : IsDraft new.shifts os new.deferred.items m new.session =
       subst (λ (t : Shifts). IsDraft t os new.deferred.items m new.session) (sym shifts)
       (subst (λ (ms : List Bool). IsDraft old.shifts os ms m new.session) (sym deferred)
