@@ -34,12 +34,7 @@ deferred_put profile A s (o ∷ os) (true ∷ deferred) (f ∷ fs) (g ∷ gs) k 
 deferred_put profile A s (o ∷ os) (false ∷ deferred) (f ∷ fs) (g ∷ gs) k are =
     ap (λ c. code_of c ∷ with_items (map code_of gs) (deferred_codes s os deferred ++ replicate k None)) (sym are.0)
     ∙ ap (λ cs. code_of f ∷ cs) (deferred_put profile A s os deferred fs gs k are.1)
-deferred_put profile A s [] (b ∷ deferred) fs gs k are = absurd are
-deferred_put profile A s (o ∷ os) [] fs gs k are = absurd are
-deferred_put profile A s (o ∷ os) (true ∷ deferred) [] gs k are = absurd are
-deferred_put profile A s (o ∷ os) (false ∷ deferred) [] gs k are = absurd are
-deferred_put profile A s (o ∷ os) (true ∷ deferred) (f ∷ fs) [] k are = absurd are
-deferred_put profile A s (o ∷ os) (false ∷ deferred) (f ∷ fs) [] k are = absurd are
+deferred_put profile A s _ _ _ _ k are = absurd are
 
 -- one more
 

@@ -65,14 +65,10 @@ module _ (keep : Bool) (s : Shifts) (os : List Func) (deferred : List Bool) (m d
   follows_led : (e : Edit) (r : Result Parts EditFault) → IsLed (Room e) (shifts_after e s) os (deferred_after e d deferred) r (made keep e m)
       → Follows keep e s os deferred m d r
   follows_led e (Ok n) led = led
-  follows_led e (Err NoSuchFunction) led = λ sure. led
-  follows_led e (Err NoSuchExport) led = λ sure. led
-  follows_led e (Err NoSuchCustom) led = λ sure. led
-  follows_led e (Err IndexOverflow) led = λ sure. led
   follows_led e (Err TooLarge) led = λ sure. absurd sure
-  follows_led e (Err (BadBytes f)) led = λ sure. led
   follows_led e (Err (WouldBreak f)) led = λ sure. led sure
   follows_led e (Err Memory) led = λ sure. absurd sure
+  follows_led e (Err f) led = λ sure. led
 
 -- by what other calls ensure: the laws of verdicts, of moving and of code
 module _ (keeps : Keeps) (keeps_moved : KeepsMoved) (finds : ValidFinds)
@@ -128,8 +124,8 @@ module _ (keeps : Keeps) (keeps_moved : KeepsMoved) (finds : ValidFinds)
       follows_led keep s os deferred m d e (made keep e d)
       (spelled_led e deferred (λ x p. with_global t x p) (λ profile. whole_at (all_expr_at profile) init) (λ x is.
       let le = written_expr_within least m.profile init bytes x is in
-      standing_led (Room keep s os deferred m d e) s os deferred (with_global t x m) (with_global t x d) (global_sketch keeps finds s os deferred m d h t x) order
-      (λ r. let room = r.1 in omega (arith, room, global_grown t x init d le)) keep))
+      standing_led (Room keep s os deferred m d e) s os deferred (with_global t x m) (with_global t x d)
+      (global_sketch keeps finds s os deferred m d h t x) order (λ r. let room = r.1 in omega (arith, room, global_grown t x init d le)) keep))
 
   export_follows : (x : Export) → Follows keep (edits.Export x) s os deferred m d (made keep (edits.Export x) d)
   export_follows x =

@@ -33,41 +33,22 @@ refused_by e d (Ok n) f is = absurd cc
 refused_by e d (Err g) f is = (cc, refl)
 
 other_fault : (f : EditFault) → f ≢ Memory → is_memory (Err f) ≡ false
-other_fault NoSuchFunction other = refl
-other_fault NoSuchExport other = refl
-other_fault NoSuchCustom other = refl
-other_fault IndexOverflow other = refl
-other_fault TooLarge other = refl
-other_fault (BadBytes b) other = refl
-other_fault (WouldBreak b) other = refl
 other_fault Memory other = absurd (other refl)
+other_fault _ other = refl
 
 -- what is sure is no want of memory
 pub sure_other : (e : Edit) (n : ℕ) (f : EditFault) → IsSure e n f → f ≢ Memory
-sure_other e n NoSuchFunction sure = λ same. absurd cc
-sure_other e n NoSuchExport sure = λ same. absurd cc
-sure_other e n NoSuchCustom sure = λ same. absurd cc
-sure_other e n IndexOverflow sure = λ same. absurd cc
 sure_other e n TooLarge sure = absurd sure
-sure_other e n (BadBytes b) sure = λ same. absurd cc
-sure_other e n (WouldBreak b) sure = λ same. absurd cc
 sure_other e n Memory sure = absurd sure
+sure_other e n _ sure = λ same. absurd cc
 
 -- ---- the body that is replaced
 
 -- where a draft's imports are counted, this is the body that an edit replaces
 pub deferred_replaced : (e : Edit) (d : Parts) (imported : ℕ) (deferred : List Bool) → import_count kinds.Func d.imports ≡ imported
     → deferred_after e d deferred ≡ deferred_without (replaced_entry e imported (length d.funcs)) deferred
-deferred_replaced (edits.Ty t) d imported deferred counted = refl
-deferred_replaced (edits.Import i) d imported deferred counted = refl
-deferred_replaced (edits.Func t code) d imported deferred counted = refl
 deferred_replaced (edits.Body x code) d imported deferred counted = ap (λ (k : ℕ). deferred_without (entry_among x k (length d.funcs)) deferred) counted
-deferred_replaced (edits.Global t init) d imported deferred counted = refl
-deferred_replaced (edits.Export x) d imported deferred counted = refl
-deferred_replaced (edits.Unexport name) d imported deferred counted = refl
-deferred_replaced (edits.SetCustom name bytes) d imported deferred counted = refl
-deferred_replaced (edits.StripCustom name) d imported deferred counted = refl
-deferred_replaced edits.StripAll d imported deferred counted = refl
+deferred_replaced _ d imported deferred counted = refl
 
 -- ---- the step
 

@@ -15,7 +15,7 @@ use Rattle.wk_check.specs.SpacesLaws.{answers_of}
 use Rattle.wk_session.specs.declared.cache.Cache.{Cache}
 use Rattle.wk_session.specs.declared.edit.Edit.{Edit}
 use Rattle.wk_session.specs.declared.edit.EditFault.{EditFault}
-use Rattle.wk_session.specs.declared.edit.EditFault.TheVariants.{TooLarge}
+use Rattle.wk_session.specs.declared.edit.EditFault.TheVariants.{TooLarge, Memory}
 use Rattle.wk_session.specs.declared.edit.Work.{Work}
 use Rattle.wk_session.specs.declared.edits.plan_append.Judgement.{Judgement}
 use Rattle.wk_session.specs.declared.edits.plan_append.NewItem.{NewItem}
@@ -26,7 +26,7 @@ use Rattle.wk_session.specs.Longer.{IsLonger, IsNewItem}
 use Rattle.wk_session.specs.Pieces.{IsOverlong, section_piece}
 use Rattle.wk_session.specs.Refusals.{encode_refusal}
 use Rattle.wk_session.proofs.Keeping.{others_kept}
-use Rattle.wk_session.proofs.Leading.{Returns, returned, refused, kept_again, too_large, is_none_at, not_large}
+use Rattle.wk_session.proofs.Leading.{Returns, returned, wants_memory, refused, kept_again, too_large, is_none_at, not_large}
 use Rattle.wk_session.proofs.LongerLists.{longer_by, overlong_more}
 use Rattle.wk_session.proofs.Piecing.{unwritten}
 
@@ -58,7 +58,7 @@ module _ (keep : Bool) (m n : Parts) (k : Cache) (typed id count : ℕ) (alone :
       → Returns r (encode_refusal e) → IsGrown keep (answers_of m) n typed 1 k k r
   item_refused e r order over returns =
       let due = unwritten keep id n e order (overlong_more alone (section_piece id n) e longer.within over) in
-      subst (λ (q : Result ℕ EditFault). IsGrown keep (answers_of m) n typed 1 k k q) (sym (returned r (encode_refusal e) returns)) (due, record { others = refl; sections = refl })
+      subst (IsGrown keep (answers_of m) n typed 1 k k) (sym (returned r (encode_refusal e) returns)) (due, record { others = refl; sections = refl })
 
   -- it is kept there, if the module with it may stay
   pub item_grown : (new : Cache) (item : NewItem) (judged : Result Judgement EditFault) (r : Result ℕ EditFault) → IsNewItem id count alone item
@@ -80,11 +80,24 @@ pub grown_refused : (keep : Bool) (e : Edit) (m n p : Parts) (k new : Cache) (ty
 grown_refused keep e m n p k new typed sections f r returns makes grown decided same kept =
     refused keep e m new (kept_again m k new grown.1 kept) n p f r returns makes grown.0 (λ wanted. decided) same
 
--- where how long n gets is known before memory is asked for, and the edit is refused first if that is too long
-module _ (keep : Bool) (e : Edit) (m n : Parts) (k : Cache) (len : Option ℕ) (order : IsInOrderFrom 0 n.customs) (is : len ≡ limited (length (encoded n)))
-    (kept : IsKept m k) where
-  pub length_refused : is_some len ≡ false → made keep e m ≡ standing keep n → Leads keep e m (Err TooLarge) m k
-  length_refused none makes = ((λ other. makes ∙ too_large keep n order (sym (is_none_at len none) ∙ is)), (λ same. absurd cc), refl, kept)
+-- An edit that puts x into m. How long the module gets is known before memory is asked for, and the edit is refused first if that is too much.
+module _ {X : Type 0} (edit : X → Edit) (put : X → Parts → Parts) (keep : Bool) (x : X) (m : Parts) (k : Cache) (len : Option ℕ)
+    (order : IsInOrderFrom 0 (put x m).customs) (is : len ≡ limited (length (encoded (put x m)))) (kept : IsKept m k)
+    (makes : made keep (edit x) m ≡ standing keep (put x m)) where
+  pub too_long : is_some len ≡ false → Leads keep (edit x) m (Err TooLarge) m k
+  too_long none = ((λ other. makes ∙ too_large keep (put x m) order (sym (is_none_at len none) ∙ is)), (λ same. absurd cc), refl, kept)
 
-  pub length_undecided : is_some len ≡ true → is_decided e m ≡ is_large (fitting (settle n)) → is_decided e m ≡ false
-  length_undecided some decides = decides ∙ ap is_large (not_large n len order is some)
+  module _ (some : is_some len ≡ true) (decides : is_decided (edit x) m ≡ is_large (fitting (settle (put x m)))) where
+    undecided : is_decided (edit x) m ≡ false
+    undecided = decides ∙ ap is_large (not_large (put x m) len order is some)
+
+    -- where it can't be copied
+    pub uncopied : (r : Result Work EditFault) → Returns r Memory → Leads keep (edit x) m r m k
+    uncopied r returns = wants_memory keep (edit x) m k kept r returns undecided
+
+    -- where its copy y can't be put there
+    pub unpushed : (y : X) → y ≡ x → (p : Parts) (new : Cache) (typed sections : ℕ) (f : EditFault) (r : Result Work EditFault) → Returns r f
+        → IsGrown keep (answers_of m) (put y m) typed sections k new (Err f) → p ≡ m → Leads keep (edit x) m r p new
+    unpushed y copied p new typed sections f r returns grown same =
+        grown_refused keep (edit x) m (put x m) p k new typed sections f r returns makes
+        (subst (λ (z : X). IsGrown keep (answers_of m) (put z m) typed sections k new (Err f)) copied grown) undecided same kept

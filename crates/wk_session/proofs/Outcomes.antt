@@ -25,24 +25,12 @@ abbrev pub Refuses : Bool → Edit → Parts → EditFault → Type 0
 Refuses keep e m f = f ≢ Memory → made keep e m ≡ Err f
 
 pub reply_refused : (keep : Bool) (e : Edit) (m : Parts) (f : EditFault) → Refuses keep e m f → refusal f ≡ reply_of keep e (is_memory (refusal f)) m
-reply_refused keep e m NoSuchFunction h = sym (ap (reply_to e m) (h (λ q. absurd cc)))
-reply_refused keep e m NoSuchExport h = sym (ap (reply_to e m) (h (λ q. absurd cc)))
-reply_refused keep e m NoSuchCustom h = sym (ap (reply_to e m) (h (λ q. absurd cc)))
-reply_refused keep e m IndexOverflow h = sym (ap (reply_to e m) (h (λ q. absurd cc)))
-reply_refused keep e m TooLarge h = sym (ap (reply_to e m) (h (λ q. absurd cc)))
-reply_refused keep e m (BadBytes g) h = sym (ap (reply_to e m) (h (λ q. absurd cc)))
-reply_refused keep e m (WouldBreak g) h = sym (ap (reply_to e m) (h (λ q. absurd cc)))
 reply_refused keep e m Memory h = refl
+reply_refused keep e m _ h = sym (ap (reply_to e m) (h (λ q. absurd cc)))
 
 pub after_refused : (keep : Bool) (e : Edit) (m : Parts) (f : EditFault) → Refuses keep e m f → m ≡ after_one keep e (is_memory (refusal f)) m
-after_refused keep e m NoSuchFunction h = sym (ap (left_by m) (h (λ q. absurd cc)))
-after_refused keep e m NoSuchExport h = sym (ap (left_by m) (h (λ q. absurd cc)))
-after_refused keep e m NoSuchCustom h = sym (ap (left_by m) (h (λ q. absurd cc)))
-after_refused keep e m IndexOverflow h = sym (ap (left_by m) (h (λ q. absurd cc)))
-after_refused keep e m TooLarge h = sym (ap (left_by m) (h (λ q. absurd cc)))
-after_refused keep e m (BadBytes g) h = sym (ap (left_by m) (h (λ q. absurd cc)))
-after_refused keep e m (WouldBreak g) h = sym (ap (left_by m) (h (λ q. absurd cc)))
 after_refused keep e m Memory h = refl
+after_refused keep e m _ h = sym (ap (left_by m) (h (λ q. absurd cc)))
 
 -- ---- acceptances
 

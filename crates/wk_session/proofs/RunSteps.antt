@@ -59,14 +59,8 @@ undecided_end keep (d ∷ es) (s ∷ rs) m e r h all last =
 
 pub was_undecided : (e : Edit) (m : Parts) (r : Result Work EditFault) → IfErr r (λ f. f ≡ Memory → is_decided e m ≡ false) → WasUndecided e m (is_memory r)
 was_undecided e m (Ok w) h = tt
-was_undecided e m (Err NoSuchFunction) h = tt
-was_undecided e m (Err NoSuchExport) h = tt
-was_undecided e m (Err NoSuchCustom) h = tt
-was_undecided e m (Err IndexOverflow) h = tt
-was_undecided e m (Err TooLarge) h = tt
-was_undecided e m (Err (BadBytes f)) h = tt
-was_undecided e m (Err (WouldBreak f)) h = tt
 was_undecided e m (Err Memory) h = h refl
+was_undecided e m (Err f) h = tt
 
 -- replies that are the definition's tell so
 pub told_by : ReadsCode → (keep : Bool) (es : List Edit) (m : Parts) (rs : List (Result Work EditFault))

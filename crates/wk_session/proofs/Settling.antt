@@ -41,11 +41,5 @@ module _ (keep : Bool) (e : Edit) (m n : Parts) (k : Cache) where
 pub strip_always : (m : Parts) (r : Result Work EditFault) → r ≡ reply_of false edits.StripAll (is_memory r) m
     → IfErr r (λ f. f ≡ Memory → is_decided edits.StripAll m ≡ false) → OnErr r ⊥
 strip_always m (Ok w) reply decided = tt
-strip_always m (Err NoSuchFunction) reply decided = absurd cc
-strip_always m (Err NoSuchExport) reply decided = absurd cc
-strip_always m (Err NoSuchCustom) reply decided = absurd cc
-strip_always m (Err IndexOverflow) reply decided = absurd cc
-strip_always m (Err TooLarge) reply decided = absurd cc
-strip_always m (Err (BadBytes f)) reply decided = absurd cc
-strip_always m (Err (WouldBreak f)) reply decided = absurd cc
 strip_always m (Err Memory) reply decided = let never = decided refl in absurd cc
+strip_always m (Err f) reply decided = absurd cc

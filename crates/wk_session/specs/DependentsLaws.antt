@@ -82,16 +82,9 @@ back moving.Global from (Global x) = Global (unmoved from x)
 back kind from r = r
 
 back-moved : (kind : Moving) (from : ℕ) (r : Ref) → back kind from (moved_ref kind from r) ≡ r
-back-moved moving.Func from (Ty x) = refl
 back-moved moving.Func from (Func x) = ap Func (unmoved-moved from x)
-back-moved moving.Func from (Global x) = refl
-back-moved moving.Func from Table = refl
-back-moved moving.Func from Memory = refl
-back-moved moving.Global from (Ty x) = refl
-back-moved moving.Global from (Func x) = refl
 back-moved moving.Global from (Global x) = ap Global (unmoved-moved from x)
-back-moved moving.Global from Table = refl
-back-moved moving.Global from Memory = refl
+back-moved kind from r = refl
 
 kind_apart : (kind : Kind) (from : ℕ) (a b : Ref) → ref_moved kind from a ≡ ref_moved kind from b → a ≡ b
 kind_apart kinds.Func from a b e = sym (back-moved moving.Func from a) ∙ ap (back moving.Func from) e ∙ back-moved moving.Func from b
@@ -100,16 +93,8 @@ kind_apart kinds.Memory from a b e = e
 kind_apart kinds.Global from a b e = sym (back-moved moving.Global from a) ∙ ap (back moving.Global from) e ∙ back-moved moving.Global from b
 
 after_apart : (e : Edit) (m : Parts) (a b : Ref) → ref_after e m a ≡ ref_after e m b → a ≡ b
-after_apart (edits.Import i) m a b e = kind_apart (desc_kind i.desc) (import_place i m) a b e
-after_apart (edits.Ty t) m a b e = e
-after_apart (edits.Func t code) m a b e = e
-after_apart (edits.Body x code) m a b e = e
-after_apart (edits.Global t init) m a b e = e
-after_apart (edits.Export x) m a b e = e
-after_apart (edits.Unexport name) m a b e = e
-after_apart (edits.SetCustom name bytes) m a b e = e
-after_apart (edits.StripCustom name) m a b e = e
-after_apart edits.StripAll m a b e = e
+after_apart (edits.Import i) m a b same = kind_apart (desc_kind i.desc) (import_place i m) a b same
+after_apart _ m a b same = same
 
 -- ---- what is among lists
 
@@ -242,15 +227,7 @@ HeldMoves = (e : Edit) (m : Parts) (f : Function) → held (func_after e m f) �
 
 pub held_moves : HeldMoves
 held_moves (edits.Import i) m f = held_moved (desc_kind i.desc) (import_place i m) f
-held_moves (edits.Ty t) m f = sym (map-id (held f))
-held_moves (edits.Func t code) m f = sym (map-id (held f))
-held_moves (edits.Body x code) m f = sym (map-id (held f))
-held_moves (edits.Global t init) m f = sym (map-id (held f))
-held_moves (edits.Export x) m f = sym (map-id (held f))
-held_moves (edits.Unexport name) m f = sym (map-id (held f))
-held_moves (edits.SetCustom name bytes) m f = sym (map-id (held f))
-held_moves (edits.StripCustom name) m f = sym (map-id (held f))
-held_moves edits.StripAll m f = sym (map-id (held f))
+held_moves _ m f = sym (map-id (held f))
 
 -- ---- what is encoded again
 
@@ -302,15 +279,7 @@ ReencodedMoves = (e : Edit) (m : Parts) (f : Function) → is_reencoded e m f �
 
 pub reencoded_moves : ReencodedMoves
 reencoded_moves (edits.Import i) m f = kind_moves (desc_kind i.desc) (import_place i m) f
-reencoded_moves (edits.Ty t) m f = ((λ h. absurd cc), (λ w. absurd (w.2 refl)))
-reencoded_moves (edits.Func t code) m f = ((λ h. absurd cc), (λ w. absurd (w.2 refl)))
-reencoded_moves (edits.Body x code) m f = ((λ h. absurd cc), (λ w. absurd (w.2 refl)))
-reencoded_moves (edits.Global t init) m f = ((λ h. absurd cc), (λ w. absurd (w.2 refl)))
-reencoded_moves (edits.Export x) m f = ((λ h. absurd cc), (λ w. absurd (w.2 refl)))
-reencoded_moves (edits.Unexport name) m f = ((λ h. absurd cc), (λ w. absurd (w.2 refl)))
-reencoded_moves (edits.SetCustom name bytes) m f = ((λ h. absurd cc), (λ w. absurd (w.2 refl)))
-reencoded_moves (edits.StripCustom name) m f = ((λ h. absurd cc), (λ w. absurd (w.2 refl)))
-reencoded_moves edits.StripAll m f = ((λ h. absurd cc), (λ w. absurd (w.2 refl)))
+reencoded_moves _ m f = ((λ h. absurd cc), (λ w. absurd (w.2 refl)))
 
 -- ---- what an edit leaves
 

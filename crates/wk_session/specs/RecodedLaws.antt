@@ -41,17 +41,8 @@ section_codes m = codes_framed m.funcs
 by_codes : (l : SectionLists) (codes : List BodyOf) (k : Option SectionId) → (k ≡ Some CodeSection → ⊥)
     → section_by (record l { codes = codes }) k ≡ section_by l k
 by_codes l codes None other = refl
-by_codes l codes (Some TypeSection) other = refl
-by_codes l codes (Some ImportSection) other = refl
-by_codes l codes (Some FunctionSection) other = refl
-by_codes l codes (Some TableSection) other = refl
-by_codes l codes (Some MemorySection) other = refl
-by_codes l codes (Some GlobalSection) other = refl
-by_codes l codes (Some ExportSection) other = refl
-by_codes l codes (Some StartSection) other = refl
-by_codes l codes (Some ElementSection) other = refl
 by_codes l codes (Some CodeSection) other = absurd (other refl)
-by_codes l codes (Some DataSection) other = refl
+by_codes l codes (Some k) other = refl
 
 module _ (m n : Parts) (is : n ≡ record m { funcs = n.funcs }) (types : map (λ f. f.ty) n.funcs ≡ map (λ f. f.ty) m.funcs) where
   other_section : (id : ℕ) → id ≢ 10 → section_of n id ≡ section_of m id

@@ -166,13 +166,7 @@ reply_inverts e m (Err g) f h = let is : BadBytes f ≡ g = cc in ap (λ (x : Ed
 pub reply_told : ReadsCode → (keep : Bool) (e : Edit) (m : Parts) (r : Result Work EditFault) → r ≡ reply_of keep e (is_memory r) m → IsTold m.profile e r
 reply_told reads keep e m (Ok w) h = tt
 reply_told reads keep e m (Err (BadBytes f)) h = bad_bytes reads keep f e m (reply_inverts e m (made keep e m) f h)
-reply_told reads keep e m (Err NoSuchFunction) h = tt
-reply_told reads keep e m (Err NoSuchExport) h = tt
-reply_told reads keep e m (Err NoSuchCustom) h = tt
-reply_told reads keep e m (Err IndexOverflow) h = tt
-reply_told reads keep e m (Err TooLarge) h = tt
-reply_told reads keep e m (Err (WouldBreak g)) h = tt
-reply_told reads keep e m (Err Memory) h = tt
+reply_told reads keep e m (Err f) h = tt
 
 -- what the definition answers tells so
 one_told : (reads : ReadsCode) (keep : Bool) (e : Edit) (x : Bool) (m : Parts) → IsTold m.profile e (reply_of keep e x m)
@@ -182,13 +176,7 @@ one_told reads keep e false m = by (made keep e m) (λ f h. bad_bytes reads keep
     by : (r : Result Parts EditFault) → ((f : ReadFault) → r ≡ Err (BadBytes f) → HasBadBytes m.profile e f) → IsTold m.profile e (reply_to e m r)
     by (Ok n) tells = tt
     by (Err (BadBytes f)) tells = tells f refl
-    by (Err NoSuchFunction) tells = tt
-    by (Err NoSuchExport) tells = tt
-    by (Err NoSuchCustom) tells = tt
-    by (Err IndexOverflow) tells = tt
-    by (Err TooLarge) tells = tt
-    by (Err (WouldBreak g)) tells = tt
-    by (Err Memory) tells = tt
+    by (Err g) tells = tt
 
 -- one reply tells so, and all those behind it do, which are answered of the module that it leaves
 more_told : (keep : Bool) (e : Edit) (x : Bool) (es : List Edit) (m : Parts) (reply : Result Work EditFault) (replies : List (Result Work EditFault))

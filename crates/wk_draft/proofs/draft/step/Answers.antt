@@ -43,8 +43,8 @@ returns-else-not-has_room c = λ os m room held.
     let entry = c.replaced_entry-entry.ensures ∙ ap (λ (n : ℕ). replaced_entry e imported n) defined in
     let deferred = c.clear_deferred.ensures ∙ ap (λ (r : Option ℕ). deferred_without r old.deferred.items) entry
     ∙ sym (deferred_replaced e old.session imported old.deferred.items counted) in
-    stepped c.args.keep e os m old new held (told (goal.at.returns-else-not-has_room c).After-parts os m held) c.in-Ok.field-0 c.in-Ok.ensures.reply c.in-Ok.ensures.module_is c.parts-parts.ensures.shaped fits
-    c.in-Some.ensures deferred
+    stepped c.args.keep e os m old new held (told (goal.at.returns-else-not-has_room c).After-parts os m held) c.in-Ok.field-0 c.in-Ok.ensures.reply
+    c.in-Ok.ensures.module_is c.parts-parts.ensures.shaped fits c.in-Some.ensures deferred
 
 pub returns-in-Err : goal.returns-in-Err
 returns-in-Err c = λ os m room held.

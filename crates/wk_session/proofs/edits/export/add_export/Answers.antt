@@ -15,17 +15,15 @@ use Rattle.wk_check.specs.SpacesLaws.{answers_of}
 use Rattle.wk_session.specs.declared.edit.Edit.TheVariants as edits
 use Rattle.wk_session.specs.declared.edit.Work.{Work}
 use Rattle.wk_session.specs.declared.cache.Cache.{Cache}
-use Rattle.wk_session.specs.Edits.{is_decided}
-use Rattle.wk_session.specs.Judged.{IsGrown}
 use Rattle.wk_session.specs.Kept.{IsKept, Leads}
 use Rattle.wk_session.specs.Longer.{IsLonger}
-use Rattle.wk_session.proofs.Leading.{wants_memory, accepted}
+use Rattle.wk_session.proofs.Leading.{accepted}
 use Rattle.wk_session.proofs.LongerLists.{alone_len, export_longer}
-use Rattle.wk_session.proofs.Appending.{grown_refused, length_refused, length_undecided}
+use Rattle.wk_session.proofs.Appending.{too_long, uncopied, unpushed}
 use Rattle.wk_session.proofs.Keeping.{kept_fits}
 use Rattle.wk_session.proofs.Works.{typeless_work}
 use Rattle.wk_session.proofs.edits.export.add_export.Goals as goal
-use Rattle.wk_session.proofs.edits.export.add_export.Goals.{After-len_grown-len, Else-is_none}
+use Rattle.wk_session.proofs.edits.export.add_export.Goals.{After-len_grown-len}
 
 pub len_grown-len-requires-clause-sections : goal.len_grown-len-requires-clause-sections
 len_grown-len-requires-clause-sections c = ap length c.requires.kept.pieces.sections
@@ -56,25 +54,14 @@ len_is c =
 
 pub returns-then-is_none : goal.returns-then-is_none
 returns-then-is_none c =
-    let x = c.args.export.now in
-    let m = c.args.parts.now in
-    length_refused c.args.keep (edits.Export x) m (with_export x m) c.args.kept.now _ c.requires.shaped.formed.order
-    (len_is (goal.at.returns-then-is_none c).After-len_grown-len) c.requires.kept c.if-is_none.ensures refl
-
--- the outcome is not decided without memory
-undecided : (c : Else-is_none) → c.len_grown-len.result ≡ limited (length (encoded (with_export c.args.export.now c.args.parts.now)))
-    → is_decided (edits.Export c.args.export.now) c.args.parts.now ≡ false
-undecided c len =
-    let x = c.args.export.now in
-    let m = c.args.parts.now in
-    length_undecided c.args.keep (edits.Export x) m (with_export x m) c.args.kept.now _ c.requires.shaped.formed.order len c.requires.kept
-    c.if-is_none.ensures refl
+    too_long (λ x. edits.Export x) with_export c.args.keep c.args.export.now c.args.parts.now c.args.kept.now _ c.requires.shaped.formed.order
+    (len_is (goal.at.returns-then-is_none c).After-len_grown-len) c.requires.kept refl c.if-is_none.ensures
 
 pub returns-in_err-export : goal.returns-in_err-export
 returns-in_err-export c =
-    let at = goal.at.returns-in_err-export c in
-    wants_memory c.args.keep (edits.Export c.args.export.now) c.args.parts.now c.args.kept.now c.requires.kept c.from_residual.result
-    (err_from_is_err_and c.from_residual.result c.from_residual.ensures.1) (undecided at.Else-is_none (len_is at.After-len_grown-len))
+    uncopied (λ x. edits.Export x) with_export c.args.keep c.args.export.now c.args.parts.now c.args.kept.now _ c.requires.shaped.formed.order
+    (len_is (goal.at.returns-in_err-export c).After-len_grown-len) c.requires.kept refl c.if-is_none.ensures refl c.from_residual.result
+    (err_from_is_err_and c.from_residual.result c.from_residual.ensures.1)
 
 pub push_export-requires-clause-len : goal.push_export-requires-clause-len
 push_export-requires-clause-len c =
@@ -84,16 +71,12 @@ push_export-requires-clause-len c =
 
 pub returns-in_err-sections : goal.returns-in_err-sections
 returns-in_err-sections c =
-    let at = goal.at.returns-in_err-sections c in
-    let m = c.args.parts.now in
-    let new = c.push_export.new.kept in
-    let f = c.in_err-sections.field-0.0 in
+    let new = c.push_export.new in
     let result = c.from_residual-in_err-sections.result in
-    let grown = subst (λ (y : Export). IsGrown c.args.keep (answers_of m) (with_export y m) 0 1 c.args.kept.now new (Err f)) c.in_ok-export.ensures
-    c.in_err-sections.ensures.grown in
-    grown_refused c.args.keep (edits.Export c.args.export.now) m (with_export c.args.export.now m) c.push_export.new.parts c.args.kept.now new 0 1 f result
-    (err_from_is_err_and result c.from_residual-in_err-sections.ensures.1) refl grown (undecided at.Else-is_none (len_is at.After-len_grown-len))
-    c.in_err-sections.ensures.err c.requires.kept
+    unpushed (λ x. edits.Export x) with_export c.args.keep c.args.export.now c.args.parts.now c.args.kept.now _ c.requires.shaped.formed.order
+    (len_is (goal.at.returns-in_err-sections c).After-len_grown-len) c.requires.kept refl c.if-is_none.ensures refl c.in_ok-export.export c.in_ok-export.ensures
+    new.parts new.kept 0 1 c.in_err-sections.field-0.0 result
+    (err_from_is_err_and result c.from_residual-in_err-sections.ensures.1) c.in_err-sections.ensures.grown c.in_err-sections.ensures.err
 
 pub returns : goal.returns
 returns c =

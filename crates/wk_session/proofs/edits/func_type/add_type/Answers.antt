@@ -17,17 +17,15 @@ use Rattle.wk_session.specs.declared.edit.Edit.TheVariants as edits
 use Rattle.wk_session.specs.declared.edit.Work.{Work}
 use Rattle.wk_session.specs.declared.cache.Cache.{Cache}
 use Rattle.wk_session.specs.Dependents.{is_retyped_in}
-use Rattle.wk_session.specs.Edits.{is_decided}
-use Rattle.wk_session.specs.Judged.{IsGrown}
 use Rattle.wk_session.specs.Kept.{IsKept, Leads}
 use Rattle.wk_session.specs.Longer.{IsLonger}
-use Rattle.wk_session.proofs.Leading.{wants_memory, accepted}
+use Rattle.wk_session.proofs.Leading.{accepted}
 use Rattle.wk_session.proofs.LongerLists.{alone_len, type_longer}
-use Rattle.wk_session.proofs.Appending.{grown_refused, length_refused, length_undecided}
+use Rattle.wk_session.proofs.Appending.{too_long, uncopied, unpushed}
 use Rattle.wk_session.proofs.Keeping.{kept_fits}
 use Rattle.wk_session.proofs.Works.{codeless_work}
 use Rattle.wk_session.proofs.edits.func_type.add_type.Goals as goal
-use Rattle.wk_session.proofs.edits.func_type.add_type.Goals.{After-len_grown-len, Else-is_none}
+use Rattle.wk_session.proofs.edits.func_type.add_type.Goals.{After-len_grown-len}
 
 pub len_grown-len-requires-clause-sections : goal.len_grown-len-requires-clause-sections
 len_grown-len-requires-clause-sections c = ap length c.requires.kept.pieces.sections
@@ -58,24 +56,14 @@ len_is c =
 
 pub returns-then-is_none : goal.returns-then-is_none
 returns-then-is_none c =
-    let t = c.args.ty.now in
-    let m = c.args.parts.now in
-    length_refused c.args.keep (edits.Ty t) m (with_type t m) c.args.kept.now _ c.requires.shaped.formed.order
-    (len_is (goal.at.returns-then-is_none c).After-len_grown-len) c.requires.kept c.if-is_none.ensures refl
-
--- the outcome is not decided without memory
-undecided : (c : Else-is_none) → c.len_grown-len.result ≡ limited (length (encoded (with_type c.args.ty.now c.args.parts.now)))
-    → is_decided (edits.Ty c.args.ty.now) c.args.parts.now ≡ false
-undecided c len =
-    let t = c.args.ty.now in
-    let m = c.args.parts.now in
-    length_undecided c.args.keep (edits.Ty t) m (with_type t m) c.args.kept.now _ c.requires.shaped.formed.order len c.requires.kept c.if-is_none.ensures refl
+    too_long (λ x. edits.Ty x) with_type c.args.keep c.args.ty.now c.args.parts.now c.args.kept.now _ c.requires.shaped.formed.order
+    (len_is (goal.at.returns-then-is_none c).After-len_grown-len) c.requires.kept refl c.if-is_none.ensures
 
 pub returns-in_err-ty : goal.returns-in_err-ty
 returns-in_err-ty c =
-    let at = goal.at.returns-in_err-ty c in
-    wants_memory c.args.keep (edits.Ty c.args.ty.now) c.args.parts.now c.args.kept.now c.requires.kept c.from_residual.result
-    (err_from_is_err_and c.from_residual.result c.from_residual.ensures.1) (undecided at.Else-is_none (len_is at.After-len_grown-len))
+    uncopied (λ x. edits.Ty x) with_type c.args.keep c.args.ty.now c.args.parts.now c.args.kept.now _ c.requires.shaped.formed.order
+    (len_is (goal.at.returns-in_err-ty c).After-len_grown-len) c.requires.kept refl c.if-is_none.ensures refl c.from_residual.result
+    (err_from_is_err_and c.from_residual.result c.from_residual.ensures.1)
 
 pub push_type-requires-clause-len : goal.push_type-requires-clause-len
 push_type-requires-clause-len c =
@@ -85,17 +73,12 @@ push_type-requires-clause-len c =
 
 pub returns-in_err-sections : goal.returns-in_err-sections
 returns-in_err-sections c =
-    let at = goal.at.returns-in_err-sections c in
-    let m = c.args.parts.now in
-    let new = c.push_type.new.kept in
-    let f = c.in_err-sections.field-0.0 in
-    let typed = c.push_type.new.meter in
+    let new = c.push_type.new in
     let result = c.from_residual-in_err-sections.result in
-    let grown = subst (λ (u : FuncType). IsGrown c.args.keep (answers_of m) (with_type u m) typed 1 c.args.kept.now new (Err f)) c.in_ok-ty.ensures
-    c.in_err-sections.ensures.grown in
-    grown_refused c.args.keep (edits.Ty c.args.ty.now) m (with_type c.args.ty.now m) c.push_type.new.parts c.args.kept.now new typed 1 f result
-    (err_from_is_err_and result c.from_residual-in_err-sections.ensures.1) refl grown (undecided at.Else-is_none (len_is at.After-len_grown-len))
-    c.in_err-sections.ensures.err c.requires.kept
+    unpushed (λ x. edits.Ty x) with_type c.args.keep c.args.ty.now c.args.parts.now c.args.kept.now _ c.requires.shaped.formed.order
+    (len_is (goal.at.returns-in_err-sections c).After-len_grown-len) c.requires.kept refl c.if-is_none.ensures refl c.in_ok-ty.ty c.in_ok-ty.ensures
+    new.parts new.kept new.meter 1 c.in_err-sections.field-0.0 result
+    (err_from_is_err_and result c.from_residual-in_err-sections.ensures.1) c.in_err-sections.ensures.grown c.in_err-sections.ensures.err
 
 pub overflow_cast-result : goal.overflow_cast-result
 overflow_cast-result c =
