@@ -28,7 +28,8 @@ same_types profile A s (o ∷ os) (false ∷ deferred) (f ∷ fs) (g ∷ gs) h =
 same_types profile A s _ _ _ _ h = absurd h
 
 module _ (s : Shifts) (os : List Func) (deferred : List Bool) (m d : Parts) (h : IsSketch s os deferred m d) where
-  types_drafted : types_of d.funcs ≡ types_of m.funcs
+  -- of a module and its draft
+  pub types_drafted : types_of d.funcs ≡ types_of m.funcs
   types_drafted = same_types m.profile (answers_of m) s os deferred m.funcs d.funcs h.funcs
 
   -- how many functions the module defines

@@ -26,7 +26,7 @@ use Rattle.wk_check.specs.SpacesLaws.{answers_of}
 use Rattle.wk_check.specs.Verdict.{func_verdict, verdict_around, module_verdict}
 use Rattle.wk_draft.specs.Drafts.{AreDrafted, IsSketch, IsDraft}
 use Rattle.wk_body.specs.declared.shifts.Shifts.{Shifts}
-use Rattle.wk_draft.proofs.SketchTypes.{types_of, same_types, same_count, same_answers}
+use Rattle.wk_draft.proofs.SketchTypes.{types_of, types_drafted, same_count, same_answers}
 
 -- ---- functions
 
@@ -80,9 +80,6 @@ as_empty fs gs same =
     ∙ sym (is_empty_map (λ (f : Func). f.body) fs)
 
 module _ (s : Shifts) (os : List Func) (deferred : List Bool) (m d : Parts) (h : IsSketch s os deferred m d) where
-  types_drafted : types_of d.funcs ≡ types_of m.funcs
-  types_drafted = same_types m.profile (answers_of m) s os deferred m.funcs d.funcs h.funcs
-
   -- bodies have the same verdicts
   pub same_verdicts : map (func_verdict (answers_of m)) m.funcs ≡ map (func_verdict (answers_of d)) d.funcs
   same_verdicts =
@@ -92,7 +89,7 @@ module _ (s : Shifts) (os : List Func) (deferred : List Bool) (m d : Parts) (h :
   pub same_verdict : module_verdict m ≡ module_verdict d
   same_verdict =
       ap (λ (vs : List BodyVerdict). verdict_with m (types_of m.funcs) vs) same_verdicts
-      ∙ ap (λ (ts : List ℕ). verdict_with m ts (map (func_verdict (answers_of d)) d.funcs)) (sym types_drafted)
+      ∙ ap (λ (ts : List ℕ). verdict_with m ts (map (func_verdict (answers_of d)) d.funcs)) (sym (types_drafted s os deferred m d h))
       ∙ ap (λ (p : Parts). verdict_with p (types_of d.funcs) (map (func_verdict (answers_of d)) d.funcs)) (sym h.rest)
 
   -- ---- customs
@@ -100,8 +97,9 @@ module _ (s : Shifts) (os : List Func) (deferred : List Bool) (m d : Parts) (h :
   same_filled : filled_ids d ≡ filled_ids m
   same_filled =
       ap filled_ids h.rest
-      ∙ ap (λ (b : Bool). filled_by (not (is_empty (types_of d.funcs))) b m) (ap not (as_empty m.funcs d.funcs types_drafted))
-      ∙ ap (λ (b : Bool). filled_by b (not (is_empty (map (λ (f : Func). f.body) m.funcs))) m) (ap (λ (ts : List ℕ). not (is_empty ts)) types_drafted)
+      ∙ ap (λ (b : Bool). filled_by (not (is_empty (types_of d.funcs))) b m) (ap not (as_empty m.funcs d.funcs (types_drafted s os deferred m d h)))
+      ∙ ap (λ (b : Bool). filled_by b (not (is_empty (map (λ (f : Func). f.body) m.funcs))) m)
+      (ap (λ (ts : List ℕ). not (is_empty ts)) (types_drafted s os deferred m d h))
 
   pub same_customs : d.customs ≡ m.customs
   same_customs = ap (λ (p : Parts). p.customs) h.rest
@@ -127,7 +125,7 @@ module _ (s : Shifts) (os : List Func) (deferred : List Bool) (m d : Parts) (h :
       let few = (formed.valid CodeSection).0 in
       let profile = ap (λ (p : Parts). p.profile) h.rest in
       let count = same_count s os deferred m d h in
-      let types = subst (AreItems IsU32) types_drafted (formed.valid FunctionSection) in
+      let types = subst (AreItems IsU32) (types_drafted s os deferred m d h) (formed.valid FunctionSection) in
       let codes = codes_drafted m.profile (answers_of m) s os deferred m.funcs d.funcs h.funcs
       (subst (λ (p : Profile). AllByRecursion (IsCode p) (map (λ (f : Func). f.body) d.funcs)) profile (formed.valid CodeSection).1) in
       let room : length (map (λ (f : Func). f.body) m.funcs) < 2 ^ 32 =

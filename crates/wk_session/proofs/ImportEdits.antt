@@ -2,7 +2,7 @@
 use Rattle.std.proofs.Common.{◌≡◌, ℕ, ◌-◌, ◌^◌, ◌<◌, Bool, true, false, if◌then◌else◌, cond, List, [], ◌∷◌, ◌++◌, length, map, take, count_by, Err, refl}
 use Rattle.std.proofs.Common.{ap, sym, subst, ◌∙◌, arith, length-append}
 use Rattle.std.specs.List.{list_any, AllByRecursion}
-use Rattle.std.proofs.lemmas.List.{length-map}
+use Rattle.std.proofs.lemmas.List.{length-map, map-id}
 use Rattle.wk_bytes.specs.Leb.{◌>>=◌}
 use Rattle.wk_body.specs.declared.renumber.Moving.{Moving}
 use Rattle.wk_body.specs.declared.references.Ref.{Ref}
@@ -78,9 +78,7 @@ map_same {C = C} g h change same (x ∷ xs) =
     ap (λ (y : C). y ∷ map g (map change xs)) (same x) ∙ ap (λ (ys : List C). h x ∷ ys) (map_same g h change same xs)
 
 map_still : {A : Type 0} (change : A → A) → ((x : A) → change x ≡ x) → (xs : List A) → map change xs ≡ xs
-map_still change same [] = refl
-map_still {A = A} change same (x ∷ xs) =
-    ap (λ (y : A). y ∷ map change xs) (same x) ∙ ap (λ (ys : List A). x ∷ ys) (map_still change same xs)
+map_still change same xs = sym (map-id (map change xs)) ∙ map_same (λ x. x) (λ x. x) change same xs ∙ map-id xs
 
 -- ---- an import of a function or of a global: each reference finds what it found
 

@@ -28,10 +28,6 @@ pub reply_refused : (keep : Bool) (e : Edit) (m : Parts) (f : EditFault) → Ref
 reply_refused keep e m Memory h = refl
 reply_refused keep e m _ h = sym (ap (reply_to e m) (h (λ q. absurd cc)))
 
-pub after_refused : (keep : Bool) (e : Edit) (m : Parts) (f : EditFault) → Refuses keep e m f → m ≡ after_one keep e (is_memory (refusal f)) m
-after_refused keep e m Memory h = refl
-after_refused keep e m _ h = sym (ap (left_by m) (h (λ q. absurd cc)))
-
 -- ---- acceptances
 
 abbrev pub acceptance : Work → Result Work EditFault
@@ -39,9 +35,6 @@ acceptance w = Ok w
 
 pub reply_accepted : (keep : Bool) (e : Edit) (m n : Parts) → made keep e m ≡ Ok n → acceptance (work_of e m n) ≡ reply_to e m (made keep e m)
 reply_accepted keep e m n h = sym (ap (reply_to e m) h)
-
-pub after_accepted : (keep : Bool) (e : Edit) (m n : Parts) → made keep e m ≡ Ok n → n ≡ left_by m (made keep e m)
-after_accepted keep e m n h = sym (ap (left_by m) h)
 
 -- ---- lengths
 

@@ -14,13 +14,9 @@ use Rattle.wk_session.specs.Edits.{is_decided}
 use Rattle.wk_session.specs.Kept.{IsKept, Leads}
 use Rattle.wk_session.specs.Runs.{is_memory, reply_of, after_one}
 use Rattle.wk_session.proofs.Keeping.{kept_settled}
-use Rattle.wk_session.proofs.Outcomes.{reply_refused, after_refused, reply_accepted, after_accepted}
+use Rattle.wk_session.proofs.Outcomes.{reply_refused, reply_accepted}
 
 module _ (keep : Bool) (e : Edit) (m n : Parts) (k : Cache) where
-  pub formed_after : (r : Result Work EditFault) → IsShaped m → Leads keep e m r n k → IsFormed n
-  formed_after (Ok w) shaped leads = leads.2
-  formed_after (Err f) shaped leads = subst IsFormed (sym leads.2) shaped.formed
-
   pub kept_after : (r : Result Work EditFault) → IsShaped m → Leads keep e m r n k → IsKept (settle n) k
   kept_after (Ok w) shaped leads = kept_settled n k leads.2 leads.3
   kept_after (Err f) shaped leads = subst (λ (p : Parts). IsKept (settle p) k) (sym leads.2) (subst (λ (p : Parts). IsKept p k) (sym shaped.settled) leads.3)
@@ -28,14 +24,6 @@ module _ (keep : Bool) (e : Edit) (m n : Parts) (k : Cache) where
   pub reply_after : (r : Result Work EditFault) → Leads keep e m r n k → r ≡ reply_of keep e (is_memory r) m
   reply_after (Ok w) leads = ap (λ (v : Work). Ok v) leads.1 ∙ reply_accepted keep e m (settle n) leads.0
   reply_after (Err f) leads = reply_refused keep e m f leads.0
-
-  pub module_after : (r : Result Work EditFault) → IsShaped m → Leads keep e m r n k → settle n ≡ after_one keep e (is_memory r) m
-  module_after (Ok w) shaped leads = after_accepted keep e m (settle n) leads.0
-  module_after (Err f) shaped leads = ap settle leads.2 ∙ shaped.settled ∙ after_refused keep e m f leads.0
-
-  pub decided_after : (r : Result Work EditFault) → Leads keep e m r n k → IfErr r (λ f. f ≡ Memory → is_decided e m ≡ false)
-  decided_after (Ok w) leads = tt
-  decided_after (Err f) leads = leads.1
 
 -- stripping all customs of any module is never refused
 pub strip_always : (m : Parts) (r : Result Work EditFault) → r ≡ reply_of false edits.StripAll (is_memory r) m

@@ -6,6 +6,7 @@ use Rattle.wk_bytes.specs.declared.fault.ReadFault.{ReadFault}
 use Rattle.wk_bytes.specs.Frames.{limit}
 use Rattle.wk_bytes.specs.Leb.{◌>>=◌}
 use Rattle.wk_bytes.specs.Fault.{long_input}
+use Rattle.wk_bytes.specs.LebLaws.{chosen}
 use Rattle.wk_body.specs.declared.types.Profile.{Profile}
 use Rattle.wk_body.specs.Spelling.{SpellsBody, SpellsExpr}
 use Rattle.wk_body.specs.Meaning.{IsAllReadAs, NeverMemory}
@@ -30,11 +31,6 @@ use Rattle.wk_session.specs.MadeLaws.{Gives, then_lasting, fitting_gives, bytes_
 use Rattle.wk_session.specs.declared.edit.Work.{Work}
 use Rattle.wk_session.specs.Runs.{left_by, is_memory, reply_to, reply_of, after_one, replies_of}
 use Rattle.wk_session.specs.Told.{IsUnread, HasBadBytes, IsTold, AreTold}
-
--- which way a choice went
-chosen : {A : Type 0} (b : Bool) (x y z : A) → cond b x y ≡ z → ((b ≡ true) × (x ≡ z)) ⊎ ((b ≡ false) × (y ≡ z))
-chosen true x y z h = inl (refl, h)
-chosen false x y z h = inr (refl, h)
 
 -- ---- bytes that are not read
 
