@@ -25,7 +25,6 @@ use Rattle.wk_module.specs.Moving.{moved_func, moved_parts, moved_lists, with_mo
 use Rattle.wk_module.specs.NumberedLaws.{funcs_numbered}
 use Rattle.wk_module.specs.Sections.{SectionLists, ImportSection}
 use Rattle.wk_module.specs.Shape.{IsFormed, settle}
-use Rattle.wk_module.specs.WritingLaws.{room}
 use Rattle.wk_typing.specs.Answers.{Found}
 use Rattle.wk_typing.specs.declared.fault.BodyVerdict.{BodyVerdict}
 use Rattle.wk_typing.specs.Finds.{Grows}
@@ -42,7 +41,7 @@ use Rattle.wk_session.specs.Edits.{import_place, made, lasting, fitting}
 use Rattle.wk_session.specs.Imported.{after_import, before_import, IsImportPlan, IsReady}
 use Rattle.wk_session.specs.Kept.{IsKept, uses_of, standing}
 use Rattle.wk_session.specs.MovedEntries.{shifted_func, uses_movement}
-use Rattle.wk_session.proofs.Keeping.{kept_fits}
+use Rattle.wk_session.proofs.Keeping.{room_kept}
 use Rattle.wk_session.proofs.LastItems.{but_last_push}
 use Rattle.wk_session.proofs.Lent.{answers_in, lent}
 use Rattle.wk_session.proofs.MovedCode.{uses_as_code, any_told}
@@ -185,7 +184,7 @@ pub formed_after : AreFormedMoved → (i : Import) (m : Parts) (k : Cache) → I
 formed_after moves i m k kept free valid formed =
     let kind = desc_kind i.desc in
     let from = import_place i m in
-    import_formed i (moved_parts kind from m) (room m ImportSection (kept_fits m k kept)) valid (moves kind from m free formed)
+    import_formed i (moved_parts kind from m) (room_kept m k ImportSection kept) valid (moves kind from m free formed)
 
 pub ready_after : AreFormedMoved → (i : Import) (m p : Parts) (k : Cache) (plan : ImportPlan) → p ≡ with_import i m → IsKept m k
     → IsImportPlan (desc_kind i.desc) (import_place i m) m plan → IsImport i → IsFormed m

@@ -1,14 +1,15 @@
 -- What is kept of a module is kept of it with its customs settled, which have no say in it but by their length; and what of it is kept of
 -- functions is kept of a module with the same.
-use Rattle.std.proofs.Common.{◌≡◌, ℕ, Some, List, length, map, ap, sym, ◌∙◌, arith}
+use Rattle.std.proofs.Common.{◌≡◌, ℕ, ◌+◌, ◌<◌, ◌^◌, Some, List, length, map, ap, sym, ◌∙◌, arith}
 use Rattle.std.proofs.lemmas.List.{length-map}
 use Rattle.wk_body.specs.Lengths.{limited}
 use Rattle.wk_module.specs.declared.types.Custom.{Custom}
 use Rattle.wk_module.specs.declared.types.Parts.{Parts}
-use Rattle.wk_module.specs.Shape.{is_filled, settle, IsFormed}
+use Rattle.wk_module.specs.Sections.{SectionId, contents, item_count}
+use Rattle.wk_module.specs.Shape.{is_filled, lists_of, settle, IsFormed}
 use Rattle.wk_module.specs.ShapeLaws.{settled_in_order}
 use Rattle.wk_module.specs.Writing.{encoded, Fits}
-use Rattle.wk_module.specs.WritingLaws.{length-encoded, length-encoded_settle}
+use Rattle.wk_module.specs.WritingLaws.{length-encoded, length-encoded_settle, room}
 use Rattle.wk_check.specs.SpacesLaws.{answers_of}
 use Rattle.wk_check.specs.Verdict.{func_verdict}
 use Rattle.wk_session.specs.declared.cache.Cache.{Cache}
@@ -20,6 +21,10 @@ use Rattle.wk_session.proofs.Outcomes.{limited-some}
 -- a module that something is kept of is not too large
 pub kept_fits : (m : Parts) (k : Cache) → IsKept m k → Fits m
 kept_fits m k kept = limited-some (length (encoded m)) k.len kept.len
+
+-- so each of its lists has room for one more item
+pub room_kept : (m : Parts) (k : Cache) (id : SectionId) → IsKept m k → item_count id (contents (lists_of m) id) + 1 < 2 ^ 32
+room_kept m k id kept = room m id (kept_fits m k kept)
 
 -- settled custom sections have as many bytes
 customs_settled : (m : Parts) → IsFormed m → customs_size m.customs ≡ customs_size (settle m).customs

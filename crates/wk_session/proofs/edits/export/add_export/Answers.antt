@@ -10,7 +10,6 @@ use Rattle.wk_module.specs.NumberedLaws.{funcs_numbered}
 use Rattle.wk_module.specs.Sections.{ExportSection}
 use Rattle.wk_module.specs.Shape.{settle, IsFormed}
 use Rattle.wk_module.specs.Writing.{encoded, list_contents}
-use Rattle.wk_module.specs.WritingLaws.{room}
 use Rattle.wk_check.specs.SpacesLaws.{answers_of}
 use Rattle.wk_session.specs.declared.edit.Edit.TheVariants as edits
 use Rattle.wk_session.specs.declared.edit.Work.{Work}
@@ -20,7 +19,7 @@ use Rattle.wk_session.specs.Longer.{IsLonger}
 use Rattle.wk_session.proofs.Leading.{accepted}
 use Rattle.wk_session.proofs.LongerLists.{alone_len, export_longer}
 use Rattle.wk_session.proofs.Appending.{too_long, uncopied, unpushed}
-use Rattle.wk_session.proofs.Keeping.{kept_fits}
+use Rattle.wk_session.proofs.Keeping.{room_kept}
 use Rattle.wk_session.proofs.Works.{typeless_work}
 use Rattle.wk_session.proofs.edits.export.add_export.Goals as goal
 use Rattle.wk_session.proofs.edits.export.add_export.Goals.{After-len_grown-len}
@@ -28,14 +27,11 @@ use Rattle.wk_session.proofs.edits.export.add_export.Goals.{After-len_grown-len}
 pub len_grown-len-requires-clause-sections : goal.len_grown-len-requires-clause-sections
 len_grown-len-requires-clause-sections c = ap length c.requires.kept.pieces.sections
 
-few : (m : Parts) (k : Cache) → IsKept m k → length m.exports + 1 < 2 ^ 32
-few m k kept = room m ExportSection (kept_fits m k kept)
-
 pub overflow_cast-len : goal.overflow_cast-len
-overflow_cast-len c = omega (arith, c.len.ensures, few c.args.parts.now c.args.kept.now c.requires.kept)
+overflow_cast-len c = omega (arith, c.len.ensures, room_kept c.args.parts.now c.args.kept.now ExportSection c.requires.kept)
 
 pub len_grown-len-requires-clause-count : goal.len_grown-len-requires-clause-count
-len_grown-len-requires-clause-count c = omega (arith, c.len.ensures, few c.args.parts.now c.args.kept.now c.requires.kept)
+len_grown-len-requires-clause-count c = omega (arith, c.len.ensures, room_kept c.args.parts.now c.args.kept.now ExportSection c.requires.kept)
 
 pub len_grown-len-requires-clause-funcs : goal.len_grown-len-requires-clause-funcs
 len_grown-len-requires-clause-funcs c = omega (arith, c.len-2.ensures, funcs_numbered c.args.parts.now c.requires.shaped.formed)
@@ -89,5 +85,5 @@ returns c =
     let valid : IsExport y = (c.as_str-name.ensures.utf8, search rules) in
     let leads : Leads c.args.keep (edits.Export y) m (Ok w) new.parts new.kept =
     accepted c.args.keep (edits.Export y) m (with_export y m) new.parts c.args.kept.now new.kept w c.in_ok-sections.ensures.ok refl grown.0 works
-    (export_formed y m (few m c.args.kept.now c.requires.kept) valid c.requires.shaped.formed) grown.1 in
+    (export_formed y m (room_kept m c.args.kept.now ExportSection c.requires.kept) valid c.requires.shaped.formed) grown.1 in
     subst (λ (x : Export). Leads c.args.keep (edits.Export x) m (Ok w) new.parts new.kept) c.in_ok-export.ensures leads

@@ -7,18 +7,16 @@ use Rattle.wk_module.specs.ChangeLaws.{export_formed}
 use Rattle.wk_module.specs.Sections.{ExportSection}
 use Rattle.wk_module.specs.Shape.{IsFormed}
 use Rattle.wk_module.specs.Writing.{encoded}
-use Rattle.wk_module.specs.WritingLaws.{room}
 use Rattle.wk_check.specs.SpacesLaws.{answers_of}
 use Rattle.wk_session.specs.Judged.{IsJudged}
 use Rattle.wk_session.proofs.Appending.{item_grown, item_refused}
 use Rattle.wk_session.proofs.LongerLists.{export_longer}
-use Rattle.wk_session.proofs.Keeping.{kept_fits}
+use Rattle.wk_session.proofs.Keeping.{room_kept}
 use Rattle.wk_session.proofs.edits.export.push_export.Goals as goal
 
 pub new_export-requires : goal.new_export-requires
 new_export-requires c =
-    let m = c.args.parts.now in
-    omega (arith, room m ExportSection (kept_fits m c.args.kept.now c.requires.kept))
+    omega (arith, room_kept c.args.parts.now c.args.kept.now ExportSection c.requires.kept)
 
 pub returns-in_err-item-clause-grown : goal.returns-in_err-item-clause-grown
 returns-in_err-item-clause-grown c =
@@ -32,7 +30,7 @@ returns-in_err-item-clause-grown c =
 pub judge_exports-judged-requires-clause-formed : goal.judge_exports-judged-requires-clause-formed
 judge_exports-judged-requires-clause-formed c =
     let m = c.args.parts.now in
-    let few = room m ExportSection (kept_fits m c.args.kept.now c.requires.kept) in
+    let few = room_kept m c.args.kept.now ExportSection c.requires.kept in
     let formed = export_formed c.args.export m few c.requires.valid c.requires.shaped.formed in
     subst (λ (es : List Export). IsFormed (record m { exports = es })) (sym (c.as_slice-exports.ensures ∙ c.in_ok-push.ensures.ok)) formed
 
@@ -47,8 +45,7 @@ keep_grown-grown-requires-clause-id c = omega (arith, c.in_ok-item.ensures.id_is
 
 pub keep_grown-grown-requires-clause-count : goal.keep_grown-grown-requires-clause-count
 keep_grown-grown-requires-clause-count c =
-    let m = c.args.parts.now in
-    omega (arith, c.in_ok-item.ensures.count_is, room m ExportSection (kept_fits m c.args.kept.now c.requires.kept))
+    omega (arith, c.in_ok-item.ensures.count_is, room_kept c.args.parts.now c.args.kept.now ExportSection c.requires.kept)
 
 pub returns-clause-grown : goal.returns-clause-grown
 returns-clause-grown c =

@@ -9,7 +9,6 @@ use Rattle.wk_module.specs.Items.{written_export}
 use Rattle.wk_module.specs.NumberedLaws.{funcs_numbered}
 use Rattle.wk_module.specs.Sections.{ExportSection}
 use Rattle.wk_module.specs.Writing.{encoded, list_contents}
-use Rattle.wk_module.specs.WritingLaws.{room}
 use Rattle.wk_check.specs.SpacesLaws.{answers_of}
 use Rattle.wk_session.specs.declared.edit.EditFault.{EditFault}
 use Rattle.wk_session.specs.declared.cache.Cache.{Cache}
@@ -17,7 +16,7 @@ use Rattle.wk_session.specs.Judged.{IsGrown, IsJudged}
 use Rattle.wk_session.specs.Kept.{IsKept}
 use Rattle.wk_session.specs.Pieces.{section_pieces}
 use Rattle.wk_session.specs.Shorter.{without_item}
-use Rattle.wk_session.proofs.Keeping.{kept_fits, others_kept}
+use Rattle.wk_session.proofs.Keeping.{kept_fits, others_kept, room_kept}
 use Rattle.wk_session.proofs.Piecing.{section_within}
 use Rattle.wk_session.proofs.ShorterLists.{before, export_shorter, items_within, itself, span_within}
 use Rattle.wk_session.proofs.edits.export.take_export.Goals as goal
@@ -32,8 +31,7 @@ contents_few m k kept = omega (arith, section_within 7 m, kept_fits m k kept)
 
 pub overflow_cast-count : goal.overflow_cast-count
 overflow_cast-count c =
-    let m = c.args.parts.now in
-    omega (arith, c.len-count.ensures, room m ExportSection (kept_fits m c.args.kept.now c.requires.kept))
+    omega (arith, c.len-count.ensures, room_kept c.args.parts.now c.args.kept.now ExportSection c.requires.kept)
 
 pub span_of-span-requires-clause-few : goal.span_of-span-requires-clause-few
 span_of-span-requires-clause-few c =

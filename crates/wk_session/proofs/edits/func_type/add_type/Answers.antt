@@ -10,7 +10,6 @@ use Rattle.wk_module.specs.Sections.{TypeSection}
 use Rattle.wk_module.specs.Shape.{settle, IsFormed}
 use Rattle.wk_module.specs.ShapeLaws.{types_formed}
 use Rattle.wk_module.specs.Types.{written_functype}
-use Rattle.wk_module.specs.WritingLaws.{room}
 use Rattle.wk_module.specs.Writing.{encoded, list_contents}
 use Rattle.wk_check.specs.SpacesLaws.{answers_of}
 use Rattle.wk_session.specs.declared.edit.Edit.TheVariants as edits
@@ -22,7 +21,7 @@ use Rattle.wk_session.specs.Longer.{IsLonger}
 use Rattle.wk_session.proofs.Leading.{accepted}
 use Rattle.wk_session.proofs.LongerLists.{alone_len, type_longer}
 use Rattle.wk_session.proofs.Appending.{too_long, uncopied, unpushed}
-use Rattle.wk_session.proofs.Keeping.{kept_fits}
+use Rattle.wk_session.proofs.Keeping.{room_kept}
 use Rattle.wk_session.proofs.Works.{codeless_work}
 use Rattle.wk_session.proofs.edits.func_type.add_type.Goals as goal
 use Rattle.wk_session.proofs.edits.func_type.add_type.Goals.{After-len_grown-len}
@@ -30,14 +29,11 @@ use Rattle.wk_session.proofs.edits.func_type.add_type.Goals.{After-len_grown-len
 pub len_grown-len-requires-clause-sections : goal.len_grown-len-requires-clause-sections
 len_grown-len-requires-clause-sections c = ap length c.requires.kept.pieces.sections
 
-few : (m : Parts) (k : Cache) → IsKept m k → length m.types + 1 < 2 ^ 32
-few m k kept = room m TypeSection (kept_fits m k kept)
-
 pub overflow_cast-len : goal.overflow_cast-len
-overflow_cast-len c = omega (arith, c.len.ensures, few c.args.parts.now c.args.kept.now c.requires.kept)
+overflow_cast-len c = omega (arith, c.len.ensures, room_kept c.args.parts.now c.args.kept.now TypeSection c.requires.kept)
 
 pub len_grown-len-requires-clause-count : goal.len_grown-len-requires-clause-count
-len_grown-len-requires-clause-count c = omega (arith, c.len.ensures, few c.args.parts.now c.args.kept.now c.requires.kept)
+len_grown-len-requires-clause-count c = omega (arith, c.len.ensures, room_kept c.args.parts.now c.args.kept.now TypeSection c.requires.kept)
 
 pub len_grown-len-requires-clause-funcs : goal.len_grown-len-requires-clause-funcs
 len_grown-len-requires-clause-funcs c = omega (arith, c.len-2.ensures, funcs_numbered c.args.parts.now c.requires.shaped.formed)
@@ -95,7 +91,8 @@ returns c =
     let w : Work = record { typed = c.typed.result; encoded = 0; sections = c.in_ok-sections.sections } in
     let grown = c.in_ok-sections.ensures.grown in
     let works = codeless_work (edits.Ty u) m (settle (with_type u m)) refl (λ f. refl) c.typed.result w.sections (c.typed.ensures ∙ grown.2) grown.3 in
-    let few_more : length (m.types ++ u ∷ []) < 2 ^ 32 = omega (arith, few m c.args.kept.now c.requires.kept, length-append m.types (u ∷ [])) in
+    let room = room_kept m c.args.kept.now TypeSection c.requires.kept in
+    let few_more : length (m.types ++ u ∷ []) < 2 ^ 32 = omega (arith, room, length-append m.types (u ∷ [])) in
     let leads : Leads c.args.keep (edits.Ty u) m (Ok w) new.parts new.kept =
     accepted c.args.keep (edits.Ty u) m (with_type u m) new.parts c.args.kept.now new.kept w c.in_ok-sections.ensures.ok refl grown.0 works
     (types_formed (m.types ++ u ∷ []) m few_more c.requires.shaped.formed) grown.1 in

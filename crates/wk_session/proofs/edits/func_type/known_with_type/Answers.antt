@@ -2,18 +2,16 @@ use Rattle.std.proofs.Common.{◌≡◌, length, refl, sym, ◌∙◌, arith}
 use Rattle.wk_module.specs.Changes.{with_type}
 use Rattle.wk_module.specs.Sections.{TypeSection}
 use Rattle.wk_module.specs.Writing.{encoded}
-use Rattle.wk_module.specs.WritingLaws.{room}
 use Rattle.wk_check.specs.SpacesLaws.{type_grows}
 use Rattle.wk_typing.specs.declared.fault.Verdict.{Verdict}
 use Rattle.wk_check.specs.Verdict.{module_verdict}
 use Rattle.wk_session.proofs.Growing.{grown_known}
-use Rattle.wk_session.proofs.Keeping.{kept_fits}
+use Rattle.wk_session.proofs.Keeping.{room_kept}
 use Rattle.wk_session.proofs.edits.func_type.known_with_type.Goals as goal
 
 pub overflow_cast-len : goal.overflow_cast-len
 overflow_cast-len c =
-    let m = c.args.parts.now in
-    omega (arith, c.len.ensures, room m TypeSection (kept_fits m c.args.kept.now c.requires.kept))
+    omega (arith, c.len.ensures, room_kept c.args.parts.now c.args.kept.now TypeSection c.requires.kept)
 
 pub returns-in-Valid-clause-some : goal.returns-in-Valid-clause-some
 returns-in-Valid-clause-some c =

@@ -7,13 +7,12 @@ use Rattle.wk_module.specs.Changes.{with_type}
 use Rattle.wk_module.specs.Listed.{listed, listed_with}
 use Rattle.wk_module.specs.Sections.{SectionLists, TypeSection}
 use Rattle.wk_module.specs.ShapeLaws.{types_formed}
-use Rattle.wk_module.specs.WritingLaws.{room}
 use Rattle.wk_module.specs.Writing.{encoded}
 use Rattle.wk_check.specs.Spaces.{answer_in, spaces_of}
 use Rattle.wk_check.specs.SpacesLaws.{answers_of, type_grows}
 use Rattle.wk_session.proofs.Appending.{grows_before, item_grown, item_refused, judged_before, kept_before, known_before}
 use Rattle.wk_session.proofs.LongerLists.{type_longer}
-use Rattle.wk_session.proofs.Keeping.{kept_fits}
+use Rattle.wk_session.proofs.Keeping.{room_kept}
 use Rattle.wk_session.proofs.LastItems.{but_last, push_before}
 use Rattle.wk_session.proofs.edits.func_type.push_type.Goals as goal
 use Rattle.wk_session.proofs.edits.func_type.push_type.Goals.{After-without_last_type-before}
@@ -32,7 +31,7 @@ before_is c =
 pub judge_grown-judged-requires-clause-formed : goal.judge_grown-judged-requires-clause-formed
 judge_grown-judged-requires-clause-formed c =
     let m = c.args.parts.now in
-    let few = room m TypeSection (kept_fits m c.args.kept.now c.requires.kept) in
+    let few = room_kept m c.args.kept.now TypeSection c.requires.kept in
     let count = ap length c.in_ok-push.ensures.ok ∙ length-append m.types (c.args.ty ∷ []) in
     types_formed c.push.new.self m (omega (arith, few, count)) c.requires.shaped.formed
 
@@ -59,8 +58,7 @@ judge_grown-judged-requires-clause-len c =
 
 pub new_type-requires : goal.new_type-requires
 new_type-requires c =
-    let m = c.args.parts.now in
-    omega (arith, room m TypeSection (kept_fits m c.args.kept.now c.requires.kept))
+    omega (arith, room_kept c.args.parts.now c.args.kept.now TypeSection c.requires.kept)
 
 pub returns-in_err-item-clause-grown : goal.returns-in_err-item-clause-grown
 returns-in_err-item-clause-grown c =
@@ -76,8 +74,7 @@ keep_grown-grown-requires-clause-id c = omega (arith, c.in_ok-item.ensures.id_is
 
 pub keep_grown-grown-requires-clause-count : goal.keep_grown-grown-requires-clause-count
 keep_grown-grown-requires-clause-count c =
-    let m = c.args.parts.now in
-    omega (arith, c.in_ok-item.ensures.count_is, room m TypeSection (kept_fits m c.args.kept.now c.requires.kept))
+    omega (arith, c.in_ok-item.ensures.count_is, room_kept c.args.parts.now c.args.kept.now TypeSection c.requires.kept)
 
 pub returns-clause-grown : goal.returns-clause-grown
 returns-clause-grown c =

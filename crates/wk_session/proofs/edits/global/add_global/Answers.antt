@@ -9,7 +9,6 @@ use Rattle.wk_module.specs.NumberedLaws.{funcs_numbered}
 use Rattle.wk_module.specs.Sections.{GlobalSection}
 use Rattle.wk_module.specs.Shape.{settle, IsFormed}
 use Rattle.wk_module.specs.Writing.{encoded}
-use Rattle.wk_module.specs.WritingLaws.{room}
 use Rattle.wk_check.specs.SpacesLaws.{answers_of}
 use Rattle.wk_session.specs.declared.edit.Edit.TheVariants as edits
 use Rattle.wk_session.specs.declared.edit.EditFault.{EditFault}
@@ -18,7 +17,7 @@ use Rattle.wk_session.specs.Edits.{fitting, lasting, made}
 use Rattle.wk_session.specs.Kept.{standing}
 use Rattle.wk_session.proofs.Leading.{refused_for, accepted}
 use Rattle.wk_session.proofs.Appending.{grown_refused}
-use Rattle.wk_session.proofs.Keeping.{kept_fits}
+use Rattle.wk_session.proofs.Keeping.{room_kept}
 use Rattle.wk_session.proofs.Works.{codeless_work}
 use Rattle.wk_session.proofs.edits.global.add_global.Goals as goal
 use Rattle.wk_session.proofs.edits.global.add_global.Goals.{In_ok-init}
@@ -65,7 +64,7 @@ returns c =
     let k = c.args.kept.now in
     let made = c.in_ok-sections.sections in
     let grown = c.in_ok-sections.ensures.grown in
-    let few = room m GlobalSection (kept_fits m k c.requires.kept) in
+    let few = room_kept m k GlobalSection c.requires.kept in
     let formed : IsFormed n = global_formed c.args.ty i m few c.in_ok-init.ensures.valid c.requires.shaped.formed in
     let works = codeless_work e m (settle n) refl (λ f. refl) c.typed.result made (c.typed.ensures ∙ grown.2) grown.3 in
     accepted c.args.keep e m n c.push_global.new.parts k c.push_global.new.kept

@@ -6,7 +6,6 @@ use Rattle.wk_module.specs.Listed.{listed, listed_with}
 use Rattle.wk_module.specs.Sections.{SectionLists, GlobalSection}
 use Rattle.wk_module.specs.Shape.{IsFormed}
 use Rattle.wk_module.specs.ChangeLaws.{global_formed}
-use Rattle.wk_module.specs.WritingLaws.{room}
 use Rattle.wk_module.specs.Writing.{encoded}
 use Rattle.wk_check.specs.Spaces.{answer_in, spaces_of}
 use Rattle.wk_check.specs.SpacesLaws.{answers_of, global_grows}
@@ -16,7 +15,7 @@ use Rattle.wk_session.specs.Kept.{IsKept}
 use Rattle.wk_module.specs.NumberedLaws.{funcs_numbered}
 use Rattle.wk_session.proofs.Appending.{grows_before, item_grown, item_refused, judged_before, kept_before, known_before}
 use Rattle.wk_session.proofs.LongerLists.{global_longer, item_told, longer_by}
-use Rattle.wk_session.proofs.Keeping.{kept_fits}
+use Rattle.wk_session.proofs.Keeping.{room_kept}
 use Rattle.wk_session.proofs.LastItems.{but_last, push_before}
 use Rattle.wk_session.proofs.edits.global.push_global.Goals as goal
 use Rattle.wk_session.proofs.edits.global.push_global.Goals.{After-without_last_global-before}
@@ -36,7 +35,7 @@ before_is c =
 pub judge_grown-judged-requires-clause-formed : goal.judge_grown-judged-requires-clause-formed
 judge_grown-judged-requires-clause-formed c =
     let m = c.args.parts.now in
-    let few = room m GlobalSection (kept_fits m c.args.kept.now c.requires.kept) in
+    let few = room_kept m c.args.kept.now GlobalSection c.requires.kept in
     let g = c.args.global in
     subst (λ (gs : List GlobalDef). IsFormed (record m { globals = gs })) (sym c.in_ok-push.ensures.ok)
     (global_formed g.ty g.init m few c.requires.valid c.requires.shaped.formed)
@@ -57,11 +56,8 @@ judge_grown-judged-requires-clause-known c =
     let at = (goal.at.judge_grown-judged-requires-clause-known c).After-without_last_global-before in
     known_before _ c.args.parts.now _ _ c.args.kept.now (before_is at) (pushed at) c.in_ok-known.known c.in_ok-known.ensures.some
 
-few : (m : Parts) (k : Cache) → IsKept m k → length m.globals + 1 < 2 ^ 32
-few m k kept = room m GlobalSection (kept_fits m k kept)
-
 pub new_global-requires : goal.new_global-requires
-new_global-requires c = omega (arith, few c.args.parts.now c.args.kept.now c.requires.kept)
+new_global-requires c = omega (arith, room_kept c.args.parts.now c.args.kept.now GlobalSection c.requires.kept)
 
 pub returns-in_err-item-clause-grown : goal.returns-in_err-item-clause-grown
 returns-in_err-item-clause-grown c =
@@ -79,7 +75,8 @@ pub len_grown-len-requires-clause-id : goal.len_grown-len-requires-clause-id
 len_grown-len-requires-clause-id c = omega (arith, c.in_ok-item.ensures.id_is)
 
 pub len_grown-len-requires-clause-count : goal.len_grown-len-requires-clause-count
-len_grown-len-requires-clause-count c = omega (arith, c.in_ok-item.ensures.count_is, few c.args.parts.now c.args.kept.now c.requires.kept)
+len_grown-len-requires-clause-count c =
+    omega (arith, c.in_ok-item.ensures.count_is, room_kept c.args.parts.now c.args.kept.now GlobalSection c.requires.kept)
 
 pub len_grown-len-requires-clause-funcs : goal.len_grown-len-requires-clause-funcs
 len_grown-len-requires-clause-funcs c = omega (arith, c.len.ensures, funcs_numbered c.args.parts.now c.requires.shaped.formed)
@@ -102,7 +99,8 @@ pub keep_grown-grown-requires-clause-id : goal.keep_grown-grown-requires-clause-
 keep_grown-grown-requires-clause-id c = omega (arith, c.in_ok-item.ensures.id_is, ap length c.requires.kept.pieces.sections)
 
 pub keep_grown-grown-requires-clause-count : goal.keep_grown-grown-requires-clause-count
-keep_grown-grown-requires-clause-count c = omega (arith, c.in_ok-item.ensures.count_is, few c.args.parts.now c.args.kept.now c.requires.kept)
+keep_grown-grown-requires-clause-count c =
+    omega (arith, c.in_ok-item.ensures.count_is, room_kept c.args.parts.now c.args.kept.now GlobalSection c.requires.kept)
 
 pub returns-clause-grown : goal.returns-clause-grown
 returns-clause-grown c =

@@ -8,6 +8,7 @@ use Rattle.wk_check.specs.Spaces.{answer_in, spaces_of}
 use Rattle.wk_check.specs.SpacesLaws.{answers_of}
 use Rattle.wk_check.specs.Verdict.{func_verdict}
 use Rattle.wk_session.specs.Dependents.{is_retyped_in}
+use Rattle.wk_session.proofs.Lent.{answers_lent, lent_is}
 use Rattle.wk_session.proofs.edits.plan_append.verdicts_grown.Goals as goal
 use Rattle.wk_session.proofs.edits.plan_append.verdicts_grown.Goals.{After-rejudge_bodies}
 
@@ -18,9 +19,8 @@ rejudge_bodies-requires-clause-were c =
 -- what the code of the module sees is what the module is found to hold
 now_is : (c : After-rejudge_bodies) → answer_in (spaces_of c.in_ok-new.new) ≡ answers_of c.args.basis.parts.now
 now_is c =
-    let lists = c.in_ok-new.ensures ∙ c.of-2.ensures.lists ∙ ap (λ (fs : List ℕ). listed_with fs c.args.basis.parts.now)
-    (c.deref.ensures.value ∙ c.requires.kept.types) in
-    ap (λ (l : SectionLists). answer_in (spaces_of l)) lists
+    let m = c.args.basis.parts.now in
+    answers_lent m _ (lent_is m _ _ (c.in_ok-new.ensures ∙ c.of-2.ensures.lists) (c.deref.ensures.value ∙ c.requires.kept.types))
 
 pub returns-clause-verdicts : goal.returns-clause-verdicts
 returns-clause-verdicts c =
