@@ -1,7 +1,6 @@
 -- Custom sections changed, and what is kept then.
-use Rattle.std.proofs.Common.{◌≡◌, ◌≢◌, ◌+◌, ◌-◌, ◌≤◌, ℕ, Bool, true, false, if◌then◌else◌, List, [], ◌∷◌, filter, length, nat_le, Some, None, Result, Ok, Err}
+use Rattle.std.proofs.Common.{◌≡◌, ◌≢◌, ◌+◌, ◌-◌, ◌≤◌, ℕ, Bool, true, false, if◌then◌else◌, List, [], ◌∷◌, filter, length, Some, Result, Ok, Err}
 use Rattle.std.proofs.Common.{refl, sym, ap, subst, ◌∙◌, arith}
-use Rattle.std.proofs.lemmas.Bool.{cond-true, le-leb}
 use Rattle.std.specs.List.{list_any}
 use Rattle.wk_bytes.specs.Frames.{limit}
 use Rattle.wk_bytes.specs.Leb.{◌>>=◌}
@@ -11,7 +10,7 @@ use Rattle.wk_module.specs.declared.types.Custom.{Custom}
 use Rattle.wk_module.specs.declared.types.Parts.{Parts}
 use Rattle.wk_module.specs.Shape.{IsFormed, IsInOrderFrom, settle}
 use Rattle.wk_module.specs.Writing.{encoded, Fits}
-use Rattle.wk_module.specs.WritingLaws.{length-encoded_filter, length-encoded_settle}
+use Rattle.wk_module.specs.WritingLaws.{length-encoded_filter}
 use Rattle.wk_session.specs.declared.edit.Edit.{Edit}
 use Rattle.wk_session.specs.declared.edit.Edit.TheVariants as edits
 use Rattle.wk_session.specs.declared.edit.EditFault.{EditFault}
@@ -20,7 +19,7 @@ use Rattle.wk_session.specs.declared.edit.Work.{Work}
 use Rattle.wk_session.specs.declared.cache.Cache.{Cache}
 use Rattle.wk_session.specs.Customs.{IsChecked, IsPut, with_customs_len}
 use Rattle.wk_session.specs.Dependents.{work_of}
-use Rattle.wk_session.specs.Edits.{fitting, is_large, is_named, with_custom, without_customs, lasting, made}
+use Rattle.wk_session.specs.Edits.{fitting, is_named, without_customs, lasting, made}
 use Rattle.wk_session.specs.Kept.{IsKept, Leads, standing}
 use Rattle.wk_session.specs.Pieces.{customs_size}
 use Rattle.wk_session.proofs.CustomPuts.{length_customs}

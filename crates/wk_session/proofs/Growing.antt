@@ -1,6 +1,5 @@
 -- A valid module to which something comes that moves nothing: what its functions refer to is found as it was.
-use Rattle.std.proofs.Common.{◌≡◌, ℕ, Bool, cond, List, [], ◌∷◌, map, count_by, refl, sym, ap, subst, arith}
-use Rattle.std.proofs.lemmas.List.Sums.{sum_by-cons}
+use Rattle.std.proofs.Common.{◌≡◌, List, map, count_by, sym, subst}
 use Rattle.std.specs.List.{AllByRecursion}
 use Rattle.wk_body.specs.declared.references.Ref.{Ref}
 use Rattle.wk_module.specs.declared.types.Func.{Func}

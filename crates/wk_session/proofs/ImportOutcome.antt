@@ -10,7 +10,6 @@ use Rattle.wk_module.specs.declared.types.Parts.{Parts}
 use Rattle.wk_module.specs.Changes.{with_import}
 use Rattle.wk_module.specs.Items.{desc_kind}
 use Rattle.wk_module.specs.Moving.{moved_func, with_lists}
-use Rattle.wk_module.specs.Writing.{encoded}
 use Rattle.wk_session.specs.declared.edit.Edit.TheVariants as edits
 use Rattle.wk_session.specs.declared.edit.EditFault.{EditFault}
 use Rattle.wk_session.specs.declared.edit.EditFault.TheVariants.{Memory}

@@ -1,10 +1,8 @@
 -- The pieces of a module with an import more.
-use Rattle.std.proofs.Common.{◌≡◌, ◌≢◌, ℕ, ◌+◌, Bool, true, false, Option, Some, None, unwrap_or, is_some, List, [], ◌∷◌, length, map, Err, refl, sym, subst}
+use Rattle.std.proofs.Common.{◌≡◌, ◌≢◌, ℕ, ◌+◌, Bool, true, false, Option, Some, None, unwrap_or, is_some, List, [], ◌∷◌, map, Err, refl, sym, subst}
 use Rattle.std.proofs.Common.{ap, ◌∙◌, arith}
 use Rattle.wk_body.specs.declared.fault.EncodeFault.{EncodeFault}
 use Rattle.wk_body.specs.declared.fault.EncodeFault.TheVariants as encoding
-use Rattle.wk_body.specs.Lengths.{limited}
-use Rattle.wk_body.specs.LengthsLaws.{limited_none}
 use Rattle.wk_module.specs.declared.renumber.MovedLists.{MovedLists}
 use Rattle.wk_module.specs.declared.types.Func.{Func}
 use Rattle.wk_module.specs.declared.types.Import.{Import}
@@ -16,19 +14,18 @@ use Rattle.wk_module.specs.MovedLaws.{types_stay}
 use Rattle.wk_module.specs.Moving.{instead, start_instead, some_if, start_if_moving, is_start_moving, moved_lists, moved_parts, with_lists}
 use Rattle.wk_module.specs.Sections.{SectionLists, FunctionSection, GlobalSection, ExportSection, StartSection, ElementSection, DataSection}
 use Rattle.wk_module.specs.Shape.{IsInOrderFrom}
-use Rattle.wk_module.specs.Writing.{encoded, section_contents}
-use Rattle.wk_session.specs.declared.edit.EditFault.TheVariants.{TooLarge, Memory}
+use Rattle.wk_module.specs.Writing.{section_contents}
+use Rattle.wk_session.specs.declared.edit.EditFault.TheVariants.{Memory}
 use Rattle.wk_session.specs.declared.pieces.NewSections.{NewSections}
 use Rattle.wk_session.specs.Dependents.{one_if, sections_moving}
 use Rattle.wk_session.specs.Edits.{import_place}
 use Rattle.wk_session.specs.Imported.{after_import, new_where, news_after, IsRemadeAfter}
 use Rattle.wk_session.specs.Kept.{standing}
 use Rattle.wk_session.specs.Overlays.{with_items}
-use Rattle.wk_session.specs.Pieces.{IsUnwritten, code_of, entries_size, section_piece, section_pieces}
+use Rattle.wk_session.specs.Pieces.{IsUnwritten, section_piece, section_pieces}
 use Rattle.wk_session.specs.Refusals.{encode_refusal}
 use Rattle.wk_session.proofs.ImportEdits.{AreLaid}
-use Rattle.wk_session.proofs.Leading.{too_large}
-use Rattle.wk_session.proofs.Piecing.{codes_within, entries_codes, past_limit, section_large}
+use Rattle.wk_session.proofs.Piecing.{section_large}
 
 -- ---- sections
 

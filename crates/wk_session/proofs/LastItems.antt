@@ -1,10 +1,7 @@
 -- A module without the last item of one of its lists finds what the module finds to which the item came.
 use Rattle.std.proofs.Common.{◌≡◌, ℕ, ◌-◌, List, [], ◌∷◌, ◌++◌, length, take, map, ap, ◌∙◌, arith, length-append}
 use Rattle.std.proofs.Math.Seq.{take-append_seam}
-use Rattle.wk_module.specs.declared.types.FuncType.{FuncType}
-use Rattle.wk_module.specs.declared.types.GlobalDef.{GlobalDef}
 use Rattle.wk_module.specs.declared.types.Parts.{Parts}
-use Rattle.wk_module.specs.Listed.{listed_with}
 use Rattle.wk_module.specs.Sections.{SectionLists}
 use Rattle.wk_check.specs.Spaces.{answer_in, spaces_of}
 use Rattle.wk_check.specs.SpacesLaws.{answers_of}

@@ -1,7 +1,7 @@
 -- Lists with one item more, and without it again.
-use Rattle.std.proofs.Common.{◌≡◌, ℕ, ◌+◌, ◌<◌, ◌^◌, List, [], ◌∷◌, ◌++◌, length, take, Option, Some, None, Result, Ok, Err, sym, ap, ◌∙◌, arith, length-append}
+use Rattle.std.proofs.Common.{◌≡◌, ℕ, List, [], ◌∷◌, ◌++◌, length, take, Option, Some, None, sym, ap, ◌∙◌, arith, length-append}
 use Rattle.std.proofs.Math.Seq.{take-append_seam}
-use Rattle.std.specs.Prelude.{IfSome, IfNone, OnOk, OnErr}
+use Rattle.std.specs.Prelude.{IfSome, IfNone}
 
 module _ {A : Type 0} where
   pub popped : (o : Option A) (old new ts : List A) (t : A) → old ≡ ts ++ t ∷ [] → IfSome o (λ d. old ≡ new ++ d ∷ [])

@@ -2,17 +2,16 @@
 use Rattle.std.proofs.Common.{◌≡◌, Bool, false, Result, Ok, Err, refl, sym, ap, subst, ◌∙◌}
 use Rattle.std.specs.Prelude.{IfErr, OnErr}
 use Rattle.wk_module.specs.declared.types.Parts.{Parts}
-use Rattle.wk_module.specs.Shape.{IsFormed, IsShaped, settle}
+use Rattle.wk_module.specs.Shape.{IsShaped, settle}
 use Rattle.wk_session.specs.declared.edit.Edit.{Edit}
 use Rattle.wk_session.specs.declared.edit.Edit.TheVariants as edits
 use Rattle.wk_session.specs.declared.edit.EditFault.{EditFault}
-use Rattle.wk_session.specs.declared.edit.EditFault.TheVariants.{NoSuchFunction, NoSuchExport, NoSuchCustom, IndexOverflow, TooLarge, BadBytes, WouldBreak}
 use Rattle.wk_session.specs.declared.edit.EditFault.TheVariants.{Memory}
 use Rattle.wk_session.specs.declared.edit.Work.{Work}
 use Rattle.wk_session.specs.declared.cache.Cache.{Cache}
 use Rattle.wk_session.specs.Edits.{is_decided}
 use Rattle.wk_session.specs.Kept.{IsKept, Leads}
-use Rattle.wk_session.specs.Runs.{is_memory, reply_of, after_one}
+use Rattle.wk_session.specs.Runs.{is_memory, reply_of}
 use Rattle.wk_session.proofs.Keeping.{kept_settled}
 use Rattle.wk_session.proofs.Outcomes.{reply_refused, reply_accepted}
 

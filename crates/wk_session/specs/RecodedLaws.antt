@@ -11,8 +11,8 @@ use Rattle.wk_module.specs.declared.types.Func.{Func}
 use Rattle.wk_module.specs.declared.types.Parts.{Parts}
 use Rattle.wk_module.specs.Formats.{written_bytes}
 use Rattle.wk_module.specs.Items.{written_code}
-use Rattle.wk_module.specs.Sections.{SectionId, TypeSection, ImportSection, FunctionSection, TableSection, MemorySection, GlobalSection, ExportSection}
-use Rattle.wk_module.specs.Sections.{StartSection, ElementSection, CodeSection, DataSection, SectionLists, of_number}
+use Rattle.wk_module.specs.Sections.{SectionId}
+use Rattle.wk_module.specs.Sections.{CodeSection, SectionLists, of_number}
 use Rattle.wk_module.specs.SectionLaws.{number-of_number}
 use Rattle.wk_module.specs.Shape.{lists_of}
 use Rattle.wk_module.specs.Writing.{customs_at, encoded, framed, ids, section_and_customs, section_by, section_of, written_section}

@@ -1,10 +1,9 @@
-use Rattle.std.proofs.Common.{◌≡◌, ◌<◌, ◌^◌, List, ℕ, length, map, refl, sym, ap, subst, ◌∙◌, arith}
-use Rattle.std.proofs.lemmas.List.{length-map}
+use Rattle.std.proofs.Common.{◌≡◌, ◌<◌, ◌^◌, List, length, map, refl, sym, ap, subst, ◌∙◌, arith}
 use Rattle.wk_body.specs.Lengths.{limited}
 use Rattle.wk_module.specs.declared.types.Func.{Func}
 use Rattle.wk_module.specs.declared.types.Parts.{Parts}
-use Rattle.wk_module.specs.Listed.{listed, listed_with, AreNumbered}
-use Rattle.wk_module.specs.NumberedLaws.{funcs_numbered, module_numbered_with}
+use Rattle.wk_module.specs.Listed.{listed}
+use Rattle.wk_module.specs.NumberedLaws.{funcs_numbered}
 use Rattle.wk_module.specs.Sections.{SectionLists}
 use Rattle.wk_module.specs.Shape.{IsFormed, IsInOrderFrom}
 use Rattle.wk_module.specs.Writing.{encoded, Fits}

@@ -4,7 +4,6 @@ use Rattle.wk_body.specs.Lengths.{limited}
 use Rattle.wk_module.specs.Changes.{with_body}
 use Rattle.wk_module.specs.ChangeLaws.{body_formed}
 use Rattle.wk_module.specs.NumberedLaws.{funcs_numbered}
-use Rattle.wk_module.specs.Writing.{encoded}
 use Rattle.wk_session.specs.Pieces.{codes_size, entries_size, section_pieces}
 use Rattle.wk_session.proofs.EntryEdits.{codes_large, codes_len_is}
 use Rattle.wk_session.proofs.BodyEdits.{body_sections, body_unencoded, codes_given, length-given}

@@ -1,12 +1,8 @@
 use Rattle.std.proofs.Common.{List, length, ap, refl, subst, sym, ◌∙◌, arith}
-use Rattle.std.proofs.lemmas.List.{length-map}
 use Rattle.wk_module.specs.Changes.{with_body}
 use Rattle.wk_typing.specs.declared.fault.BodyVerdict.{BodyVerdict}
-use Rattle.wk_check.specs.SpacesLaws.{answers_of}
-use Rattle.wk_check.specs.Verdict.{func_verdict}
 use Rattle.wk_session.specs.Functions.{AreVerdicts}
 use Rattle.wk_session.specs.declared.cache.Cache.{Cache}
-use Rattle.wk_session.specs.Kept.{uses_of}
 use Rattle.wk_session.proofs.BodyEdits.{body_kept, body_leads, given_set, other_at}
 use Rattle.wk_session.proofs.Keeping.{refs_count, verdicts_count}
 use Rattle.wk_session.proofs.edits.body.put_at.Goals as goal

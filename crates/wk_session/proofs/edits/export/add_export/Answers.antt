@@ -1,20 +1,17 @@
-use Rattle.std.proofs.Common.{rules, ◌≡◌, ◌<◌, ◌+◌, ◌^◌, ℕ, [], ◌∷◌, ◌∙◌, sym, ap, subst, refl, arith, length, false, Ok, Err}
+use Rattle.std.proofs.Common.{rules, ◌≡◌, ℕ, [], ◌∷◌, ◌∙◌, sym, ap, subst, refl, arith, length, Ok}
 use Rattle.std.proofs.lemmas.Result.{err_from_is_err_and}
 use Rattle.wk_body.specs.Lengths.{limited}
 use Rattle.wk_module.specs.declared.types.Export.{Export}
-use Rattle.wk_module.specs.declared.types.Parts.{Parts}
 use Rattle.wk_module.specs.Changes.{with_export}
 use Rattle.wk_module.specs.ChangeLaws.{export_formed}
 use Rattle.wk_module.specs.Items.{IsExport, written_export}
 use Rattle.wk_module.specs.NumberedLaws.{funcs_numbered}
 use Rattle.wk_module.specs.Sections.{ExportSection}
-use Rattle.wk_module.specs.Shape.{settle, IsFormed}
+use Rattle.wk_module.specs.Shape.{settle}
 use Rattle.wk_module.specs.Writing.{encoded, list_contents}
-use Rattle.wk_check.specs.SpacesLaws.{answers_of}
 use Rattle.wk_session.specs.declared.edit.Edit.TheVariants as edits
 use Rattle.wk_session.specs.declared.edit.Work.{Work}
-use Rattle.wk_session.specs.declared.cache.Cache.{Cache}
-use Rattle.wk_session.specs.Kept.{IsKept, Leads}
+use Rattle.wk_session.specs.Kept.{Leads}
 use Rattle.wk_session.specs.Longer.{IsLonger}
 use Rattle.wk_session.proofs.Leading.{accepted}
 use Rattle.wk_session.proofs.LongerLists.{alone_len, export_longer}

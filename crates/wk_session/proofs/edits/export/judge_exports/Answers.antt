@@ -1,11 +1,7 @@
-use Rattle.std.proofs.Common.{◌≡◌, ◌<◌, ◌^◌, ℕ, List, length, ap, sym, ◌∙◌, refl, arith}
-use Rattle.std.proofs.lemmas.List.{length-map}
-use Rattle.wk_module.specs.declared.types.Func.{Func}
+use Rattle.std.proofs.Common.{◌≡◌, ap, sym, ◌∙◌, refl}
 use Rattle.wk_module.specs.Listed.{listed}
-use Rattle.wk_module.specs.NumberedLaws.{funcs_numbered, module_numbered_with}
 use Rattle.wk_module.specs.Sections.{SectionLists}
 use Rattle.wk_check.specs.SpacesLaws.{answers_of}
-use Rattle.wk_check.specs.Verdict.{func_verdict}
 use Rattle.wk_session.specs.Kept.{IsPending}
 use Rattle.wk_session.proofs.Lent.{lent, lent_is, numbered_lent, verdicts_few}
 use Rattle.wk_session.proofs.Works.{none_retyped}

@@ -1,22 +1,20 @@
-use Rattle.std.proofs.Common.{◌≡◌, ◌<◌, ◌+◌, ◌^◌, ℕ, ◌∙◌, sym, ap, subst, refl, arith, length, false, Ok, Err, count_by, [], ◌∷◌, ◌++◌, length-append}
+use Rattle.std.proofs.Common.{◌≡◌, ◌<◌, ◌^◌, ℕ, ◌∙◌, sym, ap, subst, refl, arith, length, Ok, [], ◌∷◌, ◌++◌, length-append}
 use Rattle.std.proofs.lemmas.Result.{err_from_is_err_and}
 use Rattle.std.proofs.lemmas.List.Sums.{count_by-le-length}
 use Rattle.wk_body.specs.Lengths.{limited}
 use Rattle.wk_module.specs.declared.types.FuncType.{FuncType}
-use Rattle.wk_module.specs.declared.types.Parts.{Parts}
 use Rattle.wk_module.specs.Changes.{with_type}
 use Rattle.wk_module.specs.NumberedLaws.{funcs_numbered}
 use Rattle.wk_module.specs.Sections.{TypeSection}
-use Rattle.wk_module.specs.Shape.{settle, IsFormed}
+use Rattle.wk_module.specs.Shape.{settle}
 use Rattle.wk_module.specs.ShapeLaws.{types_formed}
 use Rattle.wk_module.specs.Types.{written_functype}
 use Rattle.wk_module.specs.Writing.{encoded, list_contents}
 use Rattle.wk_check.specs.SpacesLaws.{answers_of}
 use Rattle.wk_session.specs.declared.edit.Edit.TheVariants as edits
 use Rattle.wk_session.specs.declared.edit.Work.{Work}
-use Rattle.wk_session.specs.declared.cache.Cache.{Cache}
 use Rattle.wk_session.specs.Dependents.{is_retyped_in}
-use Rattle.wk_session.specs.Kept.{IsKept, Leads}
+use Rattle.wk_session.specs.Kept.{Leads}
 use Rattle.wk_session.specs.Longer.{IsLonger}
 use Rattle.wk_session.proofs.Leading.{accepted}
 use Rattle.wk_session.proofs.LongerLists.{alone_len, type_longer}

@@ -1,13 +1,10 @@
-use Rattle.std.proofs.Common.{◌≡◌, ◌∙◌, length, ap, arith}
-use Rattle.std.proofs.lemmas.List.{length-map}
+use Rattle.std.proofs.Common.{◌≡◌, ◌∙◌, length}
 use Rattle.std.proofs.lemmas.Result.{err_from_is_err_and}
 use Rattle.wk_module.specs.Changes.{with_func}
 use Rattle.wk_module.specs.Listed.{listed}
-use Rattle.wk_module.specs.NumberedLaws.{funcs_numbered}
 use Rattle.wk_module.specs.Shape.{IsFormed}
 use Rattle.wk_module.specs.Writing.{encoded}
 use Rattle.wk_check.specs.SpacesLaws.{answers_of}
-use Rattle.wk_check.specs.Verdict.{func_verdict}
 use Rattle.wk_session.specs.Kept.{IsPending}
 use Rattle.wk_session.proofs.EntryEdits.{func_formed_from, types_with}
 use Rattle.wk_session.proofs.Lent.{lent, lent_is, numbered_lent, verdicts_few}

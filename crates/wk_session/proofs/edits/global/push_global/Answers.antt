@@ -1,4 +1,4 @@
-use Rattle.std.proofs.Common.{◌≡◌, ◌+◌, ◌<◌, ◌^◌, ℕ, List, [], ◌∷◌, ◌++◌, arith, length, refl, sym, ap, subst, ◌∙◌}
+use Rattle.std.proofs.Common.{◌≡◌, ℕ, List, [], ◌∷◌, ◌++◌, arith, length, refl, sym, ap, subst, ◌∙◌}
 use Rattle.std.proofs.lemmas.Result.{err_from_is_err_and}
 use Rattle.wk_body.specs.Lengths.{limited}
 use Rattle.wk_module.specs.declared.types.GlobalDef.{GlobalDef}
@@ -10,8 +10,6 @@ use Rattle.wk_module.specs.Writing.{encoded}
 use Rattle.wk_check.specs.Spaces.{answer_in, spaces_of}
 use Rattle.wk_check.specs.SpacesLaws.{answers_of, global_grows}
 use Rattle.wk_module.specs.declared.types.Parts.{Parts}
-use Rattle.wk_session.specs.declared.cache.Cache.{Cache}
-use Rattle.wk_session.specs.Kept.{IsKept}
 use Rattle.wk_module.specs.NumberedLaws.{funcs_numbered}
 use Rattle.wk_session.proofs.Appending.{grows_before, item_grown, item_refused, judged_before, kept_before, known_before}
 use Rattle.wk_session.proofs.LongerLists.{global_longer, item_told, longer_by}

@@ -1,5 +1,4 @@
 use Rattle.std.proofs.Common.{◌≡◌, ℕ, Bool, map, ap, sym, subst, ◌∙◌, refl, arith, List, length, Some, Ok}
-use Rattle.std.proofs.lemmas.List.{length-map}
 use Rattle.std.proofs.lemmas.List.Sums.{count_by-le-length}
 use Rattle.std.proofs.lemmas.Result.{err_from_is_err_and}
 use Rattle.wk_module.specs.declared.types.Func.{Func}
@@ -18,7 +17,7 @@ use Rattle.wk_session.specs.declared.edit.Work.{Work}
 use Rattle.wk_session.specs.Dependents.{is_retyped, work_of}
 use Rattle.wk_session.specs.Edits.{import_place, made}
 use Rattle.wk_session.specs.Imported.{after_import, IsImportPlan}
-use Rattle.wk_session.specs.Kept.{IsKept, uses_of}
+use Rattle.wk_session.specs.Kept.{IsKept}
 use Rattle.wk_session.specs.Overlays.{with_items}
 use Rattle.wk_session.proofs.ImportEdits.{made_free}
 use Rattle.wk_session.proofs.ImportOutcome.{unplanned, laid_parts, laid_refs}

@@ -2,10 +2,8 @@ use Rattle.std.proofs.Common.{◌≡◌, ℕ, List, ap, sym, ◌∙◌, map, len
 use Rattle.std.proofs.lemmas.List.{length-map}
 use Rattle.std.proofs.lemmas.Result.{err_from_is_err_and}
 use Rattle.wk_body.specs.Lengths.{limited}
-use Rattle.wk_body.specs.LengthsLaws.{limited_some}
-use Rattle.wk_module.specs.declared.types.Func.{Func}
 use Rattle.wk_module.specs.Items.{desc_kind}
-use Rattle.wk_module.specs.Listed.{listed, listed_with}
+use Rattle.wk_module.specs.Listed.{listed}
 use Rattle.wk_module.specs.Moving.{moved_func, with_moved}
 use Rattle.wk_module.specs.NumberedLaws.{funcs_numbered}
 use Rattle.wk_module.specs.Sections.{SectionLists}
@@ -16,7 +14,7 @@ use Rattle.wk_session.specs.Edits.{import_place}
 use Rattle.wk_session.specs.Imported.{before_import, after_import}
 use Rattle.wk_session.specs.Kept.{IsPending}
 use Rattle.wk_session.specs.Overlays.{with_items}
-use Rattle.wk_session.specs.Pieces.{code_of, codes_size, entries_size, section_pieces}
+use Rattle.wk_session.specs.Pieces.{codes_size, entries_size, section_pieces}
 use Rattle.wk_session.proofs.EntryEdits.{codes_large, codes_len_is}
 use Rattle.wk_session.proofs.ImportEdits.{pending_lists}
 use Rattle.wk_session.proofs.Lent.{lent, numbered_lent, verdicts_few}

@@ -1,13 +1,9 @@
-use Rattle.std.proofs.Common.{◌≡◌, ◌<◌, ◌^◌, ℕ, List, Option, length, map, ap, subst, ◌∙◌, arith}
+use Rattle.std.proofs.Common.{◌≡◌, Option, subst, ◌∙◌}
 use Rattle.std.specs.Prelude.{IfSome}
-use Rattle.std.proofs.lemmas.List.{length-map}
-use Rattle.wk_module.specs.declared.types.Func.{Func}
-use Rattle.wk_module.specs.Listed.{listed, listed_with}
-use Rattle.wk_module.specs.NumberedLaws.{funcs_numbered, module_numbered_with}
+use Rattle.wk_module.specs.Listed.{listed}
 use Rattle.wk_typing.specs.declared.fault.Verdict.{Verdict}
 use Rattle.wk_check.specs.Spaces.{answer_in, spaces_of}
 use Rattle.wk_check.specs.SpacesLaws.{answers_of}
-use Rattle.wk_check.specs.Verdict.{func_verdict}
 use Rattle.wk_session.specs.Judged.{IsKnown}
 use Rattle.wk_session.specs.Kept.{IsPending}
 use Rattle.wk_session.proofs.Lent.{lent, lent_is, numbered_lent, verdicts_few}

@@ -1,7 +1,7 @@
-use Rattle.std.proofs.Common.{◌≡◌, ◌+◌, ℕ, ◌∙◌, ap, sym, map, List, count_by, zero-add}
+use Rattle.std.proofs.Common.{◌≡◌, ◌+◌, ℕ, ◌∙◌, ap, sym, map, count_by, zero-add}
 use Rattle.std.proofs.lemmas.Result.{IfOk-weaker, on_ok_weaker}
 use Rattle.wk_body.specs.declared.references.Ref.{Ref}
-use Rattle.wk_module.specs.Listed.{listed, listed_with}
+use Rattle.wk_module.specs.Listed.{listed}
 use Rattle.wk_module.specs.Sections.{SectionLists}
 use Rattle.wk_typing.specs.Answers.{Found}
 use Rattle.wk_check.specs.Spaces.{answer_in, spaces_of}
