@@ -9,9 +9,7 @@ use Rattle.wk_bytes.specs.Frames.{limit}
 use Rattle.wk_bytes.specs.Leb.{◌>>=◌}
 use Rattle.wk_bytes.specs.LebLaws.{IsBytes}
 use Rattle.wk_body.specs.declared.types.Profile.{Profile}
-use Rattle.wk_body.specs.Bodies.{BodyOf}
 use Rattle.wk_body.specs.Reading.{all_body_at, all_expr_at, whole_at}
-use Rattle.wk_body.specs.Tree.{Instrs}
 use Rattle.wk_module.specs.declared.types.Custom.{Custom}
 use Rattle.wk_module.specs.declared.types.Export.{Export}
 use Rattle.wk_module.specs.declared.types.Func.{Func}
@@ -30,7 +28,7 @@ use Rattle.wk_typing.specs.Finds.{ValidFinds}
 use Rattle.wk_session.specs.declared.edit.Edit.{Edit}
 use Rattle.wk_session.specs.declared.edit.Edit.TheVariants as edits
 use Rattle.wk_session.specs.declared.edit.EditFault.{EditFault}
-use Rattle.wk_session.specs.declared.edit.EditFault.TheVariants.{NoSuchFunction, NoSuchExport, NoSuchCustom, IndexOverflow, TooLarge, BadBytes, WouldBreak}
+use Rattle.wk_session.specs.declared.edit.EditFault.TheVariants.{NoSuchCustom, IndexOverflow, TooLarge, WouldBreak}
 use Rattle.wk_session.specs.declared.edit.EditFault.TheVariants.{Memory}
 use Rattle.wk_session.specs.Edits.{fitting, from_bytes, import_place, entry_of, body_put, with_exports, is_named, without_customs, with_bytes, custom_put}
 use Rattle.wk_session.specs.Edits.{with_custom, without_all_customs, lasting, made}

@@ -27,7 +27,6 @@ use Rattle.wk_session.specs.declared.edit.Edit.TheVariants as edits
 use Rattle.wk_draft.specs.Steps.{edit_room}
 use Rattle.wk_draft.proofs.SectionGrowth.{bodies_of, short_sum, short_eighth, short_five, list_section, pushed_section, changed_section, only}
 use Rattle.wk_draft.proofs.SectionGrowth.{length-encoded_more}
-use Rattle.wk_draft.proofs.SketchTypes.{types_of}
 
 -- by how many bytes a section is longer with one more item of that many bytes
 abbrev pushed_by : ℕ → ℕ
