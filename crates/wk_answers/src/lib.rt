@@ -8,6 +8,7 @@
 //!   [`list_summary_parts`] is the same of a module whose bodies were not kept, where [`list_bodies`] says that no part tells of them.
 //! - [`validate`] is the verdict line of the module that the bytes spell in a profile, or the line of their first fault, with the
 //!   status (`specs/Validation`). That it judges by `judge_bytes`, and never holds that module whole, makes no difference to its clauses.
+//!   [`validate_with`] is the same with a `Validator`, whose room is kept from one module to the next: no answer depends on those before.
 #![tactic(auto)]
 
 mod dumping;
@@ -16,4 +17,4 @@ mod validation;
 
 pub use dumping::{list_bodies, list_parts, list_summary_parts};
 pub use listing::{Listing, list_sections};
-pub use validation::{Validation, validate};
+pub use validation::{Validation, validate, validate_with};

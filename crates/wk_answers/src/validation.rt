@@ -1,11 +1,14 @@
 //! Judging the module that bytes spell.
 ghost use Rattle.std.specs.Prelude.{◌≡◌, IfOk, string_bytes};
+ghost use Rattle.wk_body.specs.Reads.{Reads};
+ghost use Rattle.wk_module.specs.ListReading.{IsReading};
 ghost use Rattle.wk_module.specs.Reading.{module_at};
+ghost use Rattle.wk_check.specs.Spelled.{judged};
 ghost use Rattle.wk_answers.specs.Validation.{printed, status_of, Means};
 
 use std::alloc::Global;
-use wk_bytes::{OutOfMemory, ReadKind};
-use wk_check::{Verdict, judge_bytes};
+use wk_bytes::{OutOfMemory, ReadFault, ReadKind};
+use wk_check::{Validator, Verdict, judge_bytes};
 use wk_edit::{malformed_line, verdict_line};
 use wk_module::Profile;
 
@@ -18,17 +21,21 @@ pub struct Validation {
     pub status: u8,
 }
 
-/// Judges the module of a profile that the bytes spell.
-///
-/// # Errors
-///
-/// Want of memory.
-pub fn validate(alloc: Global, bytes: &[u8], profile: Profile) -> Result<Validation, OutOfMemory>
-    ensures line { IfOk result (λ v. string_bytes v.line ≡ printed (module_at profile bytes.now)) }
-    ensures means { IfOk result (λ v. Means profile bytes.now (string_bytes v.line) v.status) }
-    ensures status { IfOk result (λ v. v.status ≡ status_of (module_at profile bytes.now)) }
+// What is printed of a module that was judged, or of bytes that are no module.
+fn told(
+    alloc: Global,
+    _bytes: &[u8],
+    _profile: Profile,
+    verdict: Result<Verdict, ReadFault>,
+) -> Result<Validation, OutOfMemory>
+    requires exact { Reads (λ v. v) verdict (judged (module_at _profile _bytes.now)) }
+    requires is { IsReading _profile _bytes.now (module_at _profile _bytes.now) }
+    ensures line { IfOk result
+        (λ v. string_bytes v.line ≡ printed (module_at _profile _bytes.now)) }
+    ensures means { IfOk result (λ v. Means _profile _bytes.now (string_bytes v.line) v.status) }
+    ensures status { IfOk result (λ v. v.status ≡ status_of (module_at _profile _bytes.now)) }
 {
-    match judge_bytes(alloc, bytes, profile) {
+    match verdict {
         Ok(verdict) => {
             let status = match verdict {
                 Verdict::Valid => 0,
@@ -49,4 +56,38 @@ pub fn validate(alloc: Global, bytes: &[u8], profile: Profile) -> Result<Validat
             })
         }
     }
+}
+
+/// Judges the module of a profile that the bytes spell.
+///
+/// # Errors
+///
+/// Want of memory.
+pub fn validate(alloc: Global, bytes: &[u8], profile: Profile) -> Result<Validation, OutOfMemory>
+    ensures line { IfOk result (λ v. string_bytes v.line ≡ printed (module_at profile bytes.now)) }
+    ensures means { IfOk result (λ v. Means profile bytes.now (string_bytes v.line) v.status) }
+    ensures status { IfOk result (λ v. v.status ≡ status_of (module_at profile bytes.now)) }
+{
+    let verdict = judge_bytes(alloc, bytes, profile);
+    told(alloc, bytes, profile, verdict)
+}
+
+/// Judges the module of a profile that the bytes spell, as [`validate`] does, with room that is kept from one module to the next. The
+/// validator may be used again whatever this answered.
+///
+/// # Errors
+///
+/// Want of memory.
+pub fn validate_with(
+    validator: &mut Validator,
+    alloc: Global,
+    bytes: &[u8],
+    profile: Profile,
+) -> Result<Validation, OutOfMemory>
+    ensures line { IfOk result (λ v. string_bytes v.line ≡ printed (module_at profile bytes.now)) }
+    ensures means { IfOk result (λ v. Means profile bytes.now (string_bytes v.line) v.status) }
+    ensures status { IfOk result (λ v. v.status ≡ status_of (module_at profile bytes.now)) }
+{
+    let verdict = validator.judge_bytes(alloc, bytes, profile);
+    told(alloc, bytes, profile, verdict)
 }

@@ -6,3 +6,5 @@ pub mod Told
 pub mod Outputs
 -- What the answers mean, in terms of the grammars, the verdict and the main theorem.
 pub mod Meanings
+-- What a host holds of a validator from one call to the next.
+pub mod Handles

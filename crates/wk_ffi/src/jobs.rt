@@ -1,5 +1,5 @@
 //! What calls work out, before any of it is handed out.
-ghost use Rattle.std.specs.Prelude.{◌≡◌, ◌≢◌, [], All, IfErr, IfOk, OnOk, option_map};
+ghost use Rattle.std.specs.Prelude.{◌≡◌, ◌≢◌, [], All, IfErr, IfOk, OnOk, option_map, string_bytes};
 ghost use Rattle.wk_bytes.specs.Frames.{sections_of};
 ghost use Rattle.wk_bytes.specs.Stands.{ItemStands};
 ghost use Rattle.wk_module.specs.Reading.{module_at};
@@ -17,6 +17,7 @@ ghost use Rattle.wk_ffi.specs.Told.{
   malformed_told,
   outcome_told,
   sections_told,
+  status_told,
   strip_answer,
   strip_told,
   validation_told,
@@ -25,8 +26,9 @@ ghost use Rattle.wk_ffi.specs.Told.{
 use crate::asked::{flag_of, is_short, keep_of, owned, part_of, profile_of};
 use crate::code::{Answer, CallFault, Code};
 use std::alloc::Global;
-use wk_answers::{Listing, Validation, list_sections, validate};
+use wk_answers::{Listing, Validation, list_sections, validate, validate_with};
 use wk_bytes::{ReadFault, ReadKind, Sink, Text};
+use wk_check::Validator;
 use wk_edit::{edit_in, malformed_line};
 use wk_list::{Layout, Part, list};
 use wk_module::{EncodeFault, Module, Profile, read_in, reading_of_module};
@@ -58,6 +60,16 @@ fn of_malformed(alloc: Global, fault: &ReadFault) -> Result<Answer, CallFault>
     Ok(of_text(alloc, Code::Malformed, line.into_bytes()))
 }
 
+// Of a module that was judged, or of bytes that are no module.
+fn of_validation(alloc: Global, validation: Validation) -> Answer
+    ensures code { result.code ≡ status_told validation.status }
+    ensures bytes { result.bytes.items ≡ [] }
+    ensures text { result.text.items ≡ string_bytes validation.line }
+{
+    let Validation { line, status } = validation;
+    of_text(alloc, Code::of_status(status), line.into_bytes())
+}
+
 /// The verdict on a module.
 pub fn validation(alloc: Global, bytes: &[u8], profile: u32) -> Result<Answer, CallFault>
     ensures told { IsAnswer (validation_told profile bytes.now) result }
@@ -69,8 +81,26 @@ pub fn validation(alloc: Global, bytes: &[u8], profile: u32) -> Result<Answer, C
     if !is_short(bytes) {
         return Err(CallFault::Argument);
     }
-    let Validation { line, status } = validate(alloc, bytes, profile)?;
-    Ok(of_text(alloc, Code::of_status(status), line.into_bytes()))
+    Ok(of_validation(alloc, validate(alloc, bytes, profile)?))
+}
+
+/// The same by a validator that is kept, whatever it judged before.
+pub fn validation_with(
+    validator: &mut Validator,
+    alloc: Global,
+    bytes: &[u8],
+    profile: u32,
+) -> Result<Answer, CallFault>
+    ensures told { IsAnswer (validation_told profile bytes.now) result }
+    ensures means { OnOk result (ValidationMeans profile bytes.now) }
+{
+    let Some(profile) = profile_of(profile) else {
+        return Err(CallFault::Argument);
+    };
+    if !is_short(bytes) {
+        return Err(CallFault::Argument);
+    }
+    Ok(of_validation(alloc, validate_with(validator, alloc, bytes, profile)?))
 }
 
 /// The sections that stand in bytes.

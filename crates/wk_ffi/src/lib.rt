@@ -36,17 +36,24 @@
 mod asked;
 mod code;
 mod hand;
+mod handle;
 mod jobs;
 
 ghost use Rattle.std.specs.Prelude.{All};
 ghost use Rattle.wk_bytes.specs.Frames.{sections_of};
 ghost use Rattle.wk_bytes.specs.Stands.{ItemStands};
+ghost use Rattle.wk_ffi.specs.Handles.{handed_out, validator_at, IsNew};
 ghost use Rattle.wk_ffi.specs.Meanings.{EditMeans, ListMeans, StripMeans, ValidationMeans};
 ghost use Rattle.wk_ffi.specs.Outputs.{output, AnswersBoth, AnswersText, IsTold};
 ghost use Rattle.wk_ffi.specs.Told.{edit_told, list_told, sections_told, strip_told, validation_told};
+ghost use types.Logic.{sem};
 
+use crate::code::Code;
 use crate::hand::{hand_both, hand_text};
+use crate::handle::Handle;
 use std::alloc::Global;
+use std::ptr::null_mut;
+use wk_check::Validator;
 
 /// Judges the module that bytes spell: the text is its verdict, or the first fault of bytes that spell none. The code is `Fine`,
 /// `Invalid` or `Malformed`, or one of those of every call.
@@ -140,4 +147,57 @@ pub extern "C" fn wk_ffi_edit(
 {
     let answer = jobs::edit(alloc, bytes, script, keep_valid, profile);
     hand_both(answer, out, out_len, text, text_len)
+}
+
+/// Makes a validator on the heap, and hands out where it lies: `Fine`; or `NoMemory`, with null.
+#[unsafe(no_mangle)]
+pub extern "C" fn wk_validator_new(alloc: Global, validator: &mut *mut Handle) -> u32
+    ensures* memory { sem 𝓛 (handed_out alloc validator.new) }
+    ensures told { IsNew validator.new result }
+{
+    match handle::make(alloc) {
+        Some(made) => {
+            *validator = Box::into_raw(made) as *mut Handle;
+            Code::Fine.number()
+        }
+        None => {
+            *validator = null_mut();
+            Code::NoMemory.number()
+        }
+    }
+}
+
+/// Judges the module that bytes spell, as `wk_ffi_validate` does, with a validator of `wk_validator_new` that is not yet freed. What it
+/// judged before makes no difference, and after any answer, want of memory too, it judges on.
+#[unsafe(no_mangle)]
+pub unsafe extern "C" fn wk_validator_judge(
+    alloc: Global,
+    validator: *mut Handle,
+    bytes: &[u8],
+    profile: u32,
+    text: &mut [u8],
+    text_len: &mut usize,
+) -> u32
+    requires* { sem 𝓛 (validator_at alloc validator) }
+    ensures* memory { sem 𝓛 (validator_at alloc validator) }
+    ensures told { AnswersText (validation_told profile bytes.now)
+        (output text.old text.new text_len.new) result }
+    ensures means { IsTold result → ValidationMeans profile bytes.now }
+{
+    handle::judge(
+        &mut *(validator as *mut Validator),
+        alloc,
+        bytes,
+        profile,
+        text,
+        text_len,
+    )
+}
+
+/// Frees a validator of `wk_validator_new`, which is gone then.
+#[unsafe(no_mangle)]
+pub unsafe extern "C" fn wk_validator_free(alloc: Global, validator: *mut Handle)
+    requires* { sem 𝓛 (validator_at alloc validator) }
+{
+    handle::let_go(Box::from_raw(alloc, validator as *mut Validator));
 }
