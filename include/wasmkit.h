@@ -1,8 +1,8 @@
 /* wasmkit as a library: judges, lists, strips and edits WebAssembly 1.0 binary modules.
  *
  * Each call reads bytes that it is given, works all out, and only then writes to memory that it is given, but for lengths, which it
- * sets to 0 first. It keeps nothing, prints nothing, and touches no file. Calls with memory of their own may run at the same time in
- * several threads.
+ * sets to 0 first. It keeps nothing, but for the room of a validator, prints nothing, and touches no file. Calls with memory of their
+ * own may run at the same time in several threads; a validator serves one call at a time.
  *
  * An output is memory with a capacity, and a pointer to a length. The length that a call tells says how many bytes its answer has there:
  *
@@ -15,7 +15,8 @@
  * A pointer may be null where the length or capacity beside it is 0: so one asks what is needed. These arguments are bad, and any
  * call answers WASMKIT_BAD_ARGUMENT to them: null with another length or capacity, null for a length that is told, a length or
  * capacity above PTRDIFF_MAX, a module or script of more than 2,147,483,647 bytes, a number that no enum below has, a `keep_valid`
- * that is neither 0 nor 1, a name to keep that is not UTF-8, and an output that lies in what another argument points to.
+ * that is neither 0 nor 1, a name to keep that is not UTF-8, null for a validator or for where its pointer goes, and an output that
+ * lies in what another argument points to. That no output lies in a validator, no call can check.
  *
  * Link with libwk_ffi.a, and with the archive of the kit that passes its allocations on to malloc, realloc and free.
  */
@@ -63,6 +64,14 @@ uint32_t wk_ffi_edit(const uint8_t *bytes, size_t length, const uint8_t *script,
                      uint32_t profile, uint32_t keep_valid,
                      uint8_t *out, size_t out_capacity, size_t *out_length,
                      uint8_t *text, size_t text_capacity, size_t *text_length);
+
+/* What lies at the pointer of a validator is known to the library alone. */
+struct wasmkit_validator;
+
+uint32_t wk_validator_new(struct wasmkit_validator **validator);
+uint32_t wk_validator_judge(struct wasmkit_validator *validator, const uint8_t *bytes, size_t length, uint32_t profile,
+                            uint8_t *text, size_t text_capacity, size_t *text_length);
+void wk_validator_free(struct wasmkit_validator *validator);
 
 /* ---- What the calls check. */
 
@@ -165,6 +174,34 @@ static inline enum wasmkit_result wasmkit_edit(
     return (enum wasmkit_result)wk_ffi_edit(
         wasmkit_in(bytes), length, wasmkit_in(script), script_length, profile, keep_valid,
         out ? out : &none[0], out_capacity, out_length, text ? text : &none[1], text_capacity, text_length);
+}
+
+/* ---- A validator, for a host that judges many modules: what it takes to read and judge one is kept for the next. No answer depends
+ * on what was judged before. It is used by one thread at a time, may go on to another, and holds as much memory as those of its
+ * modules took that took most, until it is freed. */
+
+/* Makes a validator: WASMKIT_OK, or WASMKIT_NO_MEMORY, and then its pointer is null. */
+static inline enum wasmkit_result wasmkit_validator_new(struct wasmkit_validator **validator) {
+    if (!validator) return WASMKIT_BAD_ARGUMENT;
+    *validator = NULL;
+    return (enum wasmkit_result)wk_validator_new(validator);
+}
+
+/* Judges a module, and answers what wasmkit_validate does. The validator judges on after any answer, WASMKIT_NO_MEMORY too. */
+static inline enum wasmkit_result wasmkit_validator_judge(
+    struct wasmkit_validator *validator, const uint8_t *bytes, size_t length, uint32_t profile,
+    uint8_t *text, size_t text_capacity, size_t *text_length) {
+    struct wasmkit_span spans[] = {{bytes, length}, {text, text_capacity}, {text_length, sizeof(size_t)}};
+    uint8_t none;
+    if (text_length) *text_length = 0;
+    if (!validator || !wasmkit_can_call(spans, 1, 3)) return WASMKIT_BAD_ARGUMENT;
+    return (enum wasmkit_result)wk_validator_judge(
+        validator, wasmkit_in(bytes), length, profile, text ? text : &none, text_capacity, text_length);
+}
+
+/* Frees a validator, which is not used again. Of null it frees nothing. */
+static inline void wasmkit_validator_free(struct wasmkit_validator *validator) {
+    if (validator) wk_validator_free(validator);
 }
 
 #ifdef __cplusplus

@@ -91,7 +91,7 @@ def clauses_from(text, at):
 
 def functions_in(text, crate, owner, is_public):
     """The functions whose heads stand in this text: all of them, or those that are `pub`."""
-    pattern = re.compile(r"^[ \t]*(pub )?(?:const )?(?:extern \s*)?fn (\w+)", re.M)
+    pattern = re.compile(r"^[ \t]*(pub )?(?:const )?(?:unsafe )?(?:extern \s*)?fn (\w+)", re.M)
     for match in pattern.finditer(text):
         if not (match[1] or is_public):
             continue

@@ -2,18 +2,24 @@
  *
  *     validate PROFILE MODULE            sections MODULE            list PROFILE PART MODULE
  *     strip PROFILE KEEP MODULE          edit PROFILE KEEP_VALID MODULE SCRIPT
+ *     judge PROFILE BEFORE MODULE        a validator judges BEFORE and then MODULE, or MODULE alone where BEFORE is -
  *     bad                                each call with bad arguments
+ *     many MODULE MODULE MODULE MODULE   a validator judges these in turn, 100,000 times in all
  *
  * PROFILE, PART and KEEP_VALID are numbers, MODULE and SCRIPT files, and KEEP is a name, or - for none. Each call is made with no room at
- * all, with a byte less than it needs, with all that it needs and with more. What is wrong is printed after `wrong:`.
+ * all, with a byte less than it needs, with all that it needs and with more. Each judgement is made by a validator of its own, and by one
+ * that is kept from one line to the next. What is wrong is printed after `wrong:`.
  */
+#define _XOPEN_SOURCE 700
+#include <sys/resource.h>
+
 #include <stdio.h>
 #include <stdlib.h>
 #include <string.h>
 
 #include "wasmkit.h"
 
-enum { FILL = 0xA5, MORE = 7 };
+enum { FILL = 0xA5, MORE = 7, PAGE = 4, FEW = 1000, MANY = 100000 };
 
 struct bytes {
     uint8_t *at;
@@ -28,6 +34,9 @@ struct question {
 };
 
 static const char *asked = "";
+
+/* The validator that is kept from one line to the next. */
+static struct wasmkit_validator *kept;
 
 static void check(int is_right, const char *what) {
     if (!is_right) printf("wrong: %s: %s\n", asked, what);
@@ -60,6 +69,31 @@ static struct bytes load(const char *name) {
     return bytes;
 }
 
+static struct wasmkit_validator *new_validator(void) {
+    struct wasmkit_validator *validator;
+    if (wasmkit_validator_new(&validator) != WASMKIT_OK || !validator) exit(5);
+    return validator;
+}
+
+/* Judges with a new validator, behind another module where one is given, and looks that the one that is kept answers the same. */
+static enum wasmkit_result judged(const struct question *q, uint8_t *text, size_t text_capacity, size_t *text_length) {
+    struct wasmkit_validator *validator = new_validator();
+    uint8_t line[256], *again = filled(text_capacity);
+    size_t line_length, again_length = 99;
+    enum wasmkit_result result, other;
+    if (q->other.at) {
+        result = wasmkit_validator_judge(validator, q->other.at, q->other.length, q->profile, line, sizeof line, &line_length);
+        check(result <= WASMKIT_MALFORMED && line_length, "the module before has no verdict");
+    }
+    result = wasmkit_validator_judge(validator, q->module.at, q->module.length, q->profile, text, text_capacity, text_length);
+    wasmkit_validator_free(validator);
+    other = wasmkit_validator_judge(kept, q->module.at, q->module.length, q->profile, again, text_capacity, &again_length);
+    check(other == result && again_length == *text_length, "the validator that is kept answers otherwise");
+    check(!text_capacity || !memcmp(again, text, text_capacity), "the validator that is kept leaves another text");
+    free(again);
+    return result;
+}
+
 /* Makes the call with these capacities. */
 static enum wasmkit_result answer(const struct question *q, uint8_t *out, size_t out_capacity, size_t *out_length, uint8_t *text,
                                   size_t text_capacity, size_t *text_length) {
@@ -67,6 +101,7 @@ static enum wasmkit_result answer(const struct question *q, uint8_t *out, size_t
     size_t length = q->module.length, other_length = q->other.length;
     *out_length = 0;
     if (!strcmp(q->call, "validate")) return wasmkit_validate(at, length, q->profile, text, text_capacity, text_length);
+    if (!strcmp(q->call, "judge")) return judged(q, text, text_capacity, text_length);
     if (!strcmp(q->call, "sections")) return wasmkit_sections(at, length, text, text_capacity, text_length);
     if (!strcmp(q->call, "list")) return wasmkit_list(at, length, q->profile, q->number, text, text_capacity, text_length);
     if (!strcmp(q->call, "strip"))
@@ -112,6 +147,32 @@ static void run(const struct question *q) {
     try_room(q, 0, out_needed, text_needed, 1);
 }
 
+/* ---- memory */
+
+/* The most memory that the process had at one time, in KiB. */
+static long peak(void) {
+    struct rusage usage;
+    if (getrusage(RUSAGE_SELF, &usage)) exit(4);
+    return usage.ru_maxrss;
+}
+
+/* Has a new validator judge modules in turn, and looks that the process takes no more memory for many of them than for few. */
+static void try_many(const struct bytes *modules, size_t count) {
+    struct wasmkit_validator *validator = new_validator();
+    uint8_t text[256];
+    size_t i, text_length;
+    long few = 0;
+    for (i = 0; i < MANY; i++) {
+        const struct bytes *it = &modules[i % count];
+        enum wasmkit_result result = wasmkit_validator_judge(validator, it->at, it->length, i % 2, text, sizeof text, &text_length);
+        if (result > WASMKIT_MALFORMED) check(0, "no verdict");
+        if (i + 1 == FEW) few = peak();
+    }
+    if (peak() > few + 2 * PAGE) printf("wrong: %s: %ld KiB after %d judgements, %ld KiB after %d\n", asked, few, FEW, peak(), MANY);
+    wasmkit_validator_free(validator);
+    puts("result 0");
+}
+
 /* ---- bad arguments */
 
 static uint8_t module[8] = {0, 'a', 's', 'm', 1, 0, 0, 0};
@@ -139,6 +200,7 @@ static void try_long(void) {
     if (!vast) return;
     vast[0] = 0;
     REFUSED(wasmkit_validate(vast, long_one, 0, TEXT));
+    REFUSED(wasmkit_validator_judge(kept, vast, long_one, 0, TEXT));
     REFUSED(wasmkit_sections(vast, long_one, TEXT));
     REFUSED(wasmkit_list(vast, long_one, 0, 0, TEXT));
     REFUSED(wasmkit_strip(vast, long_one, 0, NULL, 0, OUT, TEXT));
@@ -149,6 +211,7 @@ static void try_long(void) {
 
 static void try_bad(void) {
     const size_t much = (size_t)PTRDIFF_MAX + 1, most = (size_t)-1;
+    struct wasmkit_validator *none = NULL;
     memset(out, FILL, sizeof out);
     memset(text, FILL, sizeof text);
     REFUSED(wasmkit_validate(NULL, 8, 0, TEXT));
@@ -194,6 +257,18 @@ static void try_bad(void) {
     REFUSED(wasmkit_edit(module, 8, NULL, 0, 0, 0, OUT, text, 64, NULL));
     REFUSED(wasmkit_edit(module, 8, text, 64, 0, 0, OUT, TEXT));
     REFUSED(wasmkit_edit(module, 8, module, 8, 0, 0, out, 64, &out_length, out + 63, 1, &text_length));
+    REFUSED(wasmkit_validator_new(NULL));
+    REFUSED(wasmkit_validator_judge(none, module, 8, 0, TEXT));
+    REFUSED(wasmkit_validator_judge(none, NULL, 8, 2, TEXT));
+    REFUSED(wasmkit_validator_judge(kept, NULL, 8, 0, TEXT));
+    REFUSED(wasmkit_validator_judge(kept, module, much, 0, TEXT));
+    REFUSED(wasmkit_validator_judge(kept, module, 8, 2, TEXT));
+    REFUSED(wasmkit_validator_judge(kept, module, 8, 0, NULL, 64, &text_length));
+    REFUSED(wasmkit_validator_judge(kept, module, 8, 0, text, most, &text_length));
+    REFUSED(wasmkit_validator_judge(kept, module, 8, 0, text, 64, NULL));
+    REFUSED(wasmkit_validator_judge(kept, module, 8, 0, module + 7, 1, &text_length));
+    REFUSED(wasmkit_validator_judge(kept, module, 8, 0, (uint8_t *)&text_length, sizeof text_length, &text_length));
+    wasmkit_validator_free(none);
     try_long();
     puts("result 6");
 }
@@ -204,6 +279,10 @@ static int read_question(const char *line, struct question *q) {
     memset(q, 0, sizeof *q);
     if (sscanf(line, "%15s", q->call) != 1) return 0;
     if (sscanf(line, "validate %u %255s", &q->profile, first) == 2) return q->module = load(first), 1;
+    if (sscanf(line, "judge %u %255s %255s", &q->profile, second, first) == 3) {
+        if (strcmp(second, "-")) q->other = load(second);
+        return q->module = load(first), 1;
+    }
     if (sscanf(line, "sections %255s", first) == 1) return q->module = load(first), 1;
     if (sscanf(line, "list %u %u %255s", &q->profile, &q->number, first) == 3) return q->module = load(first), 1;
     if (sscanf(line, "strip %u %255s %255s", &q->profile, second, first) == 3) {
@@ -217,15 +296,29 @@ static int read_question(const char *line, struct question *q) {
     return q->module = load(first), q->other = load(second), 1;
 }
 
+/* Reads the modules of a line that asks for many judgements, and has them made. */
+static void read_many(const char *line) {
+    char names[4][256];
+    struct bytes modules[4];
+    size_t i;
+    if (sscanf(line, "many %255s %255s %255s %255s", names[0], names[1], names[2], names[3]) != 4) exit(4);
+    for (i = 0; i < 4; i++) modules[i] = load(names[i]);
+    try_many(modules, 4);
+    for (i = 0; i < 4; i++) free(modules[i].at);
+}
+
 int main(void) {
     char line[1024];
     struct question q;
+    kept = new_validator();
     while (fgets(line, sizeof line, stdin)) {
         line[strcspn(line, "\n")] = 0;
         printf("== %s\n", line);
         asked = line;
         if (!strcmp(line, "bad")) {
             try_bad();
+        } else if (!strncmp(line, "many ", 5)) {
+            read_many(line);
         } else if (read_question(line, &q)) {
             run(&q);
             free(q.module.at), free(q.other.at);
@@ -233,5 +326,6 @@ int main(void) {
             puts("wrong: no call");
         }
     }
+    wasmkit_validator_free(kept);
     return 0;
 }

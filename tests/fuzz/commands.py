@@ -80,6 +80,10 @@ class Library:
     def __init__(self, path):
         self.calls, self.extended = ctypes.CDLL(path), False
         self.room = [self.ROOM, self.ROOM]
+        # One validator judges the modules of all cases.
+        self.validator = ctypes.c_void_p()
+        if self.calls.wk_validator_new(ctypes.byref(self.validator)):
+            raise Wrong("a validator: no memory")
 
     @property
     def profile(self):
@@ -87,7 +91,7 @@ class Library:
 
     def call(self, name, *arguments, outputs):
         """The status of a call, and the bytes of each of its outputs. Where one has no room, the call is made again with what it asks."""
-        function = getattr(self.calls, f"wk_ffi_{name}")
+        function = getattr(self.calls, f"wk_{name}")
         function.restype = ctypes.c_uint32
         given = [word for argument in arguments for word in words_of(argument)]
         for _ in range(2):
@@ -114,14 +118,18 @@ class Library:
         return status, text.decode(), None if status == 2 else data
 
     def validate(self, data):
-        return self.text("validate", data, self.profile)
+        told = self.text("ffi_validate", data, self.profile)
+        kept = self.text("validator_judge", self.validator, data, self.profile)
+        if told != kept:
+            raise Wrong(f"validate: {told}, and by a validator that judged before {kept}")
+        return told
 
     def sections(self, data):
-        return self.text("sections", data)
+        return self.text("ffi_sections", data)
 
     def objdump(self, data, parts):
         """The parts one behind the other, as the program prints them; of bytes that are no module their fault, which each part tells."""
-        told = [self.text("list", data, self.profile, PARTS.index(part)) for part in parts]
+        told = [self.text("ffi_list", data, self.profile, PARTS.index(part)) for part in parts]
         if any(status for status, _ in told):
             if len(set(told)) != 1:
                 raise Wrong(f"parts of a listing differ in their fault: {told}")
@@ -129,14 +137,16 @@ class Library:
         return 0, "".join(text for _, text in told)
 
     def strip(self, data):
-        return self.made("strip", data, self.profile, b"")
+        return self.made("ffi_strip", data, self.profile, b"")
 
     def edit(self, data, script, keep_valid):
-        return self.made("edit", data, script, self.profile, int(keep_valid))
+        return self.made("ffi_edit", data, script, self.profile, int(keep_valid))
 
 
 def words_of(argument):
-    """What a call takes for an argument: a number, or bytes and their length."""
+    """What a call takes for an argument: a number, a validator, or bytes and their length."""
+    if isinstance(argument, ctypes.c_void_p):
+        return [argument]
     if isinstance(argument, int):
         return [ctypes.c_uint32(argument)]
     return [ctypes.c_char_p(argument), ctypes.c_size_t(len(argument))]

@@ -1,9 +1,11 @@
 /* One call of the library in `in.wasm`, and by `edits`, between two allocations of agreed sizes (`refuse.c`).
  *
- *     embedded CALL PROFILE NUMBER     CALL is validate, sections, list, strip or edit; NUMBER is a part, or whether to keep valid
+ *     embedded CALL PROFILE NUMBER     CALL is validate, sections, list, strip, edit, new or judge; NUMBER is a part, whether to keep
+ *                                      valid, or whether the validator that judges has judged before
  *
  * It prints `fine`, `memory` where the call answers want of memory and leaves no length and no byte of an output changed, or
- * `wrong` and the result. */
+ * `wrong` and the result. Behind `new` and `judge` a validator judges the module once more, with no allocation refused: `fine` and
+ * `memory` say too that it answers what the call without a validator does. */
 #include "wasmkit.h"
 
 #include <stdio.h>
@@ -14,6 +16,7 @@ enum { ARM = 770001, DISARM = 770002, FILL = 0xA5, ROOM = 4096 };
 
 static uint8_t module[ROOM], script[ROOM], out[ROOM], text[ROOM];
 static size_t out_length, text_length;
+static struct wasmkit_validator *validator;
 
 /* The mark is used, so that no compiler leaves it out. */
 static void mark(size_t size) {
@@ -44,24 +47,44 @@ static enum wasmkit_result call(const char *name, uint32_t profile, uint32_t num
         return wasmkit_strip(
             module, length, profile, (const uint8_t *)"c", 1, out, ROOM, &out_length, text, ROOM, &text_length);
     }
+    if (!strcmp(name, "new")) return wasmkit_validator_new(&validator);
+    if (!strcmp(name, "judge")) return wasmkit_validator_judge(validator, module, length, profile, text, ROOM, &text_length);
     return wasmkit_edit(module, length, script, script_length, profile, number, out, ROOM, &out_length, text, ROOM, &text_length);
+}
+
+/* Whether the validator judges the module as the call without one does; where there is none, a new one. */
+static int judges_on(uint32_t profile, size_t length) {
+    static uint8_t wanted[ROOM], found[ROOM];
+    size_t wanted_length, found_length;
+    if (!validator && wasmkit_validator_new(&validator) != WASMKIT_OK) return 0;
+    return wasmkit_validate(module, length, profile, wanted, ROOM, &wanted_length)
+            == wasmkit_validator_judge(validator, module, length, profile, found, ROOM, &found_length)
+        && wanted_length && wanted_length == found_length && !memcmp(wanted, found, wanted_length);
 }
 
 int main(int count, char **words) {
     enum wasmkit_result result;
     size_t length = load("in.wasm", module), script_length = load("edits", script);
+    uint32_t profile, number;
+    int is_new, is_right;
     if (count != 4) return 2;
+    profile = (uint32_t)atol(words[2]), number = (uint32_t)atol(words[3]), is_new = !strcmp(words[1], "new");
+    if (!strcmp(words[1], "judge") && wasmkit_validator_new(&validator) != WASMKIT_OK) return 5;
+    if (validator && number && !judges_on(profile, length)) return 5;
     memset(out, FILL, ROOM);
     memset(text, FILL, ROOM);
     mark(ARM);
-    result = call(words[1], (uint32_t)atol(words[2]), (uint32_t)atol(words[3]), length, script_length);
+    result = call(words[1], profile, number, length, script_length);
     mark(DISARM);
-    if (result == WASMKIT_NO_MEMORY && !out_length && !text_length && is_untouched(out) && is_untouched(text)) {
+    is_right = !is_new || !validator == (result == WASMKIT_NO_MEMORY);
+    if (is_new || validator) is_right = is_right && judges_on(profile, length);
+    if (is_right && result == WASMKIT_NO_MEMORY && !out_length && !text_length && is_untouched(out) && is_untouched(text)) {
         puts("memory");
-    } else if ((result == WASMKIT_OK || result == WASMKIT_REFUSED) && out_length + text_length) {
+    } else if (is_right && (result == WASMKIT_OK || result == WASMKIT_REFUSED) && (out_length + text_length || is_new)) {
         puts("fine");
     } else {
         printf("wrong: result %d\n", (int)result);
     }
+    wasmkit_validator_free(validator);
     return 0;
 }

@@ -93,13 +93,13 @@ module _ {M : Type 1} {𝓤 : Ura M} {𝓛 : Logic 𝓤} {K : Type 0} {Γ : List
   pub made_out : K → (r : Made.Denot) (v : Val) → (v ≡ live 0 vnil → Seq K 𝓛 Γ G)
       → ((d : D E) (b o : ℕ) → v ≡ live 1 (vcons (word E heap_val b o) vnil) → Seq K 𝓛 (‵ ((B E).own_val d (word E heap_val b o ∷ [])) ∷ Γ) G)
       → Seq K 𝓛 (‵ (Made.own_val r (v ∷ [])) ∷ Γ) G
-  made_out t None v none some =
-      fpick t (λ us. fsplit t $ feq_l t (λ e. fpick t (λ vss. fsplit t $ feq_l t (λ e'. kit.drop t $ none (ap only e ∙ ap (λ (ws : List Val). live 0 (of_list ws)) e')))))
-  made_out t (Some d) v none some =
+  made_out t None v wanting there =
+      fpick t (λ us. fsplit t $ feq_l t (λ e. fpick t (λ vss. fsplit t $ feq_l t (λ e'. kit.drop t $ wanting (ap only e ∙ ap (λ (ws : List Val). live 0 (of_list ws)) e')))))
+  made_out t (Some d) v wanting there =
       fpick t (λ us. fsplit t $ feq_l t (λ e. fpick t (λ vss. fsplit t $ feq_l t (λ e'. fsplit t $ box_out E t d vss.0 (λ b o h at ws fits. move t (3 ∷ []) $ kit.drop t $
       move t (2 ∷ []) $ peeks t heap.the_row (Is heap.the_row) (shows 𝓛 heap.the_row) d.alloc (h ∷ []) (λ is.
       rewrite t 0 (λ (xs : List Val). ‵ (heap.the_row.own_val d.alloc xs)) (heap_Tells d.alloc (h ∷ []) is) refl $ move t (1 ∷ 2 ∷ 0 ∷ []) $ box_in E t d b o d.value at refl $
-      some d b o (ap only e ∙ ap (λ (xs : List Val). live 1 (of_list xs)) (e' ∙ ap (λ (xs : List Val). xs ++ []) (ws ∙ ap (λ (x : Val). word E x b o ∷ []) (ap only (heap_Tells d.alloc (h ∷ []) is)))))))))))
+      there d b o (ap only e ∙ ap (λ (xs : List Val). live 1 (of_list xs)) (e' ∙ ap (λ (xs : List Val). xs ++ []) (ws ∙ ap (λ (x : Val). word E x b o ∷ []) (ap only (heap_Tells d.alloc (h ∷ []) is)))))))))))
 
 -- ---- the codes of a call
 module _ {M : Type 1} {𝓤 : Ura M} (𝓛 : Logic 𝓤) where

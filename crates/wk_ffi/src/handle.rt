@@ -8,14 +8,19 @@ use crate::jobs;
 use std::alloc::Global;
 use wk_check::Validator;
 
-/// What C sees of a validator: that it lies somewhere. (No pointer to a type that holds a `Vec` goes to C.)
+/// What C sees of a validator: that it lies somewhere. (A pointer to a type that holds a `Vec` cannot go to C.)
 #[repr(C)]
 #[derive(Drop)]
 pub struct Handle {}
 
+// On the heap, where memory is not wanting. What C is handed may go on to another thread, so that this asks for `Send`.
+fn boxed<T: Drop + Send>(alloc: Global, value: T) -> Option<Box<T>> {
+    Box::new(alloc, value).ok()
+}
+
 /// A validator on the heap, where memory is not wanting.
 pub fn make(alloc: Global) -> Option<Box<Validator>> {
-    Box::new(alloc, Validator::new(alloc)).ok()
+    boxed(alloc, Validator::new(alloc))
 }
 
 /// Judges the module that bytes spell, and hands the text out.

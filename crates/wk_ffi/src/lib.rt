@@ -11,6 +11,9 @@
 //! No pointer is null, no length is above 9,223,372,036,854,775,807, and no output lies in what another argument points to: the
 //! language has no other slices. `include/wasmkit.h` checks all that of what a C program passes, and then calls these.
 //!
+//! For a host that judges many modules, [`wk_validator_new`] makes a validator that keeps its room from one module to the next. C holds
+//! its pointer, which goes to one call at a time, may go on to another thread, and is gone after [`wk_validator_free`].
+//!
 //! # What it promises
 //!
 //! Each call answers what a definition says that there is to tell (`specs/Told`: a code, the bytes of a module, a text), and hands it
@@ -29,6 +32,12 @@
 //!   that the bytes spell ([`wk_ffi_list`], `MeansListed`) or what `IsStripped` of `wk_strip` does ([`wk_ffi_strip`]), or that the bytes
 //!   spell no module and the fault stands in them, or what the main theorem does ([`wk_ffi_edit`], `IsReport`): their clauses `means`.
 //!   Sections that are listed lie in the bytes, and the fault behind them stands there ([`wk_ffi_sections`], `stands`).
+//! - [`wk_validator_judge`] has the clauses of [`wk_ffi_validate`], whatever its validator judged before, and leaves the validator where
+//!   it lies after any answer, want of memory too, so that it judges on.
+//! - [`wk_validator_new`] is `Fine` with a pointer that is not null, or `NoMemory` with null (`IsNew` of `specs/Handles`). With the pointer
+//!   the caller is given the memory of the validator and the right to free it (`validator_at`): [`wk_validator_judge`] asks for both and
+//!   gives them back, and [`wk_validator_free`] takes them. So it can be called once, and no call can follow it. That it frees the memory
+//!   no clause says: `tests/embed` looks that nothing is left.
 //! - No clause speaks of null, of lengths that no slice has and of outputs that lie in one another, since a slice has none of these:
 //!   the header checks them, and `tests/embed` tries them.
 #![tactic(auto)]
@@ -149,7 +158,7 @@ pub extern "C" fn wk_ffi_edit(
     hand_both(answer, out, out_len, text, text_len)
 }
 
-/// Makes a validator on the heap, and hands out where it lies: `Fine`; or `NoMemory`, with null.
+/// Makes a validator on the heap, and hands out where it lies: `Fine`. Where memory was wanting it is null: `NoMemory`.
 #[unsafe(no_mangle)]
 pub extern "C" fn wk_validator_new(alloc: Global, validator: &mut *mut Handle) -> u32
     ensures* memory { sem 𝓛 (handed_out alloc validator.new) }

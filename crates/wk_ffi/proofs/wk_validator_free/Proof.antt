@@ -1,7 +1,7 @@
 -- `wk_validator_free` makes the box of its pointer again, and lets it go.
-use Rattle.std.proofs.Common.{◌≡◌, List, [], ◌∷◌, refl, sym, ap, subst, ◌∙◌}
+use Rattle.std.proofs.Common.{List, [], ◌∷◌, refl, ap, ◌∙◌}
 use Rattle.std.proofs.raw_atomic.Walks.{proved}
-use Rattle.std.proofs.BoxSteps.Form.{D, B, R, word}
+use Rattle.std.proofs.BoxSteps.Form.{D, B, word}
 use Rattle.std.proofs.BoxSteps.Steps.{box_out, box_in}
 use Rattle.std.proofs.Handle.{heap_val, heap_Tells}
 use Rattle.std.proofs.impls.GlobalAllocator.TheImpl.Met as heap_met
@@ -11,14 +11,14 @@ use Rattle.std.specs.contracts.boxed.Box.from_raw as from_raw
 use Rattle.std.specs.contracts.impls.GlobalAllocator.TheImpl.{ghosts, dict}
 use base.Fraction.{full_share}
 use base.Logic.{emp, id⊢, never, fst∗}
-use base.Fml.{ftrue, fsep, flft}
+use base.Fml.{ftrue, flft}
 use prog.Wp.{WpFn}
 use mir.Val.{Val, vptr, vunit}
 use contract.BorrowLft.{◌⊑◌, ⊑_refl}
 use contract.Monad.{fact, fact_i}
 use contract.Running.{tables}
 use types.Logic.{sem}
-use types.Kit.{Item, ‵, raw, prop, ◌⊛◌, some, later, ◌$◌, ◌∵◌, !, qed, done, move, keep, drop, use0, use1, split, join, fsplit, fjoin, feq_i, feq_l, pick, await, regoal, rewrite, suffices}
+use types.Kit.{Item, ‵, raw, prop, ◌⊛◌, some, later, ◌$◌, ◌∵◌, !, qed, done, move, keep, drop, use0, use1, split, join, fjoin, feq_i, feq_l, pick, await, regoal, rewrite, suffices}
 use types.Run.{enter, of_opd, unit_lit, no_more, and_then, returns}
 use types.ByLocal.{alloc_all, pass_all, free_all, look_at, get, sets, lands_as}
 use denote.Builtin.{unit}
@@ -51,9 +51,9 @@ wk_validator_free_spec {M} 𝓤 𝓛 𝓜 𝓡 wired =
     let H = 𝓛.H in let 𝓣 = tables 𝓤 H 𝓜 𝓡 𝓡.env in let c = f.clauses 𝓛 𝓜.mem 𝓡.returns in let W = walk_of 𝓛 f.ended stayed c in
     let Made = triple_of 𝓛 (from_raw.signature V Z ghosts dict none) (from_raw.spec V Z ghosts dict none 𝓛 𝓜.mem 𝓡.returns) in
     let known = from_met.met 𝓤 𝓛 𝓜 𝓡 (code.calls-std_alloc::boxed::Box::from_raw 𝓡.env wired) V Z V_laws Z_laws ghosts dict none
-        (heap_met.passed 𝓡.env (code.calls-std_heap::GlobalAllocator::allocate 𝓡.env wired) (code.calls-std_heap::GlobalAllocator::deallocate 𝓡.env wired)
-        (code.calls-std_heap::GlobalAllocator::grow 𝓡.env wired) (code.calls-std_heap::GlobalAllocator::shrink 𝓡.env wired) M 𝓤 𝓛 𝓜 𝓡)
-        (glues "wk_ffi::Destruct++none::drop" 𝓡.env (code.calls-wk_ffi::Destruct++none::drop 𝓡.env wired) Z Z_laws M 𝓤 𝓛 𝓜 𝓡) in
+    (heap_met.passed 𝓡.env (code.calls-std_heap::GlobalAllocator::allocate 𝓡.env wired) (code.calls-std_heap::GlobalAllocator::deallocate 𝓡.env wired)
+    (code.calls-std_heap::GlobalAllocator::grow 𝓡.env wired) (code.calls-std_heap::GlobalAllocator::shrink 𝓡.env wired) M 𝓤 𝓛 𝓜 𝓡)
+    (glues "wk_ffi::Destruct++none::drop" 𝓡.env (code.calls-wk_ffi::Destruct++none::drop 𝓡.env wired) Z Z_laws M 𝓤 𝓛 𝓜 𝓡) in
     let G = triple_of 𝓛 g.signature (g.spec 𝓛 𝓜.mem 𝓡.returns) in
     let toks : Item 𝓤 = ‵ (flft V.lives full_share) ⊛ ‵ (flft Z.lives full_share) ⊛ ‵ ftrue in
     proved 𝓛 f.ended stayed c 𝓜 𝓡

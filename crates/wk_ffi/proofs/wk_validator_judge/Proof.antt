@@ -9,7 +9,6 @@ use base.Fml.{GName, ftrue, flft, flent}
 use prog.Wp.{WpFn}
 use mir.Syntax.{named}
 use mir.Val.{Val, vint, vptr}
-use mir.Raw.{raw as bare}
 use contract.Running.{tables}
 use types.Logic.{sem}
 use types.SemTy.{Body}
@@ -22,7 +21,7 @@ use denote.Builtin.{u8, u32, usize}
 use denote.Exit.{yes}
 use denote.Laws.{Is, shows}
 use denote.Lend.{lends_ref, ref_back}
-use denote.Memory.{lone, mem}
+use denote.Memory.{mem}
 use denote.Plain.{uint_vals, uint_Tells, uint_Lawful}
 use denote.RawPtr.{Ptr, RawPtr, block_ptr, null_ptr, ptr_val, in_a_block, rawptr_vals, rawptr_Tells}
 use denote.Ref.{MutRef, mut_vals, mut_Tells}
@@ -43,18 +42,37 @@ use Rattle.wk_ffi.proofs.wk_validator_judge.Statement.{statement}
 use Rattle.wk_ffi.proofs.wk_validator_judge.Code as code
 
 abbrev stayed : Stays f.ended.signature.params f.ended.kept
-stayed = (stay_dropped (plain (λ _. heap.the_row)) yes, (stay_dropped (plain (λ _. RawPtr)) yes,
-    (stay_dropped (shr_slice_of (0 ∷ []) tt (plain (λ _. u8))) yes, (stay_dropped (plain (λ _. u32)) yes,
-    (gave_slice (1 ∷ []) tt (plain (λ _. u8)), (gave_ref (2 ∷ []) tt (plain (λ _. usize)), tt))))))
+stayed = (
+  stay_dropped (plain (λ _. heap.the_row)) yes,
+  (
+    stay_dropped (plain (λ _. RawPtr)) yes,
+    (
+      stay_dropped (shr_slice_of (0 ∷ []) tt (plain (λ _. u8))) yes,
+      (
+        stay_dropped (plain (λ _. u32)) yes,
+        (gave_slice (1 ∷ []) tt (plain (λ _. u8)), (gave_ref (2 ∷ []) tt (plain (λ _. usize)), tt)),
+      ),
+    ),
+  ),
+)
 
 pub wk_validator_judge_spec : {M : Type 1} → statement M
 wk_validator_judge_spec 𝓤 𝓛 𝓜 𝓡 wired =
     let H = 𝓛.H in let 𝓣 = tables 𝓤 H 𝓜 𝓡 𝓡.env in let c = f.clauses 𝓛 𝓜.mem 𝓡.returns in let W = walk_of 𝓛 f.ended stayed c in
     let held = g.clauses 𝓛 𝓜.mem 𝓡.returns in let G = triple_of 𝓛 g.signature (g.spec 𝓛 𝓜.mem 𝓡.returns) in
-    proved 𝓛 f.ended stayed c 𝓜 𝓡
-    (Goes-dropped 𝓛 3 (plain (λ _. heap.the_row)) yes (λ κs x w. refl), (Goes-dropped 𝓛 3 (plain (λ _. RawPtr)) yes (λ κs x w. refl),
-    (Goes-dropped 𝓛 3 (shr_slice_of (0 ∷ []) tt (plain (λ _. u8))) yes (λ κs x w. refl), (Goes-dropped 𝓛 3 (plain (λ _. u32)) yes (λ κs x w. refl),
-    (Goes-gave_slice 𝓛 3 1 tt (plain (λ _. u8)), (Goes-gave_ref 𝓛 3 2 tt (plain (λ _. usize)), tt))))))
+    proved 𝓛 f.ended stayed c 𝓜 𝓡 (
+      Goes-dropped 𝓛 3 (plain (λ _. heap.the_row)) yes (λ κs x w. refl),
+      (
+        Goes-dropped 𝓛 3 (plain (λ _. RawPtr)) yes (λ κs x w. refl),
+        (
+          Goes-dropped 𝓛 3 (shr_slice_of (0 ∷ []) tt (plain (λ _. u8))) yes (λ κs x w. refl),
+          (
+            Goes-dropped 𝓛 3 (plain (λ _. u32)) yes (λ κs x w. refl),
+            (Goes-gave_slice 𝓛 3 1 tt (plain (λ _. u8)), (Goes-gave_ref 𝓛 3 2 tt (plain (λ _. usize)), tt)),
+          ),
+        ),
+      ),
+    )
     f.Key.name code.function (code.unfolded 𝓤 H 𝓜 𝓡 wired)
     (λ κs. ((λ _. heap_val ∷ []), (rawptr_vals, (shr_slice_vals, (uint_vals w32, (mut_slice_vals, (mut_vals, tt)))))))
     (λ κs. (heap_Tells, (rawptr_Tells, (shr_slice_Tells (named 0) κs.0 u8, (uint_Tells w32, (mut_slice_Tells (named 1) κs.1.0 u8, (mut_Tells (named 2) κs.1.1.0 usize, tt)))))))
@@ -70,8 +88,16 @@ wk_validator_judge_spec 𝓤 𝓛 𝓜 𝓡 wired =
     -- [the validator; what else is passed; the heap's handle; the tokens]
     in_a_block ! a.1.0 (validator_at a.0) (fst∗ 𝓤 (never 𝓤) (sem 𝓛 (token a.0 null_ptr))) (λ b o e.
     regoal ! (λ p. prop (WpFn 𝓤 H 𝓣.C 𝓣.Λ code.function (words p) (W.post (y p)))) e refl $
-    enter ! _ _ _ _ _ $ alloc_all ! (λ l. pass_all ! refl ((tt, ((tt, tt), tt)), ((tt, tt), (((shr_slice_Lawful 𝓛 (named 0) κs.0 u8).typed bytes _ are.1.1.0).0,
-    (((uint_Lawful 𝓛 w32).typed profile _ are.1.1.1.0).0, (((mut_slice_Lawful 𝓛 (named 1) κs.1.0 u8).typed text _ are.1.1.1.1.0).0, ((tt, tt), tt)))))) $
+    enter ! _ _ _ _ _ $ alloc_all ! (λ l. pass_all ! refl (
+      (tt, ((tt, tt), tt)),
+      (
+        (tt, tt),
+        (
+          ((shr_slice_Lawful 𝓛 (named 0) κs.0 u8).typed bytes _ are.1.1.0).0,
+          (((uint_Lawful 𝓛 w32).typed profile _ are.1.1.1.0).0, (((mut_slice_Lawful 𝓛 (named 1) κs.1.0 u8).typed text _ are.1.1.1.1.0).0, ((tt, tt), tt))),
+        ),
+      ),
+    ) $
     sets ! (of_opd ! (get ! refl)) refl (tt, tt) $ sets ! (addr ! (through ! refl (stop !))) refl (tt, tt) $
     sets ! (addr ! (from ! (fld ! refl (hop ! (look_in_at ! 5 (sub ! 0 refl (whole !))) (stop !))))) refl (tt, tt) $
     sets ! (agg ! (and_then ! (get ! refl) (and_then ! (get_in ! (fld ! refl (stop !)) (sub ! 1 refl (whole !))) (no_more !)))) refl ((mut_slice_Lawful 𝓛 (named 1) κs.1.0 u8).typed text _ are.1.1.1.1.0).0 $

@@ -2,7 +2,7 @@
 use Rattle.std.proofs.Common.{◌≡◌, ℕ, List, [], ◌∷◌, refl, ap, subst, ◌∙◌, lit<, inl, inr, w32}
 use Rattle.std.proofs.raw_atomic.Walks.{proved}
 use Rattle.std.proofs.alloc.Shapes.{after, head, arm_body}
-use Rattle.std.proofs.BoxSteps.Form.{D, B, word}
+use Rattle.std.proofs.BoxSteps.Form.{word}
 use Rattle.std.proofs.Handle.{heap_val, heap_Tells}
 use Rattle.std.proofs.impls.GlobalAllocator.TheImpl.Met as heap_met
 use Rattle.std.proofs.boxed.Box.into_raw.Met as into_met
@@ -12,9 +12,9 @@ use Rattle.std.specs.contracts.impls.GlobalAllocator.TheImpl.{ghosts, dict}
 use base.Fraction.{full_share}
 use base.Logic.{SProp, emp, id⊢, never, fst∗}
 use base.Fml.{ftrue, flft}
-use prog.Wp.{WpFn, Wp, Env, after_seq, at_return}
+use prog.Wp.{Wp, Env, after_seq, at_return}
 use mir.Syntax.{Body, named}
-use mir.Val.{Val, vptr, vnull, vnil, vcons}
+use mir.Val.{Val, vptr, vnull, vnil}
 use contract.BorrowLft.{◌⊑◌, ⊑_refl}
 use contract.Monad.{fact, fact_i}
 use contract.Running.{tables}
@@ -64,10 +64,10 @@ wk_validator_new_spec {M} 𝓤 𝓛 𝓜 𝓡 wired =
     let Number = triple_of 𝓛 number.signature (number.spec 𝓛 𝓜.mem 𝓡.returns) in
     let Opens = triple_of 𝓛 (into_raw.signature V Z ghosts dict none goes) (into_raw.spec V Z ghosts dict none goes 𝓛 𝓜.mem 𝓡.returns) in
     let opened = into_met.met 𝓤 𝓛 𝓜 𝓡 (code.calls-std_alloc::boxed::Box::into_raw 𝓡.env wired) V Z V_laws Z_laws ghosts dict none goes
-        (heap_met.passed 𝓡.env (code.calls-std_heap::GlobalAllocator::allocate 𝓡.env wired) (code.calls-std_heap::GlobalAllocator::deallocate 𝓡.env wired)
-        (code.calls-std_heap::GlobalAllocator::grow 𝓡.env wired) (code.calls-std_heap::GlobalAllocator::shrink 𝓡.env wired) M 𝓤 𝓛 𝓜 𝓡)
-        (glues "wk_ffi::Destruct++none::drop" 𝓡.env (code.calls-wk_ffi::Destruct++none::drop 𝓡.env wired) Z Z_laws M 𝓤 𝓛 𝓜 𝓡)
-        (goes_met 𝓤 𝓛 𝓜 𝓡 (code.calls-wk_ffi::wk_check++validator++Validator+Destruct::drop 𝓡.env wired)) in
+    (heap_met.passed 𝓡.env (code.calls-std_heap::GlobalAllocator::allocate 𝓡.env wired) (code.calls-std_heap::GlobalAllocator::deallocate 𝓡.env wired)
+    (code.calls-std_heap::GlobalAllocator::grow 𝓡.env wired) (code.calls-std_heap::GlobalAllocator::shrink 𝓡.env wired) M 𝓤 𝓛 𝓜 𝓡)
+    (glues "wk_ffi::Destruct++none::drop" 𝓡.env (code.calls-wk_ffi::Destruct++none::drop 𝓡.env wired) Z Z_laws M 𝓤 𝓛 𝓜 𝓡)
+    (goes_met 𝓤 𝓛 𝓜 𝓡 (code.calls-wk_ffi::wk_check++validator++Validator+Destruct::drop 𝓡.env wired)) in
     let T = into_raw.ended V Z ghosts dict none goes in let arms : Body = head (after 1 (code.function).body) in
     let toks : Item 𝓤 = ‵ (flft V.lives full_share) ⊛ ‵ (flft Z.lives full_share) ⊛ ‵ ftrue in
     proved 𝓛 f.ended stayed c 𝓜 𝓡 (Goes-dropped 𝓛 1 (plain (λ _. heap.the_row)) yes (λ κs x w. refl), (Goes-ref 𝓛 1 0 tt (plain (λ _. RawPtr)), tt))
@@ -77,8 +77,8 @@ wk_validator_new_spec {M} 𝓤 𝓛 𝓜 𝓡 wired =
     let y : W.Ghost = ((κs, qs, bounds, a, (heap_val ∷ [], (mut_vals at, tt))), tt) in let Post : Val → SProp 𝓤 = W.post y in
     let Ref = λ (p : Ptr). (MutRef (named 0) κ RawPtr).own_val (record at { now = p }) (mut_vals at) in
     let ends : (p : Ptr) (n : ℕ) (v : Val) → IsNew p n → Sq 𝓛 (‵ (u32.own_val n (v ∷ [])) ∷ ‵ (handed_out a.0 p) ∷ ‵ (Ref p) ∷ ‵ (flft κ q) ∷ []) (prop (Post v)) = λ p n v new.
-        suffices ! _ (ends_at 𝓛 f.ended stayed c y v n (tt, (p, tt)) (tt, (tt, tt))) $ use0 𝓛 (raw (fact 𝓤 (IsNew p n))) (fact_i 𝓤 (IsNew p n) (emp 𝓤) new) $ move ! (2 ∷ 0 ∷ []) $ join ! $
-        nothing ! $ move ! (3 ∷ 0 ∷ []) $ fjoin ! $ nothing ! $ fjoin ! $ move ! (0 ∷ 2 ∷ []) $ join ! $ nothing ! $ move ! (3 ∷ 0 ∷ []) $ join ! $ join ! $ join ! $ done ! in
+    suffices ! _ (ends_at 𝓛 f.ended stayed c y v n (tt, (p, tt)) (tt, (tt, tt))) $ use0 𝓛 (raw (fact 𝓤 (IsNew p n))) (fact_i 𝓤 (IsNew p n) (emp 𝓤) new) $ move ! (2 ∷ 0 ∷ []) $ join ! $
+    nothing ! $ move ! (3 ∷ 0 ∷ []) $ fjoin ! $ nothing ! $ fjoin ! $ move ! (0 ∷ 2 ∷ []) $ join ! $ nothing ! $ move ! (3 ∷ 0 ∷ []) $ join ! $ join ! $ join ! $ done ! in
     qed 𝓛 (((‵ (flft κ q) ⊛ ‵ ftrue) ⊛ ‵ (heap.the_row.own_val a.0 (heap_val ∷ [])) ⊛ ‵ (Ref at.now) ⊛ ‵ ftrue) ∷ ‵ ftrue ∷ []) ∵
     split ! $ split ! $ move ! (2 ∷ []) $ split ! $ move ! (1 ∷ []) $ split ! $ keep ! (2 ∷ 0 ∷ 3 ∷ []) $
     -- [the heap's handle; the place for the pointer; the token]
