@@ -77,7 +77,8 @@ goes_met {M} 𝓤 𝓛 𝓜 𝓡 wired =
     let world : World = record { M = M; 𝓤 = 𝓤; 𝓛 = 𝓛; 𝓜 = 𝓜; 𝓡 = 𝓡 } in
     let T : Ended = ended_of 0 kinds.ps kinds.r in
     let key : Callee = method goes 0 (layouts [] tt) in
-    glue_by V V_laws world goes 𝓡.env (λ κs a. Lasts T tt a) (λ κs a. lasts T tt a) (λ κs a x ws. Fit T (stays kinds.ps) tt a ws × reads.Learnt tt a x (at_exit T tt a ws))
+    glue_by V V_laws world goes 𝓡.env (λ κs a. Lasts T tt a) (λ κs a. lasts T tt a)
+    (λ κs a x ws. Fit T (stays kinds.ps) tt a ws × reads.Learnt tt a x (at_exit T tt a ws))
     (λ κs a. AllWithin 1 (κs.0, tt) (V.lives, tt) × Unit {0}) 0 tt (λ κs a h. ((h, tt), tt))
     (via_longer 𝓛 (Over 𝓛 𝓜 𝓡 𝓡.env) 1 (glue_ps V V_laws) r_unit (λ κs a. Lasts T tt a) (λ κs a. lasts T tt a)
     (λ κs a x ws. Fit T (stays kinds.ps) tt a ws × reads.Learnt tt a x (at_exit T tt a ws)) (λ κs a. AllWithin 1 (κs.0, tt) (V.lives, tt) × Unit {0})
@@ -94,12 +95,16 @@ module _ {M : Type 1} {𝓤 : Ura M} {𝓛 : Logic 𝓤} {K : Type 0} {Γ : List
       → ((d : D E) (b o : ℕ) → v ≡ live 1 (vcons (word E heap_val b o) vnil) → Seq K 𝓛 (‵ ((B E).own_val d (word E heap_val b o ∷ [])) ∷ Γ) G)
       → Seq K 𝓛 (‵ (Made.own_val r (v ∷ [])) ∷ Γ) G
   made_out t None v wanting there =
-      fpick t (λ us. fsplit t $ feq_l t (λ e. fpick t (λ vss. fsplit t $ feq_l t (λ e'. kit.drop t $ wanting (ap only e ∙ ap (λ (ws : List Val). live 0 (of_list ws)) e')))))
+      fpick t (λ us. fsplit t $ feq_l t (λ e. fpick t (λ vss. fsplit t $ feq_l t (λ e'. kit.drop t $
+      wanting (ap only e ∙ ap (λ (ws : List Val). live 0 (of_list ws)) e')))))
   made_out t (Some d) v wanting there =
-      fpick t (λ us. fsplit t $ feq_l t (λ e. fpick t (λ vss. fsplit t $ feq_l t (λ e'. fsplit t $ box_out E t d vss.0 (λ b o h at ws fits. move t (3 ∷ []) $ kit.drop t $
+      fpick t (λ us. fsplit t $ feq_l t (λ e. fpick t (λ vss. fsplit t $ feq_l t (λ e'. fsplit t $ box_out E t d vss.0 (λ b o h at ws fits. move t (3 ∷ []) $
+      kit.drop t $
       move t (2 ∷ []) $ peeks t heap.the_row (Is heap.the_row) (shows 𝓛 heap.the_row) d.alloc (h ∷ []) (λ is.
-      rewrite t 0 (λ (xs : List Val). ‵ (heap.the_row.own_val d.alloc xs)) (heap_Tells d.alloc (h ∷ []) is) refl $ move t (1 ∷ 2 ∷ 0 ∷ []) $ box_in E t d b o d.value at refl $
-      there d b o (ap only e ∙ ap (λ (xs : List Val). live 1 (of_list xs)) (e' ∙ ap (λ (xs : List Val). xs ++ []) (ws ∙ ap (λ (x : Val). word E x b o ∷ []) (ap only (heap_Tells d.alloc (h ∷ []) is)))))))))))
+      rewrite t 0 (λ (xs : List Val). ‵ (heap.the_row.own_val d.alloc xs)) (heap_Tells d.alloc (h ∷ []) is) refl $ move t (1 ∷ 2 ∷ 0 ∷ []) $
+      box_in E t d b o d.value at refl $
+      there d b o (ap only e ∙ ap (λ (xs : List Val). live 1 (of_list xs)) (e' ∙ ap (λ (xs : List Val). xs ++ []) (ws ∙ ap (λ (x : Val). word E x b o ∷ [])
+      (ap only (heap_Tells d.alloc (h ∷ []) is)))))))))))
 
 -- ---- the codes of a call
 module _ {M : Type 1} {𝓤 : Ura M} (𝓛 : Logic 𝓤) where
@@ -107,10 +112,12 @@ module _ {M : Type 1} {𝓤 : Ura M} (𝓛 : Logic 𝓤) where
   fine_made =
       qed 𝓛 [] ∵ nothing ! $ feq_i ! (List Val) [] [] refl $ fjoin ! $ fpack ! (Valss []) (in_a_row [] (owns [] tt) []) tt $
       feq_i ! (List Val) (live 0 vnil ∷ []) (live 0 vnil ∷ []) refl $ fjoin ! $
-      fpack ! (List Val) (tagged_with (form_of (shape code.the_type)) (form_of (shape code.the_type)).payload (code.the_type.to Fine) (live 0 vnil ∷ [])) [] $ done !
+      fpack ! (List Val) (tagged_with (form_of (shape code.the_type)) (form_of (shape code.the_type)).payload (code.the_type.to Fine)
+      (live 0 vnil ∷ [])) [] $ done !
 
   pub no_memory_made : ent 𝓤 (emp 𝓤) (sem 𝓛 (code.the_row.own_val NoMemory (live 5 vnil ∷ [])))
   no_memory_made =
       qed 𝓛 [] ∵ nothing ! $ feq_i ! (List Val) [] [] refl $ fjoin ! $ fpack ! (Valss []) (in_a_row [] (owns [] tt) []) tt $
       feq_i ! (List Val) (live 5 vnil ∷ []) (live 5 vnil ∷ []) refl $ fjoin ! $
-      fpack ! (List Val) (tagged_with (form_of (shape code.the_type)) (form_of (shape code.the_type)).payload (code.the_type.to NoMemory) (live 5 vnil ∷ [])) [] $ done !
+      fpack ! (List Val) (tagged_with (form_of (shape code.the_type)) (form_of (shape code.the_type)).payload (code.the_type.to NoMemory)
+      (live 5 vnil ∷ [])) [] $ done !

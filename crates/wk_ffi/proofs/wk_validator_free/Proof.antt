@@ -18,7 +18,8 @@ use contract.BorrowLft.{◌⊑◌, ⊑_refl}
 use contract.Monad.{fact, fact_i}
 use contract.Running.{tables}
 use types.Logic.{sem}
-use types.Kit.{Item, ‵, raw, prop, ◌⊛◌, some, later, ◌$◌, ◌∵◌, !, qed, done, move, keep, drop, use0, use1, split, join, fjoin, feq_i, feq_l, pick, await, regoal, rewrite, suffices}
+use types.Kit.{Item, ‵, raw, prop, ◌⊛◌, some, later, ◌$◌, ◌∵◌, !, qed, done, move, keep, drop, use0, use1, split, join, fjoin, feq_i, feq_l, pick, await}
+use types.Kit.{regoal, rewrite, suffices}
 use types.Run.{enter, of_opd, unit_lit, no_more, and_then, returns}
 use types.ByLocal.{alloc_all, pass_all, free_all, look_at, get, sets, lands_as}
 use denote.Builtin.{unit}
@@ -61,30 +62,39 @@ wk_validator_free_spec {M} 𝓤 𝓛 𝓜 𝓡 wired =
     f.Key.name code.function (code.unfolded 𝓤 H 𝓜 𝓡 wired)
     (λ κs. ((λ _. heap_val ∷ []), (rawptr_vals, tt))) (λ κs. (heap_Tells, (rawptr_Tells, tt))) (λ κs qs bounds a _ are.
     let y : Ptr → W.Ghost = λ p. ((κs, qs, bounds, (a.0, (p, tt)), (heap_val ∷ [], (rawptr_vals p, tt))), tt) in
-    qed 𝓛 ((‵ ftrue ⊛ ‵ (heap.the_row.own_val a.0 (heap_val ∷ [])) ⊛ ‵ (RawPtr.own_val a.1.0 (rawptr_vals a.1.0)) ⊛ ‵ ftrue) ∷ ‵ (validator_at a.0 a.1.0) ∷ []) ∵
+    qed 𝓛 ((‵ ftrue ⊛ ‵ (heap.the_row.own_val a.0 (heap_val ∷ [])) ⊛ ‵ (RawPtr.own_val a.1.0 (rawptr_vals a.1.0)) ⊛
+    ‵ ftrue) ∷ ‵ (validator_at a.0 a.1.0) ∷ []) ∵
     split ! $ drop ! $ split ! $ keep ! (2 ∷ 0 ∷ []) $
     -- [the validator; the heap's handle]
     in_a_block ! a.1.0 (validator_at a.0) (fst∗ 𝓤 (never 𝓤) (sem 𝓛 (token a.0 null_ptr))) (λ b o e.
     regoal ! (λ p. prop (WpFn 𝓤 H 𝓣.C 𝓣.Λ code.function (heap_val ∷ ptr_val p ∷ []) (W.post (y p)))) e refl $
     enter ! _ _ _ _ _ $ alloc_all ! (λ l. pass_all ! refl ((tt, ((tt, tt), tt)), ((tt, tt), tt)) $
     sets ! (of_opd ! (get ! refl)) refl (tt, tt) $
-    let z : Made.Ghost = (((V.lives, (Z.lives, tt)), (full_share, (full_share, tt)), tt, (a.0, (block_ptr b o, tt)), (heap_val ∷ [], (vptr b o ∷ [], tt))), tt) in
+    let z : Made.Ghost = (
+      ((V.lives, (Z.lives, tt)), (full_share, (full_share, tt)), tt, (a.0, (block_ptr b o, tt)), (heap_val ∷ [], (vptr b o ∷ [], tt))),
+      tt,
+    ) in
     use0 𝓛 (raw (fact 𝓤 (Z.lives ⊑ Z.lives))) (fact_i 𝓤 (Z.lives ⊑ Z.lives) (emp 𝓤) (⊑_refl Z.lives)) $ join ! $
     use0 𝓛 (raw (fact 𝓤 (V.lives ⊑ V.lives))) (fact_i 𝓤 (V.lives ⊑ V.lives) (emp 𝓤) (⊑_refl V.lives)) $ join ! $
     nothing ! $ feq_i ! (List Val) (vptr b o ∷ []) (vptr b o ∷ []) refl $ fjoin ! $ move ! (2 ∷ 0 ∷ []) $ fjoin ! $
-    nothing ! $ use0 𝓛 (‵ (flft Z.lives full_share)) (𝓛.lfts.lft-nil full_share) $ join ! $ use0 𝓛 (‵ (flft V.lives full_share)) (𝓛.lfts.lft-nil full_share) $ join ! $
+    nothing ! $ use0 𝓛 (‵ (flft Z.lives full_share)) (𝓛.lfts.lft-nil full_share) $ join ! $
+    use0 𝓛 (‵ (flft V.lives full_share)) (𝓛.lfts.lft-nil full_share) $ join ! $
     join ! $ join ! $ use1 𝓛 (raw (Made.pre z)) (id⊢ 𝓤 _) $
     calls_at ! (framed 𝓤 H 𝓜 𝓣) Made known z (and_then ! (get ! refl) (and_then ! (get ! refl) (no_more !))) (λ u.
-    use1 𝓛 (later (some (λ (r : D E). (toks ⊛ ‵ ((B E).own_val r (u ∷ []))) ⊛ raw (ensured 𝓛 (from_raw.ended V Z ghosts dict none) (from_raw.clauses V Z ghosts dict none 𝓛 𝓜.mem 𝓡.returns) z.0.0 z.0.3 z.1 r)))) (id⊢ 𝓤 _) $
+    use1 𝓛 (later (some (λ (r : D E). (toks ⊛ ‵ ((B E).own_val r (u ∷ []))) ⊛
+    raw (ensured 𝓛 (from_raw.ended V Z ghosts dict none) (from_raw.clauses V Z ghosts dict none 𝓛 𝓜.mem 𝓡.returns) z.0.0 z.0.3 z.1 r)))) (id⊢ 𝓤 _) $
     await ! tt $ pick ! (λ r. split ! $ move ! (1 ∷ []) $ drop ! $ split ! $ drop ! $
-    box_out E ! r (u ∷ []) (λ b' o' h at ws fits. move ! (2 ∷ []) $ peeks ! heap.the_row (Is heap.the_row) (shows 𝓛 heap.the_row) r.alloc (h ∷ []) (λ is. rewrite ! 0 (λ (us : List Val). ‵ (heap.the_row.own_val r.alloc us)) (heap_Tells r.alloc (h ∷ []) is) refl $
+    box_out E ! r (u ∷ []) (λ b' o' h at ws fits. move ! (2 ∷ []) $
+    peeks ! heap.the_row (Is heap.the_row) (shows 𝓛 heap.the_row) r.alloc (h ∷ [])
+    (λ is. rewrite ! 0 (λ (us : List Val). ‵ (heap.the_row.own_val r.alloc us)) (heap_Tells r.alloc (h ∷ []) is) refl $
     move ! (1 ∷ 2 ∷ 0 ∷ []) $ box_in E ! r b' o' r.value at refl $
     lands_as ! (ap only ws ∙ ap (λ (v : Val). word E v b' o') (ap only (heap_Tells r.alloc (h ∷ []) is))) refl (tt, (tt, (((tt, tt), tt), tt))) $
     -- [the box]
     let z' : G.Ghost = ((tt, tt, tt, (r, tt), (word E heap_val b' o' ∷ [], tt)), tt) in
     nothing ! $ move ! (1 ∷ 0 ∷ []) $ join ! $ nothing ! $ join ! $ nothing ! $ move ! (1 ∷ 0 ∷ []) $ join ! $ use1 𝓛 (raw (G.pre z')) (id⊢ 𝓤 _) $
     calls_at ! (framed 𝓤 H 𝓜 𝓣) G (met 𝓤 𝓛 𝓜 𝓡 (code.calls-wk_ffi::handle::let_go 𝓡.env wired)) z' (and_then ! (get ! refl) (no_more !)) (λ v.
-    use1 𝓛 (later (some (λ (x : Unit {0}). (‵ ftrue ⊛ ‵ (unit.own_val x (v ∷ []))) ⊛ raw (ensured 𝓛 g.ended (g.clauses 𝓛 𝓜.mem 𝓡.returns) tt (r, tt) tt x)))) (id⊢ 𝓤 _) $
+    use1 𝓛 (later (some (λ (x : Unit {0}). (‵ ftrue ⊛ ‵ (unit.own_val x (v ∷ []))) ⊛
+    raw (ensured 𝓛 g.ended (g.clauses 𝓛 𝓜.mem 𝓡.returns) tt (r, tt) tt x)))) (id⊢ 𝓤 _) $
     await ! tt $ pick ! (λ x. split ! $ split ! $ drop ! $ feq_l ! (λ is_unit. drop ! $ lands_as ! (ap only is_unit) refl (tt, tt) $
     sets ! (of_opd ! (unit_lit !)) refl (tt, tt) $ returns ! (look_at ! 0 refl) $ free_all ! refl $
     suffices ! _ (ends_at 𝓛 f.ended stayed c (y (block_ptr b o)) vunit tt (tt, (tt, tt)) (tt, (tt, tt))) $
