@@ -176,9 +176,9 @@ static inline enum wasmkit_result wasmkit_edit(
         out ? out : &none[0], out_capacity, out_length, text ? text : &none[1], text_capacity, text_length);
 }
 
-/* ---- A validator, for a host that judges many modules: what it takes to read and judge one is kept for the next. No answer depends
- * on what was judged before. It is used by one thread at a time, may go on to another, and holds as much memory as those of its
- * modules took that took most, until it is freed. */
+/* ---- A validator, for a host that judges many modules: the room in which one is read and judged is kept for the next. No answer
+ * depends on what was judged before. It is used by one thread at a time, and may go on to another, as by a lock. Until it is freed it
+ * keeps of each kind of room as much as the module took that took most of it. */
 
 /* Makes a validator: WASMKIT_OK, or WASMKIT_NO_MEMORY, and then its pointer is null. */
 static inline enum wasmkit_result wasmkit_validator_new(struct wasmkit_validator **validator) {
