@@ -8,8 +8,9 @@ use crate::module::{Flaws, Shape, Workshop};
 use crate::pool::{Lengths, Pool, body_of};
 use crate::script::Script;
 use std::alloc::Global;
-use wk_answers::{list_parts, validate};
+use wk_answers::{Validation, list_parts, validate, validate_with};
 use wk_bytes::{Out, OutOfMemory, Sink, Text};
+use wk_check::Validator;
 use wk_edit::edit;
 use wk_list::{Layout, Part};
 use wk_module::{Module, Profile, read_in};
@@ -22,6 +23,8 @@ pub(crate) enum Job {
     Judge,
     /// Judging thousands of small modules, of which a tenth have a byte changed.
     Plugins,
+    /// Judging the same by one validator, which keeps its room from one to the next.
+    Host,
     /// A few edits of linked modules.
     Edit,
     /// Thousands of edits of one module, and the mending of an invalid one.
@@ -33,9 +36,10 @@ pub(crate) enum Job {
 }
 
 /// All jobs.
-pub(crate) const JOBS: [Job; 6] = [
+pub(crate) const JOBS: [Job; 7] = [
     Job::Judge,
     Job::Plugins,
+    Job::Host,
     Job::Edit,
     Job::Session,
     Job::Strip,
@@ -64,6 +68,7 @@ impl Job {
         match self {
             Job::Judge => "judge",
             Job::Plugins => "plugins",
+            Job::Host => "host",
             Job::Edit => "edit",
             Job::Session => "session",
             Job::Strip => "strip",
@@ -82,6 +87,7 @@ impl Job {
         match self {
             Job::Judge => bench.judge()?,
             Job::Plugins => bench.plugins()?,
+            Job::Host => bench.host()?,
             Job::Edit => bench.edit()?,
             Job::Session => bench.session()?,
             Job::Strip => bench.strip()?,
@@ -164,9 +170,13 @@ impl Bench {
 
     fn judge_made(&mut self) -> Result<(), OutOfMemory> {
         let answer = validate(self.alloc, &self.workshop.bytes, Profile::Core)?;
+        self.add_answer(&answer);
+        Ok(())
+    }
+
+    fn add_answer(&mut self, answer: &Validation) {
         self.digest.add(answer.line.as_bytes());
         self.digest.add(&[answer.status]);
-        Ok(())
     }
 
     fn judge(&mut self) -> Result<(), OutOfMemory> {
@@ -228,23 +238,41 @@ impl Bench {
         Ok(body)
     }
 
+    // Makes the small module of a number. A byte of each tenth is changed.
+    fn make_plugin(&mut self, pool: &Pool, number: u32) -> Result<(), OutOfMemory> {
+        let funcs = self.draws.below(20).saturating_add(1);
+        let shape = Shape {
+            funcs,
+            types: self.draws.below(4),
+            exports: self.draws.below(3).saturating_add(1),
+            data: self.draws.below(200),
+            custom: self.draws.below(400),
+            flaws: Flaws::None,
+        };
+        self.workshop.make(pool, shape, &mut self.draws)?;
+        if number % 10 == 0 {
+            self.workshop.spoil(&mut self.draws);
+        }
+        Ok(())
+    }
+
     fn plugins(&mut self) -> Result<(), OutOfMemory> {
         let pool = self.small(Lengths::Short)?;
-        for n in 0..self.amount.of(60_000) {
-            let funcs = self.draws.below(20).saturating_add(1);
-            let shape = Shape {
-                funcs,
-                types: self.draws.below(4),
-                exports: self.draws.below(3).saturating_add(1),
-                data: self.draws.below(200),
-                custom: self.draws.below(400),
-                flaws: Flaws::None,
-            };
-            self.workshop.make(&pool, shape, &mut self.draws)?;
-            if n % 10 == 0 {
-                self.workshop.spoil(&mut self.draws);
-            }
+        for number in 0..self.amount.of(60_000) {
+            self.make_plugin(&pool, number)?;
             self.judge_made()?;
+        }
+        Ok(())
+    }
+
+    fn host(&mut self) -> Result<(), OutOfMemory> {
+        let pool = self.small(Lengths::Short)?;
+        let mut validator = Validator::new(self.alloc);
+        for number in 0..self.amount.of(60_000) {
+            self.make_plugin(&pool, number)?;
+            let module = &self.workshop.bytes;
+            let answer = validate_with(&mut validator, self.alloc, module, Profile::Core)?;
+            self.add_answer(&answer);
         }
         Ok(())
     }

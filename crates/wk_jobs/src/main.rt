@@ -1,6 +1,6 @@
 //! The jobs that users of wasmkit wait for, to be timed: each makes its inputs from a seed, and prints a digest of all answers.
 //!
-//! - `wk_jobs JOB SEED` does a job, of `judge`, `plugins`, `edit`, `session`, `strip` and `list`.
+//! - `wk_jobs JOB SEED` does a job, of `judge`, `plugins`, `host`, `edit`, `session`, `strip` and `list`.
 //! - `wk_jobs` does a hundredth of each, which is a short run.
 #![tactic(auto)]
 
