@@ -35,7 +35,7 @@ use denote.Triple.Spec.{triple_of}
 use denote.Triple.Table.{framed}
 use denote.Triple.Walked.{Stays, walk_of, stay_dropped, Goes-dropped, ends_at}
 use Rattle.wk_ffi.proofs.Destruct++none.drop.Code as no_drop
-use Rattle.wk_ffi.proofs.Boxes.{E, V, Z, V_laws, Z_laws, none}
+use Rattle.wk_ffi.proofs.Boxes.{E, V, Z, V_laws, Z_laws, idle}
 use Rattle.wk_ffi.specs.Handles.{validator_at, token}
 use Rattle.wk_ffi.specs.contracts.handle.let_go as g
 use Rattle.wk_ffi.proofs.handle.let_go.Met.{met}
@@ -50,8 +50,8 @@ pub wk_validator_free_spec : {M : Type 1} → statement M
 unfolding no_drop.code
 wk_validator_free_spec {M} 𝓤 𝓛 𝓜 𝓡 wired =
     let H = 𝓛.H in let 𝓣 = tables 𝓤 H 𝓜 𝓡 𝓡.env in let c = f.clauses 𝓛 𝓜.mem 𝓡.returns in let W = walk_of 𝓛 f.ended stayed c in
-    let Made = triple_of 𝓛 (from_raw.signature V Z ghosts dict none) (from_raw.spec V Z ghosts dict none 𝓛 𝓜.mem 𝓡.returns) in
-    let known = from_met.met 𝓤 𝓛 𝓜 𝓡 (code.calls-std_alloc::boxed::Box::from_raw 𝓡.env wired) V Z V_laws Z_laws ghosts dict none
+    let Made = triple_of 𝓛 (from_raw.signature V Z ghosts dict idle) (from_raw.spec V Z ghosts dict idle 𝓛 𝓜.mem 𝓡.returns) in
+    let known = from_met.met 𝓤 𝓛 𝓜 𝓡 (code.calls-std_alloc::boxed::Box::from_raw 𝓡.env wired) V Z V_laws Z_laws ghosts dict idle
     (heap_met.passed 𝓡.env (code.calls-std_heap::GlobalAllocator::allocate 𝓡.env wired) (code.calls-std_heap::GlobalAllocator::deallocate 𝓡.env wired)
     (code.calls-std_heap::GlobalAllocator::grow 𝓡.env wired) (code.calls-std_heap::GlobalAllocator::shrink 𝓡.env wired) M 𝓤 𝓛 𝓜 𝓡)
     (glues "wk_ffi::Destruct++none::drop" 𝓡.env (code.calls-wk_ffi::Destruct++none::drop 𝓡.env wired) Z Z_laws M 𝓤 𝓛 𝓜 𝓡) in
@@ -82,7 +82,7 @@ wk_validator_free_spec {M} 𝓤 𝓛 𝓜 𝓡 wired =
     join ! $ join ! $ use1 𝓛 (raw (Made.pre z)) (id⊢ 𝓤 _) $
     calls_at ! (framed 𝓤 H 𝓜 𝓣) Made known z (and_then ! (get ! refl) (and_then ! (get ! refl) (no_more !))) (λ u.
     use1 𝓛 (later (some (λ (r : D E). (toks ⊛ ‵ ((B E).own_val r (u ∷ []))) ⊛
-    raw (ensured 𝓛 (from_raw.ended V Z ghosts dict none) (from_raw.clauses V Z ghosts dict none 𝓛 𝓜.mem 𝓡.returns) z.0.0 z.0.3 z.1 r)))) (id⊢ 𝓤 _) $
+    raw (ensured 𝓛 (from_raw.ended V Z ghosts dict idle) (from_raw.clauses V Z ghosts dict idle 𝓛 𝓜.mem 𝓡.returns) z.0.0 z.0.3 z.1 r)))) (id⊢ 𝓤 _) $
     await ! tt $ pick ! (λ r. split ! $ move ! (1 ∷ []) $ drop ! $ split ! $ drop ! $
     box_out E ! r (u ∷ []) (λ b' o' h at ws fits. move ! (2 ∷ []) $
     peeks ! heap.the_row (Is heap.the_row) (shows 𝓛 heap.the_row) r.alloc (h ∷ [])

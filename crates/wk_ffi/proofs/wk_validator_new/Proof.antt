@@ -41,7 +41,7 @@ use denote.Triple.Spec.{triple_of}
 use denote.Triple.Table.{framed}
 use denote.Triple.Walked.{Stays, walk_of, stay_dropped, stay_ref, Goes-dropped, Goes-ref, ends_at}
 use Rattle.wk_ffi.proofs.Destruct++none.drop.Code as no_drop
-use Rattle.wk_ffi.proofs.Boxes.{E, V, Z, V_laws, Z_laws, none, goes, goes_met, Made, made_out, fine_made, no_memory_made}
+use Rattle.wk_ffi.proofs.Boxes.{E, V, Z, V_laws, Z_laws, idle, goes, goes_met, Made, made_out, fine_made, no_memory_made}
 use Rattle.wk_ffi.specs.Handles.{validator_at, token, handed_out, IsNew}
 use Rattle.wk_ffi.specs.Told.{code_number}
 use Rattle.wk_ffi.specs.declared.code.Code.TheVariants.{Fine, NoMemory}
@@ -63,13 +63,13 @@ wk_validator_new_spec {M} 𝓤 𝓛 𝓜 𝓡 wired =
     let H = 𝓛.H in let 𝓣 = tables 𝓤 H 𝓜 𝓡 𝓡.env in let c = f.clauses 𝓛 𝓜.mem 𝓡.returns in let W = walk_of 𝓛 f.ended stayed c in
     let Make = triple_of 𝓛 make.signature (make.spec 𝓛 𝓜.mem 𝓡.returns) in
     let Number = triple_of 𝓛 number.signature (number.spec 𝓛 𝓜.mem 𝓡.returns) in
-    let Opens = triple_of 𝓛 (into_raw.signature V Z ghosts dict none goes) (into_raw.spec V Z ghosts dict none goes 𝓛 𝓜.mem 𝓡.returns) in
-    let opened = into_met.met 𝓤 𝓛 𝓜 𝓡 (code.calls-std_alloc::boxed::Box::into_raw 𝓡.env wired) V Z V_laws Z_laws ghosts dict none goes
+    let Opens = triple_of 𝓛 (into_raw.signature V Z ghosts dict idle goes) (into_raw.spec V Z ghosts dict idle goes 𝓛 𝓜.mem 𝓡.returns) in
+    let opened = into_met.met 𝓤 𝓛 𝓜 𝓡 (code.calls-std_alloc::boxed::Box::into_raw 𝓡.env wired) V Z V_laws Z_laws ghosts dict idle goes
     (heap_met.passed 𝓡.env (code.calls-std_heap::GlobalAllocator::allocate 𝓡.env wired) (code.calls-std_heap::GlobalAllocator::deallocate 𝓡.env wired)
     (code.calls-std_heap::GlobalAllocator::grow 𝓡.env wired) (code.calls-std_heap::GlobalAllocator::shrink 𝓡.env wired) M 𝓤 𝓛 𝓜 𝓡)
     (glues "wk_ffi::Destruct++none::drop" 𝓡.env (code.calls-wk_ffi::Destruct++none::drop 𝓡.env wired) Z Z_laws M 𝓤 𝓛 𝓜 𝓡)
     (goes_met 𝓤 𝓛 𝓜 𝓡 (code.calls-wk_ffi::wk_check++validator++Validator+Destruct::drop 𝓡.env wired)) in
-    let T = into_raw.ended V Z ghosts dict none goes in let arms : Body = head (after 1 (code.function).body) in
+    let T = into_raw.ended V Z ghosts dict idle goes in let arms : Body = head (after 1 (code.function).body) in
     let toks : Item 𝓤 = ‵ (flft V.lives full_share) ⊛ ‵ (flft Z.lives full_share) ⊛ ‵ ftrue in
     proved 𝓛 f.ended stayed c 𝓜 𝓡 (Goes-dropped 𝓛 1 (plain (λ _. heap.the_row)) yes (λ κs x w. refl), (Goes-ref 𝓛 1 0 tt (plain (λ _. RawPtr)), tt))
     f.Key.name code.function (code.unfolded 𝓤 H 𝓜 𝓡 wired)
