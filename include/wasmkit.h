@@ -16,7 +16,7 @@
  * call answers WASMKIT_BAD_ARGUMENT to them: null with another length or capacity, null for a length that is told, a length or
  * capacity above PTRDIFF_MAX, a module or script of more than 2,147,483,647 bytes, a number that no enum below has, a `keep_valid`
  * that is neither 0 nor 1, a name to keep that is not UTF-8, null for a validator or for where its pointer goes, and an output that
- * lies in what another argument points to. That no output lies in a validator, no call can check.
+ * lies in what another argument points to. That nothing else lies in a validator, no call can check.
  *
  * Link with libwk_ffi.a, and with the archive of the kit that passes its allocations on to malloc, realloc and free.
  */
@@ -178,7 +178,7 @@ static inline enum wasmkit_result wasmkit_edit(
 
 /* ---- A validator, for a host that judges many modules: the room in which one is read and judged is kept for the next. No answer
  * depends on what was judged before. It is used by one thread at a time, and may go on to another, as by a lock. Until it is freed it
- * keeps of each kind of room as much as the module took that took most of it. */
+ * keeps as much of each kind of room as any module took: to give it back, free it and make another. */
 
 /* Makes a validator: WASMKIT_OK, or WASMKIT_NO_MEMORY, and then its pointer is null. */
 static inline enum wasmkit_result wasmkit_validator_new(struct wasmkit_validator **validator) {

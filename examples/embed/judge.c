@@ -2,11 +2,13 @@
  *
  *     judge FOLDER
  *
- * It prints a line for each, the name and the text of the verdict. The status is 0 where all are valid, and else 1. */
+ * It prints a line for each, the name and the text of the verdict. What is no regular file, and what has a dot in front, is passed over.
+ * The status is 0 where all are valid and else 1; 3 where the words are others, 4 where a file can't be read, 5 where memory is wanting. */
 #define _POSIX_C_SOURCE 200809L
 #include <dirent.h>
 #include <stdio.h>
 #include <stdlib.h>
+#include <sys/stat.h>
 
 #include "wasmkit.h"
 
@@ -36,16 +38,18 @@ int main(int argc, char **argv) {
         if (name[0] != '.') {
             char path[4096];
             enum wasmkit_result result;
-            if (snprintf(path, sizeof path, "%s/%s", argv[1], name) >= (int)sizeof path) return 4;
+            struct stat about;
+            if (snprintf(path, sizeof path, "%s/%s", argv[1], name) >= (int)sizeof path || stat(path, &about)) return 4;
+            if (!S_ISREG(about.st_mode)) continue;
             bytes = load(path, bytes, &capacity, &length);
             result = wasmkit_validator_judge(validator, bytes, length, WASMKIT_CORE, text, sizeof text, &text_length);
             if (result != WASMKIT_OK && result != WASMKIT_INVALID && result != WASMKIT_MALFORMED) return 5;
             printf("%s: %.*s", name, (int)text_length, (const char *)text);
             if (result != WASMKIT_OK) status = 1;
         }
-        free(files[i]);
     }
     wasmkit_validator_free(validator);
+    for (i = 0; i < count; i++) free(files[i]);
     free(files), free(bytes);
     return status;
 }

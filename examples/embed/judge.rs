@@ -1,5 +1,6 @@
 //! Judges each file of a folder as a module, in the order of their names, with one validator: `judge FOLDER` prints a line for each, the
-//! name and the text of the verdict. The status is 0 where all are valid, and else 1.
+//! name and the text of the verdict. What is no regular file, and what has a dot in front, is passed over. The status is 0 where all are
+//! valid and else 1; 3 where the words are others, 5 where memory is wanting.
 use std::{env, fs, process::exit, ptr};
 
 const CORE: u32 = 0;
@@ -54,7 +55,7 @@ fn main() {
     let mut status = 0;
     for file in files {
         let name = file.file_name().unwrap().to_string_lossy();
-        if name.starts_with('.') {
+        if name.starts_with('.') || !file.is_file() {
             continue;
         }
         let (result, text) = validator.judge(&fs::read(&file).expect(&name));

@@ -19,7 +19,7 @@
 
 #include "wasmkit.h"
 
-enum { FILL = 0xA5, MORE = 7, PAGE = 4, FEW = 1000, MANY = 100000 };
+enum { FILL = 0xA5, MORE = 7, PAGE = 4, FEW = 1000, MANY = 100000, MOST = 4 };
 
 struct bytes {
     uint8_t *at;
@@ -156,16 +156,34 @@ static long peak(void) {
     return usage.ru_maxrss;
 }
 
-/* Has a new validator judge modules in turn, and looks that the process takes no more memory for many of them than for few. */
+/* A verdict, with its text. */
+struct verdict {
+    enum wasmkit_result result;
+    uint8_t text[256];
+    size_t length;
+};
+
+static int is_same(const struct verdict *one, const struct verdict *other) {
+    return one->result == other->result && one->length == other->length && !memcmp(one->text, other->text, one->length);
+}
+
+/* Has a new validator judge modules in turn, in both profiles, looks that each verdict is that of a call of its own, and that the process
+ * takes no more memory for many of them than for few. */
 static void try_many(const struct bytes *modules, size_t count) {
     struct wasmkit_validator *validator = new_validator();
-    uint8_t text[256];
-    size_t i, text_length;
+    struct verdict wanted[2 * MOST], told;
+    size_t i;
     long few = 0;
+    for (i = 0; i < 2 * count; i++) {
+        const struct bytes *it = &modules[i % count];
+        struct verdict *its = &wanted[i];
+        its->result = wasmkit_validate(it->at, it->length, i / count, its->text, sizeof its->text, &its->length);
+    }
     for (i = 0; i < MANY; i++) {
         const struct bytes *it = &modules[i % count];
-        enum wasmkit_result result = wasmkit_validator_judge(validator, it->at, it->length, i % 2, text, sizeof text, &text_length);
-        if (result > WASMKIT_MALFORMED) check(0, "no verdict");
+        uint32_t profile = i / count % 2;
+        told.result = wasmkit_validator_judge(validator, it->at, it->length, profile, told.text, sizeof told.text, &told.length);
+        if (!is_same(&told, &wanted[i % (2 * count)])) check(0, "another verdict than by a call of its own");
         if (i + 1 == FEW) few = peak();
     }
     if (peak() > few + 2 * PAGE) printf("wrong: %s: %ld KiB after %d judgements, %ld KiB after %d\n", asked, few, FEW, peak(), MANY);
@@ -209,9 +227,30 @@ static void try_long(void) {
     free(vast);
 }
 
-static void try_bad(void) {
+/* Arguments of a validator, which judges on behind them. */
+static void try_bad_validator(void) {
     const size_t much = (size_t)PTRDIFF_MAX + 1, most = (size_t)-1;
     struct wasmkit_validator *none = NULL;
+    REFUSED(wasmkit_validator_new(NULL));
+    REFUSED(wasmkit_validator_judge(none, module, 8, 0, TEXT));
+    REFUSED(wasmkit_validator_judge(none, NULL, 8, 2, TEXT));
+    REFUSED(wasmkit_validator_judge(kept, NULL, 8, 0, TEXT));
+    REFUSED(wasmkit_validator_judge(kept, module, much, 0, TEXT));
+    REFUSED(wasmkit_validator_judge(kept, module, 8, 2, TEXT));
+    REFUSED(wasmkit_validator_judge(kept, module, 8, 0, NULL, 64, &text_length));
+    REFUSED(wasmkit_validator_judge(kept, module, 8, 0, text, most, &text_length));
+    REFUSED(wasmkit_validator_judge(kept, module, 8, 0, text, 64, NULL));
+    REFUSED(wasmkit_validator_judge(kept, module, 8, 0, module + 7, 1, &text_length));
+    REFUSED(wasmkit_validator_judge(kept, module, 8, 0, (uint8_t *)&text_length, sizeof text_length, &text_length));
+    wasmkit_validator_free(none);
+    check(wasmkit_validator_judge(kept, module, 8, 0, TEXT) == WASMKIT_OK && text_length == 6 && !memcmp(text, "valid\n", 6),
+          "the validator does not judge on");
+    memset(text, FILL, sizeof text);
+    text_length = 0;
+}
+
+static void try_bad(void) {
+    const size_t much = (size_t)PTRDIFF_MAX + 1, most = (size_t)-1;
     memset(out, FILL, sizeof out);
     memset(text, FILL, sizeof text);
     REFUSED(wasmkit_validate(NULL, 8, 0, TEXT));
@@ -257,18 +296,7 @@ static void try_bad(void) {
     REFUSED(wasmkit_edit(module, 8, NULL, 0, 0, 0, OUT, text, 64, NULL));
     REFUSED(wasmkit_edit(module, 8, text, 64, 0, 0, OUT, TEXT));
     REFUSED(wasmkit_edit(module, 8, module, 8, 0, 0, out, 64, &out_length, out + 63, 1, &text_length));
-    REFUSED(wasmkit_validator_new(NULL));
-    REFUSED(wasmkit_validator_judge(none, module, 8, 0, TEXT));
-    REFUSED(wasmkit_validator_judge(none, NULL, 8, 2, TEXT));
-    REFUSED(wasmkit_validator_judge(kept, NULL, 8, 0, TEXT));
-    REFUSED(wasmkit_validator_judge(kept, module, much, 0, TEXT));
-    REFUSED(wasmkit_validator_judge(kept, module, 8, 2, TEXT));
-    REFUSED(wasmkit_validator_judge(kept, module, 8, 0, NULL, 64, &text_length));
-    REFUSED(wasmkit_validator_judge(kept, module, 8, 0, text, most, &text_length));
-    REFUSED(wasmkit_validator_judge(kept, module, 8, 0, text, 64, NULL));
-    REFUSED(wasmkit_validator_judge(kept, module, 8, 0, module + 7, 1, &text_length));
-    REFUSED(wasmkit_validator_judge(kept, module, 8, 0, (uint8_t *)&text_length, sizeof text_length, &text_length));
-    wasmkit_validator_free(none);
+    try_bad_validator();
     try_long();
     puts("result 6");
 }
@@ -298,13 +326,13 @@ static int read_question(const char *line, struct question *q) {
 
 /* Reads the modules of a line that asks for many judgements, and has them made. */
 static void read_many(const char *line) {
-    char names[4][256];
-    struct bytes modules[4];
+    char names[MOST][256];
+    struct bytes modules[MOST];
     size_t i;
-    if (sscanf(line, "many %255s %255s %255s %255s", names[0], names[1], names[2], names[3]) != 4) exit(4);
-    for (i = 0; i < 4; i++) modules[i] = load(names[i]);
-    try_many(modules, 4);
-    for (i = 0; i < 4; i++) free(modules[i].at);
+    if (sscanf(line, "many %255s %255s %255s %255s", names[0], names[1], names[2], names[3]) != MOST) exit(4);
+    for (i = 0; i < MOST; i++) modules[i] = load(names[i]);
+    try_many(modules, MOST);
+    for (i = 0; i < MOST; i++) free(modules[i].at);
 }
 
 int main(void) {

@@ -36,9 +36,9 @@
 //!   it lies after any answer, want of memory too, so that it judges on.
 //! - [`wk_validator_new`] is `Fine` with a pointer that is not null, or `NoMemory` with null (`IsNew` of `specs/Handles`). With the pointer
 //!   the caller is given the memory of the validator and the right to free it (`validator_at`): [`wk_validator_judge`] asks for both and
-//!   gives them back, and [`wk_validator_free`] takes them. So it can be called once, and no call can follow it. That it frees the memory
-//!   no clause says: `tests/embed` looks that nothing is left.
-//! - No clause speaks of null, of lengths that no slice has and of outputs that lie in one another, since a slice has none of these:
+//!   gives them back, and [`wk_validator_free`] takes them. So it can be called once for each pointer that was handed out, and no call with it
+//!   can follow. That it frees the memory, and that there is memory for the next call, no clause says: `tests/embed` and `tests/refusals` look.
+//! - But for a validator's pointer, no clause speaks of null, of lengths that no slice has and of outputs that lie in one another, since a slice has none of these:
 //!   the header checks them, and `tests/embed` tries them.
 #![tactic(auto)]
 
