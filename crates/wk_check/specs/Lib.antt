@@ -18,6 +18,8 @@ pub mod Verdict
 pub mod Valid
 -- The verdict of the module that bytes encode, or the fault of reading it.
 pub mod Spelled
+-- The context in which items are judged while they are read, section by section.
+pub mod Contexts
 -- ---- what keeps a verdict
 
 -- What references find in a module that gets one more item or one more import.
