@@ -6,6 +6,8 @@ pub mod Formats
 pub mod Types
 -- Imports, globals, exports, segments, code entries (5.5.5, 5.5.9, 5.5.10, 5.5.12 to 5.5.14).
 pub mod Items
+-- Imports and exports that are read without a copy of their names.
+pub mod InPlace
 -- ---- modules
 
 -- All but custom sections (5.5.2): what each holds, its grammar, reading and writing.

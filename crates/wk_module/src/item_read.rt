@@ -3,20 +3,22 @@
 ghost use Rattle.wk_body.specs.Reads.{Parses};
 ghost use Rattle.wk_bytes.specs.Span.{u32_at};
 ghost use Rattle.wk_body.specs.ValTypes.{valtype_at};
+ghost use Rattle.wk_body.specs.Vectors.{vector_at};
 ghost use Rattle.wk_module.specs.Formats.{coded_at};
 ghost use Rattle.wk_module.specs.Types.{flag_of, kind_of, limits_at, tabletype_at, globaltype_at, functype_at};
 ghost use Rattle.wk_module.specs.Items.{desc_at, import_at, global_at, export_at, elem_at, data_at};
 
 use crate::format::{
-    Datas, Elems, Exports, FuncTypes, Globals, Imports, Indices, Memories, Tables, ValTypes,
+    Datas, Elems, Exports, FuncTypes, Globals, Imports, Indices, Memories, Tables,
 };
+use crate::in_place::{ExportRef, read_export, read_sized_bytes};
 use crate::types::{
     DataSeg, Elem, Export, FuncType, GlobalDef, GlobalType, Import, ImportDesc, Kind, Limits,
 };
-use crate::vector_read::{Readable, read_bytes, read_name, read_this, read_vector};
+use crate::vector_read::{FIRST_ROOM, Readable, read_name, read_this, read_vector};
 use std::alloc::Global;
 use wk_body::{Profile, Scratch, ValType};
-use wk_bytes::{Cursor, Items, ReadFault, ReadKind};
+use wk_bytes::{Cursor, Items, ReadFault, ReadKind, Text};
 
 // A value type.
 #[tactic(auto, unfolding(wk_body::specs::ValTypes::valtype_at))]
@@ -25,6 +27,37 @@ fn read_valtype(cursor: &mut Cursor<'_>) -> Result<ValType, ReadFault>
 {
     let bad = cursor.fault(ReadKind::BadByte);
     ValType::from_byte(cursor.byte()?).ok_or(bad)
+}
+
+// Value types behind their count (5.1.3), in the room of a vector, whatever it holds. Like `read_vector` it makes room for a few once the first
+// is read.
+#[tactic(auto, using(crate::proofs::VectorReading::goes_on, crate::proofs::VectorReading::stops, crate::proofs::VectorReading::is_done), unfolding(wk_body::specs::Vectors::vector_at))]
+fn read_valtypes(room: Vec<ValType>, cursor: &mut Cursor<'_>) -> Result<Items<ValType>, ReadFault>
+    ensures { Parses (λ x. x) (vector_at valtype_at) cursor.old result cursor.new }
+{
+    let mut types = room;
+    types.clear();
+    let count = cursor.u32()?;
+    for _ in 0..count {
+        let ty = read_valtype(cursor)?;
+        if types.is_empty() {
+            types.reserve(count.min(FIRST_ROOM) as usize)?;
+        }
+        types.push(ty)?;
+    }
+    Ok(Items::from_vec(types))
+}
+
+/// Reads a function type (5.3.3) in the room of another.
+#[tactic(auto, unfolding(crate::specs::Formats::made_at, crate::specs::Formats::both_at, crate::specs::Formats::behind_at))]
+pub(crate) fn read_func_type(room: FuncType, cursor: &mut Cursor<'_>) -> Result<FuncType, ReadFault>
+    ensures { Parses (λ x. x) functype_at cursor.old result cursor.new }
+{
+    let FuncType { params, results } = room;
+    read_this(0x60, cursor)?;
+    let params = read_valtypes(params.into_vec(), cursor)?;
+    let results = read_valtypes(results.into_vec(), cursor)?;
+    Ok(FuncType { params, results })
 }
 
 // A byte that says no or yes.
@@ -40,9 +73,9 @@ fn read_flag(cursor: &mut Cursor<'_>) -> Result<bool, ReadFault>
     }
 }
 
-// The kind of an import or an export.
+/// The kind of an import or an export.
 #[tactic(auto, unfolding(crate::specs::Formats::coded_at))]
-fn read_kind(cursor: &mut Cursor<'_>) -> Result<Kind, ReadFault>
+pub(crate) fn read_kind(cursor: &mut Cursor<'_>) -> Result<Kind, ReadFault>
     ensures { Parses (λ x. x) (coded_at kind_of) cursor.old result cursor.new }
 {
     let bad = cursor.fault(ReadKind::BadByte);
@@ -55,9 +88,9 @@ fn read_kind(cursor: &mut Cursor<'_>) -> Result<Kind, ReadFault>
     }
 }
 
-// Limits (5.3.4).
+/// Limits (5.3.4).
 #[tactic(auto, unfolding(crate::specs::Formats::keyed_at, crate::specs::Formats::made_at, crate::specs::Formats::both_at, crate::specs::Types::bounds_at))]
-fn read_limits(cursor: &mut Cursor<'_>) -> Result<Limits, ReadFault>
+pub(crate) fn read_limits(cursor: &mut Cursor<'_>) -> Result<Limits, ReadFault>
     ensures { Parses (λ x. x) limits_at cursor.old result cursor.new }
 {
     let has_max = read_flag(cursor)?;
@@ -66,9 +99,9 @@ fn read_limits(cursor: &mut Cursor<'_>) -> Result<Limits, ReadFault>
     Ok(Limits { min, max })
 }
 
-// A table type (5.3.6), whose only element type is that of functions.
+/// A table type (5.3.6), whose only element type is that of functions.
 #[tactic(auto, unfolding(crate::specs::Formats::behind_at))]
-fn read_table_type(cursor: &mut Cursor<'_>) -> Result<Limits, ReadFault>
+pub(crate) fn read_table_limits(cursor: &mut Cursor<'_>) -> Result<Limits, ReadFault>
     ensures { Parses (λ x. x) tabletype_at cursor.old result cursor.new }
 {
     read_this(0x70, cursor)?;
@@ -85,31 +118,16 @@ fn read_global_type(cursor: &mut Cursor<'_>) -> Result<GlobalType, ReadFault>
     Ok(GlobalType { val, mutable })
 }
 
-// What is imported (5.5.5).
+/// What is imported (5.5.5).
 #[tactic(auto, unfolding(crate::specs::Formats::keyed_at, crate::specs::Formats::made_at, crate::specs::Items::desc_rest_at))]
-fn read_desc(cursor: &mut Cursor<'_>) -> Result<ImportDesc, ReadFault>
+pub(crate) fn read_desc(cursor: &mut Cursor<'_>) -> Result<ImportDesc, ReadFault>
     ensures { Parses (λ x. x) desc_at cursor.old result cursor.new }
 {
     match read_kind(cursor)? {
         Kind::Func => Ok(ImportDesc::Func(cursor.u32()?)),
-        Kind::Table => Ok(ImportDesc::Table(read_table_type(cursor)?)),
+        Kind::Table => Ok(ImportDesc::Table(read_table_limits(cursor)?)),
         Kind::Memory => Ok(ImportDesc::Memory(read_limits(cursor)?)),
         Kind::Global => Ok(ImportDesc::Global(read_global_type(cursor)?)),
-    }
-}
-
-impl Readable for ValTypes {
-    type Item = ValType;
-
-    ghost read_at = { λ profile. valtype_at };
-
-    fn read(
-        _alloc: Global,
-        _scratch: &mut Scratch,
-        _profile: Profile,
-        cursor: &mut Cursor<'_>,
-    ) -> Result<ValType, ReadFault> {
-        read_valtype(cursor)
     }
 }
 
@@ -118,17 +136,13 @@ impl Readable for FuncTypes {
 
     ghost read_at = { λ profile. functype_at };
 
-    #[tactic(auto, unfolding(crate::specs::Formats::made_at, crate::specs::Formats::both_at, crate::specs::Formats::behind_at))]
     fn read(
         alloc: Global,
-        scratch: &mut Scratch,
-        profile: Profile,
+        _scratch: &mut Scratch,
+        _profile: Profile,
         cursor: &mut Cursor<'_>,
     ) -> Result<FuncType, ReadFault> {
-        read_this(0x60, cursor)?;
-        let params = read_vector::<ValTypes>(alloc, scratch, profile, cursor)?;
-        let results = read_vector::<ValTypes>(alloc, scratch, profile, cursor)?;
-        Ok(FuncType { params, results })
+        read_func_type(FuncType::empty(alloc), cursor)
     }
 }
 
@@ -177,7 +191,7 @@ impl Readable for Tables {
         _profile: Profile,
         cursor: &mut Cursor<'_>,
     ) -> Result<Limits, ReadFault> {
-        read_table_type(cursor)
+        read_table_limits(cursor)
     }
 }
 
@@ -219,17 +233,18 @@ impl Readable for Exports {
 
     ghost read_at = { λ profile. export_at };
 
-    #[tactic(auto, unfolding(crate::specs::Formats::made_at, crate::specs::Formats::both_at))]
     fn read(
         alloc: Global,
         _scratch: &mut Scratch,
         _profile: Profile,
         cursor: &mut Cursor<'_>,
     ) -> Result<Export, ReadFault> {
-        let name = read_name(alloc, cursor)?;
-        let kind = read_kind(cursor)?;
-        let index = cursor.u32()?;
-        Ok(Export { name, kind, index })
+        let ExportRef { name, kind, index } = read_export(cursor)?;
+        Ok(Export {
+            name: Text::from_string(String::from_str(alloc, name)?),
+            kind,
+            index,
+        })
     }
 }
 
@@ -270,7 +285,7 @@ impl Readable for Datas {
     ) -> Result<DataSeg, ReadFault> {
         let memory = cursor.u32()?;
         let offset = scratch.next_expr(alloc, cursor, profile)?;
-        let bytes = read_bytes(cursor)?;
+        let bytes = read_sized_bytes(cursor)?;
         Ok(DataSeg {
             memory,
             offset,

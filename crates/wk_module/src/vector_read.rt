@@ -5,7 +5,7 @@ ghost use Rattle.wk_bytes.specs.Raw.{raw_view};
 ghost use Rattle.wk_bytes.specs.Span.{fault, name_at};
 ghost use Rattle.wk_body.specs.Reads.{Parses, Reads};
 ghost use Rattle.wk_body.specs.Vectors.{vector_at};
-ghost use Rattle.wk_module.specs.Formats.{coded_at, this_byte_at, bytes_at, all_at};
+ghost use Rattle.wk_module.specs.Formats.{coded_at, this_byte_at, all_at};
 ghost use Rattle.wk_module.specs.Reading.{section_end};
 
 use std::alloc::Global;
@@ -34,8 +34,8 @@ pub(crate) trait Readable {
         ensures { Parses (λ x. x) (read_at profile) cursor.old result cursor.new };
 }
 
-// For how many items room is made behind the first: short lists then ask for memory once.
-const FIRST_ROOM: u32 = 64;
+/// For how many items room is made behind the first: short lists then ask for memory once.
+pub(crate) const FIRST_ROOM: u32 = 64;
 
 /// Reads a count and as many items. Room for a few is made once the first is read; else it grows with the items and not with the count,
 /// which may be any number.
@@ -111,13 +111,4 @@ pub(crate) fn read_name(alloc: Global, cursor: &mut Cursor<'_>) -> Result<Text, 
 {
     let name = cursor.name()?;
     Ok(Text::from_string(String::from_str(alloc, name)?))
-}
-
-/// Reads a size and as many bytes.
-#[tactic(auto, unfolding(crate::specs::Formats::bytes_at))]
-pub(crate) fn read_bytes<'a>(cursor: &mut Cursor<'a>) -> Result<&'a [u8], ReadFault>
-    ensures { Parses (λ x. x.now) bytes_at cursor.old result cursor.new }
-{
-    let size = cursor.u32()?;
-    cursor.take(size)
 }

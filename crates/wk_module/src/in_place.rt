@@ -1,0 +1,106 @@
+//! Reading items where they stand: nothing is copied of a name, and nothing of some bytes.
+
+ghost use Rattle.wk_body.specs.Reads.{Parses};
+ghost use Rattle.wk_module.specs.Formats.{bytes_at};
+ghost use Rattle.wk_module.specs.InPlace.{import_desc_at, export_view};
+ghost use Rattle.wk_module.specs.Items.{export_at, global_at};
+ghost use Rattle.wk_module.specs.Types.{limits_at, tabletype_at};
+
+use crate::format::Globals;
+use crate::item_read::{read_desc, read_kind, read_limits, read_table_limits};
+use crate::types::{GlobalDef, ImportDesc, Kind, Limits};
+use crate::vector_read::Readable;
+use std::alloc::Global;
+use wk_body::{Profile, Scratch};
+use wk_bytes::{Cursor, ReadFault};
+
+/// An export (2.5.10) whose name is lent.
+#[derive(Clone, Copy, Debug)]
+pub struct ExportRef<'a> {
+    /// Its name.
+    pub name: &'a str,
+    /// What it exports.
+    pub kind: Kind,
+    /// The index in the space of its kind, which may be that of none.
+    pub index: u32,
+}
+
+/// Reads an import (5.5.5), and gives what is imported. Both of its names are read and let go. It takes no memory.
+///
+/// # Errors
+///
+/// The first fault, at its offset. The cursor may then stand anywhere.
+#[tactic(auto, unfolding(crate::specs::Formats::made_at, crate::specs::Formats::both_at))]
+pub fn read_import_desc(cursor: &mut Cursor<'_>) -> Result<ImportDesc, ReadFault>
+    ensures { Parses (λ d. d) import_desc_at cursor.old result cursor.new }
+{
+    let _from = cursor.name()?;
+    let _name = cursor.name()?;
+    read_desc(cursor)
+}
+
+/// Reads an export (5.5.10), and lends its name. It takes no memory.
+///
+/// # Errors
+///
+/// The first fault, at its offset. The cursor may then stand anywhere.
+#[tactic(auto, unfolding(crate::specs::Formats::made_at, crate::specs::Formats::both_at))]
+pub fn read_export<'a>(cursor: &mut Cursor<'a>) -> Result<ExportRef<'a>, ReadFault>
+    ensures { Parses export_view export_at cursor.old result cursor.new }
+{
+    let name = cursor.name()?;
+    let kind = read_kind(cursor)?;
+    let index = cursor.u32()?;
+    Ok(ExportRef { name, kind, index })
+}
+
+/// Reads a table type (5.3.6), and gives its limits. It takes no memory.
+///
+/// # Errors
+///
+/// The first fault, at its offset. The cursor may then stand anywhere.
+pub fn read_table_type(cursor: &mut Cursor<'_>) -> Result<Limits, ReadFault>
+    ensures { Parses (λ x. x) tabletype_at cursor.old result cursor.new }
+{
+    read_table_limits(cursor)
+}
+
+/// Reads a memory type (5.3.5), which is limits alone. It takes no memory.
+///
+/// # Errors
+///
+/// The first fault, at its offset. The cursor may then stand anywhere.
+pub fn read_memory_type(cursor: &mut Cursor<'_>) -> Result<Limits, ReadFault>
+    ensures { Parses (λ x. x) limits_at cursor.old result cursor.new }
+{
+    read_limits(cursor)
+}
+
+/// Reads a global (5.5.9). An expression of two tokens takes no memory.
+///
+/// # Errors
+///
+/// The first fault, at its offset, or `Memory` at 0. The cursor may then stand anywhere.
+pub fn read_global(
+    alloc: Global,
+    scratch: &mut Scratch,
+    profile: Profile,
+    cursor: &mut Cursor<'_>,
+) -> Result<GlobalDef, ReadFault>
+    ensures { Parses (λ g. g) (global_at profile) cursor.old result cursor.new }
+{
+    Globals::read(alloc, scratch, profile, cursor)
+}
+
+/// Reads a size and as many bytes (5.1.3), which it lends: those of a data segment (5.5.14), for one. It takes no memory.
+///
+/// # Errors
+///
+/// The first fault, at its offset. The cursor may then stand anywhere.
+#[tactic(auto, unfolding(crate::specs::Formats::bytes_at))]
+pub fn read_sized_bytes<'a>(cursor: &mut Cursor<'a>) -> Result<&'a [u8], ReadFault>
+    ensures { Parses (λ x. x.now) bytes_at cursor.old result cursor.new }
+{
+    let size = cursor.u32()?;
+    cursor.take(size)
+}
