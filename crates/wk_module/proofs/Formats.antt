@@ -118,7 +118,7 @@ bytes_format = record {
 
 -- ---- one thing behind another
 
-both_front : {A B : Type 0} (read_a : Reader A) (read_b : Reader B) → ReadsFront read_a → ReadsFront read_b → ReadsFront (both_at read_a read_b)
+pub both_front : {A B : Type 0} (read_a : Reader A) (read_b : Reader B) → ReadsFront read_a → ReadsFront read_b → ReadsFront (both_at read_a read_b)
 unfolding both_at
 both_front read_a read_b first second =
     ReadsFront-then read_a (λ x end bytes. read_b end bytes >>= λ y. Ok ((x, y.0), y.1)) first

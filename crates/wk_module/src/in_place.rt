@@ -1,5 +1,7 @@
 //! Reading items where they stand: nothing is copied of a name, and nothing of some bytes.
 
+ghost use Rattle.std.specs.Prelude.{◌≡◌, IfErr, OnErr};
+ghost use Rattle.wk_bytes.specs.Stands.{StandsOrMemory};
 ghost use Rattle.wk_body.specs.Reads.{Parses};
 ghost use Rattle.wk_module.specs.Formats.{bytes_at};
 ghost use Rattle.wk_module.specs.InPlace.{import_desc_at, export_view};
@@ -11,7 +13,7 @@ use crate::item_read::{read_desc, read_kind, read_limits, read_table_limits};
 use crate::types::{GlobalDef, ImportDesc, Kind, Limits};
 use crate::vector_read::Readable;
 use std::alloc::Global;
-use wk_body::{Profile, Scratch};
+use wk_body::{Profile, Scratch, reading_of_code};
 use wk_bytes::{Cursor, ReadFault};
 
 /// An export (2.5.10) whose name is lent.
@@ -25,13 +27,9 @@ pub struct ExportRef<'a> {
     pub index: u32,
 }
 
-/// Reads an import (5.5.5), and gives what is imported. Both of its names are read and let go. It takes no memory.
-///
-/// # Errors
-///
-/// The first fault, at its offset. The cursor may then stand anywhere.
+// An import, of which what is imported is kept.
 #[tactic(auto, unfolding(crate::specs::Formats::made_at, crate::specs::Formats::both_at))]
-pub fn read_import_desc(cursor: &mut Cursor<'_>) -> Result<ImportDesc, ReadFault>
+fn take_import_desc(cursor: &mut Cursor<'_>) -> Result<ImportDesc, ReadFault>
     ensures { Parses (λ d. d) import_desc_at cursor.old result cursor.new }
 {
     let _from = cursor.name()?;
@@ -39,13 +37,26 @@ pub fn read_import_desc(cursor: &mut Cursor<'_>) -> Result<ImportDesc, ReadFault
     read_desc(cursor)
 }
 
-/// Reads an export (5.5.10), and lends its name. It takes no memory.
+/// Reads an import (5.5.5), and gives what is imported. Both of its names are read and let go. It takes no memory.
 ///
 /// # Errors
 ///
-/// The first fault, at its offset. The cursor may then stand anywhere.
+/// The first fault, at its offset. The cursor is then as before.
+#[tactic(auto, using(crate::proofs::InPlace::import_desc_stands))]
+pub fn read_import_desc(cursor: &mut Cursor<'_>) -> Result<ImportDesc, ReadFault>
+    ensures exact { Parses (λ d. d) import_desc_at cursor.old result cursor.new }
+    ensures fault { IfErr result (λ e. StandsOrMemory cursor.old e) }
+    ensures left { OnErr result (cursor.new ≡ cursor.old) }
+{
+    let mut ahead = cursor.ahead();
+    let desc = take_import_desc(&mut ahead)?;
+    *cursor = ahead;
+    Ok(desc)
+}
+
+// An export, whose name is lent.
 #[tactic(auto, unfolding(crate::specs::Formats::made_at, crate::specs::Formats::both_at))]
-pub fn read_export<'a>(cursor: &mut Cursor<'a>) -> Result<ExportRef<'a>, ReadFault>
+fn take_export<'a>(cursor: &mut Cursor<'a>) -> Result<ExportRef<'a>, ReadFault>
     ensures { Parses export_view export_at cursor.old result cursor.new }
 {
     let name = cursor.name()?;
@@ -54,53 +65,102 @@ pub fn read_export<'a>(cursor: &mut Cursor<'a>) -> Result<ExportRef<'a>, ReadFau
     Ok(ExportRef { name, kind, index })
 }
 
+/// Reads an export (5.5.10), and lends its name. It takes no memory.
+///
+/// # Errors
+///
+/// The first fault, at its offset. The cursor is then as before.
+#[tactic(auto, using(crate::proofs::InPlace::export_stands))]
+pub fn read_export<'a>(cursor: &mut Cursor<'a>) -> Result<ExportRef<'a>, ReadFault>
+    ensures exact { Parses export_view export_at cursor.old result cursor.new }
+    ensures fault { IfErr result (λ e. StandsOrMemory cursor.old e) }
+    ensures left { OnErr result (cursor.new ≡ cursor.old) }
+{
+    let mut ahead = cursor.ahead();
+    let export = take_export(&mut ahead)?;
+    *cursor = ahead;
+    Ok(export)
+}
+
 /// Reads a table type (5.3.6), and gives its limits. It takes no memory.
 ///
 /// # Errors
 ///
-/// The first fault, at its offset. The cursor may then stand anywhere.
+/// The first fault, at its offset. The cursor is then as before.
+#[tactic(auto, using(crate::proofs::InPlace::tabletype_stands))]
 pub fn read_table_type(cursor: &mut Cursor<'_>) -> Result<Limits, ReadFault>
-    ensures { Parses (λ x. x) tabletype_at cursor.old result cursor.new }
+    ensures exact { Parses (λ x. x) tabletype_at cursor.old result cursor.new }
+    ensures fault { IfErr result (λ e. StandsOrMemory cursor.old e) }
+    ensures left { OnErr result (cursor.new ≡ cursor.old) }
 {
-    read_table_limits(cursor)
+    let mut ahead = cursor.ahead();
+    let limits = read_table_limits(&mut ahead)?;
+    *cursor = ahead;
+    Ok(limits)
 }
 
 /// Reads a memory type (5.3.5), which is limits alone. It takes no memory.
 ///
 /// # Errors
 ///
-/// The first fault, at its offset. The cursor may then stand anywhere.
+/// The first fault, at its offset. The cursor is then as before.
+#[tactic(auto, using(crate::proofs::InPlace::limits_stand))]
 pub fn read_memory_type(cursor: &mut Cursor<'_>) -> Result<Limits, ReadFault>
-    ensures { Parses (λ x. x) limits_at cursor.old result cursor.new }
+    ensures exact { Parses (λ x. x) limits_at cursor.old result cursor.new }
+    ensures fault { IfErr result (λ e. StandsOrMemory cursor.old e) }
+    ensures left { OnErr result (cursor.new ≡ cursor.old) }
 {
-    read_limits(cursor)
+    let mut ahead = cursor.ahead();
+    let limits = read_limits(&mut ahead)?;
+    *cursor = ahead;
+    Ok(limits)
 }
 
 /// Reads a global (5.5.9). An expression of two tokens takes no memory.
 ///
 /// # Errors
 ///
-/// The first fault, at its offset, or `Memory` at 0. The cursor may then stand anywhere.
+/// The first fault, at its offset, or `Memory` at 0. The cursor is then as before.
 pub fn read_global(
     alloc: Global,
     scratch: &mut Scratch,
     profile: Profile,
     cursor: &mut Cursor<'_>,
 ) -> Result<GlobalDef, ReadFault>
-    ensures { Parses (λ g. g) (global_at profile) cursor.old result cursor.new }
+    ensures exact { Parses (λ g. g) (global_at profile) cursor.old result cursor.new }
+    ensures fault { IfErr result (λ e. StandsOrMemory cursor.old e) }
+    ensures left { OnErr result (cursor.new ≡ cursor.old) }
 {
-    Globals::read(alloc, scratch, profile, cursor)
+    // The proof asks what this says: a fault of the expression stands.
+    reading_of_code();
+    let mut ahead = cursor.ahead();
+    let global = Globals::read(alloc, scratch, profile, &mut ahead)?;
+    *cursor = ahead;
+    Ok(global)
+}
+
+// A size and as many bytes.
+#[tactic(auto, unfolding(crate::specs::Formats::bytes_at))]
+fn take_sized<'a>(cursor: &mut Cursor<'a>) -> Result<&'a [u8], ReadFault>
+    ensures { Parses (λ x. x.now) bytes_at cursor.old result cursor.new }
+{
+    let size = cursor.u32()?;
+    cursor.take(size)
 }
 
 /// Reads a size and as many bytes (5.1.3), which it lends: those of a data segment (5.5.14), for one. It takes no memory.
 ///
 /// # Errors
 ///
-/// The first fault, at its offset. The cursor may then stand anywhere.
-#[tactic(auto, unfolding(crate::specs::Formats::bytes_at))]
+/// The first fault, at its offset. The cursor is then as before.
+#[tactic(auto, using(crate::proofs::InPlace::bytes_stand))]
 pub fn read_sized_bytes<'a>(cursor: &mut Cursor<'a>) -> Result<&'a [u8], ReadFault>
-    ensures { Parses (λ x. x.now) bytes_at cursor.old result cursor.new }
+    ensures exact { Parses (λ x. x.now) bytes_at cursor.old result cursor.new }
+    ensures fault { IfErr result (λ e. StandsOrMemory cursor.old e) }
+    ensures left { OnErr result (cursor.new ≡ cursor.old) }
 {
-    let size = cursor.u32()?;
-    cursor.take(size)
+    let mut ahead = cursor.ahead();
+    let bytes = take_sized(&mut ahead)?;
+    *cursor = ahead;
+    Ok(bytes)
 }

@@ -1,6 +1,7 @@
 //! Function types in room that is used again.
 
-ghost use Rattle.std.specs.Prelude.{◌≡◌, [], ◌∷◌, ◌++◌, OnErr};
+ghost use Rattle.std.specs.Prelude.{◌≡◌, [], ◌∷◌, ◌++◌, IfErr, OnErr};
+ghost use Rattle.wk_bytes.specs.Stands.{StandsOrMemory};
 ghost use Rattle.wk_body.specs.Reads.{Parses};
 ghost use Rattle.wk_module.specs.Formats.{made_at};
 ghost use Rattle.wk_module.specs.Types.{functype_at};
@@ -67,20 +68,23 @@ impl TypeList {
     ///
     /// # Errors
     ///
-    /// The first fault, at its offset, or `Memory` at 0. The types are then as before; the cursor may stand anywhere, and room that was kept may
-    /// be lost.
-    #[tactic(auto, unfolding(crate::specs::Formats::made_at))]
+    /// The first fault, at its offset, or `Memory` at 0. The types and the cursor are then as before; room that was kept may be lost.
+    #[tactic(auto, using(crate::proofs::InPlace::functype_stands), unfolding(crate::specs::Formats::made_at))]
     pub fn read_next(&mut self, alloc: Global, cursor: &mut Cursor<'_>) -> Result<(), ReadFault>
-        ensures read { Parses (λ u. self.new) (made_at (λ t. self.old ++ t ∷ []) functype_at)
+        ensures exact { Parses (λ u. self.new) (made_at (λ t. self.old ++ t ∷ []) functype_at)
             cursor.old result cursor.new }
-        ensures left { OnErr result (self.new ≡ self.old) }
+        ensures fault { IfErr result (λ e. StandsOrMemory cursor.old e) }
+        ensures types { OnErr result (self.new ≡ self.old) }
+        ensures left { OnErr result (cursor.new ≡ cursor.old) }
     {
         let room = match self.spares.pop() {
             Some(ty) => ty,
             None => FuncType::empty(alloc),
         };
-        let ty = read_func_type(room, cursor)?;
+        let mut ahead = cursor.ahead();
+        let ty = read_func_type(room, &mut ahead)?;
         self.types.push(ty)?;
+        *cursor = ahead;
         Ok(())
     }
 }

@@ -1,0 +1,54 @@
+-- The faults of items that are read where they stand lie in the bytes that were left.
+use Rattle.std.proofs.Common.{◌≤◌, length, inl, inr}
+use Rattle.wk_bytes.specs.declared.fault.ReadFault.{ReadFault}
+use Rattle.wk_bytes.specs.Span.{Span}
+use Rattle.wk_bytes.specs.Stands.{StandsOrMemory}
+use Rattle.wk_bytes.specs.StandsLaws.{ReadsFront}
+use Rattle.wk_body.specs.Reads.{FailsAs}
+use Rattle.wk_body.specs.declared.types.Profile.{Profile}
+use Rattle.wk_body.specs.Meaning.{IsReadAs}
+use Rattle.wk_body.specs.Reading.{expr_at}
+use Rattle.wk_body.specs.Spelling.{SpellsExpr}
+use Rattle.wk_body.specs.Tree.{Instrs}
+use Rattle.wk_module.specs.declared.types.GlobalType.{GlobalType}
+use Rattle.wk_module.specs.declared.types.Import.{Import}
+use Rattle.wk_module.specs.Formats.{Reader, both_at, bytes_at}
+use Rattle.wk_module.specs.InPlace.{import_desc_at}
+use Rattle.wk_module.specs.Items.{import_at, export_at, global_of, global_at}
+use Rattle.wk_module.specs.Types.{limits_at, tabletype_at, globaltype_at, functype_at}
+use Rattle.wk_module.proofs.Formats.{both_front, made_front, bytes_format}
+use Rattle.wk_module.proofs.ItemFormats.{functype_format, limits_format, tabletype_format, globaltype_format, import_format, export_format}
+use Rattle.wk_module.proofs.Standing.{memory_or_read}
+
+-- the fault that is answered stands in the bytes left, or memory was wanted
+pub fault_stands : {A : Type 0} (read : Reader A) → ReadsFront read → (s : Span) (e : ReadFault) → length s.rest ≤ s.end
+    → FailsAs e e.kind (read s.end s.rest) → StandsOrMemory s e
+fault_stands read fronts s e fits fails =
+    elim (memory_or_read e (read s.end s.rest) fails) [
+      | inl none ↦ inl none
+      | inr is ↦ inr (fronts.faults s.end s.rest e is fits)
+    ]
+
+pub import_desc_stands : (s : Span) (e : ReadFault) → length s.rest ≤ s.end → FailsAs e e.kind (import_desc_at s.end s.rest) → StandsOrMemory s e
+import_desc_stands = fault_stands import_desc_at (made_front (λ (i : Import). i.desc) import_at import_format.fronts)
+
+pub export_stands : (s : Span) (e : ReadFault) → length s.rest ≤ s.end → FailsAs e e.kind (export_at s.end s.rest) → StandsOrMemory s e
+export_stands = fault_stands export_at export_format.fronts
+
+pub limits_stand : (s : Span) (e : ReadFault) → length s.rest ≤ s.end → FailsAs e e.kind (limits_at s.end s.rest) → StandsOrMemory s e
+limits_stand = fault_stands limits_at limits_format.fronts
+
+pub tabletype_stands : (s : Span) (e : ReadFault) → length s.rest ≤ s.end → FailsAs e e.kind (tabletype_at s.end s.rest) → StandsOrMemory s e
+tabletype_stands = fault_stands tabletype_at tabletype_format.fronts
+
+pub functype_stands : (s : Span) (e : ReadFault) → length s.rest ≤ s.end → FailsAs e e.kind (functype_at s.end s.rest) → StandsOrMemory s e
+functype_stands = fault_stands functype_at functype_format.fronts
+
+pub global_stands : (profile : Profile) → IsReadAs (SpellsExpr profile) (expr_at profile) → (s : Span) (e : ReadFault) → length s.rest ≤ s.end
+    → FailsAs e e.kind (global_at profile s.end s.rest) → StandsOrMemory s e
+global_stands profile expr =
+    let parts : Reader (GlobalType × Instrs) = both_at globaltype_at (expr_at profile) in
+    fault_stands (global_at profile) (made_front global_of parts (both_front globaltype_at (expr_at profile) globaltype_format.fronts expr.stands))
+
+pub bytes_stand : (s : Span) (e : ReadFault) → length s.rest ≤ s.end → FailsAs e e.kind (bytes_at s.end s.rest) → StandsOrMemory s e
+bytes_stand = fault_stands bytes_at bytes_format.fronts
