@@ -1,7 +1,7 @@
 //! Reading items where they stand: nothing is copied of a name, and nothing of some bytes.
 
-ghost use Rattle.std.specs.Prelude.{◌≡◌, IfErr, OnErr};
-ghost use Rattle.wk_bytes.specs.Stands.{StandsOrMemory};
+ghost use Rattle.std.specs.Prelude.{◌≡◌, ◌≢◌, IfErr, OnErr};
+ghost use Rattle.wk_bytes.specs.Stands.{Stands, StandsOrMemory};
 ghost use Rattle.wk_body.specs.Reads.{Parses};
 ghost use Rattle.wk_module.specs.Formats.{bytes_at};
 ghost use Rattle.wk_module.specs.InPlace.{import_desc_at, export_view};
@@ -14,7 +14,7 @@ use crate::types::{GlobalDef, ImportDesc, Kind, Limits};
 use crate::vector_read::Readable;
 use std::alloc::Global;
 use wk_body::{Profile, Scratch, reading_of_code};
-use wk_bytes::{Cursor, ReadFault};
+use wk_bytes::{Cursor, ReadFault, ReadKind};
 
 /// An export (2.5.10) whose name is lent.
 #[derive(Clone, Copy, Debug)]
@@ -28,9 +28,10 @@ pub struct ExportRef<'a> {
 }
 
 // An import, of which what is imported is kept.
-#[tactic(auto, unfolding(crate::specs::Formats::made_at, crate::specs::Formats::both_at))]
+#[tactic(auto, using(crate::proofs::InPlace::stands_sure), unfolding(crate::specs::Formats::made_at, crate::specs::Formats::both_at))]
 fn take_import_desc(cursor: &mut Cursor<'_>) -> Result<ImportDesc, ReadFault>
-    ensures { Parses (λ d. d) import_desc_at cursor.old result cursor.new }
+    ensures exact { Parses (λ d. d) import_desc_at cursor.old result cursor.new }
+    ensures sure { IfErr result (λ e. e.kind ≢ ReadKind.Memory) }
 {
     let _from = cursor.name()?;
     let _name = cursor.name()?;
@@ -45,7 +46,7 @@ fn take_import_desc(cursor: &mut Cursor<'_>) -> Result<ImportDesc, ReadFault>
 #[tactic(auto, using(crate::proofs::InPlace::import_desc_stands))]
 pub fn read_import_desc(cursor: &mut Cursor<'_>) -> Result<ImportDesc, ReadFault>
     ensures exact { Parses (λ d. d) import_desc_at cursor.old result cursor.new }
-    ensures fault { IfErr result (λ e. StandsOrMemory cursor.old e) }
+    ensures fault { IfErr result (λ e. Stands cursor.old e) }
     ensures left { OnErr result (cursor.new ≡ cursor.old) }
 {
     let mut ahead = cursor.ahead();
@@ -55,9 +56,10 @@ pub fn read_import_desc(cursor: &mut Cursor<'_>) -> Result<ImportDesc, ReadFault
 }
 
 // An export, whose name is lent.
-#[tactic(auto, unfolding(crate::specs::Formats::made_at, crate::specs::Formats::both_at))]
+#[tactic(auto, using(crate::proofs::InPlace::stands_sure), unfolding(crate::specs::Formats::made_at, crate::specs::Formats::both_at))]
 fn take_export<'a>(cursor: &mut Cursor<'a>) -> Result<ExportRef<'a>, ReadFault>
-    ensures { Parses export_view export_at cursor.old result cursor.new }
+    ensures exact { Parses export_view export_at cursor.old result cursor.new }
+    ensures sure { IfErr result (λ e. e.kind ≢ ReadKind.Memory) }
 {
     let name = cursor.name()?;
     let kind = read_kind(cursor)?;
@@ -73,7 +75,7 @@ fn take_export<'a>(cursor: &mut Cursor<'a>) -> Result<ExportRef<'a>, ReadFault>
 #[tactic(auto, using(crate::proofs::InPlace::export_stands))]
 pub fn read_export<'a>(cursor: &mut Cursor<'a>) -> Result<ExportRef<'a>, ReadFault>
     ensures exact { Parses export_view export_at cursor.old result cursor.new }
-    ensures fault { IfErr result (λ e. StandsOrMemory cursor.old e) }
+    ensures fault { IfErr result (λ e. Stands cursor.old e) }
     ensures left { OnErr result (cursor.new ≡ cursor.old) }
 {
     let mut ahead = cursor.ahead();
@@ -90,7 +92,7 @@ pub fn read_export<'a>(cursor: &mut Cursor<'a>) -> Result<ExportRef<'a>, ReadFau
 #[tactic(auto, using(crate::proofs::InPlace::tabletype_stands))]
 pub fn read_table_type(cursor: &mut Cursor<'_>) -> Result<Limits, ReadFault>
     ensures exact { Parses (λ x. x) tabletype_at cursor.old result cursor.new }
-    ensures fault { IfErr result (λ e. StandsOrMemory cursor.old e) }
+    ensures fault { IfErr result (λ e. Stands cursor.old e) }
     ensures left { OnErr result (cursor.new ≡ cursor.old) }
 {
     let mut ahead = cursor.ahead();
@@ -107,7 +109,7 @@ pub fn read_table_type(cursor: &mut Cursor<'_>) -> Result<Limits, ReadFault>
 #[tactic(auto, using(crate::proofs::InPlace::limits_stand))]
 pub fn read_memory_type(cursor: &mut Cursor<'_>) -> Result<Limits, ReadFault>
     ensures exact { Parses (λ x. x) limits_at cursor.old result cursor.new }
-    ensures fault { IfErr result (λ e. StandsOrMemory cursor.old e) }
+    ensures fault { IfErr result (λ e. Stands cursor.old e) }
     ensures left { OnErr result (cursor.new ≡ cursor.old) }
 {
     let mut ahead = cursor.ahead();
@@ -140,9 +142,10 @@ pub fn read_global(
 }
 
 // A size and as many bytes.
-#[tactic(auto, unfolding(crate::specs::Formats::bytes_at))]
+#[tactic(auto, using(crate::proofs::InPlace::stands_sure), unfolding(crate::specs::Formats::bytes_at))]
 fn take_sized<'a>(cursor: &mut Cursor<'a>) -> Result<&'a [u8], ReadFault>
-    ensures { Parses (λ x. x.now) bytes_at cursor.old result cursor.new }
+    ensures exact { Parses (λ x. x.now) bytes_at cursor.old result cursor.new }
+    ensures sure { IfErr result (λ e. e.kind ≢ ReadKind.Memory) }
 {
     let size = cursor.u32()?;
     cursor.take(size)
@@ -156,7 +159,7 @@ fn take_sized<'a>(cursor: &mut Cursor<'a>) -> Result<&'a [u8], ReadFault>
 #[tactic(auto, using(crate::proofs::InPlace::bytes_stand))]
 pub fn read_sized_bytes<'a>(cursor: &mut Cursor<'a>) -> Result<&'a [u8], ReadFault>
     ensures exact { Parses (λ x. x.now) bytes_at cursor.old result cursor.new }
-    ensures fault { IfErr result (λ e. StandsOrMemory cursor.old e) }
+    ensures fault { IfErr result (λ e. Stands cursor.old e) }
     ensures left { OnErr result (cursor.new ≡ cursor.old) }
 {
     let mut ahead = cursor.ahead();

@@ -1,5 +1,6 @@
 //! Reading what the lists of a module hold (5.3, 5.5).
 
+ghost use Rattle.std.specs.Prelude.{◌≢◌, IfErr};
 ghost use Rattle.wk_body.specs.Reads.{Parses};
 ghost use Rattle.wk_bytes.specs.Span.{u32_at};
 ghost use Rattle.wk_body.specs.ValTypes.{valtype_at};
@@ -21,9 +22,10 @@ use wk_body::{Profile, Scratch, ValType};
 use wk_bytes::{Cursor, Items, ReadFault, ReadKind, Text};
 
 // A value type.
-#[tactic(auto, unfolding(wk_body::specs::ValTypes::valtype_at))]
+#[tactic(auto, using(crate::proofs::InPlace::stands_sure), unfolding(wk_body::specs::ValTypes::valtype_at))]
 fn read_valtype(cursor: &mut Cursor<'_>) -> Result<ValType, ReadFault>
-    ensures { Parses (λ x. x) valtype_at cursor.old result cursor.new }
+    ensures exact { Parses (λ x. x) valtype_at cursor.old result cursor.new }
+    ensures sure { IfErr result (λ e. e.kind ≢ ReadKind.Memory) }
 {
     let bad = cursor.fault(ReadKind::BadByte);
     ValType::from_byte(cursor.byte()?).ok_or(bad)
@@ -61,9 +63,10 @@ pub(crate) fn read_func_type(room: FuncType, cursor: &mut Cursor<'_>) -> Result<
 }
 
 // A byte that says no or yes.
-#[tactic(auto, unfolding(crate::specs::Formats::coded_at))]
+#[tactic(auto, using(crate::proofs::InPlace::stands_sure), unfolding(crate::specs::Formats::coded_at))]
 fn read_flag(cursor: &mut Cursor<'_>) -> Result<bool, ReadFault>
-    ensures { Parses (λ x. x) (coded_at flag_of) cursor.old result cursor.new }
+    ensures exact { Parses (λ x. x) (coded_at flag_of) cursor.old result cursor.new }
+    ensures sure { IfErr result (λ e. e.kind ≢ ReadKind.Memory) }
 {
     let bad = cursor.fault(ReadKind::BadByte);
     match cursor.byte()? {
@@ -74,9 +77,10 @@ fn read_flag(cursor: &mut Cursor<'_>) -> Result<bool, ReadFault>
 }
 
 /// The kind of an import or an export.
-#[tactic(auto, unfolding(crate::specs::Formats::coded_at))]
+#[tactic(auto, using(crate::proofs::InPlace::stands_sure), unfolding(crate::specs::Formats::coded_at))]
 pub(crate) fn read_kind(cursor: &mut Cursor<'_>) -> Result<Kind, ReadFault>
-    ensures { Parses (λ x. x) (coded_at kind_of) cursor.old result cursor.new }
+    ensures exact { Parses (λ x. x) (coded_at kind_of) cursor.old result cursor.new }
+    ensures sure { IfErr result (λ e. e.kind ≢ ReadKind.Memory) }
 {
     let bad = cursor.fault(ReadKind::BadByte);
     match cursor.byte()? {
@@ -89,9 +93,10 @@ pub(crate) fn read_kind(cursor: &mut Cursor<'_>) -> Result<Kind, ReadFault>
 }
 
 /// Limits (5.3.4).
-#[tactic(auto, unfolding(crate::specs::Formats::keyed_at, crate::specs::Formats::made_at, crate::specs::Formats::both_at, crate::specs::Types::bounds_at))]
+#[tactic(auto, using(crate::proofs::InPlace::stands_sure), unfolding(crate::specs::Formats::keyed_at, crate::specs::Formats::made_at, crate::specs::Formats::both_at, crate::specs::Types::bounds_at))]
 pub(crate) fn read_limits(cursor: &mut Cursor<'_>) -> Result<Limits, ReadFault>
-    ensures { Parses (λ x. x) limits_at cursor.old result cursor.new }
+    ensures exact { Parses (λ x. x) limits_at cursor.old result cursor.new }
+    ensures sure { IfErr result (λ e. e.kind ≢ ReadKind.Memory) }
 {
     let has_max = read_flag(cursor)?;
     let min = cursor.u32()?;
@@ -100,18 +105,20 @@ pub(crate) fn read_limits(cursor: &mut Cursor<'_>) -> Result<Limits, ReadFault>
 }
 
 /// A table type (5.3.6), whose only element type is that of functions.
-#[tactic(auto, unfolding(crate::specs::Formats::behind_at))]
+#[tactic(auto, using(crate::proofs::InPlace::stands_sure), unfolding(crate::specs::Formats::behind_at))]
 pub(crate) fn read_table_limits(cursor: &mut Cursor<'_>) -> Result<Limits, ReadFault>
-    ensures { Parses (λ x. x) tabletype_at cursor.old result cursor.new }
+    ensures exact { Parses (λ x. x) tabletype_at cursor.old result cursor.new }
+    ensures sure { IfErr result (λ e. e.kind ≢ ReadKind.Memory) }
 {
     read_this(0x70, cursor)?;
     read_limits(cursor)
 }
 
 // A global type (5.3.7).
-#[tactic(auto, unfolding(crate::specs::Formats::made_at, crate::specs::Formats::both_at))]
+#[tactic(auto, using(crate::proofs::InPlace::stands_sure), unfolding(crate::specs::Formats::made_at, crate::specs::Formats::both_at))]
 fn read_global_type(cursor: &mut Cursor<'_>) -> Result<GlobalType, ReadFault>
-    ensures { Parses (λ x. x) globaltype_at cursor.old result cursor.new }
+    ensures exact { Parses (λ x. x) globaltype_at cursor.old result cursor.new }
+    ensures sure { IfErr result (λ e. e.kind ≢ ReadKind.Memory) }
 {
     let val = read_valtype(cursor)?;
     let mutable = read_flag(cursor)?;
@@ -119,9 +126,10 @@ fn read_global_type(cursor: &mut Cursor<'_>) -> Result<GlobalType, ReadFault>
 }
 
 /// What is imported (5.5.5).
-#[tactic(auto, unfolding(crate::specs::Formats::keyed_at, crate::specs::Formats::made_at, crate::specs::Items::desc_rest_at))]
+#[tactic(auto, using(crate::proofs::InPlace::stands_sure), unfolding(crate::specs::Formats::keyed_at, crate::specs::Formats::made_at, crate::specs::Items::desc_rest_at))]
 pub(crate) fn read_desc(cursor: &mut Cursor<'_>) -> Result<ImportDesc, ReadFault>
-    ensures { Parses (λ x. x) desc_at cursor.old result cursor.new }
+    ensures exact { Parses (λ x. x) desc_at cursor.old result cursor.new }
+    ensures sure { IfErr result (λ e. e.kind ≢ ReadKind.Memory) }
 {
     match read_kind(cursor)? {
         Kind::Func => Ok(ImportDesc::Func(cursor.u32()?)),

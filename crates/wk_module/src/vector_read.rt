@@ -1,6 +1,6 @@
 //! Reading items one after the other (5.1.3).
 
-ghost use Rattle.std.specs.Prelude.{◌≡◌, ◌≢◌, [], MatchResult};
+ghost use Rattle.std.specs.Prelude.{◌≡◌, ◌≢◌, [], IfErr, MatchResult};
 ghost use Rattle.wk_bytes.specs.Raw.{raw_view};
 ghost use Rattle.wk_bytes.specs.Span.{fault, name_at};
 ghost use Rattle.wk_body.specs.Reads.{Parses, Reads};
@@ -90,9 +90,10 @@ pub(crate) fn read_contents<F: Readable>(
 }
 
 /// Reads a byte that has to be there.
-#[tactic(auto, unfolding(crate::specs::Formats::this_byte_at))]
+#[tactic(auto, using(crate::proofs::InPlace::stands_sure), unfolding(crate::specs::Formats::this_byte_at))]
 pub(crate) fn read_this(wanted: u8, cursor: &mut Cursor<'_>) -> Result<u8, ReadFault>
-    ensures { Parses (λ x. x) (this_byte_at wanted) cursor.old result cursor.new }
+    ensures exact { Parses (λ x. x) (this_byte_at wanted) cursor.old result cursor.new }
+    ensures sure { IfErr result (λ e. e.kind ≢ ReadKind.Memory) }
 {
     let at = cursor.at();
     let byte = cursor.byte()?;

@@ -13,4 +13,4 @@ returns-in_err-ty c =
     let whole = vector_at valtype_at c.args.cursor.now.end c.args.cursor.now.rest in
     rw (p.1, p.2) (fails_on e e.kind (valtype_at before.end before.rest) whole
     (stops_all valtype_at c.loop.types.items c.in_ok-count.count c.loop.counter before.end before.rest e whole c.loop-test.true c.loop.invariant.reads)
-    c.in_err-ty.ensures)
+    c.in_err-ty.ensures.exact)
