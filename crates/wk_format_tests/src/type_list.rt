@@ -173,7 +173,9 @@ fn refuses(alloc: Global, list: &mut TypeList, row: (&[u8], ReadKind, u32)) -> b
         kind: row.1,
         at: row.2,
     };
-    list.read_next(alloc, &mut Cursor::new(row.0)) == Err(fault) && are(list, &ARE_THREE)
+    row.0.len() <= 8
+        && list.read_next(alloc, &mut Cursor::new(row.0)) == Err(fault)
+        && are(list, &ARE_THREE)
 }
 
 // The first of them that is not refused so, in new room or in that of a type that was cleared away.
