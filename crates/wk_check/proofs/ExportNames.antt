@@ -22,17 +22,17 @@ use Rattle.wk_check.specs.Spaces.{Spaces}
 
 -- ---- the keys of a set of names
 
-abbrev Name : Type 0
+abbrev pub Name : Type 0
 Name = Bor (List ℕ)
 
-abbrev order : Name → Name → Ordering
+abbrev pub order : Name → Name → Ordering
 order x y = slice_cmp nat_cmp x.now y.now
 
 -- a name has these bytes
-abbrev has_bytes : List ℕ → Name → Bool
+abbrev pub has_bytes : List ℕ → Name → Bool
 has_bytes bs k = is_eq (slice_cmp nat_cmp bs k.now)
 
-bytes_eq-sym : (xs ys : List ℕ) → bytes_eq xs ys ≡ bytes_eq ys xs
+pub bytes_eq-sym : (xs ys : List ℕ) → bytes_eq xs ys ≡ bytes_eq ys xs
 bytes_eq-sym xs ys = go (bytes_eq xs ys) (bytes_eq ys xs) (λ e. (bytes_eq-Decides ys xs).1 (sym ((bytes_eq-Decides xs ys).0 e)))
     (λ e. (bytes_eq-Decides xs ys).1 (sym ((bytes_eq-Decides ys xs).0 e)))
   where
@@ -65,7 +65,7 @@ by_order test k x xs Greater same rest = ap (λ (v : Bool). test x || v) rest �
 same_bytes : (xs ys : List ℕ) → slice_cmp nat_cmp xs ys ≡ Equal → xs ≡ ys
 same_bytes xs ys e = (bytes_eq-Decides xs ys).0 (sym (is_eq-slice_cmp xs ys) ∙ ap is_eq e)
 
-any_inserted : (bs : List ℕ) (k : Name) (names : List Name) → list_any (has_bytes bs) (insert_key order names k)
+pub any_inserted : (bs : List ℕ) (k : Name) (names : List Name) → list_any (has_bytes bs) (insert_key order names k)
     ≡ (has_bytes bs k || list_any (has_bytes bs) names)
 any_inserted bs k [] = refl
 any_inserted bs k (x ∷ xs) =

@@ -1,6 +1,7 @@
 -- What is imported of each kind, import by import.
 use Rattle.std.proofs.Common.{◌≡◌, ◌≢◌, ℕ, ◌+◌, ◌<◌, ◌≤◌, ◌==◌, nat_lt, false, if◌then◌else◌, List, [], ◌∷◌, ◌++◌, length, take, get_or, Option, Some, None}
 use Rattle.std.proofs.Common.{refl, sym, ap, ◌∙◌, arith, length-append}
+use Rattle.std.proofs.lemmas.Bool.{lt-ltb}
 use Rattle.std.proofs.lemmas.List.{take_more, length-take-le}
 use Rattle.wk_module.specs.declared.types.GlobalType.{GlobalType}
 use Rattle.wk_module.specs.declared.types.Import.{Import}
@@ -11,7 +12,7 @@ use Rattle.wk_module.specs.declared.types.Limits.{Limits}
 use Rattle.wk_module.specs.Imports.{is_of_kind, import_count}
 use Rattle.wk_typing.specs.declared.fault.FaultKind.{FaultKind}
 use Rattle.wk_typing.specs.declared.fault.Flaw.{Flaw}
-use Rattle.wk_typing.specs.Answers.{IsPresent}
+use Rattle.wk_typing.specs.Answers.{IsPresent, IsAbsent}
 use Rattle.wk_check.specs.Items.{unless, within}
 use Rattle.wk_check.specs.Spaces.{and_more, imported, func_in, table_in, memory_in, global_in, any_found}
 use Rattle.wk_check.specs.SpacesLaws.{imported_push, counted}
@@ -64,14 +65,9 @@ few_imported pick is n k h e =
 
 -- ---- whether a space has anything in it
 
-pub found_in_front : {X : Type 0} (xs ys : List X) (n : ℕ) → n ≡ length xs → n ≢ 0 → any_found (xs ++ ys) ≡ IsPresent
-found_in_front [] ys n e h = absurd (h e)
-found_in_front (x ∷ xs) ys n e h = refl
-
-pub found_behind : {X : Type 0} (xs ys : List X) → length ys == 0 ≡ false → any_found (xs ++ ys) ≡ IsPresent
-found_behind [] [] h = cc
-found_behind [] (y ∷ ys) h = refl
-found_behind (x ∷ xs) ys h = refl
+pub first_found : {X : Type 0} (xs : List X) → (if nat_lt 0 (length xs) then IsPresent else IsAbsent) ≡ any_found xs
+first_found [] = refl
+first_found (x ∷ xs) = rw (lt-ltb 0 (length (x ∷ xs)) (omega arith)) refl
 
 -- ---- how many are imported of each kind
 

@@ -18,25 +18,24 @@ use Rattle.wk_body.specs.Vectors.{items_at}
 use Rattle.wk_module.specs.declared.types.DataSeg.{DataSeg}
 use Rattle.wk_module.specs.declared.types.Func.{Func}
 use Rattle.wk_module.specs.declared.types.Parts.{Parts}
-use Rattle.wk_module.specs.declared.lists.Lists.{Lists}
-use Rattle.wk_module.specs.Listed.{listed}
 use Rattle.wk_module.specs.Formats.{bytes_at, taking_all, all_at}
 use Rattle.wk_module.specs.Items.{code_at}
 use Rattle.wk_module.specs.Reading.{section_end, zipped, module_at}
 use Rattle.wk_module.specs.Sections.{SectionLists, codes_at}
 use Rattle.wk_module.specs.Shape.{lists_of}
-use Rattle.wk_module.specs.ListReading.{PartlyRead, lists_read, rest_read, Rise, AreListsOfModule, IsReading}
+use Rattle.wk_module.specs.ListReading.{lists_read, Rise, AreListsOfModule, IsReading}
 use Rattle.wk_module.proofs.CodesApart.{HasLists, with_codes, read_lists}
 use Rattle.wk_module.proofs.CodesApart as apart
 use Rattle.wk_typing.specs.declared.fault.Flaw.{Flaw}
 use Rattle.wk_typing.specs.declared.fault.Fault.{Fault}
 use Rattle.wk_typing.specs.declared.fault.Verdict.{Verdict}
-use Rattle.wk_check.specs.Flaws.{verdict_by}
+use Rattle.wk_check.specs.Contexts.{ModuleContext, spaces_in, context_of, behind_at_once}
+use Rattle.wk_check.specs.Flaws.{first_in, verdict_by}
 use Rattle.wk_typing.specs.Faults.{body_flaw}
 use Rattle.wk_check.specs.Items.{earlier}
 use Rattle.wk_check.specs.Spaces.{answer_in, spaces_of}
-use Rattle.wk_check.specs.Spelled.{judged, IsVerdictOf, first_of, fault_read, codes_judged, opened_judged, left_judged}
-use Rattle.wk_check.specs.Verdict.{func_verdict, front_fault, verdict_from, verdict_around, module_verdict, IsVerdict}
+use Rattle.wk_check.specs.Spelled.{judged, IsVerdictOf, first_of, fault_read, codes_judged, opened_judged}
+use Rattle.wk_check.specs.Verdict.{func_verdict, data_flaws, front_fault, verdict_from, verdict_around, module_verdict, IsVerdict}
 use Rattle.wk_check.proofs.Flaws.{earlier_none, earlier_assoc, module_verdict_told}
 
 -- ---- one body after the other
@@ -46,107 +45,107 @@ use Rattle.wk_check.proofs.Flaws.{earlier_none, earlier_assoc, module_verdict_to
 abbrev pub answered : Option Fault → List ℕ → Result (Option Fault × List ℕ) ReadFault
 answered o rest = Ok (o, rest)
 
-abbrev pub rest_judged : Profile → SectionLists → List ℕ → Option Fault → ℕ → ℕ → ℕ → List ℕ → Result (Option Fault × List ℕ) ReadFault
-rest_judged profile l types before item count end bytes =
-    items_at (code_at profile) count end bytes >>= λ bodies. answered (earlier before (first_of l item (zipped types bodies.0))) bodies.1
+abbrev pub rest_judged : Profile → ModuleContext → List ℕ → Option Fault → ℕ → ℕ → ℕ → List ℕ → Result (Option Fault × List ℕ) ReadFault
+rest_judged profile c types before item count end bytes =
+    items_at (code_at profile) count end bytes >>= λ bodies. answered (earlier before (first_of (spaces_in c) item (zipped types bodies.0))) bodies.1
 
 -- the codes that are read, judged, and what is left of the bytes
-abbrev pub all_judged : Profile → SectionLists → List ℕ → Result (List BodyOf × List ℕ) ReadFault → Result (Option Fault × List ℕ) ReadFault
-all_judged profile l types codes = codes >>= λ bodies. answered (earlier (front_fault profile l) (first_of l 0 (zipped types bodies.0))) bodies.1
+abbrev pub all_judged : ModuleContext → Option Fault → List ℕ → Result (List BodyOf × List ℕ) ReadFault → Result (Option Fault × List ℕ) ReadFault
+all_judged c known types codes = codes >>= λ bodies. answered (earlier known (first_of (spaces_in c) 0 (zipped types bodies.0))) bodies.1
 
 abbrev put_front : BodyOf → List BodyOf × List ℕ → Result (List BodyOf × List ℕ) ReadFault
 put_front body xs = Ok (body ∷ xs.0, xs.1)
 
-by_flaw : (l : SectionLists) (item : ℕ) (f : Func) (funcs : List Func) (w : Option Flaw) → body_flaw (func_verdict (answer_in (spaces_of l)) f) ≡ w
-    → first_of l item (f ∷ funcs) ≡ earlier (first_of l item (f ∷ [])) (first_of l (item + 1) funcs)
-by_flaw l item f funcs None is = rw is refl
-by_flaw l item f funcs (Some w) is = rw is refl
+by_flaw : (c : ModuleContext) (item : ℕ) (f : Func) (funcs : List Func) (w : Option Flaw) → body_flaw (func_verdict (answer_in (spaces_in c)) f) ≡ w
+    → first_of (spaces_in c) item (f ∷ funcs) ≡ earlier (first_of (spaces_in c) item (f ∷ [])) (first_of (spaces_in c) (item + 1) funcs)
+by_flaw c item f funcs None is = rw is refl
+by_flaw c item f funcs (Some w) is = rw is refl
 
-one_more : (l : SectionLists) (before : Option Fault) (item : ℕ) (f : Func) (funcs : List Func)
-    → earlier before (first_of l item (f ∷ funcs)) ≡ earlier (earlier before (first_of l item (f ∷ []))) (first_of l (item + 1) funcs)
-one_more l (Some fault) item f funcs = refl
-one_more l None item f funcs = by_flaw l item f funcs (body_flaw (func_verdict (answer_in (spaces_of l)) f)) refl
+one_more : (c : ModuleContext) (before : Option Fault) (item : ℕ) (f : Func) (funcs : List Func)
+    → earlier before (first_of (spaces_in c) item (f ∷ funcs)) ≡ earlier (earlier before (first_of (spaces_in c) item (f ∷ []))) (first_of (spaces_in c) (item + 1) funcs)
+one_more c (Some fault) item f funcs = refl
+one_more c None item f funcs = by_flaw c item f funcs (body_flaw (func_verdict (answer_in (spaces_in c)) f)) refl
 
-regroup : (l : SectionLists) (t : ℕ) (types : List ℕ) (before : Option Fault) (item : ℕ) (body : BodyOf) (r : Result (List BodyOf × List ℕ) ReadFault)
-    → ((r >>= put_front body) >>= λ bodies. answered (earlier before (first_of l item (zipped (t ∷ types) bodies.0))) bodies.1)
+regroup : (c : ModuleContext) (t : ℕ) (types : List ℕ) (before : Option Fault) (item : ℕ) (body : BodyOf) (r : Result (List BodyOf × List ℕ) ReadFault)
+    → ((r >>= put_front body) >>= λ bodies. answered (earlier before (first_of (spaces_in c) item (zipped (t ∷ types) bodies.0))) bodies.1)
     ≡ (r >>= λ bodies. answered
-    (earlier (earlier before (first_of l item (record { ty = t; body = body } ∷ []))) (first_of l (item + 1) (zipped types bodies.0))) bodies.1)
-regroup l t types before item body (Ok xs) = ap (λ (o : Option Fault). answered o xs.1)
-    (one_more l before item (record { ty = t; body = body }) (zipped types xs.0))
-regroup l t types before item body (Err e) = refl
+    (earlier (earlier before (first_of (spaces_in c) item (record { ty = t; body = body } ∷ []))) (first_of (spaces_in c) (item + 1) (zipped types bodies.0))) bodies.1)
+regroup c t types before item body (Ok xs) = ap (λ (o : Option Fault). answered o xs.1)
+    (one_more c before item (record { ty = t; body = body }) (zipped types xs.0))
+regroup c t types before item body (Err e) = refl
 
 -- a body more is read and judged
-pub body_judged : (profile : Profile) (l : SectionLists) (types : List ℕ) (before : Option Fault) (item t end : ℕ) (bytes after : List ℕ)
+pub body_judged : (profile : Profile) (c : ModuleContext) (types : List ℕ) (before : Option Fault) (item t end : ℕ) (bytes after : List ℕ)
     (body : BodyOf) → item < length types → t ≡ get_or types item 0
     → code_at profile end bytes ≡ Ok (body, after)
-    → rest_judged profile l (drop item types) before item (length types - item) end bytes
-    ≡ rest_judged profile l (drop (item + 1) types) (earlier before (first_of l item (record { ty = t; body = body } ∷ []))) (item + 1)
+    → rest_judged profile c (drop item types) before item (length types - item) end bytes
+    ≡ rest_judged profile c (drop (item + 1) types) (earlier before (first_of (spaces_in c) item (record { ty = t; body = body } ∷ []))) (item + 1)
     (length types - (item + 1)) end after
-body_judged profile l types before item t end bytes after body here is read =
+body_judged profile c types before item t end bytes after body here is read =
     let count : length types - item ≡ suc (length types - (item + 1)) = omega arith in
     let types_are : drop item types ≡ t ∷ drop (item + 1) types = rw (add-one, is) (drop-cons types item 0 here) in
-    rw (count, types_are, read) (regroup l t (drop (item + 1) types) before item body (items_at (code_at profile) (length types - (item + 1)) end after))
+    rw (count, types_are, read) (regroup c t (drop (item + 1) types) before item body (items_at (code_at profile) (length types - (item + 1)) end after))
 
 -- so that the loop goes on
-pub body_step : (profile : Profile) (l w : SectionLists) (types : List ℕ) (before next : Option Fault) (item t end end_now : ℕ) (bytes after : List ℕ)
+pub body_step : (profile : Profile) (c : ModuleContext) (types : List ℕ) (before next : Option Fault) (item t end end_now : ℕ) (bytes after : List ℕ)
     (body : BodyOf) (whole : Result (Option Fault × List ℕ) ReadFault)
-    → item < length types → t ≡ get_or types item 0 → code_at profile end bytes ≡ Ok (body, after) → end_now ≡ end → w ≡ l
-    → next ≡ earlier before (first_of w item (record { ty = t; body = body } ∷ []))
-    → rest_judged profile l (drop item types) before item (length types - item) end bytes ≡ whole
-    → rest_judged profile l (drop (item + 1) types) next (item + 1) (length types - (item + 1)) end_now after ≡ whole
-body_step profile l w types before next item t end end_now bytes after body whole here is read end_is lists_are next_is so_far =
-    rw (end_is, next_is, lists_are) (sym (body_judged profile l types before item t end bytes after body here is read) ∙ so_far)
+    → item < length types → t ≡ get_or types item 0 → code_at profile end bytes ≡ Ok (body, after) → end_now ≡ end
+    → next ≡ earlier before (first_of (spaces_in c) item (record { ty = t; body = body } ∷ []))
+    → rest_judged profile c (drop item types) before item (length types - item) end bytes ≡ whole
+    → rest_judged profile c (drop (item + 1) types) next (item + 1) (length types - (item + 1)) end_now after ≡ whole
+body_step profile c types before next item t end end_now bytes after body whole here is read end_is next_is so_far =
+    rw (end_is, next_is) (sym (body_judged profile c types before item t end bytes after body here is read) ∙ so_far)
 
 -- before the first
-pub section_begins : (profile : Profile) (l : SectionLists) (types : List ℕ) (left : Span) (before : Option Fault) → before ≡ front_fault profile l
-    → rest_judged profile l (drop 0 types) before 0 (length types - 0) left.end left.rest
-    ≡ all_judged profile l types (items_at (code_at profile) (length types) left.end left.rest)
-section_begins profile l types left before is = let k : length types - 0 ≡ length types = omega arith in rw (k, is) refl
+pub section_begins : (profile : Profile) (c : ModuleContext) (known : Option Fault) (types : List ℕ) (left : Span) (before : Option Fault) → before ≡ known
+    → rest_judged profile c (drop 0 types) before 0 (length types - 0) left.end left.rest
+    ≡ all_judged c known types (items_at (code_at profile) (length types) left.end left.rest)
+section_begins profile c known types left before is = let k : length types - 0 ≡ length types = omega arith in rw (k, is) refl
 
 -- a code that is taken by its size and read, to the next fault or none
-pub code_is_read : (profile : Profile) (l : SectionLists) (before next : Option Fault) (item ty end : ℕ) (bytes after : List ℕ) (code : Span)
+pub code_is_read : (profile : Profile) (c : ModuleContext) (before next : Option Fault) (item ty end : ℕ) (bytes after : List ℕ) (code : Span)
     → bytes_at end bytes ≡ Ok (code.rest, after) → code.end ≡ end - length after
-    → fault_read profile l before item ty code ≡ Ok next → (body : BodyOf) × (code_at profile end bytes ≡ Ok (body, after))
-    × (next ≡ earlier before (first_of l item (record { ty = ty; body = body } ∷ [])))
-code_is_read profile l before next item ty end bytes after code taken place read =
+    → fault_read profile (spaces_in c) before item ty code ≡ Ok next → (body : BodyOf) × (code_at profile end bytes ≡ Ok (body, after))
+    × (next ≡ earlier before (first_of (spaces_in c) item (record { ty = ty; body = body } ∷ [])))
+code_is_read profile c before next item ty end bytes after code taken place read =
     let a = bind_ok (all_body_at profile code.end code.rest)
-    (λ body. done (earlier before (first_of l item (record { ty = ty; body = body } ∷ [])))) next read in
+    (λ body. done (earlier before (first_of (spaces_in c) item (record { ty = ty; body = body } ∷ [])))) next read in
     (a.0, apart.code_by profile end bytes after code a.0 taken place a.1, sym (ok_is _ _ a.2))
 
-unread : (l : SectionLists) (before : Option Fault) (item ty : ℕ) (e : ReadFault) (r : Result BodyOf ReadFault)
-    → (r >>= λ body. Ok (earlier before (first_of l item (record { ty = ty; body = body } ∷ [])))) ≡ Err e → r ≡ Err e
-unread l before item ty e (Ok body) h = absurd cc
-unread l before item ty e (Err d) h = cc
+unread : (c : ModuleContext) (before : Option Fault) (item ty : ℕ) (e : ReadFault) (r : Result BodyOf ReadFault)
+    → (r >>= λ body. Ok (earlier before (first_of (spaces_in c) item (record { ty = ty; body = body } ∷ [])))) ≡ Err e → r ≡ Err e
+unread c before item ty e (Ok body) h = absurd cc
+unread c before item ty e (Err d) h = cc
 
 -- and one that is no body
-pub code_not_read : (profile : Profile) (l : SectionLists) (before : Option Fault) (item ty end : ℕ) (bytes after : List ℕ) (code : Span)
+pub code_not_read : (profile : Profile) (c : ModuleContext) (before : Option Fault) (item ty end : ℕ) (bytes after : List ℕ) (code : Span)
     (e : ReadFault) → bytes_at end bytes ≡ Ok (code.rest, after) → code.end ≡ end - length after
-    → fault_read profile l before item ty code ≡ Err e → code_at profile end bytes ≡ Err e
-code_not_read profile l before item ty end bytes after code e taken place bad =
-    apart.code_not_read profile end bytes after code e taken place (unread l before item ty e (all_body_at profile code.end code.rest) bad)
+    → fault_read profile (spaces_in c) before item ty code ≡ Err e → code_at profile end bytes ≡ Err e
+code_not_read profile c before item ty end bytes after code e taken place bad =
+    apart.code_not_read profile end bytes after code e taken place (unread c before item ty e (all_body_at profile code.end code.rest) bad)
 
-stopped : (profile : Profile) (l : SectionLists) (types : List ℕ) (whole : Result (List BodyOf × List ℕ) ReadFault) (e : ReadFault)
-    → Err e ≡ all_judged profile l types whole → whole ≡ Err e
-stopped profile l types (Ok x) e h = absurd cc
-stopped profile l types (Err d) e h = cc
+stopped : (profile : Profile) (c : ModuleContext) (known : Option Fault) (types : List ℕ) (whole : Result (List BodyOf × List ℕ) ReadFault) (e : ReadFault)
+    → Err e ≡ all_judged c known types whole → whole ≡ Err e
+stopped profile c known types (Ok x) e h = absurd cc
+stopped profile c known types (Err d) e h = cc
 
 -- a body cannot be read
-body_stops : (profile : Profile) (l : SectionLists) (types : List ℕ) (before : Option Fault) (item end : ℕ) (bytes : List ℕ) (e : ReadFault)
+body_stops : (profile : Profile) (c : ModuleContext) (known : Option Fault) (types : List ℕ) (before : Option Fault) (item end : ℕ) (bytes : List ℕ) (e : ReadFault)
     (whole : Result (List BodyOf × List ℕ) ReadFault) → item < length types
-    → rest_judged profile l (drop item types) before item (length types - item) end bytes ≡ all_judged profile l types whole
+    → rest_judged profile c (drop item types) before item (length types - item) end bytes ≡ all_judged c known types whole
     → code_at profile end bytes ≡ Err e → whole ≡ Err e
-body_stops profile l types before item end bytes e whole here so_far bad =
+body_stops profile c known types before item end bytes e whole here so_far bad =
     let count : length types - item ≡ suc (length types - (item + 1)) = omega arith in
-    stopped profile l types whole e (rw (count, bad) at so_far)
+    stopped profile c known types whole e (rw (count, bad) at so_far)
 
 -- and then the section cannot
-pub section_stops : (profile : Profile) (l : SectionLists) (types : List ℕ) (left : Span) (before : Option Fault) (item end : ℕ) (bytes : List ℕ)
-    (e : ReadFault) → item < length types
-    → rest_judged profile l (drop item types) before item (length types - item) end bytes
-    ≡ all_judged profile l types (items_at (code_at profile) (length types) left.end left.rest) → code_at profile end bytes ≡ Err e
-    → opened_judged profile l types left ≡ Err e
-section_stops profile l types left before item end bytes e here so_far bad =
-    let stop = body_stops profile l types before item end bytes e (items_at (code_at profile) (length types) left.end left.rest) here so_far bad in
+pub section_stops : (profile : Profile) (c : ModuleContext) (known : Option Fault) (left : Span) (before : Option Fault) (item end : ℕ) (bytes : List ℕ)
+    (e : ReadFault) → item < length c.funcs
+    → rest_judged profile c (drop item c.funcs) before item (length c.funcs - item) end bytes
+    ≡ all_judged c known c.funcs (items_at (code_at profile) (length c.funcs) left.end left.rest) → code_at profile end bytes ≡ Err e
+    → opened_judged profile c known left ≡ Err e
+section_stops profile c known left before item end bytes e here so_far bad =
+    let stop = body_stops profile c known c.funcs before item end bytes e (items_at (code_at profile) (length c.funcs) left.end left.rest) here so_far bad in
     rw stop refl
 
 zipped_none : (types : List ℕ) → zipped types [] ≡ []
@@ -156,76 +155,76 @@ zipped_none (t ∷ types) = refl
 nil_cons : (x : ℕ) (rest : List ℕ) → [] ≡ x ∷ rest → ⊥
 nil_cons x rest h = absurd cc
 
-finished : (profile : Profile) (l : SectionLists) (types : List ℕ) (end : ℕ) (before : Option Fault) (whole : Result (List BodyOf × List ℕ) ReadFault)
-    → answered before [] ≡ all_judged profile l types whole
-    → (whole >>= taking_all end >>= λ bodies. Ok (earlier (front_fault profile l) (first_of l 0 (zipped types bodies)))) ≡ Ok before
-finished profile l types end before (Ok (bodies, [])) h = sym (ap (λ (r : Result (Option Fault × List ℕ) ReadFault). r >>= λ x. Ok x.0) h)
-finished profile l types end before (Ok (bodies, x ∷ rest)) h = absurd (nil_cons x rest (ap (λ (y : Option Fault × List ℕ). y.1) (ok_is _ _ h)))
-finished profile l types end before (Err e) h = absurd cc
+finished : (profile : Profile) (c : ModuleContext) (known : Option Fault) (types : List ℕ) (end : ℕ) (before : Option Fault) (whole : Result (List BodyOf × List ℕ) ReadFault)
+    → answered before [] ≡ all_judged c known types whole
+    → (whole >>= taking_all end >>= λ bodies. Ok (earlier known (first_of (spaces_in c) 0 (zipped types bodies)))) ≡ Ok before
+finished profile c known types end before (Ok (bodies, [])) h = sym (ap (λ (r : Result (Option Fault × List ℕ) ReadFault). r >>= λ x. Ok x.0) h)
+finished profile c known types end before (Ok (bodies, x ∷ rest)) h = absurd (nil_cons x rest (ap (λ (y : Option Fault × List ℕ). y.1) (ok_is _ _ h)))
+finished profile c known types end before (Err e) h = absurd cc
 
 -- all bodies are read and judged
-pub section_judged : (profile : Profile) (l : SectionLists) (types : List ℕ) (left : Span) (before : Option Fault) (item end : ℕ) (bytes : List ℕ)
-    → length types ≤ item → bytes ≡ []
-    → rest_judged profile l (drop item types) before item (length types - item) end bytes
-    ≡ all_judged profile l types (items_at (code_at profile) (length types) left.end left.rest) → opened_judged profile l types left ≡ Ok before
-section_judged profile l types left before item end bytes le none so_far =
-    let count : length types - item ≡ 0 = omega arith in
-    finished profile l types left.end before (items_at (code_at profile) (length types) left.end left.rest)
+pub section_judged : (profile : Profile) (c : ModuleContext) (known : Option Fault) (left : Span) (before : Option Fault) (item end : ℕ) (bytes : List ℕ)
+    → length c.funcs ≤ item → bytes ≡ []
+    → rest_judged profile c (drop item c.funcs) before item (length c.funcs - item) end bytes
+    ≡ all_judged c known c.funcs (items_at (code_at profile) (length c.funcs) left.end left.rest) → opened_judged profile c known left ≡ Ok before
+section_judged profile c known left before item end bytes le none so_far =
+    let count : length c.funcs - item ≡ 0 = omega arith in
+    finished profile c known c.funcs left.end before (items_at (code_at profile) (length c.funcs) left.end left.rest)
     (rw (count, none, zipped_none, earlier_none) at so_far)
 
-left_over : (profile : Profile) (l : SectionLists) (types : List ℕ) (end : ℕ) (before : Option Fault) (rest : List ℕ)
-    (whole : Result (List BodyOf × List ℕ) ReadFault) → answered before rest ≡ all_judged profile l types whole → rest ≢ []
-    → (whole >>= taking_all end >>= λ bodies. Ok (earlier (front_fault profile l) (first_of l 0 (zipped types bodies)))) ≡ Err (fault SectionSize end rest)
-left_over profile l types end before rest (Ok (bodies, [])) h some = absurd (some (ap (λ (y : Option Fault × List ℕ). y.1) (ok_is _ _ h)))
-left_over profile l types end before rest (Ok (bodies, x ∷ more)) h some =
+left_over : (profile : Profile) (c : ModuleContext) (known : Option Fault) (types : List ℕ) (end : ℕ) (before : Option Fault) (rest : List ℕ)
+    (whole : Result (List BodyOf × List ℕ) ReadFault) → answered before rest ≡ all_judged c known types whole → rest ≢ []
+    → (whole >>= taking_all end >>= λ bodies. Ok (earlier known (first_of (spaces_in c) 0 (zipped types bodies)))) ≡ Err (fault SectionSize end rest)
+left_over profile c known types end before rest (Ok (bodies, [])) h some = absurd (some (ap (λ (y : Option Fault × List ℕ). y.1) (ok_is _ _ h)))
+left_over profile c known types end before rest (Ok (bodies, x ∷ more)) h some =
     ap (λ (y : List ℕ). Err (fault SectionSize end y)) (sym (ap (λ (y : Option Fault × List ℕ). y.1) (ok_is _ _ h)))
-left_over profile l types end before rest (Err e) h some = absurd cc
+left_over profile c known types end before rest (Err e) h some = absurd cc
 
 -- or the section goes on behind them
-pub section_goes_on : (profile : Profile) (l : SectionLists) (types : List ℕ) (left : Span) (before : Option Fault) (item end : ℕ) (bytes : List ℕ)
-    → length types ≤ item → bytes ≢ [] → end ≡ left.end
-    → rest_judged profile l (drop item types) before item (length types - item) end bytes
-    ≡ all_judged profile l types (items_at (code_at profile) (length types) left.end left.rest)
-    → opened_judged profile l types left ≡ Err (fault SectionSize end bytes)
-section_goes_on profile l types left before item end bytes le some same so_far =
-    let count : length types - item ≡ 0 = omega arith in
-    rw same (left_over profile l types left.end before bytes (items_at (code_at profile) (length types) left.end left.rest)
+pub section_goes_on : (profile : Profile) (c : ModuleContext) (known : Option Fault) (left : Span) (before : Option Fault) (item end : ℕ) (bytes : List ℕ)
+    → length c.funcs ≤ item → bytes ≢ [] → end ≡ left.end
+    → rest_judged profile c (drop item c.funcs) before item (length c.funcs - item) end bytes
+    ≡ all_judged c known c.funcs (items_at (code_at profile) (length c.funcs) left.end left.rest)
+    → opened_judged profile c known left ≡ Err (fault SectionSize end bytes)
+section_goes_on profile c known left before item end bytes le some same so_far =
+    let count : length c.funcs - item ≡ 0 = omega arith in
+    rw same (left_over profile c known c.funcs left.end before bytes (items_at (code_at profile) (length c.funcs) left.end left.rest)
     (rw (count, zipped_none, earlier_none) at so_far) some)
 
-read_whole : (profile : Profile) (l : SectionLists) (types left : List ℕ) (before : Option Fault) (item end : ℕ)
+read_whole : (profile : Profile) (c : ModuleContext) (known : Option Fault) (types left : List ℕ) (before : Option Fault) (item end : ℕ)
     (r whole : Result (List BodyOf × List ℕ) ReadFault) (o : Option Fault) → is_some before ≡ true
-    → (r >>= λ bodies. answered (earlier before (first_of l item (zipped left bodies.0))) bodies.1) ≡ all_judged profile l types whole
-    → (whole >>= taking_all end >>= λ bodies. Ok (earlier (front_fault profile l) (first_of l 0 (zipped types bodies)))) ≡ Ok o
+    → (r >>= λ bodies. answered (earlier before (first_of (spaces_in c) item (zipped left bodies.0))) bodies.1) ≡ all_judged c known types whole
+    → (whole >>= taking_all end >>= λ bodies. Ok (earlier known (first_of (spaces_in c) 0 (zipped types bodies)))) ≡ Ok o
     → o ≡ before
-read_whole profile l types left None item end r whole o known h read = absurd cc
-read_whole profile l types left (Some f) item end (Ok x) (Ok (bodies, [])) o known h read =
+read_whole profile c known types left None item end r whole o found h read = absurd cc
+read_whole profile c known types left (Some f) item end (Ok x) (Ok (bodies, [])) o found h read =
     sym (ok_is _ _ read) ∙ sym (ap (λ (y : Option Fault × List ℕ). y.0) (ok_is _ _ h))
-read_whole profile l types left (Some f) item end (Err e) (Ok (bodies, [])) o known h read = absurd cc
-read_whole profile l types left (Some f) item end r (Ok (bodies, x ∷ rest)) o known h read = absurd cc
-read_whole profile l types left (Some f) item end r (Err e) o known h read = absurd cc
+read_whole profile c known types left (Some f) item end (Err e) (Ok (bodies, [])) o found h read = absurd cc
+read_whole profile c known types left (Some f) item end r (Ok (bodies, x ∷ rest)) o found h read = absurd cc
+read_whole profile c known types left (Some f) item end r (Err e) o found h read = absurd cc
 
 -- behind a fault nothing is judged, so where the section can be read that fault is all
-pub fault_stays : (profile : Profile) (l : SectionLists) (types : List ℕ) (left : Span) (before : Option Fault) (item end : ℕ) (bytes : List ℕ)
+pub fault_stays : (profile : Profile) (c : ModuleContext) (known : Option Fault) (left : Span) (before : Option Fault) (item end : ℕ) (bytes : List ℕ)
     (o : Option Fault) → is_some before ≡ true
-    → rest_judged profile l (drop item types) before item (length types - item) end bytes
-    ≡ all_judged profile l types (items_at (code_at profile) (length types) left.end left.rest)
-    → opened_judged profile l types left ≡ Ok o → opened_judged profile l types left ≡ Ok before
-fault_stays profile l types left before item end bytes o known so_far read =
-    let same = read_whole profile l types (drop item types) before item left.end (items_at (code_at profile) (length types - item) end bytes)
-    (items_at (code_at profile) (length types) left.end left.rest) o
-    known so_far read in
+    → rest_judged profile c (drop item c.funcs) before item (length c.funcs - item) end bytes
+    ≡ all_judged c known c.funcs (items_at (code_at profile) (length c.funcs) left.end left.rest)
+    → opened_judged profile c known left ≡ Ok o → opened_judged profile c known left ≡ Ok before
+fault_stays profile c known left before item end bytes o found so_far read =
+    let same = read_whole profile c known c.funcs (drop item c.funcs) before item left.end (items_at (code_at profile) (length c.funcs - item) end bytes)
+    (items_at (code_at profile) (length c.funcs) left.end left.rest) o
+    found so_far read in
     read ∙ ap (λ (x : Option Fault). Ok x) same
 
 -- what a section that was opened comes to is what the section does
-pub judged_as_opened : (profile : Profile) (l : SectionLists) (types : List ℕ) (s : Section) (left : Span)
-    → codes_at profile (length types) (section_end s) s.contents ≡ items_at (code_at profile) (length types) left.end left.rest → left.end ≡ section_end s
-    → codes_judged profile l types s ≡ opened_judged profile l types left
-judged_as_opened profile l types s left opened same = rw (opened, same) refl
+pub judged_as_opened : (profile : Profile) (c : ModuleContext) (known : Option Fault) (s : Section) (left : Span)
+    → codes_at profile (length c.funcs) (section_end s) s.contents ≡ items_at (code_at profile) (length c.funcs) left.end left.rest → left.end ≡ section_end s
+    → codes_judged profile c known s ≡ opened_judged profile c known left
+judged_as_opened profile c known s left opened same = rw (opened, same) refl
 
 -- ---- the verdict by lists
 
 abbrev lists_verdict : Profile → SectionLists → Verdict
-lists_verdict profile l = verdict_around profile l (first_of l 0 (zipped l.funcs l.codes))
+lists_verdict profile l = verdict_around profile l (first_of (spaces_of l) 0 (zipped l.funcs l.codes))
 
 zipped_parted : (fs : List Func) → zipped (map (λ f. f.ty) fs) (map (λ f. f.body) fs) ≡ fs
 zipped_parted [] = refl
@@ -233,7 +232,7 @@ zipped_parted (f ∷ fs) = ap (λ (rest : List Func). f ∷ rest) (zipped_parted
 
 verdict_by_lists : (profile : Profile) (m : Parts) → m.profile ≡ profile → module_verdict m ≡ lists_verdict profile (lists_of m)
 verdict_by_lists profile m same =
-    ap (λ (fs : List Func). verdict_around m.profile (lists_of m) (first_of (lists_of m) 0 fs)) (sym (zipped_parted m.funcs))
+    ap (λ (fs : List Func). verdict_around m.profile (lists_of m) (first_of (spaces_of (lists_of m)) 0 fs)) (sym (zipped_parted m.funcs))
     ∙ ap (λ (p : Profile). lists_verdict p (lists_of m)) same
 
 -- the verdict, by the lists that are read
@@ -258,7 +257,7 @@ module _ (profile : Profile) (b : List ℕ) (is : IsReading profile b (module_at
   pub judged_without_code : (l : SectionLists) → l.codes ≡ [] → l.funcs ≡ [] → read_lists profile b ≡ Ok l → IsJudged profile b l None
   judged_without_code l none no_funcs read =
       judged_by l (apart.read_without_code profile b lists l none no_funcs read)
-      ∙ ap (λ (funcs : List ℕ). done (verdict_around profile l (first_of l 0 (zipped funcs l.codes)))) no_funcs
+      ∙ ap (λ (funcs : List ℕ). done (verdict_around profile l (first_of (spaces_of l) 0 (zipped funcs l.codes)))) no_funcs
 
   pub lacks_code : (l : SectionLists) → l.codes ≡ [] → l.funcs ≢ [] → read_lists profile b ≡ Ok l
       → judged (module_at profile b) ≡ Err (record { kind = FuncCodeCount; at = length b })
@@ -269,12 +268,12 @@ module _ (profile : Profile) (b : List ℕ) (is : IsReading profile b (module_at
   module _ (l : SectionLists) (s : Section) (behind : List (Result Section ReadFault)) (code_is : s.id ≡ 10) (none : l.codes ≡ [])
       (rise : Rise 10 behind) (read : read_lists profile b ≡ lists_read profile l (Ok s ∷ behind)) where
     unbound : (r : Result (List BodyOf) ReadFault) (e : ReadFault)
-        → (r >>= λ bodies. Ok (earlier (front_fault profile (record l { codes = [] })) (first_of (record l { codes = [] }) 0 (zipped l.funcs bodies))))
+        → (r >>= λ bodies. Ok (earlier (front_fault profile l) (first_of (spaces_of l) 0 (zipped l.funcs bodies))))
         ≡ Err e → r ≡ Err e
     unbound (Ok bodies) e h = absurd cc
     unbound (Err d) e h = cc
 
-    codes_fail : (e : ReadFault) → codes_judged profile (record l { codes = [] }) l.funcs s ≡ Err e → judged (module_at profile b) ≡ Err e
+    pub codes_fail : (e : ReadFault) → codes_judged profile (context_of l) (front_fault profile l) s ≡ Err e → judged (module_at profile b) ≡ Err e
     codes_fail e bad = ap judged
         (apart.codes_fail profile b lists l s behind code_is none rise read e
         (unbound (all_at (codes_at profile (length l.funcs)) (section_end s) s.contents) e bad))
@@ -282,39 +281,39 @@ module _ (profile : Profile) (b : List ℕ) (is : IsReading profile b (module_at
     no_fault : (v : Verdict) (e : ReadFault) → done v ≡ Err e → ⊥
     no_fault v e h = absurd cc
 
-    read_by : (m : Parts) (r : Result (Option Fault) ReadFault) → module_at profile b ≡ Ok m → codes_judged profile (record l { codes = [] }) l.funcs s ≡ r
-        → (o : Option Fault) × (codes_judged profile (record l { codes = [] }) l.funcs s ≡ Ok o)
+    read_by : (m : Parts) (r : Result (Option Fault) ReadFault) → module_at profile b ≡ Ok m → codes_judged profile (context_of l) (front_fault profile l) s ≡ r
+        → (o : Option Fault) × (codes_judged profile (context_of l) (front_fault profile l) s ≡ Ok o)
     read_by m (Ok o) spelled is = (o, is)
     read_by m (Err e) spelled is = absurd (no_fault (module_verdict m) e (sym (ap judged spelled) ∙ codes_fail e is))
 
     -- the codes of a module can be read
-    codes_read : (m : Parts) → module_at profile b ≡ Ok m → (o : Option Fault) × (codes_judged profile (record l { codes = [] }) l.funcs s ≡ Ok o)
-    codes_read m spelled = read_by m (codes_judged profile (record l { codes = [] }) l.funcs s) spelled refl
+    pub codes_read : (m : Parts) → module_at profile b ≡ Ok m → (o : Option Fault) × (codes_judged profile (context_of l) (front_fault profile l) s ≡ Ok o)
+    codes_read m spelled = read_by m (codes_judged profile (context_of l) (front_fault profile l) s) spelled refl
 
     -- the bodies that were read
-    bodies_of : (code : Option Fault) → codes_judged profile (record l { codes = [] }) l.funcs s ≡ Ok code
+    bodies_of : (code : Option Fault) → codes_judged profile (context_of l) (front_fault profile l) s ≡ Ok code
         → (bodies : List BodyOf) × (all_at (codes_at profile (length l.funcs)) (section_end s) s.contents ≡ Ok bodies)
-        × (earlier (front_fault profile (record l { codes = [] })) (first_of (record l { codes = [] }) 0 (zipped l.funcs bodies)) ≡ code)
+        × (earlier (front_fault profile l) (first_of (spaces_of l) 0 (zipped l.funcs bodies)) ≡ code)
     bodies_of code e =
         let a = bind_ok (all_at (codes_at profile (length l.funcs)) (section_end s) s.contents)
-        (λ bodies. done (earlier (front_fault profile (record l { codes = [] }))
-        (first_of (record l { codes = [] }) 0 (zipped l.funcs bodies)))) code e in
+        (λ bodies. done (earlier (front_fault profile l)
+        (first_of (spaces_of l) 0 (zipped l.funcs bodies)))) code e in
         (a.0, a.1, ok_is _ _ a.2)
 
-    pub behind_fails : (code : Option Fault) (e : ReadFault) → codes_judged profile (record l { codes = [] }) l.funcs s ≡ Ok code
+    behind_fails : (code : Option Fault) (e : ReadFault) → codes_judged profile (context_of l) (front_fault profile l) s ≡ Ok code
         → lists_read profile l behind ≡ Err e → judged (module_at profile b) ≡ Err e
     behind_fails code e codes bad = let a = bodies_of code codes in
         ap judged (apart.behind_fails profile b lists l s behind code_is none rise read a.0 e a.1 bad)
 
     same_verdict : (x : List DataSeg) (q : SectionLists) (bodies : List BodyOf) (code : Option Fault) → q ≡ record l { datas = x }
-        → earlier (front_fault profile (record l { codes = [] })) (first_of (record l { codes = [] }) 0 (zipped l.funcs bodies)) ≡ code
+        → earlier (front_fault profile l) (first_of (spaces_of l) 0 (zipped l.funcs bodies)) ≡ code
         → lists_verdict profile (with_codes bodies q) ≡ verdict_from (record q { codes = [] }) code
     same_verdict x q bodies code front is =
         rw front (ap verdict_by (sym
-        (earlier_assoc (front_fault profile (record l { codes = [] })) (first_of (record l { codes = [] }) 0 (zipped l.funcs bodies)) _))
+        (earlier_assoc (front_fault profile l) (first_of (spaces_of l) 0 (zipped l.funcs bodies)) _))
         ∙ ap (λ (o : Option Fault). verdict_from (record (record l { datas = x }) { codes = [] }) o) is)
 
-    pub judged_with_code : (q : SectionLists) (code : Option Fault) → codes_judged profile (record l { codes = [] }) l.funcs s ≡ Ok code
+    judged_with_code : (q : SectionLists) (code : Option Fault) → codes_judged profile (context_of l) (front_fault profile l) s ≡ Ok code
         → lists_read profile l behind ≡ Ok q → IsJudgedFrom profile b q code
     judged_with_code q code codes ends =
         let a = bodies_of code codes in
@@ -323,47 +322,21 @@ module _ (profile : Profile) (b : List ℕ) (is : IsReading profile b (module_at
         judged_by (with_codes a.0 q) has ∙ ap (λ (v : Verdict). done v) (same_verdict front.0 q a.0 code front.1 a.2)
 
     -- the sections behind the codes are read, or can't be
-    pub judged_with_left : (rest : Result SectionLists ReadFault) (code : Option Fault)
-        → codes_judged profile (record l { codes = [] }) l.funcs s ≡ Ok code → lists_read profile l behind ≡ rest
+    judged_with_left : (rest : Result SectionLists ReadFault) (code : Option Fault)
+        → codes_judged profile (context_of l) (front_fault profile l) s ≡ Ok code → lists_read profile l behind ≡ rest
         → judged (module_at profile b) ≡ (rest >>= λ q. Ok (verdict_from (record q { codes = [] }) code))
     judged_with_left (Ok q) code codes ends = judged_with_code q code codes ends
     judged_with_left (Err e) code codes bad = behind_fails code e codes bad
 
--- ---- by the lists that a reader lends, of a module of which the front was read
+    -- they are judged as they are read
+    over : (code : Option Fault) (rest : Result SectionLists ReadFault) → (rest >>= λ q. Ok (verdict_from (record q { codes = [] }) code))
+        ≡ ((rest >>= λ q. Ok (earlier code (first_in 11 0 (data_flaws q)))) >>= λ f. Ok (verdict_by f))
+    over code (Ok q) = refl
+    over code (Err e) = refl
 
-told_codes : (profile lent : Profile) (l w : SectionLists) (s : Section) → lent ≡ profile → w ≡ record l { codes = [] }
-    → codes_judged lent w w.funcs s ≡ codes_judged profile (record l { codes = [] }) l.funcs s
-told_codes profile lent l w s profile_is lists_are = rw (profile_is, lists_are) refl
-
-module _ (r : PartlyRead) (b : List ℕ) (s : Section) (lent : Lists) (is : IsReading lent.profile b (module_at lent.profile b))
-    (lists : AreListsOfModule lent.profile b) (profile_is : lent.profile ≡ r.profile) (lent_is : listed lent ≡ record r.lists { codes = [] })
-    (code_is : s.id ≡ 10) (none : r.lists.codes ≡ []) (rise : Rise 10 r.left)
-    (read : read_lists r.profile b ≡ lists_read r.profile r.lists (Ok s ∷ r.left)) where
-  told : codes_judged lent.profile (listed lent) lent.funcs.now s ≡ codes_judged r.profile (record r.lists { codes = [] }) r.lists.funcs s
-  told = told_codes r.profile lent.profile r.lists (listed lent) s profile_is lent_is
-
-  -- its codes can't be read
-  pub parts_fail : (e : ReadFault) → codes_judged lent.profile (listed lent) lent.funcs.now s ≡ Err e → judged (module_at r.profile b) ≡ Err e
-  parts_fail e bad = codes_fail r.profile b (rw profile_is at is) (rw profile_is at lists) r.lists s r.left code_is none rise read e (sym told ∙ bad)
-
-  -- they can where it is known that it is a module
-  pub parts_read : (m : Parts) → module_at r.profile b ≡ Ok m → (o : Option Fault) × (codes_judged lent.profile (listed lent) lent.funcs.now s ≡ Ok o)
-  parts_read m spelled =
-      let codes = codes_read r.profile b (rw profile_is at is) (rw profile_is at lists) r.lists s r.left code_is none rise read m spelled in
-      (codes.0, told ∙ codes.1)
-
-  -- they were
-  pub judged_in_parts : (code : Option Fault) → codes_judged lent.profile (listed lent) lent.funcs.now s ≡ Ok code
-      → judged (module_at r.profile b) ≡ left_judged r code
-  judged_in_parts code codes =
-      judged_with_left r.profile b (rw profile_is at is) (rw profile_is at lists) r.lists s r.left code_is none rise read
-      (lists_read r.profile r.lists r.left) code (sym told ∙ codes) refl
-
-  -- the sections behind them leave the imports
-  pub imports_stay : (q : SectionLists) → rest_read r ≡ Ok q → lent.imports.now ≡ q.imports
-  imports_stay q ends =
-      let front = apart.front_stays r.profile b (rw profile_is at lists) r.lists s r.left code_is none rise read q ends in
-      ap (λ (l : SectionLists). l.imports) lent_is ∙ sym (ap (λ (l : SectionLists). l.imports) front.1)
+    pub judged_behind : (code : Option Fault) → codes_judged profile (context_of l) (front_fault profile l) s ≡ Ok code
+        → judged (module_at profile b) ≡ (behind_at_once profile l code behind >>= λ f. Ok (verdict_by f))
+    judged_behind code codes = judged_with_left (lists_read profile l behind) code codes refl ∙ over code (lists_read profile l behind)
 
 -- a verdict that is answered is the one that words tell
 pub told_meaning : (read : Result Parts ReadFault) (answer : Result Verdict ReadFault) → Reads (λ v. v) answer (judged read)

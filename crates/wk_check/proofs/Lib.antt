@@ -7,7 +7,17 @@ pub mod Flaws
 pub mod Imported
 pub mod ImportSight
 pub mod JudgedCodes
+pub mod JudgedExports
+pub mod JudgedFront
+pub mod JudgedItems
+pub mod JudgedKinds
+pub mod JudgedSections
+pub mod JudgedSteps
+pub mod KnownNames
 pub mod LargerSpaces
+pub mod MadeReading
+pub mod ReadIndices
+pub mod SectionFaults
 pub mod Valid
 pub mod ValidGrowth
 pub mod ValidImports

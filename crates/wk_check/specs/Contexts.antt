@@ -1,12 +1,16 @@
 -- The context (3.1.1) in which the items of sections are judged while they are read: what is wrong with each item as it comes, what comes
 -- to the context with it, and what that has to do with the lists of a module.
-use Rattle.std.specs.Prelude.{◌≤◌, ℕ, Bool, if◌then◌else◌, Option, Some, None, List, [], ◌∷◌, ◌++◌, length, map, Result, Ok}
+use Rattle.std.specs.Prelude.{◌≡◌, ◌≤◌, ℕ, Bool, if◌then◌else◌, Option, Some, None, List, [], ◌∷◌, ◌++◌, length, map, Result, Ok, IfSome}
 use Rattle.std.specs.List.{list_any}
 use Rattle.std.specs.Str.{bytes_eq}
 use Rattle.wk_bytes.specs.declared.fault.ReadFault.{ReadFault}
+use Rattle.wk_bytes.specs.declared.raw.RawSection.{RawSection}
 use Rattle.wk_bytes.specs.Leb.{◌>>=◌}
+use Rattle.wk_bytes.specs.Raw.{raw_view}
 use Rattle.wk_bytes.specs.Frames.{Section}
+use Rattle.wk_bytes.specs.Span.{u32_at}
 use Rattle.wk_body.specs.declared.types.Profile.{Profile}
+use Rattle.wk_body.specs.Vectors.{vector_at}
 use Rattle.wk_module.specs.declared.types.FuncType.{FuncType}
 use Rattle.wk_module.specs.declared.types.Limits.{Limits}
 use Rattle.wk_module.specs.declared.types.GlobalType.{GlobalType}
@@ -17,8 +21,11 @@ use Rattle.wk_module.specs.declared.types.ImportDesc.TheVariants as desc
 use Rattle.wk_module.specs.declared.types.Export.{Export}
 use Rattle.wk_module.specs.declared.types.Elem.{Elem}
 use Rattle.wk_module.specs.declared.types.DataSeg.{DataSeg}
-use Rattle.wk_module.specs.ListReading.{with_listed}
-use Rattle.wk_module.specs.Sections.{SectionId, number, of_number, SectionLists, contents, omitted}
+use Rattle.wk_module.specs.Formats.{Reader, made_at, all_at}
+use Rattle.wk_module.specs.Items.{export_at}
+use Rattle.wk_module.specs.Reading.{section_end}
+use Rattle.wk_module.specs.ListReading.{Rise, lists_read, with_listed}
+use Rattle.wk_module.specs.Sections.{SectionId, number, of_number, SectionLists, contents, no_lists, omitted}
 use Rattle.wk_module.specs.Sections.{TypeSection, ImportSection, FunctionSection, TableSection, MemorySection, GlobalSection, ExportSection}
 use Rattle.wk_module.specs.Sections.{StartSection, ElementSection, CodeSection, DataSection}
 use Rattle.wk_typing.specs.declared.fault.FaultKind.TheVariants.{UnknownType, DuplicateExport}
@@ -49,9 +56,13 @@ spaces_in c = record {
   globals = c.imported_globals ++ c.globals;
 }
 
--- the same, with imported globals alone: what an initialiser sees (3.4.10)
+-- the same spaces with other globals
+abbrev pub with_globals : List GlobalType → Spaces → Spaces
+with_globals globals s = record s { globals = globals }
+
+-- with imported globals alone: what an initialiser sees (3.4.10)
 abbrev pub initial_in : ModuleContext → Spaces
-initial_in c = record (spaces_in c) { globals = c.imported_globals }
+initial_in c = with_globals c.imported_globals (spaces_in c)
 
 -- the context of a module with these lists
 abbrev pub context_of : SectionLists → ModuleContext
@@ -185,3 +196,39 @@ lists_fault profile l = earlier (front_fault profile l) (first_in 11 0 (data_fla
 -- the sections from an id on are left out
 abbrev pub AreOmittedFrom : ℕ → SectionLists → Type 0
 AreOmittedFrom id l = (k : SectionId) → id ≤ number k → contents l k ≡ omitted k
+
+-- the code section that a front ends with, unread, or nothing, where the reader is at the end
+abbrev pub EndsWith : Profile → List (Result Section ReadFault) → SectionLists → List (Result Section ReadFault) → Option RawSection → Type 0
+EndsWith profile all l left None = lists_read profile no_lists all ≡ Ok l
+EndsWith profile all l left (Some s) = (s.id ≡ 10) × Rise 10 left × (lists_read profile no_lists all ≡ lists_read profile l (Ok (raw_view s) ∷ left))
+
+-- Of all sections those in front of the code section are read and judged: the context, what is left, the first fault, the code section.
+pub record IsFront (profile : Profile) (all : List (Result Section ReadFault)) (c : ModuleContext) (left : List (Result Section ReadFault))
+    (fault : Option Fault) (code : Option RawSection) : Type 0 where
+  pub lists : SectionLists
+  pub context_is : c ≡ context_of lists
+  pub fault_is : fault ≡ lists_fault profile lists
+  pub no_codes : lists.codes ≡ []
+  pub ends : EndsWith profile all lists left code
+  pub omitted : IfSome code (λ s. AreOmittedFrom 10 lists)
+
+-- ---- what reads and judges at once
+
+-- all items of a section
+abbrev pub items_at_once : {S X : Type 0} → Reader X → (S → X → Option Flaw) → (S → X → S) → S → Option Fault → Section → Result (S × Option Fault) ReadFault
+items_at_once read wrong add s before sec =
+    all_at (vector_at read) (section_end sec) sec.contents >>= λ xs. Ok (items_judged wrong add sec.id s before 0 xs)
+
+-- its exports, of which none was read before
+abbrev pub exports_at_once : ModuleContext → Option Fault → Section → Result (Option Fault) ReadFault
+exports_at_once c before sec =
+    all_at (vector_at export_at) (section_end sec) sec.contents >>= λ es. Ok (items_judged next_export_flaw add_export 7 (record { context = c; names = [] }) before 0 es).1
+
+-- the start section
+abbrev pub start_at_once : ModuleContext → Option Fault → Section → Result (Option Fault) ReadFault
+start_at_once c before sec =
+    all_at (made_at Some u32_at) (section_end sec) sec.contents >>= λ x. Ok (earlier before (first_in 8 0 (start_flaws (spaces_in c) x)))
+
+-- the sections behind the code section
+abbrev pub behind_at_once : Profile → SectionLists → Option Fault → List (Result Section ReadFault) → Result (Option Fault) ReadFault
+behind_at_once profile l before left = lists_read profile l left >>= λ q. Ok (earlier before (first_in 11 0 (data_flaws q)))

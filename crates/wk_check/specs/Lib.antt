@@ -30,3 +30,5 @@ pub mod Growth
 
 -- What is counted of a module's imports, once for all references.
 pub mod Whole
+-- The names of exports that came before.
+pub mod Names

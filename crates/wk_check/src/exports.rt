@@ -8,6 +8,7 @@ ghost use Rattle.wk_check.specs.Flaws.{numbered, first_in};
 ghost use Rattle.wk_check.specs.Items.{index_flaw, export_flaw, unless};
 ghost use Rattle.wk_check.specs.Spaces.{spaces_of};
 
+use crate::spaces::IndexSpaces;
 use crate::whole::Whole;
 use std::alloc::Global;
 use std::collections::BTreeSet;
@@ -15,15 +16,15 @@ use wk_bytes::{OutOfMemory, Text};
 use wk_module::{Export, Kind, Lists, import_count, section_id};
 use wk_typing::{Fault, FaultKind, Flaw};
 
-// What is wrong with the index of an export.
-fn flaw_of_index(whole: &Whole<'_>, kind: Kind, index: u32) -> Option<Flaw>
-    ensures { result ≡ index_flaw (spaces_of whole.now) kind index }
+/// What is wrong with the index of an export.
+pub(crate) fn flaw_of_index<S: IndexSpaces>(spaces: &S, kind: Kind, index: u32) -> Option<Flaw>
+    ensures { result ≡ index_flaw (S.spaces spaces.now) kind index }
 {
     let (is_there, fault) = match kind {
-        Kind::Func => (whole.has_func(index), FaultKind::UnknownFunc),
-        Kind::Table => (whole.has_table(index), FaultKind::UnknownTable),
-        Kind::Memory => (whole.has_memory(index), FaultKind::UnknownMemory),
-        Kind::Global => (whole.has_global(index), FaultKind::UnknownGlobal),
+        Kind::Func => (spaces.has_func(index), FaultKind::UnknownFunc),
+        Kind::Table => (spaces.has_table(index), FaultKind::UnknownTable),
+        Kind::Memory => (spaces.has_memory(index), FaultKind::UnknownMemory),
+        Kind::Global => (spaces.has_global(index), FaultKind::UnknownGlobal),
     };
     if is_there {
         return None;

@@ -17,7 +17,8 @@ ghost use Rattle.wk_check.specs.Verdict.{module_verdict};
 
 use crate::exports::flaw_of_export;
 use crate::rules::{flaw_of_next_import, flaw_of_type};
-use crate::whole::{Initial, Whole};
+use crate::spaces::Initial;
+use crate::whole::Whole;
 use std::alloc::Global;
 use wk_bytes::OutOfMemory;
 use wk_module::{
@@ -92,7 +93,10 @@ pub fn verdict_with_global(
         → verdict ≡ module_verdict (with_global ty init.now m)) }
 {
     let whole = Whole::of(alloc, *lists)?;
-    let initial = Initial { whole: &whole };
+    let initial = Initial {
+        spaces: &whole,
+        imported: whole.imported_globals(),
+    };
     let flaw = constant_flaw(&initial, ty.val, init, &mut Room::new(alloc))?;
     Ok(verdict_by_flaw(flaw, section_id::GLOBAL, lists.globals.len() as u32))
 }

@@ -1,29 +1,26 @@
-//! Judging the module that bytes spell: each body is judged when it is read, and not kept.
+//! Judging the module that bytes spell: what each section holds is judged when it is read, and of all but types little is kept.
 
-ghost use Rattle.std.specs.Prelude.{◌≡◌, ◌↔◌, [], ◌∷◌, true, Ok, Option, IfOk};
+ghost use Rattle.std.specs.Prelude.{◌≡◌, ◌↔◌, ◌<◌, ◌^◌, [], true, length, Ok, Some, None, Option, IfOk};
 ghost use Rattle.wk_bytes.specs.Frames.{sections_of};
 ghost use Rattle.wk_bytes.specs.Raw.{raw_view};
 ghost use Rattle.wk_body.specs.Reads.{Reads};
 ghost use Rattle.wk_module.specs.declared.types.Parts.{Parts as PartsOf};
-ghost use Rattle.wk_module.specs.Listed.{listed, AreNumbered};
-ghost use Rattle.wk_module.specs.ListReading.{IsReading, Rise, lists_read, rest_read};
+ghost use Rattle.wk_module.specs.ListReading.{IsReading};
 ghost use Rattle.wk_module.specs.Reading.{module_at};
-ghost use Rattle.wk_module.specs.Sections.{SectionLists, no_lists};
 ghost use Rattle.wk_typing.specs.declared.fault.Fault.{Fault as FaultOf};
 ghost use Rattle.wk_typing.specs.declared.fault.Verdict.{Verdict};
-ghost use Rattle.wk_check.specs.Spelled.{judged, IsVerdictOf, fault_read, codes_judged, opened_judged, left_judged};
+ghost use Rattle.wk_check.specs.Contexts.{IsFront, spaces_in};
+ghost use Rattle.wk_check.specs.Spelled.{judged, IsVerdictOf, fault_read, codes_judged, opened_judged};
+ghost use Rattle.wk_check.specs.Flaws.{verdict_by};
 ghost use Rattle.wk_check.specs.Valid.{IsValidRead};
 ghost use Rattle.wk_check.specs.Verdict.{module_verdict};
-ghost use Rattle.wk_check.specs.Whole.{IsImported};
 
-use crate::judging::{fault_before_code, judge_around, verdict_behind};
-use crate::whole::{Imported, Whole};
+use crate::context::Context;
+use crate::judge_sections::Workspace;
 use std::alloc::Global;
-use wk_bytes::{Cursor, OutOfMemory, RawSection, ReadFault, ReadKind};
-use wk_module::{
-    CodeReader, Lists, Profile, Scratch, SectionReader, reading_of_module, section_id,
-};
-use wk_typing::{Fault, Room, Rooms, StreamRoom, Verdict, type_encoded_body};
+use wk_bytes::{Cursor, OutOfMemory, RawSection, ReadFault, ReadKind, Sections};
+use wk_module::{CodeReader, Profile, reading_of_module, section_id};
+use wk_typing::{Fault, Rooms, Verdict, type_encoded_body};
 
 // A function whose code is still to be read.
 #[derive(Drop)]
@@ -34,54 +31,24 @@ struct Unread<'a> {
     code: Cursor<'a>,
 }
 
-/// The rooms in which modules are read and judged: those of one call, or those that are kept from one module to the next.
-#[derive(Debug, Drop)]
-pub(crate) struct Workspace {
-    rooms: Rooms,
-    is_kept: bool,
-}
-
-impl Workspace {
-    // That of one call, still to grow.
-    fn of_call(alloc: Global) -> Workspace {
-        Workspace {
-            rooms: Rooms::new(alloc),
-            is_kept: false,
-        }
-    }
-
-    /// One that is kept, still to grow.
-    pub(crate) fn kept(alloc: Global) -> Workspace {
-        Workspace {
-            rooms: Rooms::new(alloc),
-            is_kept: true,
-        }
-    }
-
-    // Gives back what grew with the codes, where it isn't kept: the scratch too, where bodies were held in it.
-    fn give_back(&mut self, alloc: Global, has_held_bodies: bool) {
-        if self.is_kept {
-            return;
-        }
-        self.rooms.stream = StreamRoom::new(alloc);
-        self.rooms.room = Room::new(alloc);
-        if has_held_bodies {
-            self.rooms.scratch = Scratch::new(alloc);
-        }
-    }
+// What is read up to a code section: the sections behind it, the first fault of those in front of it, and the code section.
+struct Front<'a> {
+    left: Sections<'a>,
+    fault: Option<Fault>,
+    code: RawSection<'a>,
 }
 
 // The first fault of the functions up to this one, whose code is still to be read, where that of those before it is given. Behind a fault
 // the code is only read.
 fn fault_up_to(
     alloc: Global,
-    whole: &Whole<'_>,
+    context: &Context,
     fault: Option<Fault>,
     func: &Unread<'_>,
     rooms: &mut Rooms,
 ) -> Result<Option<Fault>, ReadFault>
     ensures { Reads (λ r. r) result
-        (fault_read func.now.profile whole.now fault func.now.index func.now.ty
+        (fault_read func.now.profile (spaces_in context.now) fault func.now.index func.now.ty
         func.now.code) }
 {
     let Unread {
@@ -95,95 +62,77 @@ fn fault_up_to(
         drop(rooms.scratch.read_body(alloc, code, *profile)?);
         return Ok(fault);
     }
-    match type_encoded_body(alloc, whole, *ty, *profile, code, rooms)?.flaw() {
+    match type_encoded_body(alloc, context, *ty, *profile, code, rooms)?.flaw() {
         Some(flaw) => Ok(Some(flaw.at(section_id::CODE, *index))),
         None => Ok(None),
     }
 }
 
-// The first fault of the sections up to a code section that was opened, in a module with these lists, each body judged when it is
-// read. Behind a fault bodies are only read, and where it is known that the section can be read they aren't.
+// The first fault of the sections up to a code section that was opened, in this context, where that of the sections in front of it is
+// known. Each body is judged when it is read. Behind a fault bodies are only read, and where it is known that the section can be read they
+// aren't.
 fn fault_of_codes(
     alloc: Global,
-    lists: &Lists<'_>,
-    whole: &Whole<'_>,
+    profile: Profile,
+    context: &Context,
+    known: Option<Fault>,
     codes: &mut CodeReader<'_>,
     rooms: &mut Rooms,
     is_spelled: bool,
 ) -> Result<Option<Fault>, ReadFault>
-    requires numbered { AreNumbered (listed lists.now) }
-    requires same { whole.now ≡ listed lists.now }
+    requires few { length context.now.funcs < 2 ^ 32 }
     requires spelled { is_spelled ≡ true
-        → (o : Option FaultOf)
-        × (opened_judged lists.now.profile (listed lists.now) lists.now.funcs.now codes.old
-        ≡ Ok o) }
-    ensures { Reads (λ r. r) result
-        (opened_judged lists.now.profile (listed lists.now) lists.now.funcs.now codes.old) }
+        → (o : Option FaultOf) × (opened_judged profile context.now known codes.old ≡ Ok o) }
+    ensures { Reads (λ r. r) result (opened_judged profile context.now known codes.old) }
 {
-    let known = fault_before_code(alloc, lists.profile, whole, &mut rooms.room)?;
     let mut fault = known;
-    for (index, ty) in lists.funcs.iter().enumerate() {
+    for (index, ty) in context.funcs().iter().enumerate() {
         if is_spelled && fault.is_some() {
             return Ok(fault);
         }
         let func = Unread {
             index: index as u32,
             ty: *ty,
-            profile: lists.profile,
+            profile,
             code: codes.next_code()?,
         };
-        fault = fault_up_to(alloc, whole, fault, &func, rooms)?;
+        fault = fault_up_to(alloc, context, fault, &func, rooms)?;
     }
     codes.end()?;
     Ok(fault)
 }
 
-// The same of a code section that is still to be opened. Beside it stands what was counted of the imports.
+// The same of a code section that is still to be opened.
 fn fault_of_section(
     alloc: Global,
-    rooms: &mut Rooms,
-    lists: &Lists<'_>,
+    profile: Profile,
+    workspace: &mut Workspace,
+    known: Option<Fault>,
     section: &RawSection<'_>,
     is_spelled: bool,
-) -> Result<(Option<Fault>, Imported), ReadFault>
-    requires numbered { AreNumbered (listed lists.now) }
+) -> Result<Option<Fault>, ReadFault>
     requires spelled { is_spelled ≡ true
         → (o : Option FaultOf)
-        × (codes_judged lists.now.profile (listed lists.now) lists.now.funcs.now
-        (raw_view section.now)
-        ≡ Ok o) }
-    ensures fault { Reads (λ r. r.0) result
-        (codes_judged lists.now.profile (listed lists.now) lists.now.funcs.now
-        (raw_view section.now)) }
-    ensures imported { IfOk result (λ r. IsImported lists.now.imports.now r.1) }
+        × (codes_judged profile workspace.old.context known (raw_view section.now) ≡ Ok o) }
+    ensures fault { Reads (λ r. r) result
+        (codes_judged profile workspace.old.context known (raw_view section.now)) }
+    ensures context { workspace.new.context ≡ workspace.old.context }
 {
-    let mut codes = CodeReader::open(section, lists.funcs.len())?;
-    let whole = Whole::of(alloc, *lists)?;
-    let fault = fault_of_codes(alloc, lists, &whole, &mut codes, rooms, is_spelled);
-    let imported = whole.into_imported();
-    Ok((fault?, imported))
+    let Workspace { context, rooms } = workspace;
+    let mut codes = CodeReader::open(section, context.funcs().len())?;
+    fault_of_codes(
+        alloc, profile, context, known, &mut codes, rooms, is_spelled,
+    )
 }
 
-// Judges a module of which this reader has the sections left, which leave its imports as they were counted, and whose first fault in
-// those up to the code section is `fault`.
-fn judge_to_end(
-    alloc: Global,
-    workspace: &mut Workspace,
-    reader: SectionReader<'_>,
-    imported: Imported,
-    fault: Option<Fault>,
-) -> Result<Verdict, ReadFault>
-    requires { (l : SectionLists) → rest_read reader ≡ Ok l → IsImported l.imports imported }
-    ensures { Reads (λ v. v) result (left_judged reader.entry fault) }
+// The verdict where this is the first fault.
+fn verdict_of(fault: Option<Fault>) -> Verdict
+    ensures { result ≡ verdict_by fault }
 {
-    workspace.give_back(alloc, fault.is_some());
-    let Rooms { scratch, room, .. } = &mut workspace.rooms;
-    let reader = reader.to_end(alloc, scratch)?;
-    let whole = Whole::with(reader.lists(), imported);
-    let verdict = verdict_behind(&whole, fault, room);
-    drop(whole);
-    drop(reader);
-    Ok(verdict?)
+    match fault {
+        Some(fault) => Verdict::Invalid(fault),
+        None => Verdict::Valid,
+    }
 }
 
 // Judges the module of these bytes, of which the sections in front of the code section are read, and of which may be known that they
@@ -192,50 +141,44 @@ fn judge_from_code(
     alloc: Global,
     workspace: &mut Workspace,
     bytes: &[u8],
-    reader: SectionReader<'_>,
-    section: &RawSection<'_>,
+    profile: Profile,
+    front: Front<'_>,
     is_spelled: bool,
 ) -> Result<Verdict, ReadFault>
     requires spelled { is_spelled ≡ true
-        → (m : PartsOf) × (module_at reader.profile bytes.now ≡ Ok m) }
-    requires code { section.now.id ≡ 10 }
-    requires none { reader.lists.codes ≡ [] }
-    requires rise { Rise 10 reader.left }
-    requires read { lists_read reader.profile no_lists (sections_of bytes.now)
-        ≡ lists_read reader.profile reader.lists (Ok (raw_view section.now) ∷ reader.left) }
-    ensures { Reads (λ v. v) result (judged (module_at reader.entry.profile bytes.now)) }
+        → (m : PartsOf) × (module_at profile bytes.now ≡ Ok m) }
+    requires front { IsFront profile (sections_of bytes.now) workspace.old.context front.left
+        front.fault (Some front.code) }
+    ensures { Reads (λ v. v) result (judged (module_at profile bytes.now)) }
 {
-    let lists = reader.lists();
-    reading_of_module(bytes, lists.profile);
-    match fault_of_section(alloc, &mut workspace.rooms, &lists, section, is_spelled) {
-        Ok((fault, imported)) => judge_to_end(alloc, workspace, reader, imported, fault),
-        Err(fault) => {
-            drop(reader);
-            Err(fault)
-        }
-    }
+    reading_of_module(bytes, profile);
+    let Front {
+        mut left,
+        fault,
+        code,
+    } = front;
+    let fault = fault_of_section(alloc, profile, workspace, fault, &code, is_spelled)?;
+    Ok(verdict_of(workspace.judge_behind(alloc, profile, &mut left, fault)?))
 }
 
-// Judges the module of these bytes, which are read and hold no code section.
-fn judge_without_code(
-    alloc: Global,
+// The verdict of the module of these bytes, which are read and hold no code section, where this is the first fault.
+fn verdict_without_code(
     bytes: &[u8],
-    reader: &SectionReader<'_>,
+    profile: Profile,
+    context: &Context,
+    fault: Option<Fault>,
 ) -> Result<Verdict, ReadFault>
-    requires none { reader.now.lists.codes ≡ [] }
-    requires read { lists_read reader.now.profile no_lists (sections_of bytes.now)
-        ≡ Ok reader.now.lists }
-    ensures { Reads (λ v. v) result (judged (module_at reader.now.profile bytes.now)) }
+    requires { IsFront profile (sections_of bytes.now) context.now [] fault None }
+    ensures { Reads (λ v. v) result (judged (module_at profile bytes.now)) }
 {
-    let lists = reader.lists();
-    reading_of_module(bytes, lists.profile);
-    if !lists.funcs.is_empty() {
+    reading_of_module(bytes, profile);
+    if !context.funcs().is_empty() {
         return Err(ReadFault {
             kind: ReadKind::FuncCodeCount,
             at: bytes.len() as u32,
         });
     }
-    Ok(judge_around(alloc, &lists, None)?)
+    Ok(verdict_of(fault))
 }
 
 /// Judges the module that these bytes spell. Where it is known that they spell one, no body behind the first fault is read.
@@ -250,15 +193,14 @@ pub(crate) fn judge_sections(
     ensures { Reads (λ v. v) result (judged (module_at profile bytes.now)) }
 {
     reading_of_module(bytes, profile);
-    let reader = SectionReader::new(alloc, bytes, profile);
-    let (reader, section) = reader.up_to_code(alloc, &mut workspace.rooms.scratch)?;
-    match section {
-        Some(section) => judge_from_code(alloc, workspace, bytes, reader, &section, is_spelled),
-        None => {
-            let verdict = judge_without_code(alloc, bytes, &reader);
-            drop(reader);
-            verdict
+    let mut left = Sections::new(bytes);
+    let (fault, code) = workspace.judge_front(alloc, profile, &mut left)?;
+    match code {
+        Some(code) => {
+            let front = Front { left, fault, code };
+            judge_from_code(alloc, workspace, bytes, profile, front, is_spelled)
         }
+        None => verdict_without_code(bytes, profile, &workspace.context, fault),
     }
 }
 
@@ -274,7 +216,7 @@ fn judge_spelling(
 {
     judge_sections(
         alloc,
-        &mut Workspace::of_call(alloc),
+        &mut Workspace::new(alloc),
         bytes,
         profile,
         is_spelled,

@@ -28,16 +28,24 @@
 //! Judging a module of 1.0 takes time and memory in line with its bytes (`docs/VERDICTS.md`, "Cost"). The sections in front of the
 //! bodies are judged first, and where one has a fault no body is typed. The imports are counted once, for all references. One room
 //! serves all bodies and constant expressions; [`judge_bytes`] has a second one, for these expressions and the first body that is not
-//! valid. It holds all lists but the bodies: none up to the first that is invalid, then one at a time; and nothing of custom sections.
+//! valid. It holds the types, and the types of functions and globals, tables and memories; the names of its exports behind the first
+//! sixteen while it reads the export section; no body up to the first that is invalid, then one at a time; and nothing else.
 #![tactic(auto)]
 
 mod code_faults;
+mod context;
 mod exports;
 mod incremental;
+mod item_kinds;
 mod judge_encoded;
+mod judge_exports;
+mod judge_items;
+mod judge_sections;
 mod judging;
+mod names;
 mod rule;
 mod rules;
+mod spaces;
 mod validator;
 mod whole;
 

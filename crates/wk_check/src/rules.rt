@@ -9,13 +9,14 @@ ghost use Rattle.wk_check.specs.Verdict.{func_verdict};
 ghost use Rattle.wk_typing.specs.Answers.{found};
 
 use crate::rule::Rule;
-use crate::whole::{Initial, Whole};
+use crate::spaces::{IndexSpaces, Initial, found_func};
+use crate::whole::Whole;
 use wk_bytes::OutOfMemory;
 use wk_module::{
     DataSeg, Elem, Func, FuncType, GlobalDef, Import, ImportDesc, Kind, Limits, Lists, Profile,
-    Ref, ValType, import_count, section_id,
+    ValType, import_count, section_id,
 };
-use wk_typing::{Answer, Env, Fault, FaultKind, Flaw, Room, constant_flaw, type_body};
+use wk_typing::{Answer, Fault, FaultKind, Flaw, Room, constant_flaw, type_body};
 
 /// The most pages that a memory may have, 4 GiB in all.
 const MAX_PAGES: u32 = 1 << 16;
@@ -40,8 +41,8 @@ fn are_in_range(limits: &Limits) -> bool
     }
 }
 
-// What is wrong with a table, which is the first in its space or not.
-fn flaw_of_table(limits: &Limits, is_first: bool) -> Option<Flaw>
+/// What is wrong with a table, which is the first in its space or not.
+pub(crate) fn flaw_of_table(limits: &Limits, is_first: bool) -> Option<Flaw>
     ensures { (before : ℕ) → is_first ≡ nat_lt before 1 → result ≡ table_flaw before limits.now }
 {
     if !are_in_order(limits) {
@@ -53,8 +54,8 @@ fn flaw_of_table(limits: &Limits, is_first: bool) -> Option<Flaw>
     None
 }
 
-// What is wrong with a memory, which is the first in its space or not.
-fn flaw_of_memory(limits: &Limits, is_first: bool) -> Option<Flaw>
+/// What is wrong with a memory, which is the first in its space or not.
+pub(crate) fn flaw_of_memory(limits: &Limits, is_first: bool) -> Option<Flaw>
     ensures { (before : ℕ) → is_first ≡ nat_lt before 1 → result ≡ memory_flaw before limits.now }
 {
     if !are_in_order(limits) {
@@ -77,6 +78,16 @@ pub(crate) fn flaw_of_type(profile: Profile, ty: &FuncType) -> Option<Flaw>
         return Some(Flaw::of(FaultKind::TypeArity));
     }
     None
+}
+
+/// What is wrong with the index of a type, where there are so many.
+pub(crate) fn flaw_of_type_index(types: usize, ty: u32) -> Option<Flaw>
+    ensures { result ≡ unless FaultKind.UnknownType (nat_lt ty types) }
+{
+    if (ty as usize) < types {
+        return None;
+    }
+    Some(Flaw::of(FaultKind::UnknownType))
 }
 
 /// A type has at most one result, in WebAssembly 1.0.
@@ -110,10 +121,7 @@ impl Rule<u32> for FuncRule {
     ghost wrong = { λ rule _ x. unless UnknownType (nat_lt x rule.types) };
 
     fn flaw(&self, _index: usize, ty: &u32, _room: &mut Room) -> Result<Option<Flaw>, OutOfMemory> {
-        if (*ty as usize) < self.types {
-            return Ok(None);
-        }
-        Ok(Some(Flaw::of(FaultKind::UnknownType)))
+        Ok(flaw_of_type_index(self.types, *ty))
     }
 }
 
@@ -152,7 +160,10 @@ impl<'a> Rule<GlobalDef> for Whole<'a> {
         global: &GlobalDef,
         room: &mut Room,
     ) -> Result<Option<Flaw>, OutOfMemory> {
-        let initial = Initial { whole: self };
+        let initial = Initial {
+            spaces: self,
+            imported: self.imported_globals(),
+        };
         constant_flaw(&initial, global.ty.val, &global.init, room)
     }
 }
@@ -224,18 +235,17 @@ impl<'a> Rule<Func> for Whole<'a> {
     }
 }
 
-// What is wrong with an import, where there are so many types, and so many tables and memories are imported before it.
-fn flaw_of_import(types: usize, tables: usize, memories: usize, desc: &ImportDesc) -> Option<Flaw>
+/// What is wrong with an import, where there are so many types, and so many tables and memories are imported before it.
+pub(crate) fn flaw_of_import(
+    types: usize,
+    tables: usize,
+    memories: usize,
+    desc: &ImportDesc,
+) -> Option<Flaw>
     ensures { result ≡ import_flaw_by types tables memories desc.now }
 {
     match desc {
-        ImportDesc::Func(ty) => {
-            if (*ty as usize) < types {
-                None
-            } else {
-                Some(Flaw::of(FaultKind::UnknownType))
-            }
-        }
+        ImportDesc::Func(ty) => flaw_of_type_index(types, *ty),
         ImportDesc::Table(limits) => flaw_of_table(limits, tables == 0),
         ImportDesc::Memory(limits) => flaw_of_memory(limits, memories == 0),
         ImportDesc::Global(_) => None,
@@ -286,13 +296,13 @@ fn is_start(answer: &Answer<'_>) -> bool
 }
 
 /// What is wrong with the start function.
-pub(crate) fn flaw_of_start(whole: &Whole<'_>, start: u32) -> Option<Flaw>
-    ensures { result ≡ start_flaw (spaces_of whole.now) start }
+pub(crate) fn flaw_of_start<S: IndexSpaces>(spaces: &S, start: u32) -> Option<Flaw>
+    ensures { result ≡ start_flaw (S.spaces spaces.now) start }
 {
-    if !whole.has_func(start) {
+    if !spaces.has_func(start) {
         return Some(Flaw::of(FaultKind::UnknownFunc));
     }
-    if !is_start(&whole.answer(Ref::Func(start))) {
+    if !is_start(&found_func(spaces, start)) {
         return Some(Flaw::of(FaultKind::StartType));
     }
     None

@@ -8,7 +8,8 @@ ghost use Rattle.wk_typing.specs.declared.fault.Verdict.{Verdict};
 ghost use Rattle.wk_check.specs.Spelled.{judged, IsVerdictOf};
 ghost use Rattle.wk_check.specs.Valid.{IsValidRead};
 
-use crate::judge_encoded::{Workspace, judge_sections};
+use crate::judge_encoded::judge_sections;
+use crate::judge_sections::Workspace;
 use std::alloc::Global;
 use std::marker::Model;
 use wk_bytes::ReadFault;
@@ -19,7 +20,8 @@ use wk_typing::Verdict;
 /// next. Its value is the unit, so no verdict and no fault depends on the modules before.
 ///
 /// It keeps room alone (no clause says so), of each part as much as the module asked for that asked for most of it, and
-/// [`shrink`](Validator::shrink) gives it back. What else a module asks for, as its lists, goes with the call.
+/// [`shrink`](Validator::shrink) gives it back. What goes with the call is a type of more than 32 parameters or results, the set of the
+/// names of exports behind the first sixteen, and a body or an initialiser that is invalid.
 ///
 /// # Example
 ///
@@ -50,7 +52,7 @@ impl Validator {
         ensures { result ≡ tt }
     {
         Validator {
-            workspace: Workspace::kept(alloc),
+            workspace: Workspace::new(alloc),
         }
     }
 
@@ -83,6 +85,6 @@ impl Validator {
     pub fn shrink(&mut self, alloc: Global)
         ensures { self.new ≡ tt }
     {
-        self.workspace = Workspace::kept(alloc);
+        self.workspace = Workspace::new(alloc);
     }
 }

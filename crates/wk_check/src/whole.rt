@@ -1,16 +1,15 @@
 //! A module as its code sees it.
 
-ghost use Rattle.std.specs.Prelude.{◌≡◌, ◌++◌, ◌∷◌, [], IfOk, OnOk, length, nat_lt, slice_get};
+ghost use Rattle.std.specs.Prelude.{◌≡◌, ◌++◌, ◌∷◌, [], IfOk, OnOk, length};
 ghost use Rattle.wk_module.specs.Listed.{listed};
-ghost use Rattle.wk_typing.specs.Answers.{found};
-ghost use Rattle.wk_check.specs.Spaces.{answer_in, spaces_of, initial_spaces, imported, table_in, memory_in};
+ghost use Rattle.wk_check.specs.Spaces.{imported, table_in, memory_in, global_in};
 ghost use Rattle.wk_check.specs.Whole.{IsImported};
-ghost use Rattle.wk_body.specs.declared.references.Ref.{Ref};
 
+use crate::spaces::{IndexSpaces, answer_by};
 use std::alloc::Global;
 use std::marker::Model;
 use wk_bytes::OutOfMemory;
-use wk_module::{GlobalType, Import, ImportDesc, Lists, Ref};
+use wk_module::{FuncType, GlobalType, Import, ImportDesc, Lists, Ref};
 use wk_typing::{Answer, Env};
 
 /// What is counted of a module's imports, which come first in their spaces (2.5.1).
@@ -101,52 +100,11 @@ impl<'a> Whole<'a> {
         Ok(Whole { lists, imports })
     }
 
-    /// The same, where the imports were counted before.
-    pub(crate) fn with(lists: Lists<'a>, imports: Imported) -> Whole<'a>
-        requires { IsImported lists.imports.now imports }
-        ensures { result ≡ listed lists.entry }
-    {
-        Whole { lists, imports }
-    }
-
-    /// What was counted of the imports. The lists are let go.
-    pub(crate) fn into_imported(self) -> Imported
-        ensures { IsImported self.entry.imports result }
-    {
-        let Whole { imports, .. } = self;
-        imports
-    }
-
     /// The lists.
     pub(crate) fn lists(&self) -> &Lists<'a>
         ensures { listed result.now ≡ self.now }
     {
         &self.lists
-    }
-
-    // The index of the type of a function.
-    fn func(&self, x: u32) -> Option<u32>
-        ensures { result ≡ slice_get (spaces_of self.now).funcs x }
-    {
-        let x = x as usize;
-        if x < self.imports.funcs.len() {
-            return Some(self.imports.funcs[x]);
-        }
-        self.lists.funcs.get(x - self.imports.funcs.len()).copied()
-    }
-
-    // The type of a global.
-    fn global(&self, x: u32) -> Option<GlobalType>
-        ensures { result ≡ slice_get (spaces_of self.now).globals x }
-    {
-        let x = x as usize;
-        if x < self.imports.globals.len() {
-            return Some(self.imports.globals[x]);
-        }
-        self.lists
-            .globals
-            .get(x - self.imports.globals.len())
-            .map(|global| global.ty)
     }
 
     /// How many tables are imported.
@@ -163,89 +121,60 @@ impl<'a> Whole<'a> {
         self.imports.memories
     }
 
-    /// Whether there is a function of that index.
-    pub(crate) fn has_func(&self, x: u32) -> bool
-        ensures { result ≡ nat_lt x (length (spaces_of self.now).funcs) }
+    /// The types of the imported globals.
+    pub(crate) fn imported_globals(&self) -> &[GlobalType]
+        ensures { result.now ≡ imported global_in self.now.imports }
     {
+        self.imports.globals.as_slice()
+    }
+}
+
+impl<'a> IndexSpaces for Whole<'a> {
+    ghost use Rattle.wk_check.specs.Spaces.{spaces_of};
+
+    ghost spaces = { λ w. spaces_of w };
+
+    fn types(&self) -> &[FuncType] {
+        self.lists.types
+    }
+
+    fn func(&self, x: u32) -> Option<u32> {
+        let x = x as usize;
+        if x < self.imports.funcs.len() {
+            return Some(self.imports.funcs[x]);
+        }
+        self.lists.funcs.get(x - self.imports.funcs.len()).copied()
+    }
+
+    fn global(&self, x: u32) -> Option<GlobalType> {
+        let x = x as usize;
+        if x < self.imports.globals.len() {
+            return Some(self.imports.globals[x]);
+        }
+        self.lists
+            .globals
+            .get(x - self.imports.globals.len())
+            .map(|global| global.ty)
+    }
+
+    fn has_func(&self, x: u32) -> bool {
         let x = x as usize;
         x < self.imports.funcs.len() || x - self.imports.funcs.len() < self.lists.funcs.len()
     }
 
-    /// Whether there is a table of that index.
-    pub(crate) fn has_table(&self, x: u32) -> bool
-        ensures { result ≡ nat_lt x (length (spaces_of self.now).tables) }
-    {
+    fn has_table(&self, x: u32) -> bool {
         let x = x as usize;
         x < self.imports.tables || x - self.imports.tables < self.lists.tables.len()
     }
 
-    /// Whether there is a memory of that index.
-    pub(crate) fn has_memory(&self, x: u32) -> bool
-        ensures { result ≡ nat_lt x (length (spaces_of self.now).memories) }
-    {
+    fn has_memory(&self, x: u32) -> bool {
         let x = x as usize;
         x < self.imports.memories || x - self.imports.memories < self.lists.memories.len()
     }
 
-    /// Whether there is a global of that index.
-    pub(crate) fn has_global(&self, x: u32) -> bool
-        ensures { result ≡ nat_lt x (length (spaces_of self.now).globals) }
-    {
+    fn has_global(&self, x: u32) -> bool {
         let x = x as usize;
         x < self.imports.globals.len() || x - self.imports.globals.len() < self.lists.globals.len()
-    }
-
-    // What a reference to the type of an index finds.
-    fn found_type(&self, x: u32) -> Answer<'_>
-        ensures { found result ≡ answer_in (spaces_of self.now) (Ref.Ty x) }
-    {
-        match self.lists.types.get(x as usize) {
-            Some(ty) => Answer::Ty(ty),
-            None => Answer::NoType,
-        }
-    }
-
-    // What a reference to a function finds.
-    fn found_func(&self, x: u32) -> Answer<'_>
-        ensures { found result ≡ answer_in (spaces_of self.now) (Ref.Func x) }
-    {
-        let Some(ty) = self.func(x) else {
-            return Answer::NoFunc;
-        };
-        match self.lists.types.get(ty as usize) {
-            Some(ty) => Answer::Func(ty),
-            None => Answer::FuncOfNoType,
-        }
-    }
-
-    // What a reference to a global finds.
-    fn found_global(&self, x: u32) -> Answer<'_>
-        ensures { found result ≡ answer_in (spaces_of self.now) (Ref.Global x) }
-    {
-        match self.global(x) {
-            Some(ty) => Answer::Global(ty),
-            None => Answer::NoGlobal,
-        }
-    }
-
-    // What a reference to the table finds.
-    fn found_table(&self) -> Answer<'_>
-        ensures { found result ≡ answer_in (spaces_of self.now) Ref.Table }
-    {
-        if self.imports.tables == 0 && self.lists.tables.is_empty() {
-            return Answer::Absent;
-        }
-        Answer::Present
-    }
-
-    // What a reference to the memory finds.
-    fn found_memory(&self) -> Answer<'_>
-        ensures { found result ≡ answer_in (spaces_of self.now) Ref.Memory }
-    {
-        if self.imports.memories == 0 && self.lists.memories.is_empty() {
-            return Answer::Absent;
-        }
-        Answer::Present
     }
 }
 
@@ -257,49 +186,6 @@ impl<'a> Env for Whole<'a> {
     ghost of_kind = { λ w r. answers_of_kind (spaces_of w) r };
 
     fn answer(&self, reference: Ref) -> Answer<'_> {
-        match reference {
-            Ref::Ty(x) => self.found_type(x),
-            Ref::Func(x) => self.found_func(x),
-            Ref::Global(x) => self.found_global(x),
-            Ref::Table => self.found_table(),
-            Ref::Memory => self.found_memory(),
-        }
-    }
-}
-
-/// The same module as the initialisers of its globals see it: of the globals they see the imported ones alone (3.4.10).
-#[derive(Clone, Copy, Debug)]
-pub(crate) struct Initial<'a> {
-    pub(crate) whole: &'a Whole<'a>,
-}
-
-impl<'a> Initial<'a> {
-    // What a reference to a global finds.
-    fn found_global(&self, x: u32) -> Answer<'_>
-        ensures { found result ≡ answer_in (initial_spaces self.now.whole.now) (Ref.Global x) }
-    {
-        let whole = self.whole;
-        match whole.imports.globals.get(x as usize) {
-            Some(ty) => Answer::Global(*ty),
-            None => Answer::NoGlobal,
-        }
-    }
-}
-
-impl<'a> Env for Initial<'a> {
-    ghost use Rattle.wk_check.specs.Spaces.{answer_in, initial_spaces, answers_of_kind};
-
-    ghost answers = { λ i r. answer_in (initial_spaces i.whole.now) r };
-
-    ghost of_kind = { λ i r. answers_of_kind (initial_spaces i.whole.now) r };
-
-    fn answer(&self, reference: Ref) -> Answer<'_> {
-        match reference {
-            Ref::Ty(x) => self.whole.found_type(x),
-            Ref::Func(x) => self.whole.found_func(x),
-            Ref::Global(x) => self.found_global(x),
-            Ref::Table => self.whole.found_table(),
-            Ref::Memory => self.whole.found_memory(),
-        }
+        answer_by(self, reference)
     }
 }

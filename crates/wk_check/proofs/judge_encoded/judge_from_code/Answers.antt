@@ -1,41 +1,55 @@
-use Rattle.std.proofs.Common.{List, subst}
+use Rattle.std.proofs.Common.{refl, sym, ap, ◌∙◌}
+use Rattle.std.proofs.lemmas.Result.{err_from_is_err_and}
 use Rattle.wk_bytes.specs.Raw.{raw_view}
 use Rattle.wk_body.specs.ReadsLaws.{fails_on}
-use Rattle.wk_module.specs.Listed.{listed}
 use Rattle.wk_module.specs.Reading.{module_at}
-use Rattle.wk_module.specs.declared.types.Import.{Import}
+use Rattle.wk_check.specs.Contexts.{behind_at_once}
 use Rattle.wk_check.specs.Spelled.{judged, codes_judged}
-use Rattle.wk_check.specs.Whole.{IsImported}
-use Rattle.wk_check.proofs.JudgedCodes.{parts_fail, parts_read, judged_in_parts, imports_stay}
+use Rattle.wk_check.proofs.JudgedFront.{front_fails, front_reads, front_unread, front_told, front_omits}
 use Rattle.wk_check.proofs.judge_encoded.judge_from_code.Goals as goal
 
-pub fault_of_section-requires-clause-spelled : goal.fault_of_section-requires-clause-spelled
-fault_of_section-requires-clause-spelled c = λ known.
-    let m = c.requires.spelled known in
-    parts_read c.args.reader c.args.bytes.now (raw_view c.args.section.now) c.lists-lists.result c.reading_of_module.ensures.is
-    c.reading_of_module.ensures.lists c.lists-lists.ensures.profile c.lists-lists.ensures.lists c.requires.code c.requires.none c.requires.rise
-    c.requires.read m.0 m.1
+pub fault_of_section-requires : goal.fault_of_section-requires
+fault_of_section-requires c = record {
+  spelled = λ known.
+      let f = c.args.front in
+      let m = c.requires.spelled known in
+      front_reads c.args.profile c.args.bytes.now c.reading_of_module.ensures.is c.reading_of_module.ensures.lists c.args.workspace.now.context f.left
+      f.fault f.code c.requires.front m.0 m.1;
+}
 
-pub returns-in-Err : goal.returns-in-Err
-returns-in-Err c =
-    let e = c.in-Err.fault in
-    let r = c.args.reader in
-    let lent = c.lists-lists.result in
-    let b = c.args.bytes.now in
-    let s = raw_view c.args.section.now in
-    fails_on e e.kind (codes_judged lent.profile (listed lent) lent.funcs.now s) (judged (module_at r.profile b))
-    (parts_fail r b s lent c.reading_of_module.ensures.is c.reading_of_module.ensures.lists c.lists-lists.ensures.profile
-    c.lists-lists.ensures.lists c.requires.code c.requires.none c.requires.rise c.requires.read e) c.in-Err.ensures.fault
+pub returns-in_err-fault : goal.returns-in_err-fault
+returns-in_err-fault c =
+    let p = err_from_is_err_and c.from_residual.result c.from_residual.ensures.1 in
+    let e = c.in_err-fault.field-0.0 in
+    let f = c.args.front in
+    let context = c.args.workspace.now.context in
+    rw (p.1, p.2) (fails_on e e.kind (codes_judged c.args.profile context f.fault (raw_view f.code)) (judged (module_at c.args.profile c.args.bytes.now))
+    (front_fails c.args.profile c.args.bytes.now c.reading_of_module.ensures.is c.reading_of_module.ensures.lists context f.left f.fault f.code
+    c.requires.front e) c.in_err-fault.ensures.fault)
 
-pub judge_to_end-requires : goal.judge_to_end-requires
-judge_to_end-requires c = λ l read.
-    subst (λ (imports : List Import). IsImported imports c.in-Ok.imported)
-    (imports_stay c.args.reader c.args.bytes.now (raw_view c.args.section.now) c.lists-lists.result c.reading_of_module.ensures.is
-    c.reading_of_module.ensures.lists c.lists-lists.ensures.profile c.lists-lists.ensures.lists c.requires.code c.requires.none c.requires.rise
-    c.requires.read l read) c.in-Ok.ensures.imported
+pub returns-in_err-judge_behind : goal.returns-in_err-judge_behind
+returns-in_err-judge_behind c =
+    let p = err_from_is_err_and c.from_residual-in_err-judge_behind.result c.from_residual-in_err-judge_behind.ensures.1 in
+    let e = c.in_err-judge_behind.field-0.0 in
+    let f = c.args.front in
+    let front = c.requires.front in
+    let context = c.args.workspace.now.context in
+    let omits = front_omits c.args.profile c.args.bytes.now c.reading_of_module.ensures.is c.reading_of_module.ensures.lists context f.left f.fault
+    f.code front in
+    let here = c.in_ok-fault.ensures.context ∙ front.context_is in
+    rw (p.1, p.2) (fails_on e e.kind (behind_at_once c.args.profile front.lists c.in_ok-fault.fault f.left)
+    (judged (module_at c.args.profile c.args.bytes.now))
+    (λ bad. front_unread c.args.profile c.args.bytes.now c.reading_of_module.ensures.is c.reading_of_module.ensures.lists context f.left f.fault f.code
+    front c.in_ok-fault.fault e c.in_ok-fault.ensures.fault bad) (c.in_err-judge_behind.ensures front.lists here omits))
 
-pub returns-in-Ok : goal.returns-in-Ok
-returns-in-Ok c =
-    rw (judged_in_parts c.args.reader c.args.bytes.now (raw_view c.args.section.now) c.lists-lists.result c.reading_of_module.ensures.is
-    c.reading_of_module.ensures.lists c.lists-lists.ensures.profile c.lists-lists.ensures.lists c.requires.code c.requires.none c.requires.rise
-    c.requires.read c.in-Ok.fault c.in-Ok.ensures.fault) c.judge_to_end.ensures
+pub returns : goal.returns
+returns c =
+    let f = c.args.front in
+    let front = c.requires.front in
+    let context = c.args.workspace.now.context in
+    let omits = front_omits c.args.profile c.args.bytes.now c.reading_of_module.ensures.is c.reading_of_module.ensures.lists context f.left f.fault
+    f.code front in
+    let here = c.in_ok-fault.ensures.context ∙ front.context_is in
+    rw c.verdict_of.ensures (front_told c.args.profile c.args.bytes.now c.reading_of_module.ensures.is c.reading_of_module.ensures.lists context f.left
+    f.fault f.code front c.in_ok-fault.fault c.in_ok-judge_behind.field-0 c.in_ok-fault.ensures.fault
+    (c.in_ok-judge_behind.ensures front.lists here omits))

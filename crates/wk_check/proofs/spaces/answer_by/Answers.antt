@@ -1,0 +1,14 @@
+use Rattle.std.proofs.Common.{if◌then◌else◌, ap, ◌∙◌}
+use Rattle.wk_typing.specs.Answers.{IsPresent, IsAbsent}
+use Rattle.wk_check.proofs.Imported.{first_found}
+use Rattle.wk_check.proofs.spaces.answer_by.Goals as goal
+
+pub returns-in-Table : goal.returns-in-Table
+returns-in-Table g c =
+    rw c.in-Table.is (c.found_first.ensures ∙ ap (λ b. if b then IsPresent else IsAbsent) c.has_table.ensures
+    ∙ first_found (g.S.IndexSpaces.spaces c.args.spaces.now).tables)
+
+pub returns-in-Memory : goal.returns-in-Memory
+returns-in-Memory g c =
+    rw c.in-Memory.is (c.found_first-in-Memory.ensures ∙ ap (λ b. if b then IsPresent else IsAbsent) c.has_memory.ensures
+    ∙ first_found (g.S.IndexSpaces.spaces c.args.spaces.now).memories)

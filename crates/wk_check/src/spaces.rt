@@ -1,0 +1,140 @@
+//! The index spaces of a module (2.5.1), and what references find in them.
+
+ghost use Rattle.std.specs.Prelude.{◌≡◌, if◌then◌else◌};
+ghost use Rattle.wk_typing.specs.Answers.{IsAbsent, IsPresent, found};
+ghost use Rattle.wk_check.specs.Contexts.{with_globals};
+ghost use Rattle.wk_check.specs.Spaces.{answer_in};
+ghost use Rattle.wk_body.specs.declared.references.Ref.{Ref};
+
+use wk_module::{FuncType, GlobalType, Ref};
+use wk_typing::{Answer, Env};
+
+/// The index spaces of a module, in which what is imported comes first (2.5.1). No call takes memory.
+pub(crate) trait IndexSpaces {
+    ghost use Rattle.std.specs.Prelude.{◌≡◌, length, nat_lt, slice_get};
+    ghost use Rattle.wk_check.specs.Spaces.{Spaces};
+
+    ghost spaces: { Self → Spaces };
+
+    /// The types.
+    fn types(&self) -> &[FuncType]
+        ensures { result.now ≡ (spaces self.now).types };
+
+    /// The index of the type of a function.
+    fn func(&self, x: u32) -> Option<u32>
+        ensures { result ≡ slice_get (spaces self.now).funcs x };
+
+    /// The type of a global.
+    fn global(&self, x: u32) -> Option<GlobalType>
+        ensures { result ≡ slice_get (spaces self.now).globals x };
+
+    /// Whether there is a function of that index.
+    fn has_func(&self, x: u32) -> bool
+        ensures { result ≡ nat_lt x (length (spaces self.now).funcs) };
+
+    /// Whether there is a table of that index.
+    fn has_table(&self, x: u32) -> bool
+        ensures { result ≡ nat_lt x (length (spaces self.now).tables) };
+
+    /// Whether there is a memory of that index.
+    fn has_memory(&self, x: u32) -> bool
+        ensures { result ≡ nat_lt x (length (spaces self.now).memories) };
+
+    /// Whether there is a global of that index.
+    fn has_global(&self, x: u32) -> bool
+        ensures { result ≡ nat_lt x (length (spaces self.now).globals) };
+}
+
+// What a reference to the type of an index finds.
+fn found_type<S: IndexSpaces>(spaces: &S, x: u32) -> Answer<'_>
+    ensures { found result ≡ answer_in (S.spaces spaces.now) (Ref.Ty x) }
+{
+    match spaces.types().get(x as usize) {
+        Some(ty) => Answer::Ty(ty),
+        None => Answer::NoType,
+    }
+}
+
+/// What a reference to a function finds.
+pub(crate) fn found_func<S: IndexSpaces>(spaces: &S, x: u32) -> Answer<'_>
+    ensures { found result ≡ answer_in (S.spaces spaces.now) (Ref.Func x) }
+{
+    let Some(ty) = spaces.func(x) else {
+        return Answer::NoFunc;
+    };
+    match spaces.types().get(ty as usize) {
+        Some(ty) => Answer::Func(ty),
+        None => Answer::FuncOfNoType,
+    }
+}
+
+// What a reference to a global finds.
+fn found_global<S: IndexSpaces>(spaces: &S, x: u32) -> Answer<'_>
+    ensures { found result ≡ answer_in (S.spaces spaces.now) (Ref.Global x) }
+{
+    match spaces.global(x) {
+        Some(ty) => Answer::Global(ty),
+        None => Answer::NoGlobal,
+    }
+}
+
+// What a reference to the table, or to the memory, finds, where it is known whether there is a first.
+fn found_first(has_first: bool) -> Answer<'static>
+    ensures { found result ≡ (if has_first then IsPresent else IsAbsent) }
+{
+    if has_first {
+        return Answer::Present;
+    }
+    Answer::Absent
+}
+
+/// What a reference finds in index spaces (3.1.1).
+pub(crate) fn answer_by<S: IndexSpaces>(spaces: &S, reference: Ref) -> Answer<'_>
+    ensures { found result ≡ answer_in (S.spaces spaces.now) reference }
+{
+    match reference {
+        Ref::Ty(x) => found_type(spaces, x),
+        Ref::Func(x) => found_func(spaces, x),
+        Ref::Global(x) => found_global(spaces, x),
+        Ref::Table => found_first(spaces.has_table(0)),
+        Ref::Memory => found_first(spaces.has_memory(0)),
+    }
+}
+
+/// The same spaces as the initialisers of globals see them: of the globals they see the imported ones alone (3.4.10).
+#[derive(Clone, Copy, Debug)]
+pub(crate) struct Initial<'a, S: IndexSpaces> {
+    pub(crate) spaces: &'a S,
+    /// The types of the imported globals.
+    pub(crate) imported: &'a [GlobalType],
+}
+
+impl<'a, S: IndexSpaces> Initial<'a, S> {
+    // What a reference to a global finds.
+    fn found_global(&self, x: u32) -> Answer<'_>
+        ensures { found result
+            ≡ answer_in (with_globals self.now.imported.now (S.spaces self.now.spaces.now))
+            (Ref.Global x) }
+    {
+        match self.imported.get(x as usize) {
+            Some(ty) => Answer::Global(*ty),
+            None => Answer::NoGlobal,
+        }
+    }
+}
+
+impl<'a, S: IndexSpaces> Env for Initial<'a, S> {
+    ghost use Rattle.wk_check.specs.Contexts.{with_globals};
+    ghost use Rattle.wk_check.specs.Spaces.{answer_in, answers_of_kind};
+
+    ghost answers = { λ i r. answer_in (with_globals i.imported.now (S.spaces i.spaces.now)) r };
+
+    ghost of_kind = { λ i r. answers_of_kind (with_globals i.imported.now (S.spaces i.spaces.now)) r };
+
+    fn answer(&self, reference: Ref) -> Answer<'_> {
+        match reference {
+            Ref::Global(x) => self.found_global(x),
+            _ => answer_by(self.spaces, reference),
+        }
+    }
+}
