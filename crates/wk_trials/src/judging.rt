@@ -61,7 +61,7 @@ pub(crate) enum Validate {
     New,
     /// By one that has judged an invalid module and a malformed one.
     Used,
-    /// By one that has judged this module.
+    /// By one that has judged this module twice: then each room has grown.
     Again,
     /// By one that has judged this module, and gave its room back.
     Shrunk,
@@ -85,11 +85,14 @@ impl Validate {
                 let cut = validator.judge_bytes(alloc, CUT, sample.profile);
                 matches!(invalid, Ok(Verdict::Invalid(_))) && cut.is_err()
             }
-            Validate::Again | Validate::Shrunk => {
+            Validate::Again => {
+                let first = validator.judge_bytes(alloc, sample.bytes, sample.profile);
+                let second = validator.judge_bytes(alloc, sample.bytes, sample.profile);
+                first == Ok(Verdict::Valid) && second == first
+            }
+            Validate::Shrunk => {
                 let answer = validator.judge_bytes(alloc, sample.bytes, sample.profile);
-                if let Validate::Shrunk = self {
-                    validator.shrink(alloc);
-                }
+                validator.shrink(alloc);
                 answer == Ok(Verdict::Valid)
             }
         }

@@ -4,7 +4,7 @@ use std::alloc::{AllocError, Global};
 use std::process::Abort;
 use std::test::Fail;
 use wk_bytes::put_u32;
-use wk_check::{Fault, FaultKind, Place, Verdict, judge};
+use wk_check::{Fault, FaultKind, Place, Verdict, judge, judge_bytes};
 use wk_module::{Profile, read_in};
 
 const HEADER: &[u8] = b"\0asm\x01\0\0\0";
@@ -23,10 +23,16 @@ fn behind_header(alloc: Global, sections: &[u8]) -> Result<Vec<u8>, AllocError> 
     Ok(bytes)
 }
 
-// The verdict of a module of a profile.
+// The verdict of a module of a profile, which is the same while it is read.
 fn judged_whole(alloc: Global, bytes: &[u8], profile: Profile) -> Result<Verdict, Fail> {
     let module = read_in(alloc, bytes, profile)?;
-    Ok(judge(alloc, &module)?)
+    let verdict = judge(alloc, &module)?;
+    let is_same = judge_bytes(alloc, bytes, profile)? == verdict;
+    Ok(
+        is_same
+            .then_some(verdict)
+            .ok_or("another verdict while it is read")?,
+    )
 }
 
 /// The verdict of a module of a profile, which is given by what comes behind its header.

@@ -3,7 +3,7 @@
 use std::alloc::Global;
 use std::process::Abort;
 use std::test::Fail;
-use wk_bytes::ReadKind;
+use wk_bytes::{ReadKind, put_u32};
 use wk_check::{Fault, FaultKind, Place, Verdict, judge_bytes, judge_spelled};
 use wk_module::{Profile, read_outline};
 
@@ -187,4 +187,41 @@ fn judges_by_either_profile(rt: HostRuntime) -> Result<(), Fail> {
     assert_eq!(rt; fault.at, 25);
     let mismatch = Some((FaultKind::TypeMismatch, token(10, 0, 1)));
     tells(&rt, rt.alloc(), extends, Profile::Extended, mismatch)
+}
+
+// A module with a memory and so many exports of it, of which two have one name.
+fn with_same_names(alloc: Global, count: u8, first: u8, second: u8) -> Result<Vec<u8>, Fail> {
+    let mut bytes = Vec::from_slice(alloc, b"\0asm\x01\0\0\0\x05\x03\x01\0\x01\x07")?;
+    // Each has five bytes, with those of its name.
+    put_u32(&mut bytes, u32::from(count) * 5 + 1)?;
+    bytes.push(count)?;
+    for index in 0..count {
+        let name = if index == second { first } else { index };
+        bytes.extend_from_slice(&[2, b'm', b' ' + name % 90, 2, 0])?;
+    }
+    Ok(bytes)
+}
+
+#[test]
+fn tells_names_that_come_twice(rt: HostRuntime) -> Result<(), Fail> {
+    // The first sixteen names are compared one by one, those behind them lie in a set.
+    let rows: [(u8, u8, u8); 9] = [
+        (2, 0, 1),
+        (16, 0, 15),
+        (16, 14, 15),
+        (17, 0, 16),
+        (17, 15, 16),
+        (18, 16, 17),
+        (40, 3, 5),
+        (40, 15, 39),
+        (40, 20, 30),
+    ];
+    for (count, first, second) in rows {
+        let bytes = with_same_names(rt.alloc(), count, first, second)?;
+        let wanted = Some((FaultKind::DuplicateExport, item(7, u32::from(second))));
+        tells(&rt, rt.alloc(), &bytes, Profile::Core, wanted)?;
+        let bytes = with_same_names(rt.alloc(), count, first, first)?;
+        tells(&rt, rt.alloc(), &bytes, Profile::Core, None)?;
+    }
+    Ok(())
 }

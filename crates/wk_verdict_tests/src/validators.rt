@@ -6,8 +6,8 @@ use std::test::Fail;
 use wk_check::{Validator, Verdict, judge_bytes};
 use wk_module::Profile;
 
-// Valid, invalid and malformed modules, whose bodies leave operands, blocks, locals, references and faults to the next.
-const MODULES: [&[u8]; 11] = [
+// Valid, invalid and malformed modules, which leave operands, blocks, locals, items, names, references and faults to the next.
+const MODULES: [&[u8]; 19] = [
     // no sections
     b"\0asm\x01\0\0\0",
     // valid: functions of two types, the second with locals of two groups, a memory and a data segment
@@ -18,6 +18,17 @@ const MODULES: [&[u8]; 11] = [
     b"\0asm\x01\0\0\0\x01\x04\x01\x60\0\0\x02\x0c\x02\x01a\x01b\0\0\0\0\x03\x7f\0\x06\x06\x01\x7f\0\x23\0\x0b",
     // valid with multi-value alone: a type of two results
     b"\0asm\x01\0\0\0\x01\x06\x01\x60\0\x02\x7f\x7f\x03\x02\x01\0\x0a\x08\x01\x06\0\x41\0\x41\0\x0b",
+    // valid: a section of each id
+    b"\0asm\x01\0\0\0\x01\x08\x02\x60\0\0\x60\x01\x7f\0\x02\x0c\x02\x01a\x01b\0\0\0\0\x03\x7f\0\x03\x02\x01\x01\x04\x04\x01\x70\0\x01\x05\x03\x01\0\x01\x06\x06\x01\x7f\0\x41\0\x0b\x07\x05\x01\x01a\0\0\x08\x01\0\x09\x07\x01\0\x41\0\x0b\x01\x01\x0a\x04\x01\x02\0\x0b\x0b\x06\x01\0\x41\0\x0b\0",
+    // valid: an export of the same name
+    b"\0asm\x01\0\0\0\x05\x03\x01\0\x01\x07\x05\x01\x01a\x02\0",
+    // invalid: a type, a function, a table, a memory and two globals that the module does not have
+    b"\0asm\x01\0\0\0\x03\x02\x01\0\x0a\x04\x01\x02\0\x0b",
+    b"\0asm\x01\0\0\0\x08\x01\0",
+    b"\0asm\x01\0\0\0\x09\x06\x01\0\x41\0\x0b\0",
+    b"\0asm\x01\0\0\0\x0b\x06\x01\0\x41\0\x0b\0",
+    b"\0asm\x01\0\0\0\x07\x05\x01\x01a\x03\0",
+    b"\0asm\x01\0\0\0\x06\x06\x01\x7f\0\x23\0\x0b",
     // invalid: an operand is left
     b"\0asm\x01\0\0\0\x01\x04\x01\x60\0\0\x03\x02\x01\0\x0a\x06\x01\x04\0\x41\0\x0b",
     // invalid: an operand is missing, in two blocks
@@ -66,9 +77,9 @@ fn modules_are_of_each_kind(rt: HostRuntime) -> Result<(), Fail> {
     for (index, bytes) in MODULES.iter().enumerate() {
         let answer = judge_bytes(rt.alloc(), bytes, Profile::Extended);
         let is_right = match answer {
-            Ok(Verdict::Valid) => index < 5,
-            Ok(Verdict::Invalid(_)) => 5 <= index && index < 9,
-            Err(_) => 9 <= index,
+            Ok(Verdict::Valid) => index < 7,
+            Ok(Verdict::Invalid(_)) => 7 <= index && index < 17,
+            Err(_) => 17 <= index,
         };
         assert!(&rt; is_right, "{bytes:?}");
     }

@@ -69,11 +69,11 @@ pub(crate) static MODULES: [Named; 85] = [
         Scenario::Validate(Validate::Used, OF_WIDE),
     ),
     (
-        "validator-again",
+        "validator-again-in-room",
         Scenario::Validate(Validate::Again, OF_VALID),
     ),
     (
-        "validator-again-wide",
+        "validator-again-wide-in-room",
         Scenario::Validate(Validate::Again, OF_WIDE),
     ),
     (
