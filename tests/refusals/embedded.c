@@ -4,8 +4,8 @@
  *                                      valid, or whether the validator that judges has judged before
  *
  * It prints `fine`, `memory` where the call answers want of memory and leaves no length and no byte of an output changed, or
- * `wrong` and the result. Behind `new` and `judge` a validator judges the module once more, with no allocation refused: `fine` and
- * `memory` say too that it answers what the call without a validator does. */
+ * `wrong` and the result. Behind `new` and `judge` a validator judges two other modules and this one once more, with no allocation refused:
+ * `fine` and `memory` say too that it answers what the call without a validator does. */
 #include "wasmkit.h"
 
 #include <stdio.h>
@@ -52,14 +52,20 @@ static enum wasmkit_result call(const char *name, uint32_t profile, uint32_t num
     return wasmkit_edit(module, length, script, script_length, profile, number, out, ROOM, &out_length, text, ROOM, &text_length);
 }
 
-/* Whether the validator judges the module as the call without one does; where there is none, a new one. */
-static int judges_on(uint32_t profile, size_t length) {
+/* Whether the validator judges these bytes as the call without one does. */
+static int judges_alike(uint32_t profile, const uint8_t *bytes, size_t length) {
     static uint8_t wanted[ROOM], found[ROOM];
     size_t wanted_length, found_length;
-    if (!validator && wasmkit_validator_new(&validator) != WASMKIT_OK) return 0;
-    return wasmkit_validate(module, length, profile, wanted, ROOM, &wanted_length)
-            == wasmkit_validator_judge(validator, module, length, profile, found, ROOM, &found_length)
+    return wasmkit_validate(bytes, length, profile, wanted, ROOM, &wanted_length)
+            == wasmkit_validator_judge(validator, bytes, length, profile, found, ROOM, &found_length)
         && wanted_length && wanted_length == found_length && !memcmp(wanted, found, wanted_length);
+}
+
+/* Whether the validator judges on, where there is none a new one: the empty module, one whose start function is not there, and the module. */
+static int judges_on(uint32_t profile, size_t length) {
+    static const uint8_t others[11] = {0, 'a', 's', 'm', 1, 0, 0, 0, 8, 1, 0};
+    if (!validator && wasmkit_validator_new(&validator) != WASMKIT_OK) return 0;
+    return judges_alike(profile, others, 8) && judges_alike(profile, others, 11) && judges_alike(profile, module, length);
 }
 
 int main(int count, char **words) {
