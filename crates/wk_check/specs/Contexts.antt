@@ -197,7 +197,7 @@ lists_fault profile l = earlier (front_fault profile l) (first_in 11 0 (data_fla
 abbrev pub AreOmittedFrom : ℕ → SectionLists → Type 0
 AreOmittedFrom id l = (k : SectionId) → id ≤ number k → contents l k ≡ omitted k
 
--- the code section that a front ends with, unread, or nothing, where the reader is at the end
+-- How a front ends: all sections are read, or the code section comes next, unread.
 abbrev pub EndsWith : Profile → List (Result Section ReadFault) → SectionLists → List (Result Section ReadFault) → Option RawSection → Type 0
 EndsWith profile all l left None = lists_read profile no_lists all ≡ Ok l
 EndsWith profile all l left (Some s) = (s.id ≡ 10) × Rise 10 left × (lists_read profile no_lists all ≡ lists_read profile l (Ok (raw_view s) ∷ left))

@@ -226,9 +226,9 @@ fn judge_spelling(
 /// Judges the module of a profile that bytes spell (5.5.15, 3.4.10): valid, or the first fault by section, item, and what is
 /// looked at.
 ///
-/// The verdict is that of the module that [`read_in`](wk_module::read_in) reads of these bytes. Each body is typed while it
-/// is read, so that the memory taken is that of the module without its bodies and custom sections, and of the blocks and operands of
-/// one body. A body that is invalid, and those behind it, are held whole, one at a time.
+/// The verdict is that of the module that [`read_in`](wk_module::read_in) reads of these bytes. Each item is judged and each body typed
+/// while it is read, so that the memory taken is that of the module's types, of the types of its functions and globals, and of the blocks and
+/// operands of one body. A body that is invalid, and those behind a fault, are held whole, one at a time.
 ///
 /// # Errors
 ///

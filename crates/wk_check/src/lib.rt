@@ -29,7 +29,8 @@
 //! bodies are judged first, and where one has a fault no body is typed. The imports are counted once, for all references. One room
 //! serves all bodies and constant expressions; [`judge_bytes`] has a second one, for these expressions and the first body that is not
 //! valid. It holds the types, and the types of functions and globals, tables and memories; the names of its exports behind the first
-//! sixteen while it reads the export section; no body up to the first that is invalid, then one at a time; and nothing else.
+//! sixteen while it reads the export section; an initialiser or an offset while it looks at it; and no body up to the first fault, then one
+//! at a time.
 #![tactic(auto)]
 
 mod code_faults;

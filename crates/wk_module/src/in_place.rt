@@ -118,7 +118,7 @@ pub fn read_memory_type(cursor: &mut Cursor<'_>) -> Result<Limits, ReadFault>
     Ok(limits)
 }
 
-/// Reads a global (5.5.9). An expression of two tokens takes no memory.
+/// Reads a global (5.5.9). An expression of two tokens takes no memory but the room of the scratch.
 ///
 /// # Errors
 ///

@@ -15,8 +15,8 @@ use wk_bytes::{Cursor, ReadFault};
 // Room for more parameters or results than these is not kept.
 const FEW: usize = 32;
 
-/// A list of function types (2.3.3), which a contract sees as that list. The room of those that are cleared away is used again, so that where modules
-/// with the same types are read one after the other, only the first of them asks for memory.
+/// A list of function types (2.3.3), which a contract sees as that list. The room of those that are cleared away is used again: where modules
+/// with the same types, of at most 32 parameters and 32 results, are read one after the other, those behind the second ask for no memory.
 #[derive(Debug, Drop)]
 pub struct TypeList {
     types: Vec<FuncType>,
