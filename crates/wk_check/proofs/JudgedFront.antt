@@ -1,5 +1,5 @@
 -- The verdict of a module of which the sections in front of the code section are read and judged.
-use Rattle.std.proofs.Common.{◌≡◌, ◌≤◌, ℕ, List, Result, Ok, Err, Option, Some, None, [], ap, sym, ◌∙◌, arith}
+use Rattle.std.proofs.Common.{◌≡◌, ℕ, List, Result, Ok, Err, Option, Some, ap, sym, ◌∙◌, arith}
 use Rattle.wk_bytes.specs.declared.fault.ReadFault.{ReadFault}
 use Rattle.wk_bytes.specs.declared.raw.RawSection.{RawSection}
 use Rattle.wk_bytes.specs.Frames.{Section, sections_of}
@@ -7,9 +7,8 @@ use Rattle.wk_bytes.specs.Leb.{◌>>=◌}
 use Rattle.wk_bytes.specs.Raw.{raw_view}
 use Rattle.wk_body.specs.declared.types.Profile.{Profile}
 use Rattle.wk_module.specs.declared.types.Parts.{Parts}
-use Rattle.wk_module.specs.ListReading.{AreListsOfModule, IsReading, lists_read}
+use Rattle.wk_module.specs.ListReading.{AreListsOfModule, IsReading}
 use Rattle.wk_module.specs.Reading.{module_at}
-use Rattle.wk_module.specs.Sections.{SectionLists}
 use Rattle.wk_typing.specs.declared.fault.Fault.{Fault}
 use Rattle.wk_check.specs.Contexts.{AreOmittedFrom, ModuleContext, IsFront, behind_at_once, context_of}
 use Rattle.wk_check.specs.Flaws.{verdict_by}

@@ -1,5 +1,5 @@
 -- Indices that are read one after the other, and whether each is one of a space.
-use Rattle.std.proofs.Common.{◌≡◌, ℕ, suc, ◌+◌, ◌-◌, ◌<◌, ◌≤◌, List, [], ◌∷◌, Bool, true, false, nat_lt, if◌then◌else◌, Result, Ok, Err, refl, sym, ap, ◌∙◌, arith}
+use Rattle.std.proofs.Common.{◌≡◌, ℕ, suc, ◌+◌, ◌-◌, ◌<◌, ◌≤◌, List, ◌∷◌, Bool, true, false, nat_lt, if◌then◌else◌, Result, Ok, Err, refl, sym, ap, ◌∙◌, arith}
 use Rattle.wk_bytes.specs.declared.fault.ReadFault.{ReadFault}
 use Rattle.wk_bytes.specs.Leb.{◌>>=◌}
 use Rattle.wk_bytes.specs.Span.{u32_at}

@@ -28,7 +28,7 @@ loop-index-init c =
       [],
       λ none. c.new-names.ensures,
       starts export_at next_export_flaw add_export 7 (section_end s) s.contents (record { context = c.args.context.now; names = [] }) c.args.before
-      c.cursor-cursor.result c.u32.new.self c.in_ok-count.count c.cursor-cursor.ensures c.in_ok-count.ensures.exact.0 c.in_ok-count.ensures.exact.1,
+          c.cursor-cursor.result c.u32.new.self c.in_ok-count.count c.cursor-cursor.ensures c.in_ok-count.ensures.exact.0 c.in_ok-count.ensures.exact.1,
     )
 
 pub returns-in_err-export : goal.returns-in_err-export
@@ -49,8 +49,8 @@ loop-index-preserved-then-is_some c =
       l.invariant.0 ++ c.in_ok-export.export.name.now ∷ [],
       λ none. absurd (none_none l.fault some none),
       export_passes (section_end s) s.contents c.args.context.now c.args.before c.in_ok-count.count l.index l.cursor l.invariant.0 l.fault l.invariant.2
-      c.read_export.new.cursor (export_view c.in_ok-export.export) some c.loop-index-test.true c.in_ok-export.ensures.exact.0
-      c.in_ok-export.ensures.exact.1,
+          c.read_export.new.cursor (export_view c.in_ok-export.export) some c.loop-index-test.true c.in_ok-export.ensures.exact.0
+          c.in_ok-export.ensures.exact.1,
     )
 
 pub loop-index-preserved : goal.loop-index-preserved
@@ -69,8 +69,8 @@ loop-index-preserved c =
         | in_default w ↦ λ fine. judged.1 w.in_default.is
       ],
       export_judged (section_end s) s.contents c.args.context.now c.args.before c.in_ok-count.count l.index l.cursor l.invariant.0 l.fault l.invariant.2
-      c.read_export.new.cursor (export_view c.in_ok-export.export) c.in_ok-flaw.field-0 c.match-branch-4.fault none c.loop-index-test.true
-      c.in_ok-export.ensures.exact.0 c.in_ok-export.ensures.exact.1 judged.0 first_is,
+          c.read_export.new.cursor (export_view c.in_ok-export.export) c.in_ok-flaw.field-0 c.match-branch-4.fault none c.loop-index-test.true
+          c.in_ok-export.ensures.exact.0 c.in_ok-export.ensures.exact.1 judged.0 first_is,
     )
 
 pub returns-in_err-at_end : goal.returns-in_err-at_end

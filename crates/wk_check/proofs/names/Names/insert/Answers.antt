@@ -17,8 +17,7 @@ returns-then-is_ok c = λ before known.
     (λ x b q k. search (rules, tests)) in
     let none : has_lent few name.now ≡ false = sym found ∙ c.if-any.false in
     let empty : many ≡ [] = known.few_first (c.try_push.ensures.variant.0 (sym c.if-is_ok.ensures.value)) in
-    let more : c.try_push.new.self.items ≡ few ++ name ∷ [] = on_ok c.try_push.result _ (sym c.if-is_ok.ensures.value) c.try_push.ensures.ok in
-    (
+    let more : c.try_push.new.self.items ≡ few ++ name ∷ [] = on_ok c.try_push.result _ (sym c.if-is_ok.ensures.value) c.try_push.ensures.ok in (
       ap not (sym (is_fresh few many before known.known name.now none empty)),
       λ is. record { known = λ bs. few_more few many before known.known name c.try_push.new.self.items bs more empty; few_first = λ lt. empty },
     )
@@ -33,8 +32,7 @@ returns c = λ before known.
     (λ x b q k. search (rules, tests)) in
     let none : has_lent few name.now ≡ false = sym found ∙ c.if-any.false in
     let same : c.try_push.new.self ≡ c.args.self.now.few = on_err c.try_push.result _ (sym c.if-is_ok.ensures.value) c.try_push.ensures.err in
-    let full : array_vec_len c.args.self.now.few ≡ 16 = on_err c.try_push.result _ (sym c.if-is_ok.ensures.value) c.try_push.ensures.full in
-    (
+    let full : array_vec_len c.args.self.now.few ≡ 16 = on_err c.try_push.result _ (sym c.if-is_ok.ensures.value) c.try_push.ensures.full in (
       by_set few many before known.known name.now c.in_ok-insert.field-0 none c.in_ok-insert.ensures.added,
       λ is. record { known = λ bs. rw same (many_more few many before known.known name c.insert.new.self.keys bs c.in_ok-insert.ensures.keys); few_first = λ lt. absurd (omega (arith, lt, full, ap array_vec_len same)) },
     )
