@@ -23,22 +23,22 @@ fn behind_header(alloc: Global, sections: &[u8]) -> Result<Vec<u8>, AllocError> 
     Ok(bytes)
 }
 
-// The verdict of a module of a profile, which is the same while it is read.
+// The verdict of a module of a profile.
 fn judged_whole(alloc: Global, bytes: &[u8], profile: Profile) -> Result<Verdict, Fail> {
     let module = read_in(alloc, bytes, profile)?;
-    let verdict = judge(alloc, &module)?;
-    let is_same = judge_bytes(alloc, bytes, profile)? == verdict;
+    Ok(judge(alloc, &module)?)
+}
+
+/// The verdict of a module of a profile, which is given by what comes behind its header. It is the same while the module is read.
+pub(crate) fn judged(alloc: Global, sections: &[u8], profile: Profile) -> Result<Verdict, Fail> {
+    let bytes = behind_header(alloc, sections)?;
+    let verdict = judged_whole(alloc, bytes.as_slice(), profile)?;
+    let is_same = judge_bytes(alloc, bytes.as_slice(), profile)? == verdict;
     Ok(
         is_same
             .then_some(verdict)
             .ok_or("another verdict while it is read")?,
     )
-}
-
-/// The verdict of a module of a profile, which is given by what comes behind its header.
-pub(crate) fn judged(alloc: Global, sections: &[u8], profile: Profile) -> Result<Verdict, Fail> {
-    let bytes = behind_header(alloc, sections)?;
-    judged_whole(alloc, bytes.as_slice(), profile)
 }
 
 // The fault of a module that is not valid.
