@@ -42,9 +42,9 @@ bytes_eq-sym xs ys = go (bytes_eq xs ys) (bytes_eq ys xs) (λ e. (bytes_eq-Decid
     go false true f g = g refl
     go false false f g = refl
 
--- whose names are those of the exports
-abbrev pub AreNamed : List Name → List Export → Type 0
-AreNamed names exports = (bs : List ℕ) → list_any (has_bytes bs) names ≡ list_any (λ (d : Export). bytes_eq d.name bs) exports
+-- whose bytes are those of these items
+abbrev pub AreNamesOf : {X : Type 0} → (X → List ℕ) → List X → List Name → Type 0
+AreNamesOf bytes_of items names = (bs : List ℕ) → list_any (has_bytes bs) names ≡ list_any (λ x. bytes_eq (bytes_of x) bs) items
 
 by_order : (test : Name → Bool) (k x : Name) (xs : List Name) (o : Ordering) → (o ≡ Equal → test x ≡ test k)
     → list_any test (insert_key order xs k) ≡ (test k || list_any test xs)
@@ -72,14 +72,14 @@ any_inserted bs k (x ∷ xs) =
     by_order (has_bytes bs) k x xs (order k x) (λ e. ap (λ (ys : List ℕ). is_eq (slice_cmp nat_cmp bs ys)) (sym (same_bytes k.now x.now e)))
     (any_inserted bs k xs)
 
--- the name of the next export is put in
-named_more : (names new : List Name) (k : Name) (exports : List Export) (e : Export) → new ≡ insert_key order names k → k.now ≡ e.name
-    → AreNamed names exports → AreNamed new (exports ++ e ∷ [])
-named_more names new k exports e put named known = λ bs.
+-- the name of the next item is put in
+pub named_more : {X : Type 0} (bytes_of : X → List ℕ) (items : List X) (x : X) (names new : List Name) (k : Name) → new ≡ insert_key order names k
+    → k.now ≡ bytes_of x → AreNamesOf bytes_of items names → AreNamesOf bytes_of (items ++ x ∷ []) new
+named_more {X} bytes_of items x names new k put named known = λ bs.
     ap (list_any (has_bytes bs)) put ∙ any_inserted bs k names
-    ∙ go (has_bytes bs k) (bytes_eq e.name bs) (list_any (has_bytes bs) names) (list_any (λ (d : Export). bytes_eq d.name bs) exports)
+    ∙ go (has_bytes bs k) (bytes_eq (bytes_of x) bs) (list_any (has_bytes bs) names) (list_any (λ (y : X). bytes_eq (bytes_of y) bs) items)
     (is_eq-slice_cmp bs k.now ∙ bytes_eq-sym bs k.now ∙ ap (λ (ys : List ℕ). bytes_eq ys bs) named) (known bs)
-    ∙ sym (list_any-append (λ (d : Export). bytes_eq d.name bs) exports (e ∷ []))
+    ∙ sym (list_any-append (λ (y : X). bytes_eq (bytes_of y) bs) items (x ∷ []))
   where
     go : (a b c d : Bool) → a ≡ b → c ≡ d → (a || c) ≡ (d || (b || false))
     go true true c true p q = refl
@@ -101,6 +101,10 @@ was_new answer false e f = refl
 was_new answer true e f = sym f ∙ e
 
 -- ---- what is wrong with an export
+
+-- whose bytes are the names of the exports
+abbrev AreNamed : List Name → List Export → Type 0
+AreNamed names exports = AreNamesOf (λ (e : Export). e.name) exports names
 
 abbrev pub rule : Spaces → List Export → ℕ → Export → Option Flaw
 rule s exports item e = export_flaw s (take item exports) e
@@ -174,5 +178,5 @@ export_fine s exports at names new e k inside is i fine named free put = record 
       ∙ sym (here s exports at e inside is) ∙ i.walk;
   known =
       subst (AreNamed new) (sym (take_more exports at e inside))
-      (named_more names new k (take at exports) (get_or exports at e) put (named ∙ ap (λ (x : Export). x.name) is) i.known);
+      (named_more (λ (x : Export). x.name) (take at exports) (get_or exports at e) names new k put (named ∙ ap (λ (x : Export). x.name) is) i.known);
 }

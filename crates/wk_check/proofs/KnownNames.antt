@@ -1,13 +1,16 @@
--- Names that came before, of which the first few stand in a list and the others in a set.
-use Rattle.std.proofs.Common.{◌≡◌, ℕ, Bool, true, false, not, ◌||◌, List, [], ◌∷◌, ◌++◌, Result, Ok, Err, refl, sym, ap, ◌∙◌}
+-- Names that came before, which all stand among a few or all lie in a set.
+use Rattle.std.proofs.Common.{◌≡◌, ℕ, ◌≢◌, true, false, ◌||◌, List, [], ◌∷◌, ◌++◌, length, Result, Ok, Err, refl, sym, ap, ◌∙◌}
 use Rattle.std.specs.List.{list_any}
 use Rattle.std.specs.Result.{is_ok, OnOk, OnErr}
 use Rattle.std.specs.Str.{bytes_eq}
 use Rattle.std.specs.BTreeSet.{insert_key}
+use Rattle.std.specs.Ordering.{eq_by_cmp}
+use Rattle.std.specs.Set as set
+use Rattle.std.proofs.lemmas.List.{nil_from_length}
 use Rattle.std.proofs.lemmas.List.Folds.{list_any-append}
 use Rattle.std.proofs.lemmas.Map.Text.{is_eq-slice_cmp}
-use Rattle.wk_check.specs.Names.{has_name, has_lent}
-use Rattle.wk_check.proofs.ExportNames.{Name, order, has_bytes, any_inserted, bytes_eq-sym}
+use Rattle.wk_check.specs.Names.{has_name, has_lent, searched}
+use Rattle.wk_check.proofs.ExportNames.{Name, order, has_bytes, AreNamesOf, named_more, bytes_eq-sym}
 
 -- ---- what is so where a call succeeds, or is refused
 
@@ -21,69 +24,55 @@ on_err (Err e) P is given = given
 
 -- ---- names that are lent
 
--- the keys of the set, as they are compared
-bytes_as_lent : (bs : List ℕ) (k : Name) → has_bytes bs k ≡ bytes_eq k.now bs
-bytes_as_lent bs k = is_eq-slice_cmp bs k.now ∙ bytes_eq-sym bs k.now
+-- as the set compares them
+as_lent : (names : List Name) (bs : List ℕ) → list_any (has_bytes bs) names ≡ has_lent names bs
+as_lent [] bs = refl
+as_lent (k ∷ names) bs =
+    ap (λ v. v || list_any (has_bytes bs) names) (is_eq-slice_cmp bs k.now ∙ bytes_eq-sym bs k.now) ∙ ap (λ v. bytes_eq k.now bs || v) (as_lent names bs)
 
-as_lent : (bs : List ℕ) (names : List Name) → list_any (has_bytes bs) names ≡ has_lent names bs
-as_lent bs [] = refl
-as_lent bs (k ∷ names) =
-    ap (λ v. v || list_any (has_bytes bs) names) (bytes_as_lent bs k) ∙ ap (λ v. bytes_eq k.now bs || v) (as_lent bs names)
+-- where they are sought, by how many the set has
+by_few : (few many : List Name) → length many ≡ 0 → searched few many ≡ few
+by_few few many none = rw (nil_from_length many none) refl
+
+by_set : (few many : List Name) → length many ≢ 0 → searched few many ≡ many
+by_set few [] some = absurd (some refl)
+by_set few (k ∷ many) some = refl
 
 -- ---- what is known of these names
 
-module _ (few many : List Name) (before : List (List ℕ)) (known : (bs : List ℕ) → (has_lent few bs || has_lent many bs) ≡ has_name before bs) where
-  -- a name among the first few came before
-  pub came_before : (bs : List ℕ) → has_lent few bs ≡ true → has_name before bs ≡ true
-  came_before bs here = sym (known bs) ∙ ap (λ v. v || has_lent many bs) here
+-- the names that came before are these
+abbrev AreThese : List Name → List (List ℕ) → Type 0
+AreThese names before = (bs : List ℕ) → has_lent names bs ≡ has_name before bs
 
-  -- one that is not, where the set is empty, did not
-  pub is_fresh : (bs : List ℕ) → has_lent few bs ≡ false → many ≡ [] → has_name before bs ≡ false
-  is_fresh bs none empty = sym (known bs) ∙ ap (λ v. v || has_lent many bs) none ∙ ap (λ ks. has_lent ks bs) empty
+-- the same, as the set compares them
+abbrev pub InSet : List Name → List (List ℕ) → Type 0
+InSet names before = AreNamesOf (λ (bs : List ℕ). bs) before names
 
-  -- nor where the set has it not
-  pub by_set : (bs : List ℕ) (answer : Bool) → has_lent few bs ≡ false → answer ≡ not (list_any (has_bytes bs) many) → answer ≡ not (has_name before bs)
-  by_set bs answer none told =
-      told ∙ ap not (as_lent bs many ∙ sym (ap (λ v. v || has_lent many bs) none) ∙ known bs)
+-- the set got the few
+abbrev pub AreMoved : List Name → List Name → List Name → Type 0
+AreMoved few many all = set.IsUnion (eq_by_cmp order) many few all
 
-  -- a name comes to the first few
-  pub few_more : (k : Name) (more : List Name) (bs : List ℕ) → more ≡ few ++ k ∷ [] → many ≡ []
-      → (has_lent more bs || has_lent many bs) ≡ has_name (before ++ k.now ∷ []) bs
-  few_more k more bs is empty =
-      ap (λ ks. has_lent ks bs || has_lent many bs) is
-      ∙ ap (λ v. v || has_lent many bs) (list_any-append (λ (n : Name). bytes_eq n.now bs) few (k ∷ []))
-      ∙ ap (λ ks. (has_lent few bs || (bytes_eq k.now bs || false)) || has_lent ks bs) empty
-      ∙ go (has_lent few bs) (bytes_eq k.now bs || false) (has_name before bs)
-      (ap (λ ks. has_lent few bs || has_lent ks bs) (sym empty) ∙ known bs)
-      ∙ sym (list_any-append (λ (n : List ℕ). bytes_eq n bs) before (k.now ∷ []))
-    where
-      go : (a b c : Bool) → (a || false) ≡ c → ((a || b) || false) ≡ (c || b)
-      go true b true e = refl
-      go false true false e = refl
-      go false false false e = refl
-      go true b false e = absurd cc
-      go false b true e = absurd cc
+module _ (few many : List Name) (before : List (List ℕ)) (known : AreThese (searched few many) before) where
+  pub all_few : length many ≡ 0 → AreThese few before
+  all_few none bs = ap (λ ks. has_lent ks bs) (sym (by_few few many none)) ∙ known bs
+
+  pub all_in_set : length many ≢ 0 → InSet many before
+  all_in_set some bs = as_lent many bs ∙ ap (λ ks. has_lent ks bs) (sym (by_set few many some)) ∙ known bs
+
+  pub all_moved : (all : List Name) → length many ≡ 0 → AreMoved few many all → InSet all before
+  all_moved all none moved bs =
+      moved (record { ref_ptr = (0, 0); now = bs }) ∙ ap (λ ks. list_any (has_bytes bs) ks || list_any (has_bytes bs) few) (nil_from_length many none)
+      ∙ as_lent few bs ∙ all_few none bs
+
+module _ (few many : List Name) (before : List (List ℕ)) (k : Name) (more : List Name) where
+  -- a name comes to the few
+  pub few_more : more ≡ few ++ k ∷ [] → length many ≡ 0 → AreThese few before → AreThese (searched more many) (before ++ k.now ∷ [])
+  few_more is none these bs =
+      ap (λ ks. has_lent ks bs) (by_few more many none ∙ is) ∙ list_any-append (λ (n : Name). bytes_eq n.now bs) few (k ∷ [])
+      ∙ ap (λ v. v || (bytes_eq k.now bs || false)) (these bs) ∙ sym (list_any-append (λ (n : List ℕ). bytes_eq n bs) before (k.now ∷ []))
 
   -- or to the set
-  pub many_more : (k : Name) (more : List Name) (bs : List ℕ) → more ≡ insert_key order many k
-      → (has_lent few bs || has_lent more bs) ≡ has_name (before ++ k.now ∷ []) bs
-  many_more k more bs is =
-      ap (λ ks. has_lent few bs || has_lent ks bs) is
-      ∙ ap (λ v. has_lent few bs || v) (sym (as_lent bs (insert_key order many k)) ∙ any_inserted bs k many)
-      ∙ go (has_lent few bs) (has_bytes bs k) (bytes_eq k.now bs) (list_any (has_bytes bs) many) (has_lent many bs) (has_name before bs)
-      (bytes_as_lent bs k) (as_lent bs many) (known bs)
-      ∙ sym (list_any-append (λ (n : List ℕ). bytes_eq n bs) before (k.now ∷ []))
-    where
-      go : (a b b' c c' d : Bool) → b ≡ b' → c ≡ c' → (a || c') ≡ d → (a || (b || c)) ≡ (d || (b' || false))
-      go true b b' c c' true p q e = refl
-      go false true true c c' true p q e = refl
-      go false false false true true true p q e = refl
-      go false true true c c' false p q e = refl
-      go false false false false false false p q e = refl
-      go true b b' c c' false p q e = absurd cc
-      go false true false c c' d p q e = absurd cc
-      go false false true c c' d p q e = absurd cc
-      go false false false true false d p q e = absurd cc
-      go false false false false true d p q e = absurd cc
-      go false false false true true false p q e = absurd cc
-      go false false false false false true p q e = absurd cc
+  pub set_more : more ≡ insert_key order many k → length more ≢ 0 → InSet many before → AreThese (searched few more) (before ++ k.now ∷ [])
+  set_more is some these bs =
+      ap (λ ks. has_lent ks bs) (by_set few more some) ∙ sym (as_lent more bs)
+      ∙ named_more (λ (bs : List ℕ). bs) before k.now many more k is refl these bs

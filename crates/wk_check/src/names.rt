@@ -11,10 +11,12 @@ use wk_bytes::OutOfMemory;
 // How many names are compared one by one.
 const FEW: usize = 16;
 
-/// Names, each of which came once. The first sixteen are compared one by one, and take no memory; those behind them lie in a set.
+/// Names, each of which came once. Up to sixteen are compared one by one, and take no memory; where there are more, all of them lie in a set,
+/// so that a name is sought in one place alone.
 #[derive(Drop)]
 pub(crate) struct Names<'a> {
     few: ArrayVec<&'a str, FEW>,
+    // Empty until the seventeenth name comes.
     many: BTreeSet<&'a str>,
 }
 
@@ -36,11 +38,15 @@ impl<'a> Names<'a> {
             (λ is_new. (is_new ≡ not (has_name before name.now))
             × (is_new ≡ true → AreKnown self.new (before ++ name.now ∷ []))) }
     {
-        if self.few.as_slice().iter().any(|few| *few == name) {
-            return Ok(false);
-        }
-        if self.few.try_push(name).is_ok() {
-            return Ok(true);
+        if self.many.is_empty() {
+            if self.few.as_slice().iter().any(|few| *few == name) {
+                return Ok(false);
+            }
+            if self.few.try_push(name).is_ok() {
+                return Ok(true);
+            }
+            // There is no more room: from now on all names lie in the set.
+            self.many.extend(self.few.as_slice())?;
         }
         Ok(self.many.insert(name)?)
     }

@@ -204,7 +204,7 @@ fn with_same_names(alloc: Global, count: u8, first: u8, second: u8) -> Result<Ve
 
 #[test]
 fn tells_names_that_come_twice(rt: HostRuntime) -> Result<(), Fail> {
-    // The first sixteen names are compared one by one, those behind them lie in a set.
+    // Up to sixteen names are compared one by one; of more, all lie in a set.
     let rows: [(u8, u8, u8); 9] = [
         (2, 0, 1),
         (16, 0, 15),
