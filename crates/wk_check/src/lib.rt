@@ -28,9 +28,9 @@
 //! Judging a module of 1.0 takes time and memory in line with its bytes (`docs/VERDICTS.md`, "Cost"). The sections in front of the
 //! bodies are judged first, and where one has a fault no body is typed. The imports are counted once, for all references. One room
 //! serves all bodies and constant expressions; [`judge_bytes`] has a second one, for these expressions and the first body that is not
-//! valid. It holds the types, and the types of functions and globals, tables and memories; the names of its exports behind the first
-//! sixteen while it reads the export section; an initialiser or an offset while it looks at it; and no body up to the first fault, then one
-//! at a time.
+//! valid. It holds the types, and the types of functions and globals, tables and memories; the names of its exports, if they are more
+//! than sixteen, while it reads the export section; an initialiser or an offset while it looks at it; and no body up to the first fault,
+//! then one at a time.
 #![tactic(auto)]
 
 mod code_faults;
