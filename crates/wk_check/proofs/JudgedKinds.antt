@@ -51,9 +51,11 @@ module _ {S X : Type 0} (wrong : S → X → Option Flaw) (add : S → X → S) 
       (ap (λ (s : S). flaws_along wrong add s xs) (adds before x) ∙ along_behind (before ++ x ∷ []) xs (is ∙ sym (append_assoc before (x ∷ []) xs))
       ∙ ap (λ (n : ℕ). numbered rule n xs) next)
 
-  all_judged : (section : ℕ) (before : Option Fault)
-      → items_judged wrong add section (state []) before 0 all ≡ (state all, earlier before (first_in section 0 (numbered rule 0 all)))
-  all_judged section before = λ i. (added_behind [] all i, earlier before (first_in section 0 (along_behind [] all refl i)))
+  all_judged : (section : ℕ) (before : Option Fault) (first : S) → first ≡ state []
+      → items_judged wrong add section first before 0 all ≡ (state all, earlier before (first_in section 0 (numbered rule 0 all)))
+  all_judged section before first is =
+      ap (λ (s : S). items_judged wrong add section s before 0 all) is
+      ∙ (λ i. (added_behind [] all i, earlier before (first_in section 0 (along_behind [] all refl i))))
 
 -- ---- the context before the first item
 
@@ -74,52 +76,52 @@ section_comes_to profile l before k x =
 pub types_judged : (profile : Profile) (l : SectionLists) (xs : List FuncType) (before : Option Fault) → AreOmittedFrom (number TypeSection) l
     → items_judged (next_type_flaw profile) add_type (number TypeSection) (context_of l) before 0 xs ≡ section_comes_to profile l before TypeSection xs
 types_judged profile l xs before none =
-    ap (λ (c : ModuleContext). items_judged (next_type_flaw profile) add_type 1 c before 0 xs) (starts TypeSection l none)
-    ∙ all_judged (next_type_flaw profile) add_type (λ item t. type_flaw profile t) (λ ts. context_of (with_contents TypeSection ts l)) xs
-    (λ ts t later is. refl) (λ ts t. refl) 1 before
+    all_judged (next_type_flaw profile) add_type (λ item t. type_flaw profile t) (λ ts. context_of (with_contents TypeSection ts l)) xs
+    (λ ts t later is. refl) (λ ts t. refl) 1 before _ (starts TypeSection l none)
 
 pub funcs_judged : (profile : Profile) (l : SectionLists) (xs : List ℕ) (before : Option Fault) → AreOmittedFrom (number FunctionSection) l
     → items_judged next_func_flaw add_func (number FunctionSection) (context_of l) before 0 xs ≡ section_comes_to profile l before FunctionSection xs
 funcs_judged profile l xs before none =
-    ap (λ (c : ModuleContext). items_judged next_func_flaw add_func 3 c before 0 xs) (starts FunctionSection l none)
-    ∙ all_judged next_func_flaw add_func (λ item x. within UnknownType l.types x) (λ fs. context_of (with_contents FunctionSection fs l)) xs
-    (λ fs x later is. refl) (λ fs x. refl) 3 before
+    all_judged next_func_flaw add_func (λ item x. within UnknownType l.types x) (λ fs. context_of (with_contents FunctionSection fs l)) xs
+    (λ fs x later is. refl) (λ fs x. refl) 3 before _ (starts FunctionSection l none)
 
 pub tables_judged : (profile : Profile) (l : SectionLists) (xs : List Limits) (before : Option Fault) → AreOmittedFrom (number TableSection) l
     → items_judged next_table_flaw add_table (number TableSection) (context_of l) before 0 xs ≡ section_comes_to profile l before TableSection xs
 tables_judged profile l xs before none =
     let front = imported table_in l.imports in
-    ap (λ (c : ModuleContext). items_judged next_table_flaw add_table 4 c before 0 xs) (starts TableSection l none)
-    ∙ all_judged next_table_flaw add_table (λ item t. table_flaw (length front + item) t) (λ ts. context_of (with_contents TableSection ts l)) xs
+    all_judged next_table_flaw add_table (λ item t. table_flaw (length front + item) t) (λ ts. context_of (with_contents TableSection ts l)) xs
     (λ ts t later is. ap (λ (n : ℕ). table_flaw n t) (length-append front ts))
-    (λ ts t. ap (λ (all : List Limits). record (context_of l) { tables = all }) (append_assoc front ts (t ∷ []))) 4 before
+    (λ ts t. ap (λ (all : List Limits). record (context_of l) { tables = all }) (append_assoc front ts (t ∷ [])))
+    4 before _ (starts TableSection l none)
 
 pub memories_judged : (profile : Profile) (l : SectionLists) (xs : List Limits) (before : Option Fault) → AreOmittedFrom (number MemorySection) l
     → items_judged next_memory_flaw add_memory (number MemorySection) (context_of l) before 0 xs ≡ section_comes_to profile l before MemorySection xs
 memories_judged profile l xs before none =
     let front = imported memory_in l.imports in
-    ap (λ (c : ModuleContext). items_judged next_memory_flaw add_memory 5 c before 0 xs) (starts MemorySection l none)
-    ∙ all_judged next_memory_flaw add_memory (λ item m. memory_flaw (length front + item) m) (λ ms. context_of (with_contents MemorySection ms l)) xs
+    all_judged next_memory_flaw add_memory (λ item m. memory_flaw (length front + item) m) (λ ms. context_of (with_contents MemorySection ms l)) xs
     (λ ms m later is. ap (λ (n : ℕ). memory_flaw n m) (length-append front ms))
-    (λ ms m. ap (λ (all : List Limits). record (context_of l) { memories = all }) (append_assoc front ms (m ∷ []))) 5 before
+    (λ ms m. ap (λ (all : List Limits). record (context_of l) { memories = all }) (append_assoc front ms (m ∷ [])))
+    5 before _ (starts MemorySection l none)
 
 pub globals_judged : (profile : Profile) (l : SectionLists) (xs : List GlobalDef) (before : Option Fault) → AreOmittedFrom (number GlobalSection) l
     → items_judged next_global_flaw add_global (number GlobalSection) (context_of l) before 0 xs ≡ section_comes_to profile l before GlobalSection xs
 globals_judged profile l xs before none =
-    ap (λ (c : ModuleContext). items_judged next_global_flaw add_global 6 c before 0 xs) (starts GlobalSection l none)
-    ∙ all_judged next_global_flaw add_global (λ item g. global_flaw (answer_in (initial_spaces l)) g) (λ gs. context_of (with_contents GlobalSection gs l)) xs
+    all_judged next_global_flaw add_global (λ item g. global_flaw (answer_in (initial_spaces l)) g) (λ gs. context_of (with_contents GlobalSection gs l)) xs
     (λ gs g later is. refl)
-    (λ gs g. ap (λ (all : List GlobalType). record (context_of l) { globals = all }) (sym (map_push (λ (x : GlobalDef). x.ty) gs g))) 6 before
+    (λ gs g. ap (λ (all : List GlobalType). record (context_of l) { globals = all }) (sym (map_push (λ (x : GlobalDef). x.ty) gs g)))
+    6 before _ (starts GlobalSection l none)
 
 pub elems_judged : (profile : Profile) (l : SectionLists) (xs : List Elem) (before : Option Fault) → AreOmittedFrom (number ElementSection) l
     → items_judged next_elem_flaw add_nothing (number ElementSection) (context_of l) before 0 xs ≡ section_comes_to profile l before ElementSection xs
 elems_judged profile l xs before none =
-    all_judged next_elem_flaw add_nothing (λ item e. elem_flaw (spaces_of l) e) (λ es. context_of l) xs (λ es e later is. refl) (λ es e. refl) 9 before
+    all_judged next_elem_flaw add_nothing (λ item e. elem_flaw (spaces_of l) e) (λ es. context_of l) xs (λ es e later is. refl) (λ es e. refl)
+    9 before (context_of l) refl
 
 pub datas_judged : (profile : Profile) (l : SectionLists) (xs : List DataSeg) (before : Option Fault) → AreOmittedFrom (number DataSection) l
     → items_judged next_data_flaw add_nothing (number DataSection) (context_of l) before 0 xs ≡ section_comes_to profile l before DataSection xs
 datas_judged profile l xs before none =
-    all_judged next_data_flaw add_nothing (λ item d. data_flaw (spaces_of l) d) (λ ds. context_of l) xs (λ ds d later is. refl) (λ ds d. refl) 11 before
+    all_judged next_data_flaw add_nothing (λ item d. data_flaw (spaces_of l) d) (λ ds. context_of l) xs (λ ds d later is. refl) (λ ds d. refl)
+    11 before (context_of l) refl
 
 -- ---- imports
 
@@ -185,10 +187,10 @@ pub imports_judged : (profile : Profile) (l : SectionLists) (xs : List Import) (
 imports_judged profile l xs before none =
     let tables = none TableSection (omega arith) in
     let memories = none MemorySection (omega arith) in
-    ap (λ (c : ModuleContext). items_judged next_import_flaw add_import 2 c before 0 xs) (starts ImportSection l none ∙ none_defined l [] tables memories)
-    ∙ all_judged next_import_flaw add_import (λ item i. import_flaw l.types (take item xs) i.desc) (importing l) xs
+    all_judged next_import_flaw add_import (λ item i. import_flaw l.types (take item xs) i.desc) (importing l) xs
     (λ is x later e. ap (λ (front : List Import). import_flaw l.types front x.desc) (before_it xs is x later e))
-    (λ is x. sym (imports_more l is x ∙ with_desc_is (importing l is) x.desc)) 2 before
+    (λ is x. sym (imports_more l is x ∙ with_desc_is (importing l is) x.desc)) 2 before _
+    (starts ImportSection l none ∙ none_defined l [] tables memories)
     ∙ ap (λ (c : ModuleContext). (c, earlier before (first_in 2 0 (section_flaws profile (with_contents ImportSection xs l) ImportSection))))
     (sym (none_defined l xs tables memories))
 
@@ -213,7 +215,8 @@ exports_judged profile l es before =
     ap (λ (p : ExportsSoFar × Option Fault). p.1)
     (all_judged next_export_flaw add_export (λ item e. export_flaw (spaces_of l) (take item es) e) (exporting l) es
     (λ ds e later is. next_export_is l ds e ∙ ap (λ (front : List Export). export_flaw (spaces_of l) front e) (before_it es ds e later is))
-    (λ ds e. ap (λ (names : List (List ℕ)). record { context = context_of l; names = names }) (sym (map_push (λ (x : Export). x.name) ds e))) 7 before)
+    (λ ds e. ap (λ (names : List (List ℕ)). record { context = context_of l; names = names }) (sym (map_push (λ (x : Export). x.name) ds e))) 7 before
+    (exporting l []) refl)
 
 pub exports_leave : (l : SectionLists) (es : List Export) → context_of (with_contents ExportSection es l) ≡ context_of l
 exports_leave l es = refl

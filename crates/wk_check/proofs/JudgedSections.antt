@@ -8,7 +8,7 @@ use Rattle.wk_bytes.specs.Frames.{Section}
 use Rattle.wk_body.specs.declared.types.Profile.{Profile}
 use Rattle.wk_body.specs.Vectors.{vector_at}
 use Rattle.wk_module.specs.declared.types.Export.{Export}
-use Rattle.wk_module.specs.Formats.{made_at, all_at}
+use Rattle.wk_module.specs.Formats.{Reader, made_at, all_at}
 use Rattle.wk_module.specs.Items.{import_at, global_at, export_at, elem_at, data_at}
 use Rattle.wk_module.specs.ListReading.{listed_by}
 use Rattle.wk_module.specs.Reading.{section_end}
@@ -17,13 +17,15 @@ use Rattle.wk_module.specs.Sections.{TypeSection, ImportSection, FunctionSection
 use Rattle.wk_module.specs.Sections.{StartSection, ElementSection, DataSection}
 use Rattle.wk_module.specs.SectionLaws.{of_number-is}
 use Rattle.wk_module.specs.Types.{functype_at, limits_at, tabletype_at}
+use Rattle.wk_typing.specs.declared.fault.Flaw.{Flaw}
 use Rattle.wk_typing.specs.declared.fault.Fault.{Fault}
 use Rattle.wk_check.specs.Flaws.{first_in}
 use Rattle.wk_check.specs.Items.{earlier, start_flaws}
 use Rattle.wk_check.specs.Spaces.{spaces_of}
 use Rattle.wk_check.specs.Contexts.{ModuleContext, context_of, add_type, add_import, add_func, add_table, add_memory, add_global, add_nothing}
 use Rattle.wk_check.specs.Contexts.{add_export, next_type_flaw, next_import_flaw, next_func_flaw, next_table_flaw, next_memory_flaw, next_global_flaw}
-use Rattle.wk_check.specs.Contexts.{next_export_flaw, next_elem_flaw, next_data_flaw, items_judged, fault_with, section_judged, AreOmittedFrom}
+use Rattle.wk_check.specs.Contexts.{next_export_flaw, next_elem_flaw, next_data_flaw, items_judged, items_at_once, fault_with, section_judged}
+use Rattle.wk_check.specs.Contexts.{AreOmittedFrom}
 use Rattle.wk_check.proofs.JudgedKinds.{section_comes_to, types_judged, imports_judged, funcs_judged, tables_judged, memories_judged, globals_judged}
 use Rattle.wk_check.proofs.JudgedKinds.{exports_judged, elems_judged, datas_judged}
 
@@ -50,77 +52,45 @@ module _ (profile : Profile) (l : SectionLists) (before : Option Fault) (s : Sec
       ≡ (all_at (contents_at profile (length l.funcs) k) (section_end s) s.contents >>= λ x. Ok (section_comes_to profile l before k x))
   section_is k is = of_kind s.id (of_number s.id) k (of_number-is s.id k is) is
 
-  pub type_section : s.id ≡ number TypeSection → AreOmittedFrom (number TypeSection) l
-      → section_judged profile l before s
-      ≡ (all_at (vector_at functype_at) (section_end s) s.contents >>= λ xs. Ok (items_judged (next_type_flaw profile) add_type 1 (context_of l) before 0 xs))
-  type_section is none =
-      section_is TypeSection is ∙ sym
-      (each_comes_to (λ xs. items_judged (next_type_flaw profile) add_type 1 (context_of l) before 0 xs)
-      (section_comes_to profile l before TypeSection) (all_at (vector_at functype_at) (section_end s) s.contents)
-      (λ xs. types_judged profile l xs before none))
+  -- where its items are judged one after the other, with the id that it has
+  by_items : (k : SectionId) (judged : ℕ → ContentsOf k → ModuleContext × Option Fault)
+      → ((x : ContentsOf k) → judged (number k) x ≡ section_comes_to profile l before k x) → s.id ≡ number k
+      → section_judged profile l before s ≡ (all_at (contents_at profile (length l.funcs) k) (section_end s) s.contents >>= λ x. Ok (judged s.id x))
+  by_items k judged same is =
+      section_is k is ∙ sym
+      (each_comes_to (judged s.id) (section_comes_to profile l before k) (all_at (contents_at profile (length l.funcs) k) (section_end s) s.contents)
+      (λ x. ap (λ (n : ℕ). judged n x) is ∙ same x))
 
-  pub import_section : s.id ≡ number ImportSection → AreOmittedFrom (number ImportSection) l
-      → section_judged profile l before s
-      ≡ (all_at (vector_at import_at) (section_end s) s.contents >>= λ xs. Ok (items_judged next_import_flaw add_import 2 (context_of l) before 0 xs))
-  import_section is none =
-      section_is ImportSection is ∙ sym
-      (each_comes_to (λ xs. items_judged next_import_flaw add_import 2 (context_of l) before 0 xs)
-      (section_comes_to profile l before ImportSection) (all_at (vector_at import_at) (section_end s) s.contents)
-      (λ xs. imports_judged profile l xs before none))
+  abbrev pub IsAtOnce : {X : Type 0} → SectionId → Reader X → (ModuleContext → X → Option Flaw) → (ModuleContext → X → ModuleContext) → Type 0
+  IsAtOnce k read wrong add = s.id ≡ number k → AreOmittedFrom (number k) l
+      → section_judged profile l before s ≡ items_at_once read wrong add (context_of l) before s
 
-  pub func_section : s.id ≡ number FunctionSection → AreOmittedFrom (number FunctionSection) l
-      → section_judged profile l before s
-      ≡ (all_at (vector_at u32_at) (section_end s) s.contents >>= λ xs. Ok (items_judged next_func_flaw add_func 3 (context_of l) before 0 xs))
-  func_section is none =
-      section_is FunctionSection is ∙ sym
-      (each_comes_to (λ xs. items_judged next_func_flaw add_func 3 (context_of l) before 0 xs)
-      (section_comes_to profile l before FunctionSection) (all_at (vector_at u32_at) (section_end s) s.contents)
-      (λ xs. funcs_judged profile l xs before none))
+  abbrev items : {X : Type 0} → (ModuleContext → X → Option Flaw) → (ModuleContext → X → ModuleContext) → ℕ → List X → ModuleContext × Option Fault
+  items wrong add id xs = items_judged wrong add id (context_of l) before 0 xs
 
-  pub table_section : s.id ≡ number TableSection → AreOmittedFrom (number TableSection) l
-      → section_judged profile l before s
-      ≡ (all_at (vector_at tabletype_at) (section_end s) s.contents >>= λ xs. Ok (items_judged next_table_flaw add_table 4 (context_of l) before 0 xs))
-  table_section is none =
-      section_is TableSection is ∙ sym
-      (each_comes_to (λ xs. items_judged next_table_flaw add_table 4 (context_of l) before 0 xs)
-      (section_comes_to profile l before TableSection) (all_at (vector_at tabletype_at) (section_end s) s.contents)
-      (λ xs. tables_judged profile l xs before none))
+  pub type_section : IsAtOnce TypeSection functype_at (next_type_flaw profile) add_type
+  type_section is none = by_items TypeSection (items (next_type_flaw profile) add_type) (λ xs. types_judged profile l xs before none) is
 
-  pub memory_section : s.id ≡ number MemorySection → AreOmittedFrom (number MemorySection) l
-      → section_judged profile l before s
-      ≡ (all_at (vector_at limits_at) (section_end s) s.contents >>= λ xs. Ok (items_judged next_memory_flaw add_memory 5 (context_of l) before 0 xs))
-  memory_section is none =
-      section_is MemorySection is ∙ sym
-      (each_comes_to (λ xs. items_judged next_memory_flaw add_memory 5 (context_of l) before 0 xs)
-      (section_comes_to profile l before MemorySection) (all_at (vector_at limits_at) (section_end s) s.contents)
-      (λ xs. memories_judged profile l xs before none))
+  pub import_section : IsAtOnce ImportSection import_at next_import_flaw add_import
+  import_section is none = by_items ImportSection (items next_import_flaw add_import) (λ xs. imports_judged profile l xs before none) is
 
-  pub global_section : s.id ≡ number GlobalSection → AreOmittedFrom (number GlobalSection) l
-      → section_judged profile l before s
-      ≡ (all_at (vector_at (global_at profile)) (section_end s) s.contents >>= λ xs. Ok (items_judged next_global_flaw add_global 6 (context_of l) before 0 xs))
-  global_section is none =
-      section_is GlobalSection is ∙ sym
-      (each_comes_to (λ xs. items_judged next_global_flaw add_global 6 (context_of l) before 0 xs)
-      (section_comes_to profile l before GlobalSection) (all_at (vector_at (global_at profile)) (section_end s) s.contents)
-      (λ xs. globals_judged profile l xs before none))
+  pub func_section : IsAtOnce FunctionSection u32_at next_func_flaw add_func
+  func_section is none = by_items FunctionSection (items next_func_flaw add_func) (λ xs. funcs_judged profile l xs before none) is
 
-  pub elem_section : s.id ≡ number ElementSection → AreOmittedFrom (number ElementSection) l
-      → section_judged profile l before s
-      ≡ (all_at (vector_at (elem_at profile)) (section_end s) s.contents >>= λ xs. Ok (items_judged next_elem_flaw add_nothing 9 (context_of l) before 0 xs))
-  elem_section is none =
-      section_is ElementSection is ∙ sym
-      (each_comes_to (λ xs. items_judged next_elem_flaw add_nothing 9 (context_of l) before 0 xs)
-      (section_comes_to profile l before ElementSection) (all_at (vector_at (elem_at profile)) (section_end s) s.contents)
-      (λ xs. elems_judged profile l xs before none))
+  pub table_section : IsAtOnce TableSection tabletype_at next_table_flaw add_table
+  table_section is none = by_items TableSection (items next_table_flaw add_table) (λ xs. tables_judged profile l xs before none) is
 
-  pub data_section : s.id ≡ number DataSection → AreOmittedFrom (number DataSection) l
-      → section_judged profile l before s
-      ≡ (all_at (vector_at (data_at profile)) (section_end s) s.contents >>= λ xs. Ok (items_judged next_data_flaw add_nothing 11 (context_of l) before 0 xs))
-  data_section is none =
-      section_is DataSection is ∙ sym
-      (each_comes_to (λ xs. items_judged next_data_flaw add_nothing 11 (context_of l) before 0 xs)
-      (section_comes_to profile l before DataSection) (all_at (vector_at (data_at profile)) (section_end s) s.contents)
-      (λ xs. datas_judged profile l xs before none))
+  pub memory_section : IsAtOnce MemorySection limits_at next_memory_flaw add_memory
+  memory_section is none = by_items MemorySection (items next_memory_flaw add_memory) (λ xs. memories_judged profile l xs before none) is
+
+  pub global_section : IsAtOnce GlobalSection (global_at profile) next_global_flaw add_global
+  global_section is none = by_items GlobalSection (items next_global_flaw add_global) (λ xs. globals_judged profile l xs before none) is
+
+  pub elem_section : IsAtOnce ElementSection (elem_at profile) next_elem_flaw add_nothing
+  elem_section is none = by_items ElementSection (items next_elem_flaw add_nothing) (λ xs. elems_judged profile l xs before none) is
+
+  pub data_section : IsAtOnce DataSection (data_at profile) next_data_flaw add_nothing
+  data_section is none = by_items DataSection (items next_data_flaw add_nothing) (λ xs. datas_judged profile l xs before none) is
 
   -- exports and the start function leave the context
   exports_come_to : (r : Result (List Export) ReadFault)

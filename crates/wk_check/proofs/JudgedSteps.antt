@@ -34,7 +34,7 @@ use Rattle.wk_check.specs.Flaws.{first_in}
 use Rattle.wk_check.specs.Items.{earlier, start_flaw, start_flaws}
 use Rattle.wk_check.specs.Spaces.{spaces_of}
 use Rattle.wk_check.specs.Verdict.{data_flaws}
-use Rattle.wk_check.proofs.JudgedSections.{export_section, start_section, no_section}
+use Rattle.wk_check.proofs.JudgedSections.{IsAtOnce, export_section, start_section, no_section}
 use Rattle.wk_check.proofs.SectionFaults.{omitted_at_first, omitted_behind, omitted_here, section_step, behind_step, no_datas}
 
 -- ---- in general
@@ -44,10 +44,6 @@ pub stands_fails : {Y : Type 0} (e : ReadFault) (kind : ReadKind) (from : List �
     → FailsAs e kind read
 stands_fails e Memory from read stands is = absurd stands
 stands_fails e _ from read stands is = is
-
--- a call that reads answers the same of what is the same
-pub reads_same : {X Y : Type 0} (view : X → Y) (r : Result X ReadFault) (a b : Result Y ReadFault) → a ≡ b → Reads view r b → Reads view r a
-reads_same view r a b same reads = subst (Reads view r) (sym same) reads
 
 -- what is made of what is read fails where reading fails
 unread : {X Y : Type 0} (f : X → Y) (r : Result X ReadFault) (e : ReadFault) → (r >>= λ x. Ok (f x)) ≡ Err e → r ≡ Err e
@@ -98,21 +94,23 @@ start_told None w (Some v) (Some f) is same told each = rw (← same, each v f t
 
 -- ---- one section
 
--- what a section comes to, read and judged in the context of these lists
-pub judged_at_once : {X : Type 0} (read : Reader X) (wrong : ModuleContext → X → Option Flaw) (add : ModuleContext → X → ModuleContext) (id : ℕ)
-    (profile : Profile) (l : SectionLists) (before : Option Fault) (s : Section) (c : ModuleContext) → c ≡ context_of l → s.id ≡ id
-    → section_judged profile l before s
-    ≡ (all_at (vector_at read) (section_end s) s.contents >>= λ xs. Ok (items_judged wrong add id (context_of l) before 0 xs))
-    → section_judged profile l before s ≡ items_at_once read wrong add c before s
-judged_at_once read wrong add id profile l before s c c_is is judged =
-    judged
-    ∙ ap (λ (n : ℕ). all_at (vector_at read) (section_end s) s.contents >>= λ xs. Ok (items_judged wrong add n (context_of l) before 0 xs)) (sym is)
-    ∙ ap (λ (d : ModuleContext). items_at_once read wrong add d before s) (sym c_is)
-
--- exports and the start function leave the context
 abbrev pub with_fault : ModuleContext → Option Fault → ModuleContext × Option Fault
 with_fault c o = (c, o)
 
+-- the id is a number, from which on sections are left out
+pub omitted_at : (n id : ℕ) (l : SectionLists) → id ≡ n → AreOmittedFrom id l → AreOmittedFrom n l
+omitted_at n id l is none = subst (λ (m : ℕ). AreOmittedFrom m l) is none
+
+-- what its items come to, read and judged in the context of these lists, it comes to
+pub items_come_to : {X : Type 0} (k : SectionId) (read : Reader X) (wrong : ModuleContext → X → Option Flaw) (add : ModuleContext → X → ModuleContext)
+    (profile : Profile) (l : SectionLists) (before : Option Fault) (s : Section) (c new : ModuleContext) (answer : Result (Option Fault) ReadFault)
+    → IsAtOnce profile l before s k read wrong add → c ≡ context_of l → s.id ≡ number k → AreOmittedFrom s.id l
+    → Reads (with_fault new) answer (items_at_once read wrong add c before s) → Reads (with_fault new) answer (section_judged profile l before s)
+items_come_to k read wrong add profile l before s c new answer at_once same is none reads =
+    subst (Reads (with_fault new) answer)
+    (ap (λ (d : ModuleContext). items_at_once read wrong add d before s) same ∙ sym (at_once is (omitted_at (number k) s.id l is none))) reads
+
+-- exports and the start function leave the context
 leaves : {X : Type 0} (c : ModuleContext) (l : SectionLists) (f : X → Option Fault) (r : Result X ReadFault) (answer : Result (Option Fault) ReadFault)
     → c ≡ context_of l → Reads (λ o. o) answer (r >>= λ x. Ok (f x)) → Reads (with_fault c) answer (r >>= λ x. Ok (context_of l, f x))
 leaves c l f (Ok x) (Ok o) same reads = rw (← same) (ap (λ (o : Option Fault). done (with_fault c o)) (ok_is _ _ reads))
@@ -135,10 +133,6 @@ module _ (profile : Profile) (l : SectionLists) (before : Option Fault) (s : Sec
       (leaves c l (λ x. earlier before (first_in 8 0 (start_flaws (spaces_of l) x)))
       (all_at (made_at Some u32_at) (section_end s) s.contents) answer same
       (subst (λ (d : ModuleContext). Reads (λ o. o) answer (start_at_once d before s)) same reads))
-
--- the id is a number, from which on sections are left out
-pub omitted_at : (n id : ℕ) (l : SectionLists) → id ≡ n → AreOmittedFrom id l → AreOmittedFrom n l
-omitted_at n id l is none = subst (λ (m : ℕ). AreOmittedFrom m l) is none
 
 pub omitted_from : (id : ℕ) (l : SectionLists) → 1 ≤ id → id ≤ 11 → ((k : SectionId) → of_number id ≡ Some k → AreOmittedFrom (number k) l)
     → AreOmittedFrom id l

@@ -1,13 +1,11 @@
 -- Sections whose items are judged while they are read, as a loop has them.
-use Rattle.std.proofs.Common.{◌≡◌, ◌≢◌, ℕ, ◌+◌, ◌-◌, ◌<◌, ◌≤◌, Bool, true, false, not, List, [], Option, Result, Ok, Err, refl, sym, ap, subst}
+use Rattle.std.proofs.Common.{◌≡◌, ◌≢◌, ℕ, ◌+◌, ◌-◌, ◌<◌, ◌≤◌, Bool, true, false, not, List, [], Option, Result, Ok, Err, sym, ap, subst}
 use Rattle.std.proofs.Common.{◌∙◌}
 use Rattle.std.specs.Option.{is_some}
-use Rattle.wk_bytes.specs.declared.fault.ReadKind.{ReadKind}
-use Rattle.wk_bytes.specs.declared.fault.ReadKind.TheVariants.{Memory, SectionSize}
+use Rattle.wk_bytes.specs.declared.fault.ReadKind.TheVariants.{SectionSize}
 use Rattle.wk_bytes.specs.declared.fault.ReadFault.{ReadFault}
 use Rattle.wk_bytes.specs.Leb.{◌>>=◌}
 use Rattle.wk_bytes.specs.Span.{Span, fault, u32_at}
-use Rattle.wk_bytes.specs.Stands.{Stands, StandsAt}
 use Rattle.wk_body.specs.Reads.{FailsAs}
 use Rattle.wk_body.specs.Vectors.{items_at, vector_at}
 use Rattle.wk_module.specs.Formats.{Reader, made_at, all_at}
@@ -19,18 +17,7 @@ use Rattle.wk_check.proofs.JudgedItems.{by_flaw, judged_rest, goes_on_to, stops,
 
 -- ---- faults
 
-fails_as : {Y : Type 0} (e : ReadFault) (kind : ReadKind) (read : Result Y ReadFault) → (kind ≡ Memory → ⊥) → read ≡ Err e → FailsAs e kind read
-fails_as e Memory read sure is = absurd (sure refl)
-fails_as e _ read sure is = is
-
-stands_sure : (at : Span) (e : ReadFault) → Stands at e → e.kind ≡ Memory → ⊥
-stands_sure at e stood is = subst (λ (k : ReadKind). StandsAt k stood.from) is stood.stands
-
--- a fault that stands in bytes is not one of memory
-pub fault_of_bytes : {Y : Type 0} (at : Span) (e : ReadFault) (read : Result Y ReadFault) → Stands at e → read ≡ Err e → FailsAs e e.kind read
-fault_of_bytes at e read stood is = fails_as e e.kind read (stands_sure at e stood) is
-
--- nor is that of bytes that are left over
+-- bytes that are left over
 pub fault_of_size : {Y : Type 0} (e : ReadFault) (end : ℕ) (left : List ℕ) (read : Result Y ReadFault) → e ≡ fault SectionSize end left
     → read ≡ Err (fault SectionSize end left) → FailsAs e e.kind read
 fault_of_size e end left read is bad = subst (λ (d : ReadFault). FailsAs d d.kind read) (sym is) bad

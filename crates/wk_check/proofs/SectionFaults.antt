@@ -92,24 +92,22 @@ faults_up_to n profile l = take n
 abbrev IsBehind : Profile → (k : SectionId) → ContentsOf k → SectionLists → Type 0
 IsBehind profile k x l = lists_fault profile (with_contents k x l) ≡ earlier (lists_fault profile l) (fault_in profile (with_contents k x l) k)
 
+-- of a section with so many in front
+behind_some : (n : ℕ) (profile : Profile) (k : SectionId) (x : ContentsOf k) (l : SectionLists)
+    → earlier (first_of_all (faults_up_to n profile l ++ fault_in profile (with_contents k x l) k ∷ [])) None
+    ≡ earlier (earlier (first_of_all (faults_up_to n profile l)) None) (fault_in profile (with_contents k x l) k)
+behind_some n profile k x l = last_section (faults_up_to n profile l) (fault_in profile (with_contents k x l) k)
+
 behind_emptied : (profile : Profile) (k : SectionId) (x : ContentsOf k) (l : SectionLists) → IsBehind profile k x (emptied (number k) l)
-behind_emptied profile TypeSection x l = last_section [] (fault_in profile (with_contents TypeSection x (emptied 1 l)) TypeSection)
-behind_emptied profile ImportSection x l =
-    last_section (faults_up_to 1 profile (emptied 2 l)) (fault_in profile (with_contents ImportSection x (emptied 2 l)) ImportSection)
-behind_emptied profile FunctionSection x l =
-    last_section (faults_up_to 2 profile (emptied 3 l)) (fault_in profile (with_contents FunctionSection x (emptied 3 l)) FunctionSection)
-behind_emptied profile TableSection x l =
-    last_section (faults_up_to 3 profile (emptied 4 l)) (fault_in profile (with_contents TableSection x (emptied 4 l)) TableSection)
-behind_emptied profile MemorySection x l =
-    last_section (faults_up_to 4 profile (emptied 5 l)) (fault_in profile (with_contents MemorySection x (emptied 5 l)) MemorySection)
-behind_emptied profile GlobalSection x l =
-    last_section (faults_up_to 5 profile (emptied 6 l)) (fault_in profile (with_contents GlobalSection x (emptied 6 l)) GlobalSection)
-behind_emptied profile ExportSection x l =
-    last_section (faults_up_to 6 profile (emptied 7 l)) (fault_in profile (with_contents ExportSection x (emptied 7 l)) ExportSection)
-behind_emptied profile StartSection x l =
-    last_section (faults_up_to 7 profile (emptied 8 l)) (fault_in profile (with_contents StartSection x (emptied 8 l)) StartSection)
-behind_emptied profile ElementSection x l =
-    last_section (faults_up_to 8 profile (emptied 9 l)) (fault_in profile (with_contents ElementSection x (emptied 9 l)) ElementSection)
+behind_emptied profile TypeSection x l = behind_some 0 profile TypeSection x (emptied 1 l)
+behind_emptied profile ImportSection x l = behind_some 1 profile ImportSection x (emptied 2 l)
+behind_emptied profile FunctionSection x l = behind_some 2 profile FunctionSection x (emptied 3 l)
+behind_emptied profile TableSection x l = behind_some 3 profile TableSection x (emptied 4 l)
+behind_emptied profile MemorySection x l = behind_some 4 profile MemorySection x (emptied 5 l)
+behind_emptied profile GlobalSection x l = behind_some 5 profile GlobalSection x (emptied 6 l)
+behind_emptied profile ExportSection x l = behind_some 6 profile ExportSection x (emptied 7 l)
+behind_emptied profile StartSection x l = behind_some 7 profile StartSection x (emptied 8 l)
+behind_emptied profile ElementSection x l = behind_some 8 profile ElementSection x (emptied 9 l)
 behind_emptied profile CodeSection x l = sym (earlier_none (lists_fault profile (emptied 10 l)))
 behind_emptied profile DataSection x l =
     ap (λ (o : Option Fault). earlier o (fault_in profile (with_contents DataSection x (emptied 11 l)) DataSection))

@@ -8,19 +8,20 @@ use Rattle.wk_module.specs.Reading.{section_end}
 use Rattle.wk_typing.specs.declared.fault.Fault.{Fault}
 use Rattle.wk_check.specs.Contexts.{add_export, exports_at_once, next_export_flaw}
 use Rattle.wk_check.proofs.JudgedItems.{by_flaw}
-use Rattle.wk_check.proofs.MadeReading.{fault_of_bytes, fault_of_size, starts}
-use Rattle.wk_check.proofs.JudgedExports.{is_none, none_none, some_none, exports_uncounted, export_passes, export_judged, export_stops, exports_end, exports_past}
+use Rattle.wk_check.proofs.JudgedSteps.{stands_fails}
+use Rattle.wk_check.proofs.MadeReading.{fault_of_size, starts}
+use Rattle.wk_check.proofs.JudgedExports.{is_none, none_none, some_none, exports_uncounted, export_passes, export_judged, export_stops}
+use Rattle.wk_check.proofs.JudgedExports.{exports_end, exports_past}
 use Rattle.wk_check.proofs.judge_exports.judge_exports.Goals as goal
 use Rattle.wk_check.proofs.judge_exports.judge_exports.Goals.{in-Some, in_default}
 
 pub returns-in_err-count : goal.returns-in_err-count
 returns-in_err-count c =
     let p = err_from_is_err_and c.from_residual.result c.from_residual.ensures.1 in
-    let e = c.in_err-count.field-0.0 in
     let s = raw_view c.args.section.now in
-    rw (p.1, p.2) (fault_of_bytes c.cursor-cursor.result e (exports_at_once c.args.context.now c.args.before s) c.in_err-count.ensures.stands
-    (exports_uncounted (section_end s) s.contents c.args.context.now c.args.before c.cursor-cursor.result e c.cursor-cursor.ensures
-    c.in_err-count.ensures.exact.0))
+    rw (p.1, p.2) (stands_fails _ _ _ _ c.in_err-count.ensures.stands.stands
+    (exports_uncounted (section_end s) s.contents c.args.context.now c.args.before c.cursor-cursor.result c.in_err-count.field-0.0
+    c.cursor-cursor.ensures c.in_err-count.ensures.exact.0))
 
 pub loop-index-init : goal.loop-index-init
 loop-index-init c =

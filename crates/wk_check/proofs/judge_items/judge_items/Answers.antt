@@ -7,21 +7,18 @@ use Rattle.wk_module.specs.Reading.{section_end}
 use Rattle.wk_typing.specs.declared.fault.Fault.{Fault}
 use Rattle.wk_check.specs.Contexts.{next_judged, items_at_once}
 use Rattle.wk_check.proofs.JudgedItems.{by_flaw}
-use Rattle.wk_check.proofs.MadeReading.{fault_of_bytes, fault_of_size, no_count, starts, judges_next, stops_next, ends_in, goes_past}
+use Rattle.wk_check.proofs.JudgedSteps.{stands_fails}
+use Rattle.wk_check.proofs.MadeReading.{fault_of_size, no_count, starts, judges_next, stops_next, ends_in, goes_past}
 use Rattle.wk_check.proofs.judge_items.judge_items.Goals as goal
 use Rattle.wk_check.proofs.judge_items.judge_items.Goals.{in-Some, in_default}
 
 pub returns-in_err-count : goal.returns-in_err-count
 returns-in_err-count g c =
     let p = err_from_is_err_and c.from_residual.result c.from_residual.ensures.1 in
-    let e = c.in_err-count.field-0.0 in
-    let read = g.K.ItemKind.read_at c.args.profile in
-    let wrong = g.K.ItemKind.wrong c.args.profile in
     let s = raw_view c.args.section.now in
-    rw (p.1, p.2) (fault_of_bytes c.cursor-cursor.result e (items_at_once read wrong g.K.ItemKind.add c.args.state.now c.args.before s)
-    c.in_err-count.ensures.stands
-    (no_count read wrong g.K.ItemKind.add s.id (section_end s) s.contents c.args.state.now c.args.before c.cursor-cursor.result e
-    c.cursor-cursor.ensures c.in_err-count.ensures.exact.0))
+    rw (p.1, p.2) (stands_fails _ _ _ _ c.in_err-count.ensures.stands.stands
+    (no_count (g.K.ItemKind.read_at c.args.profile) (g.K.ItemKind.wrong c.args.profile) g.K.ItemKind.add s.id (section_end s) s.contents
+    c.args.state.now c.args.before c.cursor-cursor.result c.in_err-count.field-0.0 c.cursor-cursor.ensures c.in_err-count.ensures.exact.0))
 
 pub loop-index-init : goal.loop-index-init
 loop-index-init g c =

@@ -4,7 +4,7 @@ use Rattle.wk_bytes.specs.declared.fault.ReadFault.{ReadFault}
 use Rattle.wk_bytes.specs.Raw.{raw_view}
 use Rattle.wk_bytes.specs.LebLaws.{done}
 use Rattle.wk_typing.specs.declared.fault.Fault.{Fault}
-use Rattle.wk_check.specs.Contexts.{spaces_in, start_at_once}
+use Rattle.wk_check.specs.Contexts.{spaces_in}
 use Rattle.wk_check.specs.Items.{start_flaw}
 use Rattle.wk_check.proofs.JudgedSteps.{stands_fails, start_fails, start_goes_past, start_is_read, start_after, start_told}
 use Rattle.wk_check.proofs.judge_sections.judge_start.Goals as goal
@@ -14,8 +14,7 @@ returns-in_err-index c =
     let p = err_from_is_err_and c.from_residual.result c.from_residual.ensures.1 in
     let e = c.in_err-index.field-0.0 in
     let s = raw_view c.args.section.now in
-    let stands = c.in_err-index.ensures.stands in
-    rw (p.1, p.2) (stands_fails e e.kind stands.from (start_at_once c.args.context.now c.args.before s) stands.stands
+    rw (p.1, p.2) (stands_fails _ _ _ _ c.in_err-index.ensures.stands.stands
     (start_fails c.args.context.now c.args.before s c.cursor-cursor.result c.cursor-cursor.ensures e c.in_err-index.ensures.exact.0))
 
 pub returns-in_err-at_end : goal.returns-in_err-at_end

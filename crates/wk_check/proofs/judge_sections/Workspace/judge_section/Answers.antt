@@ -1,7 +1,6 @@
 use Rattle.std.proofs.Common.{◌≤◌, ◌<◌, ◌⊎◌, inl, inr, arith}
 use Rattle.std.proofs.lemmas.Result.{err_from_is_err_and}
 use Rattle.wk_bytes.specs.Raw.{raw_view}
-use Rattle.wk_check.specs.Contexts.{section_judged}
 use Rattle.wk_check.proofs.JudgedSteps.{stands_fails, omitted_from, of_none, custom_fails, custom_is_read}
 use Rattle.wk_check.proofs.judge_sections.Workspace.judge_section.Goals as goal
 use Rattle.wk_check.proofs.judge_sections.Workspace.judge_section.Goals.{in_default-via-then-section-lt1}
@@ -12,12 +11,11 @@ returns-in_err-_name-in_default c = λ l same none.
     let p = err_from_is_err_and c.from_residual.result c.from_residual.ensures.1 in
     let e = c.in_err-_name-in_default.field-0.0 in
     let s = raw_view c.args.section.now in
-    let stands = c.in_err-_name-in_default.ensures.stands in
     let out : (s.id < 1) ⊎ (12 ≤ s.id) = elim c.in_default.branch [
       | in_default-via-then-section-lt1 w ↦ inl (omega (arith, w))
       | in_default-via-else-section-lt1+else-section-lt6+else-section-lt12 w ↦ inr (omega (arith, w))
     ] in
-    rw (p.1, p.2) (stands_fails e e.kind stands.from (section_judged c.args.profile l c.args.before s) stands.stands
+    rw (p.1, p.2) (stands_fails _ _ _ _ c.in_err-_name-in_default.ensures.stands.stands
     (custom_fails c.args.profile l c.args.before s c.cursor-cursor.result c.cursor-cursor.ensures (of_none s.id out) e
     c.in_err-_name-in_default.ensures.exact.0))
 
