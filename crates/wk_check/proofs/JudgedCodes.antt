@@ -42,16 +42,20 @@ use Rattle.wk_check.proofs.Flaws.{earlier_none, earlier_assoc, module_verdict_to
 
 -- The first fault of the codes that are still to be read, behind a fault or none: those of functions of these types, from an
 -- index on.
-abbrev pub answered : Option Fault → List ℕ → Result (Option Fault × List ℕ) ReadFault
+abbrev answered : Option Fault → List ℕ → Result (Option Fault × List ℕ) ReadFault
 answered o rest = Ok (o, rest)
 
-abbrev pub rest_judged : Profile → ModuleContext → List ℕ → Option Fault → ℕ → ℕ → ℕ → List ℕ → Result (Option Fault × List ℕ) ReadFault
+abbrev rest_judged : Profile → ModuleContext → List ℕ → Option Fault → ℕ → ℕ → ℕ → List ℕ → Result (Option Fault × List ℕ) ReadFault
 rest_judged profile c types before item count end bytes =
     items_at (code_at profile) count end bytes >>= λ bodies. answered (earlier before (first_of (spaces_in c) item (zipped types bodies.0))) bodies.1
 
 -- the codes that are read, judged, and what is left of the bytes
-abbrev pub all_judged : ModuleContext → Option Fault → List ℕ → Result (List BodyOf × List ℕ) ReadFault → Result (Option Fault × List ℕ) ReadFault
+abbrev all_judged : ModuleContext → Option Fault → List ℕ → Result (List BodyOf × List ℕ) ReadFault → Result (Option Fault × List ℕ) ReadFault
 all_judged c known types codes = codes >>= λ bodies. answered (earlier known (first_of (spaces_in c) 0 (zipped types bodies.0))) bodies.1
+
+-- the first fault with that of one function more
+abbrev with_code : ModuleContext → Option Fault → ℕ → ℕ → BodyOf → Option Fault
+with_code c before item ty body = earlier before (first_of (spaces_in c) item (record { ty = ty; body = body } ∷ []))
 
 abbrev put_front : BodyOf → List BodyOf × List ℕ → Result (List BodyOf × List ℕ) ReadFault
 put_front body xs = Ok (body ∷ xs.0, xs.1)
@@ -61,92 +65,41 @@ by_flaw : (c : ModuleContext) (item : ℕ) (f : Func) (funcs : List Func) (w : O
 by_flaw c item f funcs None is = rw is refl
 by_flaw c item f funcs (Some w) is = rw is refl
 
-one_more : (c : ModuleContext) (before : Option Fault) (item : ℕ) (f : Func) (funcs : List Func)
-    → earlier before (first_of (spaces_in c) item (f ∷ funcs)) ≡ earlier (earlier before (first_of (spaces_in c) item (f ∷ []))) (first_of (spaces_in c) (item + 1) funcs)
-one_more c (Some fault) item f funcs = refl
-one_more c None item f funcs = by_flaw c item f funcs (body_flaw (func_verdict (answer_in (spaces_in c)) f)) refl
+one_more : (c : ModuleContext) (before : Option Fault) (item ty : ℕ) (body : BodyOf) (funcs : List Func)
+    → earlier before (first_of (spaces_in c) item (record { ty = ty; body = body } ∷ funcs))
+    ≡ earlier (with_code c before item ty body) (first_of (spaces_in c) (item + 1) funcs)
+one_more c (Some known) item ty body funcs = refl
+one_more c None item ty body funcs =
+    let f : Func = record { ty = ty; body = body } in
+    by_flaw c item f funcs (body_flaw (func_verdict (answer_in (spaces_in c)) f)) refl
 
-regroup : (c : ModuleContext) (t : ℕ) (types : List ℕ) (before : Option Fault) (item : ℕ) (body : BodyOf) (r : Result (List BodyOf × List ℕ) ReadFault)
-    → ((r >>= put_front body) >>= λ bodies. answered (earlier before (first_of (spaces_in c) item (zipped (t ∷ types) bodies.0))) bodies.1)
+regroup : (c : ModuleContext) (ty : ℕ) (types : List ℕ) (before : Option Fault) (item : ℕ) (body : BodyOf) (r : Result (List BodyOf × List ℕ) ReadFault)
+    → ((r >>= put_front body) >>= λ bodies. answered (earlier before (first_of (spaces_in c) item (zipped (ty ∷ types) bodies.0))) bodies.1)
     ≡ (r >>= λ bodies. answered
-    (earlier (earlier before (first_of (spaces_in c) item (record { ty = t; body = body } ∷ []))) (first_of (spaces_in c) (item + 1) (zipped types bodies.0))) bodies.1)
-regroup c t types before item body (Ok xs) = ap (λ (o : Option Fault). answered o xs.1)
-    (one_more c before item (record { ty = t; body = body }) (zipped types xs.0))
-regroup c t types before item body (Err e) = refl
+    (earlier (with_code c before item ty body) (first_of (spaces_in c) (item + 1) (zipped types bodies.0))) bodies.1)
+regroup c ty types before item body (Ok xs) = ap (λ (o : Option Fault). answered o xs.1) (one_more c before item ty body (zipped types xs.0))
+regroup c ty types before item body (Err e) = refl
 
 -- a body more is read and judged
-pub body_judged : (profile : Profile) (c : ModuleContext) (types : List ℕ) (before : Option Fault) (item t end : ℕ) (bytes after : List ℕ)
-    (body : BodyOf) → item < length types → t ≡ get_or types item 0
+body_judged : (profile : Profile) (c : ModuleContext) (types : List ℕ) (before : Option Fault) (item ty end : ℕ) (bytes after : List ℕ)
+    (body : BodyOf) → item < length types → ty ≡ get_or types item 0
     → code_at profile end bytes ≡ Ok (body, after)
     → rest_judged profile c (drop item types) before item (length types - item) end bytes
-    ≡ rest_judged profile c (drop (item + 1) types) (earlier before (first_of (spaces_in c) item (record { ty = t; body = body } ∷ []))) (item + 1)
-    (length types - (item + 1)) end after
-body_judged profile c types before item t end bytes after body here is read =
+    ≡ rest_judged profile c (drop (item + 1) types) (with_code c before item ty body) (item + 1) (length types - (item + 1)) end after
+body_judged profile c types before item ty end bytes after body here is read =
     let count : length types - item ≡ suc (length types - (item + 1)) = omega arith in
-    let types_are : drop item types ≡ t ∷ drop (item + 1) types = rw (add-one, is) (drop-cons types item 0 here) in
-    rw (count, types_are, read) (regroup c t (drop (item + 1) types) before item body (items_at (code_at profile) (length types - (item + 1)) end after))
-
--- so that the loop goes on
-pub body_step : (profile : Profile) (c : ModuleContext) (types : List ℕ) (before next : Option Fault) (item t end end_now : ℕ) (bytes after : List ℕ)
-    (body : BodyOf) (whole : Result (Option Fault × List ℕ) ReadFault)
-    → item < length types → t ≡ get_or types item 0 → code_at profile end bytes ≡ Ok (body, after) → end_now ≡ end
-    → next ≡ earlier before (first_of (spaces_in c) item (record { ty = t; body = body } ∷ []))
-    → rest_judged profile c (drop item types) before item (length types - item) end bytes ≡ whole
-    → rest_judged profile c (drop (item + 1) types) next (item + 1) (length types - (item + 1)) end_now after ≡ whole
-body_step profile c types before next item t end end_now bytes after body whole here is read end_is next_is so_far =
-    rw (end_is, next_is) (sym (body_judged profile c types before item t end bytes after body here is read) ∙ so_far)
-
--- before the first
-pub section_begins : (profile : Profile) (c : ModuleContext) (known : Option Fault) (types : List ℕ) (left : Span) (before : Option Fault) → before ≡ known
-    → rest_judged profile c (drop 0 types) before 0 (length types - 0) left.end left.rest
-    ≡ all_judged c known types (items_at (code_at profile) (length types) left.end left.rest)
-section_begins profile c known types left before is = let k : length types - 0 ≡ length types = omega arith in rw (k, is) refl
-
--- a code that is taken by its size and read, to the next fault or none
-pub code_is_read : (profile : Profile) (c : ModuleContext) (before next : Option Fault) (item ty end : ℕ) (bytes after : List ℕ) (code : Span)
-    → bytes_at end bytes ≡ Ok (code.rest, after) → code.end ≡ end - length after
-    → fault_read profile (spaces_in c) before item ty code ≡ Ok next → (body : BodyOf) × (code_at profile end bytes ≡ Ok (body, after))
-    × (next ≡ earlier before (first_of (spaces_in c) item (record { ty = ty; body = body } ∷ [])))
-code_is_read profile c before next item ty end bytes after code taken place read =
-    let a = bind_ok (all_body_at profile code.end code.rest)
-    (λ body. done (earlier before (first_of (spaces_in c) item (record { ty = ty; body = body } ∷ [])))) next read in
-    (a.0, apart.code_by profile end bytes after code a.0 taken place a.1, sym (ok_is _ _ a.2))
+    let types_are : drop item types ≡ ty ∷ drop (item + 1) types = rw (add-one, is) (drop-cons types item 0 here) in
+    rw (count, types_are, read) (regroup c ty (drop (item + 1) types) before item body (items_at (code_at profile) (length types - (item + 1)) end after))
 
 unread : (c : ModuleContext) (before : Option Fault) (item ty : ℕ) (e : ReadFault) (r : Result BodyOf ReadFault)
-    → (r >>= λ body. Ok (earlier before (first_of (spaces_in c) item (record { ty = ty; body = body } ∷ [])))) ≡ Err e → r ≡ Err e
+    → (r >>= λ body. Ok (with_code c before item ty body)) ≡ Err e → r ≡ Err e
 unread c before item ty e (Ok body) h = absurd cc
 unread c before item ty e (Err d) h = cc
 
--- and one that is no body
-pub code_not_read : (profile : Profile) (c : ModuleContext) (before : Option Fault) (item ty end : ℕ) (bytes after : List ℕ) (code : Span)
-    (e : ReadFault) → bytes_at end bytes ≡ Ok (code.rest, after) → code.end ≡ end - length after
-    → fault_read profile (spaces_in c) before item ty code ≡ Err e → code_at profile end bytes ≡ Err e
-code_not_read profile c before item ty end bytes after code e taken place bad =
-    apart.code_not_read profile end bytes after code e taken place (unread c before item ty e (all_body_at profile code.end code.rest) bad)
-
-stopped : (profile : Profile) (c : ModuleContext) (known : Option Fault) (types : List ℕ) (whole : Result (List BodyOf × List ℕ) ReadFault) (e : ReadFault)
+stopped : (c : ModuleContext) (known : Option Fault) (types : List ℕ) (whole : Result (List BodyOf × List ℕ) ReadFault) (e : ReadFault)
     → Err e ≡ all_judged c known types whole → whole ≡ Err e
-stopped profile c known types (Ok x) e h = absurd cc
-stopped profile c known types (Err d) e h = cc
-
--- a body cannot be read
-body_stops : (profile : Profile) (c : ModuleContext) (known : Option Fault) (types : List ℕ) (before : Option Fault) (item end : ℕ) (bytes : List ℕ) (e : ReadFault)
-    (whole : Result (List BodyOf × List ℕ) ReadFault) → item < length types
-    → rest_judged profile c (drop item types) before item (length types - item) end bytes ≡ all_judged c known types whole
-    → code_at profile end bytes ≡ Err e → whole ≡ Err e
-body_stops profile c known types before item end bytes e whole here so_far bad =
-    let count : length types - item ≡ suc (length types - (item + 1)) = omega arith in
-    stopped profile c known types whole e (rw (count, bad) at so_far)
-
--- and then the section cannot
-pub section_stops : (profile : Profile) (c : ModuleContext) (known : Option Fault) (left : Span) (before : Option Fault) (item end : ℕ) (bytes : List ℕ)
-    (e : ReadFault) → item < length c.funcs
-    → rest_judged profile c (drop item c.funcs) before item (length c.funcs - item) end bytes
-    ≡ all_judged c known c.funcs (items_at (code_at profile) (length c.funcs) left.end left.rest) → code_at profile end bytes ≡ Err e
-    → opened_judged profile c known left ≡ Err e
-section_stops profile c known left before item end bytes e here so_far bad =
-    let stop = body_stops profile c known c.funcs before item end bytes e (items_at (code_at profile) (length c.funcs) left.end left.rest) here so_far bad in
-    rw stop refl
+stopped c known types (Ok x) e h = absurd cc
+stopped c known types (Err d) e h = cc
 
 zipped_none : (types : List ℕ) → zipped types [] ≡ []
 zipped_none [] = refl
@@ -155,65 +108,92 @@ zipped_none (t ∷ types) = refl
 nil_cons : (x : ℕ) (rest : List ℕ) → [] ≡ x ∷ rest → ⊥
 nil_cons x rest h = absurd cc
 
-finished : (profile : Profile) (c : ModuleContext) (known : Option Fault) (types : List ℕ) (end : ℕ) (before : Option Fault) (whole : Result (List BodyOf × List ℕ) ReadFault)
-    → answered before [] ≡ all_judged c known types whole
-    → (whole >>= taking_all end >>= λ bodies. Ok (earlier known (first_of (spaces_in c) 0 (zipped types bodies)))) ≡ Ok before
-finished profile c known types end before (Ok (bodies, [])) h = sym (ap (λ (r : Result (Option Fault × List ℕ) ReadFault). r >>= λ x. Ok x.0) h)
-finished profile c known types end before (Ok (bodies, x ∷ rest)) h = absurd (nil_cons x rest (ap (λ (y : Option Fault × List ℕ). y.1) (ok_is _ _ h)))
-finished profile c known types end before (Err e) h = absurd cc
+-- what all codes come to, where the section ends behind them
+abbrev closed : ModuleContext → Option Fault → List ℕ → ℕ → Result (List BodyOf × List ℕ) ReadFault → Result (Option Fault) ReadFault
+closed c known types end codes = codes >>= taking_all end >>= λ bodies. Ok (earlier known (first_of (spaces_in c) 0 (zipped types bodies)))
 
--- all bodies are read and judged
-pub section_judged : (profile : Profile) (c : ModuleContext) (known : Option Fault) (left : Span) (before : Option Fault) (item end : ℕ) (bytes : List ℕ)
-    → length c.funcs ≤ item → bytes ≡ []
-    → rest_judged profile c (drop item c.funcs) before item (length c.funcs - item) end bytes
-    ≡ all_judged c known c.funcs (items_at (code_at profile) (length c.funcs) left.end left.rest) → opened_judged profile c known left ≡ Ok before
-section_judged profile c known left before item end bytes le none so_far =
-    let count : length c.funcs - item ≡ 0 = omega arith in
-    finished profile c known c.funcs left.end before (items_at (code_at profile) (length c.funcs) left.end left.rest)
-    (rw (count, none, zipped_none, earlier_none) at so_far)
+finished : (c : ModuleContext) (known : Option Fault) (types : List ℕ) (end : ℕ) (before : Option Fault) (whole : Result (List BodyOf × List ℕ) ReadFault)
+    → answered before [] ≡ all_judged c known types whole → closed c known types end whole ≡ Ok before
+finished c known types end before (Ok (bodies, [])) h = sym (ap (λ (r : Result (Option Fault × List ℕ) ReadFault). r >>= λ x. Ok x.0) h)
+finished c known types end before (Ok (bodies, x ∷ rest)) h = absurd (nil_cons x rest (ap (λ (y : Option Fault × List ℕ). y.1) (ok_is _ _ h)))
+finished c known types end before (Err e) h = absurd cc
 
-left_over : (profile : Profile) (c : ModuleContext) (known : Option Fault) (types : List ℕ) (end : ℕ) (before : Option Fault) (rest : List ℕ)
+left_over : (c : ModuleContext) (known : Option Fault) (types : List ℕ) (end : ℕ) (before : Option Fault) (rest : List ℕ)
     (whole : Result (List BodyOf × List ℕ) ReadFault) → answered before rest ≡ all_judged c known types whole → rest ≢ []
-    → (whole >>= taking_all end >>= λ bodies. Ok (earlier known (first_of (spaces_in c) 0 (zipped types bodies)))) ≡ Err (fault SectionSize end rest)
-left_over profile c known types end before rest (Ok (bodies, [])) h some = absurd (some (ap (λ (y : Option Fault × List ℕ). y.1) (ok_is _ _ h)))
-left_over profile c known types end before rest (Ok (bodies, x ∷ more)) h some =
+    → closed c known types end whole ≡ Err (fault SectionSize end rest)
+left_over c known types end before rest (Ok (bodies, [])) h some = absurd (some (ap (λ (y : Option Fault × List ℕ). y.1) (ok_is _ _ h)))
+left_over c known types end before rest (Ok (bodies, x ∷ more)) h some =
     ap (λ (y : List ℕ). Err (fault SectionSize end y)) (sym (ap (λ (y : Option Fault × List ℕ). y.1) (ok_is _ _ h)))
-left_over profile c known types end before rest (Err e) h some = absurd cc
+left_over c known types end before rest (Err e) h some = absurd cc
 
--- or the section goes on behind them
-pub section_goes_on : (profile : Profile) (c : ModuleContext) (known : Option Fault) (left : Span) (before : Option Fault) (item end : ℕ) (bytes : List ℕ)
-    → length c.funcs ≤ item → bytes ≢ [] → end ≡ left.end
-    → rest_judged profile c (drop item c.funcs) before item (length c.funcs - item) end bytes
-    ≡ all_judged c known c.funcs (items_at (code_at profile) (length c.funcs) left.end left.rest)
-    → opened_judged profile c known left ≡ Err (fault SectionSize end bytes)
-section_goes_on profile c known left before item end bytes le some same so_far =
-    let count : length c.funcs - item ≡ 0 = omega arith in
-    rw same (left_over profile c known c.funcs left.end before bytes (items_at (code_at profile) (length c.funcs) left.end left.rest)
-    (rw (count, zipped_none, earlier_none) at so_far) some)
-
-read_whole : (profile : Profile) (c : ModuleContext) (known : Option Fault) (types left : List ℕ) (before : Option Fault) (item end : ℕ)
+read_whole : (c : ModuleContext) (known : Option Fault) (types left : List ℕ) (before : Option Fault) (item end : ℕ)
     (r whole : Result (List BodyOf × List ℕ) ReadFault) (o : Option Fault) → is_some before ≡ true
     → (r >>= λ bodies. answered (earlier before (first_of (spaces_in c) item (zipped left bodies.0))) bodies.1) ≡ all_judged c known types whole
-    → (whole >>= taking_all end >>= λ bodies. Ok (earlier known (first_of (spaces_in c) 0 (zipped types bodies)))) ≡ Ok o
-    → o ≡ before
-read_whole profile c known types left None item end r whole o found h read = absurd cc
-read_whole profile c known types left (Some f) item end (Ok x) (Ok (bodies, [])) o found h read =
+    → closed c known types end whole ≡ Ok o → o ≡ before
+read_whole c known types left None item end r whole o found h read = absurd cc
+read_whole c known types left (Some f) item end (Ok x) (Ok (bodies, [])) o found h read =
     sym (ok_is _ _ read) ∙ sym (ap (λ (y : Option Fault × List ℕ). y.0) (ok_is _ _ h))
-read_whole profile c known types left (Some f) item end (Err e) (Ok (bodies, [])) o found h read = absurd cc
-read_whole profile c known types left (Some f) item end r (Ok (bodies, x ∷ rest)) o found h read = absurd cc
-read_whole profile c known types left (Some f) item end r (Err e) o found h read = absurd cc
+read_whole c known types left (Some f) item end (Err e) (Ok (bodies, [])) o found h read = absurd cc
+read_whole c known types left (Some f) item end r (Ok (bodies, x ∷ rest)) o found h read = absurd cc
+read_whole c known types left (Some f) item end r (Err e) o found h read = absurd cc
 
--- behind a fault nothing is judged, so where the section can be read that fault is all
-pub fault_stays : (profile : Profile) (c : ModuleContext) (known : Option Fault) (left : Span) (before : Option Fault) (item end : ℕ) (bytes : List ℕ)
-    (o : Option Fault) → is_some before ≡ true
-    → rest_judged profile c (drop item c.funcs) before item (length c.funcs - item) end bytes
-    ≡ all_judged c known c.funcs (items_at (code_at profile) (length c.funcs) left.end left.rest)
-    → opened_judged profile c known left ≡ Ok o → opened_judged profile c known left ≡ Ok before
-fault_stays profile c known left before item end bytes o found so_far read =
-    let same = read_whole profile c known c.funcs (drop item c.funcs) before item left.end (items_at (code_at profile) (length c.funcs - item) end bytes)
-    (items_at (code_at profile) (length c.funcs) left.end left.rest) o
-    found so_far read in
-    read ∙ ap (λ (x : Option Fault). Ok x) same
+-- ---- a section that was opened, whose codes are those of all functions
+
+module _ (profile : Profile) (c : ModuleContext) (known : Option Fault) (left : Span) where
+  abbrev codes : Result (List BodyOf × List ℕ) ReadFault
+  codes = items_at (code_at profile) (length c.funcs) left.end left.rest
+
+  -- the codes from an index on, behind a fault or none, come to what all of them do
+  abbrev pub IsAlong : Option Fault → ℕ → ℕ → List ℕ → Type 0
+  IsAlong before item end bytes =
+      rest_judged profile c (drop item c.funcs) before item (length c.funcs - item) end bytes ≡ all_judged c known c.funcs codes
+
+  -- before the first
+  pub section_begins : IsAlong known 0 left.end left.rest
+  section_begins = let k : length c.funcs - 0 ≡ length c.funcs = omega arith in rw k refl
+
+  module _ (before : Option Fault) (item end : ℕ) (bytes : List ℕ) (so_far : IsAlong before item end bytes) where
+    -- a code is taken by its size and read, to the next fault or none: so the loop goes on
+    pub code_step : (next : Option Fault) (ty end_now : ℕ) (after : List ℕ) (code : Span) → item < length c.funcs → ty ≡ get_or c.funcs item 0
+        → bytes_at end bytes ≡ Ok (code.rest, after) → code.end ≡ end - length after → end_now ≡ end
+        → fault_read profile (spaces_in c) before item ty code ≡ Ok next → IsAlong next (item + 1) end_now after
+    code_step next ty end_now after code here is taken place same read =
+        let a = bind_ok (all_body_at profile code.end code.rest) (λ body. done (with_code c before item ty body)) next read in
+        let body = apart.code_by profile end bytes after code a.0 taken place a.1 in
+        rw (same, sym (ok_is _ _ a.2)) (sym (body_judged profile c c.funcs before item ty end bytes after a.0 here is body) ∙ so_far)
+
+    -- one that cannot be read is a fault of the section
+    pub section_stops : (e : ReadFault) → item < length c.funcs → code_at profile end bytes ≡ Err e → opened_judged profile c known left ≡ Err e
+    section_stops e here bad =
+        let count : length c.funcs - item ≡ suc (length c.funcs - (item + 1)) = omega arith in
+        let stop = stopped c known c.funcs codes e (rw (count, bad) at so_far) in
+        rw stop refl
+
+    -- and so is one that is taken, and is no body
+    pub code_stops : (e : ReadFault) (ty : ℕ) (after : List ℕ) (code : Span) → item < length c.funcs → bytes_at end bytes ≡ Ok (code.rest, after)
+        → code.end ≡ end - length after → fault_read profile (spaces_in c) before item ty code ≡ Err e → opened_judged profile c known left ≡ Err e
+    code_stops e ty after code here taken place bad =
+        section_stops e here
+        (apart.code_not_read profile end bytes after code e taken place (unread c before item ty e (all_body_at profile code.end code.rest) bad))
+
+    -- all bodies are read and judged
+    pub section_judged : length c.funcs ≤ item → bytes ≡ [] → opened_judged profile c known left ≡ Ok before
+    section_judged le none =
+        let count : length c.funcs - item ≡ 0 = omega arith in
+        finished c known c.funcs left.end before codes (rw (count, none, zipped_none, earlier_none) at so_far)
+
+    -- or the section goes on behind them
+    pub section_goes_on : length c.funcs ≤ item → bytes ≢ [] → end ≡ left.end → opened_judged profile c known left ≡ Err (fault SectionSize end bytes)
+    section_goes_on le some same =
+        let count : length c.funcs - item ≡ 0 = omega arith in
+        rw same (left_over c known c.funcs left.end before bytes codes (rw (count, zipped_none, earlier_none) at so_far) some)
+
+    -- behind a fault nothing is judged, so where the section can be read that fault is all
+    pub fault_stays : (o : Option Fault) → is_some before ≡ true → opened_judged profile c known left ≡ Ok o
+        → opened_judged profile c known left ≡ Ok before
+    fault_stays o found read =
+        read ∙ ap (λ (x : Option Fault). Ok x) (read_whole c known c.funcs (drop item c.funcs) before item left.end
+        (items_at (code_at profile) (length c.funcs - item) end bytes) codes o found so_far read)
 
 -- what a section that was opened comes to is what the section does
 pub judged_as_opened : (profile : Profile) (c : ModuleContext) (known : Option Fault) (s : Section) (left : Span)

@@ -1,14 +1,17 @@
 -- The verdict of a module of which the sections in front of the code section are read and judged.
-use Rattle.std.proofs.Common.{◌≡◌, ℕ, List, Result, Ok, Err, Option, Some, ap, sym, ◌∙◌, arith}
+use Rattle.std.proofs.Common.{◌≡◌, ℕ, List, Result, Ok, Err, Option, Some, ap, sym, subst, ◌∙◌, arith}
 use Rattle.wk_bytes.specs.declared.fault.ReadFault.{ReadFault}
 use Rattle.wk_bytes.specs.declared.raw.RawSection.{RawSection}
 use Rattle.wk_bytes.specs.Frames.{Section, sections_of}
 use Rattle.wk_bytes.specs.Leb.{◌>>=◌}
 use Rattle.wk_bytes.specs.Raw.{raw_view}
 use Rattle.wk_body.specs.declared.types.Profile.{Profile}
+use Rattle.wk_body.specs.Reads.{Reads}
+use Rattle.wk_body.specs.ReadsLaws.{fails_on}
 use Rattle.wk_module.specs.declared.types.Parts.{Parts}
 use Rattle.wk_module.specs.ListReading.{AreListsOfModule, IsReading}
 use Rattle.wk_module.specs.Reading.{module_at}
+use Rattle.wk_module.specs.Sections.{SectionLists}
 use Rattle.wk_typing.specs.declared.fault.Fault.{Fault}
 use Rattle.wk_check.specs.Contexts.{AreOmittedFrom, ModuleContext, IsFront, behind_at_once, context_of}
 use Rattle.wk_check.specs.Flaws.{verdict_by}
@@ -16,6 +19,10 @@ use Rattle.wk_check.specs.Spelled.{judged, codes_judged}
 use Rattle.wk_check.specs.Verdict.{front_fault}
 use Rattle.wk_check.proofs.JudgedCodes.{codes_fail, codes_read, judged_behind}
 use Rattle.wk_check.proofs.SectionFaults.{front_is}
+
+with_verdict : (answer read : Result (Option Fault) ReadFault) → Reads (λ f. f) answer read → Reads verdict_by answer (read >>= λ f. Ok (verdict_by f))
+with_verdict (Ok f) read reads = ap (λ r. r >>= λ g. Ok (verdict_by g)) reads
+with_verdict (Err e) read reads = fails_on e e.kind read (read >>= λ f. Ok (verdict_by f)) (λ bad. ap (λ r. r >>= λ g. Ok (verdict_by g)) bad) reads
 
 module _ (profile : Profile) (b : List ℕ) (is : IsReading profile b (module_at profile b)) (lists : AreListsOfModule profile b)
     (c : ModuleContext) (left : List (Result Section ReadFault)) (fault : Option Fault) (code : RawSection)
@@ -39,19 +46,16 @@ module _ (profile : Profile) (b : List ℕ) (is : IsReading profile b (module_at
       (codes.0, codes_are ∙ codes.1)
 
   -- they were, and the rest decides
-  pub front_judged : (o : Option Fault) → codes_judged profile c fault (raw_view code) ≡ Ok o
+  front_judged : (o : Option Fault) → codes_judged profile c fault (raw_view code) ≡ Ok o
       → judged (module_at profile b) ≡ (behind_at_once profile front.lists o left >>= λ f. Ok (verdict_by f))
   front_judged o codes =
       judged_behind profile b is lists front.lists (raw_view code) left front.ends.0 front.no_codes front.ends.1 front.ends.2 o (sym codes_are ∙ codes)
 
-  pub front_unread : (o : Option Fault) (e : ReadFault) → codes_judged profile c fault (raw_view code) ≡ Ok o
-      → behind_at_once profile front.lists o left ≡ Err e → judged (module_at profile b) ≡ Err e
-  front_unread o e codes bad = front_judged o codes ∙ ap (λ r. r >>= λ f. Ok (verdict_by f)) bad
-
-  pub front_told : (o f : Option Fault) → codes_judged profile c fault (raw_view code) ≡ Ok o
-      → behind_at_once profile front.lists o left ≡ Ok f → judged (module_at profile b) ≡ Ok (verdict_by f)
-  front_told o f codes ends = front_judged o codes ∙ ap (λ r. r >>= λ g. Ok (verdict_by g)) ends
-
-  -- the data section is still to come
-  pub front_omits : AreOmittedFrom 11 front.lists
-  front_omits = λ k le. front.omitted k (omega (arith, le))
+  -- the sections behind it are read and judged behind their lists
+  pub front_goes_on : (o : Option Fault) (d : ModuleContext) (answer : Result (Option Fault) ReadFault) → codes_judged profile c fault (raw_view code) ≡ Ok o
+      → d ≡ c → ((l : SectionLists) → d ≡ context_of l → AreOmittedFrom 11 l → Reads (λ f. f) answer (behind_at_once profile l o left))
+      → Reads verdict_by answer (judged (module_at profile b))
+  front_goes_on o d answer codes same behind =
+      subst (Reads verdict_by answer) (sym (front_judged o codes))
+      (with_verdict answer (behind_at_once profile front.lists o left)
+      (behind front.lists (same ∙ front.context_is) (λ k le. front.omitted k (omega (arith, le)))))

@@ -1,11 +1,7 @@
-use Rattle.std.proofs.Common.{◌∙◌}
+use Rattle.std.proofs.Common.{Ok, Err}
 use Rattle.std.proofs.lemmas.Result.{err_from_is_err_and}
-use Rattle.wk_bytes.specs.Raw.{raw_view}
 use Rattle.wk_body.specs.ReadsLaws.{fails_on}
-use Rattle.wk_module.specs.Reading.{module_at}
-use Rattle.wk_check.specs.Contexts.{behind_at_once}
-use Rattle.wk_check.specs.Spelled.{judged, codes_judged}
-use Rattle.wk_check.proofs.JudgedFront.{front_fails, front_reads, front_unread, front_told, front_omits}
+use Rattle.wk_check.proofs.JudgedFront.{front_fails, front_reads, front_goes_on}
 use Rattle.wk_check.proofs.judge_encoded.judge_from_code.Goals as goal
 
 pub fault_of_section-requires : goal.fault_of_section-requires
@@ -22,34 +18,21 @@ returns-in_err-fault c =
     let p = err_from_is_err_and c.from_residual.result c.from_residual.ensures.1 in
     let e = c.in_err-fault.field-0.0 in
     let f = c.args.front in
-    let context = c.args.workspace.now.context in
-    rw (p.1, p.2) (fails_on e e.kind (codes_judged c.args.profile context f.fault (raw_view f.code)) (judged (module_at c.args.profile c.args.bytes.now))
-    (front_fails c.args.profile c.args.bytes.now c.reading_of_module.ensures.is c.reading_of_module.ensures.lists context f.left f.fault f.code
-    c.requires.front e) c.in_err-fault.ensures.fault)
+    rw (p.1, p.2) (fails_on e e.kind _ _
+    (front_fails c.args.profile c.args.bytes.now c.reading_of_module.ensures.is c.reading_of_module.ensures.lists c.args.workspace.now.context f.left
+    f.fault f.code c.requires.front e) c.in_err-fault.ensures.fault)
 
 pub returns-in_err-judge_behind : goal.returns-in_err-judge_behind
 returns-in_err-judge_behind c =
     let p = err_from_is_err_and c.from_residual-in_err-judge_behind.result c.from_residual-in_err-judge_behind.ensures.1 in
-    let e = c.in_err-judge_behind.field-0.0 in
     let f = c.args.front in
-    let front = c.requires.front in
-    let context = c.args.workspace.now.context in
-    let omits = front_omits c.args.profile c.args.bytes.now c.reading_of_module.ensures.is c.reading_of_module.ensures.lists context f.left f.fault
-    f.code front in
-    let here = c.in_ok-fault.ensures.context ∙ front.context_is in
-    rw (p.1, p.2) (fails_on e e.kind (behind_at_once c.args.profile front.lists c.in_ok-fault.fault f.left)
-    (judged (module_at c.args.profile c.args.bytes.now))
-    (λ bad. front_unread c.args.profile c.args.bytes.now c.reading_of_module.ensures.is c.reading_of_module.ensures.lists context f.left f.fault f.code
-    front c.in_ok-fault.fault e c.in_ok-fault.ensures.fault bad) (c.in_err-judge_behind.ensures front.lists here omits))
+    rw (p.1, p.2) (front_goes_on c.args.profile c.args.bytes.now c.reading_of_module.ensures.is c.reading_of_module.ensures.lists
+    c.args.workspace.now.context f.left f.fault f.code c.requires.front c.in_ok-fault.fault _ (Err c.in_err-judge_behind.field-0.0)
+    c.in_ok-fault.ensures.fault c.in_ok-fault.ensures.context c.in_err-judge_behind.ensures)
 
 pub returns : goal.returns
 returns c =
     let f = c.args.front in
-    let front = c.requires.front in
-    let context = c.args.workspace.now.context in
-    let omits = front_omits c.args.profile c.args.bytes.now c.reading_of_module.ensures.is c.reading_of_module.ensures.lists context f.left f.fault
-    f.code front in
-    let here = c.in_ok-fault.ensures.context ∙ front.context_is in
-    rw c.verdict_of.ensures (front_told c.args.profile c.args.bytes.now c.reading_of_module.ensures.is c.reading_of_module.ensures.lists context f.left
-    f.fault f.code front c.in_ok-fault.fault c.in_ok-judge_behind.field-0 c.in_ok-fault.ensures.fault
-    (c.in_ok-judge_behind.ensures front.lists here omits))
+    rw c.verdict_of.ensures (front_goes_on c.args.profile c.args.bytes.now c.reading_of_module.ensures.is c.reading_of_module.ensures.lists
+    c.args.workspace.now.context f.left f.fault f.code c.requires.front c.in_ok-fault.fault _ (Ok c.in_ok-judge_behind.field-0)
+    c.in_ok-fault.ensures.fault c.in_ok-fault.ensures.context c.in_ok-judge_behind.ensures)
