@@ -63,7 +63,7 @@ module _ (end : ℕ) (bytes : List ℕ) (c : ModuleContext) (before : Option Fau
   pub exports_uncounted : (at : Span) (e : ReadFault) → at ≡ record { rest = bytes; end = end } → u32_at at.end at.rest ≡ Err e → whole ≡ Err e
   exports_uncounted at e is bad = by_all (Err e) (no_count export_at next_export_flaw add_export 7 end bytes start before at e is bad)
 
-  module _ (count item : ℕ) (at : Span) (names : List (List ℕ)) (first : Option Fault)
+  module _ {count item : ℕ} {at : Span} {names : List (List ℕ)} {first : Option Fault}
       (inside : InSection export_at next_export_flaw add_export 7 end bytes start before count item at (behind names) first) where
     -- behind a fault an export is only read
     passes : (new : Span) (e : Export) (o : Option Fault) → o ≡ first → is_some o ≡ true → item < count → export_at at.end at.rest ≡ Ok (e, new.rest)

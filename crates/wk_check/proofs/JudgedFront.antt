@@ -25,7 +25,7 @@ with_verdict (Ok f) read reads = ap (λ r. r >>= λ g. Ok (verdict_by g)) reads
 with_verdict (Err e) read reads = fails_on e e.kind read (read >>= λ f. Ok (verdict_by f)) (λ bad. ap (λ r. r >>= λ g. Ok (verdict_by g)) bad) reads
 
 module _ (profile : Profile) (b : List ℕ) (is : IsReading profile b (module_at profile b)) (lists : AreListsOfModule profile b)
-    (c : ModuleContext) (left : List (Result Section ReadFault)) (fault : Option Fault) (code : RawSection)
+    {c : ModuleContext} {left : List (Result Section ReadFault)} {fault : Option Fault} {code : RawSection}
     (front : IsFront profile (sections_of b) c left fault (Some code)) where
   -- the context and the fault are those of the lists in front
   codes_are : codes_judged profile c fault (raw_view code)

@@ -37,10 +37,9 @@ returns-in_err-export c =
     let p = err_from_is_err_and c.from_residual-in_err-export.result c.from_residual-in_err-export.ensures.1 in
     let e = c.in_err-export.field-0.0 in
     let s = raw_view c.args.section.now in
-    let l = c.loop-index in
-    rw (p.1, p.2) (fails_on e e.kind (export_at l.cursor.end l.cursor.rest) (exports_at_once c.args.context.now c.args.before s)
-    (export_stops (section_end s) s.contents c.args.context.now c.args.before c.in_ok-count.count l.index l.cursor l.invariant.0 l.fault l.invariant.2
-    e c.loop-index-test.true) c.in_err-export.ensures.exact)
+    rw (p.1, p.2) (fails_on e e.kind _ _
+    (export_stops (section_end s) s.contents c.args.context.now c.args.before c.loop-index.invariant.2 e c.loop-index-test.true)
+    c.in_err-export.ensures.exact)
 
 pub loop-index-preserved-then-is_some : goal.loop-index-preserved-then-is_some
 loop-index-preserved-then-is_some c =
@@ -49,9 +48,8 @@ loop-index-preserved-then-is_some c =
     let some = sym c.is_some.ensures ∙ c.if-is_some.true in (
       l.invariant.0 ++ c.in_ok-export.export.name.now ∷ [],
       λ none. absurd (none_none l.fault some none),
-      export_passes (section_end s) s.contents c.args.context.now c.args.before c.in_ok-count.count l.index l.cursor l.invariant.0 l.fault l.invariant.2
-          c.read_export.new.cursor (export_view c.in_ok-export.export) some c.loop-index-test.true c.in_ok-export.ensures.exact.0
-          c.in_ok-export.ensures.exact.1,
+      export_passes (section_end s) s.contents c.args.context.now c.args.before l.invariant.2 c.read_export.new.cursor
+          (export_view c.in_ok-export.export) some c.loop-index-test.true c.in_ok-export.ensures.exact.0 c.in_ok-export.ensures.exact.1,
     )
 
 pub loop-index-preserved : goal.loop-index-preserved
@@ -69,8 +67,8 @@ loop-index-preserved c =
         | in-Some w ↦ λ fine. absurd (some_none c.match-branch-4.fault w.at.result w.fault-is fine)
         | in_default w ↦ λ fine. judged.1 w.in_default.is
       ],
-      export_judged (section_end s) s.contents c.args.context.now c.args.before c.in_ok-count.count l.index l.cursor l.invariant.0 l.fault l.invariant.2
-          c.read_export.new.cursor (export_view c.in_ok-export.export) c.in_ok-flaw.field-0 c.match-branch-4.fault none c.loop-index-test.true
+      export_judged (section_end s) s.contents c.args.context.now c.args.before l.invariant.2 c.read_export.new.cursor
+          (export_view c.in_ok-export.export) c.in_ok-flaw.field-0 c.match-branch-4.fault none c.loop-index-test.true
           c.in_ok-export.ensures.exact.0 c.in_ok-export.ensures.exact.1 judged.0 first_is,
     )
 
@@ -81,12 +79,9 @@ returns-in_err-at_end c =
     let s = raw_view c.args.section.now in
     let l = c.loop-index in
     rw (p.1, p.2) (fault_of_size e l.cursor.end l.cursor.rest (exports_at_once c.args.context.now c.args.before s) c.in_err-at_end.ensures.0
-    (exports_past (section_end s) s.contents c.args.context.now c.args.before c.in_ok-count.count l.index l.cursor l.invariant.0 l.fault l.invariant.2
-    c.loop-index-test.false c.in_err-at_end.ensures.1))
+    (exports_past (section_end s) s.contents c.args.context.now c.args.before l.invariant.2 c.loop-index-test.false c.in_err-at_end.ensures.1))
 
 pub returns : goal.returns
 returns c =
     let s = raw_view c.args.section.now in
-    let l = c.loop-index in
-    exports_end (section_end s) s.contents c.args.context.now c.args.before c.in_ok-count.count l.index l.cursor l.invariant.0 l.fault l.invariant.2
-    c.loop-index-test.false c.in_ok-at_end.ensures
+    exports_end (section_end s) s.contents c.args.context.now c.args.before c.loop-index.invariant.2 c.loop-index-test.false c.in_ok-at_end.ensures
