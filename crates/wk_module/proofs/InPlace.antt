@@ -59,11 +59,9 @@ tabletype_stands = sure_stands tabletype_at tabletype_format.fronts
 pub functype_stands : (s : Span) (e : ReadFault) → length s.rest ≤ s.end → FailsAs e e.kind (functype_at s.end s.rest) → StandsOrMemory s e
 functype_stands = fault_stands functype_at functype_format.fronts
 
-pub global_stands : (profile : Profile) → IsReadAs (SpellsExpr profile) (expr_at profile) → (s : Span) (e : ReadFault) → length s.rest ≤ s.end
-    → FailsAs e e.kind (global_at profile s.end s.rest) → StandsOrMemory s e
-global_stands profile expr =
-    let parts : Reader (GlobalType × Instrs) = both_at globaltype_at (expr_at profile) in
-    fault_stands (global_at profile) (made_front global_of parts (both_front globaltype_at (expr_at profile) globaltype_format.fronts expr.stands))
+pub globaltype_stands : (s : Span) (e : ReadFault) → length s.rest ≤ s.end → e.kind ≢ Memory → FailsAs e e.kind (globaltype_at s.end s.rest)
+    → Stands s e
+globaltype_stands = sure_stands globaltype_at globaltype_format.fronts
 
 pub bytes_stand : (s : Span) (e : ReadFault) → length s.rest ≤ s.end → e.kind ≢ Memory → FailsAs e e.kind (bytes_at s.end s.rest) → Stands s e
 bytes_stand = sure_stands bytes_at bytes_format.fronts

@@ -1,19 +1,15 @@
 //! Reading items where they stand: nothing is copied of a name, and nothing of some bytes.
 
 ghost use Rattle.std.specs.Prelude.{◌≡◌, ◌≢◌, IfErr, OnErr};
-ghost use Rattle.wk_bytes.specs.Stands.{Stands, StandsOrMemory};
+ghost use Rattle.wk_bytes.specs.Stands.{Stands};
 ghost use Rattle.wk_body.specs.Reads.{Parses};
 ghost use Rattle.wk_module.specs.Formats.{bytes_at};
 ghost use Rattle.wk_module.specs.InPlace.{import_desc_at, export_view};
-ghost use Rattle.wk_module.specs.Items.{export_at, global_at};
-ghost use Rattle.wk_module.specs.Types.{limits_at, tabletype_at};
+ghost use Rattle.wk_module.specs.Items.{export_at};
+ghost use Rattle.wk_module.specs.Types.{globaltype_at, limits_at, tabletype_at};
 
-use crate::format::Globals;
-use crate::item_read::{read_desc, read_kind, read_limits, read_table_limits};
-use crate::types::{GlobalDef, ImportDesc, Kind, Limits};
-use crate::vector_read::Readable;
-use std::alloc::Global;
-use wk_body::{Profile, Scratch, reading_of_code};
+use crate::item_read::{read_desc, read_kind, read_limits, read_table_limits, take_global_type};
+use crate::types::{GlobalType, ImportDesc, Kind, Limits};
 use wk_bytes::{Cursor, ReadFault, ReadKind};
 
 /// An export (2.5.10) whose name is lent.
@@ -118,27 +114,21 @@ pub fn read_memory_type(cursor: &mut Cursor<'_>) -> Result<Limits, ReadFault>
     Ok(limits)
 }
 
-/// Reads a global (5.5.9). An expression of two tokens takes no memory but the room of the scratch.
+/// Reads a global type (5.3.7), which stands in front of the initialiser of a global. It takes no memory.
 ///
 /// # Errors
 ///
-/// The first fault, at its offset, or `Memory` at 0. The cursor is then as before.
-pub fn read_global(
-    alloc: Global,
-    scratch: &mut Scratch,
-    profile: Profile,
-    cursor: &mut Cursor<'_>,
-) -> Result<GlobalDef, ReadFault>
-    ensures exact { Parses (λ g. g) (global_at profile) cursor.old result cursor.new }
-    ensures fault { IfErr result (λ e. StandsOrMemory cursor.old e) }
+/// The first fault, at its offset. The cursor is then as before.
+#[tactic(auto, using(crate::proofs::InPlace::globaltype_stands))]
+pub fn read_global_type(cursor: &mut Cursor<'_>) -> Result<GlobalType, ReadFault>
+    ensures exact { Parses (λ x. x) globaltype_at cursor.old result cursor.new }
+    ensures fault { IfErr result (λ e. Stands cursor.old e) }
     ensures left { OnErr result (cursor.new ≡ cursor.old) }
 {
-    // The proof asks what this says: a fault of the expression stands.
-    reading_of_code();
     let mut ahead = cursor.ahead();
-    let global = Globals::read(alloc, scratch, profile, &mut ahead)?;
+    let ty = take_global_type(&mut ahead)?;
     *cursor = ahead;
-    Ok(global)
+    Ok(ty)
 }
 
 // A size and as many bytes.

@@ -114,9 +114,9 @@ pub(crate) fn read_table_limits(cursor: &mut Cursor<'_>) -> Result<Limits, ReadF
     read_limits(cursor)
 }
 
-// A global type (5.3.7).
+/// A global type (5.3.7).
 #[tactic(auto, using(crate::proofs::InPlace::stands_sure), unfolding(crate::specs::Formats::made_at, crate::specs::Formats::both_at))]
-fn read_global_type(cursor: &mut Cursor<'_>) -> Result<GlobalType, ReadFault>
+pub(crate) fn take_global_type(cursor: &mut Cursor<'_>) -> Result<GlobalType, ReadFault>
     ensures exact { Parses (λ x. x) globaltype_at cursor.old result cursor.new }
     ensures sure { IfErr result (λ e. e.kind ≢ ReadKind.Memory) }
 {
@@ -135,7 +135,7 @@ pub(crate) fn read_desc(cursor: &mut Cursor<'_>) -> Result<ImportDesc, ReadFault
         Kind::Func => Ok(ImportDesc::Func(cursor.u32()?)),
         Kind::Table => Ok(ImportDesc::Table(read_table_limits(cursor)?)),
         Kind::Memory => Ok(ImportDesc::Memory(read_limits(cursor)?)),
-        Kind::Global => Ok(ImportDesc::Global(read_global_type(cursor)?)),
+        Kind::Global => Ok(ImportDesc::Global(take_global_type(cursor)?)),
     }
 }
 
@@ -230,7 +230,7 @@ impl Readable for Globals {
         profile: Profile,
         cursor: &mut Cursor<'_>,
     ) -> Result<GlobalDef, ReadFault> {
-        let ty = read_global_type(cursor)?;
+        let ty = take_global_type(cursor)?;
         let init = scratch.next_expr(alloc, cursor, profile)?;
         Ok(GlobalDef { ty, init })
     }

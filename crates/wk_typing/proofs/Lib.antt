@@ -4,6 +4,8 @@ pub mod Binds
 pub mod Bodies
 pub mod Completing
 pub mod Constants
+-- One constant of a type and its end.
+pub mod FastConstants
 pub mod Cuts
 pub mod DerivedParts
 pub mod FirstLocals

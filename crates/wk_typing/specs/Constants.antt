@@ -1,6 +1,7 @@
 -- Constant expressions (3.3.7.2): the initialisers of globals and the offsets of segments.
 use Rattle.std.specs.Prelude.{ℕ, ◌+◌, Bool, true, false, not, if◌then◌else◌, List, [], ◌∷◌, Option, Some, None, Result, Ok, Err}
 use Rattle.wk_body.specs.declared.types.ValType.{ValType}
+use Rattle.wk_body.specs.declared.types.ValType.TheVariants.{I32, I64, F32, F64}
 use Rattle.wk_body.specs.declared.references.Ref.{Ref}
 use Rattle.wk_body.specs.declared.references.Ref.TheVariants as refs
 use Rattle.wk_body.specs.Instructions.{Plain, GlobalGet, I32Const, I64Const, F32Const, F64Const}
@@ -45,6 +46,23 @@ constant_by (Some k) typing = Some (record { kind = ConstantExpected; token = So
 -- what is wrong with a constant expression of a type: a token that is not constant, else a fault of typing
 abbrev pub constant_flaw : (Ref → Found) → ValType → Instrs → Option Flaw
 constant_flaw A t is = constant_by (first_varying A 0 is) (token_flaw (code_result A no_locals (t ∷ []) is))
+
+-- ---- one constant
+
+-- the constant of a type (3.3.1)
+abbrev pub is_constant_of : ValType → Plain → Bool
+is_constant_of I32 (I32Const z) = true
+is_constant_of I64 (I64Const z) = true
+is_constant_of F32 (F32Const word) = true
+is_constant_of F64 (F64Const word) = true
+is_constant_of t p = false
+
+-- its opcode (5.4.5)
+abbrev pub constant_opcode : ValType → ℕ
+constant_opcode I32 = 0x41
+constant_opcode I64 = 0x42
+constant_opcode F32 = 0x43
+constant_opcode F64 = 0x44
 
 -- ---- the same on tokens
 

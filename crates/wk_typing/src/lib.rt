@@ -13,6 +13,7 @@
 //! - [`type_body`] is the same verdict without the count, [`constant_flaw`] what is wrong with a constant expression (`specs/Constants`).
 //!   [`type_encoded_body`] is the verdict of the body that bytes encode, or the first fault of reading it (`encoded_verdict` of
 //!   `specs/Faults`): it types a body while it reads it, and one that is valid is not kept, which no clause says.
+//!   [`next_constant_flaw`] reads a constant expression at the front of bytes, and answers what [`constant_flaw`] says of it.
 //! - [`carry`] and [`carry_moved`] take no memory and give the verdict that they were given: that of the same body, or of the body
 //!   moved, where its own type and what its references find is the same (`Agree`, `AgreeMoved` of `specs/Carried`).
 //!   [`verdicts_that_keep`] has these laws for all bodies at once, and that all that a valid body refers to is there.
@@ -30,8 +31,10 @@ mod constant;
 mod control;
 mod display;
 mod encoded_body;
+mod encoded_constant;
 mod env;
 mod fast_blocks;
+mod fast_constant;
 mod fast_extended;
 mod fast_path;
 mod fault;
@@ -48,6 +51,7 @@ mod typing;
 pub use carry_verdict::{carry, carry_moved, verdicts_that_keep};
 pub use constant::constant_flaw;
 pub use encoded_body::{Rooms, type_encoded_body};
+pub use encoded_constant::next_constant_flaw;
 pub use env::{Answer, Env};
 pub use fault::{BodyVerdict, Fault, FaultKind, Flaw, Place, Verdict};
 pub use meter::{Meter, declarative_rules, judge_body};
