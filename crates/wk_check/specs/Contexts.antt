@@ -156,9 +156,13 @@ abbrev pub all_added : {S X : Type 0} → (S → X → S) → S → List X → S
 all_added add s [] = s
 all_added add s (x ∷ xs) = all_added add (add s x) xs
 
+-- what is wrong with one, where that is asked
+abbrev pub flaw_if : {X : Type 0} → Bool → (X → Option Flaw) → X → Option Flaw
+flaw_if is_asked wrong x = if is_asked then wrong x else None
+
 -- what one adds, and what is wrong with it where that is asked
 abbrev pub next_judged : {S X : Type 0} → (S → X → Option Flaw) → (S → X → S) → Bool → S → X → S × Option Flaw
-next_judged wrong add is_asked s x = (add s x, if is_asked then wrong s x else None)
+next_judged wrong add is_asked s x = (add s x, flaw_if is_asked (wrong s) x)
 
 -- what the items of a section add, from an index on, and the first fault up to them, where that of what is before them is given
 abbrev pub items_judged : {S X : Type 0} → (S → X → Option Flaw) → (S → X → S) → ℕ → S → Option Fault → ℕ → List X → S × Option Fault

@@ -1,13 +1,14 @@
 //! The kinds of items that are judged while they are read (5.5.4 to 5.5.14), but for exports, which are looked at with the names before.
 
-ghost use Rattle.std.specs.Prelude.{◌≡◌, length, IfOk};
+ghost use Rattle.std.specs.Prelude.{length};
 ghost use Rattle.wk_bytes.specs.Span.{u32_at};
+ghost use Rattle.wk_body.specs.Reading.{expr_at};
 ghost use Rattle.wk_body.specs.Reads.{Parses};
 ghost use Rattle.wk_body.specs.Vectors.{vector_at};
 ghost use Rattle.wk_module.specs.Formats.{made_at};
 ghost use Rattle.wk_typing.specs.Constants.{constant_flaw};
-ghost use Rattle.wk_check.specs.Contexts.{next_global_flaw, spaces_in};
-ghost use Rattle.wk_check.specs.Items.{all_within, earlier, within};
+ghost use Rattle.wk_check.specs.Contexts.{flaw_if, initial_in, spaces_in};
+ghost use Rattle.wk_check.specs.Items.{all_within};
 ghost use Rattle.wk_check.specs.Spaces.{answer_in};
 
 use crate::context::Context;
@@ -17,12 +18,12 @@ use crate::rules::{
 };
 use crate::spaces::{IndexSpaces, Initial};
 use std::alloc::Global;
-use wk_bytes::{Cursor, OutOfMemory, ReadFault};
+use wk_bytes::{Cursor, ReadFault};
 use wk_module::{
-    DataSeg, Elem, Expr, FuncType, GlobalDef, Import, Limits, ValType, read_global,
+    DataSeg, Elem, FuncType, GlobalDef, Import, Limits, ValType, read_global_type,
     read_import_desc, read_memory_type, read_sized_bytes, read_table_type,
 };
-use wk_typing::{FaultKind, Flaw, Room, Rooms, constant_flaw};
+use wk_typing::{Env, FaultKind, Flaw, Rooms, next_constant_flaw};
 
 /// Types (5.5.4).
 pub(crate) struct Types;
@@ -198,22 +199,49 @@ impl ItemKind for Memories {
     }
 }
 
+// What is wrong with the constant expression that comes next, where that is asked. Else it is read alone.
+#[tactic(auto, unfolding(wk_module::specs::Formats::made_at))]
+fn next_flaw<E: Env>(
+    alloc: Global,
+    env: &E,
+    ty: ValType,
+    next: &Next,
+    cursor: &mut Cursor<'_>,
+    rooms: &mut Rooms,
+) -> Result<Option<Flaw>, ReadFault>
+    ensures { Parses (λ w. w)
+        (made_at (flaw_if next.now.is_asked (constant_flaw (E.answers env.now) ty))
+        (expr_at next.now.profile)) cursor.old result cursor.new }
+{
+    if next.is_asked {
+        return next_constant_flaw(alloc, env, ty, next.profile, cursor, rooms);
+    }
+    drop(rooms.scratch.next_expr(alloc, cursor, next.profile)?);
+    Ok(None)
+}
+
 /// Globals (5.5.9), whose initialisers are read and not kept.
 pub(crate) struct Globals;
 
-// What is wrong with a global: its initialiser sees imported globals alone.
-fn flaw_of_global(
+// The same of the initialiser of a global of a type, which sees imported globals alone.
+fn next_initialiser_flaw(
+    alloc: Global,
     context: &Context,
-    global: &GlobalDef,
-    room: &mut Room,
-) -> Result<Option<Flaw>, OutOfMemory>
-    ensures { IfOk result (λ w. w ≡ next_global_flaw context.now global.now) }
+    ty: ValType,
+    next: &Next,
+    cursor: &mut Cursor<'_>,
+    rooms: &mut Rooms,
+) -> Result<Option<Flaw>, ReadFault>
+    ensures { Parses (λ w. w)
+        (made_at
+        (flaw_if next.now.is_asked (constant_flaw (answer_in (initial_in context.now)) ty))
+        (expr_at next.now.profile)) cursor.old result cursor.new }
 {
     let initial = Initial {
         spaces: context,
         imported: context.imported_globals(),
     };
-    constant_flaw(&initial, global.ty.val, &global.init, room)
+    next_flaw(alloc, &initial, ty, next, cursor, rooms)
 }
 
 impl ItemKind for Globals {
@@ -230,7 +258,7 @@ impl ItemKind for Globals {
 
     ghost add = { add_global };
 
-    #[tactic(auto, unfolding(wk_module::specs::Formats::made_at))]
+    #[tactic(auto, unfolding(wk_module::specs::Formats::made_at, wk_module::specs::Formats::both_at))]
     fn judge_next(
         alloc: Global,
         context: &mut Context,
@@ -238,36 +266,15 @@ impl ItemKind for Globals {
         cursor: &mut Cursor<'_>,
         rooms: &mut Rooms,
     ) -> Result<Option<Flaw>, ReadFault> {
-        let global = read_global(alloc, &mut rooms.scratch, next.profile, cursor)?;
-        let flaw = if next.is_asked {
-            flaw_of_global(context, &global, &mut rooms.room)?
-        } else {
-            None
-        };
-        context.add_global(global.ty, next.left)?;
+        let ty = read_global_type(cursor)?;
+        let flaw = next_initialiser_flaw(alloc, context, ty.val, next, cursor, rooms)?;
+        context.add_global(ty, next.left)?;
         Ok(flaw)
     }
 }
 
 /// Element segments (5.5.12), whose functions are read and not kept.
 pub(crate) struct Elems;
-
-// What is wrong with an element segment, but for its functions.
-fn flaw_of_elem(
-    context: &Context,
-    table: u32,
-    offset: &Expr,
-    room: &mut Room,
-) -> Result<Option<Flaw>, OutOfMemory>
-    ensures { IfOk result
-        (λ w. w ≡ earlier (within FaultKind.UnknownTable context.now.tables table)
-        (constant_flaw (answer_in (spaces_in context.now)) ValType.I32 offset.now)) }
-{
-    if !context.has_table(table) {
-        return Ok(Some(Flaw::of(FaultKind::UnknownTable)));
-    }
-    constant_flaw(context, ValType::I32, offset, room)
-}
 
 // Reads the functions of a segment, and tells whether there is one for each index.
 fn read_funcs(context: &Context, cursor: &mut Cursor<'_>) -> Result<bool, ReadFault>
@@ -306,16 +313,16 @@ impl ItemKind for Elems {
         rooms: &mut Rooms,
     ) -> Result<Option<Flaw>, ReadFault> {
         let table = cursor.u32()?;
-        let offset = rooms.scratch.next_expr(alloc, cursor, next.profile)?;
+        let offset_flaw = next_flaw(alloc, context, ValType::I32, next, cursor, rooms)?;
         let are_there = read_funcs(context, cursor)?;
         if !next.is_asked {
             return Ok(None);
         }
-        if let Some(flaw) = flaw_of_elem(context, table, &offset, &mut rooms.room)? {
-            return Ok(Some(flaw));
+        if !context.has_table(table) {
+            return Ok(Some(Flaw::of(FaultKind::UnknownTable)));
         }
-        if are_there {
-            return Ok(None);
+        if offset_flaw.is_some() || are_there {
+            return Ok(offset_flaw);
         }
         Ok(Some(Flaw::of(FaultKind::UnknownFunc)))
     }
@@ -323,23 +330,6 @@ impl ItemKind for Elems {
 
 /// Data segments (5.5.14), whose bytes are passed over.
 pub(crate) struct Datas;
-
-// What is wrong with a data segment.
-fn flaw_of_data(
-    context: &Context,
-    memory: u32,
-    offset: &Expr,
-    room: &mut Room,
-) -> Result<Option<Flaw>, OutOfMemory>
-    ensures { IfOk result
-        (λ w. w ≡ earlier (within FaultKind.UnknownMemory context.now.memories memory)
-        (constant_flaw (answer_in (spaces_in context.now)) ValType.I32 offset.now)) }
-{
-    if !context.has_memory(memory) {
-        return Ok(Some(Flaw::of(FaultKind::UnknownMemory)));
-    }
-    constant_flaw(context, ValType::I32, offset, room)
-}
 
 impl ItemKind for Datas {
     type Item = DataSeg;
@@ -364,11 +354,11 @@ impl ItemKind for Datas {
         rooms: &mut Rooms,
     ) -> Result<Option<Flaw>, ReadFault> {
         let memory = cursor.u32()?;
-        let offset = rooms.scratch.next_expr(alloc, cursor, next.profile)?;
+        let offset_flaw = next_flaw(alloc, context, ValType::I32, next, cursor, rooms)?;
         let _bytes = read_sized_bytes(cursor)?;
-        if next.is_asked {
-            return Ok(flaw_of_data(context, memory, &offset, &mut rooms.room)?);
+        if next.is_asked && !context.has_memory(memory) {
+            return Ok(Some(Flaw::of(FaultKind::UnknownMemory)));
         }
-        Ok(None)
+        Ok(offset_flaw)
     }
 }
