@@ -12,7 +12,7 @@ ghost use Rattle.wk_module.specs.ModuleLaws.{SpellOne, SpellAlike};
 ghost use Rattle.wk_module.specs.Modules.{Spells, SpellsNone};
 ghost use Rattle.wk_module.specs.ListReading.{AreListsOfModule, IsReading, Rise};
 ghost use Rattle.wk_module.specs.Writing.{Fits};
-ghost use Rattle.wk_module.specs.Sections.{contents_at, StartSection, CodeSection};
+ghost use Rattle.wk_module.specs.Sections.{contents_at, is_full, StartSection, CodeSection};
 ghost use Rattle.wk_module.specs.Reading.{at_start, section_end, with_section, sections_read, joined, zipped, module_at};
 
 use crate::format::{
@@ -22,7 +22,7 @@ use crate::module::Module;
 use crate::section_id;
 use crate::section_reader::CodeReader;
 use crate::types::{Custom, Func, Parts};
-use crate::vector_read::{at_end, read_contents, read_name};
+use crate::vector_read::{at_end, read_list, read_name};
 use std::alloc::Global;
 use std::marker::Model;
 use wk_body::{
@@ -85,17 +85,22 @@ fn read_custom(alloc: Global, place: u8, section: &RawSection<'_>) -> Result<Cus
     })
 }
 
-// Reads the start section, which is one index.
+// Reads the start section, which is one index. It is never empty.
 #[tactic(auto, unfolding(crate::specs::Formats::made_at))]
-fn read_start(profile: Profile, section: &RawSection<'_>) -> Result<Option<u32>, ReadFault>
-    ensures { Reads (λ x. x) result
+fn read_start(
+    start: &mut Option<u32>,
+    profile: Profile,
+    section: &RawSection<'_>,
+) -> Result<bool, ReadFault>
+    ensures read { Reads (λ _. start.new) result
         (all_at (contents_at profile 0 StartSection) (section_end (raw_view section.now))
         section.now.contents.now) }
+    ensures full { IfOk result (λ full. full ≡ is_full StartSection start.new) }
 {
     let mut cursor = section.cursor();
-    let index = cursor.u32()?;
+    *start = Some(cursor.u32()?);
     at_end(&cursor)?;
-    Ok(Some(index))
+    Ok(true)
 }
 
 // Reads the code section, where that many functions were declared.
@@ -141,9 +146,9 @@ impl PartialModule {
         }
     }
 
-    // Reads a section of the ids 1 to 5.
+    // Reads a section of the ids 1 to 11.
     #[tactic(auto, unfolding(crate::specs::Reading::section_by))]
-    pub(crate) fn read_low_section(
+    pub(crate) fn read_known_section(
         &mut self,
         alloc: Global,
         scratch: &mut Scratch,
@@ -151,76 +156,42 @@ impl PartialModule {
         section: &RawSection<'_>,
     ) -> Result<(), ReadFault>
         requires low { 1 ≤ section.now.id }
-        requires high { section.now.id ≤ 5 }
-        ensures { Reads (λ u. self.new) result
-            (with_section profile self.old (raw_view section.now)) }
-    {
-        let full = match section.id {
-            section_id::TYPE => {
-                self.parts.types = read_contents::<FuncTypes>(alloc, scratch, profile, section)?;
-                !self.parts.types.is_empty()
-            }
-            section_id::IMPORT => {
-                self.parts.imports = read_contents::<Imports>(alloc, scratch, profile, section)?;
-                !self.parts.imports.is_empty()
-            }
-            section_id::FUNCTION => {
-                self.indices = read_contents::<Indices>(alloc, scratch, profile, section)?;
-                !self.indices.is_empty()
-            }
-            section_id::TABLE => {
-                self.parts.tables = read_contents::<Tables>(alloc, scratch, profile, section)?;
-                !self.parts.tables.is_empty()
-            }
-            _ => {
-                self.parts.memories = read_contents::<Memories>(alloc, scratch, profile, section)?;
-                !self.parts.memories.is_empty()
-            }
-        };
-        self.place = place_behind(self.place, section.id, full);
-        Ok(())
-    }
-
-    // Reads a section of the ids 6 to 11.
-    #[tactic(auto, unfolding(crate::specs::Reading::section_by))]
-    pub(crate) fn read_high_section(
-        &mut self,
-        alloc: Global,
-        scratch: &mut Scratch,
-        profile: Profile,
-        section: &RawSection<'_>,
-    ) -> Result<(), ReadFault>
-        requires low { 6 ≤ section.now.id }
         requires high { section.now.id ≤ 11 }
         ensures { Reads (λ u. self.new) result
             (with_section profile self.old (raw_view section.now)) }
     {
         let full = match section.id {
+            section_id::TYPE => {
+                read_list::<FuncTypes>(&mut self.parts.types, alloc, scratch, profile, section)?
+            }
+            section_id::IMPORT => {
+                read_list::<Imports>(&mut self.parts.imports, alloc, scratch, profile, section)?
+            }
+            section_id::FUNCTION => {
+                read_list::<Indices>(&mut self.indices, alloc, scratch, profile, section)?
+            }
+            section_id::TABLE => {
+                read_list::<Tables>(&mut self.parts.tables, alloc, scratch, profile, section)?
+            }
+            section_id::MEMORY => {
+                read_list::<Memories>(&mut self.parts.memories, alloc, scratch, profile, section)?
+            }
             section_id::GLOBAL => {
-                self.parts.globals = read_contents::<Globals>(alloc, scratch, profile, section)?;
-                !self.parts.globals.is_empty()
+                read_list::<Globals>(&mut self.parts.globals, alloc, scratch, profile, section)?
             }
             section_id::EXPORT => {
-                self.parts.exports = read_contents::<Exports>(alloc, scratch, profile, section)?;
-                !self.parts.exports.is_empty()
+                read_list::<Exports>(&mut self.parts.exports, alloc, scratch, profile, section)?
             }
-            section_id::START => {
-                self.parts.start = read_start(profile, section)?;
-                self.parts.start.is_some()
-            }
+            section_id::START => read_start(&mut self.parts.start, profile, section)?,
             section_id::ELEMENT => {
-                self.parts.elems = read_contents::<Elems>(alloc, scratch, profile, section)?;
-                !self.parts.elems.is_empty()
+                read_list::<Elems>(&mut self.parts.elems, alloc, scratch, profile, section)?
             }
             section_id::CODE => {
                 let funcs = self.indices.len();
                 self.bodies = read_codes(alloc, scratch, profile, funcs, section)?;
                 !self.bodies.is_empty()
             }
-            _ => {
-                self.parts.datas = read_contents::<Datas>(alloc, scratch, profile, section)?;
-                !self.parts.datas.is_empty()
-            }
+            _ => read_list::<Datas>(&mut self.parts.datas, alloc, scratch, profile, section)?,
         };
         self.place = place_behind(self.place, section.id, full);
         Ok(())
@@ -239,10 +210,7 @@ impl PartialModule {
             (with_section profile self.old (raw_view section.now)) }
     {
         match section.id {
-            section_id::TYPE..=section_id::MEMORY => self.read_low_section(
-                alloc, scratch, profile, section,
-            ),
-            section_id::GLOBAL..=section_id::DATA => self.read_high_section(
+            section_id::TYPE..=section_id::DATA => self.read_known_section(
                 alloc, scratch, profile, section,
             ),
             _ => {

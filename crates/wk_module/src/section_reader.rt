@@ -72,10 +72,7 @@ impl PartialModule {
     {
         are_bytes(section.contents);
         match section.id {
-            section_id::TYPE..=section_id::MEMORY => self.read_low_section(
-                alloc, scratch, profile, section,
-            ),
-            section_id::GLOBAL..=section_id::DATA => self.read_high_section(
+            section_id::TYPE..=section_id::DATA => self.read_known_section(
                 alloc, scratch, profile, section,
             ),
             _ => {

@@ -1,6 +1,7 @@
 //! Reading items one after the other (5.1.3).
 
-ghost use Rattle.std.specs.Prelude.{◌≡◌, ◌≢◌, [], IfErr, MatchResult};
+ghost use Rattle.std.specs.Prelude.{◌≡◌, ◌≢◌, not, [], IfOk, IfErr, MatchResult};
+ghost use Rattle.wk_bytes.specs.ListWords.{is_empty};
 ghost use Rattle.wk_bytes.specs.Raw.{raw_view};
 ghost use Rattle.wk_bytes.specs.Span.{fault, name_at};
 ghost use Rattle.wk_body.specs.Reads.{Parses, Reads};
@@ -72,21 +73,23 @@ pub(crate) fn at_end(cursor: &Cursor<'_>) -> Result<(), ReadFault>
     Ok(())
 }
 
-/// Reads a vector that fills the contents of a section.
-pub(crate) fn read_contents<F: Readable>(
+/// Reads a vector that fills the contents of a section, in the place of a list, and tells whether it has an item.
+pub(crate) fn read_list<F: Readable>(
+    list: &mut Items<F::Item>,
     alloc: Global,
     scratch: &mut Scratch,
     profile: Profile,
     section: &RawSection<'_>,
-) -> Result<Items<F::Item>, ReadFault>
-    ensures { Reads (λ x. x) result
+) -> Result<bool, ReadFault>
+    ensures read { Reads (λ _. list.new) result
         (all_at (vector_at (F.read_at profile)) (section_end (raw_view section.now))
         section.now.contents.now) }
+    ensures full { IfOk result (λ full. full ≡ not (is_empty list.new)) }
 {
     let mut cursor = section.cursor();
-    let items = read_vector::<F>(alloc, scratch, profile, &mut cursor)?;
+    *list = read_vector::<F>(alloc, scratch, profile, &mut cursor)?;
     at_end(&cursor)?;
-    Ok(items)
+    Ok(!list.is_empty())
 }
 
 /// Reads a byte that has to be there.
