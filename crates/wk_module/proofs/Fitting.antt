@@ -15,7 +15,7 @@ use Rattle.wk_module.specs.Shape.{lists_of}
 use Rattle.wk_module.specs.Modules.{SpellsSection, Spells}
 use Rattle.wk_module.specs.Writing.{framed, written_section, section_of, customs_at, section_and_customs, ids, encoded, Fits}
 use Rattle.wk_module.specs.WritingLaws.{framed_rises}
-use Rattle.wk_module.proofs.Laws.{IsSection, SectionLaws}
+use Rattle.wk_module.specs.FormatLaws.{IsSection, SectionLaws}
 use Rattle.wk_module.proofs.WrittenFrames.{frame_bytes, frames_bytes, up_from}
 use Rattle.wk_module.specs.SectionLaws.{of_number-number}
 use Rattle.wk_module.proofs.WrittenSections.{id_of_none, past_ids, every_id}

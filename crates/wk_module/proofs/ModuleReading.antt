@@ -29,7 +29,7 @@ use Rattle.wk_module.specs.Modules.{SpellsSection, Spells, SpellsNone}
 use Rattle.wk_module.specs.ModuleLaws.{SpellOne}
 use Rattle.wk_module.specs.Reading.{Progress, at_start, section_end, with_custom, with_lists, section_by, with_section, sections_read, zipped, module_of}
 use Rattle.wk_module.specs.Reading.{joined, module_at}
-use Rattle.wk_module.proofs.Laws.{CountIs, SectionLaws}
+use Rattle.wk_module.specs.FormatLaws.{CountIs, SectionLaws}
 use Rattle.wk_module.proofs.Formats.{behind}
 use Rattle.wk_module.proofs.Shaped.{section_stays}
 use Rattle.wk_module.specs.SectionLaws.{of_number-none, of_number-is, has_id, HasId, number_some, same_or_other, other_number, contents-here}

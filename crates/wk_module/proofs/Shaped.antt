@@ -16,7 +16,7 @@ use Rattle.wk_module.specs.SectionLaws.{number_some, has_id}
 use Rattle.wk_module.specs.ShapeLaws.{in_order_lower, omitted_valid}
 use Rattle.wk_module.specs.Shape.{lists_of, is_filled, lowered, settled_custom, IsInOrderFrom, AreNamed, IsShaped}
 use Rattle.wk_module.specs.Modules.{SpellsSection, Spells}
-use Rattle.wk_module.proofs.Laws.{SectionLaws}
+use Rattle.wk_module.specs.FormatLaws.{SectionLaws}
 use Rattle.wk_module.proofs.WrittenSections.{filled_is}
 
 -- ---- one section

@@ -27,7 +27,7 @@ use Rattle.wk_module.specs.Sections.{SectionId, ContentsOf, SectionLists, of_num
 use Rattle.wk_module.specs.Reading.{Progress, at_start, section_end, with_custom, with_lists, section_by, with_section, sections_read, module_of, joined}
 use Rattle.wk_module.specs.Reading.{module_at}
 use Rattle.wk_module.proofs.Formats.{bytes_parts}
-use Rattle.wk_module.proofs.Laws.{SectionLaws}
+use Rattle.wk_module.specs.FormatLaws.{SectionLaws}
 
 -- ---- contents
 

@@ -14,7 +14,7 @@ use Rattle.wk_module.specs.Sections.{is_full, is_some, SpellsContents, written_c
 use Rattle.wk_module.specs.Shape.{lists_of, is_written, is_filled}
 use Rattle.wk_module.specs.Modules.{SpellsSection}
 use Rattle.wk_module.specs.Writing.{framed, section_by, section_of}
-use Rattle.wk_module.proofs.Laws.{SectionLaws}
+use Rattle.wk_module.specs.FormatLaws.{SectionLaws}
 use Rattle.wk_module.specs.SectionLaws.{number_some, of_number-number, has_id}
 use Rattle.wk_module.proofs.WrittenFrames.{frames_bytes, custom_frame, customs_frames, up_from, IsSectionAt, frames_at}
 

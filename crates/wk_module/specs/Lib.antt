@@ -48,6 +48,8 @@ pub mod Changes
 pub mod Moving
 -- ---- laws and steps, for those who read proofs
 
+-- What laws of formats say: of an item of a list, and of the contents of a section.
+pub mod FormatLaws
 -- A module as it is read where something else is kept of each body.
 pub mod OutlineReading
 -- Section ids are distinct numbers; what each section holds after one was given.

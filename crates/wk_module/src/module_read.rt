@@ -7,6 +7,7 @@ ghost use Rattle.wk_bytes.specs.Stands.{StandsIn};
 ghost use Rattle.wk_body.specs.Reads.{Reads};
 ghost use Rattle.wk_module.specs.declared.types.Parts.{Parts as Lists};
 ghost use Rattle.wk_module.specs.Customs.{custom_at};
+ghost use Rattle.wk_module.specs.FormatLaws.{SectionLaws};
 ghost use Rattle.wk_module.specs.Formats.{all_at};
 ghost use Rattle.wk_module.specs.ModuleLaws.{SpellOne, SpellAlike};
 ghost use Rattle.wk_module.specs.Modules.{Spells, SpellsNone};
@@ -343,9 +344,8 @@ pub fn read_in(alloc: Global, bytes: &[u8], profile: Profile) -> Result<Module, 
     ensures refused { IfErr result (λ e. e.kind ≢ ReadKind.Memory → SpellsNone profile bytes.now) }
     ensures fault { IfErr result (λ e. StandsIn bytes.now e) }
 {
-    // The proof asks for what these two say of expressions and bodies.
-    reading_of_code();
-    written_form_of_code();
+    // The proof asks for what this says of sections.
+    laws_of_sections();
     Ok(Module::of(read_parts(alloc, bytes, profile)?))
 }
 
@@ -364,14 +364,21 @@ pub fn read(alloc: Global, bytes: &[u8]) -> Result<Module, ReadFault>
     read_in(alloc, bytes, Profile::Core)
 }
 
+/// The laws of the contents of sections, by those of expressions and bodies. It does nothing.
+pub(crate) fn laws_of_sections()
+    ensures { (profile : Profile) → SectionLaws profile }
+{
+    reading_of_code();
+    written_form_of_code();
+}
+
 /// The laws that make modules readable in one way: no bytes spell two modules of one profile, and what spells one of 1.0 spells
 /// the one of the other profile with the same lists. It does nothing.
 pub fn one_module()
     ensures one { SpellOne }
     ensures alike { SpellAlike }
 {
-    reading_of_code();
-    written_form_of_code();
+    laws_of_sections();
     one_spelling_of_code();
 }
 
@@ -383,6 +390,5 @@ pub fn reading_of_module(bytes: &[u8], profile: Profile)
     ensures lists { AreListsOfModule profile bytes.now }
     ensures rise { Rise 0 (sections_of bytes.now) }
 {
-    reading_of_code();
-    written_form_of_code();
+    laws_of_sections();
 }

@@ -20,12 +20,12 @@ use crate::length::{contents_len_by, custom_len};
 use crate::lists::Lists;
 use crate::measures::measure_parts;
 use crate::module::Module;
-use crate::module_read::one_module;
+use crate::module_read::{laws_of_sections, one_module};
 use crate::section_id;
 use crate::types::{Custom, Parts};
 use crate::vector_write::{put_bytes, put_list};
 use std::alloc::Global;
-use wk_body::{EncodeFault, reading_of_code, written_form_of_code};
+use wk_body::EncodeFault;
 use wk_bytes::{Items, OutOfMemory, put_u32};
 
 /// The magic and the version (5.5.15).
@@ -59,8 +59,7 @@ pub fn encode(alloc: Global, module: &Module) -> Result<Vec<u8>, EncodeFault>
 pub fn written_form_of_module()
     ensures spells { (m : Seen) → IsShaped m → Fits m → Spells (encoded m) m }
 {
-    reading_of_code();
-    written_form_of_code();
+    laws_of_sections();
 }
 
 /// The contents of the section of an id, 1 to 9 or 11, as they stand in the written form: no bytes where the section is left

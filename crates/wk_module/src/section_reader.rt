@@ -16,12 +16,12 @@ ghost use Rattle.wk_module.specs.Reading.{section_end};
 ghost use Rattle.wk_module.specs.Sections.{codes_at, no_lists};
 
 use crate::lists::Lists;
-use crate::module_read::PartialModule;
+use crate::module_read::{PartialModule, laws_of_sections};
 use crate::section_id;
 use crate::vector_read::{Readable, at_end};
 use std::alloc::Global;
 use std::marker::Model;
-use wk_body::{Body, Profile, Scratch, reading_of_code, written_form_of_code};
+use wk_body::{Body, Profile, Scratch};
 use wk_bytes::{Cursor, RawSection, ReadFault, ReadKind, Sections};
 
 /// The lists of a module of which some sections are read, and the sections that are left.
@@ -236,9 +236,8 @@ impl<'a> SectionReader<'a> {
         ensures fault { (input : List ℕ) → All (ItemStands input) self.entry.left
             → IfErr result (λ e. StandsIn input e) }
     {
-        // The proof asks for what these two say of expressions and bodies.
-        reading_of_code();
-        written_form_of_code();
+        // The proof asks for what this says of sections.
+        laws_of_sections();
         self.read_front(alloc, scratch)
     }
 
@@ -262,9 +261,8 @@ impl<'a> SectionReader<'a> {
         ensures fault { (input : List ℕ) → All (ItemStands input) self.entry.left
             → IfErr result (λ e. StandsIn input e) }
     {
-        // The proof asks for what these two say of expressions and bodies.
-        reading_of_code();
-        written_form_of_code();
+        // The proof asks for what this says of sections.
+        laws_of_sections();
         self.read_rest(alloc, scratch)
     }
 

@@ -6,11 +6,10 @@ use Rattle.wk_module.specs.declared.types.Parts.{Parts}
 use Rattle.wk_module.specs.ListReading.{IsReading}
 use Rattle.wk_module.specs.Reading.{module_at}
 use Rattle.wk_module.specs.Writing.{Fits}
+use Rattle.wk_module.specs.FormatLaws.{SectionLaws}
 use Rattle.wk_module.proofs.Fitting.{fits_spelled}
-use Rattle.wk_module.proofs.Laws.{SectionLaws, code_laws}
 use Rattle.wk_module.proofs.ListReading.{lists_of_module, sections_rise}
 use Rattle.wk_module.proofs.ModuleReading.{module_found, module_none, answer_only}
-use Rattle.wk_module.proofs.SectionFormats.{section_laws}
 use Rattle.wk_module.proofs.Shaped.{shaped}
 use Rattle.wk_module.proofs.Standing.{module_stands}
 use Rattle.wk_module.proofs.module_read.reading_of_module.Goals as goal
@@ -29,10 +28,7 @@ fits_read profile laws b (Err e) fits is = tt
 
 pub returns : goal.returns
 returns c =
-    let reading = c.reading_of_code.ensures in
-    let written = c.written_form_of_code.ensures in
-    let laws = section_laws c.args.profile
-    (code_laws reading.expr reading.body reading.expr_shape written.expr written.body written.least_expr written.least_body c.args.profile) in
+    let laws = c.laws_of_sections.ensures c.args.profile in
     record {
       is = reading_is c.args.profile laws c.args.bytes.now (module_at c.args.profile c.args.bytes.now) (λ i. omega (arith, c.type_inv.bytes i)) refl;
       fits = fits_read c.args.profile laws c.args.bytes.now (module_at c.args.profile c.args.bytes.now) (λ i. omega (arith, c.type_inv.bytes i)) refl;

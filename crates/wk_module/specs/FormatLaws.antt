@@ -60,22 +60,3 @@ pub record IsSection (profile : Profile) (k : SectionId) : Type 0 where
 -- of the sections of modules of a profile
 abbrev pub SectionLaws : Profile → Type 0
 SectionLaws profile = (k : SectionId) → IsSection profile k
-
--- the laws, as the calls of `wk_body` say them
-pub code_laws : ((profile : Profile) → IsReadAs (SpellsExpr profile) (expr_at profile))
-    → ((profile : Profile) → IsAllReadAs (SpellsBody profile) (all_body_at profile))
-    → ((profile : Profile) (t : Instrs) (bytes : List ℕ) → IsBytes bytes → SpellsExpr profile t bytes → IsShaped t × IsOf profile t)
-    → ((profile : Profile) (t : Instrs) → IsShaped t → IsOf profile t → SpellsExpr profile t (written_expr t))
-    → ((profile : Profile) (b : BodyOf) → AreGroups b.groups → IsShaped b.instrs → IsOf profile b.instrs → SpellsBody profile b (written_body b))
-    → ((profile : Profile) (t : Instrs) (bytes : List ℕ) → SpellsExpr profile t bytes → length (written_expr t) ≤ length bytes)
-    → ((profile : Profile) (b : BodyOf) (bytes : List ℕ) → SpellsBody profile b bytes → length (written_body b) ≤ length bytes)
-    → (profile : Profile) → CodeLaws profile
-code_laws expr body shape expr_written body_written expr_least body_least profile = record {
-  expr = expr profile;
-  body = body profile;
-  expr_shape = shape profile;
-  expr_written = expr_written profile;
-  body_written = body_written profile;
-  expr_least = expr_least profile;
-  body_least = body_least profile;
-}
