@@ -10,12 +10,12 @@ use Rattle.wk_body.specs.declared.types.Profile.{Profile}
 use Rattle.wk_module.specs.declared.types.Custom.{Custom}
 use Rattle.wk_module.specs.declared.types.Parts.{Parts}
 use Rattle.wk_module.specs.Customs.{SpellsCustoms, written_custom}
+use Rattle.wk_module.specs.FormatLaws.{IsSection, SectionLaws}
 use Rattle.wk_module.specs.Sections.{SectionId, TypeSection, number, ContentsOf, contents, omitted, is_full, SpellsContents, written_contents}
 use Rattle.wk_module.specs.Shape.{lists_of}
 use Rattle.wk_module.specs.Modules.{SpellsSection, Spells}
 use Rattle.wk_module.specs.Writing.{framed, written_section, section_of, customs_at, section_and_customs, ids, encoded, Fits}
 use Rattle.wk_module.specs.WritingLaws.{framed_rises}
-use Rattle.wk_module.specs.FormatLaws.{IsSection, SectionLaws}
 use Rattle.wk_module.proofs.WrittenFrames.{frame_bytes, frames_bytes, up_from}
 use Rattle.wk_module.specs.SectionLaws.{of_number-number}
 use Rattle.wk_module.proofs.WrittenSections.{id_of_none, past_ids, every_id}

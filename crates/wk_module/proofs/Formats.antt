@@ -20,9 +20,9 @@ use Rattle.wk_bytes.specs.StandsLaws.{ReadsFront-name_at, Stands-here}
 use Rattle.wk_body.specs.Shape.{IsU32}
 use Rattle.wk_body.specs.Vectors.{SpellsItems, SpellsVector, items_at, vector_at, written_vector}
 use Rattle.wk_module.specs.WritingLaws.{length_le_flat_map}
+use Rattle.wk_module.specs.FormatLaws.{IsFormat}
 use Rattle.wk_module.specs.Formats.{Reader, SpellsBoth, both_at, SpellsKeyed, keyed_at, made_at, SpellsCoded, coded_at, SpellsBehind, this_byte_at, behind_at}
 use Rattle.wk_module.specs.Formats.{SpellsBytes, bytes_at, written_bytes}
-use Rattle.wk_module.specs.FormatLaws.{IsFormat}
 
 -- ---- what a reader takes, over plain variables
 

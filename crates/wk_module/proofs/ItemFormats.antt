@@ -27,6 +27,7 @@ use Rattle.wk_module.specs.declared.types.Kind.{Kind}
 use Rattle.wk_module.specs.declared.types.Kind.TheVariants as kinds
 use Rattle.wk_module.specs.declared.types.ImportDesc.{ImportDesc}
 use Rattle.wk_module.specs.declared.types.ImportDesc.TheVariants.{Func, Table, Memory, Global}
+use Rattle.wk_module.specs.FormatLaws.{CodeLaws, IsFormat}
 use Rattle.wk_module.specs.Formats.{SpellsBoth, both_at, SpellsCoded, coded_at, bytes_at, SpellsBytes}
 use Rattle.wk_module.specs.Types.{written_valtype, SpellsFuncType, func_type, functype_at, written_functype, flag_byte, flag_of, has_max, SpellsBounds}
 use Rattle.wk_module.specs.Types.{SpellsLimits, without_max, with_max, bounds_at, limits_at, written_bounds, written_limits, IsBound, AreLimits}
@@ -36,7 +37,6 @@ use Rattle.wk_module.specs.Items.{desc_kind, SpellsDescRest, SpellsDesc, desc_re
 use Rattle.wk_module.specs.Items.{import_of, import_at, written_import, IsImport, SpellsInit, IsInit, SpellsGlobal, global_of, global_at, written_global}
 use Rattle.wk_module.specs.Items.{IsGlobal, SpellsExport, export_of, export_at, written_export, IsExport, SpellsElem, elem_of, elem_at, written_elem, IsElem}
 use Rattle.wk_module.specs.Items.{SpellsCode, code_at, written_code, IsCode, SpellsData, data_of, data_at, written_data, IsData}
-use Rattle.wk_module.specs.FormatLaws.{CodeLaws, IsFormat}
 use Rattle.wk_module.specs.WritingLaws.{short-rises}
 use Rattle.wk_module.proofs.Formats.{IsRest, u32_format, name_format, bytes_format, both_format, made_format, made_front, made_again, made_found, valid_as}
 use Rattle.wk_module.proofs.Formats.{vector_format, coded_format, behind_format, keyed_format, read_to, same_read, bytes_parts}

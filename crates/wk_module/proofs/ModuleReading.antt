@@ -21,6 +21,7 @@ use Rattle.wk_module.specs.declared.types.Custom.{Custom}
 use Rattle.wk_module.specs.declared.types.Func.{Func}
 use Rattle.wk_module.specs.declared.types.Parts.{Parts}
 use Rattle.wk_module.specs.Customs.{SpellsCustom, IsPlaceAfter, SpellsCustoms, custom_at}
+use Rattle.wk_module.specs.FormatLaws.{CountIs, SectionLaws}
 use Rattle.wk_module.specs.Formats.{taking_all, all_at}
 use Rattle.wk_module.specs.Sections.{SectionId, FunctionSection, CodeSection, number, of_number, ContentsOf, SectionLists, contents, omitted, no_lists}
 use Rattle.wk_module.specs.Sections.{with_contents, is_full, SpellsContents, contents_at}
@@ -29,7 +30,6 @@ use Rattle.wk_module.specs.Modules.{SpellsSection, Spells, SpellsNone}
 use Rattle.wk_module.specs.ModuleLaws.{SpellOne}
 use Rattle.wk_module.specs.Reading.{Progress, at_start, section_end, with_custom, with_lists, section_by, with_section, sections_read, zipped, module_of}
 use Rattle.wk_module.specs.Reading.{joined, module_at}
-use Rattle.wk_module.specs.FormatLaws.{CountIs, SectionLaws}
 use Rattle.wk_module.proofs.Formats.{behind}
 use Rattle.wk_module.proofs.Shaped.{section_stays}
 use Rattle.wk_module.specs.SectionLaws.{of_number-none, of_number-is, has_id, HasId, number_some, same_or_other, other_number, contents-here}

@@ -407,16 +407,6 @@ module _ (profile : Profile) (b : List ℕ) (is : IsReading profile b (module_at
   pub outline_settled : (d : Parts) → read_outlined (module_at profile b) ≡ Ok d → settle d ≡ d
   outline_settled d e = let a = outlined_is d e in subst (λ (n : Parts). settle n ≡ n) a.stubs (outlined_settled a.of (read_shaped a.of a.is).settled)
 
-  pub fault_refused : (e : ReadFault) → FailsAs e e.kind (module_at profile b) → e.kind ≢ Memory → SpellsNone profile b
-  fault_refused e fails other = (subst (IsReading profile b) (unless_memory e e.kind (module_at profile b) other fails) is).0
-
-  pub fault_stands : (e : ReadFault) → FailsAs e e.kind (module_at profile b) → StandsIn b e
-  fault_stands e fails =
-      elim (memory_or_read e (module_at profile b) fails) [
-        | inl none ↦ inl none
-        | inr read ↦ (subst (IsReading profile b) read is).1
-      ]
-
 -- ---- the whole of it
 
 module _ {K : Type 0} (make : BodyOf → K) (profile : Profile) (b : List ℕ) where

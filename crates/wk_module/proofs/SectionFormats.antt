@@ -19,13 +19,13 @@ use Rattle.wk_body.specs.Bodies.{BodyOf}
 use Rattle.wk_body.specs.Shape.{IsU32}
 use Rattle.wk_body.specs.Vectors.{SpellsVector, items_at, vector_at, written_vector}
 use Rattle.wk_module.specs.declared.types.FuncType.{FuncType}
+use Rattle.wk_module.specs.FormatLaws.{CodeLaws, IsFormat, CountIs, IsSection, SectionLaws}
 use Rattle.wk_module.specs.Formats.{Reader, made_at}
 use Rattle.wk_module.specs.Types.{SpellsFuncType, functype_at, written_functype}
 use Rattle.wk_module.specs.Items.{SpellsCode, code_at, written_code, IsCode}
 use Rattle.wk_module.specs.Sections.{SectionId, TypeSection, ImportSection, FunctionSection, TableSection, MemorySection, GlobalSection, ExportSection}
 use Rattle.wk_module.specs.Sections.{StartSection, ElementSection, CodeSection, DataSection, number, is_some, is_full, SpellsStart, SpellsContents, codes_at}
 use Rattle.wk_module.specs.Sections.{contents_at, written_start, written_contents, IsStart, AreItems, AreValid}
-use Rattle.wk_module.specs.FormatLaws.{CodeLaws, IsFormat, CountIs, IsSection, SectionLaws}
 use Rattle.wk_module.proofs.Formats.{u32_format, made_front, made_steps, made_again, valid_as, items_found, items_again, items_front, vector_made}
 use Rattle.wk_module.proofs.Formats.{vector_format, joined, both_parts}
 use Rattle.wk_module.proofs.ItemFormats.{functype_format, limits_format, tabletype_format, import_format, export_format, global_format, elem_format}

@@ -11,12 +11,12 @@ use Rattle.wk_body.specs.declared.types.Profile.{Profile}
 use Rattle.wk_module.specs.declared.types.Custom.{Custom}
 use Rattle.wk_module.specs.declared.types.Parts.{Parts}
 use Rattle.wk_module.specs.Customs.{IsEmptyFrame, SpellsCustoms}
+use Rattle.wk_module.specs.FormatLaws.{SectionLaws}
 use Rattle.wk_module.specs.Sections.{SectionId, number, ContentsOf, contents, omitted, is_full, SpellsContents, AreValid}
 use Rattle.wk_module.specs.SectionLaws.{number_some, has_id}
 use Rattle.wk_module.specs.ShapeLaws.{in_order_lower, omitted_valid}
 use Rattle.wk_module.specs.Shape.{lists_of, is_filled, lowered, settled_custom, IsInOrderFrom, AreNamed, IsShaped}
 use Rattle.wk_module.specs.Modules.{SpellsSection, Spells}
-use Rattle.wk_module.specs.FormatLaws.{SectionLaws}
 use Rattle.wk_module.proofs.WrittenSections.{filled_is}
 
 -- ---- one section

@@ -1,5 +1,5 @@
 -- The faults of reading a module stand in its bytes.
-use Rattle.std.proofs.Common.{◌≡◌, ℕ, ◌-◌, ◌≤◌, ◌==◌, ◌⊎◌, List, [], ◌∷◌, ◌++◌, length, length-append, Option, Some, None, Result, Ok, Err, All, refl}
+use Rattle.std.proofs.Common.{◌≡◌, ◌≢◌, ℕ, ◌-◌, ◌≤◌, ◌==◌, ◌⊎◌, List, [], ◌∷◌, ◌++◌, length, length-append, Option, Some, None, Result, Ok, Err, All, refl}
 use Rattle.std.proofs.Common.{sym, ap, subst, ◌∙◌, inl, inr, arith}
 use Rattle.std.specs.Prelude.{IfErr, MatchResult}
 use Rattle.std.proofs.lemmas.List.Elements.{All-head, All-tail}
@@ -21,13 +21,15 @@ use Rattle.wk_body.specs.Reads.{FailsAs, Reads}
 use Rattle.wk_module.specs.declared.types.Custom.{Custom}
 use Rattle.wk_module.specs.declared.types.Parts.{Parts}
 use Rattle.wk_module.specs.Customs.{custom_at}
+use Rattle.wk_module.specs.FormatLaws.{SectionLaws}
 use Rattle.wk_module.specs.Formats.{Reader, bytes_at, taking_all, all_at}
-use Rattle.wk_module.specs.ListReading.{listed_by, with_listed, lists_read}
+use Rattle.wk_module.specs.ListReading.{IsReading, listed_by, with_listed, lists_read}
+use Rattle.wk_module.specs.Modules.{SpellsNone}
 use Rattle.wk_module.specs.Sections.{SectionId, ContentsOf, SectionLists, of_number, with_contents, contents_at}
 use Rattle.wk_module.specs.Reading.{Progress, at_start, section_end, with_custom, with_lists, section_by, with_section, sections_read, module_of, joined}
 use Rattle.wk_module.specs.Reading.{module_at}
 use Rattle.wk_module.proofs.Formats.{bytes_parts}
-use Rattle.wk_module.specs.FormatLaws.{SectionLaws}
+use Rattle.wk_module.proofs.ModuleReading.{unless_memory}
 
 -- ---- contents
 
@@ -169,6 +171,18 @@ pub answer_stands : {X Y : Type 0} (view : X → Y) (b : List ℕ) (r : Result X
     → ((e : ReadFault) → read ≡ Err e → StandsIn b e) → Reads view r read → IfErr r (λ e. StandsIn b e)
 answer_stands view b (Ok x) read stands reads = tt
 answer_stands view b (Err e) read stands reads = told_stands b e read stands reads
+
+-- ---- what a fault of reading a module says of its bytes
+
+module _ (profile : Profile) (b : List ℕ) (is : IsReading profile b (module_at profile b)) where
+  fault_read : (e : ReadFault) → module_at profile b ≡ Err e → SpellsNone profile b × StandsIn b e
+  fault_read e read = subst (IsReading profile b) read is
+
+  pub fault_refused : (e : ReadFault) → FailsAs e e.kind (module_at profile b) → e.kind ≢ Memory → SpellsNone profile b
+  fault_refused e fails other = (fault_read e (unless_memory e e.kind (module_at profile b) other fails)).0
+
+  pub fault_stands : (e : ReadFault) → FailsAs e e.kind (module_at profile b) → StandsIn b e
+  fault_stands e = told_stands b e (module_at profile b) (λ d read. (fault_read d read).1)
 
 -- ---- codes
 

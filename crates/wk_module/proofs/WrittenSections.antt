@@ -8,13 +8,13 @@ use Rattle.wk_bytes.specs.ListWords.{is_empty}
 use Rattle.wk_module.specs.declared.types.Custom.{Custom}
 use Rattle.wk_module.specs.declared.types.Parts.{Parts}
 use Rattle.wk_module.specs.Customs.{IsEmptyFrame}
+use Rattle.wk_module.specs.FormatLaws.{SectionLaws}
 use Rattle.wk_module.specs.Sections.{SectionId, TypeSection, ImportSection, FunctionSection, TableSection, MemorySection, GlobalSection, ExportSection}
 use Rattle.wk_module.specs.Sections.{StartSection, ElementSection, CodeSection, DataSection, number, of_number, ContentsOf, SectionLists, contents, omitted}
 use Rattle.wk_module.specs.Sections.{is_full, is_some, SpellsContents, written_contents}
 use Rattle.wk_module.specs.Shape.{lists_of, is_written, is_filled}
 use Rattle.wk_module.specs.Modules.{SpellsSection}
 use Rattle.wk_module.specs.Writing.{framed, section_by, section_of}
-use Rattle.wk_module.specs.FormatLaws.{SectionLaws}
 use Rattle.wk_module.specs.SectionLaws.{number_some, of_number-number, has_id}
 use Rattle.wk_module.proofs.WrittenFrames.{frames_bytes, custom_frame, customs_frames, up_from, IsSectionAt, frames_at}
 

@@ -8,11 +8,11 @@ use Rattle.wk_bytes.specs.Short.{short}
 use Rattle.wk_bytes.specs.Frames.{Frame, magic, version}
 use Rattle.wk_body.specs.declared.types.Profile.{Profile}
 use Rattle.wk_module.specs.declared.types.Parts.{Parts}
+use Rattle.wk_module.specs.FormatLaws.{SectionLaws}
 use Rattle.wk_module.specs.Sections.{SectionId, number, contents, omitted, SpellsContents, written_contents}
 use Rattle.wk_module.specs.Shape.{lists_of, is_written, is_filled, IsShaped}
 use Rattle.wk_module.specs.Modules.{Spells}
 use Rattle.wk_module.specs.Writing.{framed, section_of, customs_at, section_and_customs, ids, encoded, Fits}
-use Rattle.wk_module.specs.FormatLaws.{SectionLaws}
 use Rattle.wk_module.proofs.WrittenFrames.{frame_bytes, frames_bytes, small_all, frames_spelled, customs_frames, customs_bytes, up_from, frames_at, frames_rise}
 use Rattle.wk_module.specs.SectionLaws.{number_some, number_most, of_number-number}
 use Rattle.wk_module.proofs.WrittenSections.{section_frames, section_bytes, section_is, section_among, spelled_at}

@@ -19,30 +19,19 @@ use Rattle.wk_module.specs.Shape.{settle, IsShaped}
 use Rattle.wk_module.specs.ShapeLaws.{filter_shaped}
 use Rattle.wk_module.specs.Writing.{encoded, Fits}
 use Rattle.wk_module.specs.WritingLaws.{length-encoded_filter}
-use Rattle.wk_module.proofs.ModuleReading.{unless_memory}
-use Rattle.wk_module.proofs.Standing.{memory_or_read}
+use Rattle.wk_module.proofs.Standing.{fault_refused, fault_stands}
 use Rattle.wk_strip.specs.Stripped.{is_kept, with_kept, IsStripped}
 
 module _ (profile : Profile) (b : List ℕ) (is : IsReading profile b (module_at profile b)) where
-  pub fault_refused : (e : ReadFault) → FailsAs e e.kind (module_at profile b) → e.kind ≢ Memory → SpellsNone profile b
-  fault_refused e fails other = (subst (IsReading profile b) (unless_memory e e.kind (module_at profile b) other fails) is).0
-
-  pub fault_stands : (e : ReadFault) → FailsAs e e.kind (module_at profile b) → StandsIn b e
-  fault_stands e fails =
-      elim (memory_or_read e (module_at profile b) fails) [
-        | inl none ↦ inl none
-        | inr read ↦ (subst (IsReading profile b) read is).1
-      ]
-
   pub told_refused : {X : Type 0} (P : X → Type 0) (r : Result X ReadFault) → MatchResult r P (λ e. FailsAs e e.kind (module_at profile b))
       → IfErr r (λ e. e.kind ≢ Memory → SpellsNone profile b)
   told_refused P (Ok x) told = tt
-  told_refused P (Err e) told = fault_refused e told
+  told_refused P (Err e) told = fault_refused profile b is e told
 
   pub told_fault : {X : Type 0} (P : X → Type 0) (r : Result X ReadFault) → MatchResult r P (λ e. FailsAs e e.kind (module_at profile b))
       → IfErr r (λ e. StandsIn b e)
   told_fault P (Ok x) told = tt
-  told_fault P (Err e) told = fault_stands e told
+  told_fault P (Err e) told = fault_stands profile b is e told
 
   module _ (keep : Option (List ℕ)) (kept : List Custom) (fits : IfOk (module_at profile b) (λ m. Fits m))
       (found : (fs : List Frame) (cs : List Custom) → SpellsFraming b fs → SpellsCustoms 0 fs cs → kept ≡ filter (is_kept keep) cs) where

@@ -3,10 +3,10 @@ use Rattle.wk_bytes.specs.LebLaws.{IsBytes}
 use Rattle.wk_bytes.specs.declared.fault.ReadFault.{ReadFault}
 use Rattle.wk_body.specs.declared.types.Profile.{Profile}
 use Rattle.wk_module.specs.declared.types.Parts.{Parts}
+use Rattle.wk_module.specs.FormatLaws.{SectionLaws}
 use Rattle.wk_module.specs.ListReading.{IsReading}
 use Rattle.wk_module.specs.Reading.{module_at}
 use Rattle.wk_module.specs.Writing.{Fits}
-use Rattle.wk_module.specs.FormatLaws.{SectionLaws}
 use Rattle.wk_module.proofs.Fitting.{fits_spelled}
 use Rattle.wk_module.proofs.ListReading.{lists_of_module, sections_rise}
 use Rattle.wk_module.proofs.ModuleReading.{module_found, module_none, answer_only}

@@ -16,36 +16,20 @@ strip_with-requires c =
     let found = rw c.deref-input.ensures.value at c.in_ok-kept.ensures in
     rw c.deref.ensures.value (kept_fit c.args.profile c.args.bytes.items reading.is keep c.in_ok-kept.kept.items reading.fits found)
 
-pub returns-clause-exact : goal.returns-clause-exact
-returns-clause-exact c =
+pub returns : goal.returns
+returns c =
+    let profile = c.args.profile in
+    let bytes = c.args.bytes.items in
     let keep = option_map (λ name. name.now) c.args.keep in
+    let kept = c.in_ok-kept.kept.items in
     let reading = rw c.deref-input.ensures.value at c.reading_of_module.ensures in
     let found = rw c.deref-input.ensures.value at c.in_ok-kept.ensures in
-    told_exact c.args.profile c.args.bytes.items reading.is keep c.in_ok-kept.kept.items reading.fits found c.strip_with.result
-    (rw c.deref.ensures.value at c.strip_with.ensures)
-
-pub returns-clause-meaning : goal.returns-clause-meaning
-returns-clause-meaning c =
-    let keep = option_map (λ name. name.now) c.args.keep in
-    let reading = rw c.deref-input.ensures.value at c.reading_of_module.ensures in
-    let found = rw c.deref-input.ensures.value at c.in_ok-kept.ensures in
-    told_meaning c.args.profile c.args.bytes.items reading.is keep c.in_ok-kept.kept.items reading.fits found c.written_form_of_module.ensures.spells
-    c.one_module.ensures.one c.strip_with.result (rw c.deref.ensures.value at c.strip_with.ensures)
-
-pub returns-clause-refused : goal.returns-clause-refused
-returns-clause-refused c =
-    let keep = option_map (λ name. name.now) c.args.keep in
-    let reading = rw c.deref-input.ensures.value at c.reading_of_module.ensures in
-    let found = rw c.deref-input.ensures.value at c.in_ok-kept.ensures in
-    told_refused c.args.profile c.args.bytes.items reading.is
-    (IsMade c.args.profile c.args.bytes.items reading.is keep c.in_ok-kept.kept.items reading.fits found) c.strip_with.result
-    (rw c.deref.ensures.value at c.strip_with.ensures)
-
-pub returns-clause-fault : goal.returns-clause-fault
-returns-clause-fault c =
-    let keep = option_map (λ name. name.now) c.args.keep in
-    let reading = rw c.deref-input.ensures.value at c.reading_of_module.ensures in
-    let found = rw c.deref-input.ensures.value at c.in_ok-kept.ensures in
-    told_fault c.args.profile c.args.bytes.items reading.is
-    (IsMade c.args.profile c.args.bytes.items reading.is keep c.in_ok-kept.kept.items reading.fits found) c.strip_with.result
-    (rw c.deref.ensures.value at c.strip_with.ensures)
+    let r = c.strip_with.result in
+    let told = rw c.deref.ensures.value at c.strip_with.ensures in
+    let Made = IsMade profile bytes reading.is keep kept reading.fits found in
+    record {
+      exact = told_exact profile bytes reading.is keep kept reading.fits found r told;
+      meaning = told_meaning profile bytes reading.is keep kept reading.fits found c.written_form_of_module.ensures.spells c.one_module.ensures.one r told;
+      refused = told_refused profile bytes reading.is Made r told;
+      fault = told_fault profile bytes reading.is Made r told;
+    }
