@@ -1,6 +1,6 @@
 -- What is read where each code stands aside, as what is kept of its body.
 use Rattle.std.proofs.Common.{◌≡◌, ◌≢◌, ℕ, zero, suc, Bool, false, not, eqb, cond, List, [], ◌∷◌, length, map, max, Option, Some, None, Result, Ok, Err, refl}
-use Rattle.std.proofs.Common.{sym, ap, subst, ◌∙◌, inl, inr, slice_index_or, arith}
+use Rattle.std.proofs.Common.{sym, ap, subst, ◌∙◌, slice_index_or, arith}
 use Rattle.std.proofs.lemmas.Bool.{ne_eqb}
 use Rattle.std.proofs.lemmas.List.{length-map}
 use Rattle.std.specs.List.{AllByRecursion}
@@ -14,7 +14,6 @@ use Rattle.wk_bytes.specs.Leb.{◌>>=◌}
 use Rattle.wk_bytes.specs.LebLaws.{done}
 use Rattle.wk_bytes.specs.ListWords.{is_empty}
 use Rattle.wk_bytes.specs.SpanLaws.{ok_is}
-use Rattle.wk_bytes.specs.Stands.{StandsIn}
 use Rattle.wk_body.specs.declared.types.Profile.{Profile}
 use Rattle.wk_body.specs.Bodies.{BodyOf}
 use Rattle.wk_body.specs.Meaning.{Whole, FindsOnly}
@@ -31,7 +30,6 @@ use Rattle.wk_module.specs.Customs.{custom_at}
 use Rattle.wk_module.specs.Formats.{Reader, made_at, taking_all, all_at}
 use Rattle.wk_module.specs.Items.{code_at, IsCode}
 use Rattle.wk_module.specs.ListReading.{IsReading, Rise}
-use Rattle.wk_module.specs.Modules.{SpellsNone}
 use Rattle.wk_module.specs.OutlineReading.{PartialOutline, without_codes, aside, read_aside, code_aside_at, codes_aside_at, stub_of, read_outlined}
 use Rattle.wk_module.specs.Outlines.{outlined, outlined_func, stub}
 use Rattle.wk_module.specs.Reading.{Progress, at_start, section_end, with_custom, with_lists, section_by, with_section, sections_read, zipped, module_of}
@@ -42,9 +40,9 @@ use Rattle.wk_module.specs.Sections.{StartSection, ElementSection, CodeSection, 
 use Rattle.wk_module.specs.Sections.{contents_at, AreItems, AreValid}
 use Rattle.wk_module.specs.Shape.{lists_of, filled_ids, settled_custom, settle, IsFormed, IsShaped}
 use Rattle.wk_module.proofs.VectorReading.{with_front}
-use Rattle.wk_module.proofs.ListReading.{fair_fails, some_rise}
-use Rattle.wk_module.proofs.ModuleReading.{joined_again, joined_is, unless_memory}
-use Rattle.wk_module.proofs.Standing.{memory_or_read}
+use Rattle.wk_module.proofs.ListReading.{some_rise}
+use Rattle.wk_module.proofs.ModuleReading.{joined_again, joined_is}
+use Rattle.wk_module.proofs.SectionSteps.{broken_off}
 
 -- ---- items that are made of others
 
@@ -303,9 +301,7 @@ module _ {K : Type 0} (make : BodyOf → K) (profile : Profile) (all : List (Res
     pub broken : (e : ReadFault) → items ≡ Err e ∷ left → FailsAs e e.kind (read_aside make whole)
     unfolding sections_read
     broken e first =
-        let rise = subst (λ (is : List (Result Section ReadFault)). (last : ℕ) × Rise last is) first so.rise in
-        fair_fails e e.kind (read_aside make whole) rise.1
-        (stops_at e (ap (λ (is : List (Result Section ReadFault)). sections_read profile so.so_far is) first))
+        broken_off e first so.rise refl (stops_at e (ap (λ (is : List (Result Section ReadFault)). sections_read profile so.so_far is) first))
 
     pub finished : items ≡ [] → read_aside make whole ≡ Ok u
     unfolding sections_read

@@ -1,11 +1,28 @@
 -- The steps of reading section by section: one more section, or a fault of it or in its place.
-use Rattle.std.proofs.Common.{◌≡◌, List, ◌∷◌, Result, Ok, Err, refl}
+use Rattle.std.proofs.Common.{◌≡◌, ℕ, List, ◌∷◌, Result, Ok, Err, refl, sym, ap, subst, ◌∙◌}
 use Rattle.wk_bytes.specs.declared.fault.ReadFault.{ReadFault}
+use Rattle.wk_bytes.specs.declared.raw.RawSection.{RawSection}
 use Rattle.wk_bytes.specs.Frames.{Section}
+use Rattle.wk_bytes.specs.Raw.{item_view}
 use Rattle.wk_body.specs.declared.types.Profile.{Profile}
-use Rattle.wk_module.specs.ListReading.{lists_read, front_read}
+use Rattle.wk_body.specs.Reads.{FailsAs}
+use Rattle.wk_module.specs.ListReading.{lists_read, front_read, Rise}
 use Rattle.wk_module.specs.Reading.{Progress, with_section, sections_read}
 use Rattle.wk_module.specs.Sections.{SectionLists}
+use Rattle.wk_module.proofs.ListReading.{fair_fails}
+
+-- ---- what comes next
+
+-- what was taken is the first of those that were left
+pub next_item : {items left : List (Result Section ReadFault)} {r s : Result RawSection ReadFault} → items ≡ item_view r ∷ left → r ≡ s
+    → items ≡ item_view s ∷ left
+next_item {left = left} steps was = steps ∙ ap (λ (r : Result RawSection ReadFault). item_view r ∷ left) was
+
+-- a fault that comes next is that of the whole reading, of which this is the rest
+pub broken_off : {Y : Type 0} {whole rest : Result Y ReadFault} {items left : List (Result Section ReadFault)} (e : ReadFault) → items ≡ Err e ∷ left
+    → (last : ℕ) × Rise last items → rest ≡ whole → rest ≡ Err e → FailsAs e e.kind whole
+broken_off {whole = whole} e first rise is broken =
+    fair_fails e e.kind whole (subst (Rise rise.0) first rise.1) (sym is ∙ broken)
 
 -- ---- the sections of a module
 

@@ -1,11 +1,10 @@
-use Rattle.std.proofs.Common.{[], ◌∷◌, Result, ap, ◌∙◌}
+use Rattle.std.proofs.Common.{[], ◌∙◌}
 use Rattle.std.proofs.lemmas.Result.{err_from_is_err_and}
-use Rattle.wk_bytes.specs.declared.fault.ReadFault.{ReadFault}
-use Rattle.wk_bytes.specs.declared.raw.RawSection.{RawSection}
 use Rattle.wk_bytes.specs.Frames.{sections_of}
-use Rattle.wk_bytes.specs.Raw.{raw_view, item_view}
+use Rattle.wk_bytes.specs.Raw.{raw_view}
 use Rattle.wk_module.specs.OutlineReading.{partial}
 use Rattle.wk_module.proofs.Outlining.{begun, one_more, stopped, broken, finished}
+use Rattle.wk_module.proofs.SectionSteps.{next_item}
 use Rattle.wk_module.proofs.outline.read_each_section.Goals as goal
 
 pub loop-section-init : goal.loop-section-init
@@ -19,13 +18,13 @@ loop-section-init g c = record {
 pub returns-in_err-section : goal.returns-in_err-section
 returns-in_err-section g c =
     let p = err_from_is_err_and c.from_residual.result c.from_residual.ensures.1 in
-    let first = c.in-Some.ensures.steps ∙ ap (λ (r : Result RawSection ReadFault). item_view r ∷ c.next.new.self) c.in_err-section.was in
+    let first = next_item c.in-Some.ensures.steps c.in_err-section.was in
     rw (p.1, p.2) (broken g.K.Keep.kept c.args.profile (sections_of c.args.bytes.now) _ _ _ c.loop-section.invariant.so c.in_err-section.field-0.0 first)
 
 pub loop-section-preserved : goal.loop-section-preserved
 loop-section-preserved g c =
     let so = c.loop-section.invariant.so in
-    let first = c.in-Some.ensures.steps ∙ ap (λ (r : Result RawSection ReadFault). item_view r ∷ c.next.new.self) c.in_ok-section.was in
+    let first = next_item c.in-Some.ensures.steps c.in_ok-section.was in
     record {
       can = tt;
       ends = tt;
@@ -37,7 +36,7 @@ pub returns-in_err-read_section : goal.returns-in_err-read_section
 returns-in_err-read_section g c =
     let p = err_from_is_err_and c.from_residual-in_err-read_section.result c.from_residual-in_err-read_section.ensures.1 in
     let so = c.loop-section.invariant.so in
-    let first = c.in-Some.ensures.steps ∙ ap (λ (r : Result RawSection ReadFault). item_view r ∷ c.next.new.self) c.in_ok-section.was in
+    let first = next_item c.in-Some.ensures.steps c.in_ok-section.was in
     rw (p.1, p.2) (stopped g.K.Keep.kept c.args.profile (sections_of c.args.bytes.now) _ _ _ so
     (raw_view c.in_ok-section.field-0) c.in_err-read_section.field-0.0 first (c.in_err-read_section.ensures so.so_far so.is_aside))
 
