@@ -1,7 +1,6 @@
-use Rattle.std.proofs.Common.{◌≡◌, ◌∷◌, Result, Some, None, true, false, refl, sym, ap, ◌∙◌}
-use Rattle.wk_bytes.specs.declared.fault.ReadFault.{ReadFault}
-use Rattle.wk_bytes.specs.declared.raw.RawSection.{RawSection}
-use Rattle.wk_bytes.specs.Raw.{raw_view, item_view}
+use Rattle.std.proofs.Common.{◌≡◌, Some, None, true, false, refl, sym}
+use Rattle.wk_bytes.specs.Raw.{raw_view}
+use Rattle.wk_module.proofs.SectionSteps.{next_item}
 use Rattle.wk_strip.proofs.Staying.{left_first, left_last, left_faulty, left_custom, left_empty, left_full, none_kept}
 use Rattle.wk_strip.proofs.customs.kept_customs.Goals as goal
 
@@ -22,12 +21,12 @@ loop-section-init c =
 
 pub returns-in_default-section : goal.returns-in_default-section
 returns-in_default-section c =
-    let first = c.in-Some-section.ensures.steps ∙ ap (λ (r : Result RawSection ReadFault). item_view r ∷ c.next.new.self) c.in_default-section.is in
+    let first = next_item c.in-Some-section.ensures.steps c.in_default-section.is in
     rw c.in-Some.is (left_faulty c.in-Some.name.now c.args.bytes.now c.loop-section.place c.loop-section.kept.items _ _ _ first c.loop-section.invariant.left)
 
 pub loop-section-preserved-in-Continue-branch-2 : goal.loop-section-preserved-in-Continue-branch-2
 loop-section-preserved-in-Continue-branch-2 c =
-    let first = c.in-Some-section.ensures.steps ∙ ap (λ (r : Result RawSection ReadFault). item_view r ∷ c.next.new.self) c.in-Ok.is in
+    let first = next_item c.in-Some-section.ensures.steps c.in-Ok.is in
     record {
       can = tt;
       ends = tt;
@@ -39,7 +38,7 @@ loop-section-preserved-in-Continue-branch-2 c =
 
 pub loop-section-preserved-in_default-found : goal.loop-section-preserved-in_default-found
 loop-section-preserved-in_default-found c =
-    let first = c.in-Some-section.ensures.steps ∙ ap (λ (r : Result RawSection ReadFault). item_view r ∷ c.next.new.self) c.in-Ok.is in
+    let first = next_item c.in-Some-section.ensures.steps c.in-Ok.is in
     record {
       can = tt;
       ends = tt;
@@ -50,7 +49,7 @@ loop-section-preserved-in_default-found c =
 
 pub loop-section-preserved-then-not-is_empty : goal.loop-section-preserved-then-not-is_empty
 loop-section-preserved-then-not-is_empty c =
-    let first = c.in-Some-section.ensures.steps ∙ ap (λ (r : Result RawSection ReadFault). item_view r ∷ c.next.new.self) c.in-Ok.is in
+    let first = next_item c.in-Some-section.ensures.steps c.in-Ok.is in
     record {
       can = tt;
       ends = tt;
@@ -61,7 +60,7 @@ loop-section-preserved-then-not-is_empty c =
 
 pub loop-section-preserved : goal.loop-section-preserved
 loop-section-preserved c =
-    let first = c.in-Some-section.ensures.steps ∙ ap (λ (r : Result RawSection ReadFault). item_view r ∷ c.next.new.self) c.in-Ok.is in
+    let first = next_item c.in-Some-section.ensures.steps c.in-Ok.is in
     record {
       can = tt;
       ends = tt;
