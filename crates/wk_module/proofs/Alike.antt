@@ -9,8 +9,8 @@ use Rattle.wk_body.specs.Spelling.{SpellsExpr, SpellsBody}
 use Rattle.wk_body.specs.Vectors.{SpellsItems, SpellsVector}
 use Rattle.wk_module.specs.Formats.{SpellsBoth}
 use Rattle.wk_module.specs.Items.{SpellsInit, SpellsGlobal, SpellsElem, SpellsCode, SpellsData}
-use Rattle.wk_module.specs.Sections.{SectionId, TypeSection, ImportSection, FunctionSection, TableSection, MemorySection, GlobalSection, ExportSection}
-use Rattle.wk_module.specs.Sections.{StartSection, ElementSection, CodeSection, DataSection, number, contents, omitted, SpellsContents}
+use Rattle.wk_module.specs.Sections.{SectionId, GlobalSection}
+use Rattle.wk_module.specs.Sections.{ElementSection, CodeSection, DataSection, number, contents, omitted, SpellsContents}
 use Rattle.wk_module.specs.Shape.{lists_of}
 use Rattle.wk_module.specs.Modules.{SpellsSection}
 use Rattle.wk_module.specs.ModuleLaws.{SpellAlike}
@@ -66,17 +66,11 @@ module _ (exprs : body.SpellAlike SpellsExpr) (bodies : body.SpellAlike SpellsBo
   data_alike b d s = both_into _ _ _ _ (same _) (both_into _ _ _ _ init_alike (same _)) b (d.memory, (d.offset, d.bytes)) s
 
   pub contents_alike : (k : SectionId) → Into (SpellsContents Core k) (SpellsContents Extended k)
-  contents_alike TypeSection b x s = s
-  contents_alike ImportSection b x s = s
-  contents_alike FunctionSection b x s = s
-  contents_alike TableSection b x s = s
-  contents_alike MemorySection b x s = s
   contents_alike GlobalSection b x s = vector_into (SpellsGlobal Core) (SpellsGlobal Extended) global_alike b x s
-  contents_alike ExportSection b x s = s
-  contents_alike StartSection b x s = s
   contents_alike ElementSection b x s = vector_into (SpellsElem Core) (SpellsElem Extended) elem_alike b x s
   contents_alike CodeSection b x s = vector_into (SpellsCode Core) (SpellsCode Extended) code_alike b x s
   contents_alike DataSection b x s = vector_into (SpellsData Core) (SpellsData Extended) data_alike b x s
+  contents_alike _ b x s = s
 
   pub module_alike : SpellAlike
   module_alike b m core s = record {

@@ -11,14 +11,12 @@ use Rattle.wk_body.specs.declared.types.Profile.{Profile}
 use Rattle.wk_body.specs.Reads.{Reads}
 use Rattle.wk_body.specs.Vectors.{items_at, vector_at}
 use Rattle.wk_module.specs.Formats.{Reader, taking_all, all_at}
-use Rattle.wk_module.specs.Types.{functype_at, tabletype_at, limits_at}
-use Rattle.wk_module.specs.Items.{import_at, global_at, export_at, elem_at, data_at}
 use Rattle.wk_module.specs.Listed.{AreNumbered}
 use Rattle.wk_module.specs.ListReading.{listed_by, with_listed}
 use Rattle.wk_module.specs.NumberedLaws.{IsNumbered, numbered_with}
 use Rattle.wk_module.specs.Reading.{section_end}
-use Rattle.wk_module.specs.Sections.{SectionId, TypeSection, ImportSection, FunctionSection, TableSection, MemorySection, GlobalSection, ExportSection}
-use Rattle.wk_module.specs.Sections.{StartSection, ElementSection, CodeSection, DataSection, of_number, SectionLists, ContentsOf, with_contents, contents_at}
+use Rattle.wk_module.specs.Sections.{SectionId}
+use Rattle.wk_module.specs.Sections.{StartSection, CodeSection, of_number, SectionLists, ContentsOf, with_contents, contents_at}
 
 items_counted : {A : Type 0} (read : Reader A) (n end : ℕ) (bytes : List ℕ) (xs : List A) (rest : List ℕ) → items_at read n end bytes ≡ Ok (xs, rest)
     → length xs ≡ n
@@ -39,17 +37,9 @@ vector_numbered read end bytes xs rest fits e =
 
 contents_numbered : (profile : Profile) (funcs : ℕ) (k : SectionId) (end : ℕ) (bytes : List ℕ) (x : ContentsOf k) (rest : List ℕ) → IsBytes bytes
     → contents_at profile funcs k end bytes ≡ Ok (x, rest) → IsNumbered k x
-contents_numbered profile funcs TypeSection = vector_numbered functype_at
-contents_numbered profile funcs ImportSection = vector_numbered import_at
-contents_numbered profile funcs FunctionSection = vector_numbered u32_at
-contents_numbered profile funcs TableSection = vector_numbered tabletype_at
-contents_numbered profile funcs MemorySection = vector_numbered limits_at
-contents_numbered profile funcs GlobalSection = vector_numbered (global_at profile)
-contents_numbered profile funcs ExportSection = vector_numbered export_at
 contents_numbered profile funcs StartSection = λ end bytes x rest fits e. tt
-contents_numbered profile funcs ElementSection = vector_numbered (elem_at profile)
 contents_numbered profile funcs CodeSection = λ end bytes x rest fits e. tt
-contents_numbered profile funcs DataSection = vector_numbered (data_at profile)
+contents_numbered profile funcs _ = vector_numbered _
 
 taken_all : {A : Type 0} (end : ℕ) (x y : A) (rest : List ℕ) → taking_all end (x, rest) ≡ Ok y → x ≡ y
 taken_all end x y [] e = ok_is x y e

@@ -35,8 +35,8 @@ use Rattle.wk_module.specs.Outlines.{outlined, outlined_func, stub}
 use Rattle.wk_module.specs.Reading.{Progress, at_start, section_end, with_custom, with_lists, section_by, with_section, sections_read, zipped, module_of}
 use Rattle.wk_module.specs.Reading.{joined, module_at}
 use Rattle.wk_module.specs.SectionLaws.{number-of_number}
-use Rattle.wk_module.specs.Sections.{SectionId, TypeSection, ImportSection, FunctionSection, TableSection, MemorySection, GlobalSection, ExportSection}
-use Rattle.wk_module.specs.Sections.{StartSection, ElementSection, CodeSection, DataSection, of_number, ContentsOf, SectionLists, contents, codes_at}
+use Rattle.wk_module.specs.Sections.{SectionId, FunctionSection}
+use Rattle.wk_module.specs.Sections.{CodeSection, of_number, ContentsOf, SectionLists, contents, codes_at}
 use Rattle.wk_module.specs.Sections.{contents_at, AreItems, AreValid}
 use Rattle.wk_module.specs.Shape.{lists_of, filled_ids, settled_custom, settle, IsFormed, IsShaped}
 use Rattle.wk_module.proofs.VectorReading.{with_front}
@@ -151,17 +151,8 @@ module _ {K : Type 0} (make : BodyOf → K) (profile : Profile) (p : Progress) (
 
   by_id : (k : Option SectionId) → (k ≡ Some CodeSection → ⊥) → StepsAside k
   by_id None other = by_custom
-  by_id (Some TypeSection) other = by_contents TypeSection (λ x. refl)
-  by_id (Some ImportSection) other = by_contents ImportSection (λ x. refl)
-  by_id (Some FunctionSection) other = by_contents FunctionSection (λ x. refl)
-  by_id (Some TableSection) other = by_contents TableSection (λ x. refl)
-  by_id (Some MemorySection) other = by_contents MemorySection (λ x. refl)
-  by_id (Some GlobalSection) other = by_contents GlobalSection (λ x. refl)
-  by_id (Some ExportSection) other = by_contents ExportSection (λ x. refl)
-  by_id (Some StartSection) other = by_contents StartSection (λ x. refl)
-  by_id (Some ElementSection) other = by_contents ElementSection (λ x. refl)
   by_id (Some CodeSection) other = absurd (other refl)
-  by_id (Some DataSection) other = by_contents DataSection (λ x. refl)
+  by_id (Some k) other = by_contents k (λ x. refl)
 
   -- a section that is not that of the codes, where the codes stand aside
   pub steps_aside : s.id ≢ 10 → read_aside make (with_section profile p s) ≡ (with_section profile (without_codes p) s >>= λ q. Ok (beside q))
@@ -361,17 +352,9 @@ module _ (m : Parts) where
   IsValidIn k l = AreValid m.profile k (contents l k)
 
   outlined_valid : (k : SectionId) → IsValidIn k (lists_of m) → IsValidIn k (lists_of (outlined m))
-  outlined_valid TypeSection v = v
-  outlined_valid ImportSection v = v
   outlined_valid FunctionSection v = subst (λ (ts : List ℕ). AreItems IsU32 ts) (sym (types_outlined m.funcs)) v
-  outlined_valid TableSection v = v
-  outlined_valid MemorySection v = v
-  outlined_valid GlobalSection v = v
-  outlined_valid ExportSection v = v
-  outlined_valid StartSection v = v
-  outlined_valid ElementSection v = v
   outlined_valid CodeSection v = (subst IsU32 (sym (many_outlined m.funcs)) v.0, stubs_valid m.profile m.funcs)
-  outlined_valid DataSection v = v
+  outlined_valid _ v = v
 
   outlined_formed : IsFormed m → IsFormed (outlined m)
   outlined_formed f = record { valid = λ k. outlined_valid k (f.valid k); order = f.order; names = f.names }

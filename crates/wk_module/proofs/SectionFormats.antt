@@ -1,5 +1,5 @@
 -- The laws of the contents of each section.
-use Rattle.std.proofs.Common.{◌≡◌, ◌≢◌, ℕ, ◌^◌, ◌<◌, ◌≤◌, Bool, true, false, not, cond, eqb, List, [], ◌∷◌, ◌++◌, length, Option, Some, None, Result, Ok, Err}
+use Rattle.std.proofs.Common.{◌≡◌, ◌≢◌, ℕ, ◌^◌, ◌<◌, ◌≤◌, true, false, not, cond, eqb, List, [], ◌∷◌, ◌++◌, length, Option, Some, None, Result, Ok, Err}
 use Rattle.std.proofs.Common.{refl, sym, ap, subst, ◌∙◌, inl, inr, length-append, arith}
 use Rattle.std.proofs.lemmas.Bool.{eq-eqb}
 use Rattle.std.proofs.lemmas.List.{append-nil}
@@ -13,53 +13,23 @@ use Rattle.wk_bytes.specs.ShortLaws.{short-some}
 use Rattle.wk_bytes.specs.Span.{fault, u32_at}
 use Rattle.wk_bytes.specs.SpanLaws.{err_is, IsBytes-after}
 use Rattle.wk_bytes.specs.Stands.{Stands}
-use Rattle.wk_bytes.specs.StandsLaws.{ReadsFront, Stands-later, stands_as}
+use Rattle.wk_bytes.specs.StandsLaws.{Stands-later, stands_as}
 use Rattle.wk_body.specs.declared.types.Profile.{Profile}
 use Rattle.wk_body.specs.Bodies.{BodyOf}
 use Rattle.wk_body.specs.Shape.{IsU32}
 use Rattle.wk_body.specs.Vectors.{SpellsVector, items_at, vector_at, written_vector}
 use Rattle.wk_module.specs.declared.types.FuncType.{FuncType}
-use Rattle.wk_module.specs.FormatLaws.{CodeLaws, IsFormat, CountIs, IsSection, SectionLaws}
+use Rattle.wk_module.specs.FormatLaws.{CodeLaws, IsFormat, IsContents, SectionLaws}
 use Rattle.wk_module.specs.Formats.{Reader, made_at}
 use Rattle.wk_module.specs.Types.{SpellsFuncType, functype_at, written_functype}
 use Rattle.wk_module.specs.Items.{SpellsCode, code_at, written_code, IsCode}
-use Rattle.wk_module.specs.Sections.{SectionId, TypeSection, ImportSection, FunctionSection, TableSection, MemorySection, GlobalSection, ExportSection}
-use Rattle.wk_module.specs.Sections.{StartSection, ElementSection, CodeSection, DataSection, number, is_some, is_full, SpellsStart, SpellsContents, codes_at}
-use Rattle.wk_module.specs.Sections.{contents_at, written_start, written_contents, IsStart, AreItems, AreValid}
+use Rattle.wk_module.specs.Sections.{TypeSection, ImportSection, FunctionSection, TableSection, MemorySection, GlobalSection, ExportSection}
+use Rattle.wk_module.specs.Sections.{StartSection, ElementSection, CodeSection, DataSection, is_some, SpellsStart, codes_at}
+use Rattle.wk_module.specs.Sections.{written_start, IsStart, AreItems}
 use Rattle.wk_module.proofs.Formats.{u32_format, made_front, made_steps, made_again, valid_as, items_found, items_again, items_front, vector_made}
 use Rattle.wk_module.proofs.Formats.{vector_format, joined, both_parts}
 use Rattle.wk_module.proofs.ItemFormats.{functype_format, limits_format, tabletype_format, import_format, export_format, global_format, elem_format}
 use Rattle.wk_module.proofs.ItemFormats.{code_format, data_format}
-
--- ---- the contents of a section whose type is known
-
--- the laws of a section, where its contents are of the type X
-record IsContents {X : Type 0} (id : ℕ) (Counts : ℕ → X → Type 0) (full_at : X → Bool) (Valid : X → Type 0) (Spells : List ℕ → X → Type 0)
-    (read : ℕ → Reader X) (written : X → List ℕ) : Type 0 where
-  found : (funcs end : ℕ) (bytes : List ℕ) (x : X) (rest : List ℕ) → IsBytes bytes → read funcs end bytes ≡ Ok (x, rest)
-      → (b : List ℕ) × Spells b x × (bytes ≡ b ++ rest)
-  again : (funcs end : ℕ) (b : List ℕ) (x : X) (rest : List ℕ) → Counts funcs x → Spells b x → read funcs end (b ++ rest) ≡ Ok (x, rest)
-  fronts : (funcs : ℕ) → ReadsFront (read funcs)
-  some : (x : X) → full_at x ≡ true → 0 < length (written x)
-  spells : (x : X) → full_at x ≡ true → Valid x → length (written x) < 2 ^ 32 → Spells (written x) x
-  least : (b : List ℕ) (x : X) → Spells b x → length (written x) ≤ length b
-  valid : (b : List ℕ) (x : X) → IsBytes b → Spells b x → Valid x
-  empty : (b : List ℕ) (x : X) → Spells b x → full_at x ≡ false → (id ≢ 8) × SpellsU 32 b 0
-  full : (b : List ℕ) (x : X) → Spells b x → full_at x ≡ true → id ≢ 8 → SpellsU 32 b 0 → ⊥
-
-section_is : (profile : Profile) (k : SectionId) → IsContents (number k) (CountIs k) (is_full k) (AreValid profile k) (SpellsContents profile k)
-    (λ funcs. contents_at profile funcs k) (written_contents k) → IsSection profile k
-section_is profile k is = record {
-  found = is.found;
-  again = is.again;
-  fronts = is.fronts;
-  some = is.some;
-  spells = is.spells;
-  least = is.least;
-  valid = is.valid;
-  empty = is.empty;
-  full = is.full;
-}
 
 -- ---- empty vectors
 
@@ -248,14 +218,14 @@ module _ (profile : Profile) (laws : CodeLaws profile) where
 -- ---- all sections
 
 pub section_laws : (profile : Profile) → CodeLaws profile → SectionLaws profile
-section_laws profile laws TypeSection = section_is profile TypeSection (vector_contents 1 (λ e. omega arith) types_format)
-section_laws profile laws ImportSection = section_is profile ImportSection (vector_contents 2 (λ e. omega arith) (items_format import_format))
-section_laws profile laws FunctionSection = section_is profile FunctionSection (vector_contents 3 (λ e. omega arith) (items_format u32_format))
-section_laws profile laws TableSection = section_is profile TableSection (vector_contents 4 (λ e. omega arith) (items_format tabletype_format))
-section_laws profile laws MemorySection = section_is profile MemorySection (vector_contents 5 (λ e. omega arith) (items_format limits_format))
-section_laws profile laws GlobalSection = section_is profile GlobalSection (vector_contents 6 (λ e. omega arith) (items_format (global_format profile laws)))
-section_laws profile laws ExportSection = section_is profile ExportSection (vector_contents 7 (λ e. omega arith) (items_format export_format))
-section_laws profile laws StartSection = section_is profile StartSection start_contents
-section_laws profile laws ElementSection = section_is profile ElementSection (vector_contents 9 (λ e. omega arith) (items_format (elem_format profile laws)))
-section_laws profile laws CodeSection = section_is profile CodeSection (codes_contents profile laws)
-section_laws profile laws DataSection = section_is profile DataSection (vector_contents 11 (λ e. omega arith) (items_format (data_format profile laws)))
+section_laws profile laws TypeSection = vector_contents 1 (λ e. omega arith) types_format
+section_laws profile laws ImportSection = vector_contents 2 (λ e. omega arith) (items_format import_format)
+section_laws profile laws FunctionSection = vector_contents 3 (λ e. omega arith) (items_format u32_format)
+section_laws profile laws TableSection = vector_contents 4 (λ e. omega arith) (items_format tabletype_format)
+section_laws profile laws MemorySection = vector_contents 5 (λ e. omega arith) (items_format limits_format)
+section_laws profile laws GlobalSection = vector_contents 6 (λ e. omega arith) (items_format (global_format profile laws))
+section_laws profile laws ExportSection = vector_contents 7 (λ e. omega arith) (items_format export_format)
+section_laws profile laws StartSection = start_contents
+section_laws profile laws ElementSection = vector_contents 9 (λ e. omega arith) (items_format (elem_format profile laws))
+section_laws profile laws CodeSection = codes_contents profile laws
+section_laws profile laws DataSection = vector_contents 11 (λ e. omega arith) (items_format (data_format profile laws))

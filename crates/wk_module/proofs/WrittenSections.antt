@@ -9,8 +9,8 @@ use Rattle.wk_module.specs.declared.types.Custom.{Custom}
 use Rattle.wk_module.specs.declared.types.Parts.{Parts}
 use Rattle.wk_module.specs.Customs.{IsEmptyFrame}
 use Rattle.wk_module.specs.FormatLaws.{SectionLaws}
-use Rattle.wk_module.specs.Sections.{SectionId, TypeSection, ImportSection, FunctionSection, TableSection, MemorySection, GlobalSection, ExportSection}
-use Rattle.wk_module.specs.Sections.{StartSection, ElementSection, CodeSection, DataSection, number, of_number, ContentsOf, SectionLists, contents, omitted}
+use Rattle.wk_module.specs.Sections.{SectionId, TypeSection}
+use Rattle.wk_module.specs.Sections.{StartSection, number, of_number, ContentsOf, SectionLists, contents, omitted}
 use Rattle.wk_module.specs.Sections.{is_full, is_some, SpellsContents, written_contents}
 use Rattle.wk_module.specs.Shape.{lists_of, is_written, is_filled}
 use Rattle.wk_module.specs.Modules.{SpellsSection}
@@ -63,17 +63,8 @@ none_there None none = refl
 none_there (Some x) none = cc
 
 pub is_omitted : (k : SectionId) (x : ContentsOf k) → is_full k x ≡ false → x ≡ omitted k
-is_omitted TypeSection = nothing_there
-is_omitted ImportSection = nothing_there
-is_omitted FunctionSection = nothing_there
-is_omitted TableSection = nothing_there
-is_omitted MemorySection = nothing_there
-is_omitted GlobalSection = nothing_there
-is_omitted ExportSection = nothing_there
 is_omitted StartSection = none_there
-is_omitted ElementSection = nothing_there
-is_omitted CodeSection = nothing_there
-is_omitted DataSection = nothing_there
+is_omitted _ = nothing_there
 
 -- ---- frames of sections
 

@@ -1,5 +1,5 @@
 -- What laws of formats say: of the code that lies in a module, of an item of a list, and of the contents of a section.
-use Rattle.std.proofs.Common.{◌≡◌, ◌≢◌, ℕ, ◌<◌, ◌≤◌, ◌^◌, true, false, List, ◌++◌, length, Ok}
+use Rattle.std.proofs.Common.{◌≡◌, ◌≢◌, ℕ, ◌<◌, ◌≤◌, ◌^◌, Bool, true, false, List, ◌++◌, length, Ok}
 use Rattle.wk_bytes.specs.Leb.{SpellsU}
 use Rattle.wk_bytes.specs.LebLaws.{IsBytes}
 use Rattle.wk_bytes.specs.StandsLaws.{ReadsFront}
@@ -42,20 +42,24 @@ abbrev pub CountIs : (k : SectionId) → ℕ → ContentsOf k → Type 0
 CountIs CodeSection funcs bodies = length bodies ≡ funcs
 CountIs _ funcs x = Unit {0}
 
--- The same of the contents of a section, which may be empty: then they are a count of zero, and are not written.
-pub record IsSection (profile : Profile) (k : SectionId) : Type 0 where
-  pub found : (funcs end : ℕ) (bytes : List ℕ) (x : ContentsOf k) (rest : List ℕ) → IsBytes bytes → contents_at profile funcs k end bytes ≡ Ok (x, rest)
-      → (b : List ℕ) × SpellsContents profile k b x × (bytes ≡ b ++ rest)
-  pub again : (funcs end : ℕ) (b : List ℕ) (x : ContentsOf k) (rest : List ℕ) → CountIs k funcs x → SpellsContents profile k b x
-      → contents_at profile funcs k end (b ++ rest) ≡ Ok (x, rest)
-  pub fronts : (funcs : ℕ) → ReadsFront (contents_at profile funcs k)
-  pub some : (x : ContentsOf k) → is_full k x ≡ true → 0 < length (written_contents k x)
-  pub spells : (x : ContentsOf k) → is_full k x ≡ true → AreValid profile k x → length (written_contents k x) < 2 ^ 32
-      → SpellsContents profile k (written_contents k x) x
-  pub least : (b : List ℕ) (x : ContentsOf k) → SpellsContents profile k b x → length (written_contents k x) ≤ length b
-  pub valid : (b : List ℕ) (x : ContentsOf k) → IsBytes b → SpellsContents profile k b x → AreValid profile k x
-  pub empty : (b : List ℕ) (x : ContentsOf k) → SpellsContents profile k b x → is_full k x ≡ false → (number k ≢ 8) × SpellsU 32 b 0
-  pub full : (b : List ℕ) (x : ContentsOf k) → SpellsContents profile k b x → is_full k x ≡ true → number k ≢ 8 → SpellsU 32 b 0 → ⊥
+-- The same of the contents of the section of an id, which are of the type X and may be empty: then they are a count of zero, and are
+-- not written.
+pub record IsContents {X : Type 0} (id : ℕ) (Counts : ℕ → X → Type 0) (full_at : X → Bool) (Valid : X → Type 0) (Spells : List ℕ → X → Type 0)
+    (read : ℕ → Reader X) (written : X → List ℕ) : Type 0 where
+  pub found : (funcs end : ℕ) (bytes : List ℕ) (x : X) (rest : List ℕ) → IsBytes bytes → read funcs end bytes ≡ Ok (x, rest)
+      → (b : List ℕ) × Spells b x × (bytes ≡ b ++ rest)
+  pub again : (funcs end : ℕ) (b : List ℕ) (x : X) (rest : List ℕ) → Counts funcs x → Spells b x → read funcs end (b ++ rest) ≡ Ok (x, rest)
+  pub fronts : (funcs : ℕ) → ReadsFront (read funcs)
+  pub some : (x : X) → full_at x ≡ true → 0 < length (written x)
+  pub spells : (x : X) → full_at x ≡ true → Valid x → length (written x) < 2 ^ 32 → Spells (written x) x
+  pub least : (b : List ℕ) (x : X) → Spells b x → length (written x) ≤ length b
+  pub valid : (b : List ℕ) (x : X) → IsBytes b → Spells b x → Valid x
+  pub empty : (b : List ℕ) (x : X) → Spells b x → full_at x ≡ false → (id ≢ 8) × SpellsU 32 b 0
+  pub full : (b : List ℕ) (x : X) → Spells b x → full_at x ≡ true → id ≢ 8 → SpellsU 32 b 0 → ⊥
+
+abbrev pub IsSection : Profile → SectionId → Type 0
+IsSection profile k = IsContents (number k) (CountIs k) (is_full k) (AreValid profile k) (SpellsContents profile k)
+    (λ funcs. contents_at profile funcs k) (written_contents k)
 
 -- of the sections of modules of a profile
 abbrev pub SectionLaws : Profile → Type 0
