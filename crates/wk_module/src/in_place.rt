@@ -23,44 +23,23 @@ pub struct ExportRef<'a> {
     pub index: u32,
 }
 
-// An import, of which what is imported is kept.
-#[tactic(auto, using(crate::proofs::InPlace::stands_sure), unfolding(crate::specs::Formats::made_at, crate::specs::Formats::both_at))]
-fn take_import_desc(cursor: &mut Cursor<'_>) -> Result<ImportDesc, ReadFault>
-    ensures exact { Parses (λ d. d) import_desc_at cursor.old result cursor.new }
-    ensures sure { IfErr result (λ e. e.kind ≢ ReadKind.Memory) }
-{
-    let _from = cursor.name()?;
-    let _name = cursor.name()?;
-    read_desc(cursor)
-}
-
 /// Reads an import (5.5.5), and gives what is imported. Both of its names are read and let go. It takes no memory.
 ///
 /// # Errors
 ///
 /// The first fault, at its offset. The cursor is then as before.
-#[tactic(auto, using(crate::proofs::InPlace::import_desc_stands))]
+#[tactic(auto, using(crate::proofs::InPlace::stands_sure, crate::proofs::InPlace::import_desc_stands), unfolding(crate::specs::Formats::made_at, crate::specs::Formats::both_at))]
 pub fn read_import_desc(cursor: &mut Cursor<'_>) -> Result<ImportDesc, ReadFault>
     ensures exact { Parses (λ d. d) import_desc_at cursor.old result cursor.new }
     ensures fault { IfErr result (λ e. Stands cursor.old e) }
     ensures left { OnErr result (cursor.new ≡ cursor.old) }
 {
     let mut ahead = cursor.ahead();
-    let desc = take_import_desc(&mut ahead)?;
+    let _from = ahead.name()?;
+    let _name = ahead.name()?;
+    let desc = read_desc(&mut ahead)?;
     *cursor = ahead;
     Ok(desc)
-}
-
-// An export, whose name is lent.
-#[tactic(auto, using(crate::proofs::InPlace::stands_sure), unfolding(crate::specs::Formats::made_at, crate::specs::Formats::both_at))]
-fn take_export<'a>(cursor: &mut Cursor<'a>) -> Result<ExportRef<'a>, ReadFault>
-    ensures exact { Parses export_view export_at cursor.old result cursor.new }
-    ensures sure { IfErr result (λ e. e.kind ≢ ReadKind.Memory) }
-{
-    let name = cursor.name()?;
-    let kind = read_kind(cursor)?;
-    let index = cursor.u32()?;
-    Ok(ExportRef { name, kind, index })
 }
 
 /// Reads an export (5.5.10), and lends its name. It takes no memory.
@@ -68,16 +47,18 @@ fn take_export<'a>(cursor: &mut Cursor<'a>) -> Result<ExportRef<'a>, ReadFault>
 /// # Errors
 ///
 /// The first fault, at its offset. The cursor is then as before.
-#[tactic(auto, using(crate::proofs::InPlace::export_stands))]
+#[tactic(auto, using(crate::proofs::InPlace::stands_sure, crate::proofs::InPlace::export_stands), unfolding(crate::specs::Formats::made_at, crate::specs::Formats::both_at))]
 pub fn read_export<'a>(cursor: &mut Cursor<'a>) -> Result<ExportRef<'a>, ReadFault>
     ensures exact { Parses export_view export_at cursor.old result cursor.new }
     ensures fault { IfErr result (λ e. Stands cursor.old e) }
     ensures left { OnErr result (cursor.new ≡ cursor.old) }
 {
     let mut ahead = cursor.ahead();
-    let export = take_export(&mut ahead)?;
+    let name = ahead.name()?;
+    let kind = read_kind(&mut ahead)?;
+    let index = ahead.u32()?;
     *cursor = ahead;
-    Ok(export)
+    Ok(ExportRef { name, kind, index })
 }
 
 /// Reads a table type (5.3.6), and gives its limits. It takes no memory.
@@ -131,29 +112,20 @@ pub fn read_global_type(cursor: &mut Cursor<'_>) -> Result<GlobalType, ReadFault
     Ok(ty)
 }
 
-// A size and as many bytes.
-#[tactic(auto, using(crate::proofs::InPlace::stands_sure), unfolding(crate::specs::Formats::bytes_at))]
-fn take_sized<'a>(cursor: &mut Cursor<'a>) -> Result<&'a [u8], ReadFault>
-    ensures exact { Parses (λ x. x.now) bytes_at cursor.old result cursor.new }
-    ensures sure { IfErr result (λ e. e.kind ≢ ReadKind.Memory) }
-{
-    let size = cursor.u32()?;
-    cursor.take(size)
-}
-
 /// Reads a size and as many bytes (5.1.3), which it lends: those of a data segment (5.5.14), for one. It takes no memory.
 ///
 /// # Errors
 ///
 /// The first fault, at its offset. The cursor is then as before.
-#[tactic(auto, using(crate::proofs::InPlace::bytes_stand))]
+#[tactic(auto, using(crate::proofs::InPlace::stands_sure, crate::proofs::InPlace::bytes_stand), unfolding(crate::specs::Formats::bytes_at))]
 pub fn read_sized_bytes<'a>(cursor: &mut Cursor<'a>) -> Result<&'a [u8], ReadFault>
     ensures exact { Parses (λ x. x.now) bytes_at cursor.old result cursor.new }
     ensures fault { IfErr result (λ e. Stands cursor.old e) }
     ensures left { OnErr result (cursor.new ≡ cursor.old) }
 {
     let mut ahead = cursor.ahead();
-    let bytes = take_sized(&mut ahead)?;
+    let size = ahead.u32()?;
+    let bytes = ahead.take(size)?;
     *cursor = ahead;
     Ok(bytes)
 }
