@@ -13,17 +13,9 @@ use Rattle.wk_module.specs.Shape.{lists_of, IsFormed}
 
 -- the same of one section. Of the codes, which are no list that is lent, nothing is said.
 abbrev pub IsNumbered : (k : SectionId) → ContentsOf k → Type 0
-IsNumbered TypeSection xs = IsU32 (length xs)
-IsNumbered ImportSection xs = IsU32 (length xs)
-IsNumbered FunctionSection xs = IsU32 (length xs)
-IsNumbered TableSection xs = IsU32 (length xs)
-IsNumbered MemorySection xs = IsU32 (length xs)
-IsNumbered GlobalSection xs = IsU32 (length xs)
-IsNumbered ExportSection xs = IsU32 (length xs)
 IsNumbered StartSection x = Unit {0}
-IsNumbered ElementSection xs = IsU32 (length xs)
 IsNumbered CodeSection xs = Unit {0}
-IsNumbered DataSection xs = IsU32 (length xs)
+IsNumbered _ xs = IsU32 (length xs)
 
 pub all_numbered : (l : SectionLists) → ((k : SectionId) → IsNumbered k (contents l k)) → AreNumbered l
 all_numbered l each = record {

@@ -112,17 +112,8 @@ contents l DataSection = l.datas
 
 -- what a section holds where it is left out
 abbrev pub omitted : (k : SectionId) → ContentsOf k
-omitted TypeSection = []
-omitted ImportSection = []
-omitted FunctionSection = []
-omitted TableSection = []
-omitted MemorySection = []
-omitted GlobalSection = []
-omitted ExportSection = []
 omitted StartSection = None
-omitted ElementSection = []
-omitted CodeSection = []
-omitted DataSection = []
+omitted _ = []
 
 abbrev pub no_lists : SectionLists
 no_lists = record {
@@ -187,31 +178,13 @@ is_some (Some x) = true
 
 -- whether the section is not empty, so that it is written
 abbrev pub is_full : (k : SectionId) → ContentsOf k → Bool
-is_full TypeSection xs = not (is_empty xs)
-is_full ImportSection xs = not (is_empty xs)
-is_full FunctionSection xs = not (is_empty xs)
-is_full TableSection xs = not (is_empty xs)
-is_full MemorySection xs = not (is_empty xs)
-is_full GlobalSection xs = not (is_empty xs)
-is_full ExportSection xs = not (is_empty xs)
 is_full StartSection x = is_some x
-is_full ElementSection xs = not (is_empty xs)
-is_full CodeSection xs = not (is_empty xs)
-is_full DataSection xs = not (is_empty xs)
+is_full _ xs = not (is_empty xs)
 
 -- how many items it holds; the start section is no list
 abbrev pub item_count : (k : SectionId) → ContentsOf k → ℕ
-item_count TypeSection xs = length xs
-item_count ImportSection xs = length xs
-item_count FunctionSection xs = length xs
-item_count TableSection xs = length xs
-item_count MemorySection xs = length xs
-item_count GlobalSection xs = length xs
-item_count ExportSection xs = length xs
 item_count StartSection x = 0
-item_count ElementSection xs = length xs
-item_count CodeSection xs = length xs
-item_count DataSection xs = length xs
+item_count _ xs = length xs
 
 -- ---- in the grammar
 
