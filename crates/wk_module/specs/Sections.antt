@@ -126,35 +126,24 @@ no_lists = record {
   exports = [];
   start = None;
   elems = [];
-  codes =
-      [];
+  codes = [];
   datas = [];
 }
 
 -- x where j is k, and else what k held before
 abbrev pub pick : (k j : SectionId) → ContentsOf j → ContentsOf k → ContentsOf k
 pick TypeSection TypeSection x old = x
-pick TypeSection _ x old = old
 pick ImportSection ImportSection x old = x
-pick ImportSection _ x old = old
 pick FunctionSection FunctionSection x old = x
-pick FunctionSection _ x old = old
 pick TableSection TableSection x old = x
-pick TableSection _ x old = old
 pick MemorySection MemorySection x old = x
-pick MemorySection _ x old = old
 pick GlobalSection GlobalSection x old = x
-pick GlobalSection _ x old = old
 pick ExportSection ExportSection x old = x
-pick ExportSection _ x old = old
 pick StartSection StartSection x old = x
-pick StartSection _ x old = old
 pick ElementSection ElementSection x old = x
-pick ElementSection _ x old = old
 pick CodeSection CodeSection x old = x
-pick CodeSection _ x old = old
 pick DataSection DataSection x old = x
-pick DataSection _ x old = old
+pick _ _ x old = old
 
 -- other contents for one section
 abbrev pub with_contents : (j : SectionId) → ContentsOf j → SectionLists → SectionLists
