@@ -52,19 +52,11 @@ rows_same id k (f ∷ fs) (g ∷ gs) same =
 
 details_kept : (m p : Parts) (k : Option SectionId) → IsSketch m p → (k ≡ Some CodeSection → ⊥) → details_by p k ≡ details_by m k
 details_kept m p None same other = refl
-details_kept m p (Some TypeSection) same other = ap (λ (q : Parts). section_details q TypeSection) same.rest
-details_kept m p (Some ImportSection) same other = ap (λ (q : Parts). section_details q ImportSection) same.rest
 details_kept m p (Some FunctionSection) same other =
     ap (λ (q : Parts). group 3 (λ n. func_line (count_of kinds.Func q.imports + n)) p.funcs) same.rest
     ∙ rows_same 3 (count_of kinds.Func m.imports) p.funcs m.funcs same.types
-details_kept m p (Some TableSection) same other = ap (λ (q : Parts). section_details q TableSection) same.rest
-details_kept m p (Some MemorySection) same other = ap (λ (q : Parts). section_details q MemorySection) same.rest
-details_kept m p (Some GlobalSection) same other = ap (λ (q : Parts). section_details q GlobalSection) same.rest
-details_kept m p (Some ExportSection) same other = ap (λ (q : Parts). section_details q ExportSection) same.rest
-details_kept m p (Some StartSection) same other = ap (λ (q : Parts). section_details q StartSection) same.rest
-details_kept m p (Some ElementSection) same other = ap (λ (q : Parts). section_details q ElementSection) same.rest
 details_kept m p (Some CodeSection) same other = absurd (other refl)
-details_kept m p (Some DataSection) same other = ap (λ (q : Parts). section_details q DataSection) same.rest
+details_kept m p (Some k) same other = ap (λ (q : Parts). section_details q k) same.rest
 
 pub section_same : (m p : Parts) (id : ℕ) → IsSketch m p → id ≢ 10 → details_by p (of_number id) ≡ details_by m (of_number id)
 section_same m p id same other = details_kept m p (of_number id) same (λ e. other (number-of_number id CodeSection e))

@@ -70,12 +70,4 @@ pub tail_same : (m d : Parts) → IsSketch m d → (k : Option SectionId) → ta
 tail_same m d is None = refl
 tail_same m d is (Some FunctionSection) = ap count_text (many_funcs m d is)
 tail_same m d is (Some CodeSection) = ap count_text (many_funcs m d is)
-tail_same m d is (Some TypeSection) = ap (λ (p : Parts). header_tail p TypeSection) is.rest
-tail_same m d is (Some ImportSection) = ap (λ (p : Parts). header_tail p ImportSection) is.rest
-tail_same m d is (Some TableSection) = ap (λ (p : Parts). header_tail p TableSection) is.rest
-tail_same m d is (Some MemorySection) = ap (λ (p : Parts). header_tail p MemorySection) is.rest
-tail_same m d is (Some GlobalSection) = ap (λ (p : Parts). header_tail p GlobalSection) is.rest
-tail_same m d is (Some ExportSection) = ap (λ (p : Parts). header_tail p ExportSection) is.rest
-tail_same m d is (Some StartSection) = ap (λ (p : Parts). header_tail p StartSection) is.rest
-tail_same m d is (Some ElementSection) = ap (λ (p : Parts). header_tail p ElementSection) is.rest
-tail_same m d is (Some DataSection) = ap (λ (p : Parts). header_tail p DataSection) is.rest
+tail_same m d is (Some k) = ap (λ (p : Parts). header_tail p k) is.rest
