@@ -43,18 +43,13 @@ each_numbered l few ElementSection = few.elems
 each_numbered l few CodeSection = tt
 each_numbered l few DataSection = few.datas
 
+none_numbered : (k : SectionId) → IsNumbered k (contents no_lists k)
+none_numbered StartSection = tt
+none_numbered CodeSection = tt
+none_numbered _ = omega arith
+
 pub no_lists_numbered : AreNumbered no_lists
-no_lists_numbered = record {
-  types = omega arith;
-  imports = omega arith;
-  funcs = omega arith;
-  tables = omega arith;
-  memories = omega arith;
-  globals = omega arith;
-  exports = omega arith;
-  elems = omega arith;
-  datas = omega arith;
-}
+no_lists_numbered = all_numbered no_lists none_numbered
 
 -- other contents of one section leave the others
 pub numbered_with : (j : SectionId) (x : ContentsOf j) (l : SectionLists) → IsNumbered j x → AreNumbered l → AreNumbered (with_contents j x l)
