@@ -99,31 +99,14 @@ module _ (l : SectionLists) (cs : List Custom) (bodies : List BodyOf) (x : List 
 
   by_front : (k : Option SectionId) → k ≢ Some CodeSection → k ≢ Some DataSection → contents_by (bare l) k ≡ contents_by Full k
   by_front None no_code no_data = refl
-  by_front (Some TypeSection) no_code no_data = refl
-  by_front (Some ImportSection) no_code no_data = refl
-  by_front (Some FunctionSection) no_code no_data = refl
-  by_front (Some TableSection) no_code no_data = refl
-  by_front (Some MemorySection) no_code no_data = refl
-  by_front (Some GlobalSection) no_code no_data = refl
-  by_front (Some ExportSection) no_code no_data = refl
-  by_front (Some StartSection) no_code no_data = refl
-  by_front (Some ElementSection) no_code no_data = refl
   by_front (Some CodeSection) no_code no_data = absurd (no_code refl)
   by_front (Some DataSection) no_code no_data = absurd (no_data refl)
+  by_front (Some _) no_code no_data = refl
 
   by_behind : (k : Option SectionId) → k ≢ Some CodeSection → contents_by Behind k ≡ contents_by Full k
   by_behind None no_code = refl
-  by_behind (Some TypeSection) no_code = refl
-  by_behind (Some ImportSection) no_code = refl
-  by_behind (Some FunctionSection) no_code = refl
-  by_behind (Some TableSection) no_code = refl
-  by_behind (Some MemorySection) no_code = refl
-  by_behind (Some GlobalSection) no_code = refl
-  by_behind (Some ExportSection) no_code = refl
-  by_behind (Some StartSection) no_code = refl
-  by_behind (Some ElementSection) no_code = refl
   by_behind (Some CodeSection) no_code = absurd (no_code refl)
-  by_behind (Some DataSection) no_code = refl
+  by_behind (Some _) no_code = refl
 
   module _ (m : Parts) (lists : lists_of m ≡ Full) (fits : Fits (record m { customs = cs })) where
     within : (k : Option SectionId) → length (contents_by Full k) ≤ limit
