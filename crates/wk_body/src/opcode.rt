@@ -1,6 +1,9 @@
 //! The opcodes that the code names, in their order (5.4). Those of loads, stores and numeric instructions are rows of `memory.rt` and
 //! `numeric.rt`: here stand the first and the last of them that the code asks for.
 
+ghost use Rattle.std.specs.Prelude.{◌≡◌};
+ghost use Rattle.wk_body.specs.Names.{opcode_name};
+
 // ---- control instructions (5.4.1); `end` closes an expression too (5.4.6)
 
 pub(crate) const UNREACHABLE: u8 = 0x00;
@@ -73,3 +76,39 @@ pub(crate) const F64_CONST: u8 = 0x44;
 pub(crate) const FIRST_NUMERIC: u8 = 0x45;
 /// `f64.reinterpret_i64`, the last opcode of 1.0. Behind it stand those of the extended profile.
 pub(crate) const LAST_CORE: u8 = 0xBF;
+
+/// The name in the text format (6.5) of an instruction that is neither a load nor a store nor numeric, of an `else` or of an `end`.
+#[inline(always)]
+pub(crate) fn name(opcode: u8) -> &'static str
+    ensures { result.now ≡ opcode_name opcode }
+{
+    match opcode {
+        UNREACHABLE => "unreachable",
+        NOP => "nop",
+        BLOCK => "block",
+        LOOP => "loop",
+        IF => "if",
+        ELSE => "else",
+        END => "end",
+        BR => "br",
+        BR_IF => "br_if",
+        BR_TABLE => "br_table",
+        RETURN => "return",
+        CALL => "call",
+        CALL_INDIRECT => "call_indirect",
+        DROP => "drop",
+        SELECT => "select",
+        LOCAL_GET => "local.get",
+        LOCAL_SET => "local.set",
+        LOCAL_TEE => "local.tee",
+        GLOBAL_GET => "global.get",
+        GLOBAL_SET => "global.set",
+        MEMORY_SIZE => "memory.size",
+        MEMORY_GROW => "memory.grow",
+        I32_CONST => "i32.const",
+        I64_CONST => "i64.const",
+        F32_CONST => "f32.const",
+        F64_CONST => "f64.const",
+        _ => "",
+    }
+}

@@ -6,6 +6,7 @@ ghost use Rattle.wk_body.specs.Names.{tok_name};
 
 use crate::memory::MemoryOp;
 use crate::numeric::NumericOp;
+use crate::opcode;
 use crate::types::BlockType;
 
 /// One token (2.4, 5.4).
@@ -80,34 +81,10 @@ impl Token {
         ensures { result.now ≡ tok_name (told [] self.now) }
     {
         match *self {
-            Token::Unreachable => "unreachable",
-            Token::Nop => "nop",
-            Token::Block { .. } => "block",
-            Token::Loop { .. } => "loop",
-            Token::If { .. } => "if",
-            Token::Else { .. } => "else",
-            Token::End => "end",
-            Token::Br(_) => "br",
-            Token::BrIf(_) => "br_if",
-            Token::BrTable { .. } => "br_table",
-            Token::Return => "return",
-            Token::Call(_) => "call",
-            Token::CallIndirect(_) => "call_indirect",
-            Token::Drop => "drop",
-            Token::Select => "select",
-            Token::LocalGet(_) => "local.get",
-            Token::LocalSet(_) => "local.set",
-            Token::LocalTee(_) => "local.tee",
-            Token::GlobalGet(_) => "global.get",
-            Token::GlobalSet(_) => "global.set",
+            Token::BrTable { .. } => opcode::name(opcode::BR_TABLE),
             Token::Access { op, .. } => op.name(),
-            Token::MemorySize => "memory.size",
-            Token::MemoryGrow => "memory.grow",
-            Token::I32Const(_) => "i32.const",
-            Token::I64Const(_) => "i64.const",
-            Token::F32Const(_) => "f32.const",
-            Token::F64Const(_) => "f64.const",
             Token::Numeric(op) => op.name(),
+            _ => opcode::name(self.operands(&[]).0),
         }
     }
 }
