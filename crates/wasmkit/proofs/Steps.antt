@@ -5,6 +5,7 @@ use Rattle.std.specs.Io.KnownBytes.{Appends}
 use Rattle.wk_bytes.specs.declared.fault.ReadFault.{ReadFault}
 use Rattle.wk_bytes.specs.Taken.{TakesFront}
 use Rattle.wk_body.specs.Reads.{FailsAs}
+use Rattle.wk_body.specs.ReadsLaws.{other_fault}
 use Rattle.wk_module.specs.declared.types.Parts.{Parts}
 use Rattle.wk_list.specs.declared.fault.ListFault.{ListFault}
 use Rattle.wk_list.specs.declared.fault.ListFault.TheVariants as lists
@@ -12,7 +13,6 @@ use Rattle.wk_list.specs.declared.listing.Part.{Part}
 use Rattle.wk_list.specs.Taken.{failed_after}
 use Rattle.wk_edit.specs.declared.fault.Status.{Status}
 use Rattle.wk_edit.specs.Outcome.{Outcome, status_code}
-use Rattle.wk_answers.specs.RefusalLaws.{other_fault}
 use Rattle.wasmkit.specs.declared.fault.ProgramFault.{ProgramFault}
 use Rattle.wasmkit.specs.declared.store.StoreFault.{StoreFault}
 use Rattle.wasmkit.specs.Answers.{Answer, answer_of, listed, on_module, saved_of, AreOf}

@@ -2,7 +2,3 @@
 pub mod Listing
 -- What `validate` prints, its status, and what both mean.
 pub mod Validation
--- ---- laws, for those who read proofs
-
--- A refusal, unless for want of memory, is the fault that the definition of reading gives.
-pub mod RefusalLaws

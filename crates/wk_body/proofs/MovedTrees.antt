@@ -1,11 +1,10 @@
 -- Tokens whose references move spell the tree whose references move, and it stays one that bytes can spell.
-use Rattle.std.proofs.Common.{◌≡◌, ℕ, zero, suc, ◌+◌, ◌<◌, ◌≤◌, Bool, true, false, List, [], ◌∷◌, ◌++◌, length, map, take, drop, get_or, refl, sym, ap}
+use Rattle.std.proofs.Common.{◌≡◌, ℕ, zero, suc, ◌+◌, ◌<◌, ◌≤◌, true, false, List, [], ◌∷◌, ◌++◌, length, map, take, drop, get_or, refl, sym, ap}
 use Rattle.std.proofs.Common.{subst, ◌∙◌, arith, Result, Ok, Err, MatchResult, IfOk}
 use Rattle.std.specs.Prelude.{◌||◌}
 use Rattle.std.specs.List.{flat_map, AllByRecursion}
-use Rattle.std.proofs.lemmas.Bool.{or_parts, or_left, or_right}
-use Rattle.std.proofs.lemmas.List.{append-nil, map-append, length-map, length-take-le, drop_more, get_or_at}
-use Rattle.std.proofs.lemmas.List.Concat.{flat_map-append}
+use Rattle.std.proofs.lemmas.Bool.{or_parts}
+use Rattle.std.proofs.lemmas.List.{map-append, length-map, length-take-le, drop_more, get_or_at}
 use Rattle.wk_body.specs.declared.references.Ref.{Ref}
 use Rattle.wk_body.specs.declared.types.Profile.{Profile}
 use Rattle.wk_body.specs.declared.renumber.Moving.{Moving}
@@ -13,7 +12,6 @@ use Rattle.wk_body.specs.declared.renumber.Moving.TheVariants as moving
 use Rattle.wk_body.specs.declared.token.Token.{Token}
 use Rattle.wk_body.specs.declared.token.Token.TheVariants as kept
 use Rattle.wk_body.specs.declared.renumber.ShiftFault.{ShiftFault}
-use Rattle.wk_body.specs.declared.renumber.ShiftFault.TheVariants as faults
 use Rattle.wk_body.specs.Instructions.{Plain, Call, GlobalGet, GlobalSet, immediates, Allows}
 use Rattle.wk_body.specs.Tree.{Instrs, Finish, One, Block, If, Tok, Simple, Open, OpenIf, Otherwise, Close, else_part, flatten, tokens_of, tree_of}
 use Rattle.wk_body.specs.TreeLaws.{tree_of-flatten}
@@ -23,7 +21,6 @@ use Rattle.wk_body.specs.Moved.{moved_kept, IsMoved, AreMoved}
 use Rattle.wk_body.specs.MovedLaws.{moved_small}
 use Rattle.wk_body.specs.Kept.{told, all_told, IsWithin, IsKept, tree_kept}
 use Rattle.wk_body.specs.Shape.{deep, AreInRange, IsInRange, IsShaped, IsOf, depth_limit}
-use Rattle.wk_body.proofs.Built.{all-push}
 use Rattle.wk_body.proofs.TreeRefs.{kept_refs}
 
 -- ---- instructions that are changed one by one

@@ -24,7 +24,7 @@ use Rattle.wk_body.specs.Reads.{FailsAs, Parses, Reads}
 use Rattle.wk_body.specs.Meaning.{FindsOnly, Takes, TakesOnly, IsReadAs, IsAllReadAs, NeverMemory}
 use Rattle.wk_body.specs.Reading.{expr_at, body_at, taking_all, all_expr_at, all_body_at, whole_at}
 use Rattle.wk_body.specs.TokenReading.{local_groups_at}
-use Rattle.wk_body.specs.ReadsLaws.{fails_on}
+use Rattle.wk_body.specs.ReadsLaws.{fails_on, other_fault}
 use Rattle.wk_body.proofs.Pieces.{Took}
 use Rattle.wk_body.proofs.GrammarParts.{expr_takes}
 use Rattle.wk_body.proofs.Grammar.{expr_again, local_groups_take, local_groups_again, body_takes, body_again}
@@ -32,11 +32,6 @@ use Rattle.wk_body.proofs.Spelled.{expr_allowed}
 use Rattle.wk_body.proofs.Standing.{ReadsFront-local_groups_at, ReadsFront-expr_at, ReadsFront-body_at, all_faults_of, all_expr_stands, all_body_stands}
 
 -- ---- faults
-
--- a refusal for another cause than memory is what reading gives
-fails_with : {Y : Type 0} (kind : ReadKind) (e : ReadFault) (read : Result Y ReadFault) → kind ≢ Memory → FailsAs e kind read → read ≡ Err e
-fails_with Memory e read other f = absurd (other refl)
-fails_with _ e read other f = f
 
 stands_by : {Y : Type 0} (s : Span) (kind : ReadKind) (at : ℕ) (read : Result Y ReadFault)
     → (read ≡ Err (record { kind = kind; at = at }) → Stands s (record { kind = kind; at = at }))
@@ -79,7 +74,7 @@ module _ {V : Type 0} (Spells : V → List ℕ → Type 0) (read : ℕ → List 
             (one.1, one.0),
       )
   takes_only view old new (Err e) fits given = λ other w c later s parts.
-      not_both (read old.end old.rest) e (w, later) (fails_with e.kind e _ other given.0) (ap (read old.end) parts ∙ is.again old.end w c later s)
+      not_both (read old.end old.rest) e (w, later) (other_fault e e.kind _ other given.0) (ap (read old.end) parts ∙ is.again old.end w c later s)
 
   pub takes_stand : {X : Type 0} (view : X → V) (old new : Span) (result : Result X ReadFault) → length old.rest ≤ old.end
       → Takes view read old result new → IfErr result (λ e. StandsOrMemory old e)
@@ -120,7 +115,7 @@ module _ {V : Type 0} (Spells : V → List ℕ → Type 0) (read : ℕ → List 
       → Reads view result (all_at end bytes) → FindsOnly view Spells bytes result
   finds_only view end bytes (Ok x) fits few given =
       ((few, all_takes end bytes (view x) fits given), λ w s. ok_is w (view x) (sym (all_again end bytes w s.1) ∙ given))
-  finds_only view end bytes (Err e) fits few given = λ other w s. not_both (all_at end bytes) e w (fails_with e.kind e _ other given)
+  finds_only view end bytes (Err e) fits few given = λ other w s. not_both (all_at end bytes) e w (other_fault e e.kind _ other given)
       (all_again end bytes w s.1)
 
 -- ---- expressions and bodies

@@ -8,6 +8,7 @@ use Rattle.wk_bytes.specs.declared.fault.ReadFault.{ReadFault}
 use Rattle.wk_module.specs.declared.types.Parts.{Parts}
 use Rattle.wk_body.specs.declared.types.Profile.{Profile}
 use Rattle.wk_body.specs.Reads.{FailsAs}
+use Rattle.wk_body.specs.ReadsLaws.{other_fault}
 use Rattle.wk_module.specs.ListReading.{IsReading}
 use Rattle.wk_module.specs.ModuleLaws.{SpellOne}
 use Rattle.wk_module.specs.Modules.{Spells}
@@ -80,10 +81,6 @@ outcome_malformed : (keep : Bool) (profile : Profile) (input script : List ℕ) 
     → outcome_of keep profile input script ≡ malformed_outcome e
 unfolding outcome_of
 outcome_malformed keep profile input script e read = rw read refl
-
-other_fault : (e : ReadFault) (k : ReadKind) (read : Result Parts ReadFault) → k ≢ ReadKind.Memory → FailsAs e k read → read ≡ Err e
-other_fault e ReadKind.Memory read other fails = absurd (other refl)
-other_fault e _ read other fails = fails
 
 -- bytes that are read again spell the same module
 pub same_module : (profile : Profile) (lent bytes : List ℕ) (s m : Parts) → lent ≡ bytes → module_at profile lent ≡ Ok s

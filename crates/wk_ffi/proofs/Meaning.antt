@@ -6,10 +6,10 @@ use Rattle.wk_bytes.specs.declared.fault.ReadKind.TheVariants.{Memory}
 use Rattle.wk_bytes.specs.Stands.{StandsIn}
 use Rattle.wk_body.specs.declared.types.Profile.{Profile}
 use Rattle.wk_body.specs.Reads.{FailsAs}
+use Rattle.wk_body.specs.ReadsLaws.{other_fault}
 use Rattle.wk_module.specs.declared.types.Parts.{Parts}
 use Rattle.wk_module.specs.ListReading.{IsReading}
 use Rattle.wk_module.specs.Modules.{SpellsNone}
-use Rattle.wk_answers.specs.RefusalLaws.{other_fault}
 use Rattle.wk_ffi.specs.Meanings.{MeansNone, MeansListed, MeansStripped}
 
 -- where it was no want of memory

@@ -4,7 +4,6 @@ use Rattle.std.proofs.Common.{subst, ◌∙◌, append_assoc, inl, inr, arith}
 use Rattle.std.proofs.lemmas.Bool.{eqb-true, ne_eqb, eq-eqb, cases_Bool, cond-true, cond-false, MatchBool-at_true, MatchBool-at_false}
 use Rattle.std.proofs.lemmas.List.{append-nil}
 use Rattle.std.specs.Prelude.{IfOk, IfErr}
-use Rattle.wk_bytes.specs.declared.fault.ReadKind.{ReadKind}
 use Rattle.wk_bytes.specs.declared.fault.ReadKind.TheVariants.{FuncCodeCount, Memory}
 use Rattle.wk_bytes.specs.declared.fault.ReadFault.{ReadFault}
 use Rattle.wk_bytes.specs.LebLaws.{IsBytes, bind_ok, chosen, done, ok_is}
@@ -16,7 +15,8 @@ use Rattle.wk_bytes.specs.Frames.{Frame, Section, MayCome, frame_of, SpellsFrame
 use Rattle.wk_bytes.specs.FrameLaws.{contents_bytes, sections_of-found, sections_of-again}
 use Rattle.wk_body.specs.declared.types.Profile.{Profile}
 use Rattle.wk_body.specs.Bodies.{BodyOf}
-use Rattle.wk_body.specs.Reads.{FailsAs, Reads}
+use Rattle.wk_body.specs.Reads.{Reads}
+use Rattle.wk_body.specs.ReadsLaws.{other_fault}
 use Rattle.wk_module.specs.declared.types.Custom.{Custom}
 use Rattle.wk_module.specs.declared.types.Func.{Func}
 use Rattle.wk_module.specs.declared.types.Parts.{Parts}
@@ -158,10 +158,6 @@ joined_is profile end p m e =
 
 pub joined_again : (profile : Profile) (end : ℕ) (p : Progress) → length p.lists.funcs ≡ length p.lists.codes → joined profile end p ≡ Ok (module_of profile p)
 joined_again profile end p e = rw (eq-eqb (length p.lists.funcs) (length p.lists.codes) e) refl
-
-pub unless_memory : {Y : Type 0} (e : ReadFault) (k : ReadKind) (read : Result Y ReadFault) → k ≢ Memory → FailsAs e k read → read ≡ Err e
-unless_memory e Memory read other fails = absurd (other refl)
-unless_memory e _ read other fails = fails
 
 -- what was read is settled already, so that settling it gives the same
 pub read_settled : (profile : Profile) (b : List ℕ) (m r : Parts) → module_at profile b ≡ Ok m → settle m ≡ m → r ≡ settle m → module_at profile b ≡ Ok r
@@ -513,7 +509,7 @@ module _ (profile : Profile) (sections : SectionLaws profile) where
   pub answer_refused : (b : List ℕ) (r : Result Parts ReadFault) → Reads (λ m. m) r (module_at profile b)
       → IfErr r (λ e. e.kind ≢ Memory → SpellsNone profile b)
   answer_refused b (Ok m) reads = tt
-  answer_refused b (Err e) reads = λ other. module_none b e (unless_memory e e.kind (module_at profile b) other reads)
+  answer_refused b (Err e) reads = λ other. module_none b e (other_fault e e.kind (module_at profile b) other reads)
 
 -- no bytes spell two modules of one profile
 pub spell_one : ((profile : Profile) → SectionLaws profile) → SpellOne

@@ -18,6 +18,7 @@ use Rattle.wk_bytes.specs.StandsLaws.{ReadsFront, ReadsFront-name_at, ReadsFront
 use Rattle.wk_bytes.specs.StandsLaws.{Stands-at_end}
 use Rattle.wk_body.specs.declared.types.Profile.{Profile}
 use Rattle.wk_body.specs.Reads.{FailsAs, Reads}
+use Rattle.wk_body.specs.ReadsLaws.{other_fault}
 use Rattle.wk_module.specs.declared.types.Custom.{Custom}
 use Rattle.wk_module.specs.declared.types.Parts.{Parts}
 use Rattle.wk_module.specs.Customs.{custom_at}
@@ -29,7 +30,6 @@ use Rattle.wk_module.specs.Sections.{SectionId, ContentsOf, SectionLists, of_num
 use Rattle.wk_module.specs.Reading.{Progress, at_start, section_end, with_custom, with_lists, section_by, with_section, sections_read, module_of, joined}
 use Rattle.wk_module.specs.Reading.{module_at}
 use Rattle.wk_module.proofs.Formats.{bytes_parts}
-use Rattle.wk_module.proofs.ModuleReading.{unless_memory}
 
 -- ---- contents
 
@@ -179,7 +179,7 @@ module _ (profile : Profile) (b : List ℕ) (is : IsReading profile b (module_at
   fault_read e read = subst (IsReading profile b) read is
 
   pub fault_refused : (e : ReadFault) → FailsAs e e.kind (module_at profile b) → e.kind ≢ Memory → SpellsNone profile b
-  fault_refused e fails other = (fault_read e (unless_memory e e.kind (module_at profile b) other fails)).0
+  fault_refused e fails other = (fault_read e (other_fault e e.kind (module_at profile b) other fails)).0
 
   pub fault_stands : (e : ReadFault) → FailsAs e e.kind (module_at profile b) → StandsIn b e
   fault_stands e = told_stands b e (module_at profile b) (λ d read. (fault_read d read).1)

@@ -1,13 +1,13 @@
 use Rattle.std.proofs.Common.{◌≡◌, Result, Ok, Err, refl, sym, ap, subst, inr, ◌∙◌}
 use Rattle.wk_bytes.specs.declared.fault.ReadFault.{ReadFault}
 use Rattle.wk_body.specs.Reads.{FailsAs, Reads}
+use Rattle.wk_body.specs.ReadsLaws.{other_fault}
 use Rattle.wk_module.specs.declared.types.Parts.{Parts}
 use Rattle.wk_module.specs.ListReading.{IsReading}
 use Rattle.wk_module.specs.Reading.{module_at}
 use Rattle.wk_typing.specs.declared.fault.Verdict.{Verdict}
 use Rattle.wk_check.specs.Spelled.{judged}
 use Rattle.wk_answers.specs.Validation.{printed, status_of}
-use Rattle.wk_answers.specs.RefusalLaws.{other_fault}
 use Rattle.wk_answers.proofs.validation.told.Goals as goal
 
 -- where there is no verdict, there is no module

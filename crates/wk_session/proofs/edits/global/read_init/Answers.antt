@@ -1,18 +1,12 @@
-use Rattle.std.proofs.Common.{◌≡◌, ◌≢◌, ◌∙◌, Result, Err, refl, sym, ap}
+use Rattle.std.proofs.Common.{◌≢◌, ◌∙◌, Result, Err, sym, ap}
 use Rattle.wk_bytes.specs.declared.fault.ReadFault.{ReadFault}
-use Rattle.wk_bytes.specs.declared.fault.ReadKind.{ReadKind}
 use Rattle.wk_bytes.specs.declared.fault.ReadKind.TheVariants.{Memory}
 use Rattle.wk_body.specs.Reading.{all_expr_at, whole_at}
-use Rattle.wk_body.specs.Reads.{FailsAs}
+use Rattle.wk_body.specs.ReadsLaws.{other_fault}
 use Rattle.wk_body.specs.Tree.{Instrs}
 use Rattle.wk_session.specs.declared.edit.EditFault.{EditFault}
 use Rattle.wk_session.specs.Edits.{from_bytes}
 use Rattle.wk_session.proofs.edits.global.read_init.Goals as goal
-
--- a refusal for another cause than memory is what reading gives
-fails_with : {Y : Type 0} (kind : ReadKind) (e : ReadFault) (read : Result Y ReadFault) → kind ≢ Memory → FailsAs e kind read → read ≡ Err e
-fails_with Memory e read other f = absurd (other refl)
-fails_with _ e read other f = f
 
 pub returns-in-Err-clause-fault : goal.returns-in-Err-clause-fault
 returns-in-Err-clause-fault c =
@@ -21,5 +15,5 @@ returns-in-Err-clause-fault c =
     let read : Result Instrs ReadFault = whole_at (all_expr_at c.args.profile) c.args.init.now in
     let not_memory : e.kind ≢ Memory = λ wants. other (c.refusal_of.ensures.memory wants) in
     let exact = rw c.as_slice.ensures at c.in-Err.ensures.exact in
-    ap from_bytes (fails_with e.kind e read not_memory exact)
+    ap from_bytes (other_fault e e.kind read not_memory exact)
     ∙ ap (λ (f : EditFault). let r : Result Instrs EditFault = Err f in r) (sym (c.refusal_of.ensures.bytes not_memory))
