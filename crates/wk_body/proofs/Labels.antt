@@ -4,7 +4,7 @@ use Rattle.std.proofs.Common.{append_assoc, arith, length-append}
 use Rattle.std.specs.List.{AllByRecursion}
 use Rattle.std.proofs.lemmas.List.{append-nil, take-append-le, drop-append-le, drop_at, length-drop, length-map, take_all}
 use Rattle.wk_bytes.specs.declared.fault.ReadFault.{ReadFault}
-use Rattle.wk_bytes.specs.Leb.{◌>>=◌}
+use Rattle.wk_bytes.specs.Leb.{◌>>=◌, IsIntKind, lastU}
 use Rattle.wk_bytes.specs.LebLaws.{bind_ok}
 use Rattle.wk_bytes.specs.Span.{Span, u32_at}
 use Rattle.wk_bytes.specs.SpanLaws.{ok_is, u32_at-shorter}
@@ -15,6 +15,9 @@ use Rattle.wk_body.specs.Instructions.{BrTable}
 use Rattle.wk_body.specs.Tree.{Tok, Simple, over, before}
 use Rattle.wk_body.specs.Kept.{told, all_told, IsWithin}
 use Rattle.wk_body.specs.Vectors.{items_at, vector_at}
+use Rattle.wk_body.specs.Reads.{FailsAs}
+use Rattle.wk_body.specs.ReadsLaws.{fails_on}
+use Rattle.wk_body.proofs.Faults.{fails_int}
 use Rattle.wk_body.specs.Reading.{labels_at, after}
 use Rattle.wk_body.specs.Building.{Good, Adds, Labelled, ReadsLabels, ReadsPlain, toks_of, kinds_of, size_of}
 
@@ -109,11 +112,11 @@ labels_more labels count i n from at to whole lt e g =
     }
 
 pub labels_stop : (labels : List ℕ) (e : ReadFault) (count i : ℕ) (from at : Span) (whole : Result (List ℕ × List ℕ) ReadFault) → i < count
-    → u32_at at.end at.rest ≡ Err e → LabelsLeft labels (count - i) from at whole → whole ≡ Err e
-labels_stop labels e count i from at whole lt h g =
+    → IsIntKind lastU 32 at.rest e.kind → u32_at at.end at.rest ≡ Err e → LabelsLeft labels (count - i) from at whole → FailsAs e e.kind whole
+labels_stop labels e count i from at whole lt int h g =
     let k : count - i ≡ suc (count - (i + 1)) = omega arith in
     let one : with_front labels (items_at u32_at (count - i) at.end at.rest) ≡ Err e = rw (k, h) refl in
-    sym g.reads ∙ one
+    fails_int lastU 32 at.rest e e.kind whole int (sym g.reads ∙ one)
 
 pub labels_done : (labels : List ℕ) (count i : ℕ) (from at : Span) (whole : Result (List ℕ × List ℕ) ReadFault) → count ≤ i
     → LabelsLeft labels (count - i) from at whole → (whole ≡ Ok (labels, at.rest)) × (at.end ≡ from.end)
@@ -223,25 +226,27 @@ table_reads old mid new start count other from counted labelled to h e r f a =
 
 -- ---- where it fails
 
-pub table_count_fails : (from : Span) (e : ReadFault) → u32_at from.end from.rest ≡ Err e → labels_at from.end from.rest ≡ Err e
+pub table_count_fails : (from : Span) (e : ReadFault) → IsIntKind lastU 32 from.rest e.kind → u32_at from.end from.rest ≡ Err e
+    → FailsAs e e.kind (labels_at from.end from.rest)
 unfolding labels_at vector_at
-table_count_fails from e h = rw h refl
+table_count_fails from e int h = fails_int lastU 32 from.rest e e.kind (labels_at from.end from.rest) int (rw h refl)
 
 pub table_labels_fail : (from counted : Span) (count : ℕ) (e : ReadFault)
-    → (u32_at from.end from.rest ≡ Ok (count, counted.rest)) × (counted.end ≡ from.end) → items_at u32_at count counted.end counted.rest ≡ Err e
-    → labels_at from.end from.rest ≡ Err e
+    → (u32_at from.end from.rest ≡ Ok (count, counted.rest)) × (counted.end ≡ from.end)
+    → FailsAs e e.kind (items_at u32_at count counted.end counted.rest) → FailsAs e e.kind (labels_at from.end from.rest)
 unfolding labels_at vector_at
-table_labels_fail from counted count e c h =
+table_labels_fail from counted count e c =
+    fails_on e e.kind (items_at u32_at count counted.end counted.rest) (labels_at from.end from.rest) (λ h.
     let items : items_at u32_at count from.end counted.rest ≡ Err e = ap (λ (end : ℕ). items_at u32_at count end counted.rest) (sym c.1) ∙ h in
-    rw (c.0, items) refl
+    rw (c.0, items) refl)
 
 pub table_other_fails : (old mid : Scratch) (from counted labelled : Span) (count : ℕ) (e : ReadFault)
     → (u32_at from.end from.rest ≡ Ok (count, counted.rest)) × (counted.end ≡ from.end)
-    → ReadsLabels (items_at u32_at count counted.end counted.rest) old mid counted labelled → u32_at labelled.end labelled.rest ≡ Err e
-    → labels_at from.end from.rest ≡ Err e
+    → ReadsLabels (items_at u32_at count counted.end counted.rest) old mid counted labelled → IsIntKind lastU 32 labelled.rest e.kind
+    → u32_at labelled.end labelled.rest ≡ Err e → FailsAs e e.kind (labels_at from.end from.rest)
 unfolding labels_at vector_at
-table_other_fails old mid from counted labelled count e c r h =
+table_other_fails old mid from counted labelled count e c r int h =
     let items : items_at u32_at count from.end counted.rest ≡ Ok (r.labels, labelled.rest) =
     ap (λ (end : ℕ). items_at u32_at count end counted.rest) (sym c.1) ∙ r.is in
     let last : u32_at from.end labelled.rest ≡ Err e = ap (λ (end : ℕ). u32_at end labelled.rest) (sym (r.same_end ∙ c.1)) ∙ h in
-    rw (c.0, items, last) refl
+    fails_int lastU 32 labelled.rest e e.kind (labels_at from.end from.rest) int (rw (c.0, items, last) refl)

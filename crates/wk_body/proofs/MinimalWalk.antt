@@ -31,7 +31,7 @@ use Rattle.wk_body.specs.TokenLen.{plain_len, min_len, IsMinimal}
 use Rattle.wk_body.specs.Minimal.{IsShortType, bit_of, number_of, blocks_after}
 use Rattle.wk_body.specs.Reencoding.{Passes, PassesPlain, Behind, GoesOn, BlocksPass}
 use Rattle.wk_body.proofs.Immediates.{nothing_passed, index_passed, memarg_passed, signed32_passed, signed64_passed}
-use Rattle.wk_body.proofs.Rewriting.{plain_goes, block_goes, loop_goes, if_goes, close_goes}
+use Rattle.wk_body.proofs.Rewriting.{plain_goes, opener_goes, close_goes}
 use Rattle.wk_body.proofs.Walking.{passed}
 
 -- a walk so many bytes on
@@ -179,29 +179,14 @@ module _ (w : Reencoder) (n : ℕ) (ks below : List Bool) (within : n + 2 < leng
   at_opcode : Behind (get_or w.cursor.rest n 0) (later w n) (later w (n + 1))
   at_opcode = record { parts = drop_more w.cursor.rest n 0 (omega arith); same_end = refl; same_pending = refl }
 
-  block_step : get_or w.cursor.rest n 0 ≡ 0x02 → IsShortType (get_or w.cursor.rest (n + 1) 0) → Steps w n (n + 2) ks (false ∷ ks) below
-  block_step is ty profile before out first g =
+  opener_step : (k : Bool) → 0x02 ≤ get_or w.cursor.rest n 0 → get_or w.cursor.rest n 0 ≤ 0x04 → k ≡ eqb (get_or w.cursor.rest n 0) 0x04
+      → IsShortType (get_or w.cursor.rest (n + 1) 0) → Steps w n (n + 2) ks (k ∷ ks) below
+  opener_step k low high is ty profile before out first g =
       let at = w.cursor.end - length (drop n w.cursor.rest) in
       let t = type_passed profile (ks ++ below) (record { kind = TooDeep; at = at }) out w (n + 1) (n + 2) (omega arith) (omega arith)
       (few_blocks ks below small room) ty in
-      block_goes profile before out out first (later w n) (later w (n + 1)) (later w (n + 2)) (ks ++ below) (false ∷ (ks ++ below))
-      (get_or w.cursor.rest n 0) at t.0 refl t.1 g is refl at_opcode
-
-  loop_step : get_or w.cursor.rest n 0 ≡ 0x03 → IsShortType (get_or w.cursor.rest (n + 1) 0) → Steps w n (n + 2) ks (false ∷ ks) below
-  loop_step is ty profile before out first g =
-      let at = w.cursor.end - length (drop n w.cursor.rest) in
-      let t = type_passed profile (ks ++ below) (record { kind = TooDeep; at = at }) out w (n + 1) (n + 2) (omega arith) (omega arith)
-      (few_blocks ks below small room) ty in
-      loop_goes profile before out out first (later w n) (later w (n + 1)) (later w (n + 2)) (ks ++ below) (false ∷ (ks ++ below))
-      (get_or w.cursor.rest n 0) at t.0 refl t.1 g is refl at_opcode
-
-  if_step : get_or w.cursor.rest n 0 ≡ 0x04 → IsShortType (get_or w.cursor.rest (n + 1) 0) → Steps w n (n + 2) ks (true ∷ ks) below
-  if_step is ty profile before out first g =
-      let at = w.cursor.end - length (drop n w.cursor.rest) in
-      let t = type_passed profile (ks ++ below) (record { kind = TooDeep; at = at }) out w (n + 1) (n + 2) (omega arith) (omega arith)
-      (few_blocks ks below small room) ty in
-      if_goes profile before out out first (later w n) (later w (n + 1)) (later w (n + 2)) (ks ++ below) (true ∷ (ks ++ below))
-      (get_or w.cursor.rest n 0) at t.0 refl t.1 g is refl at_opcode
+      opener_goes profile before out out first (later w n) (later w (n + 1)) (later w (n + 2)) (ks ++ below) (k ∷ (ks ++ below))
+      (get_or w.cursor.rest n 0) at t.0 refl t.1 g low high (ap (λ (k : Bool). k ∷ (ks ++ below)) is) at_opcode
 
   plain_step : (get_or w.cursor.rest n 0 ≡ 0x0B → ⊥) → (get_or w.cursor.rest n 0 ≡ 0x02 → ⊥) → (get_or w.cursor.rest n 0 ≡ 0x03 → ⊥)
       → (get_or w.cursor.rest n 0 ≡ 0x04 → ⊥) → (o : Option ImmediateKind) → o ≡ imm_kind_in (form_of Core (get_or w.cursor.rest n 0))
@@ -247,23 +232,11 @@ token_passed w n opcode len number ks below within small room there long blocks 
       | inr n0 ↦ elim (cases_eq opcode 0x01) [
         | inl e ↦ absurd (omega (arith, b.0, long ∙ ap min_len e))
         | inr n1 ↦ elim (cases_eq opcode 0x02) [
-          | inl e ↦
-              let l : len ≡ 2 = long ∙ ap min_len e in
-              let m : number ≡ 2 * number_of ks = blocks ∙ ap (λ (o : ℕ). blocks_after o (number_of ks)) e in
-              subst (λ (k : ℕ). Passed w n (n + k) number ks below) (sym l)
-              (false ∷ ks, omega (arith, m), block_step w n ks below within small room (sym there ∙ e) (ty (inl e)))
+          | inl e ↦ opened 0x02 false e refl (omega arith) refl (omega arith) (omega arith) (ty (inl e))
           | inr n2 ↦ elim (cases_eq opcode 0x03) [
-            | inl e ↦
-                let l : len ≡ 2 = long ∙ ap min_len e in
-                let m : number ≡ 2 * number_of ks = blocks ∙ ap (λ (o : ℕ). blocks_after o (number_of ks)) e in
-                subst (λ (k : ℕ). Passed w n (n + k) number ks below) (sym l)
-                (false ∷ ks, omega (arith, m), loop_step w n ks below within small room (sym there ∙ e) (ty (inr (inl e))))
+            | inl e ↦ opened 0x03 false e refl (omega arith) refl (omega arith) (omega arith) (ty (inr (inl e)))
             | inr n3 ↦ elim (cases_eq opcode 0x04) [
-              | inl e ↦
-                  let l : len ≡ 2 = long ∙ ap min_len e in
-                  let m : number ≡ 2 * number_of ks + 1 = blocks ∙ ap (λ (o : ℕ). blocks_after o (number_of ks)) e in
-                  subst (λ (k : ℕ). Passed w n (n + k) number ks below) (sym l)
-                  (true ∷ ks, omega (arith, m), if_step w n ks below within small room (sym there ∙ e) (ty (inr (inr e))))
+              | inl e ↦ opened 0x04 true e refl (omega arith) refl (omega arith) (omega arith) (ty (inr (inr e)))
               | inr n4 ↦
                   let e0 : eqb opcode 0x0B ≡ false = ne_eqb opcode 0x0B n0 in
                   let e1 : eqb opcode 0x01 ≡ false = ne_eqb opcode 0x01 n1 in
@@ -286,6 +259,16 @@ token_passed w n opcode len number ks below within small room there long blocks 
         ]
       ]
     ]
+  where
+    opened : (o : ℕ) (k : Bool) → opcode ≡ o → min_len o ≡ 2 → blocks_after o (number_of ks) ≡ number_of (k ∷ ks) → k ≡ eqb o 0x04
+        → 0x02 ≤ o → o ≤ 0x04 → IsShortType (get_or w.cursor.rest (n + 1) 0) → Passed w n (n + len) number ks below
+    opened o k e two more is low high type =
+        let here : get_or w.cursor.rest n 0 ≡ o = sym there ∙ e in
+        subst (λ (m : ℕ). Passed w n (n + m) number ks below) (sym (long ∙ ap min_len e ∙ two)) (
+          k ∷ ks,
+          blocks ∙ ap (λ (o : ℕ). blocks_after o (number_of ks)) e ∙ more,
+          opener_step w n ks below within small room k (omega (arith, here)) (omega (arith, here)) (is ∙ ap (λ (o : ℕ). eqb o 0x04) (sym here)) type,
+        )
 
 -- a token more is passed
 pub passed_on : (w : Reencoder) (bytes : List ℕ) (n opcode len size blocks number : ℕ) (ks below : List Bool) → bytes ≡ w.cursor.rest

@@ -135,19 +135,19 @@ module _ (profile : Profile) (before out ended : List ℕ) (first from mid to : 
     (there : at ≡ from.cursor.end - length from.cursor.rest)
     (p : Passes (type_here profile ks (record { kind = TooDeep; at = at })) ty (type_bytes ty) out mid ended to)
     (g : GoesOn profile before first ks out from) where
-  pub block_goes : opcode ≡ 0x02 → next ≡ false ∷ ks → Behind opcode from mid → GoesOn profile before first next ended to
+  block_goes : opcode ≡ 0x02 → next ≡ false ∷ ks → Behind opcode from mid → GoesOn profile before first next ended to
   block_goes is opened b =
       opening_goes profile before out ended first from mid to ks next 0x02 at ty (Open kinds.Block ty 0)
       (token_block profile ks from.cursor.end ty mid.cursor.rest to.cursor.rest) tt (ap (λ (ks : List Bool). Some ks) (sym opened)) refl there
       (subst (λ (o : ℕ). Behind o from mid) is b) p g
 
-  pub loop_goes : opcode ≡ 0x03 → next ≡ false ∷ ks → Behind opcode from mid → GoesOn profile before first next ended to
+  loop_goes : opcode ≡ 0x03 → next ≡ false ∷ ks → Behind opcode from mid → GoesOn profile before first next ended to
   loop_goes is opened b =
       opening_goes profile before out ended first from mid to ks next 0x03 at ty (Open kinds.Loop ty 0)
       (token_loop profile ks from.cursor.end ty mid.cursor.rest to.cursor.rest) tt (ap (λ (ks : List Bool). Some ks) (sym opened)) refl there
       (subst (λ (o : ℕ). Behind o from mid) is b) p g
 
-  pub if_goes : opcode ≡ 0x04 → next ≡ true ∷ ks → Behind opcode from mid → GoesOn profile before first next ended to
+  if_goes : opcode ≡ 0x04 → next ≡ true ∷ ks → Behind opcode from mid → GoesOn profile before first next ended to
   if_goes is opened b =
       opening_goes profile before out ended first from mid to ks next 0x04 at ty (OpenIf ty 0)
       (token_if profile ks from.cursor.end ty mid.cursor.rest to.cursor.rest) tt (ap (λ (ks : List Bool). Some ks) (sym opened)) refl there

@@ -1,8 +1,4 @@
 use Rattle.std.proofs.lemmas.Result.{err_from_is_err_and}
-use Rattle.wk_bytes.specs.Leb.{lastU}
-use Rattle.wk_bytes.specs.Span.{u32_at}
-use Rattle.wk_body.specs.Vectors.{items_at}
-use Rattle.wk_body.proofs.Faults.{fails_int}
 use Rattle.wk_body.proofs.Labels.{labels_begin, labels_go_on, labels_stop, labels_end}
 use Rattle.wk_body.proofs.reading.labels_of.Goals as goal
 
@@ -21,11 +17,8 @@ loop-preserved c =
 pub returns-in_err-label : goal.returns-in_err-label
 returns-in_err-label c =
     let p = err_from_is_err_and c.from_residual.result c.from_residual.ensures.1 in
-    let whole = items_at u32_at c.args.count c.args.cursor.now.end c.args.cursor.now.rest in
-    let e = c.in_err-label.field-0.0 in
-    rw (p.1, p.2) (fails_int lastU 32 c.loop.cursor.rest e e.kind whole c.in_err-label.ensures.fault.1
-    (labels_stop c.loop.invariant.labels e c.args.count c.loop.counter c.args.cursor.now c.loop.cursor whole c.loop-test.true
-    c.in_err-label.ensures.exact.0 c.loop.invariant.ahead))
+    rw (p.1, p.2) (labels_stop c.loop.invariant.labels c.in_err-label.field-0.0 c.args.count c.loop.counter c.args.cursor.now c.loop.cursor _
+    c.loop-test.true c.in_err-label.ensures.fault.1 c.in_err-label.ensures.exact.0 c.loop.invariant.ahead)
 
 pub returns : goal.returns
 returns c = labels_end c.args.scratch.now c.loop.scratch c.args.count c.loop.counter c.args.cursor.now c.loop.cursor c.loop-test.false c.loop.invariant
