@@ -1,5 +1,5 @@
 -- Pieces of a code that are passed over: what stands there as it is written, and what is written anew.
-use Rattle.std.proofs.Common.{◌≡◌, ℕ, ◌+◌, ◌-◌, ◌<◌, ◌≤◌, List, [], ◌∷◌, ◌++◌, length, Result, Ok, refl, sym, ap, subst, ◌∙◌, append_assoc}
+use Rattle.std.proofs.Common.{◌≡◌, ℕ, ◌+◌, ◌-◌, ◌<◌, ◌≤◌, List, [], ◌∷◌, ◌++◌, length, Result, Ok, refl, sym, ap, subst, ◌∙◌, append_assoc, length-append, arith}
 use Rattle.std.specs.List.{flat_map}
 use Rattle.std.proofs.lemmas.List.{append-nil}
 use Rattle.std.proofs.lemmas.List.Concat.{flat_map-append}
@@ -24,6 +24,11 @@ stays bytes front out from to parts same is = λ written h. (
   same ∙ h.1 ∙ ap (λ (b : List ℕ). h.0 ++ b) parts ∙ sym (append_assoc h.0 front to.cursor.rest),
   ap (λ (b : List ℕ). b ++ bytes) h.2 ∙ append_assoc out h.0 bytes ∙ ap (λ (b : List ℕ). out ++ (h.0 ++ b)) (sym is),
 )
+
+-- the length of what was taken, by what is left
+pub taken_len : (seen behind from front to : List ℕ) (n : ℕ) → seen ≡ from → behind ≡ to → from ≡ front ++ to → length seen - length behind ≡ n
+    → length front ≡ n
+taken_len seen behind from front to n is left parts e = omega (arith, e, ap length is, ap length left, ap length parts, length-append front to)
 
 pub passed : {A : Type 0} (read : ℕ → List ℕ → Result (A × List ℕ) ReadFault) (x : A) (bytes front out : List ℕ) (from to : Reencoder)
     → (read from.cursor.end from.cursor.rest ≡ Ok (x, to.cursor.rest)) × (to.cursor.end ≡ from.cursor.end)
