@@ -17,25 +17,11 @@ word_of a b c d e f g h = a + 256 * (b + 256 * (c + 256 * (d + 256 * (e + 256 * 
 abbrev pub joined_of : ℕ → ℕ → ℕ → ℕ → ℕ → ℕ → ℕ → ℕ → ℕ
 joined_of a b c d e f g h = joinU a (joinU b (joinU c (joinU d (joinU e (joinU f (joinU g h))))))
 
-lanes_8 : (r a s b : ℕ) → r < 256 → s < 256 → bit_and (r + 256 * a) (s + 256 * b) ≡ bit_and r s + 256 * bit_and a b
-lanes_8 r a s b hr hs =
-    let left : r + 256 * a ≡ a * 2 ^ 8 + r = omega arith in
-    let right : s + 256 * b ≡ b * 2 ^ 8 + s = omega arith in
-    let blocks = and_block 8 a b r s hr hs in
-    rw (left, right, blocks) (omega arith)
-
-lanes_16 : (r a s b : ℕ) → r < 65536 → s < 65536 → bit_and (r + 65536 * a) (s + 65536 * b) ≡ bit_and r s + 65536 * bit_and a b
-lanes_16 r a s b hr hs =
-    let left : r + 65536 * a ≡ a * 2 ^ 16 + r = omega arith in
-    let right : s + 65536 * b ≡ b * 2 ^ 16 + s = omega arith in
-    let blocks = and_block 16 a b r s hr hs in
-    rw (left, right, blocks) (omega arith)
-
-lanes_32 : (r a s b : ℕ) → r < 2 ^ 32 → s < 2 ^ 32 → bit_and (r + 2 ^ 32 * a) (s + 2 ^ 32 * b) ≡ bit_and r s + 2 ^ 32 * bit_and a b
-lanes_32 r a s b hr hs =
-    let left : r + 2 ^ 32 * a ≡ a * 2 ^ 32 + r = omega arith in
-    let right : s + 2 ^ 32 * b ≡ b * 2 ^ 32 + s = omega arith in
-    let blocks = and_block 32 a b r s hr hs in
+and_lanes : (k r a s b : ℕ) → r < 2 ^ k → s < 2 ^ k → bit_and (r + 2 ^ k * a) (s + 2 ^ k * b) ≡ bit_and r s + 2 ^ k * bit_and a b
+and_lanes k r a s b hr hs =
+    let left : r + 2 ^ k * a ≡ a * 2 ^ k + r = omega arith in
+    let right : s + 2 ^ k * b ≡ b * 2 ^ k + s = omega arith in
+    let blocks = and_block k a b r s hr hs in
     rw (left, right, blocks) (omega arith)
 
 low_8 : (b c : ℕ) → b < 256 → bit_and (b + 256 * c) 255 ≡ b
@@ -50,10 +36,10 @@ even_bytes : (b c d e f g h : ℕ) → b < 256 → c < 256 → d < 256 → e < 2
 even_bytes b c d e f g h fb fc fd fe ff fg fh =
     let lanes : b + 256 * (c + 256 * (d + 256 * (e + 256 * (f + 256 * (g + 256 * h)))))
     ≡ b + 256 * c + 65536 * (d + 256 * e + 65536 * (f + 256 * g + 65536 * (h + 256 * 0))) = omega arith in
-    let first = lanes_16 (b + 256 * c) (d + 256 * e + 65536 * (f + 256 * g + 65536 * (h + 256 * 0))) 255 (255 + 65536 * (255 + 65536 * 255))
+    let first = and_lanes 16 (b + 256 * c) (d + 256 * e + 65536 * (f + 256 * g + 65536 * (h + 256 * 0))) 255 (255 + 65536 * (255 + 65536 * 255))
     (omega arith) (omega arith) in
-    let second = lanes_16 (d + 256 * e) (f + 256 * g + 65536 * (h + 256 * 0)) 255 (255 + 65536 * 255) (omega arith) (omega arith) in
-    let third = lanes_16 (f + 256 * g) (h + 256 * 0) 255 255 (omega arith) (omega arith) in
+    let second = and_lanes 16 (d + 256 * e) (f + 256 * g + 65536 * (h + 256 * 0)) 255 (255 + 65536 * 255) (omega arith) (omega arith) in
+    let third = and_lanes 16 (f + 256 * g) (h + 256 * 0) 255 255 (omega arith) (omega arith) in
     rw (lanes, first, second, third, low_8 b c fb, low_8 d e fd, low_8 f g ff, low_8 h 0 fh) refl
 
 -- seven bits of each byte, in twos
@@ -72,7 +58,7 @@ pub in_fours : (p q r s twos : ℕ) → p < 16384 → q < 16384 → r < 16384 �
     → twos - 49152 * bit_and (twos / 65536) 0x0000FFFF0000FFFF ≡ p + 16384 * q + 2 ^ 32 * (r + 16384 * s)
 in_fours p q r s twos fp fq fr fs is =
     let after : twos / 65536 ≡ q + 65536 * r + 2 ^ 32 * (s + 65536 * 0) = omega arith in
-    let lanes = lanes_32 (q + 65536 * r) (s + 65536 * 0) 65535 65535 (omega arith) (omega arith) in
+    let lanes = and_lanes 32 (q + 65536 * r) (s + 65536 * 0) 65535 65535 (omega arith) (omega arith) in
     let even : bit_and (twos / 65536) 0x0000FFFF0000FFFF ≡ q + 2 ^ 32 * s =
     ap (λ (n : ℕ). bit_and n 0x0000FFFF0000FFFF) after ∙ lanes ∙ rw (low_16 q r (omega arith), low_16 s 0 (omega arith)) refl in
     omega (arith, even, is)
@@ -86,7 +72,7 @@ in_eights u v fours fu fv is =
 -- more come after the first of these bytes, and after each of the others
 first_more : (a rest mask : ℕ) → a < 256 → bit_and (a + 256 * rest) (128 + 256 * mask) ≡ 128 + 256 * mask → (128 ≤ a) × (bit_and rest mask ≡ mask)
 first_more a rest mask fits high =
-    let bits : 128 + 256 * mask ≡ bit_and a 128 + 256 * bit_and rest mask = sym high ∙ lanes_8 a rest 128 mask fits (omega arith) in (
+    let bits : 128 + 256 * mask ≡ bit_and a 128 + 256 * bit_and rest mask = sym high ∙ and_lanes 8 a rest 128 mask fits (omega arith) in (
       omega (arith, bits, and_le_l a 128, and_le_r a 128),
       omega (arith, bits, and_le_l a 128, and_le_r a 128),
     )

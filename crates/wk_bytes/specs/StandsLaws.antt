@@ -91,23 +91,8 @@ Stands-within front back s t e parts ends fits stood =
 
 -- a fault in what is left after a front was taken
 pub Stands-later : (front : List ℕ) (s t : Span) (e : ReadFault) → s.rest ≡ front ++ t.rest → s.end ≡ t.end → length s.rest ≤ s.end → Stands t e → Stands s e
-Stands-later front s t e parts ends fits stood = record {
-  skipped = front ++ stood.skipped;
-  from = stood.from;
-  parts = parts ∙ ap (λ b. front ++ b) stood.parts ∙ sym (append_assoc front stood.skipped stood.from);
-  place = omega (
-    arith,
-    stood.place,
-    ends,
-    fits,
-    ap length parts,
-    length-append front t.rest,
-    length-append front stood.skipped,
-    ap length stood.parts,
-    length-append stood.skipped stood.from,
-  );
-  stands = stood.stands;
-}
+Stands-later front s t e parts ends fits =
+    Stands-within front [] s t e (parts ∙ ap (λ b. front ++ b) (sym (append-nil t.rest))) (omega (arith, ends)) fits
 
 -- a fault in the contents of a section
 pub Stands-contents : (bytes : List ℕ) (s : Section) (e : ReadFault) → LiesIn bytes s → Stands (contents_of s) e → Stands (whole bytes) e
