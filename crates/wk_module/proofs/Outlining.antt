@@ -19,7 +19,7 @@ use Rattle.wk_body.specs.Bodies.{BodyOf}
 use Rattle.wk_body.specs.Meaning.{Whole, FindsOnly}
 use Rattle.wk_body.specs.Reading.{all_body_at, whole_at}
 use Rattle.wk_body.specs.Reads.{FailsAs, Reads}
-use Rattle.wk_body.specs.ReadsLaws.{fails_on, other_fault}
+use Rattle.wk_body.specs.ReadsLaws.{fails_on}
 use Rattle.wk_body.specs.Shape.{IsU32}
 use Rattle.wk_body.specs.Spelling.{SpellsBody}
 use Rattle.wk_body.specs.Vectors.{items_at}
