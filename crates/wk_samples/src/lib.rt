@@ -9,4 +9,5 @@ pub mod listings;
 pub mod modules;
 pub mod moving;
 pub mod outcome;
+pub mod sections;
 pub mod wide;

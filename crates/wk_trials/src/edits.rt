@@ -10,13 +10,14 @@ use wk_edit::read_script;
 use wk_module::{Export, FuncType, Kind, Profile, ValType};
 use wk_samples::moving::MOVING;
 use wk_samples::outcome::Outcome;
+use wk_samples::sections::{Sections, with_sections};
 use wk_session::{Edit, EditFault, Reply, Session, Work};
 
 /// What an edit comes to where memory is ample.
 #[derive(Clone, Copy)]
 pub(crate) enum Wanted {
-    /// It types and encodes that many bodies and makes that many sections again, and leaves the module of this written form.
-    Made([u32; 3], &'static [u8]),
+    /// It types and encodes that many bodies and makes that many sections again, and leaves the module with these sections.
+    Made([u32; 3], Sections),
     /// It is refused for that, and the module stays.
     Refused(&'static str),
 }
@@ -91,12 +92,20 @@ impl Trial {
         is_session_of(alloc, session, self.profile, self.input)
     }
 
+    // Whether the session is that of the module with these sections.
+    fn is_left(&self, alloc: Global, session: &Session, sections: Sections) -> bool {
+        match with_sections(alloc, self.input, sections) {
+            Some(bytes) => is_session_of(alloc, session, self.profile, &bytes),
+            None => false,
+        }
+    }
+
     // What an accepted edit came to.
     fn was_made(&self, alloc: Global, session: &Session, work: Work) -> Outcome {
         match self.wanted {
-            Wanted::Made(counts, bytes) => {
+            Wanted::Made(counts, sections) => {
                 let is_told = [work.typed, work.encoded, work.sections] == counts;
-                Outcome::answered(is_told && is_session_of(alloc, session, self.profile, bytes))
+                Outcome::answered(is_told && self.is_left(alloc, session, sections))
             }
             Wanted::Refused(_) => Outcome::Wrong("an edit that is to be refused is made"),
         }

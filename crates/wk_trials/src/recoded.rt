@@ -16,22 +16,14 @@ use wk_list::Shape;
 use wk_module::{Body, Lists, Profile, encode_body, len_of_lists, read_body};
 use wk_samples::edits::VALID;
 use wk_samples::outcome::Outcome;
+use wk_samples::sections::{Sections, with_sections};
 use wk_session::{Session, WriteFault};
 
 // Two constants that are added.
 const BODY: &[u8] = b"\x00\x42\x05\x42\x06\x7c\x0b";
 
 // `VALID`, which has one function, with it.
-const VALID_WITH_BODY: &[u8] = b"\0asm\x01\0\0\0\
-    \x01\x09\x02\x60\x00\x00\x60\x01\x7f\x01\x7e\
-    \x02\x1e\x04\x01a\x01f\x00\x00\x01a\x01t\x01\x70\x01\x01\x02\x01a\x01m\x02\x00\x01\x01a\x01g\x03\x7f\x00\
-    \x03\x02\x01\x01\
-    \x06\x06\x01\x7f\x01\x41\x00\x0b\
-    \x07\x09\x02\x01f\x00\x01\x01g\x03\x01\
-    \x08\x01\x00\
-    \x09\x08\x01\x00\x23\x00\x0b\x02\x00\x01\
-    \x0a\x09\x01\x07\x00\x42\x05\x42\x06\x7c\x0b\
-    \x0b\x08\x01\x00\x41\x00\x0b\x02\xaa\xbb";
+const WITH_BODY: Sections = &[(7, b"\x0a\x09\x01\x07\x00\x42\x05\x42\x06\x7c\x0b")];
 
 /// `Session::write_with` of another code in the place of its own, to a sink with that much room.
 pub(crate) fn writes_with(alloc: Global, room: Room) -> Outcome {
@@ -94,11 +86,12 @@ fn writes_codes(
     let answer = session.write_with(codes, &mut sink);
     call_ends(alloc);
     let is_kept = is_session_of(alloc, session, Profile::Core, VALID);
+    let Some(wanted) = with_sections(alloc, VALID, WITH_BODY) else {
+        return Outcome::NO_SAMPLE;
+    };
     match answer {
-        Ok(()) => Outcome::answered(is_kept && holds(sink, 0, VALID_WITH_BODY)),
-        Err(WriteFault::Write) => {
-            Outcome::refused(is_kept && holds_begun(sink, 1, VALID_WITH_BODY))
-        }
+        Ok(()) => Outcome::answered(is_kept && holds(sink, 0, &wanted)),
+        Err(WriteFault::Write) => Outcome::refused(is_kept && holds_begun(sink, 1, &wanted)),
         Err(WriteFault::Memory) => Outcome::Wrong("writing took memory of its own"),
     }
 }

@@ -6,6 +6,7 @@ use crate::modules::{OF_MOVING, OF_TYPES, OF_WIDE, Sample};
 use std::alloc::{AllocError, Global};
 use wk_bytes::Text;
 use wk_samples::outcome::Outcome;
+use wk_samples::sections::{Sections, with_sections};
 use wk_samples::{edits, moving, wide};
 use wk_strip::strip_bytes;
 
@@ -15,7 +16,8 @@ pub(crate) struct Strip {
     sample: Sample,
     /// The name of the custom sections that stay.
     keep: Option<&'static str>,
-    left: &'static [u8],
+    /// The sections of it that are others then.
+    left: Sections,
 }
 
 /// Types alone are left.
@@ -62,6 +64,14 @@ impl Strip {
         }
     }
 
+    // Whether these bytes are left.
+    fn is_left(self, alloc: Global, stripped: &[u8]) -> bool {
+        match with_sections(alloc, self.sample.bytes, self.left) {
+            Some(bytes) => bytes.as_slice() == stripped,
+            None => false,
+        }
+    }
+
     fn run_by(self, alloc: Global, keep: Option<&Text>) -> Outcome {
         match Vec::from_slice(alloc, self.sample.bytes) {
             Ok(bytes) => self.run_with(alloc, bytes, keep),
@@ -75,7 +85,7 @@ impl Strip {
         let answer = strip_bytes(alloc, bytes, profile, keep);
         call_ends(alloc);
         match &answer {
-            Ok(stripped) => Outcome::answered(stripped.as_slice() == self.left),
+            Ok(stripped) => Outcome::answered(self.is_left(alloc, stripped.as_slice())),
             Err(fault) => Outcome::refused(*fault == NO_MEMORY),
         }
     }
