@@ -38,6 +38,9 @@ const GLOBALS: [GlobalType; 2] = [
 
 const PAGE: Limits = Limits { min: 1, max: None };
 
+// The index of a type, a code under it, and the fault that this has at a token.
+type Row<'a> = (u32, &'a [u8], Option<(FaultKind, u32)>);
+
 // What references find in lists that are lent.
 #[derive(Clone, Copy)]
 struct Lent<'a> {
@@ -109,13 +112,16 @@ fn typed<E: Env>(
     Ok((verdict, encoded))
 }
 
+// The verdict on a body that has this fault at a token, or none.
+fn verdict_of(fault: Option<(FaultKind, u32)>) -> BodyVerdict {
+    match fault {
+        None => BodyVerdict::Valid,
+        Some((kind, token)) => BodyVerdict::Invalid { kind, token },
+    }
+}
+
 // Judges bodies, each under the type of an index, with one meter and in one room: valid, or a fault and its token.
-fn looks<E: Env>(
-    rt: &impl Abort,
-    alloc: Global,
-    env: &E,
-    rows: &[(u32, &[u8], Option<(FaultKind, u32)>)],
-) -> Result<(), Fail> {
+fn looks<E: Env>(rt: &impl Abort, alloc: Global, env: &E, rows: &[Row]) -> Result<(), Fail> {
     let mut meter = Meter::new(alloc);
     let mut rooms = Rooms::new(alloc);
     let mut count = 0;
@@ -124,10 +130,7 @@ fn looks<E: Env>(
         assert!(rt; count < 100);
         count += 1;
         let verdict = judged(alloc, env, own_type, code, &mut meter)?;
-        let wanted = match fault {
-            None => BodyVerdict::Valid,
-            Some((kind, token)) => BodyVerdict::Invalid { kind, token },
-        };
+        let wanted = verdict_of(fault);
         assert_eq!(rt; verdict, wanted, "{code:?}");
         let again = typed(alloc, env, own_type, code, &mut rooms)?;
         assert_eq!(rt; again, (wanted, wanted), "{code:?}");
@@ -143,7 +146,7 @@ fn judges(
     alloc: Global,
     tables: &[Limits],
     memories: &[Limits],
-    rows: &[(u32, &[u8], Option<(FaultKind, u32)>)],
+    rows: &[Row],
 ) -> Result<(), Fail> {
     let module = read_in(alloc, TYPES, Profile::Extended)?;
     let env = Lent {
@@ -158,7 +161,7 @@ fn judges(
 
 #[test]
 fn judges_valid_bodies(rt: HostRuntime) -> Result<(), Fail> {
-    let rows: [(u32, &[u8], Option<(FaultKind, u32)>); 8] = [
+    let rows: [Row; 8] = [
         (0, b"\0\x0b", None),
         (1, b"\0\x20\0\x0b", None),
         (2, b"\0\x41\0\x41\x01\x0b", None),
@@ -173,7 +176,7 @@ fn judges_valid_bodies(rt: HostRuntime) -> Result<(), Fail> {
 
 #[test]
 fn judges_faulty_bodies(rt: HostRuntime) -> Result<(), Fail> {
-    let rows: [(u32, &[u8], Option<(FaultKind, u32)>); 8] = [
+    let rows: [Row; 8] = [
         // under a type that is not there
         (3, b"\0\x1a\x0b", Some((UnknownType, 0))),
         // a function of a type that is not there, and no function
@@ -191,7 +194,7 @@ fn judges_faulty_bodies(rt: HostRuntime) -> Result<(), Fail> {
 // The meter is as good after a fault as before.
 #[test]
 fn judges_one_after_the_other(rt: HostRuntime) -> Result<(), Fail> {
-    let rows: [(u32, &[u8], Option<(FaultKind, u32)>); 6] = [
+    let rows: [Row; 6] = [
         (0, b"\0\x41\0\x11\x01\0\x0b", Some((UnknownTable, 1))),
         (0, b"\0\x0b", None),
         (
@@ -212,7 +215,7 @@ fn judges_by_parts(
     rt: &impl Abort,
     alloc: Global,
     parts: &Parts,
-    rows: &[(u32, &[u8], Option<(FaultKind, u32)>)],
+    rows: &[Row],
 ) -> Result<(), Fail> {
     let lists = Lists {
         profile: parts.profile,
@@ -233,7 +236,7 @@ fn judges_by_parts(
 
 #[test]
 fn judges_by_lists(rt: HostRuntime) -> Result<(), Fail> {
-    let rows: [(u32, &[u8], Option<(FaultKind, u32)>); 8] = [
+    let rows: [Row; 8] = [
         (1, b"\0\x20\0\x10\0\x10\x02\x0b", None),
         (2, b"\0\x23\0\x10\x01\x0b", None),
         (0, b"\0\x41\0\x11\0\0\x3f\0\x1a\x0b", None),
@@ -271,10 +274,7 @@ fn finds_flaws_at_their_places(rt: HostRuntime) -> Result<(), Fail> {
     for (code, fault) in rows {
         let expr = read_expr_in(alloc, code, Profile::Core)?;
         let flaw = constant_flaw(&env, ValType::I32, &expr, &mut room)?;
-        let wanted = match fault {
-            None => BodyVerdict::Valid,
-            Some((kind, token)) => BodyVerdict::Invalid { kind, token },
-        };
+        let wanted = verdict_of(fault);
         assert_eq!(rt; flaw, wanted.flaw(), "{code:?}");
     }
     let place = Place {

@@ -12,11 +12,23 @@ const HEADER: &[u8] = b"\0asm\x01\0\0\0";
 /// A function that takes nothing and gives nothing, up to its code.
 pub(crate) const NOTHING: &[u8] = b"\x01\x04\x01\x60\0\0\x03\x02\x01\0";
 
+/// A code, and the fault that it has at a token.
+pub(crate) type Row<'a> = (&'a [u8], FaultKind, u32);
+
+// Rows of faults, a line each.
+macro_rules! faults {
+    ($($code:literal => $kind:ident $token:literal,)*) => {
+        [$(($code, wk_check::FaultKind::$kind, $token)),*]
+    };
+}
+
+pub(crate) use faults;
+
 /// A code section of a test has fewer bytes.
 const MANY: usize = 100_000;
 
-// The header, and then these sections.
-fn behind_header(alloc: Global, sections: &[u8]) -> Result<Vec<u8>, AllocError> {
+/// The header, and then these sections.
+pub(crate) fn behind_header(alloc: Global, sections: &[u8]) -> Result<Vec<u8>, AllocError> {
     let mut bytes = Vec::new(alloc);
     bytes.extend_from_slice(HEADER)?;
     bytes.extend_from_slice(sections)?;
@@ -116,7 +128,7 @@ pub(crate) fn refuses_codes(
     alloc: Global,
     profile: Profile,
     front: &[u8],
-    rows: &[(&[u8], FaultKind, u32)],
+    rows: &[Row],
 ) -> Result<(), Fail> {
     for &(code, kind, token) in rows {
         let sections = with_code(rt, alloc, front, code)?;

@@ -1,9 +1,7 @@
 //! Bodies with locals or a memory, and the verdicts on them.
 
-use crate::judged::{NOTHING, passes_codes, refuses_codes};
+use crate::judged::{NOTHING, Row, faults, passes_codes, refuses_codes};
 use std::test::Fail;
-use wk_check::FaultKind;
-use wk_check::FaultKind::{Alignment, StackUnderflow, TypeMismatch, UnknownLocal};
 use wk_module::Profile::Core;
 
 // A function that takes an i64 and an f64.
@@ -32,45 +30,33 @@ fn takes_locals(rt: HostRuntime) -> Result<(), Fail> {
 
 #[test]
 fn refuses_locals(rt: HostRuntime) -> Result<(), Fail> {
-    let rows: [(&[u8], FaultKind, u32); 10] = [
+    let rows: &[Row] = &faults! {
         // locals that are not there
-        (b"\0\x20\x02\x1a\x0b", UnknownLocal, 0),
-        (b"\x02\x02\x7f\x01\x7d\x20\x05\x1a\x0b", UnknownLocal, 0),
-        (
-            b"\x03\0\x7f\x01\x7e\0\x7d\x41\0\x21\x03\x0b",
-            UnknownLocal,
-            1,
-        ),
-        (b"\0\x22\xff\xff\xff\xff\x0f\x1a\x0b", UnknownLocal, 0),
+        b"\0\x20\x02\x1a\x0b" => UnknownLocal 0,
+        b"\x02\x02\x7f\x01\x7d\x20\x05\x1a\x0b" => UnknownLocal 0,
+        b"\x03\0\x7f\x01\x7e\0\x7d\x41\0\x21\x03\x0b" => UnknownLocal 1,
+        b"\0\x22\xff\xff\xff\xff\x0f\x1a\x0b" => UnknownLocal 0,
         // other types
-        (b"\0\x20\0\x45\x1a\x0b", TypeMismatch, 1),
-        (b"\x02\x02\x7f\x01\x7d\x20\x04\x45\x1a\x0b", TypeMismatch, 1),
-        (b"\x01\x01\x7f\x42\0\x21\x02\x0b", TypeMismatch, 1),
-        (b"\x01\x01\x7f\x42\0\x22\x02\x1a\x0b", TypeMismatch, 1),
+        b"\0\x20\0\x45\x1a\x0b" => TypeMismatch 1,
+        b"\x02\x02\x7f\x01\x7d\x20\x04\x45\x1a\x0b" => TypeMismatch 1,
+        b"\x01\x01\x7f\x42\0\x21\x02\x0b" => TypeMismatch 1,
+        b"\x01\x01\x7f\x42\0\x22\x02\x1a\x0b" => TypeMismatch 1,
         // nothing to set
-        (b"\0\x21\0\x0b", StackUnderflow, 0),
-        (b"\0\x22\x01\x1a\x0b", StackUnderflow, 0),
-    ];
-    refuses_codes(&rt, rt.alloc(), Core, TWO_PARAMETERS, &rows)
+        b"\0\x21\0\x0b" => StackUnderflow 0,
+        b"\0\x22\x01\x1a\x0b" => StackUnderflow 0,
+    };
+    refuses_codes(&rt, rt.alloc(), Core, TWO_PARAMETERS, rows)
 }
 
 #[test]
 fn refuses_the_last_of_many_locals(rt: HostRuntime) -> Result<(), Fail> {
-    let rows: [(&[u8], FaultKind, u32); 2] = [
+    let rows: &[Row] = &faults! {
         // one more than all
-        (
-            b"\x01\xff\xff\xff\xff\x0f\x7f\x20\xff\xff\xff\xff\x0f\x1a\x0b",
-            UnknownLocal,
-            0,
-        ),
+        b"\x01\xff\xff\xff\xff\x0f\x7f\x20\xff\xff\xff\xff\x0f\x1a\x0b" => UnknownLocal 0,
         // the last of all
-        (
-            b"\x02\xfe\xff\xff\xff\x0f\x7f\x01\x7e\x20\xfe\xff\xff\xff\x0f\x45\x1a\x0b",
-            TypeMismatch,
-            1,
-        ),
-    ];
-    refuses_codes(&rt, rt.alloc(), Core, NOTHING, &rows)
+        b"\x02\xfe\xff\xff\xff\x0f\x7f\x01\x7e\x20\xfe\xff\xff\xff\x0f\x45\x1a\x0b" => TypeMismatch 1,
+    };
+    refuses_codes(&rt, rt.alloc(), Core, NOTHING, rows)
 }
 
 #[test]
@@ -93,20 +79,20 @@ fn takes_accesses(rt: HostRuntime) -> Result<(), Fail> {
 
 #[test]
 fn refuses_accesses(rt: HostRuntime) -> Result<(), Fail> {
-    let rows: [(&[u8], FaultKind, u32); 10] = [
+    let rows: &[Row] = &faults! {
         // alignments above the width
-        (b"\0\x41\0\x28\x03\0\x1a\x0b", Alignment, 1),
-        (b"\0\x41\0\x2d\x01\0\x1a\x0b", Alignment, 1),
-        (b"\0\x41\0\x33\x02\0\x1a\x0b", Alignment, 1),
-        (b"\0\x41\0\x42\0\x37\x04\0\x0b", Alignment, 2),
-        (b"\0\x41\0\x28\xff\xff\xff\xff\x0f\0\x1a\x0b", Alignment, 1),
+        b"\0\x41\0\x28\x03\0\x1a\x0b" => Alignment 1,
+        b"\0\x41\0\x2d\x01\0\x1a\x0b" => Alignment 1,
+        b"\0\x41\0\x33\x02\0\x1a\x0b" => Alignment 1,
+        b"\0\x41\0\x42\0\x37\x04\0\x0b" => Alignment 2,
+        b"\0\x41\0\x28\xff\xff\xff\xff\x0f\0\x1a\x0b" => Alignment 1,
         // an alignment comes before operands
-        (b"\0\x28\x03\0\x1a\x0b", Alignment, 0),
+        b"\0\x28\x03\0\x1a\x0b" => Alignment 0,
         // operands
-        (b"\0\x28\x02\0\x1a\x0b", StackUnderflow, 0),
-        (b"\0\x42\0\x28\x02\0\x1a\x0b", TypeMismatch, 1),
-        (b"\0\x42\0\x41\0\x36\x02\0\x0b", TypeMismatch, 2),
-        (b"\0\x41\0\x41\0\x37\x03\0\x0b", TypeMismatch, 2),
-    ];
-    refuses_codes(&rt, rt.alloc(), Core, MEMORY, &rows)
+        b"\0\x28\x02\0\x1a\x0b" => StackUnderflow 0,
+        b"\0\x42\0\x28\x02\0\x1a\x0b" => TypeMismatch 1,
+        b"\0\x42\0\x41\0\x36\x02\0\x0b" => TypeMismatch 2,
+        b"\0\x41\0\x41\0\x37\x03\0\x0b" => TypeMismatch 2,
+    };
+    refuses_codes(&rt, rt.alloc(), Core, MEMORY, rows)
 }

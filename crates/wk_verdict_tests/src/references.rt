@@ -1,12 +1,7 @@
 //! Bodies that refer to what is outside of them, and the verdicts on them.
 
-use crate::judged::{NOTHING, passes_codes, refuses_codes};
+use crate::judged::{NOTHING, Row, faults, passes_codes, refuses_codes};
 use std::test::Fail;
-use wk_check::FaultKind;
-use wk_check::FaultKind::{
-    GlobalImmutable, LabelTypes, StackHeight, StackUnderflow, TypeMismatch, UnknownFunc,
-    UnknownGlobal, UnknownMemory, UnknownTable, UnknownType,
-};
 use wk_module::Profile::Core;
 
 // A function that gives an i32.
@@ -39,26 +34,22 @@ fn takes_results(rt: HostRuntime) -> Result<(), Fail> {
 
 #[test]
 fn refuses_results(rt: HostRuntime) -> Result<(), Fail> {
-    let rows: [(&[u8], FaultKind, u32); 8] = [
+    let rows: &[Row] = &faults! {
         // none, another, and two
-        (b"\0\x0b", StackUnderflow, 0),
-        (b"\0\x42\0\x0b", TypeMismatch, 1),
-        (b"\0\x41\0\x41\0\x0b", StackHeight, 2),
+        b"\0\x0b" => StackUnderflow 0,
+        b"\0\x42\0\x0b" => TypeMismatch 1,
+        b"\0\x41\0\x41\0\x0b" => StackHeight 2,
         // another where code is not reached
-        (b"\0\0\x42\0\x0b", TypeMismatch, 2),
+        b"\0\0\x42\0\x0b" => TypeMismatch 2,
         // none at a return, and another
-        (b"\0\x0f\x0b", StackUnderflow, 0),
-        (b"\0\x42\0\x0f\x0b", TypeMismatch, 1),
+        b"\0\x0f\x0b" => StackUnderflow 0,
+        b"\0\x42\0\x0f\x0b" => TypeMismatch 1,
         // none at a branch
-        (b"\0\x41\x01\x0d\0\x41\0\x0b", StackUnderflow, 1),
+        b"\0\x41\x01\x0d\0\x41\0\x0b" => StackUnderflow 1,
         // labels of two types, that of a block and that of the function
-        (
-            b"\0\x02\x40\x41\0\x41\0\x0e\x01\0\x01\x0b\x41\0\x0b",
-            LabelTypes,
-            3,
-        ),
-    ];
-    refuses_codes(&rt, rt.alloc(), Core, ONE_RESULT, &rows)
+        b"\0\x02\x40\x41\0\x41\0\x0e\x01\0\x01\x0b\x41\0\x0b" => LabelTypes 3,
+    };
+    refuses_codes(&rt, rt.alloc(), Core, ONE_RESULT, rows)
 }
 
 #[test]
@@ -93,36 +84,36 @@ fn takes_references(rt: HostRuntime) -> Result<(), Fail> {
 
 #[test]
 fn refuses_calls(rt: HostRuntime) -> Result<(), Fail> {
-    let rows: [(&[u8], FaultKind, u32); 7] = [
+    let rows: &[Row] = &faults! {
         // functions
-        (b"\0\x10\x03\x0b", UnknownFunc, 0),
-        (b"\0\x10\0\x0b", StackUnderflow, 0),
-        (b"\0\x41\0\x10\x01\x1a\x0b", TypeMismatch, 1),
-        (b"\0\x42\0\x10\x01\x45\x1a\x0b", TypeMismatch, 2),
+        b"\0\x10\x03\x0b" => UnknownFunc 0,
+        b"\0\x10\0\x0b" => StackUnderflow 0,
+        b"\0\x41\0\x10\x01\x1a\x0b" => TypeMismatch 1,
+        b"\0\x42\0\x10\x01\x45\x1a\x0b" => TypeMismatch 2,
         // functions of the table
-        (b"\0\x41\0\x11\x03\0\x0b", UnknownType, 1),
-        (b"\0\x42\0\x11\0\0\x0b", TypeMismatch, 1),
-        (b"\0\x41\0\x11\x02\0\x1a\x0b", StackUnderflow, 1),
-    ];
-    refuses_codes(&rt, rt.alloc(), Core, MIXED, &rows)
+        b"\0\x41\0\x11\x03\0\x0b" => UnknownType 1,
+        b"\0\x42\0\x11\0\0\x0b" => TypeMismatch 1,
+        b"\0\x41\0\x11\x02\0\x1a\x0b" => StackUnderflow 1,
+    };
+    refuses_codes(&rt, rt.alloc(), Core, MIXED, rows)
 }
 
 #[test]
 fn refuses_global_instructions(rt: HostRuntime) -> Result<(), Fail> {
-    let rows: [(&[u8], FaultKind, u32); 7] = [
+    let rows: &[Row] = &faults! {
         // globals that are not there
-        (b"\0\x23\x03\x1a\x0b", UnknownGlobal, 0),
-        (b"\0\x41\0\x24\x03\x0b", UnknownGlobal, 1),
+        b"\0\x23\x03\x1a\x0b" => UnknownGlobal 0,
+        b"\0\x41\0\x24\x03\x0b" => UnknownGlobal 1,
         // one that is not set
-        (b"\0\x42\0\x24\0\x0b", GlobalImmutable, 1),
-        (b"\0\x24\0\x0b", GlobalImmutable, 0),
+        b"\0\x42\0\x24\0\x0b" => GlobalImmutable 1,
+        b"\0\x24\0\x0b" => GlobalImmutable 0,
         // another type
-        (b"\0\x41\0\x24\x01\x0b", TypeMismatch, 1),
-        (b"\0\x23\0\x45\x1a\x0b", TypeMismatch, 1),
+        b"\0\x41\0\x24\x01\x0b" => TypeMismatch 1,
+        b"\0\x23\0\x45\x1a\x0b" => TypeMismatch 1,
         // nothing to set
-        (b"\0\x24\x02\x0b", StackUnderflow, 0),
-    ];
-    refuses_codes(&rt, rt.alloc(), Core, MIXED, &rows)
+        b"\0\x24\x02\x0b" => StackUnderflow 0,
+    };
+    refuses_codes(&rt, rt.alloc(), Core, MIXED, rows)
 }
 
 #[test]
@@ -133,21 +124,21 @@ fn takes_calls_of_the_function_itself(rt: HostRuntime) -> Result<(), Fail> {
 
 #[test]
 fn refuses_what_is_not_there(rt: HostRuntime) -> Result<(), Fail> {
-    let rows: [(&[u8], FaultKind, u32); 10] = [
+    let rows: &[Row] = &faults! {
         // calls
-        (b"\0\x10\x7f\x0b", UnknownFunc, 0),
-        (b"\0\x10\0\x10\x01\x0b", UnknownFunc, 1),
+        b"\0\x10\x7f\x0b" => UnknownFunc 0,
+        b"\0\x10\0\x10\x01\x0b" => UnknownFunc 1,
         // a type, and then the table
-        (b"\0\x41\0\x11\x01\0\x0b", UnknownType, 1),
-        (b"\0\x41\0\x11\0\0\x0b", UnknownTable, 1),
+        b"\0\x41\0\x11\x01\0\x0b" => UnknownType 1,
+        b"\0\x41\0\x11\0\0\x0b" => UnknownTable 1,
         // the memory
-        (b"\0\x3f\0\x1a\x0b", UnknownMemory, 0),
-        (b"\0\x41\0\x40\0\x1a\x0b", UnknownMemory, 1),
-        (b"\0\x41\0\x28\x03\0\x1a\x0b", UnknownMemory, 1),
-        (b"\0\x41\0\x41\0\x36\x02\0\x0b", UnknownMemory, 2),
+        b"\0\x3f\0\x1a\x0b" => UnknownMemory 0,
+        b"\0\x41\0\x40\0\x1a\x0b" => UnknownMemory 1,
+        b"\0\x41\0\x28\x03\0\x1a\x0b" => UnknownMemory 1,
+        b"\0\x41\0\x41\0\x36\x02\0\x0b" => UnknownMemory 2,
         // globals
-        (b"\0\x23\0\x1a\x0b", UnknownGlobal, 0),
-        (b"\0\x24\0\x0b", UnknownGlobal, 0),
-    ];
-    refuses_codes(&rt, rt.alloc(), Core, NOTHING, &rows)
+        b"\0\x23\0\x1a\x0b" => UnknownGlobal 0,
+        b"\0\x24\0\x0b" => UnknownGlobal 0,
+    };
+    refuses_codes(&rt, rt.alloc(), Core, NOTHING, rows)
 }

@@ -27,6 +27,27 @@ pub(crate) fn tells(
     Ok(())
 }
 
+/// These bytes spell a module that is valid in either profile.
+pub(crate) fn passes_both(rt: &impl Abort, alloc: Global, bytes: &[u8]) -> Result<(), Fail> {
+    tells(rt, alloc, bytes, Profile::Core, None)?;
+    tells(rt, alloc, bytes, Profile::Extended, None)
+}
+
+/// These bytes spell no module, which is told so.
+pub(crate) fn refuses_bytes(
+    rt: &impl Abort,
+    alloc: Global,
+    rows: &[(&[u8], ReadKind, u32)],
+) -> Result<(), Fail> {
+    for &(bytes, kind, at) in rows {
+        let fault = judge_bytes(alloc, bytes, Profile::Core);
+        let fault = fault.err().ok_or("a fault")?;
+        assert_eq!(rt; fault.kind, kind, "{bytes:?}");
+        assert_eq!(rt; fault.at, at, "{bytes:?}");
+    }
+    Ok(())
+}
+
 // A place that is no token.
 fn item(section: u8, item: u32) -> Place {
     Place {
@@ -65,8 +86,7 @@ fn passes_modules(rt: HostRuntime) -> Result<(), Fail> {
         b"\0asm\x01\0\0\0\x01\x04\x01\x60\0\0\x0a\x01\0",
     ];
     for bytes in rows {
-        tells(&rt, rt.alloc(), bytes, Profile::Core, None)?;
-        tells(&rt, rt.alloc(), bytes, Profile::Extended, None)?;
+        passes_both(&rt, rt.alloc(), bytes)?;
     }
     Ok(())
 }
@@ -161,13 +181,7 @@ fn tells_what_is_no_module(rt: HostRuntime) -> Result<(), Fail> {
             12,
         ),
     ];
-    for (bytes, kind, at) in rows {
-        let fault = judge_bytes(rt.alloc(), bytes, Profile::Core);
-        let fault = fault.err().ok_or("a fault")?;
-        assert_eq!(rt; fault.kind, kind, "{bytes:?}");
-        assert_eq!(rt; fault.at, at, "{bytes:?}");
-    }
-    Ok(())
+    refuses_bytes(&rt, rt.alloc(), &rows)
 }
 
 #[test]
@@ -181,10 +195,7 @@ fn judges_by_either_profile(rt: HostRuntime) -> Result<(), Fail> {
     // a sign extension, which reads a 64-bit number in vain
     let extends =
         b"\0asm\x01\0\0\0\x01\x04\x01\x60\0\0\x03\x02\x01\0\x0a\x08\x01\x06\0\x42\0\xc0\x1a\x0b";
-    let fault = judge_bytes(rt.alloc(), extends, Profile::Core);
-    let fault = fault.err().ok_or("a fault")?;
-    assert_eq!(rt; fault.kind, ReadKind::UnknownOpcode);
-    assert_eq!(rt; fault.at, 25);
+    refuses_bytes(&rt, rt.alloc(), &[(extends, ReadKind::UnknownOpcode, 25)])?;
     let mismatch = Some((FaultKind::TypeMismatch, token(10, 0, 1)));
     tells(&rt, rt.alloc(), extends, Profile::Extended, mismatch)
 }
