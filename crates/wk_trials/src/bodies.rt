@@ -27,6 +27,9 @@ pub(crate) const NO_MEMORY: ReadFault = ReadFault {
 // The index of the type of a function with such a code.
 const OWN_TYPE: u32 = 4;
 
+// What `uses` finds beside what the code refers to.
+const OWN_REF: [Ref; 1] = [Ref::Ty(OWN_TYPE)];
+
 /// The code of a function in a profile, and what its calls give.
 #[derive(Clone, Copy)]
 pub(crate) struct Code {
@@ -37,11 +40,18 @@ pub(crate) struct Code {
     written: &'static [u8],
     /// With the function 5 and those above it moved.
     moved: &'static [u8],
-    /// What it refers to, in order.
-    refs: &'static [Ref],
-    /// The same with the type 4.
-    uses: &'static [Ref],
+    /// What it refers to beside [`REFS`].
+    more: &'static [Ref],
 }
+
+// What either code refers to.
+const REFS: [Ref; 5] = [
+    Ref::Ty(3),
+    Ref::Func(5),
+    Ref::Global(7),
+    Ref::Table,
+    Ref::Memory,
+];
 
 /// Code of WebAssembly 1.0.
 pub(crate) const CORE_CODE: Code = Code {
@@ -49,21 +59,7 @@ pub(crate) const CORE_CODE: Code = Code {
     padded: PADDED,
     written: BODY,
     moved: WITH_FUNC_MOVED,
-    refs: &[
-        Ref::Ty(3),
-        Ref::Func(5),
-        Ref::Global(7),
-        Ref::Table,
-        Ref::Memory,
-    ],
-    uses: &[
-        Ref::Ty(3),
-        Ref::Ty(4),
-        Ref::Func(5),
-        Ref::Global(7),
-        Ref::Table,
-        Ref::Memory,
-    ],
+    more: &[],
 };
 
 /// Code that only the wider profile has.
@@ -72,23 +68,7 @@ pub(crate) const WIDE_CODE: Code = Code {
     padded: WIDE_PADDED,
     written: WIDE,
     moved: WIDE_WITH_FUNC_MOVED,
-    refs: &[
-        Ref::Ty(3),
-        Ref::Ty(64),
-        Ref::Func(5),
-        Ref::Global(7),
-        Ref::Table,
-        Ref::Memory,
-    ],
-    uses: &[
-        Ref::Ty(3),
-        Ref::Ty(4),
-        Ref::Ty(64),
-        Ref::Func(5),
-        Ref::Global(7),
-        Ref::Table,
-        Ref::Memory,
-    ],
+    more: &[Ref::Ty(64)],
 };
 
 // Whether the body is written as these bytes.
@@ -107,14 +87,26 @@ pub(crate) fn is_length(len: Option<u32>, bytes: &[u8]) -> bool {
     }
 }
 
-// Whether these references are found, and no others.
-fn are_refs(found: &BTreeSet<Ref>, wanted: &[Ref]) -> bool {
+// How many references of a list there are, if all of them are found.
+fn found_of(found: &BTreeSet<Ref>, wanted: &[Ref]) -> Option<usize> {
     for reference in wanted {
         if !found.contains(reference) {
-            return false;
+            return None;
         }
     }
-    found.len() == wanted.len()
+    Some(wanted.len())
+}
+
+// Whether the references of these lists are found, and no others.
+fn are_refs(found: &BTreeSet<Ref>, lists: [&[Ref]; 3]) -> bool {
+    let mut count = 0usize;
+    for wanted in lists {
+        match found_of(found, wanted) {
+            Some(more) => count = count.saturating_add(more),
+            None => return false,
+        }
+    }
+    found.len() == count
 }
 
 // Whether they are the same references.
@@ -423,7 +415,7 @@ impl Code {
         call_ends(alloc);
         match answer {
             Ok(moved) => Outcome::answered(are_alike(&moved, &wanted)),
-            Err(OutOfMemory) => Outcome::refused(are_refs(&found, self.uses)),
+            Err(OutOfMemory) => Outcome::refused(self.are_refs(&found, &OWN_REF)),
         }
     }
 
@@ -437,16 +429,21 @@ impl Code {
         }
     }
 
-    // What looking for references answered, of which these are right.
+    // Whether what it refers to is found, with these, and nothing else.
+    fn are_refs(self, found: &BTreeSet<Ref>, own: &[Ref]) -> bool {
+        are_refs(found, [&REFS, self.more, own])
+    }
+
+    // What looking for references answered, of which these are right beside those of the code.
     fn was_found(
         self,
         alloc: Global,
         answer: &Result<BTreeSet<Ref>, OutOfMemory>,
-        wanted: &[Ref],
+        own: &[Ref],
         body: &Body,
     ) -> Outcome {
         match answer {
-            Ok(found) => Outcome::answered(are_refs(found, wanted)),
+            Ok(found) => Outcome::answered(self.are_refs(found, own)),
             Err(OutOfMemory) => Outcome::refused(is_body(alloc, body, self.written)),
         }
     }
@@ -455,14 +452,14 @@ impl Code {
         call_begins(alloc);
         let answer = refs(alloc, body);
         call_ends(alloc);
-        and_drop(self.was_found(alloc, &answer, self.refs, body), answer)
+        and_drop(self.was_found(alloc, &answer, &[], body), answer)
     }
 
     fn finds_uses(self, alloc: Global, body: &Body) -> Outcome {
         call_begins(alloc);
         let answer = uses(alloc, OWN_TYPE, body);
         call_ends(alloc);
-        and_drop(self.was_found(alloc, &answer, self.uses, body), answer)
+        and_drop(self.was_found(alloc, &answer, &OWN_REF, body), answer)
     }
 }
 

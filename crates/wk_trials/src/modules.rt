@@ -41,47 +41,35 @@ pub(crate) struct Sample {
     pub(crate) bytes: &'static [u8],
 }
 
+macro_rules! sample {
+    ($profile:ident, $bytes:expr) => {
+        Sample {
+            profile: Profile::$profile,
+            bytes: $bytes,
+        }
+    };
+}
+
 /// Types and custom sections.
-pub(crate) const OF_TYPES: Sample = Sample {
-    profile: Profile::Core,
-    bytes: MODULE,
-};
+pub(crate) const OF_TYPES: Sample = sample!(Core, MODULE);
 
 /// Every section.
-pub(crate) const OF_ALL: Sample = Sample {
-    profile: Profile::Core,
-    bytes: WHOLE,
-};
+pub(crate) const OF_ALL: Sample = sample!(Core, WHOLE);
 
 /// A valid module.
-pub(crate) const OF_VALID: Sample = Sample {
-    profile: Profile::Core,
-    bytes: VALID,
-};
+pub(crate) const OF_VALID: Sample = sample!(Core, VALID);
 
 /// A valid module in which all that can move does.
-pub(crate) const OF_MOVING: Sample = Sample {
-    profile: Profile::Core,
-    bytes: MOVING,
-};
+pub(crate) const OF_MOVING: Sample = sample!(Core, MOVING);
 
 /// Two functions.
-pub(crate) const OF_TWO: Sample = Sample {
-    profile: Profile::Core,
-    bytes: TWO_CODES,
-};
+pub(crate) const OF_TWO: Sample = sample!(Core, TWO_CODES);
 
 /// A valid module of the wider profile, with every section.
-pub(crate) const OF_WIDE: Sample = Sample {
-    profile: Profile::Extended,
-    bytes: WIDE,
-};
+pub(crate) const OF_WIDE: Sample = sample!(Extended, WIDE);
 
 /// More functions than an outline has room for behind its first code.
-pub(crate) const OF_MANY: Sample = Sample {
-    profile: Profile::Core,
-    bytes: SEVENTY_CODES,
-};
+pub(crate) const OF_MANY: Sample = sample!(Core, SEVENTY_CODES);
 
 /// Whether the module is written as these bytes.
 pub(crate) fn is_written_as(alloc: Global, module: &Module, bytes: &[u8]) -> bool {

@@ -137,6 +137,15 @@ pub(crate) enum Scenario {
 /// A scenario with its name, which ends in `-in-room` where it takes no memory.
 pub(crate) type Named = (&'static str, Scenario);
 
+// A table of scenarios, a line each.
+macro_rules! scenarios {
+    ($($name:literal => $scenario:expr,)*) => {
+        [$(($name, $scenario)),*]
+    };
+}
+
+pub(crate) use scenarios;
+
 // The scenario of that name in a table.
 fn find(table: &[Named], name: &str) -> Option<Scenario> {
     for (known, scenario) in table {
