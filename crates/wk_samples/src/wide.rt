@@ -61,54 +61,23 @@ pub const ALL_KEPT: &[u8] = b"\0asm\x01\0\0\0\
     \x0b\x08\x01\x00\x41\x00\x0b\x02\xaa\xbb";
 
 /// An edit of each kind, as a script, with code that only the wider profile has.
-pub const OF_EACH_KIND: &[u8] = b"type i32 f64
-import func a h 1
-import table a u 4
-import memory a n 1 3
-import global a i i64 const
-func 0 0041001002c21a0b
-body 2 01017e20000201ac0b0b
-global i32 var 23000b
-export func h 2
-unexport g
-custom set c 0909
-custom strip c
-strip
-";
+pub const OF_EACH_KIND: &[u8] = b"type i32 f64\n\
+    import func a h 1\nimport table a u 4\nimport memory a n 1 3\nimport global a i i64 const\n\
+    func 0 0041001002c21a0b\nbody 2 01017e20000201ac0b0b\nglobal i32 var 23000b\n\
+    export func h 2\nunexport g\n\
+    custom set c 0909\ncustom strip c\nstrip\n";
 
 /// The report of them.
-pub const ALL_REPORT: &[u8] = b"1 ok
-2 ok
-3 ok
-4 ok
-5 ok
-6 ok
-7 ok
-8 ok
-9 ok
-10 ok
-11 ok
-12 ok
-13 ok
-invalid V5 TooManyTables at section 4 item 0
-";
+pub const ALL_REPORT: &[u8] =
+    b"1 ok\n2 ok\n3 ok\n4 ok\n5 ok\n6 ok\n7 ok\n8 ok\n9 ok\n10 ok\n11 ok\n12 ok\n13 ok\n\
+    invalid V5 TooManyTables at section 4 item 0\n";
 
 /// The report of them where the module has to stay valid.
-pub const KEPT_REPORT: &[u8] = b"1 ok
-2 ok
-3 refused E7 WouldBreak V5 TooManyTables at section 4 item 0
-4 refused E7 WouldBreak V6 TooManyMemories at section 5 item 0
-5 ok
-6 ok
-7 ok
-8 ok
-9 ok
-10 ok
-11 ok
-12 ok
-13 ok
-valid
-";
+pub const KEPT_REPORT: &[u8] = b"1 ok\n2 ok\n\
+    3 refused E7 WouldBreak V5 TooManyTables at section 4 item 0\n\
+    4 refused E7 WouldBreak V6 TooManyMemories at section 5 item 0\n\
+    5 ok\n6 ok\n7 ok\n8 ok\n9 ok\n10 ok\n11 ok\n12 ok\n13 ok\n\
+    valid\n";
 
 /// The headers of [`WIDE`].
 pub const HEADERS: &[u8] = b"  Custom start=0x0000000a end=0x0000000e size=0x00000004 name=c

@@ -41,18 +41,11 @@ pub(crate) const EACH_KIND: Draft = Draft {
 
 /// An edit of each kind of which the module stays valid.
 pub(crate) const EACH_KIND_KEPT: Draft = Draft {
-    script: b"type i32 f64
-import func a h 1
-import global a i i64 const
-func 0 00410010021a0b
-body 2 01017e20010b
-global i32 var 23000b
-export func h 2
-unexport g
-custom set c 0909
-custom strip c
-strip
-",
+    script: b"type i32 f64\n\
+        import func a h 1\nimport global a i i64 const\n\
+        func 0 00410010021a0b\nbody 2 01017e20010b\nglobal i32 var 23000b\n\
+        export func h 2\nunexport g\n\
+        custom set c 0909\ncustom strip c\nstrip\n",
     keep: true,
     made: moving::ALL_KEPT,
     ..EACH_KIND
