@@ -25,109 +25,38 @@ struct Shape {
     is_invalid: bool,
 }
 
+// Shapes, a line each, in the order of their fields.
+macro_rules! shapes {
+    ($($nops:expr, $exports:literal, $datas:literal, $customs:literal, $is_invalid:literal;)*) => {
+        [$(Shape {
+            nops: $nops,
+            exports: $exports,
+            datas: $datas,
+            customs: $customs,
+            is_invalid: $is_invalid,
+        }),*]
+    };
+}
+
 // The fewest instructions at which the body outweighs its type, its stub and the rest, where nothing else is there.
 const ENOUGH: u32 = 142;
 
-static SHAPES: [Shape; 14] = [
-    Shape {
-        nops: 0,
-        exports: 0,
-        datas: 0,
-        customs: 0,
-        is_invalid: false,
-    },
-    Shape {
-        nops: ENOUGH - 1,
-        exports: 0,
-        datas: 0,
-        customs: 0,
-        is_invalid: false,
-    },
-    Shape {
-        nops: ENOUGH,
-        exports: 0,
-        datas: 0,
-        customs: 0,
-        is_invalid: false,
-    },
-    Shape {
-        nops: ENOUGH,
-        exports: 1,
-        datas: 0,
-        customs: 0,
-        is_invalid: false,
-    },
-    Shape {
-        nops: ENOUGH + 81,
-        exports: 1,
-        datas: 0,
-        customs: 0,
-        is_invalid: false,
-    },
-    Shape {
-        nops: ENOUGH + 82,
-        exports: 1,
-        datas: 0,
-        customs: 0,
-        is_invalid: false,
-    },
-    Shape {
-        nops: ENOUGH + 137,
-        exports: 0,
-        datas: 1,
-        customs: 0,
-        is_invalid: false,
-    },
-    Shape {
-        nops: ENOUGH + 138,
-        exports: 0,
-        datas: 1,
-        customs: 0,
-        is_invalid: false,
-    },
-    Shape {
-        nops: ENOUGH,
-        exports: 0,
-        datas: 0,
-        customs: 28,
-        is_invalid: false,
-    },
-    Shape {
-        nops: ENOUGH,
-        exports: 0,
-        datas: 0,
-        customs: 29,
-        is_invalid: false,
-    },
-    Shape {
-        nops: ENOUGH + 138,
-        exports: 0,
-        datas: 1,
-        customs: 27,
-        is_invalid: false,
-    },
-    Shape {
-        nops: ENOUGH + 138,
-        exports: 0,
-        datas: 1,
-        customs: 28,
-        is_invalid: false,
-    },
-    Shape {
-        nops: ENOUGH - 3,
-        exports: 0,
-        datas: 0,
-        customs: 0,
-        is_invalid: true,
-    },
-    Shape {
-        nops: ENOUGH - 2,
-        exports: 0,
-        datas: 0,
-        customs: 0,
-        is_invalid: true,
-    },
-];
+static SHAPES: [Shape; 14] = shapes! {
+    0, 0, 0, 0, false;
+    ENOUGH - 1, 0, 0, 0, false;
+    ENOUGH, 0, 0, 0, false;
+    ENOUGH, 1, 0, 0, false;
+    ENOUGH + 81, 1, 0, 0, false;
+    ENOUGH + 82, 1, 0, 0, false;
+    ENOUGH + 137, 0, 1, 0, false;
+    ENOUGH + 138, 0, 1, 0, false;
+    ENOUGH, 0, 0, 28, false;
+    ENOUGH, 0, 0, 29, false;
+    ENOUGH + 138, 0, 1, 27, false;
+    ENOUGH + 138, 0, 1, 28, false;
+    ENOUGH - 3, 0, 0, 0, true;
+    ENOUGH - 2, 0, 0, 0, true;
+};
 
 // Scripts that a draft answers, and that it leaves to a session where each edit has to leave a valid module.
 static SCRIPTS: [&[u8]; 4] = [

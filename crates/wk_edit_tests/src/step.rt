@@ -64,6 +64,15 @@ impl Judged {
 /// A line of a script, what its edit is answered, and the module and the verdict that it leaves.
 pub(crate) type Step = (&'static [u8], Answer, &'static [u8], Judged);
 
+// Steps, each behind the next: a line, what it is answered, and what it leaves.
+macro_rules! steps {
+    ($($line:literal => $answer:expr, $bytes:expr, $judged:expr;)*) => {
+        [$(($line, $answer, $bytes, $judged)),*]
+    };
+}
+
+pub(crate) use steps;
+
 /// A module, and edits of it, each of what the one before leaves.
 #[derive(Clone, Copy)]
 pub(crate) struct Walk {
@@ -74,3 +83,12 @@ pub(crate) struct Walk {
     /// The edits.
     pub(crate) steps: &'static [Step],
 }
+
+// Walks, a line each, in the order of their fields.
+macro_rules! walks {
+    ($($bytes:expr, $keep:literal, $steps:expr;)*) => {
+        [$(Walk { bytes: $bytes, keep: $keep, steps: $steps }),*]
+    };
+}
+
+pub(crate) use walks;

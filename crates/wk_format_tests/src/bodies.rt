@@ -20,7 +20,8 @@ const GROUPS: [LocalGroup; 2] = [
     },
 ];
 
-const TOKENS: [Token; 14] = [
+/// The tokens of [`BODY`].
+pub(crate) const TOKENS: [Token; 14] = [
     Token::Block {
         ty: BlockType::Empty,
         skip: 7,

@@ -1,5 +1,6 @@
 //! Tokens: read one by one, named and measured; instructions with their opcodes and types.
 
+use crate::bodies::TOKENS;
 use std::alloc::Global;
 use std::test::Fail;
 use wk_body::{
@@ -11,34 +12,22 @@ use wk_samples::bodies::BODY;
 
 const EMPTY: BlockType = BlockType::Empty;
 
-// What comes one by one: each token stands for itself alone.
-const TOKENS: [Token; 13] = [
-    Token::Block { ty: EMPTY, skip: 0 },
-    Token::If { ty: EMPTY, skip: 0 },
-    Token::Call(5),
-    Token::Else { skip: 0 },
-    Token::CallIndirect(3),
-    Token::End,
-    Token::GlobalGet(7),
-    Token::Drop,
-    Token::End,
-    Token::BrTable {
-        start: 0,
-        len: 3,
-        other: 0,
-    },
-    Token::Loop {
-        ty: BlockType::Value(ValType::I32),
-        skip: 0,
-    },
-    Token::MemorySize,
-    Token::End,
-];
+// What comes for a token of a body: it stands for itself alone.
+fn alone(token: Token) -> Token {
+    match token {
+        Token::Block { ty, .. } => Token::Block { ty, skip: 0 },
+        Token::Loop { ty, .. } => Token::Loop { ty, skip: 0 },
+        Token::If { ty, .. } => Token::If { ty, skip: 0 },
+        Token::Else { .. } => Token::Else { skip: 0 },
+        _ => token,
+    }
+}
 
-// Whether these tokens come, and the end behind them, which leaves nothing.
+// Whether the tokens of the body come, and its end, which leaves nothing.
 fn hands_out(reader: &mut TokenReader, cursor: &mut Cursor<'_>) -> bool {
-    for token in TOKENS {
-        if reader.next(Profile::Core, cursor) != Ok(Some(token)) {
+    let [tokens @ .., _] = &TOKENS;
+    for token in tokens {
+        if reader.next(Profile::Core, cursor) != Ok(Some(alone(*token))) {
             return false;
         }
     }
