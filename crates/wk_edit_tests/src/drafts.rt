@@ -42,7 +42,8 @@ static SCRIPTS: [(&[u8], bool); 8] = [
         true,
     ),
     (
-        b"import func m h 0\nbody 3 00200010010b\nfunc 0 0010030b\nexport func y 4\nimport func m i 0\n",
+        b"import func m h 0\nbody 3 00200010010b\nfunc 0 0010030b\nexport func y 4\n\
+            import func m i 0\n",
         true,
     ),
     (

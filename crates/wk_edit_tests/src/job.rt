@@ -197,7 +197,8 @@ const KEPT: [Row; 4] = [
         b"strip\n",
         Status::Refused,
         TWO_RESULTS,
-        b"1 refused E7 WouldBreak V1 TypeArity at section 1 item 0\ninvalid V1 TypeArity at section 1 item 0\n",
+        b"1 refused E7 WouldBreak V1 TypeArity at section 1 item 0\n\
+            invalid V1 TypeArity at section 1 item 0\n",
     ),
     (
         CUSTOMS,

@@ -43,8 +43,8 @@ pub(crate) const SET_NEW: Trial =
 pub(crate) const STRIP_ALL: Trial =
     trial!(Core MODULE, b"strip" => Made([0, 0, 0], WITHOUT_CUSTOMS));
 
-pub(crate) const REMOVE_MOST: Trial =
-    trial!(Core MOSTLY_ONE_NAME, b"unexport nnnnnnnnnnnnnnnnnnnnnnnnnnnnnnnnnnnnnnnnnnnnnnnnnnnnnnnnnnnn"
+pub(crate) const REMOVE_MOST: Trial = trial!(Core MOSTLY_ONE_NAME,
+    b"unexport nnnnnnnnnnnnnnnnnnnnnnnnnnnnnnnnnnnnnnnnnnnnnnnnnnnnnnnnnnnn"
         => Made([0, 0, 1], WITHOUT_LONG_NAME));
 
 // Each kind of edit, of a module in which all moves that can.
