@@ -25,8 +25,7 @@ fn alone(token: Token) -> Token {
 
 // Whether the tokens of the body come, and its end, which leaves nothing.
 fn hands_out(reader: &mut TokenReader, cursor: &mut Cursor<'_>) -> bool {
-    let [tokens @ .., _] = &TOKENS;
-    for token in tokens {
+    for token in &TOKENS[..TOKENS.len() - 1] {
         if reader.next(Profile::Core, cursor) != Ok(Some(alone(*token))) {
             return false;
         }

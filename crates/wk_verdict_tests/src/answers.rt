@@ -52,11 +52,14 @@ struct Lent<'a> {
 }
 
 impl<'a> Env for Lent<'a> {
-    ghost use Rattle.wk_check.specs.Spaces.{Spaces, answer_in, answers_of_kind};
+    ghost use Rattle.wk_check.specs.Spaces.{answer_in, answers_of_kind};
+    ghost use Rattle.wk_verdict_tests.specs.Lent.{lent};
 
-    ghost answers = { λ l r. answer_in (record { types = l.types.now; funcs = l.funcs.now; tables = l.tables.now; memories = l.memories.now; globals = l.globals.now }) r };
+    ghost answers = { λ l r. answer_in
+        (lent l.types.now l.funcs.now l.tables.now l.memories.now l.globals.now) r };
 
-    ghost of_kind = { λ l r. answers_of_kind (record { types = l.types.now; funcs = l.funcs.now; tables = l.tables.now; memories = l.memories.now; globals = l.globals.now }) r };
+    ghost of_kind = { λ l r. answers_of_kind
+        (lent l.types.now l.funcs.now l.tables.now l.memories.now l.globals.now) r };
 
     fn answer(&self, reference: Ref) -> Answer<'_> {
         match reference {
