@@ -1,12 +1,10 @@
 //! Items that are read where they stand.
 
-use std::alloc::Global;
 use std::test::Fail;
 use wk_bytes::{Cursor, ReadFault, ReadKind};
 use wk_module::{
-    GlobalDef, GlobalType, ImportDesc, Kind, Limits, Profile, Scratch, ValType, encode_expr,
-    read_export, read_global, read_import_desc, read_memory_type, read_sized_bytes,
-    read_table_type,
+    GlobalType, ImportDesc, Kind, Limits, ValType, read_export, read_global_type, read_import_desc,
+    read_memory_type, read_sized_bytes, read_table_type,
 };
 
 // Bytes, the kind of the fault that they have, and where it lies.
@@ -186,60 +184,40 @@ fn reads_limits(rt: HostRuntime) -> Result<(), Fail> {
     Ok(())
 }
 
-// Sign extension is of the extended profile alone.
-const EXTENDED: &[u8] = b"\x7f\x00\x41\x01\xc0\x0b";
-
-const BAD_GLOBALS: [Bad; 4] = [
-    (b"\x7b\x00\x41\x00\x0b", ReadKind::BadByte, 0),
-    (b"\x7f\x02\x41\x00\x0b", ReadKind::BadByte, 1),
-    (b"\x7f\x00\x41\x00", ReadKind::UnexpectedEnd, 4),
-    (EXTENDED, ReadKind::UnknownOpcode, 4),
+// Types of globals, and how many bytes are left behind each.
+const GLOBAL_TYPES: [(&[u8], ValType, bool, usize); 4] = [
+    (b"\x7f\x00", ValType::I32, false, 0),
+    (b"\x7e\x01\x42\x00\x0b", ValType::I64, true, 3),
+    (b"\x7d\x01", ValType::F32, true, 0),
+    (b"\x7c\x00\xaa", ValType::F64, false, 1),
 ];
 
-fn is_global(alloc: Global, global: &GlobalDef, ty: GlobalType, init: &[u8]) -> bool {
-    match encode_expr(alloc, &global.init) {
-        Ok(written) => global.ty == ty && written.as_slice() == init,
-        Err(_) => false,
-    }
-}
+const BAD_GLOBAL_TYPES: [Bad; 4] = [
+    (b"", ReadKind::UnexpectedEnd, 0),
+    (b"\x7b\x00", ReadKind::BadByte, 0),
+    (b"\x7f", ReadKind::UnexpectedEnd, 1),
+    (b"\x7f\x02", ReadKind::BadByte, 1),
+];
 
-// Whether the global is read, with one byte behind it left.
-fn reads_global(alloc: Global) -> bool {
-    let mut cursor = Cursor::new(b"\x7c\x01\x23\x80\x00\x0b\xaa");
-    let ty = GlobalType {
-        val: ValType::F64,
-        mutable: true,
-    };
-    match read_global(alloc, &mut Scratch::new(alloc), Profile::Core, &mut cursor) {
-        Ok(global) => {
-            is_global(alloc, &global, ty, b"\x23\x00\x0b") && cursor.rest() == b"\xaa".as_slice()
+fn wrong_global_type() -> Option<usize> {
+    for (place, (bytes, val, mutable, left)) in GLOBAL_TYPES.iter().enumerate() {
+        let mut cursor = Cursor::new(bytes);
+        let ty = GlobalType {
+            val: *val,
+            mutable: *mutable,
+        };
+        if read_global_type(&mut cursor) != Ok(ty) || cursor.rest().len() != *left {
+            return Some(place);
         }
-        Err(_) => false,
     }
+    None
 }
 
-fn reads_extended(alloc: Global) -> bool {
-    let ty = GlobalType {
-        val: ValType::I32,
-        mutable: false,
-    };
-    let mut cursor = Cursor::new(EXTENDED);
-    match read_global(
-        alloc,
-        &mut Scratch::new(alloc),
-        Profile::Extended,
-        &mut cursor,
-    ) {
-        Ok(global) => is_global(alloc, &global, ty, b"\x41\x01\xc0\x0b"),
-        Err(_) => false,
-    }
-}
-
-fn wrong_global(alloc: Global) -> Option<usize> {
-    let mut scratch = Scratch::new(alloc);
-    for (place, row) in BAD_GLOBALS.iter().enumerate() {
-        match read_global(alloc, &mut scratch, Profile::Core, &mut Cursor::new(row.0)) {
-            Err(fault) if is_fault(fault, *row) => {}
+fn wrong_bad_global_type() -> Option<usize> {
+    for (place, row) in BAD_GLOBAL_TYPES.iter().enumerate() {
+        let mut cursor = Cursor::new(row.0);
+        match read_global_type(&mut cursor) {
+            Err(fault) if is_fault(fault, *row) && cursor.rest().len() == row.0.len() => {}
             _ => return Some(place),
         }
     }
@@ -247,9 +225,9 @@ fn wrong_global(alloc: Global) -> Option<usize> {
 }
 
 #[test]
-fn reads_globals(rt: HostRuntime) -> Result<(), Fail> {
-    assert!(rt; reads_global(rt.alloc()) && reads_extended(rt.alloc()));
-    assert_eq!(rt; wrong_global(rt.alloc()), None);
+fn reads_global_types(rt: HostRuntime) -> Result<(), Fail> {
+    assert_eq!(rt; wrong_global_type(), None);
+    assert_eq!(rt; wrong_bad_global_type(), None);
     Ok(())
 }
 

@@ -5,7 +5,7 @@ ghost use Rattle.std.specs.Prelude.{◌<◌};
 use std::alloc::Global;
 use std::process::Abort;
 use std::test::Fail;
-use wk_bytes::Cursor;
+use wk_bytes::{Cursor, ReadFault, ReadKind};
 use wk_check::FaultKind::{
     Alignment, ConstantExpected, GlobalImmutable, StackHeight, StackUnderflow, TypeMismatch,
     UnknownFunc, UnknownGlobal, UnknownMemory, UnknownTable, UnknownType,
@@ -15,7 +15,10 @@ use wk_module::{
     FuncType, GlobalType, Limits, Lists, Parts, Profile, Ref, ValType, read_body_in, read_expr_in,
     read_in,
 };
-use wk_typing::{Fault, Flaw, Place, Room, Rooms, constant_flaw, type_body, type_encoded_body};
+use wk_typing::{
+    Fault, Flaw, Place, Room, Rooms, constant_flaw, next_constant_flaw, type_body,
+    type_encoded_body,
+};
 
 // The types [] -> [], [i32] -> [i32] and [] -> [i32, i32].
 const TYPES: &[u8] = b"\0asm\x01\0\0\0\x01\x0e\x03\x60\0\0\x60\x01\x7f\x01\x7f\x60\0\x02\x7f\x7f";
@@ -287,5 +290,114 @@ fn finds_flaws_at_their_places(rt: HostRuntime) -> Result<(), Fail> {
     };
     let kind = StackHeight;
     assert_eq!(rt; Flaw::of(kind).at(6, 2), Fault { kind, place });
+    Ok(())
+}
+
+// A type, bytes that begin with a constant expression, what is wrong with it at a token, and how many bytes are left behind it.
+type Constant = (ValType, &'static [u8], Option<(FaultKind, u32)>, usize);
+
+const CONSTANTS: [Constant; 13] = [
+    // a constant of each type, short and padded, and what may come behind it
+    (ValType::I32, b"\x41\x7f\x0b\xaa", None, 1),
+    (ValType::I32, b"\x41\x80\x80\0\x0b", None, 0),
+    (
+        ValType::I64,
+        b"\x42\x80\x80\x80\x80\x80\x80\x80\x80\x80\x7f\x0b",
+        None,
+        0,
+    ),
+    (ValType::F32, b"\x43\0\0\x80\x3f\x0b", None, 0),
+    (ValType::F64, b"\x44\0\0\0\0\0\0\xf0\x3f\x0b\x0b", None, 1),
+    // one of another type
+    (ValType::I64, b"\x41\0\x0b", Some((TypeMismatch, 1)), 0),
+    (
+        ValType::F32,
+        b"\x44\0\0\0\0\0\0\0\0\x0b",
+        Some((TypeMismatch, 1)),
+        0,
+    ),
+    // globals
+    (ValType::I32, b"\x23\0\x0b\x0b", None, 1),
+    (ValType::F32, b"\x23\0\x0b", Some((TypeMismatch, 1)), 0),
+    (
+        ValType::I64,
+        b"\x23\x01\x0b",
+        Some((ConstantExpected, 0)),
+        0,
+    ),
+    // none, two, and what is not constant
+    (ValType::I32, b"\x0b\xaa", Some((StackUnderflow, 0)), 1),
+    (ValType::I32, b"\x41\0\x41\0\x0b", Some((StackHeight, 2)), 0),
+    (
+        ValType::I32,
+        b"\x41\0\x01\x0b\x0b",
+        Some((ConstantExpected, 1)),
+        1,
+    ),
+];
+
+// The place of the first row that is judged otherwise, each in the rooms of those before it.
+fn wrong_constant(alloc: Global, env: &Lent) -> Option<usize> {
+    let mut rooms = Rooms::new(alloc);
+    for (place, (ty, bytes, fault, left)) in CONSTANTS.iter().enumerate() {
+        let mut cursor = Cursor::new(bytes);
+        let wanted = verdict_of(*fault).flaw();
+        match next_constant_flaw(alloc, env, *ty, Profile::Core, &mut cursor, &mut rooms) {
+            Ok(flaw) if flaw == wanted && cursor.rest().len() == *left => {}
+            _ => return Some(place),
+        }
+    }
+    None
+}
+
+// A type, bytes that begin with no constant expression of 1.0, and the fault of reading them.
+const NO_CONSTANTS: [(ValType, &[u8], ReadKind, u32); 7] = [
+    (ValType::I32, b"", ReadKind::UnexpectedEnd, 0),
+    (ValType::I32, b"\x41", ReadKind::UnexpectedEnd, 1),
+    (ValType::I32, b"\x41\0", ReadKind::UnexpectedEnd, 2),
+    (
+        ValType::I32,
+        b"\x41\x80\x80\x80\x80\x80\0\x0b",
+        ReadKind::IntTooLong,
+        1,
+    ),
+    (
+        ValType::I64,
+        b"\x41\xff\xff\xff\xff\x3f\x0b",
+        ReadKind::IntTooLarge,
+        1,
+    ),
+    (ValType::F32, b"\x43\0\0\0", ReadKind::UnexpectedEnd, 1),
+    // a sign extension
+    (ValType::I32, b"\x41\0\xc0\x0b", ReadKind::UnknownOpcode, 2),
+];
+
+fn wrong_refusal(alloc: Global, env: &Lent) -> Option<usize> {
+    let mut rooms = Rooms::new(alloc);
+    for (place, (ty, bytes, kind, at)) in NO_CONSTANTS.iter().enumerate() {
+        let mut cursor = Cursor::new(bytes);
+        let wanted = ReadFault {
+            kind: *kind,
+            at: *at,
+        };
+        match next_constant_flaw(alloc, env, *ty, Profile::Core, &mut cursor, &mut rooms) {
+            Err(fault) if fault == wanted && cursor.rest().len() == bytes.len() => {}
+            _ => return Some(place),
+        }
+    }
+    None
+}
+
+#[test]
+fn judges_constants_that_are_read(rt: HostRuntime) -> Result<(), Fail> {
+    let env = Lent {
+        types: &[],
+        funcs: &[],
+        globals: &GLOBALS,
+        tables: &[],
+        memories: &[],
+    };
+    assert_eq!(rt; wrong_constant(rt.alloc(), &env), None);
+    assert_eq!(rt; wrong_refusal(rt.alloc(), &env), None);
     Ok(())
 }
