@@ -80,11 +80,16 @@ impl Token {
     pub fn name(&self) -> &'static str
         ensures { result.now ≡ tok_name (told [] self.now) }
     {
-        match *self {
-            Token::BrTable { .. } => opcode::name(opcode::BR_TABLE),
-            Token::Access { op, .. } => op.name(),
-            Token::Numeric(op) => op.name(),
-            _ => opcode::name(self.operands(&[]).0),
+        // Three tests one by one: as arms of a match around the rest they had it jump by the token twice.
+        if let Token::Access { op, .. } = *self {
+            return op.name();
         }
+        if let Token::Numeric(op) = *self {
+            return op.name();
+        }
+        if let Token::BrTable { .. } = *self {
+            return opcode::name(opcode::BR_TABLE);
+        }
+        opcode::name(self.operands(&[]).0)
     }
 }

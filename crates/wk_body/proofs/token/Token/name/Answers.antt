@@ -15,6 +15,6 @@ named (Access op align offset) access numeric = absurd (access op align offset r
 named (Numeric op) access numeric = absurd (numeric op refl)
 named _ access numeric = refl
 
-pub returns-in_default : goal.returns-in_default
-returns-in_default c =
-    c.name-in_default.ensures ∙ ap opcode_name c.operands.ensures.opcode ∙ named c.args.self.now c.in_default.not-Access c.in_default.not-Numeric
+pub returns : goal.returns
+returns c =
+    c.name-2.ensures ∙ ap opcode_name c.operands.ensures.opcode ∙ named c.args.self.now c.in_default.not-Access c.in_default-self.not-Numeric
