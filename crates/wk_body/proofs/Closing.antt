@@ -1,6 +1,6 @@
 -- A scratch whose innermost block ends.
 use Rattle.std.proofs.Common.{◌≡◌, ℕ, zero, suc, ◌+◌, ◌-◌, ◌<◌, ◌≤◌, true, false, cond, eqb, List, [], ◌∷◌, ◌++◌, length, take, set, get_or, refl, sym, ap, ◌∙◌}
-use Rattle.std.proofs.Common.{append_assoc, arith, length-append}
+use Rattle.std.proofs.Common.{append_assoc, arith, length-append, ◌⊎◌, inl, inr, subst}
 use Rattle.std.specs.List.{AllByRecursion}
 use Rattle.std.proofs.Math.Seq.{set-append_seam, get_or-append_seam, take-append_seam}
 use Rattle.std.proofs.Math.ListN.{get_or-map}
@@ -183,24 +183,23 @@ one_closed pool tokens outer place front whole t current e h w =
       parts = λ xs. rw (f, e2) (over_ended a current t (length current) xs);
     }
 
-pub block_closed : (pool : List ℕ) (tokens : List Token) (outer : List Frame) (current : Instrs) (place : ℕ) (frame : Frame)
-    → all_told pool tokens ≡ (written_frames outer ++ written_frame frame) ++ flatten current
-    → place_of (length (written_frames outer)) frame ≡ opened.Block place → Closed pool tokens (ended tokens place) outer place
-unfolding re_skip
-block_closed pool tokens outer current place (InBlock kind ty front) e h =
-    one_closed pool tokens outer place front (Block kind ty current Finish) (Open kind ty 0) (flatten current) e (cc) refl
-block_closed pool tokens outer current place (InThen ty front) e h = absurd cc
-block_closed pool tokens outer current place (InElse ty front first) e h = absurd cc
+-- what is open at a place is a block, or an if that has no else yet
+abbrev pub IsPlainAt : ℕ → Opened → Type 0
+IsPlainAt place o = (o ≡ opened.Block place) ⊎ (o ≡ opened.Then place)
 
-pub then_closed : (pool : List ℕ) (tokens : List Token) (outer : List Frame) (current : Instrs) (place : ℕ) (frame : Frame)
+plain_closed : (pool : List ℕ) (tokens : List Token) (outer : List Frame) (current : Instrs) (place : ℕ) (frame : Frame)
     → all_told pool tokens ≡ (written_frames outer ++ written_frame frame) ++ flatten current
-    → place_of (length (written_frames outer)) frame ≡ opened.Then place → Closed pool tokens (ended tokens place) outer place
+    → IsPlainAt place (place_of (length (written_frames outer)) frame) → Closed pool tokens (ended tokens place) outer place
 unfolding re_skip
-then_closed pool tokens outer current place (InBlock kind ty front) e h = absurd cc
-then_closed pool tokens outer current place (InThen ty front) e h =
+plain_closed pool tokens outer current place (InBlock kind ty front) e (inl h) =
+    one_closed pool tokens outer place front (Block kind ty current Finish) (Open kind ty 0) (flatten current) e (cc) refl
+plain_closed pool tokens outer current place (InThen ty front) e (inr h) =
     one_closed pool tokens outer place front (If ty current Finish Finish) (OpenIf ty 0) (flatten current) e (cc)
     (ap (λ (r : List Tok). OpenIf ty (length r) ∷ (r ++ Close ∷ [])) (append-nil (flatten current)))
-then_closed pool tokens outer current place (InElse ty front first) e h = absurd cc
+plain_closed pool tokens outer current place (InBlock kind ty front) e (inr h) = absurd cc
+plain_closed pool tokens outer current place (InThen ty front) e (inl h) = absurd cc
+plain_closed pool tokens outer current place (InElse ty front first) e (inl h) = absurd cc
+plain_closed pool tokens outer current place (InElse ty front first) e (inr h) = absurd cc
 
 regroup_else : (w f g : List Tok) (s t : Tok) (c : List Tok) → (w ++ (f ++ s ∷ (g ++ t ∷ []))) ++ c ≡ ((w ++ f) ++ s ∷ g) ++ t ∷ c
 regroup_else w f g s t c = simp append_assoc
@@ -255,20 +254,11 @@ adds_end old new outer t l b p w i n parts = record {
   size = rw l (omega arith);
 }
 
-pub ends_block : (old new : Scratch) (place : ℕ) → GoodWith old (opened.Block place) → new.labels.items ≡ old.labels.items
+pub ends_plain : (old new : Scratch) (o : Opened) (place : ℕ) → IsPlainAt place o → GoodWith old o → new.labels.items ≡ old.labels.items
     → new.blocks.items ≡ old.blocks.items → new.tokens.items ≡ ended old.tokens.items place → AddsEnd old new
-ends_block old new place good l b e =
-    let i = innermost old.labels.items old.tokens.items old.blocks.items (opened.Block place) good.frames good.current good.built in
-    let c = block_closed old.labels.items old.tokens.items i.outer good.current place i.frame i.written i.place in
-    adds_end old new i.outer c.tree l b i.blocks_are (rw e c.written)
-    (rw e (ended_within (length old.labels.items) old.tokens.items place good.built.within))
-    (rw e (omega (arith, ended_length old.tokens.items place))) (rw e c.parts)
-
-pub ends_then : (old new : Scratch) (place : ℕ) → GoodWith old (opened.Then place) → new.labels.items ≡ old.labels.items
-    → new.blocks.items ≡ old.blocks.items → new.tokens.items ≡ ended old.tokens.items place → AddsEnd old new
-ends_then old new place good l b e =
-    let i = innermost old.labels.items old.tokens.items old.blocks.items (opened.Then place) good.frames good.current good.built in
-    let c = then_closed old.labels.items old.tokens.items i.outer good.current place i.frame i.written i.place in
+ends_plain old new o place is good l b e =
+    let i = innermost old.labels.items old.tokens.items old.blocks.items o good.frames good.current good.built in
+    let c = plain_closed old.labels.items old.tokens.items i.outer good.current place i.frame i.written (subst (IsPlainAt place) (sym i.place) is) in
     adds_end old new i.outer c.tree l b i.blocks_are (rw e c.written)
     (rw e (ended_within (length old.labels.items) old.tokens.items place good.built.within))
     (rw e (omega (arith, ended_length old.tokens.items place))) (rw e c.parts)
@@ -285,15 +275,10 @@ ends_else old new place other good l b e =
     (λ xs. rw e (c.closed.parts xs ∙ c.parts xs))
 
 -- where the open block's tokens stand
-pub place_inside : (b : Scratch) (place : ℕ) → GoodWith b (opened.Block place) → place < length b.tokens.items
-place_inside b place good =
-    let i = innermost b.labels.items b.tokens.items b.blocks.items (opened.Block place) good.frames good.current good.built in
-    (block_closed b.labels.items b.tokens.items i.outer good.current place i.frame i.written i.place).inside
-
-pub then_inside : (b : Scratch) (place : ℕ) → GoodWith b (opened.Then place) → place < length b.tokens.items
-then_inside b place good =
-    let i = innermost b.labels.items b.tokens.items b.blocks.items (opened.Then place) good.frames good.current good.built in
-    (then_closed b.labels.items b.tokens.items i.outer good.current place i.frame i.written i.place).inside
+pub plain_inside : (b : Scratch) (o : Opened) (place : ℕ) → IsPlainAt place o → GoodWith b o → place < length b.tokens.items
+plain_inside b o place is good =
+    let i = innermost b.labels.items b.tokens.items b.blocks.items o good.frames good.current good.built in
+    (plain_closed b.labels.items b.tokens.items i.outer good.current place i.frame i.written (subst (IsPlainAt place) (sym i.place) is)).inside
 
 pub else_inside : (b : Scratch) (place other : ℕ) → GoodWith b (opened.Else place other)
     → (other < length b.tokens.items) × (place < length (else_ended b.tokens.items other))

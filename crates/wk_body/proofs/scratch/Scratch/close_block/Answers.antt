@@ -1,16 +1,16 @@
-use Rattle.std.proofs.Common.{refl, subst, ◌∙◌, ap, List}
+use Rattle.std.proofs.Common.{refl, subst, ◌∙◌, ap, inl, inr, List}
 use Rattle.std.proofs.lemmas.Result.{on_ok_weaker}
 use Rattle.wk_body.specs.declared.token.Token.{Token}
 use Rattle.wk_body.specs.Kept.{ended}
 use Rattle.wk_body.specs.Building.{GoodWith}
-use Rattle.wk_body.proofs.Closing.{place_inside, then_inside, else_inside, ends_block, ends_then, ends_else}
+use Rattle.wk_body.proofs.Closing.{plain_inside, else_inside, ends_plain, ends_else}
 use Rattle.wk_body.proofs.scratch.Scratch.close_block.Goals as goal
 
 pub end_at-requires-clause-inside : goal.end_at-requires-clause-inside
-end_at-requires-clause-inside c = place_inside c.args.self.now c.in-Block.place (subst (GoodWith c.args.self.now) c.in-Block.is c.requires.good)
+end_at-requires-clause-inside c = plain_inside c.args.self.now _ c.in-Block.place (inl c.in-Block.is) c.requires.good
 
 pub end_at-requires-in-Then-clause-inside : goal.end_at-requires-in-Then-clause-inside
-end_at-requires-in-Then-clause-inside c = then_inside c.args.self.now c.in-Then.place (subst (GoodWith c.args.self.now) c.in-Then.is c.requires.good)
+end_at-requires-in-Then-clause-inside c = plain_inside c.args.self.now _ c.in-Then.place (inr c.in-Then.is) c.requires.good
 
 pub end_else-requires-clause-inside : goal.end_else-requires-clause-inside
 end_else-requires-clause-inside c =
@@ -22,11 +22,11 @@ end_at-requires-in-Else-clause-inside c = rw c.end_else.ensures
 
 pub returns-in-Block : goal.returns-in-Block
 returns-in-Block c = on_ok_weaker c.end_at.result
-    (λ e. ends_block c.args.self.now _ c.in-Block.place (subst (GoodWith c.args.self.now) c.in-Block.is c.requires.good) refl refl e) c.end_at.ensures
+    (λ e. ends_plain c.args.self.now _ _ c.in-Block.place (inl c.in-Block.is) c.requires.good refl refl e) c.end_at.ensures
 
 pub returns-in-Then : goal.returns-in-Then
 returns-in-Then c = on_ok_weaker c.end_at-in-Then.result
-    (λ e. ends_then c.args.self.now _ c.in-Then.place (subst (GoodWith c.args.self.now) c.in-Then.is c.requires.good) refl refl e) c.end_at-in-Then.ensures
+    (λ e. ends_plain c.args.self.now _ _ c.in-Then.place (inr c.in-Then.is) c.requires.good refl refl e) c.end_at-in-Then.ensures
 
 pub returns-in-Else : goal.returns-in-Else
 returns-in-Else c = on_ok_weaker c.end_at-in-Else.result
