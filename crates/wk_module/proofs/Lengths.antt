@@ -55,10 +55,6 @@ pub some_items : {A : Type 0} (xs : List A) → (length xs == 0) ≡ false → i
 some_items [] is = absurd cc
 some_items (x ∷ xs) is = refl
 
-pub no_items : {A : Type 0} (xs : List A) → (length xs == 0) ≡ true → xs ≡ []
-no_items [] is = refl
-no_items (x ∷ xs) is = absurd (omega (arith, eqb-true (length (x ∷ xs)) 0 is))
-
 pub some_length : {A : Type 0} (xs : List A) → (length xs == 0) ≡ false → 0 < length xs
 some_length [] is = absurd cc
 some_length (x ∷ xs) is = omega arith

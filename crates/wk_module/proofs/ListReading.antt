@@ -57,8 +57,8 @@ module _ (profile : Profile) (p : Progress) (s : Section) where
 
 -- ---- codes are read of the code section alone
 
-bound : {A B : Type 0} (r : Result A ReadFault) (f : A → B) (y : B) → (r >>= λ x. Ok (f x)) ≡ Ok y → (x : A) × (f x ≡ y)
-bound (Ok x) f y e = (x, ok_is (f x) y e)
+pub bound : {A B : Type 0} (r : Result A ReadFault) (f : A → B) (y : B) → (r >>= λ x. Ok (f x)) ≡ Ok y → (x : A) × (r ≡ Ok x) × (f x ≡ y)
+bound (Ok x) f y e = (x, refl, ok_is (f x) y e)
 bound (Err e) f y h = absurd cc
 
 keeps_by : (profile : Profile) (l q : SectionLists) (s : Section) (k : Option SectionId) → (k ≡ Some CodeSection → ⊥) → listed_by profile l s k ≡ Ok q
@@ -66,10 +66,10 @@ keeps_by : (profile : Profile) (l q : SectionLists) (s : Section) (k : Option Se
 unfolding listed_by
 keeps_by profile l q s None other e =
     let a = bound (name_at (section_end s) s.contents) (λ name. l) q e in
-    sym (ap (λ (x : SectionLists). x.codes) a.1)
+    sym (ap (λ (x : SectionLists). x.codes) a.2)
 keeps_by profile l q s (Some k) other e =
     let a = bound (all_at (contents_at profile (length l.funcs) k) (section_end s) s.contents) (λ x. with_contents k x l) q e in
-    sym (ap (λ (x : SectionLists). x.codes) a.1) ∙ pick_other CodeSection k a.0 l.codes (λ is. other (ap (λ (j : SectionId). Some j) is))
+    sym (ap (λ (x : SectionLists). x.codes) a.2) ∙ pick_other CodeSection k a.0 l.codes (λ is. other (ap (λ (j : SectionId). Some j) is))
 
 pub keeps_codes : (profile : Profile) (l q : SectionLists) (s : Section) → s.id ≢ 10 → with_listed profile l s ≡ Ok q → q.codes ≡ l.codes
 keeps_codes profile l q s other e = keeps_by profile l q s (of_number s.id) (λ is. other (number-of_number s.id CodeSection is)) e

@@ -39,10 +39,11 @@ use Rattle.wk_module.specs.Sections.{SectionId, FunctionSection}
 use Rattle.wk_module.specs.Sections.{CodeSection, of_number, ContentsOf, SectionLists, contents, codes_at}
 use Rattle.wk_module.specs.Sections.{contents_at, AreItems, AreValid}
 use Rattle.wk_module.specs.Shape.{lists_of, filled_ids, settled_custom, settle, IsFormed, IsShaped}
-use Rattle.wk_module.proofs.VectorReading.{with_front}
-use Rattle.wk_module.proofs.ListReading.{some_rise}
+use Rattle.wk_module.proofs.VectorReading.{with_front, nothing_before}
+use Rattle.wk_module.proofs.ListReading.{bound, some_rise}
 use Rattle.wk_module.proofs.ModuleReading.{joined_again, joined_is}
 use Rattle.wk_module.proofs.SectionSteps.{broken_off}
+use Rattle.wk_module.proofs.Standing.{failed_before}
 
 -- ---- items that are made of others
 
@@ -88,10 +89,6 @@ module _ {A B : Type 0} (make : A → B) where
 
 -- ---- the codes of a section
 
-nothing_before : {A : Type 0} (r : Result (List A × List ℕ) ReadFault) → with_front [] r ≡ r
-nothing_before (Ok x) = refl
-nothing_before (Err e) = refl
-
 -- where the codes begin, they are read aside too
 opened_aside : {K : Type 0} (make : BodyOf → K) (profile : Profile) (funcs end : ℕ) (bytes : List ℕ) (last : ℕ) (rest : List ℕ)
     → codes_at profile funcs end bytes ≡ items_at (code_at profile) funcs last rest
@@ -113,14 +110,6 @@ not_opened make profile funcs end bytes e = fails_on e e.kind (codes_at profile 
     (λ bad. rw bad refl)
 
 -- ---- one more section
-
-bound : {A B : Type 0} (r : Result A ReadFault) (f : A → B) (y : B) → (r >>= λ x. Ok (f x)) ≡ Ok y → (x : A) × (r ≡ Ok x) × (f x ≡ y)
-bound (Ok x) f y e = (x, refl, ok_is (f x) y e)
-bound (Err e) f y h = absurd cc
-
-fails_under : {A B : Type 0} (r : Result A ReadFault) (f : A → B) (e : ReadFault) → (r >>= λ x. Ok (f x)) ≡ Err e → r ≡ Err e
-fails_under (Ok x) f e h = absurd cc
-fails_under (Err d) f e h = cc
 
 module _ {K : Type 0} (make : BodyOf → K) (profile : Profile) (p : Progress) (s : Section) where
   -- what was read of all but the codes, with the codes that stand aside
@@ -197,7 +186,7 @@ module _ {K : Type 0} (make : BodyOf → K) (profile : Profile) (p : Progress) (
   codes_aside_fail e is = fails_on e e.kind (all_at (codes_aside_at make profile (length p.lists.funcs)) (section_end s) s.contents)
       (read_aside make (with_section profile p s))
       (λ bad. rw (codes_step (Err e) is
-      (fails_under codes_read (map make) e (sym (made_all (map make) (codes_at profile (length p.lists.funcs)) (section_end s) s.contents) ∙ bad))) refl)
+      (failed_before codes_read (map make) e (sym (made_all (map make) (codes_at profile (length p.lists.funcs)) (section_end s) s.contents) ∙ bad))) refl)
 
   -- ... as a call answers it
   pub section_beside : {X : Type 0} (view : X → Progress) (r : Result X ReadFault) (u : PartialOutline K) → u ≡ aside make p → s.id ≢ 10
@@ -287,7 +276,7 @@ module _ {K : Type 0} (make : BodyOf → K) (profile : Profile) (all : List (Res
         fails_on e e.kind (read_aside make (with_section profile so.so_far s)) (read_aside make whole)
         (λ bad. stops_at e (ap (λ (is : List (Result Section ReadFault)). sections_read profile so.so_far is) first
         ∙ ap (λ (r : Result Progress ReadFault). r >>= λ q. sections_read profile q left)
-        (fails_under (with_section profile so.so_far s) (aside make) e bad)))
+        (failed_before (with_section profile so.so_far s) (aside make) e bad)))
 
     pub broken : (e : ReadFault) → items ≡ Err e ∷ left → FailsAs e e.kind (read_aside make whole)
     unfolding sections_read
@@ -394,7 +383,7 @@ module _ {K : Type 0} (make : BodyOf → K) (profile : Profile) (b : List ℕ) w
 
   pub sections_fail : (e : ReadFault) → FailsAs e e.kind (read_aside make progress) → FailsAs e e.kind (module_at profile b)
   unfolding module_at
-  sections_fail e = fails_on e e.kind (read_aside make progress) (module_at profile b) (λ bad. rw (fails_under progress (aside make) e bad) refl)
+  sections_fail e = fails_on e e.kind (read_aside make progress) (module_at profile b) (λ bad. rw (failed_before progress (aside make) e bad) refl)
 
   -- all that was read, where each code stands aside
   pub record AreRead (u : PartialOutline K) : Type 0 where
@@ -431,7 +420,7 @@ module _ {K : Type 0} (make : BodyOf → K) (profile : Profile) (b : List ℕ) w
     pub joined_fails : (e : ReadFault) → IsTogether u.rest n (Err e) → FailsAs e e.kind (module_at profile b)
     joined_fails e together =
         fails_on e e.kind (read_outlined (joined profile (length b) r.so_far)) (module_at profile b)
-        (λ bad. together_is r.so_far r.read ∙ fails_under (joined profile (length b) r.so_far) outlined e bad) (joined_by (Err e) together)
+        (λ bad. together_is r.so_far r.read ∙ failed_before (joined profile (length b) r.so_far) outlined e bad) (joined_by (Err e) together)
 
     pub joined_outlined : (d : Parts) → IsTogether u.rest n (Ok d) → read_outlined (module_at profile b) ≡ Ok d
     joined_outlined d together = rw (together_is r.so_far r.read) (joined_by (Ok d) together)

@@ -66,7 +66,7 @@ custom_at-stands place end bytes e h fits = custom_by place end bytes e (name_at
 
 -- ---- modules
 
-failed_before : {A B E : Type 0} (r : Result A E) (f : A → B) (e : E) → (r >>= λ x. Ok (f x)) ≡ Err e → r ≡ Err e
+pub failed_before : {A B E : Type 0} (r : Result A E) (f : A → B) (e : E) → (r >>= λ x. Ok (f x)) ≡ Err e → r ≡ Err e
 failed_before (Ok x) f e h = absurd cc
 failed_before (Err d) f e h = cc
 

@@ -19,6 +19,10 @@ use Rattle.wk_module.specs.Reading.{Progress, sections_read, zipped}
 abbrev pub with_front : {A : Type 0} → List A → Result (List A × List ℕ) ReadFault → Result (List A × List ℕ) ReadFault
 with_front front read = read >>= λ x. Ok (front ++ x.0, x.1)
 
+pub nothing_before : {A : Type 0} (r : Result (List A × List ℕ) ReadFault) → with_front [] r ≡ r
+nothing_before (Ok x) = refl
+nothing_before (Err e) = refl
+
 module _ {A : Type 0} (read : ℕ → List ℕ → Result (A × List ℕ) ReadFault) where
   regroup : (front : List A) (x : A) (r : Result (List A × List ℕ) ReadFault)
       → with_front front (r >>= λ xs. Ok (x ∷ xs.0, xs.1)) ≡ with_front (front ++ x ∷ []) r
@@ -48,7 +52,7 @@ module _ {A : Type 0} (read : ℕ → List ℕ → Result (A × List ℕ) ReadFa
 
 -- ---- faults
 
-abbrev failed : (A : Type 0) → ReadFault → Result A ReadFault
+abbrev pub failed : (A : Type 0) → ReadFault → Result A ReadFault
 failed A e = Err e
 
 -- what fails does not reach the end

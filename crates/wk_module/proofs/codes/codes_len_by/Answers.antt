@@ -3,7 +3,8 @@ use Rattle.std.specs.List.{sum_by}
 use Rattle.std.proofs.lemmas.List.{take_all}
 use Rattle.wk_body.specs.Lengths.{limited}
 use Rattle.wk_module.specs.Sizes.{entry_size}
-use Rattle.wk_module.proofs.Lengths.{no_items, some_length, bodies_few, no_codes, codes_sized}
+use Rattle.wk_module.proofs.CodesApart.{no_items}
+use Rattle.wk_module.proofs.Lengths.{some_length, bodies_few, no_codes, codes_sized}
 use Rattle.wk_module.proofs.codes.codes_len_by.Goals as goal
 
 pub returns-then-is_empty : goal.returns-then-is_empty
