@@ -1,7 +1,6 @@
 -- Codes that are written over those that were read.
 use Rattle.std.proofs.Common.{◌≡◌, ℕ, zero, suc, ◌+◌, ◌-◌, ◌/◌, ◌<◌, ◌≤◌, List, [], ◌∷◌, ◌++◌, length, take, drop, Result, Ok, Err, refl, sym, ap, ◌∙◌, inl}
 use Rattle.std.proofs.Common.{inr, arith, append_assoc, length-append}
-use Rattle.std.proofs.lemmas.Bool.{cases_lt}
 use Rattle.std.proofs.lemmas.List.{flat_map_more, take-append-drop}
 use Rattle.std.specs.List.{between, flat_map}
 use Rattle.wk_bytes.specs.declared.fault.ReadKind.{ReadKind}
@@ -10,7 +9,7 @@ use Rattle.wk_bytes.specs.declared.fault.ReadFault.{ReadFault}
 use Rattle.wk_bytes.specs.Leb.{SpellsU}
 use Rattle.wk_bytes.specs.LebLaws.{done}
 use Rattle.wk_bytes.specs.Short.{short}
-use Rattle.wk_bytes.specs.ShortLaws.{short-last, short-least, short-more, short-some}
+use Rattle.wk_bytes.specs.ShortLaws.{short-least}
 use Rattle.wk_bytes.specs.Span.{Span, fault, piece_at, u32_at}
 use Rattle.wk_bytes.specs.Stands.{StandsAt}
 use Rattle.wk_body.specs.declared.types.Profile.{Profile}
@@ -22,8 +21,9 @@ use Rattle.wk_body.specs.Vectors.{items_at}
 use Rattle.wk_body.specs.Written.{written_body}
 use Rattle.wk_module.specs.Formats.{bytes_at, taking_all}
 use Rattle.wk_module.specs.Items.{code_at, written_code}
+use Rattle.wk_module.specs.WritingLaws.{short-rises}
 use Rattle.wk_module.proofs.CodesApart.{code_by, code_not_taken, code_not_read}
-use Rattle.wk_module.proofs.VectorReading.{with_front, goes_on, stops_all, all_fails, is_done}
+use Rattle.wk_module.proofs.VectorReading.{with_front, nothing_before, goes_on, stops_all, failed, all_fails, is_done}
 use Rattle.wk_strip.specs.declared.codes.Codes.{Codes}
 use Rattle.wk_strip.specs.declared.codes.Place.{Place}
 use Rattle.wk_strip.specs.Rewritten.{codes_in, IsTaken, IsRewritten, AreRewritten}
@@ -62,24 +62,10 @@ is_taken b read end front rest piece last size at order within spelled parts siz
 
 -- ---- and written
 
--- the shortest spelling of a number is no longer than that of a greater one
-short_mono : (k n m : ℕ) → m ≤ k → n ≤ m → length (short n) ≤ length (short m)
-short_mono zero n m small le = let same : n ≡ m = omega (arith, small, le) in omega (arith, ap (λ (i : ℕ). length (short i)) same)
-short_mono (suc k) n m small le =
-    elim (cases_lt n 128) [
-      | inl few ↦ omega (arith, ap length (short-last n few), short-some m)
-      | inr many ↦
-          let next = short_mono k (n / 128) (m / 128) (omega (arith, small, many, le)) (omega (arith, le)) in
-          omega (arith, ap length (short-more n many), ap length (short-more m (omega (arith, many, le))), next)
-    ]
-
-pub shorter : (n m : ℕ) → n ≤ m → length (short n) ≤ length (short m)
-shorter n m le = short_mono m n m (omega arith) le
-
 -- the code that is written has room where the code was read
 pub fits_there : (b : List ℕ) (from : Place) (code : Span) (n : ℕ) → IsTaken b from.read from.end code → n ≤ length code.rest → from.write ≤ from.read
     → from.write + length (short n) + n ≤ code.end
-fits_there b from code n taken le behind = omega (arith, le, behind, taken.room, shorter n (length code.rest) le)
+fits_there b from code n taken le behind = omega (arith, le, behind, taken.room, short-rises n (length code.rest) le)
 
 pub is_rewritten : (profile : Profile) (old new : List ℕ) (from : Place) (code : Span) (body : BodyOf) (read write : ℕ) → from.end ≤ length old
     → from.write ≤ from.read → IsTaken old from.read from.end code
@@ -126,16 +112,9 @@ pub record AreUnderway (profile : Profile) (old now : List ℕ) (c : Codes) (cou
   pub order : p.read ≤ c.end
   pub end : p.end ≡ c.end
 
-abbrev failed : (A : Type 0) → ReadFault → Result A ReadFault
-failed A e = Err e
-
 too_many : {A : Type 0} (end : ℕ) (x : A) (rest : List ℕ) → 0 < length rest → taking_all end (x, rest) ≡ Err (fault SectionSize end rest)
 too_many end x [] some = absurd (omega arith)
 too_many end x (y ∷ rest) some = refl
-
-with_none : {A : Type 0} (r : Result (List A × List ℕ) ReadFault) → with_front [] r ≡ r
-with_none (Ok x) = refl
-with_none (Err e) = refl
 
 module _ (profile : Profile) (old : List ℕ) (c : Codes) (first : c.first ≤ c.end) (within : c.end ≤ length old) where
   abbrev Read : ℕ → ℕ → Result (List BodyOf × List ℕ) ReadFault
@@ -149,7 +128,7 @@ module _ (profile : Profile) (old : List ℕ) (c : Codes) (first : c.first ≤ c
       let all : c.count - 0 ≡ c.count = omega arith in
       record {
         bodies = [];
-        reads = ap (λ (n : ℕ). with_front [] (Read n c.first)) all ∙ with_none (Read c.count c.first);
+        reads = ap (λ (n : ℕ). with_front [] (Read n c.first)) all ∙ nothing_before (Read c.count c.first);
         bytes = sym (take-append-drop c.first old);
         write = omega arith;
         behind = omega arith;

@@ -1,7 +1,6 @@
 -- The custom sections that stay, as they are found in the frames.
 use Rattle.std.proofs.Common.{◌≡◌, ◌≢◌, ℕ, ◌+◌, ◌≤◌, Bool, true, false, eqb, List, [], ◌++◌, length, map, Result, Ok, Err, Option, Some, None, IsTrue, not}
 use Rattle.std.proofs.Common.{refl, sym, ap, subst, ◌∙◌, inl, inr, suc, if◌then◌else◌, ◌∷◌, arith, append-nil, append_assoc, length-append}
-use Rattle.std.proofs.lemmas.Bool.{eqb-true}
 use Rattle.std.specs.List.{filter}
 use Rattle.wk_bytes.specs.declared.fault.ReadFault.{ReadFault}
 use Rattle.wk_bytes.specs.Leb.{SpellsU}
@@ -13,6 +12,7 @@ use Rattle.wk_bytes.specs.ShortLaws.{short-least}
 use Rattle.wk_bytes.specs.Span.{name_at}
 use Rattle.wk_module.specs.declared.types.Custom.{Custom}
 use Rattle.wk_module.specs.Customs.{SpellsCustom, SpellsCustoms, IsEmptyFrame, IsPlaceAfter, custom_at, written_custom}
+use Rattle.wk_module.proofs.CodesApart.{no_items}
 use Rattle.wk_module.proofs.ModuleReading.{custom_again}
 use Rattle.wk_strip.specs.Stripped.{is_kept}
 
@@ -59,10 +59,6 @@ none_left : (xs : List ℕ) → length xs ≡ 0 → xs ≡ []
 none_left [] h = refl
 none_left (x ∷ xs) h = absurd (omega arith)
 
-no_length : {A : Type 0} (xs : List A) → eqb (length xs) 0 ≡ true → xs ≡ []
-no_length [] h = refl
-no_length (x ∷ xs) h = absurd (omega (arith, eqb-true (suc (length xs)) 0 h))
-
 -- of contents that spell a number in front, and then go on, no others are a count of zero than those that end at that zero
 pub only_count : (f : Frame) (front rest : List ℕ) (count : ℕ) → SpellsU 32 front count → f.contents ≡ front ++ rest → IsEmptyFrame f
     → (count ≡ 0) × (rest ≡ [])
@@ -77,7 +73,7 @@ is_count f front rest count spelled parts vector zero_is none =
     record { vector = vector; none = subst (λ (b : List ℕ). SpellsU 32 b 0) all (subst (SpellsU 32 front) zero_is spelled) }
 
 decides : (e : Bool) (rest : List ℕ) (P : Type 0) → e ≡ eqb (length rest) 0 → (rest ≡ [] → P) → (P → rest ≡ []) → (IsTrue e → P) × (P → IsTrue e)
-decides true rest P is to from = (λ t. to (no_length rest (sym is)), λ p. refl)
+decides true rest P is to from = (λ t. to (no_items rest (sym is)), λ p. refl)
 decides false [] P is to from = absurd cc
 decides false (x ∷ rest) P is to from = (λ t. absurd cc, λ p. absurd (omega (arith, ap length (from p))))
 
