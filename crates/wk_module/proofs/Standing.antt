@@ -153,24 +153,13 @@ memory_or_read {Y = Y} e read fails = by_kind e.kind refl fails
     by_kind _ is there = inr there
 
 -- the fault that is answered stands in the bytes
-told_stands : {Y : Type 0} (b : List ℕ) (e : ReadFault) (read : Result Y ReadFault) → ((d : ReadFault) → read ≡ Err d → StandsIn b d)
+pub told_stands : {Y : Type 0} (b : List ℕ) (e : ReadFault) (read : Result Y ReadFault) → ((d : ReadFault) → read ≡ Err d → StandsIn b d)
     → FailsAs e e.kind read → StandsIn b e
 told_stands b e read stands fails =
     elim (memory_or_read e read fails) [
       | inl none ↦ inl none
       | inr is ↦ stands e is
     ]
-
--- the same of an answer
-pub match_stands : {X Y : Type 0} (P : X → Type 0) (b : List ℕ) (r : Result X ReadFault) (read : Result Y ReadFault)
-    → ((e : ReadFault) → read ≡ Err e → StandsIn b e) → MatchResult r P (λ e. FailsAs e e.kind read) → IfErr r (λ e. StandsIn b e)
-match_stands P b (Ok x) read stands answers = tt
-match_stands P b (Err e) read stands answers = told_stands b e read stands answers
-
-pub answer_stands : {X Y : Type 0} (view : X → Y) (b : List ℕ) (r : Result X ReadFault) (read : Result Y ReadFault)
-    → ((e : ReadFault) → read ≡ Err e → StandsIn b e) → Reads view r read → IfErr r (λ e. StandsIn b e)
-answer_stands view b (Ok x) read stands reads = tt
-answer_stands view b (Err e) read stands reads = told_stands b e read stands reads
 
 -- ---- what a fault of reading a module says of its bytes
 

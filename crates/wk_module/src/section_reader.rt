@@ -159,60 +159,6 @@ impl<'a> SectionReader<'a> {
         }
     }
 
-    // Reads up to the code section, or to the end where there is none.
-    fn read_front(
-        self,
-        alloc: Global,
-        scratch: &mut Scratch,
-    ) -> Result<(SectionReader<'a>, Option<RawSection<'a>>), ReadFault>
-        ensures exact { Reads (λ r. front_of r.0 r.1) result
-            (front_read self.entry.profile self.entry.lists self.entry.left) }
-        ensures goes { MatchResult result (λ r. GoesTo self.entry r.0 r.1)
-            (λ e. FailsAs e e.kind (rest_read self.entry)) }
-    {
-        let SectionReader {
-            mut so_far,
-            mut left,
-            profile,
-        } = self;
-        match so_far.read_up_to_code(alloc, scratch, profile, &mut left) {
-            Ok(code) => {
-                let reader = SectionReader {
-                    so_far,
-                    left,
-                    profile,
-                };
-                Ok((reader, code))
-            }
-            Err(fault) => {
-                drop(so_far);
-                Err(fault)
-            }
-        }
-    }
-
-    // Reads all sections that are left.
-    fn read_rest(self, alloc: Global, scratch: &mut Scratch) -> Result<SectionReader<'a>, ReadFault>
-        ensures read { Reads (λ r. r.lists) result (rest_read self.entry) }
-        ensures profile { IfOk result (λ r. r.profile ≡ self.entry.profile) }
-        ensures left { IfOk result (λ r. r.left ≡ []) }
-    {
-        let SectionReader {
-            mut so_far,
-            mut left,
-            profile,
-        } = self;
-        if let Err(fault) = so_far.read_left(alloc, scratch, profile, &mut left) {
-            drop(so_far);
-            return Err(fault);
-        }
-        Ok(SectionReader {
-            so_far,
-            left,
-            profile,
-        })
-    }
-
     /// Reads up to the code section, which it gives unread, or to the end where there is none. Then functions that were declared
     /// have no codes, and the bytes spell no module.
     ///
@@ -238,7 +184,25 @@ impl<'a> SectionReader<'a> {
     {
         // The proof asks for what this says of sections.
         laws_of_sections();
-        self.read_front(alloc, scratch)
+        let SectionReader {
+            mut so_far,
+            mut left,
+            profile,
+        } = self;
+        match so_far.read_up_to_code(alloc, scratch, profile, &mut left) {
+            Ok(code) => {
+                let reader = SectionReader {
+                    so_far,
+                    left,
+                    profile,
+                };
+                Ok((reader, code))
+            }
+            Err(fault) => {
+                drop(so_far);
+                Err(fault)
+            }
+        }
     }
 
     /// Reads all sections that are left, a code section among them if there is one: its codes are kept, and [`lists`] does not
@@ -263,7 +227,20 @@ impl<'a> SectionReader<'a> {
     {
         // The proof asks for what this says of sections.
         laws_of_sections();
-        self.read_rest(alloc, scratch)
+        let SectionReader {
+            mut so_far,
+            mut left,
+            profile,
+        } = self;
+        if let Err(fault) = so_far.read_left(alloc, scratch, profile, &mut left) {
+            drop(so_far);
+            return Err(fault);
+        }
+        Ok(SectionReader {
+            so_far,
+            left,
+            profile,
+        })
     }
 
     /// The lists that are read, but for codes. Each holds fewer items than there are numbers of 32 bits.

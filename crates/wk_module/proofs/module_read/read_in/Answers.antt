@@ -1,11 +1,10 @@
 use Rattle.std.proofs.Common.{◌≡◌, Ok, Err, arith}
 use Rattle.std.proofs.lemmas.Result.{err_from_is_err_and}
-use Rattle.wk_module.specs.declared.types.Parts.{Parts}
 use Rattle.wk_module.specs.Reading.{module_at}
 use Rattle.wk_module.specs.Shape.{IsShaped}
 use Rattle.wk_module.proofs.ModuleReading.{read_settled, module_found, answer_found, answer_profile, answer_only, answer_refused}
 use Rattle.wk_module.proofs.Shaped.{shaped}
-use Rattle.wk_module.proofs.Standing.{module_stands, answer_stands}
+use Rattle.wk_module.proofs.Standing.{module_stands, told_stands}
 use Rattle.wk_module.proofs.Fitting.{fits_spelled}
 use Rattle.wk_module.proofs.module_read.read_in.Goals as goal
 
@@ -19,7 +18,7 @@ returns-in_err-read_parts-clause-refused c =
 pub returns-in_err-read_parts-clause-fault : goal.returns-in_err-read_parts-clause-fault
 returns-in_err-read_parts-clause-fault c =
     let p = err_from_is_err_and c.from_residual.result c.from_residual.ensures.1 in
-    rw (p.1, p.2) (answer_stands (λ (m : Parts). m) c.args.bytes.now (Err c.in_err-read_parts.field-0.0) (module_at c.args.profile c.args.bytes.now)
+    rw (p.1, p.2) (told_stands c.args.bytes.now c.in_err-read_parts.field-0.0 (module_at c.args.profile c.args.bytes.now)
     (module_stands c.args.profile (c.laws_of_sections.ensures c.args.profile) c.args.bytes.now) c.in_err-read_parts.ensures)
 
 -- ---- an answer

@@ -1,7 +1,10 @@
-use Rattle.wk_module.specs.ListReading.{PartlyRead, rest_read}
-use Rattle.wk_module.proofs.Standing.{lists_stand, answer_stands}
+use Rattle.std.proofs.Common.{sym}
+use Rattle.wk_module.specs.ListReading.{rest_read}
+use Rattle.wk_module.proofs.Standing.{lists_stand, told_stands}
 use Rattle.wk_module.proofs.section_reader.SectionReader.to_end.Goals as goal
 
-pub returns-clause-fault : goal.returns-clause-fault
-returns-clause-fault c = λ input lie. answer_stands (λ (r : PartlyRead). r.lists) input c.read_rest.result (rest_read c.args.self)
-    (λ e. lists_stand c.args.self.profile (c.laws_of_sections.ensures c.args.self.profile) input c.args.self.lists c.args.self.left e lie) c.read_rest.ensures.read
+pub returns-in-Err-clause-fault : goal.returns-in-Err-clause-fault
+returns-in-Err-clause-fault c =
+    let r = c.self.inside in
+    rw (sym c.self.view_is) (λ input lie. told_stands input c.in-Err.fault _
+    (λ e. lists_stand r.profile (c.laws_of_sections.ensures r.profile) input r.so_far.lists r.left e lie) c.in-Err.ensures.read)
