@@ -13,7 +13,6 @@ use Rattle.wk_bytes.specs.Frames.{Section, sections_of}
 use Rattle.wk_bytes.specs.Leb.{◌>>=◌}
 use Rattle.wk_bytes.specs.LebLaws.{done}
 use Rattle.wk_bytes.specs.ListWords.{is_empty}
-use Rattle.wk_bytes.specs.SpanLaws.{ok_is}
 use Rattle.wk_body.specs.declared.types.Profile.{Profile}
 use Rattle.wk_body.specs.Bodies.{BodyOf}
 use Rattle.wk_body.specs.Meaning.{Whole, FindsOnly}

@@ -1,5 +1,4 @@
 use Rattle.std.proofs.Common.{sym}
-use Rattle.wk_module.specs.ListReading.{rest_read}
 use Rattle.wk_module.proofs.Standing.{lists_stand, told_stands}
 use Rattle.wk_module.proofs.section_reader.SectionReader.to_end.Goals as goal
 
