@@ -1,13 +1,24 @@
 -- Steps of writing a module: ids one after the other, and parts that are no longer than the whole.
-use Rattle.std.proofs.Common.{◌≡◌, ℕ, zero, suc, ◌+◌, ◌<◌, ◌≤◌, List, [], ◌∷◌, ◌++◌, length, drop, get_or, refl, sym, ap, ◌∙◌, arith, append_assoc}
+use Rattle.std.proofs.Common.{◌≡◌, ℕ, zero, suc, ◌+◌, ◌<◌, ◌≤◌, List, [], ◌∷◌, ◌++◌, length, drop, get_or, Some, refl, sym, ap, ◌∙◌, arith, append_assoc}
 use Rattle.std.proofs.Common.{length-append}
 use Rattle.std.proofs.lemmas.Bool.{eq-eqb}
+use Rattle.std.proofs.lemmas.List.{append-nil}
 use Rattle.std.specs.List.{flat_map}
 use Rattle.wk_bytes.specs.Frames.{limit, magic, version}
+use Rattle.wk_body.specs.Lengths.{limited}
+use Rattle.wk_body.specs.LengthsLaws.{limited_some}
 use Rattle.wk_module.specs.declared.types.Parts.{Parts}
 use Rattle.wk_module.specs.declared.types.Custom.{Custom}
-use Rattle.wk_module.specs.Writing.{section_of, customs_at, section_and_customs, ids, encoded, Fits}
-use Rattle.wk_module.specs.WritingLaws.{at_place, written_frame, customs_at-cons, piece_le, id_is, drop-ids}
+use Rattle.wk_module.specs.Sections.{SectionLists, of_number}
+use Rattle.wk_module.specs.Writing.{contents_by, section_by, section_of, customs_at, section_and_customs, ids, encoded, Fits}
+use Rattle.wk_module.specs.WritingLaws.{at_place, written_frame, customs_at-cons, piece_le, id_is, drop-ids, section_none}
+
+-- where a section has no contents, nothing is appended of it
+pub left_out : (l : SectionLists) (id size : ℕ) (bytes : List ℕ) → Some size ≡ limited (length (contents_by l (of_number id))) → size ≡ 0
+    → bytes ≡ bytes ++ section_by l (of_number id)
+left_out l id size bytes is none =
+    let len = limited_some size (length (contents_by l (of_number id))) is in
+    rw (section_none l (of_number id) (omega (arith, len.0, none))) (sym (append-nil bytes))
 
 -- a custom is no longer than all customs of its place
 pub custom_le : (cs : List Custom) (i : ℕ) (c : Custom) → i < length cs → c ≡ get_or cs i c → length (written_frame c) ≤ length (customs_at c.place cs)
