@@ -9,8 +9,7 @@ use Rattle.wk_body.specs.Spelling.{SpellsExpr, SpellsBody}
 use Rattle.wk_body.specs.Vectors.{SpellsItems, SpellsVector}
 use Rattle.wk_module.specs.Formats.{SpellsBoth}
 use Rattle.wk_module.specs.Items.{SpellsInit, SpellsGlobal, SpellsElem, SpellsCode, SpellsData}
-use Rattle.wk_module.specs.Sections.{SectionId, GlobalSection}
-use Rattle.wk_module.specs.Sections.{ElementSection, CodeSection, DataSection, number, contents, omitted, SpellsContents}
+use Rattle.wk_module.specs.Sections.{SectionId, GlobalSection, ElementSection, CodeSection, DataSection, number, contents, omitted, SpellsContents}
 use Rattle.wk_module.specs.Shape.{lists_of}
 use Rattle.wk_module.specs.Modules.{SpellsSection}
 use Rattle.wk_module.specs.ModuleLaws.{SpellAlike}

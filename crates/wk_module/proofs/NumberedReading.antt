@@ -15,8 +15,7 @@ use Rattle.wk_module.specs.Listed.{AreNumbered}
 use Rattle.wk_module.specs.ListReading.{listed_by, with_listed}
 use Rattle.wk_module.specs.NumberedLaws.{IsNumbered, numbered_with}
 use Rattle.wk_module.specs.Reading.{section_end}
-use Rattle.wk_module.specs.Sections.{SectionId}
-use Rattle.wk_module.specs.Sections.{StartSection, CodeSection, of_number, SectionLists, ContentsOf, with_contents, contents_at}
+use Rattle.wk_module.specs.Sections.{SectionId, StartSection, CodeSection, of_number, SectionLists, ContentsOf, with_contents, contents_at}
 
 items_counted : {A : Type 0} (read : Reader A) (n end : ℕ) (bytes : List ℕ) (xs : List A) (rest : List ℕ) → items_at read n end bytes ≡ Ok (xs, rest)
     → length xs ≡ n

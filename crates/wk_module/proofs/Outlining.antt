@@ -34,8 +34,7 @@ use Rattle.wk_module.specs.Outlines.{outlined, outlined_func, stub}
 use Rattle.wk_module.specs.Reading.{Progress, at_start, section_end, with_custom, with_lists, section_by, with_section, sections_read, zipped, module_of}
 use Rattle.wk_module.specs.Reading.{joined, module_at}
 use Rattle.wk_module.specs.SectionLaws.{number-of_number}
-use Rattle.wk_module.specs.Sections.{SectionId, FunctionSection}
-use Rattle.wk_module.specs.Sections.{CodeSection, of_number, ContentsOf, SectionLists, contents, codes_at}
+use Rattle.wk_module.specs.Sections.{SectionId, FunctionSection, CodeSection, of_number, ContentsOf, SectionLists, contents, codes_at}
 use Rattle.wk_module.specs.Sections.{contents_at, AreItems, AreValid}
 use Rattle.wk_module.specs.Shape.{lists_of, filled_ids, settled_custom, settle, IsFormed, IsShaped}
 use Rattle.wk_module.proofs.VectorReading.{with_front, nothing_before}

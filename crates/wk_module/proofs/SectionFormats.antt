@@ -24,8 +24,7 @@ use Rattle.wk_module.specs.Formats.{Reader, made_at}
 use Rattle.wk_module.specs.Types.{SpellsFuncType, functype_at, written_functype}
 use Rattle.wk_module.specs.Items.{SpellsCode, code_at, written_code, IsCode}
 use Rattle.wk_module.specs.Sections.{TypeSection, ImportSection, FunctionSection, TableSection, MemorySection, GlobalSection, ExportSection}
-use Rattle.wk_module.specs.Sections.{StartSection, ElementSection, CodeSection, DataSection, is_some, SpellsStart, codes_at}
-use Rattle.wk_module.specs.Sections.{written_start, IsStart, AreItems}
+use Rattle.wk_module.specs.Sections.{StartSection, ElementSection, CodeSection, DataSection, is_some, SpellsStart, codes_at, written_start, IsStart, AreItems}
 use Rattle.wk_module.proofs.Formats.{u32_format, made_front, made_steps, made_again, valid_as, items_found, items_again, items_front, vector_made}
 use Rattle.wk_module.proofs.Formats.{vector_format, joined, both_parts}
 use Rattle.wk_module.proofs.ItemFormats.{functype_format, limits_format, tabletype_format, import_format, export_format, global_format, elem_format}

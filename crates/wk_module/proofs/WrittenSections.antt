@@ -9,8 +9,7 @@ use Rattle.wk_module.specs.declared.types.Custom.{Custom}
 use Rattle.wk_module.specs.declared.types.Parts.{Parts}
 use Rattle.wk_module.specs.Customs.{IsEmptyFrame}
 use Rattle.wk_module.specs.FormatLaws.{SectionLaws}
-use Rattle.wk_module.specs.Sections.{SectionId, TypeSection}
-use Rattle.wk_module.specs.Sections.{StartSection, number, of_number, ContentsOf, SectionLists, contents, omitted}
+use Rattle.wk_module.specs.Sections.{SectionId, TypeSection, StartSection, number, of_number, ContentsOf, SectionLists, contents, omitted}
 use Rattle.wk_module.specs.Sections.{is_full, is_some, SpellsContents, written_contents}
 use Rattle.wk_module.specs.Shape.{lists_of, is_written, is_filled}
 use Rattle.wk_module.specs.Modules.{SpellsSection}
