@@ -6,8 +6,7 @@ use Rattle.wk_module.specs.declared.types.Parts.{Parts}
 use Rattle.wk_module.specs.declared.types.Kind.TheVariants as kinds
 use Rattle.wk_module.specs.Listed.{AreNumbered}
 use Rattle.wk_module.specs.NumberedLaws.{module_numbered, numbered_with}
-use Rattle.wk_module.specs.Sections.{SectionId, TypeSection, ImportSection, FunctionSection, TableSection, MemorySection, GlobalSection, ExportSection}
-use Rattle.wk_module.specs.Sections.{StartSection, ElementSection, CodeSection, DataSection, of_number}
+use Rattle.wk_module.specs.Sections.{SectionId, FunctionSection, CodeSection, of_number}
 use Rattle.wk_module.specs.SectionLaws.{number-of_number}
 use Rattle.wk_module.specs.Shape.{lists_of, IsShaped}
 use Rattle.wk_list.specs.Sketches.{IsSketch}

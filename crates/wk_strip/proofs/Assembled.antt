@@ -16,8 +16,7 @@ use Rattle.wk_module.specs.declared.types.DataSeg.{DataSeg}
 use Rattle.wk_module.specs.declared.types.Parts.{Parts}
 use Rattle.wk_module.specs.Items.{written_code}
 use Rattle.wk_module.specs.SectionLaws.{number-of_number}
-use Rattle.wk_module.specs.Sections.{SectionId, TypeSection, ImportSection, FunctionSection, TableSection, MemorySection, GlobalSection, ExportSection}
-use Rattle.wk_module.specs.Sections.{StartSection, ElementSection, CodeSection, DataSection, SectionLists, of_number}
+use Rattle.wk_module.specs.Sections.{SectionId, CodeSection, DataSection, SectionLists, of_number}
 use Rattle.wk_module.specs.Shape.{lists_of}
 use Rattle.wk_module.specs.Writing.{encoded, section_by, contents_by, customs_at, section_and_customs, section_contents, written_section, ids, Fits}
 use Rattle.wk_module.specs.WritingLaws.{contents_within}

@@ -1,5 +1,5 @@
 -- What the answer of stripping says, by what it is exactly.
-use Rattle.std.proofs.Common.{◌≡◌, ◌≢◌, ℕ, List, Option, Result, Ok, Err, IfOk, refl, sym, ap, subst, ◌∙◌, inl, inr, arith, length}
+use Rattle.std.proofs.Common.{◌≡◌, ◌≢◌, ℕ, List, Option, Result, Ok, Err, IfOk, refl, sym, ap, subst, ◌∙◌, arith, length}
 use Rattle.std.specs.List.{filter}
 use Rattle.std.specs.Prelude.{IfErr, MatchResult}
 use Rattle.wk_bytes.specs.declared.fault.ReadKind.TheVariants.{Memory}
