@@ -87,26 +87,14 @@ pub(crate) fn is_length(len: Option<u32>, bytes: &[u8]) -> bool {
     }
 }
 
-// How many references of a list there are, if all of them are found.
-fn found_of(found: &BTreeSet<Ref>, wanted: &[Ref]) -> Option<usize> {
+// Whether these references are found.
+fn has_all(found: &BTreeSet<Ref>, wanted: &[Ref]) -> bool {
     for reference in wanted {
         if !found.contains(reference) {
-            return None;
+            return false;
         }
     }
-    Some(wanted.len())
-}
-
-// Whether the references of these lists are found, and no others.
-fn are_refs(found: &BTreeSet<Ref>, lists: [&[Ref]; 3]) -> bool {
-    let mut count = 0usize;
-    for wanted in lists {
-        match found_of(found, wanted) {
-            Some(more) => count = count.saturating_add(more),
-            None => return false,
-        }
-    }
-    found.len() == count
+    true
 }
 
 // Whether they are the same references.
@@ -431,7 +419,14 @@ impl Code {
 
     // Whether what it refers to is found, with these, and nothing else.
     fn are_refs(self, found: &BTreeSet<Ref>, own: &[Ref]) -> bool {
-        are_refs(found, [&REFS, self.more, own])
+        let count = REFS
+            .len()
+            .saturating_add(self.more.len())
+            .saturating_add(own.len());
+        has_all(found, &REFS)
+            && has_all(found, self.more)
+            && has_all(found, own)
+            && found.len() == count
     }
 
     // What looking for references answered, of which these are right beside those of the code.
