@@ -32,13 +32,3 @@ verdict_lent l vs len n p =
 pub fitting_stands : (keep : Bool) (n : Parts) → IsInOrderFrom 0 n.customs → (len : ℕ) → limited (length (encoded n)) ≡ Some len
     → standing keep n ≡ lasting keep (settle n)
 fitting_stands keep n order len some = ap (λ (r : Result Parts EditFault). r >>= lasting keep) (fits_settled n len order some)
-
-pub any_lasts : (keep : Bool) (n : Parts) → keep ≡ false → lasting keep (settle n) ≡ Ok (settle n)
-any_lasts keep n is = ap (λ (k : Bool). lasting k (settle n)) is
-
-pub valid_lasts : (keep : Bool) (n : Parts) → module_verdict n ≡ Valid → lasting keep (settle n) ≡ Ok (settle n)
-valid_lasts false n is = refl
-valid_lasts true n is = ap (unbroken (settle n)) is
-
-pub broken : (keep : Bool) (n : Parts) (f : Fault) → keep ≡ true → module_verdict n ≡ Invalid f → lasting keep (settle n) ≡ Err (WouldBreak f)
-broken keep n f is invalid = ap (λ (k : Bool). lasting k (settle n)) is ∙ ap (unbroken (settle n)) invalid

@@ -17,10 +17,10 @@ use Rattle.wk_session.specs.declared.edit.EditFault.{EditFault}
 use Rattle.wk_session.specs.declared.edit.EditFault.TheVariants.{NoSuchCustom, Memory}
 use Rattle.wk_session.specs.declared.edit.Work.{Work}
 use Rattle.wk_session.specs.declared.cache.Cache.{Cache}
-use Rattle.wk_session.specs.Customs.{IsChecked, IsPut, with_customs_len}
+use Rattle.wk_session.specs.Customs.{IsPut, with_customs_len}
 use Rattle.wk_session.specs.Dependents.{work_of}
 use Rattle.wk_session.specs.Edits.{fitting, is_named, without_customs, lasting, made}
-use Rattle.wk_session.specs.Kept.{IsKept, Leads, standing}
+use Rattle.wk_session.specs.Kept.{IsAppraised, IsKept, Leads, standing}
 use Rattle.wk_session.specs.Pieces.{customs_size}
 use Rattle.wk_session.proofs.CustomPuts.{length_customs}
 use Rattle.wk_session.proofs.Keeping.{kept_with_customs}
@@ -84,8 +84,8 @@ module _ {A : Type 0} (keep : Bool) (m n p : Parts) (k : Cache) (same : p ≡ m)
       let at : IsPut keep m n k refused p k = (due, fits, same, refl) in
       subst (λ (q : Result A EditFault). IsPut keep m n k q p k) (sym (returned r f returns)) at
 
-  pub put_checked : (r : Result A EditFault) (f : EditFault) → Returns r f → IsChecked keep n (Err f) → IsPut keep m n k r p k
-  put_checked r f returns at = put_refused r f returns (λ other. at.1) (λ wanted. absurd (at.0 wanted))
+  pub put_unfit : (r : Result A EditFault) (f : EditFault) → Returns r f → f ≢ Memory → IsAppraised keep n (Err f) → IsPut keep m n k r p k
+  put_unfit r f returns other due = put_refused r f returns due (λ wanted. absurd (other wanted))
 
   pub put_wanting : (r : Result A EditFault) → Returns r Memory → fitting (settle n) ≡ Ok (settle n) → IsPut keep m n k r p k
   put_wanting r returns fits = put_refused r Memory returns (λ other. absurd (other refl)) (λ wanted. fits)

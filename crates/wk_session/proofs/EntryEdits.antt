@@ -37,11 +37,12 @@ use Rattle.wk_session.specs.declared.cache.Cache.{Cache}
 use Rattle.wk_session.specs.declared.pieces.EncodedSections.{EncodedSections}
 use Rattle.wk_session.specs.Dependents.{is_retyped_in, work_of}
 use Rattle.wk_session.specs.Edits.{fitting, lasting, made}
-use Rattle.wk_session.specs.Functions.{IsPlanned, body_spelled}
+use Rattle.wk_session.specs.Functions.{IsKeptWithType, IsPlanned, body_spelled}
 use Rattle.wk_session.specs.Kept.{IsKept, Leads, uses_of, standing}
 use Rattle.wk_session.specs.Pieces.{ArePieces, IsOverlong, code_of, codes_size, entries_size, section_pieces}
 use Rattle.wk_session.specs.Refusals.{encode_refusal}
 use Rattle.wk_session.proofs.Keeping.{kept_fits}
+use Rattle.wk_session.proofs.Outcomes.{told_fits}
 use Rattle.wk_session.proofs.Leading.{accepted, too_large}
 use Rattle.wk_session.proofs.Lent.{answers_in, answers_lent, lent}
 use Rattle.wk_session.proofs.Piecing.{codes_within, entries_codes, limited_within, past_limit}
@@ -113,8 +114,9 @@ typed_once at_first before once count counted fresh more own same = omega arith
 
 -- ---- a function more
 
-pub func_formed_from : (t : ℕ) (b : BodyOf) (m : Parts) → Fits m → t < 2 ^ 32 → IsCode m.profile b → IsFormed m → IsFormed (with_func t b m)
-func_formed_from t b m fits small valid formed = func_formed t b m (room_for_func m fits) small valid formed
+pub formed_with_func : (t : ℕ) (b : BodyOf) (m : Parts) (k : Cache) → IsKeptWithType t m k → t < 2 ^ 32 → IsCode m.profile b → IsFormed m
+    → IsFormed (with_func t b m)
+formed_with_func t b m k kept small valid formed = func_formed t b m (room_for_func m (told_fits m k.len kept.len)) small valid formed
 
 -- the types of the functions before, where that of one more stands behind them
 pub types_before : (m : Parts) (t n : ℕ) (types : List ℕ) → types ≡ map (λ f. f.ty) m.funcs ++ t ∷ [] → n ≡ length m.funcs

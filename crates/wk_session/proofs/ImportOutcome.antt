@@ -19,6 +19,7 @@ use Rattle.wk_session.specs.Imported.{after_import, IsImportPlan, IsUnplanned}
 use Rattle.wk_session.specs.Kept.{uses_of}
 use Rattle.wk_session.specs.Overlays.{with_items}
 use Rattle.wk_session.proofs.ImportEdits.{AreLaid, made_stuck}
+use Rattle.wk_session.proofs.MovedCode.{set_keys}
 use Rattle.wk_session.proofs.Replacing.{map-with_items}
 
 -- ---- refusals
@@ -46,9 +47,6 @@ laid_parts laid i m p plan kind from is_kind is_from pushed planned =
     ∙ ap (λ (q : Parts). record (with_lists plan.lists q) { funcs = map (moved_func here place) q.funcs }) pushed
     ∙ ap (λ (v : MovedLists). with_import i (record (with_lists v m) { funcs = funcs })) planned.lists
     ∙ ap (λ (q : Parts). with_import i (record q { funcs = funcs })) (laid here place m)
-
-abbrev set_keys : BTreeSet Ref Global → List Ref
-set_keys s = s.keys
 
 -- what functions refer to, with the sets of those that moved in their places
 pub laid_refs : (i : Import) (m : Parts) (plan : ImportPlan) (sets now : List (BTreeSet Ref Global)) → map set_keys sets ≡ map uses_of m.funcs

@@ -16,11 +16,11 @@ use Rattle.wk_session.specs.declared.cache.Cache.{Cache}
 use Rattle.wk_session.specs.Judged.{AreKept}
 use Rattle.wk_session.specs.Kept.{IsKept, uses_of}
 use Rattle.wk_session.specs.Pieces.{code_of, codes_size, customs_size}
-use Rattle.wk_session.proofs.Outcomes.{limited-some}
+use Rattle.wk_session.proofs.Outcomes.{told_fits}
 
 -- a module that something is kept of is not too large
 pub kept_fits : (m : Parts) (k : Cache) → IsKept m k → Fits m
-kept_fits m k kept = limited-some (length (encoded m)) k.len kept.len
+kept_fits m k kept = told_fits m k.len kept.len
 
 -- so each of its lists has room for one more item
 pub room_kept : (m : Parts) (k : Cache) (id : SectionId) → IsKept m k → item_count id (contents (lists_of m) id) + 1 < 2 ^ 32

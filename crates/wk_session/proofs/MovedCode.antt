@@ -69,7 +69,7 @@ module _ {A B C : Type 0} (f : A → C) (g : B → C) (p : C → Bool) (q : B �
 
 -- ---- one entry
 
-abbrev set_keys : BTreeSet Ref Global → List Ref
+abbrev pub set_keys : BTreeSet Ref Global → List Ref
 set_keys s = s.keys
 
 -- what is kept of an entry that moves

@@ -1,11 +1,10 @@
 -- What the outcome of an edit makes of its reply and of the module.
-use Rattle.std.proofs.Common.{◌≡◌, ◌≢◌, ℕ, ◌≤◌, Bool, true, false, cond, leb, length, Some, None, Result, Ok, Err, refl, sym, ap, inl, inr}
-use Rattle.std.proofs.lemmas.Bool.{leb-true}
-use Rattle.wk_bytes.specs.LebLaws.{chosen}
+use Rattle.std.proofs.Common.{◌≡◌, ◌≢◌, ℕ, Bool, true, false, cond, leb, length, Some, None, Result, Ok, Err, refl, sym, ap}
 use Rattle.wk_bytes.specs.Frames.{limit}
 use Rattle.wk_module.specs.declared.types.Parts.{Parts}
 use Rattle.wk_body.specs.Lengths.{limited}
-use Rattle.wk_module.specs.Writing.{encoded}
+use Rattle.wk_body.specs.LengthsLaws.{limited_some}
+use Rattle.wk_module.specs.Writing.{encoded, Fits}
 use Rattle.wk_session.specs.declared.edit.Edit.{Edit}
 use Rattle.wk_session.specs.declared.edit.Work.{Work}
 use Rattle.wk_session.specs.declared.edit.EditFault.{EditFault}
@@ -38,14 +37,10 @@ reply_accepted keep e m n h = sym (ap (reply_to e m) h)
 
 -- ---- lengths
 
-pub limited-some : (n len : ℕ) → limited n ≡ Some len → n ≤ limit
-limited-some n len h =
-    elim (chosen (leb n limit) (Some n) None (Some len) h) [
-      | inl p ↦ leb-true n limit p.0
-      | inr p ↦ absurd cc
-    ]
+-- a module whose length is told is not too large
+pub told_fits : (m : Parts) (len : ℕ) → limited (length (encoded m)) ≡ Some len → Fits m
+told_fits m len h = (limited_some len (length (encoded m)) (sym h)).1
 
--- a module whose length is kept is not too large
 pub fitting-kept : (m : Parts) (len : ℕ) → limited (length (encoded m)) ≡ Some len → fitting m ≡ Ok m
 fitting-kept m len h = fits (leb (length (encoded m)) limit) h
   where

@@ -3,6 +3,7 @@ use Rattle.std.proofs.Common.{◌≡◌, ℕ, suc, ◌+◌, ◌<◌, Bool, true,
 use Rattle.std.specs.Prelude.{remove, option_map}
 use Rattle.std.specs.List.{position_from}
 use Rattle.std.specs.Str.{bytes_eq}
+use Rattle.wk_bytes.specs.LebLaws.{some_is}
 use Rattle.wk_module.specs.declared.types.Export.{Export}
 use Rattle.wk_module.specs.Changes.{without_first}
 
@@ -21,10 +22,7 @@ found_by : (e : Export) (es : List Export) (from i : ℕ) (here : Bool) (pos : O
     → IsFound (e ∷ es) from i (if here then Some es else option_map (λ rest. e ∷ rest) o)
 found_by e es from i true pos o later is =
     let same : Some from ≡ Some i = is in
-    record { place = 0; at = omega (arith, first from i same); within = omega arith; without = refl }
-  where
-    first : (x y : ℕ) → Some x ≡ Some y → x ≡ y
-    first x y p = cc
+    record { place = 0; at = omega (arith, some_is from i same); within = omega arith; without = refl }
 found_by e es from i false pos o later is =
     let l = later is in
     record {

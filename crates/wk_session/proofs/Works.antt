@@ -1,10 +1,12 @@
 -- The work of edits, by how many bodies are typed and encoded.
-use Rattle.std.proofs.Common.{◌≡◌, ℕ, Bool, false, cond, List, [], ◌∷◌, count_by, refl, sym, ap, ◌∙◌, arith}
+use Rattle.std.proofs.Common.{◌≡◌, ◌<◌, ◌^◌, ℕ, Bool, false, cond, List, [], ◌∷◌, count_by, refl, sym, ap, ◌∙◌, arith}
 use Rattle.std.specs.List.{AllByRecursion}
-use Rattle.std.proofs.lemmas.List.Sums.{sum_by-cons}
+use Rattle.std.proofs.lemmas.List.Sums.{count_by-le-length, sum_by-cons}
 use Rattle.wk_body.specs.declared.references.Ref.{Ref}
 use Rattle.wk_module.specs.declared.types.Func.{Func}
 use Rattle.wk_module.specs.declared.types.Parts.{Parts}
+use Rattle.wk_module.specs.NumberedLaws.{funcs_numbered}
+use Rattle.wk_module.specs.Shape.{IsFormed}
 use Rattle.wk_typing.specs.Answers.{Found}
 use Rattle.wk_check.specs.SpacesLaws.{answers_of}
 use Rattle.wk_session.specs.declared.edit.Edit.{Edit}
@@ -30,6 +32,10 @@ count_zero p none xs = count_zero_in p (λ x. p x ≡ false) (λ x is. is) xs (a
 -- no function is typed again, where each reference finds what it found
 pub none_retyped : (A B : Ref → Found) → ((r : Ref) → B r ≡ A r) → (fs : List Func) → count_by (is_retyped_in A B) fs ≡ 0
 none_retyped A B same = count_zero (is_retyped_in A B) (λ f. agree_none A B (held f) (all_of (λ r. B r ≡ A r) same (held f)))
+
+-- so many functions of a module have a number of 32 bits
+pub few_counted : (m : Parts) (p : Func → Bool) (n : ℕ) → IsFormed m → n ≡ count_by p m.funcs → n < 2 ^ 32
+few_counted m p n formed is = omega (arith, is, count_by-le-length p m.funcs, funcs_numbered m formed)
 
 -- ---- works by their numbers
 

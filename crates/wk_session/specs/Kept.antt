@@ -10,6 +10,7 @@ use Rattle.wk_module.specs.Listed.{listed, listed_with}
 use Rattle.wk_module.specs.Shape.{IsFormed, settle}
 use Rattle.wk_module.specs.Writing.{encoded}
 use Rattle.wk_typing.specs.declared.fault.BodyVerdict.{BodyVerdict}
+use Rattle.wk_typing.specs.declared.fault.Verdict.{Verdict}
 use Rattle.wk_check.specs.SpacesLaws.{answers_of}
 use Rattle.wk_check.specs.Verdict.{func_verdict, module_verdict}
 use Rattle.wk_list.specs.Uses.{in_order}
@@ -55,6 +56,11 @@ standing keep n = fitting (settle n) >>= lasting keep
 abbrev pub IsAppraised : Bool → Parts → Result Appraisal EditFault → Type 0
 IsAppraised keep n (Ok a) = (standing keep n ≡ Ok (settle n)) × (a.verdict ≡ module_verdict n) × (limited (length (encoded n)) ≡ Some a.len)
 IsAppraised keep n (Err e) = e ≢ Memory → standing keep n ≡ Err e
+
+-- whether modules of this verdict may stay, or why they may not
+abbrev pub MayLast : {A : Type 0} → Bool → Verdict → Result A EditFault → Type 0
+MayLast keep v (Ok x) = (n : Parts) → module_verdict n ≡ v → lasting keep n ≡ Ok n
+MayLast keep v (Err e) = (e ≢ Memory) × ((n : Parts) → module_verdict n ≡ v → lasting keep n ≡ Err e)
 
 -- ---- what an edit leaves
 

@@ -1,5 +1,5 @@
 -- The contents of a list to which an item comes.
-use Rattle.std.specs.Prelude.{◌≡◌, ◌≤◌, ℕ, ◌+◌, List, [], ◌++◌, length, drop, set, get_or}
+use Rattle.std.specs.Prelude.{◌≡◌, ◌<◌, ◌≤◌, ◌^◌, ℕ, ◌+◌, List, [], ◌++◌, length, drop, set, get_or}
 use Rattle.wk_bytes.specs.Short.{short}
 use Rattle.wk_module.specs.declared.types.Parts.{Parts}
 use Rattle.wk_bytes.specs.Frames.{limit}
@@ -16,10 +16,11 @@ pub record IsLonger (id count : ℕ) (alone : List ℕ) (pieces : List (List ℕ
   pub sections : set pieces id (with_item (get_or pieces id []) count (drop 1 alone)) ≡ section_pieces n
   pub within : length alone ≤ length (section_piece id n)
 
--- The item that comes to so many in the section of an id, for which one section is made.
+-- The item that comes to so many in the section of an id, for which one section is made. There is room for it.
 pub record IsNewItem (id count : ℕ) (alone : List ℕ) (item : NewItem) : Type 0 where
   pub id_is : item.id ≡ id
   pub count_is : item.count ≡ count
+  pub room : item.count + 1 < 2 ^ 32
   pub alone_is : item.alone ≡ alone
   pub few : length item.alone ≤ limit
   pub made : item.made ≡ 1

@@ -1,13 +1,13 @@
 //! Whether a module that an edit would make may stay, and what is to be kept of it.
 
-ghost use Rattle.std.specs.Prelude.{◌≡◌, ◌<◌, ◌^◌, length, IfSome};
+ghost use Rattle.std.specs.Prelude.{◌≡◌, ◌≢◌, ◌<◌, ◌^◌, length, IfErr, IfSome};
 ghost use Rattle.wk_body.specs.Lengths.{limited};
 ghost use Rattle.wk_module.specs.declared.types.Parts.{Parts as PartsOf};
 ghost use Rattle.wk_module.specs.Listed.{AreNumbered, listed};
 ghost use Rattle.wk_module.specs.Shape.{IsFormed};
 ghost use Rattle.wk_module.specs.Writing.{encoded};
 ghost use Rattle.wk_check.specs.Verdict.{module_verdict};
-ghost use Rattle.wk_session.specs.Kept.{IsPending, IsAppraised};
+ghost use Rattle.wk_session.specs.Kept.{IsPending, IsAppraised, MayLast};
 
 use crate::edit::EditFault;
 use std::alloc::Global;
@@ -23,19 +23,28 @@ pub(crate) struct Appraisal {
     pub(crate) len: u32,
 }
 
+/// Whether a module with this verdict may stay, where `keep` says whether it has to be valid.
+pub(crate) fn check_verdict(keep: bool, verdict: &Verdict) -> Result<(), EditFault>
+    ensures { MayLast keep verdict.now result }
+{
+    match verdict {
+        Verdict::Invalid(fault) if keep => Err(EditFault::WouldBreak(*fault)),
+        _ => Ok(()),
+    }
+}
+
 /// Whether a module that an edit would make may stay, which has that verdict, and that length where it is not past the limit; or says
 /// why the edit is refused, where `keep` says whether the module has to be valid. It takes no memory.
 pub(crate) fn admit(keep: bool, verdict: Verdict, len: Option<u32>) -> Result<Appraisal, EditFault>
-    ensures { (n : PartsOf) → IsFormed n → verdict ≡ module_verdict n
+    ensures appraised { (n : PartsOf) → IsFormed n → verdict ≡ module_verdict n
         → len ≡ limited (length (encoded n)) → IsAppraised keep n result }
+    ensures other { IfErr result (λ e. e ≢ EditFault.Memory) }
 {
     let Some(len) = len else {
         return Err(EditFault::TooLarge);
     };
-    match verdict {
-        Verdict::Invalid(fault) if keep => Err(EditFault::WouldBreak(fault)),
-        _ => Ok(Appraisal { verdict, len }),
-    }
+    check_verdict(keep, &verdict)?;
+    Ok(Appraisal { verdict, len })
 }
 
 /// Judges a module that an edit would make, by its lists and the verdicts of its bodies, where its length is not past the limit; or says

@@ -6,59 +6,23 @@ ghost use Rattle.wk_bytes.specs.Frames.{limit};
 ghost use Rattle.wk_body.specs.Lengths.{limited};
 ghost use Rattle.wk_module.specs.declared.types.Custom.{Custom as CustomOf};
 ghost use Rattle.wk_module.specs.declared.types.Parts.{Parts as PartsOf};
-ghost use Rattle.wk_module.specs.Shape.{IsFormed, IsInOrderFrom, IsShaped};
+ghost use Rattle.wk_module.specs.Shape.{IsInOrderFrom, IsShaped};
 ghost use Rattle.wk_module.specs.Writing.{encoded, Fits};
-ghost use Rattle.wk_check.specs.Verdict.{module_verdict};
 ghost use Rattle.wk_module.specs.WritingLaws.{written_frame};
 ghost use Rattle.wk_session.specs.declared.edit.Edit.{Edit};
-ghost use Rattle.wk_session.specs.Customs.{MayLast, IsChecked, IsPut, bytes_at, last_custom, with_customs_len};
+ghost use Rattle.wk_session.specs.Customs.{IsPut, bytes_at, last_custom, with_customs_len};
 ghost use Rattle.wk_session.specs.Edits.{is_named, with_custom, without_customs};
 ghost use Rattle.wk_session.specs.Kept.{IsKept, Leads};
 ghost use Rattle.wk_session.specs.Pieces.{customs_size};
 
 use crate::cache::Cache;
-use crate::edit::{EditFault, Reply, Work};
+use crate::edit::{EditFault, Reply, work_on};
 use crate::lengths::customs_len;
+use crate::verdict_and_len::{admit, check_verdict};
 use std::alloc::{AllocError, Global};
 use std::mem;
 use wk_bytes::{Items, LIMIT, Text};
-use wk_check::Verdict;
 use wk_module::{Custom, Parts, framed_len, named_len, section_id};
-
-// What it takes to change custom sections, where so many of them are encoded.
-fn work_on(sections: u32) -> Work
-    ensures { result ≡ record { typed = 0; encoded = 0; sections = sections } }
-{
-    Work {
-        typed: 0,
-        encoded: 0,
-        sections,
-    }
-}
-
-// The length of a module, where it is not too large and may stay; or why it is refused. `keep` says whether it has to be valid.
-fn check_module(keep: bool, verdict: &Verdict, len: Option<u32>) -> Result<u32, EditFault>
-    ensures { (n : PartsOf) → IsFormed n → module_verdict n ≡ verdict.now
-        → len ≡ limited (length (encoded n)) → IsChecked keep n result }
-{
-    let Some(len) = len else {
-        return Err(EditFault::TooLarge);
-    };
-    match verdict {
-        Verdict::Invalid(fault) if keep => Err(EditFault::WouldBreak(*fault)),
-        _ => Ok(len),
-    }
-}
-
-// Whether a module with this verdict may stay, where `keep` says whether it has to be valid.
-fn check_verdict(keep: bool, verdict: &Verdict) -> Result<(), EditFault>
-    ensures { MayLast keep verdict.now result }
-{
-    match verdict {
-        Verdict::Invalid(fault) if keep => Err(EditFault::WouldBreak(*fault)),
-        _ => Ok(()),
-    }
-}
 
 // Keeps the length of a module that has other customs than before, and how much of it these are.
 fn keep_len(kept: &mut Cache, len: u32)
@@ -224,10 +188,10 @@ fn replace_bytes(
         kept.old result parts.new kept.new }
 {
     let len = len_with_bytes(parts, kept, index, bytes);
-    let len = check_module(keep, &kept.verdict, len)?;
+    let appraisal = admit(keep, kept.verdict, len)?;
     let bytes = bytes.copy(alloc)?;
     put_bytes(alloc, parts, index, bytes);
-    keep_len(kept, len);
+    keep_len(kept, appraisal.len);
     Ok(())
 }
 
@@ -249,9 +213,9 @@ fn append_custom(
     // The text's contract says that it is UTF-8, which a module asks of its names.
     let _text = name.as_str();
     let len = len_with_custom(parts, kept, name, bytes);
-    let len = check_module(keep, &kept.verdict, len)?;
+    let appraisal = admit(keep, kept.verdict, len)?;
     push_custom(alloc, parts, name, bytes)?;
-    keep_len(kept, len);
+    keep_len(kept, appraisal.len);
     Ok(())
 }
 

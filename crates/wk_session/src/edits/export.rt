@@ -24,9 +24,9 @@ ghost use Rattle.wk_session.specs.Shorter.{without_item};
 
 use crate::basis::Basis;
 use crate::cache::Cache;
-use crate::edit::{EditFault, Reply, Work};
+use crate::edit::{EditFault, Reply, work_on};
 use crate::edits::plan_append::{
-    Judgement, NewItem, keep_grown, keep_judgement, len_grown, new_item,
+    Judgement, NewItem, keep_grown, keep_judgement, len_beside, new_item,
 };
 use crate::lengths::{module_len, sizes_with};
 use crate::remove_item::{Span, remove_item, shrunk_len};
@@ -102,7 +102,7 @@ fn new_export(
     kept: &Cache,
     export: &Export,
 ) -> Result<NewItem, EncodeFault>
-    requires { length parts.now.exports < 2 ^ 32 }
+    requires { length parts.now.exports + 1 < 2 ^ 32 }
     ensures { MatchResult result
         (IsNewItem 7 (length parts.now.exports) (list_contents written_export (export.now ∷ [])))
         (IsOverlong (list_contents written_export (export.now ∷ []))) }
@@ -159,14 +159,8 @@ pub(crate) fn add_export(
     requires kept { IsKept parts.old kept.old }
     ensures { Leads keep (Edit.Export export.now) parts.old result parts.new kept.new }
 {
-    let len = len_grown(
-        &kept.pieces,
-        section_id::EXPORT,
-        parts.exports.len() as u32,
-        export_len(export),
-        parts.funcs.len(),
-        kept.pieces.codes_len,
-    );
+    let count = parts.exports.len();
+    let len = len_beside(parts, kept, section_id::EXPORT, count, export_len(export));
     if len.is_none() {
         return Err(EditFault::TooLarge);
     }
@@ -174,11 +168,7 @@ pub(crate) fn add_export(
     // The proof asks what this says: the name is text.
     let _name = export.name.as_str();
     let sections = push_export(alloc, keep, parts, kept, export, len)?;
-    Ok(Work {
-        typed: 0,
-        encoded: 0,
-        sections,
-    })
+    Ok(work_on(sections))
 }
 
 // The last byte of a name, or 0 where it has none.
@@ -373,9 +363,5 @@ pub(crate) fn remove_export(
         return Err(EditFault::NoSuchExport);
     };
     let sections = take_export(alloc, keep, parts, kept, place)?;
-    Ok(Work {
-        typed: 0,
-        encoded: 0,
-        sections,
-    })
+    Ok(work_on(sections))
 }

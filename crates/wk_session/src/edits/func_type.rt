@@ -1,6 +1,6 @@
 //! A type more.
 
-ghost use Rattle.std.specs.Prelude.{◌≡◌, ◌≢◌, ◌<◌, ◌-◌, ◌^◌, ◌∷◌, [], length, take, IfNone, IfSome, MatchResult, OnOk, OnErr};
+ghost use Rattle.std.specs.Prelude.{◌≡◌, ◌≢◌, ◌<◌, ◌+◌, ◌-◌, ◌^◌, ◌∷◌, [], length, take, IfNone, IfSome, MatchResult, OnOk, OnErr};
 ghost use Rattle.wk_body.specs.Lengths.{limited};
 ghost use Rattle.wk_module.specs.Listed.{listed};
 ghost use Rattle.wk_module.specs.Changes.{with_type};
@@ -17,7 +17,7 @@ ghost use Rattle.wk_session.specs.Pieces.{IsOverlong};
 use crate::basis::Basis;
 use crate::cache::Cache;
 use crate::edit::{EditFault, Reply, Work};
-use crate::edits::plan_append::{NewItem, judge_grown, keep_grown, len_grown, new_item};
+use crate::edits::plan_append::{NewItem, judge_grown, keep_grown, len_beside, new_item};
 use std::alloc::Global;
 use std::slice;
 use wk_check::{Meter, Verdict, laws_of_valid_modules, verdict_with_type};
@@ -56,7 +56,7 @@ fn new_type(
     kept: &Cache,
     ty: &FuncType,
 ) -> Result<NewItem, EncodeFault>
-    requires { length parts.now.types < 2 ^ 32 }
+    requires { length parts.now.types + 1 < 2 ^ 32 }
     ensures { MatchResult result
         (IsNewItem 1 (length parts.now.types) (list_contents written_functype (ty.now ∷ [])))
         (IsOverlong (list_contents written_functype (ty.now ∷ []))) }
@@ -115,14 +115,8 @@ pub(crate) fn add_type(
     requires fresh { meter.old ≡ 0 }
     ensures { Leads keep (Edit.Ty ty.now) parts.old result parts.new kept.new }
 {
-    let len = len_grown(
-        &kept.pieces,
-        section_id::TYPE,
-        parts.types.len() as u32,
-        type_len(ty),
-        parts.funcs.len(),
-        kept.pieces.codes_len,
-    );
+    let count = parts.types.len();
+    let len = len_beside(parts, kept, section_id::TYPE, count, type_len(ty));
     if len.is_none() {
         return Err(EditFault::TooLarge);
     }

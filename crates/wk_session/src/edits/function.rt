@@ -123,7 +123,7 @@ fn judged_func(
 
 // The index of a type as it comes to those of the others.
 fn new_index(alloc: Global, parts: &Parts, kept: &Cache, ty: &u32) -> Result<NewItem, EncodeFault>
-    requires { length parts.now.funcs < 2 ^ 32 }
+    requires { length parts.now.funcs + 1 < 2 ^ 32 }
     ensures { MatchResult result
         (IsNewItem 3 (length parts.now.funcs) (list_contents short (ty.now ∷ [])))
         (IsOverlong (list_contents short (ty.now ∷ []))) }

@@ -1,6 +1,6 @@
 //! A global more.
 
-ghost use Rattle.std.specs.Prelude.{◌≡◌, ◌≢◌, ◌<◌, ◌-◌, ◌^◌, ◌∷◌, ◌++◌, [], Ok, Err, length, take, IfOk, IfErr, IfNone, IfSome, MatchResult, OnOk, OnErr};
+ghost use Rattle.std.specs.Prelude.{◌≡◌, ◌≢◌, ◌<◌, ◌+◌, ◌-◌, ◌^◌, ◌∷◌, ◌++◌, [], Ok, Err, length, take, IfOk, IfErr, IfNone, IfSome, MatchResult, OnOk, OnErr};
 ghost use Rattle.wk_body.specs.Reading.{all_expr_at, whole_at};
 ghost use Rattle.wk_module.specs.Changes.{with_global};
 ghost use Rattle.wk_module.specs.Items.{IsInit, written_global};
@@ -18,7 +18,7 @@ ghost use Rattle.wk_session.specs.Pieces.{IsOverlong};
 use crate::basis::Basis;
 use crate::cache::Cache;
 use crate::edit::{EditFault, Reply, Work};
-use crate::edits::plan_append::{NewItem, item_len, judge_grown, keep_grown, len_grown, new_item};
+use crate::edits::plan_append::{NewItem, item_len, judge_grown, keep_grown, len_beside, new_item};
 use std::alloc::Global;
 use std::slice;
 use wk_bytes::{Items, OutOfMemory, ReadFault, ReadKind};
@@ -96,7 +96,7 @@ fn new_global(
     kept: &Cache,
     global: &GlobalDef,
 ) -> Result<NewItem, EncodeFault>
-    requires { length parts.now.globals < 2 ^ 32 }
+    requires { length parts.now.globals + 1 < 2 ^ 32 }
     ensures { MatchResult result
         (IsNewItem 6 (length parts.now.globals) (list_contents written_global (global.now ∷ [])))
         (IsOverlong (list_contents written_global (global.now ∷ []))) }
@@ -132,14 +132,8 @@ fn push_global(
 {
     let known = known_with_global(alloc, parts, kept, &global)?;
     let item = new_global(alloc, parts, kept, &global)?;
-    let len = len_grown(
-        &kept.pieces,
-        item.id,
-        item.count,
-        Some(item_len(&item)),
-        parts.funcs.len(),
-        kept.pieces.codes_len,
-    );
+    let count = item.count as usize;
+    let len = len_beside(parts, kept, item.id, count, Some(item_len(&item)));
     parts.globals.push(global)?;
     let before = without_last_global(Lists::of(parts, &kept.types));
     let basis = Basis { keep, parts, kept };

@@ -7,7 +7,7 @@ ghost use Rattle.wk_body.specs.declared.references.Ref.{Ref as RefOf};
 ghost use Rattle.wk_module.specs.declared.types.Parts.{Parts as PartsOf};
 ghost use Rattle.wk_module.specs.Listed.{IsListId, listed};
 ghost use Rattle.wk_module.specs.Sections.{of_number};
-ghost use Rattle.wk_module.specs.Shape.{IsFormed, IsInOrderFrom};
+ghost use Rattle.wk_module.specs.Shape.{IsFormed, IsInOrderFrom, IsShaped};
 ghost use Rattle.wk_module.specs.Writing.{contents_by, encoded};
 ghost use Rattle.wk_typing.specs.Answers.{Found};
 ghost use Rattle.wk_typing.specs.Finds.{Grows};
@@ -15,6 +15,7 @@ ghost use Rattle.wk_check.specs.Spaces.{answer_in, spaces_of};
 ghost use Rattle.wk_check.specs.SpacesLaws.{answers_of};
 ghost use Rattle.wk_check.specs.Verdict.{func_verdict};
 ghost use Rattle.wk_session.specs.Dependents.{is_retyped_in};
+ghost use Rattle.wk_session.specs.Kept.{IsKept};
 ghost use Rattle.wk_session.specs.Longer.{IsLonger, IsNewItem};
 ghost use Rattle.wk_session.specs.Judged.{AreKept, IsGrown, IsJudged, IsKnown};
 ghost use Rattle.wk_session.specs.Pieces.{IsOverlong, codes_size, customs_size};
@@ -30,7 +31,7 @@ use crate::verdict_and_len::{Appraisal, admit, appraise};
 use std::alloc::Global;
 use wk_bytes::{Items, OutOfMemory};
 use wk_check::{BodyVerdict, Meter, Verdict, Whole};
-use wk_module::{EncodeFault, Lists};
+use wk_module::{EncodeFault, Lists, Parts};
 
 /// What is to be kept of a module that an edit would make.
 #[derive(Drop)]
@@ -118,7 +119,8 @@ pub(crate) fn new_item(
     id: u8,
     count: u32,
 ) -> Result<NewItem, EncodeFault>
-    requires { IsListId id }
+    requires id { IsListId id }
+    requires count { count + 1 < 2 ^ 32 }
     ensures { MatchResult result
         (IsNewItem id count (contents_by (listed lists.now) (of_number id)))
         (IsOverlong (contents_by (listed lists.now) (of_number id))) }
@@ -174,6 +176,28 @@ pub(crate) fn len_grown(
     let size = grown_len(sections[id as usize].as_slice(), count, item);
     let sizes = sizes_with(sections, id as usize, size);
     module_len(sizes, funcs, codes, pieces.customs_len)
+}
+
+/// The same where no function comes, by what is kept of the module without the item.
+pub(crate) fn len_beside(
+    parts: &Parts,
+    kept: &Cache,
+    id: u8,
+    count: usize,
+    item: Option<u32>,
+) -> Option<u32>
+    requires shaped { IsShaped parts.now }
+    requires kept { IsKept parts.now kept.now }
+    requires id { id < 12 }
+    requires count { count + 1 < 2 ^ 32 }
+    ensures { (n : PartsOf) → (alone : List ℕ) → n.funcs ≡ (parts.now).funcs
+        → n.customs ≡ (parts.now).customs
+        → IsLonger id count alone kept.now.pieces.sections.items n
+        → item ≡ limited (length (drop 1 alone)) → result ≡ limited (length (encoded n)) }
+{
+    let pieces = &kept.pieces;
+    let funcs = parts.funcs.len();
+    len_grown(pieces, id, count as u32, item, funcs, pieces.codes_len)
 }
 
 /// Keeps what is to be kept of a module that an edit makes, but for its sections.

@@ -18,4 +18,4 @@ returns c =
     let code = c.first_code_fault.ensures ∙ ap (λ (vs : List BodyVerdict). first_in 10 0 (map body_flaw vs)) c.deref.ensures.value in
     let verdict : c.in_ok-verdict.verdict ≡ module_verdict n =
     c.in_ok-verdict.ensures ∙ ap (verdict_around c.args.lists.now.profile (listed c.args.lists.now)) code ∙ verdict_lent c.args.lists.now _ _ n p in
-    c.admit.ensures n p.formed verdict p.len
+    c.admit.ensures.appraised n p.formed verdict p.len

@@ -68,7 +68,7 @@ returns-in_err-appraisal-clause-judged c =
     let m = c.args.basis.parts.now in
     let p = err_from_is_err_and c.from_residual-in_err-appraisal.result c.from_residual-in_err-appraisal.ensures.1 in
     let formed_with = body_formed c.args.entry c.args.body.now m c.requires.valid c.requires.shaped.formed in
-    rw (p.1, p.2) (c.in_err-appraisal.ensures (with_body c.args.entry c.args.body.now m) formed_with
+    rw (p.1, p.2) (c.in_err-appraisal.ensures.appraised (with_body c.args.entry c.args.body.now m) formed_with
     (verdict_is (goal.at.returns-in_err-appraisal-clause-judged c).After-verdict_with_body-verdict) c.requires.len)
 
 pub returns-in-Valid-clause-judged : goal.returns-in-Valid-clause-judged
@@ -76,7 +76,7 @@ returns-in-Valid-clause-judged c =
     let m = c.args.basis.parts.now in
     let at = goal.at.returns-in-Valid-clause-judged c in
     let formed_with = body_formed c.args.entry c.args.body.now m c.requires.valid c.requires.shaped.formed in
-    let appraised = c.in_ok-appraisal.ensures (with_body c.args.entry c.args.body.now m) formed_with
+    let appraised = c.in_ok-appraisal.ensures.appraised (with_body c.args.entry c.args.body.now m) formed_with
     (verdict_is at.After-verdict_with_body-verdict) c.requires.len in
     ((c.in_ok-own.ensures.own, others at.In_ok-own), appraised)
 

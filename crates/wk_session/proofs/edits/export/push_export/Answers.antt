@@ -15,8 +15,7 @@ use Rattle.wk_session.proofs.Keeping.{room_kept}
 use Rattle.wk_session.proofs.edits.export.push_export.Goals as goal
 
 pub new_export-requires : goal.new_export-requires
-new_export-requires c =
-    omega (arith, room_kept c.args.parts.now c.args.kept.now ExportSection c.requires.kept)
+new_export-requires c = room_kept c.args.parts.now c.args.kept.now ExportSection c.requires.kept
 
 pub returns-in_err-item-clause-grown : goal.returns-in_err-item-clause-grown
 returns-in_err-item-clause-grown c =
@@ -24,7 +23,7 @@ returns-in_err-item-clause-grown c =
     let k = c.args.kept.now in
     let r = c.from_residual.result in
     let longer = export_longer c.args.export m k.pieces.sections.items c.requires.kept.pieces.sections in
-    item_refused c.args.keep m (with_export c.args.export m) k 0 _ _ _ longer c.in_err-item.field-0.0 r c.requires.shaped.formed.order
+    item_refused c.args.keep m (with_export c.args.export m) k 0 longer c.in_err-item.field-0.0 r c.requires.shaped.formed.order
     c.in_err-item.ensures (err_from_is_err_and r c.from_residual.ensures.1)
 
 pub judge_exports-judged-requires-clause-formed : goal.judge_exports-judged-requires-clause-formed
@@ -43,10 +42,6 @@ judge_exports-judged-requires-clause-len c =
 pub keep_grown-grown-requires-clause-id : goal.keep_grown-grown-requires-clause-id
 keep_grown-grown-requires-clause-id c = omega (arith, c.in_ok-item.ensures.id_is, ap length c.requires.kept.pieces.sections)
 
-pub keep_grown-grown-requires-clause-count : goal.keep_grown-grown-requires-clause-count
-keep_grown-grown-requires-clause-count c =
-    omega (arith, c.in_ok-item.ensures.count_is, room_kept c.args.parts.now c.args.kept.now ExportSection c.requires.kept)
-
 pub returns-clause-grown : goal.returns-clause-grown
 returns-clause-grown c =
     let m = c.args.parts.now in
@@ -56,5 +51,5 @@ returns-clause-grown c =
     let judged = subst (λ (es : List Export). IsJudged c.args.keep (answers_of m) (record m { exports = es }) k 0 result)
     (c.as_slice-exports.ensures ∙ c.in_ok-push.ensures.ok) c.judge_exports-judged.ensures in
     let longer = export_longer c.args.export m k.pieces.sections.items c.requires.kept.pieces.sections in
-    item_grown c.args.keep m n k 0 _ _ _ longer _ c.in_ok-item.item _ _ c.in_ok-item.ensures refl refl c.requires.kept judged
+    item_grown c.args.keep m n k 0 longer _ c.in_ok-item.item _ _ c.in_ok-item.ensures refl refl c.requires.kept judged
     (c.keep_grown-grown.ensures c.args.keep (answers_of m) n 0)

@@ -64,8 +64,8 @@ returns c =
     let at = (goal.at.returns c).In-Some in
     let n = record m { exports = remove m.exports c.in-Some.place } in
     let k = c.args.kept.now in
-    let made = c.in_ok-sections.sections in
+    let e = edits.Unexport c.args.name.now in
     let shrunk = c.in_ok-sections.ensures.shrunk in
-    accepted c.args.keep (edits.Unexport c.args.name.now) m n c.take_export.new.parts k c.take_export.new.kept
-    (record { typed = 0; encoded = 0; sections = made }) c.in_ok-sections.ensures.ok (makes at) shrunk.0
-    (typeless_work (edits.Unexport c.args.name.now) m (settle n) refl (λ f. refl) made (λ r. refl) shrunk.3) (formed at) shrunk.1
+    let works = c.work_on.ensures ∙ typeless_work e m (settle n) refl (λ f. refl) c.in_ok-sections.sections (λ r. refl) shrunk.3 in
+    accepted c.args.keep e m n c.take_export.new.parts k c.take_export.new.kept c.work_on.result c.in_ok-sections.ensures.ok (makes at) shrunk.0
+    works (formed at) shrunk.1

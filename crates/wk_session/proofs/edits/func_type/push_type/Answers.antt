@@ -39,17 +39,17 @@ pub judge_grown-judged-requires-clause-grows : goal.judge_grown-judged-requires-
 judge_grown-judged-requires-clause-grows c =
     let m = c.args.parts.now in
     let at = (goal.at.judge_grown-judged-requires-clause-grows c).After-without_last_type-before in
-    grows_before _ m _ _ c.args.kept.now (before_is at) (pushed at) (type_grows m c.args.ty)
+    grows_before m (before_is at) (pushed at) (type_grows m c.args.ty)
 
 pub judge_grown-judged-requires-clause-kept : goal.judge_grown-judged-requires-clause-kept
 judge_grown-judged-requires-clause-kept c =
     let at = (goal.at.judge_grown-judged-requires-clause-kept c).After-without_last_type-before in
-    kept_before _ c.args.parts.now _ _ c.args.kept.now (before_is at) (pushed at) refl refl c.requires.kept
+    kept_before c.args.parts.now (before_is at) (pushed at) c.args.kept.now refl refl c.requires.kept
 
 pub judge_grown-judged-requires-clause-known : goal.judge_grown-judged-requires-clause-known
 judge_grown-judged-requires-clause-known c =
     let at = (goal.at.judge_grown-judged-requires-clause-known c).After-without_last_type-before in
-    known_before _ c.args.parts.now _ _ c.args.kept.now (before_is at) (pushed at) c.known_with_type-known.result c.known_with_type-known.ensures.some
+    known_before c.args.parts.now (before_is at) (pushed at) c.known_with_type-known.result c.known_with_type-known.ensures.some
 
 pub judge_grown-judged-requires-clause-len : goal.judge_grown-judged-requires-clause-len
 judge_grown-judged-requires-clause-len c =
@@ -57,8 +57,7 @@ judge_grown-judged-requires-clause-len c =
     c.requires.len ∙ ap (λ (ts : List FuncType). limited (length (encoded (record m { types = ts })))) (sym c.in_ok-push.ensures.ok)
 
 pub new_type-requires : goal.new_type-requires
-new_type-requires c =
-    omega (arith, room_kept c.args.parts.now c.args.kept.now TypeSection c.requires.kept)
+new_type-requires c = room_kept c.args.parts.now c.args.kept.now TypeSection c.requires.kept
 
 pub returns-in_err-item-clause-grown : goal.returns-in_err-item-clause-grown
 returns-in_err-item-clause-grown c =
@@ -66,15 +65,11 @@ returns-in_err-item-clause-grown c =
     let k = c.args.kept.now in
     let r = c.from_residual.result in
     let longer = type_longer c.args.ty m k.pieces.sections.items c.requires.kept.pieces.sections in
-    item_refused c.args.keep m (with_type c.args.ty m) k c.args.meter.now _ _ _ longer c.in_err-item.field-0.0 r c.requires.shaped.formed.order
+    item_refused c.args.keep m (with_type c.args.ty m) k c.args.meter.now longer c.in_err-item.field-0.0 r c.requires.shaped.formed.order
     c.in_err-item.ensures (err_from_is_err_and r c.from_residual.ensures.1)
 
 pub keep_grown-grown-requires-clause-id : goal.keep_grown-grown-requires-clause-id
 keep_grown-grown-requires-clause-id c = omega (arith, c.in_ok-item.ensures.id_is, ap length c.requires.kept.pieces.sections)
-
-pub keep_grown-grown-requires-clause-count : goal.keep_grown-grown-requires-clause-count
-keep_grown-grown-requires-clause-count c =
-    omega (arith, c.in_ok-item.ensures.count_is, room_kept c.args.parts.now c.args.kept.now TypeSection c.requires.kept)
 
 pub returns-clause-grown : goal.returns-clause-grown
 returns-clause-grown c =
@@ -83,7 +78,7 @@ returns-clause-grown c =
     let n = with_type c.args.ty m in
     let typed = c.judge_grown-judged.new.meter in
     let at = (goal.at.returns-clause-grown c).After-without_last_type-before in
-    let judged = judged_before _ m n _ k (before_is at) (pushed at) c.args.keep typed c.judge_grown-judged.result c.judge_grown-judged.ensures in
+    let judged = judged_before m (before_is at) (pushed at) c.args.keep k typed c.judge_grown-judged.result c.judge_grown-judged.ensures in
     let longer = type_longer c.args.ty m k.pieces.sections.items c.requires.kept.pieces.sections in
-    item_grown c.args.keep m n k typed _ _ _ longer _ c.in_ok-item.item _ _ c.in_ok-item.ensures refl refl c.requires.kept judged
+    item_grown c.args.keep m n k typed longer _ c.in_ok-item.item _ _ c.in_ok-item.ensures refl refl c.requires.kept judged
     (c.keep_grown-grown.ensures c.args.keep (answers_of m) n typed)

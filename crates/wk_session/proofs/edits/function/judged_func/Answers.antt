@@ -3,20 +3,17 @@ use Rattle.std.proofs.lemmas.Result.{err_from_is_err_and}
 use Rattle.wk_module.specs.Changes.{with_func}
 use Rattle.wk_module.specs.Listed.{listed}
 use Rattle.wk_module.specs.Shape.{IsFormed}
-use Rattle.wk_module.specs.Writing.{encoded}
 use Rattle.wk_check.specs.SpacesLaws.{answers_of}
 use Rattle.wk_session.specs.Kept.{IsPending}
-use Rattle.wk_session.proofs.EntryEdits.{func_formed_from, types_with}
+use Rattle.wk_session.proofs.EntryEdits.{formed_with_func, types_with}
 use Rattle.wk_session.proofs.Lent.{lent, lent_is, numbered_lent, verdicts_few}
-use Rattle.wk_session.proofs.Outcomes.{limited-some}
 use Rattle.wk_session.proofs.edits.function.judged_func.Goals as goal
 use Rattle.wk_session.proofs.edits.function.judged_func.Goals.{After-of-lists}
 
 formed : (c : After-of-lists) → IsFormed (with_func c.args.ty c.args.body.now c.args.basis.parts.now)
 formed c =
-    let m = c.args.basis.parts.now in
-    func_formed_from c.args.ty c.args.body.now m (limited-some (length (encoded m)) c.args.basis.kept.now.len c.requires.kept.len) c.ranges.ty.fits
-    c.requires.valid c.requires.shaped.formed
+    formed_with_func c.args.ty c.args.body.now c.args.basis.parts.now c.args.basis.kept.now c.requires.kept c.ranges.ty.fits c.requires.valid
+    c.requires.shaped.formed
 
 -- the lists that are lent are those of the module with the function
 lists_are : (c : After-of-lists) → listed c.of-lists.result ≡ lent (with_func c.args.ty c.args.body.now c.args.basis.parts.now)

@@ -6,27 +6,24 @@ use Rattle.wk_module.specs.Changes.{with_func}
 use Rattle.wk_module.specs.NumberedLaws.{funcs_numbered}
 use Rattle.wk_module.specs.Shape.{IsFormed}
 use Rattle.wk_module.specs.Sizes.{entry_size}
-use Rattle.wk_module.specs.Writing.{encoded, Fits}
-use Rattle.wk_module.specs.WritingLaws.{room_for_func}
 use Rattle.wk_session.specs.Pieces.{codes_size}
-use Rattle.wk_session.proofs.EntryEdits.{codes_kept, codes_large, codes_len_is, codes_more, func_formed_from, func_unencoded, types_with}
+use Rattle.wk_session.proofs.EntryEdits.{codes_kept, codes_large, codes_len_is, codes_more, formed_with_func, func_unencoded, types_with}
 use Rattle.wk_session.proofs.LongerLists.{func_longer, item_told, longer_by}
-use Rattle.wk_session.proofs.Outcomes.{limited-some}
+use Rattle.wk_session.proofs.Outcomes.{told_fits}
 use Rattle.wk_session.proofs.edits.function.planned_func.Goals as goal
 use Rattle.wk_session.proofs.edits.function.planned_func.Goals.{After-plus_code}
 
-fits : (c : After-plus_code) → Fits c.args.basis.parts.now
-fits c = limited-some (length (encoded c.args.basis.parts.now)) c.args.basis.kept.now.len c.requires.kept.len
-
 formed : (c : After-plus_code) → IsFormed (with_func c.args.ty c.args.body.now c.args.basis.parts.now)
-formed c = func_formed_from c.args.ty c.args.body.now c.args.basis.parts.now (fits c) c.ranges.ty.fits c.requires.valid c.requires.shaped.formed
+formed c =
+    formed_with_func c.args.ty c.args.body.now c.args.basis.parts.now c.args.basis.kept.now c.requires.kept c.ranges.ty.fits c.requires.valid
+    c.requires.shaped.formed
 
 -- the length of all codes is that of those before and of the one that comes
-codes_are : (c : After-plus_code) → Fits c.args.basis.parts.now
-    → c.plus_code.result ≡ limited (codes_size (with_func c.args.ty c.args.body.now c.args.basis.parts.now).funcs)
-codes_are c small =
+codes_are : (c : After-plus_code) → c.plus_code.result ≡ limited (codes_size (with_func c.args.ty c.args.body.now c.args.basis.parts.now).funcs)
+codes_are c =
     let m = c.args.basis.parts.now in
-    c.plus_code.ensures (codes_size m.funcs) (codes_kept m c.args.basis.kept.now.pieces small c.requires.kept.pieces)
+    let k = c.args.basis.kept.now in
+    c.plus_code.ensures (codes_size m.funcs) (codes_kept m k.pieces (told_fits m k.len c.requires.kept.len) c.requires.kept.pieces)
     ∙ ap (λ (code : List ℕ). limited (codes_size m.funcs + entry_size (length code))) c.in_ok-code.ensures.code
     ∙ ap limited (sym (codes_more m.funcs (record { ty = c.args.ty; body = c.args.body.now })))
 
@@ -48,22 +45,13 @@ pub returns-in_default-clause-planned : goal.returns-in_default-clause-planned
 returns-in_default-clause-planned c =
     let at = goal.at.returns-in_default-clause-planned c in
     λ other. codes_large c.args.basis.keep (with_func c.args.ty c.args.body.now c.args.basis.parts.now) c.requires.shaped.formed.order
-    (sym c.in_default.is ∙ codes_are at.After-plus_code (fits at.After-plus_code))
+    (sym c.in_default.is ∙ codes_are at.After-plus_code)
 
 pub len_grown-len-requires-clause-sections : goal.len_grown-len-requires-clause-sections
 len_grown-len-requires-clause-sections c = ap length c.requires.kept.pieces.sections
 
 pub len_grown-len-requires-clause-id : goal.len_grown-len-requires-clause-id
 len_grown-len-requires-clause-id c = omega (arith, c.requires.item.id_is)
-
-pub len_grown-len-requires-clause-count : goal.len_grown-len-requires-clause-count
-len_grown-len-requires-clause-count c =
-    omega (
-      arith,
-      c.requires.item.count_is,
-      room_for_func c.args.basis.parts.now
-          (limited-some (length (encoded c.args.basis.parts.now)) c.args.basis.kept.now.len c.requires.kept.len),
-    )
 
 pub item_len-requires : goal.item_len-requires
 item_len-requires c = c.requires.item.few
@@ -77,7 +65,7 @@ pub judged_func-requires-clause-len : goal.judged_func-requires-clause-len
 judged_func-requires-clause-len c =
     let n = with_func c.args.ty c.args.body.now c.args.basis.parts.now in
     let at = goal.at.judged_func-requires-clause-len c in
-    let codes = codes_len_is n _ _ c.in-Some.is (codes_are at.After-plus_code (fits at.After-plus_code)) in
+    let codes = codes_len_is n _ _ c.in-Some.is (codes_are at.After-plus_code) in
     let count : c.len.result ≡ length n.funcs = omega (arith, c.len.ensures, types_count at.After-plus_code) in
     let m = c.args.basis.parts.now in
     let item = c.args.item.now in
@@ -100,8 +88,7 @@ returns-clause-planned c =
       uses = c.in_ok-uses.ensures (record { ty = c.args.ty; body = c.args.body.now }) refl refl;
       verdicts = c.in_ok-verdicts.ensures.judged.0;
       code = c.in_ok-code.ensures.code;
-      codes_len = codes_len_is (with_func c.args.ty c.args.body.now c.args.basis.parts.now) _ _ c.in-Some.is
-          (codes_are at.After-plus_code (fits at.After-plus_code));
+      codes_len = codes_len_is (with_func c.args.ty c.args.body.now c.args.basis.parts.now) _ _ c.in-Some.is (codes_are at.After-plus_code);
       encoded = c.in_ok-code.ensures.made;
       made = c.requires.item.made;
     }

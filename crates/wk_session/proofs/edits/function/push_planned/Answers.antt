@@ -4,12 +4,12 @@ use Rattle.wk_bytes.specs.Short.{short}
 use Rattle.wk_module.specs.declared.types.Func.{Func}
 use Rattle.wk_module.specs.declared.types.Parts.{Parts}
 use Rattle.wk_module.specs.Changes.{with_func}
-use Rattle.wk_module.specs.Writing.{encoded, list_contents}
+use Rattle.wk_module.specs.Writing.{list_contents}
 use Rattle.wk_module.specs.WritingLaws.{room_for_func}
 use Rattle.wk_session.specs.Longer.{with_item}
 use Rattle.wk_session.specs.Pieces.{section_piece}
 use Rattle.wk_session.proofs.LongerLists.{func_longer, overlong_more}
-use Rattle.wk_session.proofs.Outcomes.{limited-some}
+use Rattle.wk_session.proofs.Outcomes.{told_fits}
 use Rattle.wk_session.proofs.Piecing.{unwritten}
 use Rattle.wk_session.proofs.Popped.{popped}
 use Rattle.wk_session.proofs.edits.function.push_planned.Goals as goal
@@ -17,7 +17,7 @@ use Rattle.wk_session.proofs.edits.function.push_planned.Goals as goal
 pub new_index-requires : goal.new_index-requires
 new_index-requires c =
     let m = c.args.parts.now in
-    omega (arith, room_for_func m (limited-some (length (encoded m)) c.args.kept.now.len c.requires.kept.len))
+    room_for_func m (told_fits m c.args.kept.now.len c.requires.kept.len)
 
 pub returns-in_err-item-clause-planned : goal.returns-in_err-item-clause-planned
 returns-in_err-item-clause-planned c =
@@ -30,11 +30,6 @@ returns-in_err-item-clause-planned c =
     let over = overlong_more _ (section_piece 3 n) f longer.within c.in_err-item.ensures in
     let p = err_from_is_err_and c.from_residual.result c.from_residual.ensures.1 in
     rw (p.1, p.2) (unwritten c.args.keep 3 n f c.requires.shaped.formed.order over)
-
-pub append_item-requires : goal.append_item-requires
-append_item-requires c =
-    let m = c.args.parts.now in
-    omega (arith, c.in_ok-item.ensures.count_is, room_for_func m (limited-some (length (encoded m)) c.args.kept.now.len c.requires.kept.len))
 
 pub returns-in-Ok-clause-sections : goal.returns-in-Ok-clause-sections
 returns-in-Ok-clause-sections c =

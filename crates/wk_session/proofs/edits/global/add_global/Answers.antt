@@ -1,23 +1,19 @@
 use Rattle.std.proofs.Common.{◌≡◌, ◌≢◌, ◌∙◌, ap, refl, arith, Result, Err}
 use Rattle.std.proofs.lemmas.Result.{err_from_is_err_and}
-use Rattle.std.proofs.lemmas.List.Sums.{count_by-le-length}
 use Rattle.wk_bytes.specs.Leb.{◌>>=◌}
 use Rattle.wk_body.specs.Tree.{Instrs}
 use Rattle.wk_module.specs.Changes.{with_global}
 use Rattle.wk_module.specs.ChangeLaws.{global_formed}
-use Rattle.wk_module.specs.NumberedLaws.{funcs_numbered}
 use Rattle.wk_module.specs.Sections.{GlobalSection}
 use Rattle.wk_module.specs.Shape.{settle, IsFormed}
-use Rattle.wk_check.specs.SpacesLaws.{answers_of}
 use Rattle.wk_session.specs.declared.edit.Edit.TheVariants as edits
 use Rattle.wk_session.specs.declared.edit.EditFault.{EditFault}
-use Rattle.wk_session.specs.Dependents.{is_retyped_in}
 use Rattle.wk_session.specs.Edits.{fitting, lasting, made}
 use Rattle.wk_session.specs.Kept.{standing}
 use Rattle.wk_session.proofs.Leading.{refused_for, accepted}
 use Rattle.wk_session.proofs.Appending.{grown_refused}
 use Rattle.wk_session.proofs.Keeping.{room_kept}
-use Rattle.wk_session.proofs.Works.{codeless_work}
+use Rattle.wk_session.proofs.Works.{codeless_work, few_counted}
 use Rattle.wk_session.proofs.edits.global.add_global.Goals as goal
 use Rattle.wk_session.proofs.edits.global.add_global.Goals.{In_ok-init}
 
@@ -49,10 +45,7 @@ returns-in_err-sections c =
 
 pub overflow_cast-result : goal.overflow_cast-result
 overflow_cast-result c =
-    let m = c.args.parts.now in
-    let n = with_global c.args.ty c.in_ok-init.init m in
-    let typed = c.in_ok-sections.ensures.grown.2 in
-    omega (arith, c.typed.ensures, typed, count_by-le-length (is_retyped_in (answers_of m) (answers_of n)) m.funcs, funcs_numbered m c.requires.shaped.formed)
+    omega (arith, few_counted c.args.parts.now _ c.typed.result c.requires.shaped.formed (c.typed.ensures ∙ c.in_ok-sections.ensures.grown.2))
 
 pub returns : goal.returns
 returns c =

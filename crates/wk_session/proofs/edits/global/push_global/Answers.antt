@@ -10,7 +10,6 @@ use Rattle.wk_module.specs.Writing.{encoded}
 use Rattle.wk_check.specs.Spaces.{answer_in, spaces_of}
 use Rattle.wk_check.specs.SpacesLaws.{answers_of, global_grows}
 use Rattle.wk_module.specs.declared.types.Parts.{Parts}
-use Rattle.wk_module.specs.NumberedLaws.{funcs_numbered}
 use Rattle.wk_session.proofs.Appending.{grows_before, item_grown, item_refused, judged_before, kept_before, known_before}
 use Rattle.wk_session.proofs.LongerLists.{global_longer, item_told, longer_by}
 use Rattle.wk_session.proofs.Keeping.{room_kept}
@@ -42,20 +41,20 @@ pub judge_grown-judged-requires-clause-grows : goal.judge_grown-judged-requires-
 judge_grown-judged-requires-clause-grows c =
     let m = c.args.parts.now in
     let at = (goal.at.judge_grown-judged-requires-clause-grows c).After-without_last_global-before in
-    grows_before _ m _ _ c.args.kept.now (before_is at) (pushed at) (global_grows m c.args.global.ty c.args.global.init)
+    grows_before m (before_is at) (pushed at) (global_grows m c.args.global.ty c.args.global.init)
 
 pub judge_grown-judged-requires-clause-kept : goal.judge_grown-judged-requires-clause-kept
 judge_grown-judged-requires-clause-kept c =
     let at = (goal.at.judge_grown-judged-requires-clause-kept c).After-without_last_global-before in
-    kept_before _ c.args.parts.now _ _ c.args.kept.now (before_is at) (pushed at) refl refl c.requires.kept
+    kept_before c.args.parts.now (before_is at) (pushed at) c.args.kept.now refl refl c.requires.kept
 
 pub judge_grown-judged-requires-clause-known : goal.judge_grown-judged-requires-clause-known
 judge_grown-judged-requires-clause-known c =
     let at = (goal.at.judge_grown-judged-requires-clause-known c).After-without_last_global-before in
-    known_before _ c.args.parts.now _ _ c.args.kept.now (before_is at) (pushed at) c.in_ok-known.known c.in_ok-known.ensures.some
+    known_before c.args.parts.now (before_is at) (pushed at) c.in_ok-known.known c.in_ok-known.ensures.some
 
 pub new_global-requires : goal.new_global-requires
-new_global-requires c = omega (arith, room_kept c.args.parts.now c.args.kept.now GlobalSection c.requires.kept)
+new_global-requires c = room_kept c.args.parts.now c.args.kept.now GlobalSection c.requires.kept
 
 pub returns-in_err-item-clause-grown : goal.returns-in_err-item-clause-grown
 returns-in_err-item-clause-grown c =
@@ -63,21 +62,11 @@ returns-in_err-item-clause-grown c =
     let k = c.args.kept.now in
     let r = c.from_residual-in_err-item.result in
     let longer = global_longer c.args.global m k.pieces.sections.items c.requires.kept.pieces.sections in
-    item_refused c.args.keep m _ k c.args.meter.now _ _ _ longer c.in_err-item.field-0.0 r c.requires.shaped.formed.order c.in_err-item.ensures
+    item_refused c.args.keep m _ k c.args.meter.now longer c.in_err-item.field-0.0 r c.requires.shaped.formed.order c.in_err-item.ensures
     (err_from_is_err_and r c.from_residual-in_err-item.ensures.1)
 
-pub len_grown-len-requires-clause-sections : goal.len_grown-len-requires-clause-sections
-len_grown-len-requires-clause-sections c = ap length c.requires.kept.pieces.sections
-
-pub len_grown-len-requires-clause-id : goal.len_grown-len-requires-clause-id
-len_grown-len-requires-clause-id c = omega (arith, c.in_ok-item.ensures.id_is)
-
-pub len_grown-len-requires-clause-count : goal.len_grown-len-requires-clause-count
-len_grown-len-requires-clause-count c =
-    omega (arith, c.in_ok-item.ensures.count_is, room_kept c.args.parts.now c.args.kept.now GlobalSection c.requires.kept)
-
-pub len_grown-len-requires-clause-funcs : goal.len_grown-len-requires-clause-funcs
-len_grown-len-requires-clause-funcs c = omega (arith, c.len.ensures, funcs_numbered c.args.parts.now c.requires.shaped.formed)
+pub len_beside-len-requires-clause-id : goal.len_beside-len-requires-clause-id
+len_beside-len-requires-clause-id c = omega (arith, c.in_ok-item.ensures.id_is)
 
 pub judge_grown-judged-requires-clause-len : goal.judge_grown-judged-requires-clause-len
 judge_grown-judged-requires-clause-len c =
@@ -89,16 +78,11 @@ judge_grown-judged-requires-clause-len c =
     let longer = longer_by _ _ _ k.pieces.sections.items n item c.in_ok-item.ensures
     (global_longer g m k.pieces.sections.items c.requires.kept.pieces.sections) in
     let told = item_told item c.item_len.result c.in_ok-item.ensures.few c.item_len.ensures in
-    c.len_grown-len.ensures n item.alone c.requires.shaped.formed.order longer told c.len.ensures c.requires.kept.pieces.codes_len
-    c.requires.kept.pieces.customs_len
+    c.len_beside-len.ensures n item.alone refl refl longer told
     ∙ ap (λ (gs : List GlobalDef). limited (length (encoded (record m { globals = gs })))) (sym c.in_ok-push.ensures.ok)
 
 pub keep_grown-grown-requires-clause-id : goal.keep_grown-grown-requires-clause-id
 keep_grown-grown-requires-clause-id c = omega (arith, c.in_ok-item.ensures.id_is, ap length c.requires.kept.pieces.sections)
-
-pub keep_grown-grown-requires-clause-count : goal.keep_grown-grown-requires-clause-count
-keep_grown-grown-requires-clause-count c =
-    omega (arith, c.in_ok-item.ensures.count_is, room_kept c.args.parts.now c.args.kept.now GlobalSection c.requires.kept)
 
 pub returns-clause-grown : goal.returns-clause-grown
 returns-clause-grown c =
@@ -108,7 +92,7 @@ returns-clause-grown c =
     let n : Parts = record m { globals = m.globals ++ g ∷ [] } in
     let typed = c.judge_grown-judged.new.meter in
     let at = (goal.at.returns-clause-grown c).After-without_last_global-before in
-    let judged = judged_before _ m n _ k (before_is at) (pushed at) c.args.keep typed c.judge_grown-judged.result c.judge_grown-judged.ensures in
+    let judged = judged_before m (before_is at) (pushed at) c.args.keep k typed c.judge_grown-judged.result c.judge_grown-judged.ensures in
     let longer = global_longer g m k.pieces.sections.items c.requires.kept.pieces.sections in
-    item_grown c.args.keep m n k typed _ _ _ longer _ c.in_ok-item.item _ _ c.in_ok-item.ensures refl refl c.requires.kept judged
+    item_grown c.args.keep m n k typed longer _ c.in_ok-item.item _ _ c.in_ok-item.ensures refl refl c.requires.kept judged
     (c.keep_grown-grown.ensures c.args.keep (answers_of m) n typed)

@@ -1,5 +1,4 @@
 use Rattle.std.proofs.Common.{◌≡◌, ℕ, Bool, map, ap, sym, subst, ◌∙◌, refl, arith, List, length, Some, Ok}
-use Rattle.std.proofs.lemmas.List.Sums.{count_by-le-length}
 use Rattle.std.proofs.lemmas.Result.{err_from_is_err_and}
 use Rattle.wk_module.specs.declared.types.Func.{Func}
 use Rattle.wk_module.specs.declared.types.Import.{Import}
@@ -14,7 +13,7 @@ use Rattle.wk_module.specs.NumberedLaws.{funcs_numbered, module_numbered}
 use Rattle.wk_module.specs.Shape.{IsFormed, settle}
 use Rattle.wk_session.specs.declared.edit.Edit.TheVariants as edits
 use Rattle.wk_session.specs.declared.edit.Work.{Work}
-use Rattle.wk_session.specs.Dependents.{is_retyped, work_of}
+use Rattle.wk_session.specs.Dependents.{work_of}
 use Rattle.wk_session.specs.Edits.{import_place, made}
 use Rattle.wk_session.specs.Imported.{after_import, IsImportPlan}
 use Rattle.wk_session.specs.Kept.{IsKept}
@@ -22,7 +21,7 @@ use Rattle.wk_session.specs.Overlays.{with_items}
 use Rattle.wk_session.proofs.ImportEdits.{made_free}
 use Rattle.wk_session.proofs.ImportOutcome.{unplanned, laid_parts, laid_refs}
 use Rattle.wk_session.proofs.Keeping.{refs_count}
-use Rattle.wk_session.proofs.Works.{work_is}
+use Rattle.wk_session.proofs.Works.{few_counted, work_is}
 use Rattle.wk_session.proofs.edits.import.add_import.Goals as goal
 use Rattle.wk_session.proofs.edits.import.add_import.Goals.{After-import_count-from, In_ok-plan, After-put_import}
 
@@ -69,15 +68,7 @@ planned c at =
 
 pub overflow_cast-work : goal.overflow_cast-work
 overflow_cast-work c =
-    let m = c.args.parts.now in
-    let i = c.args.import.now in
-    omega (
-      arith,
-      c.typed.ensures,
-      c.in_ok-judgement.ensures.typed,
-      count_by-le-length (is_retyped (edits.Import i) m (after_import i m)) m.funcs,
-      funcs_numbered m c.requires.shaped.formed,
-    )
+    omega (arith, few_counted c.args.parts.now _ c.typed.result c.requires.shaped.formed (c.typed.ensures ∙ c.in_ok-judgement.ensures.typed))
 
 pub put_import-requires-clause-refs : goal.put_import-requires-clause-refs
 put_import-requires-clause-refs c =

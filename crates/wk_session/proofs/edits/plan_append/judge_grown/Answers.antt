@@ -27,7 +27,7 @@ returns-in-Some c =
     let n = c.args.basis.parts.now in
     let known = subst (λ (o : Option Verdict). IfSome o (IsKnown (answer_in (spaces_of (listed c.args.before))) n)) c.in-Some.is c.requires.known in
     record {
-      appraised = c.in_ok-appraisal.ensures n c.requires.formed known.verdict c.requires.len;
+      appraised = c.in_ok-appraisal.ensures.appraised n c.requires.formed known.verdict c.requires.len;
       verdicts = c.requires.kept.verdicts ∙ known.verdicts;
       typed_are = c.requires.fresh ∙ known.typed;
     }

@@ -2,7 +2,7 @@ use Rattle.std.proofs.Common.{◌≡◌, length, sym, ap, ◌∙◌, arith}
 use Rattle.wk_module.specs.Writing.{encoded}
 use Rattle.wk_session.specs.Pieces.{entries_size}
 use Rattle.wk_session.specs.Recoded.{encoded_with}
-use Rattle.wk_session.proofs.Outcomes.{limited-some}
+use Rattle.wk_session.proofs.Keeping.{kept_fits}
 use Rattle.wk_session.proofs.Piecing.{entries_codes}
 use Rattle.wk_session.proofs.Putting.{session_form}
 use Rattle.wk_session.proofs.WrittenBack.{kept_alone}
@@ -22,7 +22,7 @@ pub put_module-requires-clause-few : goal.put_module-requires-clause-few
 put_module-requires-clause-few g c =
     let is = form g (goal.at.put_module-requires-clause-few g c).After-parts in
     let m = c.self.inside.module in
-    omega (arith, ap length is, ap (λ p. length (encoded p)) c.self.view_is, limited-some (length (encoded m)) c.self.inside.kept.len c.self.invariant.len)
+    omega (arith, ap length is, ap (λ p. length (encoded p)) c.self.view_is, kept_fits m c.self.inside.kept c.self.invariant)
 
 pub returns-in-Ok-clause-ok : goal.returns-in-Ok-clause-ok
 returns-in-Ok-clause-ok g c = rw (← form g (goal.at.returns-in-Ok-clause-ok g c).After-parts) c.in-Ok.ensures.ok

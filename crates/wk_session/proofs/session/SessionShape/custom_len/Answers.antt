@@ -1,14 +1,13 @@
 use Rattle.std.proofs.Common.{◌≡◌, ◌<◌, length, slice_index_or, ap, ◌∙◌}
 use Rattle.wk_module.specs.declared.types.Parts.{Parts}
-use Rattle.wk_module.specs.Writing.{encoded}
-use Rattle.wk_session.proofs.Outcomes.{limited-some}
+use Rattle.wk_session.proofs.Keeping.{kept_fits}
 use Rattle.wk_session.proofs.Shaping.{told_custom}
 use Rattle.wk_session.proofs.session.SessionShape.custom_len.Goals as goal
 
 pub returns : goal.returns
 returns c =
     let m = c.self.inside.module in
-    let fits = limited-some (length (encoded m)) c.self.inside.kept.len c.self.invariant.len in
+    let fits = kept_fits m c.self.inside.kept c.self.invariant in
     let within : c.args.index < length m.customs = rw c.self.view_is c.requires in
     let items = c.as_slice.ensures ∙ ap (λ (n : Parts). n.customs) c.parts.ensures.value in
     let item = c.index-as_slice-index.result in

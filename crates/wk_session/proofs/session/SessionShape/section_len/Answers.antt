@@ -2,9 +2,9 @@ use Rattle.std.proofs.Common.{◌≡◌, ◌<◌, ℕ, List, length, map, slice_
 use Rattle.std.proofs.lemmas.Bool.{ltb-true}
 use Rattle.wk_module.specs.Sections.{CodeSection, of_number}
 use Rattle.wk_module.specs.Shape.{lists_of}
-use Rattle.wk_module.specs.Writing.{contents_by, encoded, section_contents}
+use Rattle.wk_module.specs.Writing.{contents_by, section_contents}
 use Rattle.wk_module.specs.WritingLaws.{room_for_func}
-use Rattle.wk_session.proofs.Outcomes.{limited-some}
+use Rattle.wk_session.proofs.Keeping.{kept_fits}
 use Rattle.wk_session.proofs.Putting.{codes_length}
 use Rattle.wk_session.proofs.Shaping.{code_contents_is, code_contents_fit, piece_fits}
 use Rattle.wk_session.proofs.session.SessionShape.section_len.Goals as goal
@@ -14,7 +14,7 @@ pub code_contents-requires : goal.code_contents-requires
 code_contents-requires c =
     let m = c.self.inside.module in
     let k = c.self.inside.kept in
-    let fits = limited-some (length (encoded m)) k.len c.self.invariant.len in
+    let fits = kept_fits m k c.self.invariant in
     omega (arith, c.len.ensures, k.pieces.codes.ok.0, codes_length m k.pieces.codes.items c.self.invariant.pieces.codes, room_for_func m fits)
 
 is : (c : After-code_contents) → c.code_contents.result ≡ length (section_contents CodeSection (map (λ f. f.body) c.self.inside.module.funcs))
@@ -26,7 +26,7 @@ is c =
 pub overflow_cast-result : goal.overflow_cast-result
 overflow_cast-result c =
     let m = c.self.inside.module in
-    let fits = limited-some (length (encoded m)) c.self.inside.kept.len c.self.invariant.len in
+    let fits = kept_fits m c.self.inside.kept c.self.invariant in
     omega (arith, is (goal.at.overflow_cast-result c).After-code_contents, code_contents_fit m fits)
 
 pub returns-then-id-eq-CODE : goal.returns-then-id-eq-CODE
@@ -38,7 +38,7 @@ pub overflow_cast-result-in-Some : goal.overflow_cast-result-in-Some
 overflow_cast-result-in-Some c =
     let m = c.self.inside.module in
     let k = c.self.inside.kept in
-    let fits = limited-some (length (encoded m)) k.len c.self.invariant.len in
+    let fits = kept_fits m k c.self.invariant in
     let piece = c.in-Some.contents.now in
     let found = c.in-Some.ensures.lookup in
     let within : c.args.id < length k.pieces.sections.items =
