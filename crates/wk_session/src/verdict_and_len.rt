@@ -48,28 +48,8 @@ pub(crate) fn admit(keep: bool, verdict: Verdict, len: Option<u32>) -> Result<Ap
 }
 
 /// Judges a module that an edit would make, by its lists and the verdicts of its bodies, where its length is not past the limit; or says
-/// why the edit is refused, where `keep` says whether the module has to be valid.
+/// why the edit is refused, where `keep` says whether the module has to be valid. Where its verdict is known nothing of it is judged.
 pub(crate) fn appraise(
-    alloc: Global,
-    keep: bool,
-    lists: &Lists<'_>,
-    verdicts: &Vec<BodyVerdict>,
-    len: Option<u32>,
-) -> Result<Appraisal, EditFault>
-    requires numbered { AreNumbered (listed lists.now) }
-    requires few { length verdicts.now.items < 2 ^ 32 }
-    ensures { (n : PartsOf) → IsPending lists.now verdicts.now.items len n
-        → IsAppraised keep n result }
-{
-    if len.is_none() {
-        return Err(EditFault::TooLarge);
-    }
-    let verdict = judge_around(alloc, lists, first_code_fault(verdicts))?;
-    admit(keep, verdict, len)
-}
-
-/// The same, but where the verdict of the module is known: then nothing of it is judged.
-pub(crate) fn appraise_unless_known(
     alloc: Global,
     keep: bool,
     known: Option<Verdict>,
@@ -82,8 +62,12 @@ pub(crate) fn appraise_unless_known(
     ensures { (n : PartsOf) → IsPending lists.now verdicts.now.items len n
         → IfSome known (λ v. v ≡ module_verdict n) → IsAppraised keep n result }
 {
-    match known {
-        Some(verdict) => admit(keep, verdict, len),
-        None => appraise(alloc, keep, lists, verdicts, len),
+    if let Some(verdict) = known {
+        return admit(keep, verdict, len);
     }
+    if len.is_none() {
+        return Err(EditFault::TooLarge);
+    }
+    let verdict = judge_around(alloc, lists, first_code_fault(verdicts))?;
+    admit(keep, verdict, len)
 }

@@ -105,7 +105,7 @@ fn judged_body(
     }
     let verdicts = with_other(alloc, &kept.verdicts, entry, own)?;
     let lists = Lists::of(parts, &kept.types);
-    let appraisal = appraise(alloc, keep, &lists, &verdicts, len)?;
+    let appraisal = appraise(alloc, keep, None, &lists, &verdicts, len)?;
     Ok((Verdicts::All(verdicts), appraisal))
 }
 

@@ -30,7 +30,7 @@ use crate::edits::plan_append::{
 };
 use crate::lengths::{module_len, sizes_with};
 use crate::remove_item::{Span, remove_item, shrunk_len};
-use crate::verdict_and_len::appraise_unless_known;
+use crate::verdict_and_len::appraise;
 use std::alloc::Global;
 use std::{mem, slice};
 use wk_bytes::{Items, Text};
@@ -88,7 +88,7 @@ fn judge_exports(
         ..Lists::of(basis.parts, &basis.kept.types)
     };
     let Basis { keep, kept, .. } = basis;
-    let appraisal = appraise_unless_known(alloc, keep, known, &lists, &kept.verdicts, len)?;
+    let appraisal = appraise(alloc, keep, known, &lists, &kept.verdicts, len)?;
     Ok(Judgement {
         verdicts: None,
         appraisal,

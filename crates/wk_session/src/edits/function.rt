@@ -117,7 +117,7 @@ fn judged_func(
     }
     let verdicts = verdicts_with(alloc, basis, ty, body, meter)?;
     let lists = Lists::of(basis.parts, &basis.kept.types);
-    let appraisal = appraise(alloc, basis.keep, &lists, &verdicts, len)?;
+    let appraisal = appraise(alloc, basis.keep, None, &lists, &verdicts, len)?;
     Ok((Verdicts::All(verdicts), appraisal))
 }
 

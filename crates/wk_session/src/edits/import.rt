@@ -29,7 +29,7 @@ use crate::judged::rejudge_bodies;
 use crate::lengths::{codes_len_after, module_len, sizes_after};
 use crate::pieces::{NewSections, one_remade, remake_section};
 use crate::replace::replace_each;
-use crate::verdict_and_len::{Appraisal, appraise_unless_known};
+use crate::verdict_and_len::{Appraisal, appraise};
 use std::alloc::Global;
 use wk_bytes::OutOfMemory;
 use wk_check::{
@@ -314,7 +314,7 @@ fn judged_import(
     let len = module_len(sizes, parts.funcs.len(), codes_len, pieces.customs_len);
     let verdicts = verdicts_after(alloc, basis, &now, meter, import, plan)?;
     let verdicts_now = verdicts_or(&verdicts, &kept.verdicts);
-    let appraisal = appraise_unless_known(alloc, keep, known, &now, verdicts_now, len)?;
+    let appraisal = appraise(alloc, keep, known, &now, verdicts_now, len)?;
     Ok(ImportJudgement {
         appraisal,
         verdicts,

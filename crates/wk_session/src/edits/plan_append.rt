@@ -105,7 +105,7 @@ pub(super) fn judge_grown(
     }
     let verdicts = verdicts_grown(alloc, basis, before, meter)?;
     let lists = Lists::of(basis.parts, &basis.kept.types);
-    let appraisal = appraise(alloc, basis.keep, &lists, &verdicts, len)?;
+    let appraisal = appraise(alloc, basis.keep, None, &lists, &verdicts, len)?;
     Ok(Judgement {
         verdicts: Some(verdicts),
         appraisal,

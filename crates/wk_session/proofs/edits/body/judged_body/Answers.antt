@@ -96,10 +96,10 @@ returns-in_err-appraisal-2-clause-judged c =
     let at = goal.at.returns-in_err-appraisal-2-clause-judged c in
     let p = err_from_is_err_and c.from_residual-in_err-appraisal-2.result c.from_residual-in_err-appraisal-2.ensures.1 in
     rw (p.1, p.2) (c.in_err-appraisal-2.ensures (with_body c.args.entry c.args.body.now c.args.basis.parts.now)
-    (pending at.After-of-lists (all_are at.In_ok-verdicts (others at.In_ok-own))))
+    (pending at.After-of-lists (all_are at.In_ok-verdicts (others at.In_ok-own))) tt)
 
 pub returns-clause-judged : goal.returns-clause-judged
 returns-clause-judged c =
     let at = goal.at.returns-clause-judged c in
     let all = all_are at.In_ok-verdicts (others at.In_ok-own) in
-    (all, c.in_ok-appraisal-2.ensures (with_body c.args.entry c.args.body.now c.args.basis.parts.now) (pending at.After-of-lists all))
+    (all, c.in_ok-appraisal-2.ensures (with_body c.args.entry c.args.body.now c.args.basis.parts.now) (pending at.After-of-lists all) tt)

@@ -14,13 +14,13 @@ lists_are c =
     lent_is (record c.args.basis.parts.now { exports = c.args.exports.now }) c.deref.result.now _
     (ap (λ (l : SectionLists). record l { exports = c.args.exports.now }) c.of.ensures.lists) (c.deref.ensures.value ∙ c.requires.kept.types)
 
-pub appraise_unless_known-requires-clause-numbered : goal.appraise_unless_known-requires-clause-numbered
-appraise_unless_known-requires-clause-numbered c =
+pub appraise-requires-clause-numbered : goal.appraise-requires-clause-numbered
+appraise-requires-clause-numbered c =
     numbered_lent (record c.args.basis.parts.now { exports = c.args.exports.now }) _
-    (lists_are (goal.at.appraise_unless_known-requires-clause-numbered c).After-of) c.requires.formed
+    (lists_are (goal.at.appraise-requires-clause-numbered c).After-of) c.requires.formed
 
-pub appraise_unless_known-requires-clause-few : goal.appraise_unless_known-requires-clause-few
-appraise_unless_known-requires-clause-few c =
+pub appraise-requires-clause-few : goal.appraise-requires-clause-few
+appraise-requires-clause-few c =
     let m = c.args.basis.parts.now in
     verdicts_few (record m { exports = c.args.exports.now }) (answers_of m) _ c.requires.kept.verdicts c.requires.formed
 

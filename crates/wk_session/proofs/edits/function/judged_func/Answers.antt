@@ -48,11 +48,11 @@ pub returns-in_err-appraisal-clause-judged : goal.returns-in_err-appraisal-claus
 returns-in_err-appraisal-clause-judged c =
     let p = err_from_is_err_and c.from_residual-in_err-appraisal.result c.from_residual-in_err-appraisal.ensures.1 in
     rw (p.1, p.2) (c.in_err-appraisal.ensures (with_func c.args.ty c.args.body.now c.args.basis.parts.now)
-    (pending (goal.at.returns-in_err-appraisal-clause-judged c).After-of-lists))
+    (pending (goal.at.returns-in_err-appraisal-clause-judged c).After-of-lists) tt)
 
 pub returns-clause-judged : goal.returns-clause-judged
 returns-clause-judged c = (
   c.in_ok-verdicts.ensures.verdicts,
   c.in_ok-appraisal.ensures (with_func c.args.ty c.args.body.now c.args.basis.parts.now)
-      (pending (goal.at.returns-clause-judged c).After-of-lists),
+      (pending (goal.at.returns-clause-judged c).After-of-lists) tt,
 )

@@ -37,20 +37,20 @@ lists_are c =
 pub verdicts_after-requires-clause-lists : goal.verdicts_after-requires-clause-lists
 verdicts_after-requires-clause-lists c = lists_are (goal.at.verdicts_after-requires-clause-lists c).After-with_moved-now
 
-pub appraise_unless_known-requires-clause-numbered : goal.appraise_unless_known-requires-clause-numbered
-appraise_unless_known-requires-clause-numbered c =
-    let at = (goal.at.appraise_unless_known-requires-clause-numbered c).After-with_moved-now in
+pub appraise-requires-clause-numbered : goal.appraise-requires-clause-numbered
+appraise-requires-clause-numbered c =
+    let at = (goal.at.appraise-requires-clause-numbered c).After-with_moved-now in
     numbered_lent (after_import c.args.import.now (before_import c.args.basis.parts.now)) _ (lists_are at) c.requires.ready.formed
 
 verdicts : (c : After-verdicts_or-verdicts_now) → let n = after_import c.args.import.now (before_import c.args.basis.parts.now) in
     c.verdicts_or-verdicts_now.result.now.items ≡ map (func_verdict (answers_of n)) n.funcs
 verdicts c = ap (λ v. v.items) c.verdicts_or-verdicts_now.ensures ∙ c.in_ok-verdicts.ensures.verdicts
 
-pub appraise_unless_known-requires-clause-few : goal.appraise_unless_known-requires-clause-few
-appraise_unless_known-requires-clause-few c =
+pub appraise-requires-clause-few : goal.appraise-requires-clause-few
+appraise-requires-clause-few c =
     let n = after_import c.args.import.now (before_import c.args.basis.parts.now) in
     verdicts_few n (answers_of n) _
-    (verdicts (goal.at.appraise_unless_known-requires-clause-few c).After-verdicts_or-verdicts_now) c.requires.ready.formed
+    (verdicts (goal.at.appraise-requires-clause-few c).After-verdicts_or-verdicts_now) c.requires.ready.formed
 
 -- the length of all codes, and with those that are made anew
 codes_are : (c : After-codes_len_after) → c.codes_len_after.result

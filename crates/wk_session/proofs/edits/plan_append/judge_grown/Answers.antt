@@ -43,7 +43,7 @@ returns c =
       len = c.requires.len;
     } in
     record {
-      appraised = c.in_ok-appraisal-2.ensures n pending;
+      appraised = c.in_ok-appraisal-2.ensures n pending tt;
       verdicts = c.in_ok-verdicts.ensures.verdicts;
       typed_are = c.in_ok-verdicts.ensures.typed;
     }
