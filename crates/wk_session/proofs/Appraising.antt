@@ -1,5 +1,5 @@
 -- What the length and the verdict of a module say of whether it may stay.
-use Rattle.std.proofs.Common.{◌≡◌, ℕ, Bool, true, false, Option, Some, Result, Ok, Err, List, length, map, refl, ap, ◌∙◌}
+use Rattle.std.proofs.Common.{◌≡◌, ℕ, Bool, Option, Some, Result, List, length, map, ap, ◌∙◌}
 use Rattle.wk_bytes.specs.Leb.{◌>>=◌}
 use Rattle.wk_body.specs.declared.types.Profile.{Profile}
 use Rattle.wk_body.specs.Lengths.{limited}
@@ -10,14 +10,11 @@ use Rattle.wk_module.specs.Sections.{SectionLists}
 use Rattle.wk_module.specs.Shape.{IsInOrderFrom, lists_of, settle}
 use Rattle.wk_module.specs.Writing.{encoded}
 use Rattle.wk_typing.specs.declared.fault.BodyVerdict.{BodyVerdict}
-use Rattle.wk_typing.specs.declared.fault.Fault.{Fault}
-use Rattle.wk_typing.specs.declared.fault.Verdict.TheVariants.{Valid, Invalid}
 use Rattle.wk_check.specs.Flaws.{first_in}
 use Rattle.wk_typing.specs.Faults.{body_flaw}
 use Rattle.wk_check.specs.Verdict.{verdict_around, module_verdict}
 use Rattle.wk_session.specs.declared.edit.EditFault.{EditFault}
-use Rattle.wk_session.specs.declared.edit.EditFault.TheVariants.{WouldBreak}
-use Rattle.wk_session.specs.Edits.{lasting, unbroken}
+use Rattle.wk_session.specs.Edits.{lasting}
 use Rattle.wk_session.specs.Kept.{IsPending, standing}
 use Rattle.wk_session.proofs.Leading.{fits_settled}
 
