@@ -35,13 +35,8 @@ use Rattle.wk_body.specs.Shifts.{shifted, shifted_plain, shifted_body}
 
 -- ---- nothing is shifted where nothing came
 
-cond_same : {A : Type 0} (b : Bool) (x : A) → cond b x x ≡ x
-cond_same true x = refl
-cond_same false x = refl
-
 unshifted : (from by x : ℕ) → by ≡ 0 → shifted from by x ≡ x
-unshifted from by x none =
-    ap (λ (y : ℕ). cond (nat_le from x) y x) (let same : x + by ≡ x = omega (arith, none) in same) ∙ cond_same (nat_le from x) x
+unshifted from by x none = elim (nat_le from x) as (λ (b : Bool). cond b (x + by) x ≡ x) [ true ↦ omega (arith, none) | false ↦ refl ]
 
 module _ (s : Shifts) (funcs_by : s.funcs_by ≡ 0) (globals_by : s.globals_by ≡ 0) where
   plain_unshifted : (p : Plain) → shifted_plain s p ≡ p
