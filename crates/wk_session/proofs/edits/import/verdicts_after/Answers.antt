@@ -31,7 +31,8 @@ returns-in-Func-clause-verdicts c =
     let i = c.args.import.now in
     let m = before_import c.args.basis.parts.now in
     c.requires.ready.kept.verdicts
-    ∙ sym (verdicts_stay i m _ c.in-Func.is c.verdicts_that_keep.ensures.moved moving.Func (λ f. refl) (func_import_moves m i _ c.in-Func.is) (λ t. refl))
+    ∙ sym (verdicts_stay i m _ c.in-Func.is c.verdicts_that_keep.ensures.moved moving.Func (λ f. refl)
+    (func_import_moves m i _ c.in-Func.is) (λ t. refl))
 
 pub returns-in-Func-clause-typed : goal.returns-in-Func-clause-typed
 returns-in-Func-clause-typed c =
@@ -44,7 +45,8 @@ returns-in-Global-clause-verdicts c =
     let i = c.args.import.now in
     let m = before_import c.args.basis.parts.now in
     c.requires.ready.kept.verdicts
-    ∙ sym (verdicts_stay i m _ c.in-Global.is c.verdicts_that_keep.ensures.moved moving.Global (λ f. refl) (global_import_moves m i _ c.in-Global.is) (λ t. refl))
+    ∙ sym (verdicts_stay i m _ c.in-Global.is c.verdicts_that_keep.ensures.moved moving.Global (λ f. refl)
+    (global_import_moves m i _ c.in-Global.is) (λ t. refl))
 
 pub returns-in-Global-clause-typed : goal.returns-in-Global-clause-typed
 returns-in-Global-clause-typed c =
