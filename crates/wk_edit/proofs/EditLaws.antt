@@ -24,8 +24,8 @@ use Rattle.wk_edit.specs.ScriptGrammar.{type_name, mutable_word, most_words, lim
 use Rattle.wk_edit.specs.ScriptGrammar.{SpellsData, SpellsEdit}
 use Rattle.wk_edit.proofs.NumberLaws.{number_told, number_said, graphic_number}
 use Rattle.wk_edit.proofs.WordLaws.{bind_some, tested, named_told, type_is, type_back, graphic_type, types_told, types_said, graphic_types, kind_told}
-use Rattle.wk_edit.proofs.WordLaws.{kind_said, graphic_kind, mutable_told, mutable_said, graphic_mutable, name_told, name_said, graphic_name, data_told, data_said}
-use Rattle.wk_edit.proofs.WordLaws.{graphic_data}
+use Rattle.wk_edit.proofs.WordLaws.{kind_said, graphic_kind, mutable_told, mutable_said, graphic_mutable, name_told, name_said, graphic_name, data_told}
+use Rattle.wk_edit.proofs.WordLaws.{data_said, graphic_data}
 
 -- ---- limits, globals and imports
 
