@@ -1,7 +1,8 @@
 -- The names of tokens in the text format (6.5), and of opcodes.
 use Rattle.std.specs.Prelude.{ℕ, pos, ◌==◌, if◌then◌else◌, Option, Some, None, List, [], codes}
 use Rattle.wk_body.specs.declared.types.BlockKind.TheVariants as kinds
-use Rattle.wk_body.specs.Instructions.{plain_name, Form, Alone, WithReserved, WithIndex, WithIndexReserved, WithLabels, WithMemarg, WithSigned, WithWord, rows, find_row}
+use Rattle.wk_body.specs.Instructions.{plain_name, Form, Alone, WithReserved, WithIndex, WithIndexReserved, WithLabels, WithMemarg, WithSigned}
+use Rattle.wk_body.specs.Instructions.{WithWord, rows, find_row}
 use Rattle.wk_body.specs.Tree.{Tok, Simple, Open, OpenIf, Otherwise, Close}
 
 abbrev pub tok_name : Tok → List ℕ

@@ -32,9 +32,11 @@ use Rattle.wk_typing.specs.declared.fault.FaultKind.TheVariants.{UnknownType, Du
 use Rattle.wk_typing.specs.declared.fault.Flaw.{Flaw}
 use Rattle.wk_typing.specs.declared.fault.Fault.{Fault}
 use Rattle.wk_check.specs.Flaws.{first_in}
-use Rattle.wk_check.specs.Items.{earlier, flaw, within, type_flaw, import_flaw_by, table_flaw, memory_flaw, global_flaw, index_flaw, elem_flaw, data_flaw, start_flaws}
+use Rattle.wk_check.specs.Items.{earlier, flaw, within, type_flaw, import_flaw_by, table_flaw, memory_flaw, global_flaw, index_flaw}
+use Rattle.wk_check.specs.Items.{elem_flaw, data_flaw, start_flaws}
 use Rattle.wk_check.specs.Spaces.{Spaces, answer_in, spaces_of, imported, func_in, table_in, memory_in, global_in}
-use Rattle.wk_check.specs.Verdict.{type_flaws, import_flaws, func_flaws, table_flaws, memory_flaws, global_flaws, export_flaws, elem_flaws, data_flaws, front_fault}
+use Rattle.wk_check.specs.Verdict.{type_flaws, import_flaws, func_flaws, table_flaws, memory_flaws, global_flaws, export_flaws, elem_flaws}
+use Rattle.wk_check.specs.Verdict.{data_flaws, front_fault}
 
 -- What items refer to. Of functions and globals those that are imported stand apart; of tables and memories they come first.
 pub record ModuleContext : Type 0 where
@@ -226,7 +228,8 @@ items_at_once read wrong add s before sec =
 -- its exports, of which none was read before
 abbrev pub exports_at_once : ModuleContext → Option Fault → Section → Result (Option Fault) ReadFault
 exports_at_once c before sec =
-    all_at (vector_at export_at) (section_end sec) sec.contents >>= λ es. Ok (items_judged next_export_flaw add_export 7 (record { context = c; names = [] }) before 0 es).1
+    all_at (vector_at export_at) (section_end sec) sec.contents >>= λ es.
+    Ok (items_judged next_export_flaw add_export 7 (record { context = c; names = [] }) before 0 es).1
 
 -- the start section
 abbrev pub start_at_once : ModuleContext → Option Fault → Section → Result (Option Fault) ReadFault

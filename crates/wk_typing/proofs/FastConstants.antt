@@ -45,22 +45,26 @@ given read old new (Err e) success gives = absurd cc
 pub passes_s32 : (profile : Profile) (e : ReadFault) (old new : Span) (r : Result ℤ ReadFault) → is_ok r ≡ true → Gives (λ x. x) (signed_at 32) old r new
     → PassesValue profile e I32 old new
 unfolding plain_at behind_form form_of
-passes_s32 profile e old new r success gives = let v = given (signed_at 32) old new r success gives in (I32Const v.0, refl, rw (allowed profile I32, v.1) refl, v.2)
+passes_s32 profile e old new r success gives =
+    let v = given (signed_at 32) old new r success gives in (I32Const v.0, refl, rw (allowed profile I32, v.1) refl, v.2)
 
 pub passes_s64 : (profile : Profile) (e : ReadFault) (old new : Span) (r : Result ℤ ReadFault) → is_ok r ≡ true → Gives (λ x. x) (signed_at 64) old r new
     → PassesValue profile e I64 old new
 unfolding plain_at behind_form form_of
-passes_s64 profile e old new r success gives = let v = given (signed_at 64) old new r success gives in (I64Const v.0, refl, rw (allowed profile I64, v.1) refl, v.2)
+passes_s64 profile e old new r success gives =
+    let v = given (signed_at 64) old new r success gives in (I64Const v.0, refl, rw (allowed profile I64, v.1) refl, v.2)
 
 pub passes_word32 : (profile : Profile) (e : ReadFault) (old new : Span) (r : Result ℕ ReadFault) → is_ok r ≡ true → Gives (λ x. x) (word_at 4) old r new
     → PassesValue profile e F32 old new
 unfolding plain_at behind_form form_of
-passes_word32 profile e old new r success gives = let v = given (word_at 4) old new r success gives in (F32Const v.0, refl, rw (allowed profile F32, v.1) refl, v.2)
+passes_word32 profile e old new r success gives =
+    let v = given (word_at 4) old new r success gives in (F32Const v.0, refl, rw (allowed profile F32, v.1) refl, v.2)
 
 pub passes_word64 : (profile : Profile) (e : ReadFault) (old new : Span) (r : Result ℕ ReadFault) → is_ok r ≡ true → Gives (λ x. x) (word_at 8) old r new
     → PassesValue profile e F64 old new
 unfolding plain_at behind_form form_of
-passes_word64 profile e old new r success gives = let v = given (word_at 8) old new r success gives in (F64Const v.0, refl, rw (allowed profile F64, v.1) refl, v.2)
+passes_word64 profile e old new r success gives =
+    let v = given (word_at 8) old new r success gives in (F64Const v.0, refl, rw (allowed profile F64, v.1) refl, v.2)
 
 -- ---- the constant and its end
 

@@ -32,7 +32,8 @@ returns-in_err-parts g c =
     let p = err_from_is_err_and c.from_residual-in_err-parts.result c.from_residual-in_err-parts.ensures.1 in
     let e = c.in_err-parts.field-0.0 in
     let r = are_read g.K.Keep.kept c.args.profile c.args.bytes.now (partial c.in_ok-so_far.so_far c.in_ok-so_far.kept.items) _ refl c.in_ok-so_far.ensures in
-    let fails = joined_fails g.K.Keep.kept c.args.profile c.args.bytes.now _ r c.len.result (c.len.ensures ∙ c.in_ok-so_far.kept.ok.0) e c.in_err-parts.ensures in
+    let fails = joined_fails g.K.Keep.kept c.args.profile c.args.bytes.now _ r c.len.result (c.len.ensures ∙ c.in_ok-so_far.kept.ok.0) e
+    c.in_err-parts.ensures in
     rw (p.1, p.2) (record {
       exact = fails;
       refused = fault_refused c.args.profile c.args.bytes.now c.reading_of_module.ensures.is e fails;

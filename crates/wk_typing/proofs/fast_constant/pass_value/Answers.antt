@@ -12,8 +12,10 @@ returns-in-I64 c profile e success =
 
 pub returns-in-F32 : goal.returns-in-F32
 returns-in-F32 c profile e success =
-    rw c.in-F32.is (passes_word32 profile e c.args.cursor.now c.word32.new.self c.word32.result (sym c.is_ok-in-F32.ensures.value ∙ success) c.word32.ensures.exact)
+    rw c.in-F32.is (passes_word32 profile e c.args.cursor.now c.word32.new.self c.word32.result (sym c.is_ok-in-F32.ensures.value ∙ success)
+    c.word32.ensures.exact)
 
 pub returns-in-F64 : goal.returns-in-F64
 returns-in-F64 c profile e success =
-    rw c.in-F64.is (passes_word64 profile e c.args.cursor.now c.word64.new.self c.word64.result (sym c.is_ok-in-F64.ensures.value ∙ success) c.word64.ensures.exact)
+    rw c.in-F64.is (passes_word64 profile e c.args.cursor.now c.word64.new.self c.word64.result (sym c.is_ok-in-F64.ensures.value ∙ success)
+    c.word64.ensures.exact)
