@@ -3,10 +3,9 @@ ghost use Rattle.std.specs.Prelude.{◌≡◌};
 ghost use Rattle.wk_ffi.specs.Told.{code_number, status_told, run_told};
 ghost use Rattle.wk_ffi.specs.declared.code.CallFault.TheVariants as CallFault;
 
-use std::alloc::{AllocError, AllocFailed};
+use std::alloc::AllocError;
 use wk_bytes::OutOfMemory;
-use wk_edit::{RunFault, Status};
-use wk_list::ListFault;
+use wk_edit::Status;
 
 /// How a call ends, as a number of `enum wasmkit_result`: 0 to 7, in the order of the variants.
 #[derive(Clone, Copy, Debug, PartialEq, Eq)]
@@ -102,31 +101,6 @@ impl From<AllocError> for CallFault {
     ghost from_gives = { λ _ e. e ≡ CallFault.Memory };
 
     fn from(_error: AllocError) -> CallFault {
-        CallFault::Memory
-    }
-}
-
-impl<T: Drop> From<AllocFailed<T>> for CallFault {
-    ghost from_gives = { λ _ e. e ≡ CallFault.Memory };
-
-    fn from(_error: AllocFailed<T>) -> CallFault {
-        CallFault::Memory
-    }
-}
-
-// The outputs of a run lie in memory, so that each of its faults is a growth that was refused.
-impl From<RunFault> for CallFault {
-    ghost from_gives = { λ _ e. e ≡ CallFault.Memory };
-
-    fn from(_fault: RunFault) -> CallFault {
-        CallFault::Memory
-    }
-}
-
-impl From<ListFault> for CallFault {
-    ghost from_gives = { λ _ e. e ≡ CallFault.Memory };
-
-    fn from(_fault: ListFault) -> CallFault {
         CallFault::Memory
     }
 }

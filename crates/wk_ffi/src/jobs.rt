@@ -132,7 +132,10 @@ fn list_module(alloc: Global, whole: &Module, part: Part) -> Result<Vec<u8>, Cal
         Err(EncodeFault::TooLarge) => unreachable!(),
     };
     let mut text = Sink::new(Vec::new(alloc));
-    list(alloc, &layout, part, &mut text)?;
+    // The output lies in memory, so that each fault is a growth that was refused.
+    let Ok(()) = list(alloc, &layout, part, &mut text) else {
+        return Err(CallFault::Memory);
+    };
     Ok(text.into_inner())
 }
 
@@ -234,7 +237,8 @@ fn edit_bytes(
 {
     let mut edited = Sink::new(Vec::new(alloc));
     let mut report = Sink::new(Vec::new(alloc));
-    let status = edit_in(
+    // Both outputs lie in memory.
+    let Ok(status) = edit_in(
         alloc,
         bytes,
         script,
@@ -242,7 +246,9 @@ fn edit_bytes(
         profile,
         &mut edited,
         &mut report,
-    )?;
+    ) else {
+        return Err(CallFault::Memory);
+    };
     Ok(Answer {
         code: Code::of_run(status),
         bytes: edited.into_inner(),
