@@ -77,7 +77,8 @@ pub(crate) const FIRST_NUMERIC: u8 = 0x45;
 /// `f64.reinterpret_i64`, the last opcode of 1.0. Behind it stand those of the extended profile.
 pub(crate) const LAST_CORE: u8 = 0xBF;
 
-/// The name in the text format (6.5) of an instruction that is neither a load nor a store nor numeric, of an `else` or of an `end`.
+/// The name in the text format (6.5) of an instruction that is neither a load nor a store nor numeric, of an `else` or of an `end`. Any
+/// other opcode has the empty name.
 #[inline(always)]
 pub(crate) fn name(opcode: u8) -> &'static str
     ensures { result.now ≡ opcode_name opcode }

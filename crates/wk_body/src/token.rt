@@ -80,7 +80,8 @@ impl Token {
     pub fn name(&self) -> &'static str
         ensures { result.now ≡ tok_name (told [] self.now) }
     {
-        // Three tests one by one: as arms of a match around the rest they had it jump by the token twice.
+        // Three tests, not arms of one match: with arms the compiler jumps by the token twice. The labels of a `br_table` are not at hand, so
+        // it stands apart.
         if let Token::Access { op, .. } = *self {
             return op.name();
         }

@@ -11,8 +11,8 @@ use wk_bytes::OutOfMemory;
 // How many names are compared one by one.
 const FEW: usize = 16;
 
-/// Names, each of which came once. Up to sixteen are compared one by one, and take no memory; where there are more, all of them lie in a set,
-/// so that a name is sought in one place alone.
+/// Names, each of which came once. Up to sixteen are compared one by one, and take no memory; where there are more, all of them lie
+/// in a set, so that a name is sought in one place alone.
 #[derive(Drop)]
 pub(crate) struct Names<'a> {
     few: ArrayVec<&'a str, FEW>,

@@ -1,4 +1,5 @@
-//! A module that is another one but for some of its sections.
+//! A module that is another one but for some of its sections. A constant of the type `Sections` is told of as that whole module, and
+//! holds only the sections that differ from it.
 
 use std::alloc::Global;
 
@@ -26,7 +27,8 @@ fn section_at(sections: Sections, place: usize) -> Option<&'static [u8]> {
     None
 }
 
-/// The module with these sections, where there is memory for it. Its own have less than 128 bytes each.
+/// The module with these sections, where there is memory for it. Each of its own, custom ones among them, is a place, and has fewer
+/// than 128 bytes of contents.
 pub fn with_sections(alloc: Global, module: &[u8], sections: Sections) -> Option<Vec<u8>> {
     let mut bytes = Vec::from_slice(alloc, module.get(..HEADER_LEN)?).ok()?;
     let mut rest = module.get(HEADER_LEN..)?;

@@ -7,15 +7,16 @@ use crate::mark::{call_begins, call_ends};
 use crate::modules::Sample;
 use crate::scenario::and_drop;
 use std::alloc::Global;
-use wk_bytes::{OutOfMemory, RawSection, ReadFault};
+use wk_bytes::{Cursor, OutOfMemory, RawSection, ReadFault};
 use wk_check::{
     BodyVerdict, Meter, Validator, Verdict, Whole, first_code_fault, judge, judge_around,
     judge_body, judge_bytes, verdict_with_export, verdict_with_global, verdict_with_import,
     verdict_with_type,
 };
-use wk_module::{CodeReader, Func, Lists, Module, SectionReader};
+use wk_module::Profile::Core;
+use wk_module::{CodeReader, Func, Lists, Module, Scratch, SectionReader, ValType};
 use wk_samples::outcome::Outcome;
-use wk_typing::{Rooms, type_encoded_body};
+use wk_typing::{FaultKind, Flaw, Rooms, next_constant_flaw, type_encoded_body};
 
 // The types of the functions that the modules define which have everything that moves.
 const TYPES: &[u32] = &[1, 0];
@@ -163,6 +164,77 @@ fn types_each(
     match answer {
         Ok(are_valid) => Outcome::answered(are_valid && before == Ok(true)),
         Err(fault) => Outcome::refused(fault == NO_MEMORY),
+    }
+}
+
+// A constant of each type and its end, one behind the other.
+const CONSTANTS: &[u8] =
+    b"\x41\x7f\x0b\x42\x80\x01\x0b\x43\0\0\x80\x3f\x0b\x44\0\0\0\0\0\0\xf0\x3f\x0b";
+
+const CONSTANT_TYPES: [ValType; 4] = [ValType::I32, ValType::I64, ValType::F32, ValType::F64];
+
+// A constant, an instruction that may not stand behind it, and the end.
+const NOT_CONSTANT: &[u8] = b"\x41\0\x01\x0b";
+
+/// `next_constant_flaw` where nothing refers to a module.
+#[derive(Clone, Copy)]
+pub(crate) enum Constants {
+    /// Of constants alone, which are told from their bytes.
+    Plain,
+    /// Of an expression that is not constant, which is read into tokens.
+    Wrong,
+}
+
+impl Constants {
+    // Whether the answers are right.
+    fn judge(self, alloc: Global, whole: &Whole<'_>, rooms: &mut Rooms) -> Result<bool, ReadFault> {
+        match self {
+            Constants::Plain => {
+                let mut cursor = Cursor::new(CONSTANTS);
+                let mut are_right = true;
+                for ty in CONSTANT_TYPES {
+                    let flaw = next_constant_flaw(alloc, whole, ty, Core, &mut cursor, rooms)?;
+                    are_right = are_right && flaw.is_none();
+                }
+                Ok(are_right && cursor.rest().is_empty())
+            }
+            Constants::Wrong => {
+                let mut cursor = Cursor::new(NOT_CONSTANT);
+                let ty = ValType::I32;
+                let flaw = next_constant_flaw(alloc, whole, ty, Core, &mut cursor, rooms)?;
+                let wanted = Flaw {
+                    kind: FaultKind::ConstantExpected,
+                    token: Some(1),
+                };
+                Ok(flaw == Some(wanted) && cursor.rest().is_empty())
+            }
+        }
+    }
+
+    // Makes the calls in rooms that hold nothing yet, and again where memory was refused.
+    fn run_beside(self, alloc: Global, lists: &Lists<'_>) -> Outcome {
+        let Ok(whole) = Whole::of(alloc, *lists) else {
+            return Outcome::NO_SAMPLE;
+        };
+        let mut rooms = Rooms::new(alloc);
+        call_begins(alloc);
+        let answer = self.judge(alloc, &whole, &mut rooms);
+        call_ends(alloc);
+        let serves_on = self.judge(alloc, &whole, &mut rooms) == Ok(true);
+        match answer {
+            Ok(are_right) => Outcome::answered(serves_on && are_right),
+            Err(fault) => Outcome::refused(serves_on && fault == NO_MEMORY),
+        }
+    }
+
+    /// Makes the calls.
+    pub(crate) fn run(self, alloc: Global, sample: Sample) -> Outcome {
+        let mut scratch = Scratch::new(alloc);
+        let reader = SectionReader::new(alloc, sample.bytes, sample.profile);
+        match reader.up_to_code(alloc, &mut scratch) {
+            Ok((reader, _)) => self.run_beside(alloc, &reader.lists()),
+            Err(_) => Outcome::NO_SAMPLE,
+        }
     }
 }
 

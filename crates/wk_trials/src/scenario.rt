@@ -7,7 +7,7 @@ use crate::drafts::Draft;
 use crate::edits::{TooLarge, Trial};
 use crate::exprs::{ExprSample, OfExpr, ReadExpr};
 use crate::jobs::Job;
-use crate::judging::{OfValid, Validate};
+use crate::judging::{Constants, OfValid, Validate};
 use crate::lines::Line;
 use crate::modules::Sample;
 use crate::runs::Edits;
@@ -72,6 +72,8 @@ pub(crate) enum Scenario {
     Validate(Validate, Sample),
     /// `type_encoded_body` of each code of a valid module, again.
     TypeCodes(Sample),
+    /// `next_constant_flaw` of expressions that no module holds.
+    NextConstants(Constants, Sample),
     /// A call that is lent a valid module in which all that can move does.
     OfValid(OfValid, Sample),
     /// `Plain::of`.
@@ -191,6 +193,7 @@ impl Scenario {
             Scenario::JudgeBytes(sample) => judging::judges_bytes(alloc, sample),
             Scenario::Validate(call, sample) => call.run(alloc, sample),
             Scenario::TypeCodes(sample) => judging::types_codes(alloc, sample),
+            Scenario::NextConstants(call, sample) => call.run(alloc, sample),
             Scenario::OfValid(call, sample) => call.run(alloc, sample),
             Scenario::Plain(sample) => listings::sees_plain(alloc, sample),
             Scenario::Layout(sample) => listings::lays_out(alloc, sample),

@@ -35,15 +35,16 @@ fn read_and_type<E: Env>(
     Ok(constant_flaw(env, ty, &expr, &mut rooms.room)?)
 }
 
-/// Reads a constant expression (5.4.6): the initialiser of a global or the offset of a segment. The answer is what is wrong with it where it
-/// has to give this type (3.3.7.2): the first token that is not constant, else the first fault of typing. The cursor then stands behind it.
+/// Reads a constant expression (5.4.6): the initialiser of a global or the offset of a segment. The answer is what is wrong with it
+/// where it has to give this type (3.3.7.2): the first token that is not constant, else the first fault of typing. The cursor then
+/// stands behind it.
 ///
 /// A constant of that type and its end take no memory (no clause says so).
 ///
 /// # Errors
 ///
-/// Where no expression of the profile is at the front, the first fault from left to right, at its offset in the whole input; `Memory` at 0
-/// where a growth was refused. The cursor is then as before.
+/// Where no expression of the profile is at the front, the first fault from left to right, at its offset in the whole input; `Memory`
+/// at 0 where a growth was refused. The cursor is then as before.
 pub fn next_constant_flaw<E: Env>(
     alloc: Global,
     env: &E,

@@ -296,7 +296,7 @@ fn finds_flaws_at_their_places(rt: HostRuntime) -> Result<(), Fail> {
 // A type, bytes that begin with a constant expression, what is wrong with it at a token, and how many bytes are left behind it.
 type Constant = (ValType, &'static [u8], Option<(FaultKind, u32)>, usize);
 
-const CONSTANTS: [Constant; 13] = [
+const CONSTANTS: [Constant; 14] = [
     // a constant of each type, short and padded, and what may come behind it
     (ValType::I32, b"\x41\x7f\x0b\xaa", None, 1),
     (ValType::I32, b"\x41\x80\x80\0\x0b", None, 0),
@@ -325,6 +325,7 @@ const CONSTANTS: [Constant; 13] = [
         Some((ConstantExpected, 0)),
         0,
     ),
+    (ValType::I32, b"\x23\x02\x0b", Some((UnknownGlobal, 0)), 0),
     // none, two, and what is not constant
     (ValType::I32, b"\x0b\xaa", Some((StackUnderflow, 0)), 1),
     (ValType::I32, b"\x41\0\x41\0\x0b", Some((StackHeight, 2)), 0),
@@ -388,6 +389,14 @@ fn wrong_refusal(alloc: Global, env: &Lent) -> Option<usize> {
     None
 }
 
+// A sign extension, which may be read in the extended profile, and is not constant.
+fn extended_flaw(alloc: Global, env: &Lent) -> Result<Option<Flaw>, ReadFault> {
+    let mut rooms = Rooms::new(alloc);
+    let mut cursor = Cursor::new(b"\x41\0\xc0\x0b");
+    let ty = ValType::I32;
+    next_constant_flaw(alloc, env, ty, Profile::Extended, &mut cursor, &mut rooms)
+}
+
 #[test]
 fn judges_constants_that_are_read(rt: HostRuntime) -> Result<(), Fail> {
     let env = Lent {
@@ -399,5 +408,7 @@ fn judges_constants_that_are_read(rt: HostRuntime) -> Result<(), Fail> {
     };
     assert_eq!(rt; wrong_constant(rt.alloc(), &env), None);
     assert_eq!(rt; wrong_refusal(rt.alloc(), &env), None);
+    let wanted = verdict_of(Some((ConstantExpected, 1))).flaw();
+    assert_eq!(rt; extended_flaw(rt.alloc(), &env), Ok(wanted));
     Ok(())
 }

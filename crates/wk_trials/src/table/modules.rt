@@ -1,6 +1,6 @@
 //! Calls of `wk_module`, `wk_check`, `wk_list` and `wk_strip`.
 
-use crate::judging::{OfValid, Validate};
+use crate::judging::{Constants, OfValid, Validate};
 use crate::modules::{OF_ALL, OF_MANY, OF_MOVING, OF_TWO, OF_TYPES, OF_VALID, OF_WIDE};
 use crate::scenario::{Named, Scenario, scenarios};
 use crate::sections::{OfWhole, Walk};
@@ -10,7 +10,7 @@ use wk_list::Part;
 use wk_module::Profile::{Core, Extended};
 
 /// Calls of `wk_module`, `wk_check`, `wk_list` and `wk_strip`.
-pub(crate) static MODULES: [Named; 85] = scenarios! {
+pub(crate) static MODULES: [Named; 87] = scenarios! {
     "read-types" => Scenario::Read(OF_TYPES),
     "read-whole" => Scenario::Read(OF_ALL),
     "read-valid" => Scenario::Read(OF_VALID),
@@ -56,6 +56,8 @@ pub(crate) static MODULES: [Named; 85] = scenarios! {
     "validator-shrunk-wide" => Scenario::Validate(Validate::Shrunk, OF_WIDE),
     "type-codes-in-room" => Scenario::TypeCodes(OF_VALID),
     "type-codes-wide-in-room" => Scenario::TypeCodes(OF_WIDE),
+    "next-constants-in-room" => Scenario::NextConstants(Constants::Plain, OF_VALID),
+    "next-constant-wrong" => Scenario::NextConstants(Constants::Wrong, OF_VALID),
     "judge-around" => Scenario::OfValid(OfValid::Around, OF_MOVING),
     "judge-body" => Scenario::OfValid(OfValid::Body, OF_MOVING),
     "see-whole" => Scenario::OfValid(OfValid::Whole, OF_MOVING),
