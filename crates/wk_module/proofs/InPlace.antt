@@ -7,18 +7,12 @@ use Rattle.wk_bytes.specs.Span.{Span}
 use Rattle.wk_bytes.specs.Stands.{StandsAt, Stands, StandsOrMemory}
 use Rattle.wk_bytes.specs.StandsLaws.{ReadsFront}
 use Rattle.wk_body.specs.Reads.{FailsAs}
-use Rattle.wk_body.specs.declared.types.Profile.{Profile}
-use Rattle.wk_body.specs.Meaning.{IsReadAs}
-use Rattle.wk_body.specs.Reading.{expr_at}
-use Rattle.wk_body.specs.Spelling.{SpellsExpr}
-use Rattle.wk_body.specs.Tree.{Instrs}
-use Rattle.wk_module.specs.declared.types.GlobalType.{GlobalType}
 use Rattle.wk_module.specs.declared.types.Import.{Import}
-use Rattle.wk_module.specs.Formats.{Reader, both_at, bytes_at}
+use Rattle.wk_module.specs.Formats.{Reader, bytes_at}
 use Rattle.wk_module.specs.InPlace.{import_desc_at}
-use Rattle.wk_module.specs.Items.{import_at, export_at, global_of, global_at}
+use Rattle.wk_module.specs.Items.{import_at, export_at}
 use Rattle.wk_module.specs.Types.{limits_at, tabletype_at, globaltype_at, functype_at}
-use Rattle.wk_module.proofs.Formats.{both_front, made_front, bytes_format}
+use Rattle.wk_module.proofs.Formats.{made_front, bytes_format}
 use Rattle.wk_module.proofs.ItemFormats.{functype_format, limits_format, tabletype_format, globaltype_format, import_format, export_format}
 use Rattle.wk_module.proofs.Standing.{memory_or_read}
 

@@ -16,7 +16,7 @@ use Rattle.wk_bytes.specs.Stands.{Stands, StandsIn, StandsOrMemory, LiesIn, Item
 use Rattle.wk_bytes.specs.StandsLaws.{ReadsFront, ReadsFront-name_at, ReadsFront-u32_at, Stands-here, Stands-later, Stands-within, Stands-contents}
 use Rattle.wk_bytes.specs.StandsLaws.{Stands-at_end}
 use Rattle.wk_body.specs.declared.types.Profile.{Profile}
-use Rattle.wk_body.specs.Reads.{FailsAs, Reads}
+use Rattle.wk_body.specs.Reads.{FailsAs}
 use Rattle.wk_body.specs.ReadsLaws.{other_fault}
 use Rattle.wk_module.specs.declared.types.Custom.{Custom}
 use Rattle.wk_module.specs.declared.types.Parts.{Parts}

@@ -1,5 +1,5 @@
 -- One constant of a type and its end: what they are read as, and that nothing is wrong with them.
-use Rattle.std.proofs.Common.{◌≡◌, ℕ, ℤ, suc, ◌-◌, nat_lt, true, false, List, ◌∷◌, length, Option, None, Result, Ok, Err, refl, sym, ap, ◌∙◌}
+use Rattle.std.proofs.Common.{◌≡◌, ℕ, ℤ, suc, ◌-◌, nat_lt, true, false, List, ◌∷◌, length, None, Result, Ok, Err, refl, ap, ◌∙◌}
 use Rattle.std.specs.Result.{is_ok}
 use Rattle.wk_bytes.specs.declared.fault.ReadFault.{ReadFault}
 use Rattle.wk_bytes.specs.declared.fault.ReadKind.TheVariants.{UnknownOpcode}
@@ -14,7 +14,6 @@ use Rattle.wk_body.specs.Instructions.{Plain, I32Const, I64Const, F32Const, F64C
 use Rattle.wk_body.specs.Reading.{behind_form, behind_at, plain_at, parts_at, expr_at}
 use Rattle.wk_body.specs.Tree.{Instrs, One, Finish}
 use Rattle.wk_module.specs.Formats.{Reader, made_at}
-use Rattle.wk_typing.specs.declared.fault.Flaw.{Flaw}
 use Rattle.wk_typing.specs.Answers.{Found}
 use Rattle.wk_typing.specs.Constants.{constant_flaw, constant_opcode, is_constant_of}
 

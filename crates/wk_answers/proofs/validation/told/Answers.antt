@@ -20,7 +20,7 @@ returns-in_ok-malformed_line-in-Err c =
     let fault = c.in-Err.fault in
     let read = module_at c.args._profile c.args._bytes.now in
     let exact : FailsAs fault fault.kind (judged read) =
-        subst (λ (v : Result Verdict ReadFault). Reads (λ (w : Verdict). w) v (judged read)) c.in-Err.is c.requires.exact in
+    subst (λ (v : Result Verdict ReadFault). Reads (λ (w : Verdict). w) v (judged read)) c.in-Err.is c.requires.exact in
     let is : read ≡ Err fault = no_module read fault (other_fault fault fault.kind (judged read) c.in_default.not-Memory exact) in
     let told : IsReading c.args._profile c.args._bytes.now (Err fault) = subst (IsReading c.args._profile c.args._bytes.now) is c.requires.is in
     record {
