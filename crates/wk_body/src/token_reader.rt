@@ -48,17 +48,24 @@ impl Model for TokenReader {
     ghost view = { λ r. record { kinds = reverse r.blocks.items; labels = r.labels.items } };
 }
 
-// A label at the end of the others. It stands apart, so that no cursor has to lie in memory for it.
+// For how many labels room is made at first, and for how many open blocks: short lists then ask for memory once.
+const FIRST_LABELS: u32 = 64;
+const FIRST_BLOCKS: usize = 64;
+
+// A label at the end of the others, of which there are so many in all. It stands apart, so that no cursor has to lie in memory for it.
 #[inline(never)]
-fn push_label(labels: &mut Vec<u32>, label: u32) -> Result<(), ReadFault>
+fn push_label(labels: &mut Vec<u32>, label: u32, len: u32) -> Result<(), ReadFault>
     ensures items { OnOk result (labels.new.items ≡ labels.old.items ++ label ∷ []) }
     ensures fault { IfErr result (λ e. e ≡ no_memory) }
 {
+    if labels.is_empty() {
+        labels.reserve(len.min(FIRST_LABELS) as usize)?;
+    }
     labels.push(label)?;
     Ok(())
 }
 
-// So many labels, in an empty room. No room is made for a count.
+// So many labels, in an empty room. Room is made for a few once the first is read, not for a count.
 #[inline(always)]
 fn labels_into(labels: &mut Vec<u32>, len: u32, cursor: &mut Cursor<'_>) -> Result<(), ReadFault>
     requires { labels.old.items ≡ [] }
@@ -70,7 +77,7 @@ fn labels_into(labels: &mut Vec<u32>, len: u32, cursor: &mut Cursor<'_>) -> Resu
 {
     for _ in 0..len {
         let label = cursor.u32()?;
-        push_label(labels, label)?;
+        push_label(labels, label, len)?;
     }
     Ok(())
 }
@@ -228,7 +235,8 @@ impl TokenReader {
         ensures opened { OnOk result (Opens is_if self.old self.new) }
         ensures fault { IfErr result (λ e. e ≡ no_memory) }
     {
-        self.blocks.push(is_if)?;
+        self.blocks.reserve(FIRST_BLOCKS)?;
+        self.blocks.push_reserved(is_if);
         Ok(())
     }
 

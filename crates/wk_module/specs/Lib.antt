@@ -6,7 +6,7 @@ pub mod Formats
 pub mod Types
 -- Imports, globals, exports, segments, code entries (5.5.5, 5.5.9, 5.5.10, 5.5.12 to 5.5.14).
 pub mod Items
--- Imports and exports that are read without a copy of their names.
+-- Imports and exports that are read without a copy of their names; function types that are lent.
 pub mod InPlace
 -- ---- modules
 
