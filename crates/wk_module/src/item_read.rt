@@ -4,62 +4,31 @@ ghost use Rattle.std.specs.Prelude.{◌≢◌, IfErr};
 ghost use Rattle.wk_body.specs.Reads.{Parses};
 ghost use Rattle.wk_bytes.specs.Span.{u32_at};
 ghost use Rattle.wk_body.specs.ValTypes.{valtype_at};
-ghost use Rattle.wk_body.specs.Vectors.{vector_at};
 ghost use Rattle.wk_module.specs.Formats.{coded_at};
 ghost use Rattle.wk_module.specs.Types.{flag_of, kind_of, limits_at, tabletype_at, globaltype_at, functype_at};
 ghost use Rattle.wk_module.specs.Items.{desc_at, import_at, global_at, export_at, elem_at, data_at};
 
 use crate::format::{
-    Datas, Elems, Exports, FuncTypes, Globals, Imports, Indices, Memories, Tables,
+    Datas, Elems, Exports, FuncTypes, Globals, Imports, Indices, Memories, Tables, ValTypes,
 };
 use crate::in_place::{ExportRef, read_export, read_sized_bytes};
 use crate::types::{
     DataSeg, Elem, Export, FuncType, GlobalDef, GlobalType, Import, ImportDesc, Kind, Limits,
 };
-use crate::vector_read::{FIRST_ROOM, Readable, read_name, read_this, read_vector};
+use crate::vector_read::{Readable, read_name, read_this, read_vector};
 use std::alloc::Global;
 use wk_body::{Profile, Scratch, ValType};
 use wk_bytes::{Cursor, Items, ReadFault, ReadKind, Text};
 
-// A value type.
+/// A value type (5.3.1).
+#[inline]
 #[tactic(auto, using(crate::proofs::InPlace::stands_sure), unfolding(wk_body::specs::ValTypes::valtype_at))]
-fn read_valtype(cursor: &mut Cursor<'_>) -> Result<ValType, ReadFault>
+pub(crate) fn read_valtype(cursor: &mut Cursor<'_>) -> Result<ValType, ReadFault>
     ensures exact { Parses (λ x. x) valtype_at cursor.old result cursor.new }
     ensures sure { IfErr result (λ e. e.kind ≢ ReadKind.Memory) }
 {
     let bad = cursor.fault(ReadKind::BadByte);
     ValType::from_byte(cursor.byte()?).ok_or(bad)
-}
-
-// Value types behind their count (5.1.3), in the room of a vector, whatever it holds. Like `read_vector` it makes room for a few once the first
-// is read.
-#[tactic(auto, using(crate::proofs::VectorReading::goes_on, crate::proofs::VectorReading::stops, crate::proofs::VectorReading::is_done), unfolding(wk_body::specs::Vectors::vector_at))]
-fn read_valtypes(room: Vec<ValType>, cursor: &mut Cursor<'_>) -> Result<Items<ValType>, ReadFault>
-    ensures { Parses (λ x. x) (vector_at valtype_at) cursor.old result cursor.new }
-{
-    let mut types = room;
-    types.clear();
-    let count = cursor.u32()?;
-    for _ in 0..count {
-        let ty = read_valtype(cursor)?;
-        if types.is_empty() {
-            types.reserve(count.min(FIRST_ROOM) as usize)?;
-        }
-        types.push(ty)?;
-    }
-    Ok(Items::from_vec(types))
-}
-
-/// Reads a function type (5.3.3) in the room of another.
-#[tactic(auto, unfolding(crate::specs::Formats::made_at, crate::specs::Formats::both_at, crate::specs::Formats::behind_at))]
-pub(crate) fn read_func_type(room: FuncType, cursor: &mut Cursor<'_>) -> Result<FuncType, ReadFault>
-    ensures { Parses (λ x. x) functype_at cursor.old result cursor.new }
-{
-    let FuncType { params, results } = room;
-    read_this(0x60, cursor)?;
-    let params = read_valtypes(params.into_vec(), cursor)?;
-    let results = read_valtypes(results.into_vec(), cursor)?;
-    Ok(FuncType { params, results })
 }
 
 // A byte that says no or yes.
@@ -139,18 +108,37 @@ pub(crate) fn read_desc(cursor: &mut Cursor<'_>) -> Result<ImportDesc, ReadFault
     }
 }
 
+impl Readable for ValTypes {
+    type Item = ValType;
+
+    ghost read_at = { λ profile. valtype_at };
+
+    fn read(
+        _alloc: Global,
+        _scratch: &mut Scratch,
+        _profile: Profile,
+        cursor: &mut Cursor<'_>,
+    ) -> Result<ValType, ReadFault> {
+        read_valtype(cursor)
+    }
+}
+
 impl Readable for FuncTypes {
     type Item = FuncType;
 
     ghost read_at = { λ profile. functype_at };
 
+    #[tactic(auto, unfolding(crate::specs::Formats::made_at, crate::specs::Formats::both_at, crate::specs::Formats::behind_at))]
     fn read(
         alloc: Global,
-        _scratch: &mut Scratch,
-        _profile: Profile,
+        scratch: &mut Scratch,
+        profile: Profile,
         cursor: &mut Cursor<'_>,
     ) -> Result<FuncType, ReadFault> {
-        read_func_type(FuncType::empty(alloc), cursor)
+        read_this(0x60, cursor)?;
+        let params = read_vector::<ValTypes>(alloc, scratch, profile, cursor)?;
+        let results = read_vector::<ValTypes>(alloc, scratch, profile, cursor)?;
+        Ok(FuncType { params, results })
     }
 }
 

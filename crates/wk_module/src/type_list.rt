@@ -1,27 +1,95 @@
-//! Function types in room that is used again.
+//! Function types whose lists lie in one room.
 
-ghost use Rattle.std.specs.Prelude.{◌≡◌, [], ◌∷◌, ◌++◌, IfErr, OnErr};
+ghost use Rattle.std.specs.Prelude.{◌≡◌, ◌-◌, [], ◌∷◌, ◌++◌, length, take, IfErr, OnErr, MatchOption, slice_get, IfOk, Some, None};
 ghost use Rattle.wk_bytes.specs.Stands.{StandsOrMemory};
 ghost use Rattle.wk_body.specs.Reads.{Parses};
+ghost use Rattle.wk_body.specs.ValTypes.{valtype_at};
+ghost use Rattle.wk_body.specs.Vectors.{vector_at};
 ghost use Rattle.wk_module.specs.Formats.{made_at};
+ghost use Rattle.wk_module.specs.InPlace.{func_type_view, type_within, AreWithin};
 ghost use Rattle.wk_module.specs.Types.{functype_at};
 
-use crate::item_read::read_func_type;
-use crate::types::FuncType;
+use crate::item_read::read_valtype;
+use crate::types::FuncTypeRef;
+use crate::vector_read::{FIRST_ROOM, read_this};
+use smallvec::SmallVec;
 use std::alloc::Global;
 use std::marker::Model;
+use wk_body::ValType;
 use wk_bytes::{Cursor, ReadFault};
 
-// Room for more parameters or results than these is not kept.
-const FEW: usize = 32;
+// How many types take no memory for their bounds.
+const INLINE: usize = 16;
 
-/// A list of function types (2.3.3), which a contract sees as that list. The room of those that are cleared away is used again: where modules
-/// with the same types, of at most 32 parameters and 32 results, are read one after the other, those behind the second ask for no memory.
+// Where the lists of a type lie among the value types of all: its parameters begin at `start` and end where its results begin, which end at `end`.
+#[derive(Clone, Copy, Debug, Default)]
+struct TypeBounds {
+    start: usize,
+    results: usize,
+    end: usize,
+}
+
+impl TypeBounds {
+    // The type.
+    #[inline(always)]
+    fn lend<'a>(&self, lists: &'a [ValType]) -> FuncTypeRef<'a>
+        requires { AreWithin (length lists.now) self.now }
+        ensures { func_type_view result ≡ type_within lists.now self.now }
+    {
+        FuncTypeRef {
+            params: &lists[self.start..self.results],
+            results: &lists[self.results..self.end],
+        }
+    }
+}
+
+// Reads value types behind their count (5.1.3) to the end of a list. A refusal may leave some of them there.
+#[tactic(auto, using(crate::proofs::VectorReading::goes_on, crate::proofs::VectorReading::is_done), unfolding(wk_body::specs::Vectors::vector_at, crate::specs::Formats::made_at))]
+fn append_valtypes(lists: &mut Vec<ValType>, cursor: &mut Cursor<'_>) -> Result<(), ReadFault>
+    ensures read { Parses (λ u. lists.new.items) (made_at (λ ts. lists.old.items ++ ts) (vector_at valtype_at))
+        cursor.old result cursor.new }
+    ensures stays { take (length lists.old.items) lists.new.items ≡ lists.old.items }
+{
+    let count = cursor.u32()?;
+    for _ in 0..count {
+        let ty = read_valtype(cursor)?;
+        if lists.is_empty() {
+            lists.reserve(FIRST_ROOM as usize)?;
+        }
+        lists.push(ty)?;
+    }
+    Ok(())
+}
+
+// Reads a function type (5.3.3), and puts its lists to the end of a list. A refusal may leave value types there.
+#[tactic(auto, unfolding(crate::specs::Formats::made_at, crate::specs::Formats::both_at, crate::specs::Formats::behind_at))]
+fn append_func_type(
+    lists: &mut Vec<ValType>,
+    cursor: &mut Cursor<'_>,
+) -> Result<TypeBounds, ReadFault>
+    ensures read { Parses (type_within lists.new.items) functype_at cursor.old result cursor.new }
+    ensures within { IfOk result (AreWithin (length lists.new.items)) }
+    ensures stays { take (length lists.old.items) lists.new.items ≡ lists.old.items }
+{
+    read_this(0x60, cursor)?;
+    let start = lists.len();
+    append_valtypes(lists, cursor)?;
+    let results = lists.len();
+    append_valtypes(lists, cursor)?;
+    Ok(TypeBounds {
+        start,
+        results,
+        end: lists.len(),
+    })
+}
+
+/// A list of function types (2.3.3), which a contract sees as that list. All their value types lie in one room, one type behind the other, so
+/// that no type asks for memory of its own. The room stays when the list is cleared.
 #[derive(Debug, Drop)]
 pub struct TypeList {
-    types: Vec<FuncType>,
-    // what was cleared away, the first one last
-    spares: Vec<FuncType>,
+    // The parameters and the results of all types, one behind the other.
+    lists: Vec<ValType>,
+    bounds: SmallVec<TypeBounds, INLINE>,
 }
 
 impl Model for TypeList {
@@ -30,7 +98,11 @@ impl Model for TypeList {
 
     ghost Value = { List InFuncType };
 
-    ghost view = { λ l. l.types.items };
+    ghost use Rattle.wk_module.specs.InPlace.{types_within, AllAreWithin};
+
+    ghost view = { λ l. types_within l.lists.items l.bounds.items };
+
+    ghost invariant = { λ l. AllAreWithin l.lists.items l.bounds.items };
 }
 
 impl TypeList {
@@ -39,52 +111,82 @@ impl TypeList {
         ensures { result ≡ [] }
     {
         TypeList {
-            types: Vec::new(alloc),
-            spares: Vec::new(alloc),
+            lists: Vec::new(alloc),
+            bounds: SmallVec::new(alloc),
         }
     }
 
-    /// The types, the first one first.
-    pub fn as_slice(&self) -> &[FuncType]
-        ensures { result.now ≡ self.now }
+    /// How many types there are.
+    #[inline(always)]
+    pub fn len(&self) -> usize
+        ensures { result ≡ length self.now }
     {
-        self.types.as_slice()
+        self.bounds.len()
     }
 
-    /// Forgets the types, and keeps their room for those that are read next. The room of a type that has more than 32 parameters or more than
-    /// 32 results is let go: so what is kept is bounded by the most types that were in the list at once. It never fails: where there is no memory
-    /// to keep a room, that goes too.
+    /// The type with an index, or nothing where there is none.
+    #[inline(always)]
+    pub fn get(&self, index: usize) -> Option<FuncTypeRef<'_>>
+        ensures { MatchOption
+            result
+            (slice_get self.now index ≡ None)
+            (λ ty. slice_get self.now index ≡ Some (func_type_view ty)) }
+    {
+        match self.bounds.as_slice().get(index) {
+            Some(bounds) => Some(bounds.lend(&self.lists)),
+            None => None,
+        }
+    }
+
+    /// The last type, or nothing where there is none.
+    #[inline(always)]
+    pub fn last(&self) -> Option<FuncTypeRef<'_>>
+        ensures { MatchOption
+            result
+            (self.now ≡ [])
+            (λ ty. slice_get self.now (length self.now - 1) ≡ Some (func_type_view ty)) }
+    {
+        match self.bounds.as_slice().last() {
+            Some(bounds) => Some(bounds.lend(&self.lists)),
+            None => None,
+        }
+    }
+
+    /// Forgets the types, and keeps all room for those that are read next. It never fails.
     pub fn clear(&mut self)
         ensures { self.new ≡ [] }
     {
-        while let Some(ty) = self.types.pop() {
-            if ty.params.len() <= FEW && ty.results.len() <= FEW {
-                let _kept = self.spares.push(ty);
-            }
-        }
+        self.bounds.clear();
+        self.lists.clear();
     }
 
-    /// Reads a function type (5.3.3) behind the others, in room that was kept, if there is some.
+    /// Reads a function type (5.3.3) behind the others. Room for 64 value types is made with the first of them; then it grows with those that are
+    /// read, whatever a count says. Up to sixteen types take no other.
     ///
     /// # Errors
     ///
-    /// The first fault, at its offset, or `Memory` at 0. The types and the cursor are then as before; room that was kept may be lost.
+    /// The first fault, at its offset, or `Memory` at 0. The types and the cursor are then as before.
     #[tactic(auto, using(crate::proofs::InPlace::functype_stands), unfolding(crate::specs::Formats::made_at))]
-    pub fn read_next(&mut self, alloc: Global, cursor: &mut Cursor<'_>) -> Result<(), ReadFault>
+    pub fn read_next(&mut self, cursor: &mut Cursor<'_>) -> Result<(), ReadFault>
         ensures exact { Parses (λ u. self.new) (made_at (λ t. self.old ++ t ∷ []) functype_at)
             cursor.old result cursor.new }
         ensures fault { IfErr result (λ e. StandsOrMemory cursor.old e) }
         ensures types { OnErr result (self.new ≡ self.old) }
         ensures left { OnErr result (cursor.new ≡ cursor.old) }
     {
-        let room = match self.spares.pop() {
-            Some(ty) => ty,
-            None => FuncType::empty(alloc),
-        };
+        self.bounds.reserve(1)?;
+        let kept = self.lists.len();
         let mut ahead = cursor.ahead();
-        let ty = read_func_type(room, &mut ahead)?;
-        self.types.push(ty)?;
-        *cursor = ahead;
-        Ok(())
+        match append_func_type(&mut self.lists, &mut ahead) {
+            Ok(bounds) => {
+                self.bounds.push_reserved(bounds);
+                *cursor = ahead;
+                Ok(())
+            }
+            Err(fault) => {
+                self.lists.truncate(kept);
+                Err(fault)
+            }
+        }
     }
 }
