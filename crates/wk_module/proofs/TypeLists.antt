@@ -1,6 +1,6 @@
 -- Function types whose lists lie in one list of value types: they stay where more comes behind them.
-use Rattle.std.proofs.Common.{◌≡◌, ℕ, ◌+◌, ◌-◌, ◌≤◌, List, [], ◌∷◌, ◌++◌, length, map, take, drop, slice_range, refl, sym, subst, ap, ◌∙◌, arith}
-use Rattle.std.proofs.lemmas.List.{length-append, length-drop, drop_at, drop-append-le, take_all, take-append-le, take-append-drop}
+use Rattle.std.proofs.Common.{◌≡◌, ℕ, ◌+◌, ◌-◌, ◌≤◌, min, List, [], ◌∷◌, ◌++◌, length, map, take, drop, slice_range, refl, sym, subst, ap, ◌∙◌, arith}
+use Rattle.std.proofs.lemmas.List.{length-append, length-drop, length-take, map-append, drop_at, drop-append-le, take_all, take-append-le, take-append-drop}
 use Rattle.std.specs.List.{AllByRecursion}
 use Rattle.wk_body.specs.declared.types.ValType.{ValType}
 use Rattle.wk_module.specs.declared.type_list.TypeBounds.{TypeBounds}
@@ -14,6 +14,12 @@ module _ {A : Type 0} (xs ys : List A) where
 
   slice_of_rest : slice_range (xs ++ ys) (length xs) (length (xs ++ ys)) ≡ ys
   slice_of_rest = rw (drop_at xs ys (length xs) refl, length-append xs ys) (take_all (length xs + length ys - length xs) ys (omega arith))
+
+-- what stands in front stays there where more comes
+pub front_stays : {A : Type 0} (front xs more : List A) → take (length front) xs ≡ front → take (length front) (xs ++ more) ≡ front
+front_stays front xs more is =
+    let l : min (length front) (length xs) ≡ length front = sym (length-take (length front) xs) ∙ ap length is in
+    take-append-le (length front) xs more (omega (arith, l)) ∙ is
 
 -- where parameters and then results are put behind others
 abbrev pub bounds_behind : List ValType → List ValType → List ValType → TypeBounds
@@ -66,3 +72,6 @@ module _ (lists longer : List ValType) (bounds : List TypeBounds) (stays : take 
   pub within_more : (b : TypeBounds) → AreWithin (length longer) b → AllAreWithin longer (bounds ++ b ∷ [])
   within_more b w =
       within_push longer bounds b (subst (λ (l : List ValType). AllAreWithin l bounds) split (within_stay lists (drop (length lists) longer) bounds all)) w
+
+  pub one_more : (b : TypeBounds) → types_within longer (bounds ++ b ∷ []) ≡ types_within lists bounds ++ type_within longer b ∷ []
+  one_more b = rw (map-append (type_within longer) bounds (b ∷ []), types_kept) refl

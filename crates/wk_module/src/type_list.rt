@@ -44,7 +44,7 @@ impl TypeBounds {
 }
 
 // Reads value types behind their count (5.1.3) to the end of a list. A refusal may leave some of them there.
-#[tactic(auto, using(crate::proofs::VectorReading::goes_on, crate::proofs::VectorReading::is_done), unfolding(wk_body::specs::Vectors::vector_at, crate::specs::Formats::made_at))]
+#[tactic(auto, using(crate::proofs::VectorReading::goes_on, crate::proofs::VectorReading::is_done, crate::proofs::TypeLists::front_stays), unfolding(wk_body::specs::Vectors::vector_at, crate::specs::Formats::made_at))]
 fn append_valtypes(lists: &mut Vec<ValType>, cursor: &mut Cursor<'_>) -> Result<(), ReadFault>
     ensures read { Parses (λ u. lists.new.items) (made_at (λ ts. lists.old.items ++ ts) (vector_at valtype_at))
         cursor.old result cursor.new }
