@@ -1,6 +1,5 @@
 -- Items that are read where they stand (5.5.5, 5.5.10), without a copy of their names, and function types that are lent.
-use Rattle.std.specs.Prelude.{ℕ, ◌≤◌, List, map, length, slice_range}
-use Rattle.std.specs.List.{AllByRecursion}
+use Rattle.std.specs.Prelude.{◌≡◌, ℕ, ◌≤◌, List, [], ◌∷◌, map, length, slice_range}
 use Rattle.wk_body.specs.declared.types.ValType.{ValType}
 use Rattle.wk_module.specs.declared.in_place.ExportRef.{ExportRef}
 use Rattle.wk_module.specs.declared.type_list.TypeBounds.{TypeBounds}
@@ -36,9 +35,22 @@ pub record AreWithin (len : ℕ) (b : TypeBounds) : Type 0 where
   pub results : b.results ≤ b.end
   pub fits : b.end ≤ len
 
+-- bounds that lie in order from one place to another
+pub record AreBetween (from to : ℕ) (b : TypeBounds) : Type 0 where
+  pub begins : b.start ≡ from
+  pub params : b.start ≤ b.results
+  pub results : b.results ≤ b.end
+  pub ends : b.end ≡ to
+
+-- each type begins where the one in front of it ends, from one place to another
+abbrev pub ArePacked : ℕ → List TypeBounds → ℕ → Type 0
+ArePacked from [] to = from ≡ to
+ArePacked from (b ∷ bounds) to = AreBetween from b.end b × ArePacked b.end bounds to
+
 -- the types between some bounds, the first one first
 abbrev pub types_within : List ValType → List TypeBounds → List FuncType
 types_within lists bounds = map (type_within lists) bounds
 
-abbrev pub AllAreWithin : List ValType → List TypeBounds → Type 0
-AllAreWithin lists bounds = AllByRecursion (AreWithin (length lists)) bounds
+-- some types take all value types of a list
+abbrev pub AreTypesOf : List ValType → List TypeBounds → Type 0
+AreTypesOf lists bounds = ArePacked 0 bounds (length lists)

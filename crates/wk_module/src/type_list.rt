@@ -6,7 +6,7 @@ ghost use Rattle.wk_body.specs.Reads.{Parses};
 ghost use Rattle.wk_body.specs.ValTypes.{valtype_at};
 ghost use Rattle.wk_body.specs.Vectors.{vector_at};
 ghost use Rattle.wk_module.specs.Formats.{made_at};
-ghost use Rattle.wk_module.specs.InPlace.{func_type_view, type_within, AreWithin};
+ghost use Rattle.wk_module.specs.InPlace.{func_type_view, type_within, AreWithin, AreBetween};
 ghost use Rattle.wk_module.specs.Types.{functype_at};
 
 use crate::item_read::read_valtype;
@@ -21,7 +21,7 @@ use wk_bytes::{Cursor, ReadFault};
 // How many types take no memory for their bounds.
 const INLINE: usize = 16;
 
-// Where the lists of a type lie among the value types of all: its parameters begin at `start` and end where its results begin, which end at `end`.
+// Where the lists of a type lie among the value types of all: its parameters begin at `start` and end where its results begin.
 #[derive(Clone, Copy, Debug, Default)]
 struct TypeBounds {
     start: usize,
@@ -68,7 +68,7 @@ fn append_func_type(
     cursor: &mut Cursor<'_>,
 ) -> Result<TypeBounds, ReadFault>
     ensures read { Parses (type_within lists.new.items) functype_at cursor.old result cursor.new }
-    ensures within { IfOk result (AreWithin (length lists.new.items)) }
+    ensures between { IfOk result (AreBetween (length lists.old.items) (length lists.new.items)) }
     ensures stays { take (length lists.old.items) lists.new.items ≡ lists.old.items }
 {
     read_this(0x60, cursor)?;
@@ -98,11 +98,11 @@ impl Model for TypeList {
 
     ghost Value = { List InFuncType };
 
-    ghost use Rattle.wk_module.specs.InPlace.{types_within, AllAreWithin};
+    ghost use Rattle.wk_module.specs.InPlace.{types_within, AreTypesOf};
 
     ghost view = { λ l. types_within l.lists.items l.bounds.items };
 
-    ghost invariant = { λ l. AllAreWithin l.lists.items l.bounds.items };
+    ghost invariant = { λ l. AreTypesOf l.lists.items l.bounds.items };
 }
 
 impl TypeList {
@@ -160,8 +160,8 @@ impl TypeList {
         self.lists.clear();
     }
 
-    /// Reads a function type (5.3.3) behind the others. Room for 64 value types is made with the first of them; then it grows with those that are
-    /// read, whatever a count says. Up to sixteen types take no other.
+    /// Reads a function type (5.3.3) behind the others. Room for 64 value types is made once the first is read; else it grows with those that
+    /// are read and not with a count. Up to sixteen types take no room beside.
     ///
     /// # Errors
     ///
