@@ -5,7 +5,7 @@ ghost use Rattle.wk_body.specs.Kept.{told, all_told};
 ghost use Rattle.wk_typing.specs.Constants.{constant_flaw, is_constant_tok, first_varying_tok};
 
 use crate::control::one;
-use crate::env::{Answer, Env};
+use crate::env::{Lookup, Scope};
 use crate::fault::{FaultKind, Flaw};
 use crate::locals::Locals;
 use crate::step::Function;
@@ -14,7 +14,7 @@ use wk_bytes::OutOfMemory;
 use wk_module::{BlockType, Expr, Ref, Token, ValType};
 
 // Whether a token may stand in a constant expression. A global that is not found is for typing to refuse.
-fn is_constant<E: Env>(env: &E, token: &Token) -> bool
+fn is_constant<E: Scope>(env: &E, token: &Token) -> bool
     ensures { result ≡ is_constant_tok (E.answers env.now) (told [] token.now) }
 {
     match *token {
@@ -23,8 +23,8 @@ fn is_constant<E: Env>(env: &E, token: &Token) -> bool
         | Token::F32Const(_)
         | Token::F64Const(_)
         | Token::End => true,
-        Token::GlobalGet(x) => match env.answer(Ref::Global(x)) {
-            Answer::Global(global) => !global.mutable,
+        Token::GlobalGet(x) => match env.look_up(Ref::Global(x)) {
+            Lookup::Global(global) => !global.mutable,
             _ => true,
         },
         _ => false,
@@ -32,7 +32,7 @@ fn is_constant<E: Env>(env: &E, token: &Token) -> bool
 }
 
 // The first token that may not stand in a constant expression.
-fn first_varying<E: Env>(env: &E, tokens: &[Token]) -> Option<u32>
+fn first_varying<E: Scope>(env: &E, tokens: &[Token]) -> Option<u32>
     requires { length tokens.now < 2 ^ 32 }
     ensures { result ≡ first_varying_tok (E.answers env.now) 0 (all_told [] tokens.now) }
 {
@@ -46,7 +46,7 @@ fn first_varying<E: Env>(env: &E, tokens: &[Token]) -> Option<u32>
 
 /// What is wrong with a constant expression of a type (3.3.7.2): the first token that is not constant, else the first fault of typing.
 /// Want of memory is the only refusal.
-pub fn constant_flaw<E: Env>(
+pub fn constant_flaw<E: Scope>(
     env: &E,
     ty: ValType,
     expr: &Expr,

@@ -7,7 +7,7 @@ ghost use Rattle.wk_typing.specs.Levels.{level_label, labels_of, enter_block, en
 ghost use Rattle.wk_typing.specs.Moves.{Steps, Ends, acting};
 ghost use Rattle.wk_body.specs.declared.references.Ref.{Ref};
 
-use crate::env::{Answer, Env};
+use crate::env::{Lookup, Scope};
 use crate::fault::FaultKind;
 use crate::operands::{
     apply_polymorphic, apply_type, apply_type_in_line, are_same, pop_indexed, pop_types, pop_val,
@@ -30,49 +30,49 @@ pub(crate) fn one(ty: ValType) -> &'static [ValType]
 }
 
 /// The parameters of a block type, none where it is unknown.
-pub(crate) fn params<E: Env>(env: &E, block: BlockType) -> &[ValType]
+pub(crate) fn params<E: Scope>(env: &E, block: BlockType) -> &[ValType]
     ensures { result.now ≡ params_of (E.answers env.now) block }
 {
     match block {
         BlockType::Empty => &[],
         BlockType::Value(_) => &[],
-        BlockType::Index(x) => match env.answer(Ref::Ty(x)) {
-            Answer::Ty(ty) => ty.params.as_slice(),
+        BlockType::Index(x) => match env.look_up(Ref::Ty(x)) {
+            Lookup::Ty(ty) => ty.params,
             _ => &[],
         },
     }
 }
 
 /// The results of a block type, none where it is unknown.
-pub(crate) fn results<E: Env>(env: &E, block: BlockType) -> &[ValType]
+pub(crate) fn results<E: Scope>(env: &E, block: BlockType) -> &[ValType]
     ensures { result.now ≡ results_of (E.answers env.now) block }
 {
     match block {
         BlockType::Empty => &[],
         BlockType::Value(ty) => one(ty),
-        BlockType::Index(x) => match env.answer(Ref::Ty(x)) {
-            Answer::Ty(ty) => ty.results.as_slice(),
+        BlockType::Index(x) => match env.look_up(Ref::Ty(x)) {
+            Lookup::Ty(ty) => ty.results,
             _ => &[],
         },
     }
 }
 
 /// Whether a block type is known.
-pub(crate) fn check_known<E: Env>(env: &E, block: BlockType) -> Result<(), FaultKind>
+pub(crate) fn check_known<E: Scope>(env: &E, block: BlockType) -> Result<(), FaultKind>
     ensures { result ≡ known (E.answers env.now) block }
 {
     match block {
         BlockType::Empty => Ok(()),
         BlockType::Value(_) => Ok(()),
-        BlockType::Index(x) => match env.answer(Ref::Ty(x)) {
-            Answer::Ty(_) => Ok(()),
+        BlockType::Index(x) => match env.look_up(Ref::Ty(x)) {
+            Lookup::Ty(_) => Ok(()),
             _ => Err(FaultKind::UnknownType),
         },
     }
 }
 
 // The types that a branch to a block takes.
-fn branch_types<E: Env>(env: &E, kind: FrameKind, block: BlockType) -> &[ValType]
+fn branch_types<E: Scope>(env: &E, kind: FrameKind, block: BlockType) -> &[ValType]
     ensures { result.now ≡ level_label (E.answers env.now) kind block }
 {
     match kind {
@@ -83,7 +83,7 @@ fn branch_types<E: Env>(env: &E, kind: FrameKind, block: BlockType) -> &[ValType
 
 // The types of a label.
 #[inline(always)]
-fn label<'a, E: Env>(env: &'a E, s: &Stacks, label: u32) -> Option<&'a [ValType]>
+fn label<'a, E: Scope>(env: &'a E, s: &Stacks, label: u32) -> Option<&'a [ValType]>
     ensures { MatchOption
         result
         (slice_get (labels_of (E.answers env.now) s.now) label ≡ None)
@@ -96,7 +96,7 @@ fn label<'a, E: Env>(env: &'a E, s: &Stacks, label: u32) -> Option<&'a [ValType]
 }
 
 // Whether each label is known.
-fn are_known<E: Env>(env: &E, s: &Stacks, labels: &[u32]) -> bool
+fn are_known<E: Scope>(env: &E, s: &Stacks, labels: &[u32]) -> bool
     ensures { result ≡ all_known (labels_of (E.answers env.now) s.now) labels.now }
 {
     for each in labels {
@@ -109,7 +109,7 @@ fn are_known<E: Env>(env: &E, s: &Stacks, labels: &[u32]) -> bool
 
 // Whether a label has these types. Most lead to a block of no types, which is told without looking for any.
 #[inline(always)]
-fn has_types<E: Env>(env: &E, s: &Stacks, to: u32, types: &[ValType]) -> bool
+fn has_types<E: Scope>(env: &E, s: &Stacks, to: u32, types: &[ValType]) -> bool
     ensures { result ≡ has_types types.now (slice_get (labels_of (E.answers env.now) s.now) to) }
 {
     match s.head(to as usize) {
@@ -120,7 +120,7 @@ fn has_types<E: Env>(env: &E, s: &Stacks, to: u32, types: &[ValType]) -> bool
 }
 
 // Whether each label has these types.
-fn are_alike<E: Env>(env: &E, s: &Stacks, labels: &[u32], types: &[ValType]) -> bool
+fn are_alike<E: Scope>(env: &E, s: &Stacks, labels: &[u32], types: &[ValType]) -> bool
     ensures { result ≡ all_same (labels_of (E.answers env.now) s.now) types.now labels.now }
 {
     for each in labels {
@@ -132,7 +132,7 @@ fn are_alike<E: Env>(env: &E, s: &Stacks, labels: &[u32], types: &[ValType]) -> 
 }
 
 /// A `br`.
-pub(crate) fn branch<E: Env>(env: &E, s: &mut Stacks, to: u32) -> Result<(), Stop>
+pub(crate) fn branch<E: Scope>(env: &E, s: &mut Stacks, to: u32) -> Result<(), Stop>
     ensures { Steps
         (acting (branch_effect (slice_get (labels_of (E.answers env.now) s.old) to)) s.old) result
         s.new }
@@ -144,7 +144,7 @@ pub(crate) fn branch<E: Env>(env: &E, s: &mut Stacks, to: u32) -> Result<(), Sto
 }
 
 /// A `br_if`.
-pub(crate) fn branch_if<E: Env>(env: &E, s: &mut Stacks, to: u32) -> Result<(), Stop>
+pub(crate) fn branch_if<E: Scope>(env: &E, s: &mut Stacks, to: u32) -> Result<(), Stop>
     ensures { Steps
         (acting (branch_if_effect (slice_get (labels_of (E.answers env.now) s.old) to)) s.old)
         result s.new }
@@ -158,7 +158,7 @@ pub(crate) fn branch_if<E: Env>(env: &E, s: &mut Stacks, to: u32) -> Result<(), 
 }
 
 /// A `br_table`: its labels have equal types.
-pub(crate) fn branch_table<E: Env>(
+pub(crate) fn branch_table<E: Scope>(
     env: &E,
     s: &mut Stacks,
     labels: &[u32],
@@ -183,23 +183,18 @@ pub(crate) fn branch_table<E: Env>(
 
 /// A `call`, in line.
 #[inline(always)]
-pub(crate) fn call_in_line<E: Env>(env: &E, s: &mut Stacks, x: u32) -> Result<(), Stop>
+pub(crate) fn call_in_line<E: Scope>(env: &E, s: &mut Stacks, x: u32) -> Result<(), Stop>
     ensures { Steps (acting (call_effect (E.answers env.now (Ref.Func x))) s.old) result s.new }
 {
-    match env.answer(Ref::Func(x)) {
-        Answer::Func(ty) => apply_type_in_line(
-            s,
-            false,
-            ty.params.as_slice(),
-            ty.results.as_slice(),
-        ),
-        Answer::FuncOfNoType => Err(Stop::Fault(FaultKind::UnknownType)),
+    match env.look_up(Ref::Func(x)) {
+        Lookup::Func(ty) => apply_type_in_line(s, false, ty.params, ty.results),
+        Lookup::FuncOfNoType => Err(Stop::Fault(FaultKind::UnknownType)),
         _ => Err(Stop::Fault(FaultKind::UnknownFunc)),
     }
 }
 
 /// A `call`.
-pub(crate) fn call<E: Env>(env: &E, s: &mut Stacks, x: u32) -> Result<(), Stop>
+pub(crate) fn call<E: Scope>(env: &E, s: &mut Stacks, x: u32) -> Result<(), Stop>
     ensures { Steps (acting (call_effect (E.answers env.now (Ref.Func x))) s.old) result s.new }
 {
     call_in_line(env, s, x)
@@ -207,23 +202,23 @@ pub(crate) fn call<E: Env>(env: &E, s: &mut Stacks, x: u32) -> Result<(), Stop>
 
 /// A `call_indirect`, in line.
 #[inline(always)]
-pub(crate) fn call_indirect_in_line<E: Env>(env: &E, s: &mut Stacks, x: u32) -> Result<(), Stop>
+pub(crate) fn call_indirect_in_line<E: Scope>(env: &E, s: &mut Stacks, x: u32) -> Result<(), Stop>
     ensures { Steps
         (acting (indirect_effect (E.answers env.now (Ref.Ty x)) (E.answers env.now Ref.Table))
         s.old)
         result s.new }
 {
-    let Answer::Ty(ty) = env.answer(Ref::Ty(x)) else {
+    let Lookup::Ty(ty) = env.look_up(Ref::Ty(x)) else {
         return Err(Stop::Fault(FaultKind::UnknownType));
     };
-    match env.answer(Ref::Table) {
-        Answer::Present => apply_type_in_line(s, true, ty.params.as_slice(), ty.results.as_slice()),
+    match env.look_up(Ref::Table) {
+        Lookup::Present => apply_type_in_line(s, true, ty.params, ty.results),
         _ => Err(Stop::Fault(FaultKind::UnknownTable)),
     }
 }
 
 /// A `call_indirect`.
-pub(crate) fn call_indirect<E: Env>(env: &E, s: &mut Stacks, x: u32) -> Result<(), Stop>
+pub(crate) fn call_indirect<E: Scope>(env: &E, s: &mut Stacks, x: u32) -> Result<(), Stop>
     ensures { Steps
         (acting (indirect_effect (E.answers env.now (Ref.Ty x)) (E.answers env.now Ref.Table))
         s.old)
@@ -233,21 +228,21 @@ pub(crate) fn call_indirect<E: Env>(env: &E, s: &mut Stacks, x: u32) -> Result<(
 }
 
 /// Whether there is a memory.
-pub(crate) fn check_memory<E: Env>(env: &E) -> Result<(), FaultKind>
+pub(crate) fn check_memory<E: Scope>(env: &E) -> Result<(), FaultKind>
     ensures { MatchResult
         result
         (λ _. E.answers env.now Ref.Memory ≡ IsPresent)
         (λ e. (w : Effect) → with_memory (E.answers env.now Ref.Memory) w ≡ Err e) }
 {
-    match env.answer(Ref::Memory) {
-        Answer::Present => Ok(()),
+    match env.look_up(Ref::Memory) {
+        Lookup::Present => Ok(()),
         _ => Err(FaultKind::UnknownMemory),
     }
 }
 
 /// Opens a block of this type, which has to be known, after popping a test, where there is one, and its parameters.
 #[inline(never)]
-pub(crate) fn enter_block<E: Env>(
+pub(crate) fn enter_block<E: Scope>(
     env: &E,
     s: &mut Stacks,
     test: bool,
@@ -267,7 +262,7 @@ pub(crate) fn enter_block<E: Env>(
 /// Opens a block of the type of an index, as `enter_block` does, in line: the type is looked for
 /// once.
 #[inline(always)]
-pub(crate) fn enter_indexed<E: Env>(
+pub(crate) fn enter_indexed<E: Scope>(
     env: &E,
     s: &mut Stacks,
     test: bool,
@@ -277,13 +272,12 @@ pub(crate) fn enter_indexed<E: Env>(
     ensures { Steps (enter_block (E.answers env.now) test kind (BlockType.Index x) s.old) result
         s.new }
 {
-    let Answer::Ty(ty) = env.answer(Ref::Ty(x)) else {
+    let Lookup::Ty(ty) = env.look_up(Ref::Ty(x)) else {
         return Err(Stop::Fault(FaultKind::UnknownType));
     };
-    let params = ty.params.as_slice();
-    pop_indexed(s, test, params)?;
+    pop_indexed(s, test, ty.params)?;
     s.push_ctrl(kind, BlockType::Index(x))?;
-    push_types(s, params)?;
+    push_types(s, ty.params)?;
     Ok(())
 }
 
@@ -300,7 +294,7 @@ pub(crate) fn check_end(s: &mut Stacks, types: &[ValType]) -> Result<(), FaultKi
 }
 
 /// Ends a then branch, and begins the else branch.
-pub(crate) fn end_then<E: Env>(env: &E, s: &mut Stacks) -> Result<(), Stop>
+pub(crate) fn end_then<E: Scope>(env: &E, s: &mut Stacks) -> Result<(), Stop>
     ensures { Steps (end_then (E.answers env.now) s.old) result s.new }
 {
     let block = s.block();
@@ -312,7 +306,7 @@ pub(crate) fn end_then<E: Env>(env: &E, s: &mut Stacks) -> Result<(), Stop>
 
 // Ends a block that stands in another, whose branches but the last have ended.
 #[inline(always)]
-fn end_inner<E: Env>(env: &E, s: &mut Stacks) -> Result<(), Stop>
+fn end_inner<E: Scope>(env: &E, s: &mut Stacks) -> Result<(), Stop>
     ensures { Steps (end_inner (E.answers env.now) s.old.inner s.old.outer) result s.new }
 {
     if s.is_outermost() {
@@ -327,7 +321,7 @@ fn end_inner<E: Env>(env: &E, s: &mut Stacks) -> Result<(), Stop>
 
 /// Ends the innermost block, in line. The outermost one stays.
 #[inline(always)]
-pub(crate) fn end_block_in_line<E: Env>(env: &E, s: &mut Stacks) -> Result<(), Stop>
+pub(crate) fn end_block_in_line<E: Scope>(env: &E, s: &mut Stacks) -> Result<(), Stop>
     ensures { Steps (end_block (E.answers env.now) s.old.inner.kind s.old) result s.new }
 {
     match s.frame_kind() {
@@ -340,7 +334,7 @@ pub(crate) fn end_block_in_line<E: Env>(env: &E, s: &mut Stacks) -> Result<(), S
 }
 
 /// Ends the innermost block. The outermost one stays.
-pub(crate) fn end_block<E: Env>(env: &E, s: &mut Stacks) -> Result<(), Stop>
+pub(crate) fn end_block<E: Scope>(env: &E, s: &mut Stacks) -> Result<(), Stop>
     ensures { Steps (end_block (E.answers env.now) s.old.inner.kind s.old) result s.new }
 {
     end_block_in_line(env, s)

@@ -6,7 +6,7 @@ ghost use Rattle.wk_body.specs.Building.{kinds_of, size_of, toks_of};
 ghost use Rattle.wk_body.specs.Reads.{Reads};
 ghost use Rattle.wk_typing.specs.Faults.{encoded_verdict};
 
-use crate::env::Env;
+use crate::env::Scope;
 use crate::fault::BodyVerdict;
 use crate::streaming::{StreamRoom, is_valid_body};
 use crate::typing::{Room, type_body};
@@ -42,7 +42,7 @@ impl Rooms {
 }
 
 // Reads the whole body, and types it.
-fn type_read_body<E: Env>(
+fn type_read_body<E: Scope>(
     alloc: Global,
     env: &E,
     own_type: u32,
@@ -70,7 +70,7 @@ fn type_read_body<E: Env>(
 ///
 /// Where the bytes encode no body of the profile, the first fault from left to right, at its offset in the whole input; `Memory` at 0 where
 /// a growth was refused.
-pub fn type_encoded_body<E: Env>(
+pub fn type_encoded_body<E: Scope>(
     alloc: Global,
     env: &E,
     own_type: u32,

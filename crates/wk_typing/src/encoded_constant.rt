@@ -9,7 +9,7 @@ ghost use Rattle.wk_typing.specs.Constants.{constant_flaw};
 
 use crate::constant::constant_flaw;
 use crate::encoded_body::Rooms;
-use crate::env::Env;
+use crate::env::Scope;
 use crate::fast_constant::pass_constant;
 use crate::fault::Flaw;
 use std::alloc::Global;
@@ -18,7 +18,7 @@ use wk_module::{Profile, ValType};
 
 // Reads the expression, and asks what is wrong with it.
 #[tactic(auto, unfolding(wk_module::specs::Formats::made_at))]
-fn read_and_type<E: Env>(
+fn read_and_type<E: Scope>(
     alloc: Global,
     env: &E,
     ty: ValType,
@@ -45,7 +45,7 @@ fn read_and_type<E: Env>(
 ///
 /// Where no expression of the profile is at the front, the first fault from left to right, at its offset in the whole input; `Memory`
 /// at 0 where a growth was refused. The cursor is then as before.
-pub fn next_constant_flaw<E: Env>(
+pub fn next_constant_flaw<E: Scope>(
     alloc: Global,
     env: &E,
     ty: ValType,

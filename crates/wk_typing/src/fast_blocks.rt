@@ -8,7 +8,7 @@ ghost use Rattle.wk_typing.specs.Moves.{Steps, MadeBy};
 ghost use Rattle.wk_typing.specs.Streaming.{IsShort, IsOpened, IsParted, IsClosed};
 
 use crate::control::{end_block_in_line, end_then};
-use crate::env::Env;
+use crate::env::Scope;
 use crate::fault::FaultKind;
 use crate::operands::pop_val;
 use crate::stacks::{FrameKind, Stacks};
@@ -51,7 +51,7 @@ fn short_type(cursor: &mut Cursor<'_>) -> Option<BlockType>
 
 // A block of such a type begins, behind its test, where there is one.
 #[inline(always)]
-fn enter_short<E: Env>(
+fn enter_short<E: Scope>(
     env: &E,
     test: bool,
     kind: FrameKind,
@@ -72,7 +72,7 @@ fn enter_short<E: Env>(
 
 /// What opens a block, behind its opcode, with a test or without one.
 #[inline(always)]
-pub(crate) fn fast_open<E: Env>(
+pub(crate) fn fast_open<E: Scope>(
     env: &E,
     test: bool,
     kind: FrameKind,
@@ -101,7 +101,7 @@ pub(crate) fn fast_open<E: Env>(
 
 // The end of a then branch that has a type or operands, out of line.
 #[inline(never)]
-fn end_then_typed<E: Env>(env: &E, s: &mut Stacks) -> Result<(), Stop>
+fn end_then_typed<E: Scope>(env: &E, s: &mut Stacks) -> Result<(), Stop>
     ensures { Steps (end_then (E.answers env.now) s.old) result s.new }
 {
     end_then(env, s)
@@ -109,7 +109,7 @@ fn end_then_typed<E: Env>(env: &E, s: &mut Stacks) -> Result<(), Stop>
 
 /// An `else`. Most have no type, and nothing is left of the branch before.
 #[inline(always)]
-pub(crate) fn fast_else<E: Env>(
+pub(crate) fn fast_else<E: Scope>(
     env: &E,
     reader: &mut TokenReader,
     s: &mut Stacks,
@@ -135,7 +135,7 @@ pub(crate) fn fast_else<E: Env>(
 
 // The end of a block that has a type or operands, out of line, whose answer goes in registers.
 #[inline(never)]
-fn end_block_typed<E: Env>(env: &E, s: &mut Stacks) -> Result<Growth, FaultKind>
+fn end_block_typed<E: Scope>(env: &E, s: &mut Stacks) -> Result<Growth, FaultKind>
     ensures { MadeBy (end_block (E.answers env.now) s.old.inner.kind s.old) result s.new }
 {
     to_registers(end_block_in_line(env, s))
@@ -143,7 +143,7 @@ fn end_block_typed<E: Env>(env: &E, s: &mut Stacks) -> Result<Growth, FaultKind>
 
 /// An `end`. Most close a block of no type in another, and nothing is left of it.
 #[inline(always)]
-pub(crate) fn fast_end<E: Env>(
+pub(crate) fn fast_end<E: Scope>(
     env: &E,
     reader: &mut TokenReader,
     s: &mut Stacks,

@@ -11,7 +11,7 @@ ghost use Rattle.wk_body.specs.TokenReading.{TokenReading};
 ghost use Rattle.wk_typing.specs.Streaming.{IsTaken, IsSigned, IsOpened};
 
 use crate::control::enter_indexed;
-use crate::env::Env;
+use crate::env::Scope;
 use crate::stacks::{FrameKind, Stacks};
 use crate::step::{Function, numeric};
 use crate::stop::Stop;
@@ -48,7 +48,7 @@ fn indexed_type(cursor: &mut Cursor<'_>) -> Option<u32>
 
 // What opens a block of a type index, behind its opcode, with a test or without one.
 #[inline(always)]
-fn open_indexed<E: Env>(
+fn open_indexed<E: Scope>(
     env: &E,
     test: bool,
     kind: FrameKind,
@@ -89,7 +89,7 @@ fn sign_of(opcode: u8) -> Option<NumericOp>
 
 // A sign extension.
 #[inline(always)]
-fn type_sign_extend<E: Env>(
+fn type_sign_extend<E: Scope>(
     env: &E,
     f: &Function<'_>,
     opcode: u8,
@@ -112,7 +112,7 @@ fn type_sign_extend<E: Env>(
 /// Types the token at the front, if it is a sign extension. Whether it is; else the open blocks are as they were, and the cursor
 /// stands anywhere.
 #[inline(always)]
-pub(crate) fn fast_sign_extend<E: Env>(
+pub(crate) fn fast_sign_extend<E: Scope>(
     env: &E,
     f: &Function<'_>,
     s: &mut Stacks,
@@ -137,7 +137,7 @@ pub(crate) fn fast_sign_extend<E: Env>(
 /// Types the token at the front, if it opens a block of a type index. Whether it does; else the reader and the open blocks are as
 /// they were, and the cursor stands anywhere.
 #[inline(always)]
-pub(crate) fn fast_open_indexed<E: Env>(
+pub(crate) fn fast_open_indexed<E: Scope>(
     env: &E,
     f: &Function<'_>,
     reader: &mut TokenReader,

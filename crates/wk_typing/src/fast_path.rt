@@ -28,7 +28,7 @@ ghost use Rattle.wk_typing.specs.Moves.{acting, MadeBy, Steps};
 ghost use Rattle.wk_typing.specs.Streaming.{IsAlone, HasIndex, HasReserved, HasSigned, HasWord, TypesBehind, TakesBehind, IsTaken};
 
 use crate::control::{branch, branch_if, call_in_line, call_indirect_in_line};
-use crate::env::Env;
+use crate::env::Scope;
 use crate::fast_blocks::{FastStep, fast_else, fast_end, fast_open};
 use crate::fault::FaultKind;
 use crate::operands::{apply_polymorphic, drop_top, pop_val, push_val, select};
@@ -66,7 +66,7 @@ enum Called {
 
 // A `call`, out of line.
 #[inline(never)]
-fn call_typed<E: Env>(env: &E, s: &mut Stacks, x: u32) -> Called
+fn call_typed<E: Scope>(env: &E, s: &mut Stacks, x: u32) -> Called
     ensures { result ≡ Called.Typed
         → acting (call_effect (E.answers env.now (Ref.Func x))) s.old ≡ Ok s.new }
 {
@@ -79,7 +79,7 @@ fn call_typed<E: Env>(env: &E, s: &mut Stacks, x: u32) -> Called
 
 // A `call_indirect`, out of line, whose answer goes in registers.
 #[inline(never)]
-fn indirect_typed<E: Env>(env: &E, s: &mut Stacks, x: u32) -> Result<Growth, FaultKind>
+fn indirect_typed<E: Scope>(env: &E, s: &mut Stacks, x: u32) -> Result<Growth, FaultKind>
     ensures { MadeBy
         (acting (indirect_effect (E.answers env.now (Ref.Ty x)) (E.answers env.now Ref.Table))
         s.old)
@@ -90,7 +90,7 @@ fn indirect_typed<E: Env>(env: &E, s: &mut Stacks, x: u32) -> Result<Growth, Fau
 
 // A `br`. Most lead to a block of no types.
 #[inline(always)]
-fn br<E: Env>(env: &E, s: &mut Stacks, x: u32) -> Result<(), Stop>
+fn br<E: Scope>(env: &E, s: &mut Stacks, x: u32) -> Result<(), Stop>
     ensures { Steps
         (acting (branch_effect (slice_get (labels_of (E.answers env.now) s.old) x)) s.old)
         result
@@ -106,7 +106,7 @@ fn br<E: Env>(env: &E, s: &mut Stacks, x: u32) -> Result<(), Stop>
 
 // A `br_if`. Most lead to a block of no types.
 #[inline(always)]
-fn br_if<E: Env>(env: &E, s: &mut Stacks, x: u32) -> Result<(), Stop>
+fn br_if<E: Scope>(env: &E, s: &mut Stacks, x: u32) -> Result<(), Stop>
     ensures { Steps
         (acting (branch_if_effect (slice_get (labels_of (E.answers env.now) s.old) x)) s.old)
         result
@@ -122,7 +122,7 @@ fn br_if<E: Env>(env: &E, s: &mut Stacks, x: u32) -> Result<(), Stop>
 // What an instruction without immediates does.
 #[tactic(auto, unfolding(wk_body::specs::Reading::plain_at, wk_body::specs::Reading::behind_form, wk_body::specs::Instructions::form_of))]
 #[inline(always)]
-fn type_alone<E: Env>(env: &E, f: &Function<'_>, opcode: u8, s: &mut Stacks) -> Result<(), Stop>
+fn type_alone<E: Scope>(env: &E, f: &Function<'_>, opcode: u8, s: &mut Stacks) -> Result<(), Stop>
     requires { IsAlone opcode }
     ensures { (end : ℕ) (from : List ℕ) →
         TypesBehind (E.answers env.now) f.now opcode end from from s.old result s.new }
@@ -139,7 +139,7 @@ fn type_alone<E: Env>(env: &E, f: &Function<'_>, opcode: u8, s: &mut Stacks) -> 
 
 // One without immediates.
 #[inline(always)]
-fn fast_alone<E: Env>(
+fn fast_alone<E: Scope>(
     env: &E,
     f: &Function<'_>,
     opcode: u8,
@@ -157,7 +157,7 @@ fn fast_alone<E: Env>(
 // What an instruction with an index or a label does, once that is read.
 #[tactic(auto, unfolding(wk_body::specs::Reading::plain_at, wk_body::specs::Reading::behind_form, wk_body::specs::Instructions::form_of))]
 #[inline(always)]
-fn type_indexed<E: Env>(
+fn type_indexed<E: Scope>(
     env: &E,
     f: &Function<'_>,
     opcode: u8,
@@ -182,7 +182,7 @@ fn type_indexed<E: Env>(
 
 // One with an index or a label.
 #[inline(always)]
-fn fast_index<E: Env>(
+fn fast_index<E: Scope>(
     env: &E,
     f: &Function<'_>,
     opcode: u8,
@@ -203,7 +203,7 @@ fn fast_index<E: Env>(
 // The one with an index that is a `call`.
 #[tactic(auto, unfolding(wk_body::specs::Reading::plain_at, wk_body::specs::Reading::behind_form, wk_body::specs::Instructions::form_of))]
 #[inline(always)]
-fn fast_call<E: Env>(
+fn fast_call<E: Scope>(
     env: &E,
     f: &Function<'_>,
     s: &mut Stacks,
@@ -225,7 +225,7 @@ fn fast_call<E: Env>(
 // The one with an index and a byte 00: a `call_indirect`.
 #[tactic(auto, unfolding(wk_body::specs::Reading::plain_at, wk_body::specs::Reading::behind_form, wk_body::specs::Reading::reserved_at, wk_body::specs::Instructions::form_of))]
 #[inline(always)]
-fn fast_index_reserved<E: Env>(
+fn fast_index_reserved<E: Scope>(
     env: &E,
     f: &Function<'_>,
     s: &mut Stacks,
@@ -247,7 +247,12 @@ fn fast_index_reserved<E: Env>(
 // What an instruction with a byte 00 does, once that is read.
 #[tactic(auto, unfolding(wk_body::specs::Reading::plain_at, wk_body::specs::Reading::behind_form, wk_body::specs::Reading::reserved_at, wk_body::specs::Instructions::form_of))]
 #[inline(always)]
-fn type_reserved<E: Env>(env: &E, f: &Function<'_>, opcode: u8, s: &mut Stacks) -> Result<(), Stop>
+fn type_reserved<E: Scope>(
+    env: &E,
+    f: &Function<'_>,
+    opcode: u8,
+    s: &mut Stacks,
+) -> Result<(), Stop>
     requires { HasReserved opcode }
     ensures { (end : ℕ) (from rest : List ℕ) → byte_at end from ≡ Ok (0, rest) →
         TypesBehind (E.answers env.now) f.now opcode end from rest s.old result s.new }
@@ -261,7 +266,7 @@ fn type_reserved<E: Env>(env: &E, f: &Function<'_>, opcode: u8, s: &mut Stacks) 
 
 // One with a byte 00.
 #[inline(always)]
-fn fast_reserved<E: Env>(
+fn fast_reserved<E: Scope>(
     env: &E,
     f: &Function<'_>,
     opcode: u8,
@@ -282,7 +287,7 @@ fn fast_reserved<E: Env>(
 // One with a signed integer: a constant.
 #[tactic(auto, unfolding(wk_body::specs::Reading::plain_at, wk_body::specs::Reading::behind_form, wk_body::specs::Instructions::form_of))]
 #[inline(always)]
-fn fast_signed<E: Env>(
+fn fast_signed<E: Scope>(
     env: &E,
     f: &Function<'_>,
     opcode: u8,
@@ -317,7 +322,7 @@ fn fast_signed<E: Env>(
 // One with a word: a constant of a float.
 #[tactic(auto, unfolding(wk_body::specs::Reading::plain_at, wk_body::specs::Reading::behind_form, wk_body::specs::Instructions::form_of))]
 #[inline(always)]
-fn fast_word<E: Env>(
+fn fast_word<E: Scope>(
     env: &E,
     f: &Function<'_>,
     opcode: u8,
@@ -352,7 +357,7 @@ fn fast_word<E: Env>(
 // One with an alignment and an offset: a load or a store.
 #[tactic(auto, unfolding(wk_body::specs::Reading::plain_at, wk_body::specs::Reading::behind_form, wk_body::specs::Instructions::form_of))]
 #[inline(always)]
-fn fast_memarg<E: Env>(
+fn fast_memarg<E: Scope>(
     env: &E,
     f: &Function<'_>,
     opcode: u8,
@@ -380,7 +385,7 @@ fn fast_memarg<E: Env>(
 // A numeric instruction of both profiles, which has no immediates.
 #[tactic(auto, unfolding(wk_body::specs::Reading::plain_at, wk_body::specs::Reading::behind_form, wk_body::specs::Instructions::form_of))]
 #[inline(always)]
-fn fast_numeric<E: Env>(
+fn fast_numeric<E: Scope>(
     env: &E,
     f: &Function<'_>,
     opcode: u8,
@@ -403,7 +408,7 @@ fn fast_numeric<E: Env>(
 // are as they were, and the cursor stands anywhere. (Arms of one form that were joined, with the
 // opcode handed on, would look at it again.)
 #[inline(always)]
-fn type_operator<E: Env>(
+fn type_operator<E: Scope>(
     env: &E,
     f: &Function<'_>,
     opcode: u8,
@@ -457,7 +462,7 @@ fn token_if(taken: bool) -> FastStep
 /// Types the token at the front, if it is one of those that are typed from their bytes. Else the reader and the open blocks are as
 /// they were, and the cursor stands anywhere.
 #[inline(always)]
-pub(crate) fn type_fast<E: Env>(
+pub(crate) fn type_fast<E: Scope>(
     env: &E,
     f: &Function<'_>,
     reader: &mut TokenReader,

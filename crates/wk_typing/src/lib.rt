@@ -4,6 +4,8 @@
 //!
 //! - What code sees of its module is an [`Env`]: a call that answers one reference at a time, whose meaning is a function from
 //!   references to what they find (`Found` of `specs/Answers`), each of the kind of its reference by a law of the implementation.
+//!   Typing asks a [`Scope`]: the same, with function types lent by their lists, so that a context may hold them in any form. Each
+//!   [`Env`] is a [`Scope`] of the same meaning.
 //! - [`judge_body`] is `body_verdict` for that function (`specs/Typing`, by the table of `specs/Effects`). It counts one more on its
 //!   [`Meter`], want of memory included, and asks that the count is not the greatest `u64`. Its clauses `sound` and `complete` say that
 //!   it answers valid exactly where the body is derived by the standard's declarative rules (`IsDerived` of `specs/Derives`), for the
@@ -52,7 +54,7 @@ pub use carry_verdict::{carry, carry_moved, verdicts_that_keep};
 pub use constant::constant_flaw;
 pub use encoded_body::{Rooms, type_encoded_body};
 pub use encoded_constant::next_constant_flaw;
-pub use env::{Answer, Env};
+pub use env::{Answer, Env, Lookup, Scope};
 pub use fault::{BodyVerdict, Fault, FaultKind, Flaw, Place, Verdict};
 pub use meter::{Meter, declarative_rules, judge_body};
 pub use streaming::StreamRoom;

@@ -6,7 +6,7 @@ ghost use Rattle.wk_typing.specs.Derives.{IsDerived};
 ghost use Rattle.wk_typing.specs.DerivesLaws.{HaveTypesPartByPart};
 ghost use Rattle.wk_typing.specs.declared.fault.BodyVerdict.{BodyVerdict};
 
-use crate::env::Env;
+use crate::env::Scope;
 use crate::fault::BodyVerdict;
 use crate::typing::{Room, type_body};
 use std::alloc::Global;
@@ -53,7 +53,7 @@ impl Meter {
 /// Valid says two things that are one: the typing of the appendix goes through, and the body is derived by the declarative rules.
 ///
 /// Want of memory is the only refusal. It is counted too.
-pub fn judge_body<E: Env>(
+pub fn judge_body<E: Scope>(
     env: &E,
     own_type: u32,
     body: &Body,

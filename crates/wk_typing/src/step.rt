@@ -16,7 +16,7 @@ use crate::control::{
     branch, branch_if, branch_table, call, call_indirect, check_memory, end_block, end_then,
     enter_block,
 };
-use crate::env::{Answer, Env};
+use crate::env::{Lookup, Scope};
 use crate::fault::FaultKind;
 use crate::locals::Locals;
 use crate::operands::{
@@ -72,21 +72,21 @@ pub(crate) fn tee_local(locals: &Locals, s: &mut Stacks, x: u32) -> Result<(), S
 }
 
 // A `global.get`.
-pub(crate) fn get_global<E: Env>(env: &E, s: &mut Stacks, x: u32) -> Result<(), Stop>
+pub(crate) fn get_global<E: Scope>(env: &E, s: &mut Stacks, x: u32) -> Result<(), Stop>
     ensures { Steps (acting (global_get (E.answers env.now (Ref.Global x))) s.old) result s.new }
 {
-    match env.answer(Ref::Global(x)) {
-        Answer::Global(global) => push_val(s, global.val),
+    match env.look_up(Ref::Global(x)) {
+        Lookup::Global(global) => push_val(s, global.val),
         _ => Err(Stop::Fault(FaultKind::UnknownGlobal)),
     }
 }
 
 // A `global.set`.
-pub(crate) fn set_global<E: Env>(env: &E, s: &mut Stacks, x: u32) -> Result<(), Stop>
+pub(crate) fn set_global<E: Scope>(env: &E, s: &mut Stacks, x: u32) -> Result<(), Stop>
     ensures { Steps (acting (global_set (E.answers env.now (Ref.Global x))) s.old) result s.new }
 {
-    match env.answer(Ref::Global(x)) {
-        Answer::Global(global) => {
+    match env.look_up(Ref::Global(x)) {
+        Lookup::Global(global) => {
             if global.mutable {
                 pop_val(s, global.val)
             } else {
@@ -120,7 +120,12 @@ fn is_over(op: MemoryOp, align: u32) -> bool
 
 // A load or a store.
 #[inline(always)]
-pub(crate) fn access<E: Env>(env: &E, s: &mut Stacks, op: MemoryOp, align: u32) -> Result<(), Stop>
+pub(crate) fn access<E: Scope>(
+    env: &E,
+    s: &mut Stacks,
+    op: MemoryOp,
+    align: u32,
+) -> Result<(), Stop>
     ensures { Steps (acting (access_effect (E.answers env.now Ref.Memory) op align) s.old) result
         s.new }
 {
@@ -136,7 +141,7 @@ pub(crate) fn access<E: Env>(env: &E, s: &mut Stacks, op: MemoryOp, align: u32) 
 }
 
 // A `memory.size`.
-pub(crate) fn memory_size<E: Env>(env: &E, s: &mut Stacks) -> Result<(), Stop>
+pub(crate) fn memory_size<E: Scope>(env: &E, s: &mut Stacks) -> Result<(), Stop>
     ensures { Steps
         (acting (with_memory (E.answers env.now Ref.Memory) (Takes [] (I32 ∷ []))) s.old) result
         s.new }
@@ -146,7 +151,7 @@ pub(crate) fn memory_size<E: Env>(env: &E, s: &mut Stacks) -> Result<(), Stop>
 }
 
 // A `memory.grow`.
-pub(crate) fn memory_grow<E: Env>(env: &E, s: &mut Stacks) -> Result<(), Stop>
+pub(crate) fn memory_grow<E: Scope>(env: &E, s: &mut Stacks) -> Result<(), Stop>
     ensures { Steps
         (acting (with_memory (E.answers env.now Ref.Memory) (Takes (I32 ∷ []) (I32 ∷ []))) s.old)
         result s.new }
@@ -158,7 +163,7 @@ pub(crate) fn memory_grow<E: Env>(env: &E, s: &mut Stacks) -> Result<(), Stop>
 // The beginning of a block. (Its answer comes through memory, into a place that is this function's own, and its type goes through
 // memory in a copy: so the loop over the tokens keeps its answers and the tokens in registers.)
 #[inline(always)]
-fn type_open<E: Env>(
+fn type_open<E: Scope>(
     env: &E,
     s: &mut Stacks,
     test: bool,
@@ -174,7 +179,7 @@ fn type_open<E: Env>(
 
 // An `else`, with a place of its own as well.
 #[inline(always)]
-fn type_else<E: Env>(env: &E, s: &mut Stacks) -> Result<(), Stop>
+fn type_else<E: Scope>(env: &E, s: &mut Stacks) -> Result<(), Stop>
     ensures { Steps (end_then (E.answers env.now) s.old) result s.new }
 {
     end_then(env, s)?;
@@ -209,7 +214,7 @@ pub(crate) fn numeric(s: &mut Stacks, op: NumericOp) -> Result<(), Stop>
 
 /// Types one token, whose labels stand in the pool.
 #[inline(always)]
-pub(crate) fn type_token<E: Env>(
+pub(crate) fn type_token<E: Scope>(
     env: &E,
     f: &Function<'_>,
     pool: &[u32],

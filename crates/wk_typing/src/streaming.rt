@@ -7,7 +7,7 @@ ghost use Rattle.wk_typing.specs.Effects.{local_type, results_of};
 ghost use Rattle.wk_typing.specs.Streaming.{IsTyped, IsValidBody, GoesOn};
 
 use crate::control::{check_end, check_known, params, results};
-use crate::env::Env;
+use crate::env::Scope;
 use crate::fast_blocks::FastStep;
 use crate::fast_extended::{fast_open_indexed, fast_sign_extend};
 use crate::fast_path::type_fast;
@@ -85,7 +85,7 @@ enum TokenOutcome {
 
 // Reads the token at the front, whatever it is, and types it.
 #[inline(never)]
-fn read_and_type<E: Env>(
+fn read_and_type<E: Scope>(
     env: &E,
     f: &Function<'_>,
     profile: Profile,
@@ -116,7 +116,7 @@ fn read_and_type<E: Env>(
 
 // Types the token at the front, whatever it is, in the extended profile: one that opens a block of a type index from its bytes.
 #[inline(never)]
-fn type_extended<E: Env>(
+fn type_extended<E: Scope>(
     env: &E,
     f: &Function<'_>,
     profile: Profile,
@@ -145,7 +145,7 @@ fn type_extended<E: Env>(
 // the extended profile alone has is told from its bytes here, as `type_fast` tells other tokens, and the rarer one behind another
 // call: so this one holds no room of a result, which would be cleared at each token.
 #[inline(never)]
-fn type_slow<E: Env>(
+fn type_slow<E: Scope>(
     env: &E,
     f: &Function<'_>,
     profile: Profile,
@@ -174,7 +174,7 @@ fn type_slow<E: Env>(
 // Whether the instructions at the front, which have this type, go up to their end without a fault. Then the cursor stands behind
 // them.
 #[inline(never)]
-fn type_expr<E: Env>(
+fn type_expr<E: Scope>(
     env: &E,
     f: &Function<'_>,
     block: BlockType,
@@ -230,7 +230,7 @@ fn type_expr<E: Env>(
 /// Whether all of the bytes are a code of the profile (its groups of locals and its body) that is valid under the function type of an
 /// index (3.4.1). It says no where the bytes are no code of the profile, and no clause says that it does so nowhere else: then the body is
 /// read whole, and that decides. Want of memory is the only refusal.
-pub(crate) fn is_valid_body<E: Env>(
+pub(crate) fn is_valid_body<E: Scope>(
     env: &E,
     own_type: u32,
     profile: Profile,

@@ -9,7 +9,7 @@ ghost use Rattle.wk_typing.specs.Moves.{RunsTo, JudgedAs};
 ghost use Rattle.wk_typing.specs.Typing.{code_result, body_verdict};
 
 use crate::control::{check_end, check_known, params, results};
-use crate::env::Env;
+use crate::env::Scope;
 use crate::fault::{BodyVerdict, FaultKind};
 use crate::locals::{Locals, put_ends, put_first};
 use crate::stacks::Stacks;
@@ -49,7 +49,7 @@ impl Room {
 }
 
 // Types tokens in order: the first fault and its token, or none.
-fn type_tokens<E: Env>(
+fn type_tokens<E: Scope>(
     env: &E,
     f: &Function<'_>,
     pool: &[u32],
@@ -82,7 +82,7 @@ fn type_tokens<E: Env>(
 }
 
 /// Types instructions up to their last end, as a block of this type: the first fault and its token, or none.
-pub(crate) fn type_code<E: Env>(
+pub(crate) fn type_code<E: Scope>(
     env: &E,
     f: &Function<'_>,
     block: BlockType,
@@ -108,7 +108,7 @@ pub(crate) fn type_code<E: Env>(
 }
 
 /// Types a body under the function type of an index (3.4.1): valid, or the first fault and its token. Want of memory is the only refusal.
-pub fn type_body<E: Env>(
+pub fn type_body<E: Scope>(
     env: &E,
     own_type: u32,
     body: &Body,

@@ -7,13 +7,13 @@ use Rattle.wk_typing.proofs.constant.constant_flaw.Goals as goal
 use Rattle.wk_typing.proofs.constant.constant_flaw.Goals.{in-None, in-Some-2}
 
 pub returns-in-Some : goal.returns-in-Some
-returns-in-Some g c = constant_varies (g.E.Env.answers c.args.env.now) c.args.ty c.args.expr.now c.tokens.result.1.now c.tokens.result.0.now
+returns-in-Some g c = constant_varies (g.E.Scope.answers c.args.env.now) c.args.ty c.args.expr.now c.tokens.result.1.now c.tokens.result.0.now
     c.in-Some.token c.tokens.ensures.tokens c.in-Some.ensures
 
 pub returns : goal.returns
 returns g c =
-    let flaw : Option Flaw = constant_flaw (g.E.Env.answers c.args.env.now) c.args.ty c.args.expr.now in
-    let typed : flaw_of c.in_ok-type_code.field-0 ≡ flaw = constant_typed (g.E.Env.answers c.args.env.now) c.args.ty c.args.expr.now
+    let flaw : Option Flaw = constant_flaw (g.E.Scope.answers c.args.env.now) c.args.ty c.args.expr.now in
+    let typed : flaw_of c.in_ok-type_code.field-0 ≡ flaw = constant_typed (g.E.Scope.answers c.args.env.now) c.args.ty c.args.expr.now
     c.tokens.result.1.now c.tokens.result.0.now c.none.result c.one.result.now c.in_ok-type_code.field-0 c.tokens.ensures.tokens
     c.in_default.ensures c.none.ensures c.one.ensures c.in_ok-type_code.ensures in
     elim c.match-branch-2.branch [

@@ -8,13 +8,13 @@ loop-at-init g c = refl
 
 pub returns-then-not-is_constant : goal.returns-then-not-is_constant
 returns-then-not-is_constant g c =
-    varying_here (g.E.Env.answers c.args.env.now) c.args.tokens.now c.loop-at.at Unreachable c.loop-at-test.true c.loop-at.invariant
+    varying_here (g.E.Scope.answers c.args.env.now) c.args.tokens.now c.loop-at.at Unreachable c.loop-at-test.true c.loop-at.invariant
     (sym c.is_constant.ensures ∙ c.if-not-is_constant.true)
 
 pub loop-at-preserved : goal.loop-at-preserved
 loop-at-preserved g c =
-    varying_behind (g.E.Env.answers c.args.env.now) c.args.tokens.now c.loop-at.at Unreachable c.loop-at-test.true c.loop-at.invariant
+    varying_behind (g.E.Scope.answers c.args.env.now) c.args.tokens.now c.loop-at.at Unreachable c.loop-at-test.true c.loop-at.invariant
     (sym c.is_constant.ensures ∙ c.if-not-is_constant.false)
 
 pub returns : goal.returns
-returns g c = varying_none (g.E.Env.answers c.args.env.now) c.args.tokens.now c.loop-at.at c.loop-at-test.false c.loop-at.invariant
+returns g c = varying_none (g.E.Scope.answers c.args.env.now) c.args.tokens.now c.loop-at.at c.loop-at-test.false c.loop-at.invariant

@@ -5,4 +5,4 @@ use Rattle.wk_typing.proofs.control.are_known.Given as goal
 
 abbrev pub invariant-loop-each : goal.invariant-loop-each
 invariant-loop-each g l =
-    all_known (labels_of (g.E.Env.answers l.env) l.s) l.labels ≡ all_known (labels_of (g.E.Env.answers l.env) l.s) (drop l.each-index l.labels)
+    all_known (labels_of (g.E.Scope.answers l.env) l.s) l.labels ≡ all_known (labels_of (g.E.Scope.answers l.env) l.s) (drop l.each-index l.labels)

@@ -6,7 +6,7 @@ use Rattle.wk_typing.proofs.fast_path.br.Goals as goal
 
 pub returns : goal.returns
 returns g c =
-    let A = g.E.Env.answers c.args.env.now in
+    let A = g.E.Scope.answers c.args.env.now in
     let empty = c.in-Some-default-Empty in
     let head = rw empty.field-0-1-is at (sym empty.is ∙ c.head.ensures) in
     let label : slice_get (labels_of A c.args.s.now) c.args.x ≡ Some [] = label_none A c.args.s.now c.args.x empty.field-0-0 head in

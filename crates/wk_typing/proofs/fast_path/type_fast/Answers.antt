@@ -25,7 +25,7 @@ returns-in-11-clause-taken g c = λ profile.
 pub returns-in-11-clause-last : goal.returns-in-11-clause-last
 returns-in-11-clause-last g c = λ profile.
     let o = c.fast_end in
-    let last = last_end (g.E.Env.answers c.args.env.now) c.args.f.now profile c.args.reader.now o.new.reader c.args.cursor.now c.byte.new.self
+    let last = last_end (g.E.Scope.answers c.args.env.now) c.args.f.now profile c.args.reader.now o.new.reader c.args.cursor.now c.byte.new.self
     c.byte.new.self c.args.s.now o.new.s (rw c.in-11.is at c.in-Ok.ensures.exact) in
     peek_where Last o.result (λ none. (last none.0, none.1)) o.ensures.last
 

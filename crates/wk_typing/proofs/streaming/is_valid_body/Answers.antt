@@ -11,11 +11,11 @@ not_true is = absurd cc
 
 pub returns : goal.returns
 returns g c =
-    let P : Bool → Type 0 = λ x. (x ≡ true → IsValidBody (g.E.Env.answers c.args.env.now) c.args.own_type c.args.profile c.args.code.now) in
+    let P : Bool → Type 0 = λ x. (x ≡ true → IsValidBody (g.E.Scope.answers c.args.env.now) c.args.own_type c.args.profile c.args.code.now) in
     elim c.if-branch.branch [
       | then-branch w ↦ subst P (sym w.result-is) (λ is.
           rw c.ahead-cursor.ensures.same at
-          (valid_body (g.E.Env.answers c.args.env.now) c.args.own_type c.args.profile c.ahead-cursor.result c.next_groups.new.cursor
+          (valid_body (g.E.Scope.answers c.args.env.now) c.args.own_type c.args.profile c.ahead-cursor.result c.next_groups.new.cursor
           c.type_expr.new.cursor c.next_groups.new.groups.items (sym c.check_known.ensures ∙ c.in-Ok.is)
           c.in_default-next_groups.ensures.exact.0 c.in_default-next_groups.ensures.exact.1
           (rw (c.of.ensures, c.params-parameters.ensures, c.results.ensures, c.deref-3.ensures.value) at c.in_ok-type_expr.ensures
