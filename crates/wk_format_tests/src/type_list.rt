@@ -1,9 +1,9 @@
-//! Function types that are read into room that is used again.
+//! Function types whose lists lie in one room, which is used again.
 
 use std::alloc::{AllocError, Global};
 use std::test::Fail;
 use wk_bytes::{Cursor, ReadFault, ReadKind};
-use wk_module::{FuncType, TypeList, ValType};
+use wk_module::{FuncTypeRef, TypeList, ValType};
 
 const I32: ValType = ValType::I32;
 
@@ -31,43 +31,41 @@ const ARE_OTHERS: [Row; 4] = [
 ];
 
 // Reads so many types.
-fn read_types(
-    alloc: Global,
-    list: &mut TypeList,
-    bytes: &[u8],
-    count: usize,
-) -> Result<usize, ReadFault> {
+fn read_types(list: &mut TypeList, bytes: &[u8], count: usize) -> Result<usize, ReadFault> {
     if bytes.len() > 1000 {
         return Ok(bytes.len());
     }
     let mut cursor = Cursor::new(bytes);
     for _ in 0..count {
-        list.read_next(alloc, &mut cursor)?;
+        list.read_next(&mut cursor)?;
     }
     Ok(cursor.rest().len())
 }
 
-fn is_type(ty: &FuncType, row: Row) -> bool {
-    ty.params.as_slice() == row.0 && ty.results.as_slice() == row.1
+fn is_type(ty: Option<FuncTypeRef<'_>>, row: Option<&Row>) -> bool {
+    match (ty, row) {
+        (Some(ty), Some(row)) => ty.params == row.0 && ty.results == row.1,
+        (None, None) => true,
+        _ => false,
+    }
 }
 
 // Whether the list has these types and no others.
 fn are(list: &TypeList, rows: &[Row]) -> bool {
-    let types = list.as_slice();
-    if types.len() != rows.len() {
-        return false;
-    }
-    for (ty, row) in types.iter().zip(rows) {
-        if !is_type(ty, *row) {
+    for (place, row) in rows.iter().enumerate() {
+        if !is_type(list.get(place), Some(row)) {
             return false;
         }
     }
-    true
+    list.len() == rows.len()
+        && list.get(rows.len()).is_none()
+        && list.get(usize::MAX).is_none()
+        && is_type(list.last(), rows.last())
 }
 
 // Whether these types are read, with nothing left.
-fn reads(alloc: Global, list: &mut TypeList, bytes: &[u8], rows: &[Row]) -> bool {
-    read_types(alloc, list, bytes, rows.len()) == Ok(0) && are(list, rows)
+fn reads(list: &mut TypeList, bytes: &[u8], rows: &[Row]) -> bool {
+    read_types(list, bytes, rows.len()) == Ok(0) && are(list, rows)
 }
 
 // A type with so many parameters and so many results, at most 127 of each.
@@ -83,15 +81,15 @@ fn wide(alloc: Global, params: u8, results: u8) -> Result<Vec<u8>, AllocError> {
     Ok(bytes)
 }
 
-fn are_wide(list: &TypeList, params: u8, results: u8) -> bool {
-    match list.as_slice() {
-        [ty] => {
+fn is_wide(ty: Option<FuncTypeRef<'_>>, params: u8, results: u8) -> bool {
+    match ty {
+        Some(ty) => {
             ty.params.len() == usize::from(params)
                 && ty.results.len() == usize::from(results)
-                && ty.params.as_slice().iter().all(|ty| *ty == I64)
-                && ty.results.as_slice().iter().all(|ty| *ty == I64)
+                && ty.params.iter().all(|ty| *ty == I64)
+                && ty.results.iter().all(|ty| *ty == I64)
         }
-        _ => false,
+        None => false,
     }
 }
 
@@ -99,10 +97,10 @@ fn are_wide(list: &TypeList, params: u8, results: u8) -> bool {
 fn reads_wide(alloc: Global, list: &mut TypeList, params: u8, results: u8) -> bool {
     match wide(alloc, params, results) {
         Ok(bytes) => {
-            let is_read = read_types(alloc, list, &bytes, 1) == Ok(0);
-            let is_so = are_wide(list, params, results);
+            let is_read = read_types(list, &bytes, 1) == Ok(0);
+            let is_so = is_wide(list.get(0), params, results) && is_wide(list.last(), params, results);
             list.clear();
-            is_read && is_so && list.as_slice().is_empty()
+            is_read && is_so && are(list, &[])
         }
         Err(_) => false,
     }
@@ -123,7 +121,7 @@ fn reads_in_turns(alloc: Global) -> bool {
         if !reads_wide(alloc, &mut list, params, results) {
             return false;
         }
-        if !reads(alloc, &mut list, OTHERS, &ARE_OTHERS) {
+        if !reads(&mut list, OTHERS, &ARE_OTHERS) {
             return false;
         }
         list.clear();
@@ -134,20 +132,44 @@ fn reads_in_turns(alloc: Global) -> bool {
 // One list, over and over.
 fn reads_again(alloc: Global) -> bool {
     let mut list = TypeList::new(alloc);
-    let is_new = list.as_slice().is_empty();
-    let is_first = reads(alloc, &mut list, THREE, &ARE_THREE);
+    let is_new = are(&list, &[]);
+    let is_first = reads(&mut list, THREE, &ARE_THREE);
     list.clear();
-    let is_clear = list.as_slice().is_empty();
-    let is_second = reads(alloc, &mut list, OTHERS, &ARE_OTHERS);
+    let is_clear = are(&list, &[]);
+    let is_second = reads(&mut list, OTHERS, &ARE_OTHERS);
     list.clear();
     list.clear();
-    is_new && is_first && is_clear && is_second && reads(alloc, &mut list, THREE, &ARE_THREE)
+    is_new && is_first && is_clear && is_second && reads(&mut list, THREE, &ARE_THREE)
+}
+
+// Whether the types are those of `THREE`, so many times one after the other.
+fn are_threes(list: &TypeList, times: usize) -> bool {
+    for place in 0..list.len() {
+        if !is_type(list.get(place), ARE_THREE.get(place % 3)) {
+            return false;
+        }
+    }
+    list.len() / 3 == times && list.len() % 3 == 0 && list.get(list.len()).is_none()
+}
+
+// More types than take no memory for where they lie, and more value types than room is made for at first: those in front stay as they are.
+fn reads_many(alloc: Global) -> bool {
+    let mut list = TypeList::new(alloc);
+    for times in 0..40 {
+        if !are_threes(&list, times) || read_types(&mut list, THREE, 3) != Ok(0) {
+            return false;
+        }
+    }
+    let are_many = are_threes(&list, 40) && is_type(list.last(), ARE_THREE.last());
+    list.clear();
+    are_many && are(&list, &[]) && reads(&mut list, OTHERS, &ARE_OTHERS)
 }
 
 #[test]
 fn reads_types_in_room_of_others(rt: HostRuntime) -> Result<(), Fail> {
     assert!(rt; reads_again(rt.alloc()));
     assert!(rt; reads_in_turns(rt.alloc()));
+    assert!(rt; reads_many(rt.alloc()));
     Ok(())
 }
 
@@ -168,25 +190,25 @@ const BAD: [(&[u8], ReadKind, u32); 8] = [
 ];
 
 // Whether the fault comes, and the list stays.
-fn refuses(alloc: Global, list: &mut TypeList, row: (&[u8], ReadKind, u32)) -> bool {
+fn refuses(list: &mut TypeList, row: (&[u8], ReadKind, u32)) -> bool {
     let fault = ReadFault {
         kind: row.1,
         at: row.2,
     };
     row.0.len() <= 8
-        && list.read_next(alloc, &mut Cursor::new(row.0)) == Err(fault)
+        && list.read_next(&mut Cursor::new(row.0)) == Err(fault)
         && are(list, &ARE_THREE)
 }
 
-// The first of them that is not refused so, in new room or in that of a type that was cleared away.
+// The first of them that is not refused so, in new room or in that of types that were cleared away.
 fn wrong_fault(alloc: Global) -> Option<usize> {
     let mut list = TypeList::new(alloc);
     for (place, row) in BAD.iter().enumerate() {
-        if !reads(alloc, &mut list, THREE, &ARE_THREE) || !refuses(alloc, &mut list, *row) {
+        if !reads(&mut list, THREE, &ARE_THREE) || !refuses(&mut list, *row) {
             return Some(place);
         }
         list.clear();
-        if !reads(alloc, &mut list, OTHERS, &ARE_OTHERS) {
+        if !reads(&mut list, OTHERS, &ARE_OTHERS) {
             return Some(100 + place);
         }
         list.clear();
@@ -202,7 +224,6 @@ fn keeps_the_first(alloc: Global) -> bool {
         at: 10,
     };
     read_types(
-        alloc,
         &mut list,
         b"\x60\x02\x7f\x7e\x01\x7d\x60\x03\x7f\x7f\x7b",
         2,
