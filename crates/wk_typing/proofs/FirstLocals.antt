@@ -7,10 +7,7 @@ use Rattle.std.proofs.lemmas.Option.{slice_get_read}
 use Rattle.wk_body.specs.declared.types.ValType.{ValType}
 use Rattle.wk_body.specs.declared.types.LocalGroup.{LocalGroup}
 use Rattle.wk_typing.specs.Effects.{type_in_groups, local_type}
-
--- The locals are those that are written, and behind them those of the groups from an index on.
-abbrev pub AreWritten : List ValType → List LocalGroup → ℕ → List ValType → Type 0
-AreWritten params groups at first = (x : ℕ) → local_type first (drop at groups) x ≡ local_type params groups x
+use Rattle.wk_typing.specs.Locals.{AreFirst}
 
 at_copies : (n : ℕ) (t : ValType) (x : ℕ) → x < n → slice_get (replicate n t) x ≡ Some t
 at_copies n t x inside = slice_get_read (replicate n t) n x t (sym (length-replicate n t)) inside (sym (get_or-replicate n x t t inside))
@@ -50,16 +47,8 @@ one_group (t ∷ ts) g gs (suc x) = at_tail t (ts ++ replicate g.count g.ty) gs 
 
 -- the locals of the next group are written
 pub written_more : (params : List ValType) (groups : List LocalGroup) (at : ℕ) (first : List ValType) (g : LocalGroup) → at < length groups
-    → AreWritten params groups at first
-    → AreWritten params groups (at + 1) (first ++ replicate (get_or groups at g).count (get_or groups at g).ty)
+    → AreFirst params groups at first
+    → AreFirst params groups (at + 1) (first ++ replicate (get_or groups at g).count (get_or groups at g).ty)
 written_more params groups at first g inside w = λ x.
     one_group first (get_or groups at g) (drop (at + 1) groups) x
     ∙ sym (at_drop_more (λ (gs : List LocalGroup). local_type first gs x) groups at g inside) ∙ w x
-
-below : (first : List ValType) (gs : List LocalGroup) (x : ℕ) → x < length first → local_type first gs x ≡ slice_get first x
-below first gs x inside = rw (lt-ltb x (length first) inside) refl
-
--- what is written where a list is lengthened
-pub lengthened : (first : List ValType) (len n count : ℕ) (t : ValType) → len ≡ length first → n ≡ len + count
-    → take n first ++ replicate (n - len) t ≡ first ++ replicate count t
-lengthened first len n count t l e = rw (take_all n first (omega arith)) (ap (λ (k : ℕ). first ++ replicate k t) (omega arith))

@@ -5,11 +5,11 @@ use Rattle.std.specs.Option.{IsSomeAnd}
 use Rattle.std.specs.Slice.{IsItemAt}
 use Rattle.std.specs.List.Sorted.{IsNonDecreasingBy, IsPartitionPoint}
 use Rattle.std.proofs.lemmas.Bool.{lt-ltb, le-ltb, leb-true, leb-false, ltb-true, ltb-false}
-use Rattle.std.proofs.lemmas.List.{append-nil, at_drop_more, drop_all}
+use Rattle.std.proofs.lemmas.List.{append-nil, at_drop_more, drop_all, length-drop}
 use Rattle.std.proofs.lemmas.Option.{slice_get_past, slice_get_read}
 use Rattle.wk_body.specs.declared.types.ValType.{ValType}
 use Rattle.wk_body.specs.declared.types.LocalGroup.{LocalGroup}
-use Rattle.wk_body.specs.Bodies.{local_count}
+use Rattle.wk_body.specs.Bodies.{local_count, AreGroups}
 use Rattle.wk_typing.specs.Effects.{type_in_groups}
 use Rattle.wk_typing.specs.Locals.{ends_from}
 
@@ -47,6 +47,20 @@ ending_more groups at total ends g inside p = record {
 pub ending_last : (groups : List LocalGroup) (at total : ℕ) (ends : List ℕ) → length groups ≤ at → AreEnding groups at total ends → ends ≡ ends_from 0 groups
 ending_last groups at total ends past p =
     sym (append-nil ends) ∙ ap (λ (gs : List LocalGroup). ends ++ ends_from total gs) (sym (drop_all at groups past)) ∙ p.written
+
+few_behind : (groups : List LocalGroup) (n : ℕ) → local_count (drop n groups) ≤ local_count groups
+few_behind groups zero = omega arith
+few_behind [] (suc n) = omega arith
+few_behind (g ∷ gs) (suc n) =
+    let rest = few_behind gs n in
+    omega arith
+
+-- groups behind others are ones that bytes can spell, too
+pub groups_behind : (groups : List LocalGroup) (n : ℕ) → AreGroups groups → AreGroups (drop n groups)
+groups_behind groups n are =
+    let counted = are.counted in
+    let few = are.few in
+    record { counted = omega (arith, length-drop n groups); few = omega (arith, few_behind groups n) }
 
 -- ---- the ends never fall
 

@@ -1,5 +1,5 @@
 -- Locals by groups: where each group ends.
-use Rattle.std.specs.Prelude.{◌≡◌, ℕ, ◌+◌, ◌^◌, ◌<◌, Bool, nat_lt, List, [], ◌∷◌, length, slice_get}
+use Rattle.std.specs.Prelude.{◌≡◌, ℕ, ◌+◌, ◌^◌, Bool, nat_lt, List, [], ◌∷◌, drop}
 use Rattle.wk_body.specs.declared.types.ValType.{ValType}
 use Rattle.wk_body.specs.declared.types.LocalGroup.{LocalGroup}
 use Rattle.wk_typing.specs.Effects.{local_type}
@@ -14,9 +14,9 @@ abbrev pub ends_from : ℕ → List LocalGroup → List ℕ
 ends_from n [] = []
 ends_from n (g ∷ gs) = (n + g.count) ∷ ends_from (n + g.count) gs
 
--- these are the types of the first locals
-abbrev pub AreFirst : List ValType → List LocalGroup → List ValType → Type 0
-AreFirst params groups first = (x : ℕ) → x < length first → slice_get first x ≡ local_type params groups x
+-- all locals are those of these types, and behind them those of the groups from an index on
+abbrev pub AreFirst : List ValType → List LocalGroup → ℕ → List ValType → Type 0
+AreFirst params groups at first = (x : ℕ) → local_type first (drop at groups) x ≡ local_type params groups x
 
 -- a power of two is above a number
 abbrev pub is_over : ℕ → ℕ → Bool

@@ -1,16 +1,17 @@
 //! The locals of a function.
 
-ghost use Rattle.std.specs.Prelude.{◌≡◌, ◌<◌, ◌^◌, [], OnOk};
+ghost use Rattle.std.specs.Prelude.{◌≡◌, ◌+◌, ◌≤◌, ◌<◌, ◌^◌, [], ◌++◌, length, replicate, IfOk, OnOk};
 ghost use Rattle.wk_body.specs.Bodies.{AreGroups};
 ghost use Rattle.wk_typing.specs.Effects.{local_type, type_in_groups};
 ghost use Rattle.wk_typing.specs.Locals.{ends_from, AreFirst};
 
+use std::alloc::Global;
 use std::marker::Model;
 use wk_bytes::OutOfMemory;
 use wk_module::{LocalGroup, ValType};
 
 /// Writes into `ends` the number of locals up to the end of each group. The groups declare fewer than 2^32.
-pub(crate) fn put_ends(groups: &[LocalGroup], ends: &mut Vec<u32>) -> Result<(), OutOfMemory>
+fn put_ends(groups: &[LocalGroup], ends: &mut Vec<u32>) -> Result<(), OutOfMemory>
     requires { AreGroups groups.now }
     ensures { OnOk result (ends.new.items ≡ ends_from 0 groups.now) }
 {
@@ -26,96 +27,187 @@ pub(crate) fn put_ends(groups: &[LocalGroup], ends: &mut Vec<u32>) -> Result<(),
 // Of how many locals the types are written out at the most, so that a body of a few bytes with many locals takes little time.
 const MAX_WRITTEN: usize = 256;
 
-/// Writes into `first` the types of the first locals, one by one: those of the parameters and of the groups behind them, up to the
-/// first group that does not fit whole.
-pub(crate) fn put_first(
-    params: &[ValType],
-    groups: &[LocalGroup],
-    first: &mut Vec<ValType>,
-) -> Result<(), OutOfMemory>
-    ensures { OnOk result (AreFirst params.now groups.now first.new.items) }
-{
-    first.clear();
-    if params.len() > MAX_WRITTEN {
-        return Ok(());
-    }
-    first.extend_from_slice(params)?;
-    for group in groups {
-        let len = first.len() + group.count as usize;
-        if len > MAX_WRITTEN {
-            return Ok(());
-        }
-        first.resize(len, group.ty)?;
-    }
-    Ok(())
+// The types of the first locals, one by one. They lie in the value itself, so they ask for no memory.
+#[derive(Debug, Drop)]
+struct FirstLocals {
+    types: [ValType; MAX_WRITTEN],
+    len: usize,
 }
 
-/// The locals of a function: its parameters, then those of its groups. The types of the first ones are written out, and the
-/// others are found by where the groups end. So billions of locals in one group take no room.
+impl Model for FirstLocals {
+    ghost use Rattle.std.specs.Prelude.{◌≡◌, ◌≤◌, List, length, take};
+    ghost use Rattle.wk_body.specs.declared.types.ValType.{ValType};
+
+    ghost Value = { List ValType };
+
+    ghost view = { λ f. take f.len f.types };
+
+    ghost invariant = { λ f. (f.len ≤ 256) × (length f.types ≡ 256) };
+}
+
+impl FirstLocals {
+    // None.
+    fn new() -> FirstLocals
+        ensures { result ≡ [] }
+    {
+        FirstLocals {
+            types: [ValType::I32; MAX_WRITTEN],
+            len: 0,
+        }
+    }
+
+    // Begins anew with these.
+    fn begin(&mut self, types: &[ValType])
+        requires { length types.now ≤ MAX_WRITTEN }
+        ensures { self.new ≡ types.now }
+    {
+        let len = types.len();
+        self.types[..len].copy_from_slice(types);
+        self.len = len;
+    }
+
+    // So many more of one type.
+    fn extend(&mut self, count: usize, ty: ValType)
+        requires { length self.old + count ≤ MAX_WRITTEN }
+        ensures { self.new ≡ self.old ++ replicate count ty }
+    {
+        let start = self.len;
+        let end = start + count;
+        self.types[start..end].fill(ty);
+        self.len = end;
+    }
+
+    // How many there are.
+    fn len(&self) -> usize
+        ensures value { result ≡ length self.now }
+        ensures fits { result ≤ MAX_WRITTEN }
+    {
+        self.len
+    }
+
+    // All of them.
+    fn as_slice(&self) -> &[ValType]
+        ensures { result.now ≡ self.now }
+    {
+        &self.types[..self.len]
+    }
+
+    // Writes the types of parameters and of the groups behind them, up to the first group that does not fit whole. It tells how many
+    // groups are written.
+    fn put(&mut self, params: &[ValType], groups: &[LocalGroup]) -> usize
+        requires { length params.now ≤ MAX_WRITTEN }
+        ensures within { result ≤ length groups.now }
+        ensures written { AreFirst params.now groups.now result self.new }
+    {
+        self.begin(params);
+        let mut written = 0;
+        for group in groups {
+            let count = group.count as usize;
+            if self.len() + count > MAX_WRITTEN {
+                return written;
+            }
+            self.extend(count, group.ty);
+            written += 1;
+        }
+        written
+    }
+}
+
+/// The room for the locals of a body. It is used again from one body to the next, and its value is the unit, since no clause speaks of
+/// what it holds.
+#[derive(Debug, Drop)]
+pub(crate) struct LocalsRoom {
+    first: FirstLocals,
+    ends: Vec<u32>,
+}
+
+impl Model for LocalsRoom {
+    ghost Value = { Unit {0} };
+
+    ghost view = { λ _. tt };
+}
+
+impl LocalsRoom {
+    /// Room that takes no memory yet.
+    pub(crate) fn new(alloc: Global) -> LocalsRoom {
+        LocalsRoom {
+            first: FirstLocals::new(),
+            ends: Vec::new(alloc),
+        }
+    }
+}
+
+/// The locals of a function: those whose types are written out, and behind them those of groups, which are found by where the groups
+/// end. So billions of locals in one group take no room.
 #[derive(Drop)]
 pub(crate) struct Locals<'a> {
-    params: &'a [ValType],
-    groups: &'a [LocalGroup],
-    ends: &'a [u32],
     first: &'a [ValType],
+    far: &'a [LocalGroup],
+    ends: &'a [u32],
 }
 
 impl<'a> Model for Locals<'a> {
     ghost use Rattle.std.specs.Prelude.{◌≡◌};
-    ghost use Rattle.wk_typing.specs.Locals.{LocalsOf, ends_from, AreFirst};
+    ghost use Rattle.wk_typing.specs.Locals.{LocalsOf, ends_from};
 
     ghost Value = { LocalsOf };
 
-    ghost view = { λ l. record { params = l.params.now; groups = l.groups.now } };
+    ghost view = { λ l. record { params = l.first.now; groups = l.far.now } };
 
-    ghost invariant = { λ l. (l.ends.now ≡ ends_from 0 l.groups.now)
-        × AreFirst l.params.now l.groups.now l.first.now };
+    ghost invariant = { λ l. l.ends.now ≡ ends_from 0 l.far.now };
 }
 
 impl<'a> Locals<'a> {
-    /// These parameters and groups, whose ends were counted, and the types of the first of them.
+    /// The locals of these parameters and groups. Those that are too many to be written out are parameters already, or else in groups,
+    /// and only the ends of these groups ask for memory.
     pub(crate) fn of(
         params: &'a [ValType],
         groups: &'a [LocalGroup],
-        ends: &'a [u32],
-        first: &'a [ValType],
-    ) -> Locals<'a>
-        requires counted { ends.now ≡ ends_from 0 groups.now }
-        requires written { AreFirst params.now groups.now first.now }
-        ensures { result ≡ record { params = params.now; groups = groups.now } }
+        room: &'a mut LocalsRoom,
+    ) -> Result<Locals<'a>, OutOfMemory>
+        requires { AreGroups groups.now }
+        ensures { IfOk result
+            (λ l. local_type l.params l.groups ≡ local_type params.now groups.now) }
     {
-        Locals {
-            params,
-            groups,
-            ends,
-            first,
+        let LocalsRoom { first, ends } = room;
+        if params.len() > MAX_WRITTEN {
+            put_ends(groups, ends)?;
+            return Ok(Locals {
+                first: params,
+                far: groups,
+                ends,
+            });
         }
+        let written = first.put(params, groups);
+        let far = &groups[written..];
+        put_ends(far, ends)?;
+        Ok(Locals {
+            first: first.as_slice(),
+            far,
+            ends,
+        })
     }
 
     /// No locals.
     pub(crate) fn none() -> Locals<'static>
         ensures { result ≡ record { params = []; groups = [] } }
     {
-        Locals::of(&[], &[], &[], &[])
+        Locals {
+            first: &[],
+            far: &[],
+            ends: &[],
+        }
     }
 
-    // The type of a local that is not written out.
+    // The type of a local that is not written out, by where the groups end.
     #[inline(never)]
     fn far_ty(&self, x: usize) -> Option<ValType>
+        requires { length self.now.params ≤ x }
         ensures { result ≡ local_type self.now.params self.now.groups x }
     {
-        if x < self.params.len() {
-            return Some(self.params[x]);
-        }
-        self.ty_by_ends(x - self.params.len())
-    }
-
-    // The type of a local behind the parameters, by where the groups end.
-    fn ty_by_ends(&self, at: usize) -> Option<ValType>
-        ensures { result ≡ type_in_groups self.now.groups at }
-    {
+        let at = x - self.first.len();
         let group = self.ends.partition_point(|end| *end as usize <= at);
-        self.groups.get(group).map(|found| found.ty)
+        self.far.get(group).map(|found| found.ty)
     }
 
     /// The type of a local, or nothing where there is none of that index.

@@ -1,6 +1,6 @@
 //! The operand stack and the control frames.
 
-ghost use Rattle.std.specs.Prelude.{◌≡◌, true, false, Ok, OnOk, IsTrue};
+ghost use Rattle.std.specs.Prelude.{◌≡◌, ◌∷◌, [], ◌++◌, true, false, Ok, OnOk, OnErr, IsTrue};
 ghost use Rattle.wk_typing.specs.Own.{popped_any, is_empty};
 ghost use Rattle.wk_typing.specs.Moves.{pushed_on, ctrl_pushed, ctrl_popped, unreachable_on, else_begun, Pops, popped_on, body_of, own_is_empty, own_is_spent, unop_on, binop_on, head_at};
 
@@ -37,6 +37,22 @@ pub(crate) struct Frame {
     pub(crate) unreachable: bool,
     /// The number of operands below its own.
     pub(crate) height: usize,
+}
+
+// For how many operands room is made at first, and for how many blocks within one another: short bodies then ask for memory once.
+const FIRST_OPERANDS: usize = 64;
+const FIRST_FRAMES: usize = 16;
+
+// A frame at the end of the others, where there may be no room.
+#[cold]
+#[inline(never)]
+fn push_frame(frames: &mut Vec<Frame>, frame: Frame) -> Result<(), OutOfMemory>
+    ensures ok { OnOk result (frames.new.items ≡ frames.old.items ++ frame ∷ []) }
+    ensures err { OnErr result (frames.new.items ≡ frames.old.items) }
+{
+    frames.reserve(FIRST_FRAMES)?;
+    frames.push_reserved(frame);
+    Ok(())
 }
 
 /// The open blocks, each with its own stack, which a contract sees: one operand stack of all of them, cut by control frames.
@@ -95,7 +111,8 @@ impl Stacks {
     fn push_growing(&mut self, x: Operand) -> Result<(), OutOfMemory>
         ensures { OnOk result (self.new ≡ pushed_on x self.old) }
     {
-        self.operands.push(x)?;
+        self.operands.reserve(FIRST_OPERANDS)?;
+        self.operands.push_reserved(x);
         Ok(())
     }
 
@@ -196,7 +213,7 @@ impl Stacks {
         if self.outer.len() < self.outer.capacity() {
             self.outer.push_reserved(self.inner);
         } else {
-            self.outer.push(self.inner)?;
+            push_frame(&mut self.outer, self.inner)?;
         }
         self.inner = Frame {
             kind,

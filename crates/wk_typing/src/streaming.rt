@@ -11,14 +11,14 @@ use crate::env::Scope;
 use crate::fast_blocks::FastStep;
 use crate::fast_extended::{fast_open_indexed, fast_sign_extend};
 use crate::fast_path::type_fast;
-use crate::locals::{Locals, put_ends, put_first};
+use crate::locals::{Locals, LocalsRoom};
 use crate::stacks::Stacks;
 use crate::step::{Function, type_token};
 use crate::stop::Stop;
 use std::alloc::Global;
 use std::marker::Model;
 use wk_bytes::{Cursor, OutOfMemory, ReadFault, ReadKind};
-use wk_module::{BlockType, LocalGroup, Profile, TokenReader, ValType, next_groups};
+use wk_module::{BlockType, LocalGroup, Profile, TokenReader, next_groups};
 
 // The tokens and the open blocks, which go on together.
 #[derive(Debug, Drop)]
@@ -33,8 +33,7 @@ struct Stream {
 pub struct StreamRoom {
     stream: Stream,
     groups: Vec<LocalGroup>,
-    ends: Vec<u32>,
-    first: Vec<ValType>,
+    locals: LocalsRoom,
 }
 
 impl Model for StreamRoom {
@@ -54,8 +53,7 @@ impl StreamRoom {
                 stacks: Stacks::new(alloc),
             },
             groups: Vec::new(alloc),
-            ends: Vec::new(alloc),
-            first: Vec::new(alloc),
+            locals: LocalsRoom::new(alloc),
         }
     }
 }
@@ -247,18 +245,14 @@ pub(crate) fn is_valid_body<E: Scope>(
     let StreamRoom {
         stream,
         groups,
-        ends,
-        first,
+        locals,
     } = room;
     let mut cursor = code.ahead();
     if let Err(fault) = next_groups(groups, &mut cursor) {
         return verdict_of_fault(&fault);
     }
-    put_ends(groups, ends)?;
-    let parameters = params(env, block);
-    put_first(parameters, groups, first)?;
     let f = Function {
-        locals: Locals::of(parameters, groups, ends, first),
+        locals: Locals::of(params(env, block), groups, locals)?,
         results: results(env, block),
     };
     Ok(type_expr(env, &f, block, profile, stream, &mut cursor)? && cursor.rest().is_empty())

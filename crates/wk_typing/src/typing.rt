@@ -11,22 +11,21 @@ ghost use Rattle.wk_typing.specs.Typing.{code_result, body_verdict};
 use crate::control::{check_end, check_known, params, results};
 use crate::env::Scope;
 use crate::fault::{BodyVerdict, FaultKind};
-use crate::locals::{Locals, put_ends, put_first};
+use crate::locals::{Locals, LocalsRoom};
 use crate::stacks::Stacks;
 use crate::step::{Function, type_token};
 use crate::stop::Stop;
 use std::alloc::Global;
 use std::marker::Model;
 use wk_bytes::OutOfMemory;
-use wk_module::{BlockType, Body, Expr, Token, ValType};
+use wk_module::{BlockType, Body, Expr, Token};
 
 /// The room in which code is typed: an operand stack, the control frames, and the locals of a body. It is used again from one body to
 /// the next, and its value is the unit, since no verdict depends on what it holds.
 #[derive(Debug, Drop)]
 pub struct Room {
     pub(crate) stacks: Stacks,
-    ends: Vec<u32>,
-    first: Vec<ValType>,
+    locals: LocalsRoom,
 }
 
 impl Model for Room {
@@ -42,8 +41,7 @@ impl Room {
     {
         Room {
             stacks: Stacks::new(alloc),
-            ends: Vec::new(alloc),
-            first: Vec::new(alloc),
+            locals: LocalsRoom::new(alloc),
         }
     }
 }
@@ -121,16 +119,8 @@ pub fn type_body<E: Scope>(
         Ok(()) => {}
         Err(kind) => return Ok(BodyVerdict::Invalid { kind, token: 0 }),
     }
-    put_ends(body.groups(), &mut room.ends)?;
-    let parameters = params(env, block);
-    put_first(parameters, body.groups(), &mut room.first)?;
     let f = Function {
-        locals: Locals::of(
-            parameters,
-            body.groups(),
-            room.ends.as_slice(),
-            room.first.as_slice(),
-        ),
+        locals: Locals::of(params(env, block), body.groups(), &mut room.locals)?,
         results: results(env, block),
     };
     match type_code(env, &f, block, body.expr(), &mut room.stacks)? {

@@ -18,7 +18,7 @@ returns g c =
           (valid_body (g.E.Scope.answers c.args.env.now) c.args.own_type c.args.profile c.ahead-cursor.result c.next_groups.new.cursor
           c.type_expr.new.cursor c.next_groups.new.groups.items (sym c.check_known.ensures ∙ c.in-Ok.is)
           c.in_default-next_groups.ensures.exact.0 c.in_default-next_groups.ensures.exact.1
-          (rw (c.of.ensures, c.params-parameters.ensures, c.results.ensures, c.deref-3.ensures.value) at c.in_ok-type_expr.ensures
+          (rw (c.in_ok-of.ensures, c.params.ensures, c.results.ensures, c.deref.ensures.value) at c.in_ok-type_expr.ensures
           w.if-branch.true)
           (sym w.rest.ensures ∙ no_items w.rest.result.now (sym w.is_empty.ensures ∙ is))))
       | else-branch w ↦ subst P (sym w.result-is) (λ is. not_true (sym w.if-branch.false ∙ is))
