@@ -1,8 +1,8 @@
 -- The types of the first locals, written out one by one.
-use Rattle.std.proofs.Common.{◌≡◌, ℕ, zero, suc, ◌+◌, ◌-◌, ◌<◌, ◌≤◌, Bool, true, false, List, [], ◌∷◌, ◌++◌, length, take, drop, get_or, replicate, Some}
+use Rattle.std.proofs.Common.{◌≡◌, ℕ, zero, suc, ◌+◌, ◌-◌, ◌<◌, ◌≤◌, Bool, true, false, List, [], ◌∷◌, ◌++◌, length, drop, get_or, replicate, Some}
 use Rattle.std.proofs.Common.{slice_get, nat_lt, if◌then◌else◌, refl, sym, ap, ◌∙◌, arith}
 use Rattle.std.proofs.lemmas.Bool.{lt-ltb, le-ltb, ltb-true, ltb-false}
-use Rattle.std.proofs.lemmas.List.{at_drop_more, take_all, length-replicate, get_or-replicate}
+use Rattle.std.proofs.lemmas.List.{at_drop_more, length-replicate, get_or-replicate}
 use Rattle.std.proofs.lemmas.Option.{slice_get_read}
 use Rattle.wk_body.specs.declared.types.ValType.{ValType}
 use Rattle.wk_body.specs.declared.types.LocalGroup.{LocalGroup}

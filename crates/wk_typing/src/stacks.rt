@@ -41,6 +41,7 @@ pub(crate) struct Frame {
 
 // For how many operands room is made at first, and for how many blocks within one another: short bodies then ask for memory once.
 const FIRST_OPERANDS: usize = 64;
+
 const FIRST_FRAMES: usize = 16;
 
 // A frame at the end of the others, where there may be no room.

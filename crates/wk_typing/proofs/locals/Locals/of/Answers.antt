@@ -1,9 +1,8 @@
-use Rattle.std.proofs.Common.{◌≡◌, ℕ, ◌-◌, List, length, drop, take, sym, ap, subst, ◌∙◌, arith}
+use Rattle.std.proofs.Common.{◌≡◌, ℕ, ◌-◌, List, length, drop, take, sym, subst, arith}
 use Rattle.std.proofs.Math.Path.{fun_ext}
 use Rattle.std.proofs.lemmas.List.{take_all, length-drop}
 use Rattle.wk_body.specs.declared.types.LocalGroup.{LocalGroup}
 use Rattle.wk_body.specs.Bodies.{AreGroups}
-use Rattle.wk_typing.specs.Effects.{local_type}
 use Rattle.wk_typing.proofs.LocalEnds.{groups_behind}
 use Rattle.wk_typing.proofs.locals.Locals.of.Goals as goal
 
