@@ -39,9 +39,10 @@ pub(crate) struct Frame {
     pub(crate) height: usize,
 }
 
-// For how many operands room is made at first, and for how many blocks within one another: short bodies then ask for memory once.
+// For how many operands room is made at first, so that short bodies ask for memory once.
 const FIRST_OPERANDS: usize = 64;
 
+// For how many frames of outer blocks room is made at first, likewise.
 const FIRST_FRAMES: usize = 16;
 
 // A frame at the end of the others, where there may be no room.
