@@ -4,6 +4,7 @@ pub mod ConstantRules
 pub mod ExportNames
 pub mod FlawLists
 pub mod Flaws
+pub mod FuncSpaces
 pub mod Imported
 pub mod ImportSight
 pub mod JudgedCodes

@@ -38,6 +38,16 @@ use Rattle.wk_check.specs.Spaces.{Spaces, answer_in, spaces_of, imported, func_i
 use Rattle.wk_check.specs.Verdict.{type_flaws, import_flaws, func_flaws, table_flaws, memory_flaws, global_flaws, export_flaws, elem_flaws}
 use Rattle.wk_check.specs.Verdict.{data_flaws, front_fault}
 
+-- The functions of a module, as the indexes of their types: those that are imported, and those that it defines.
+pub record FuncsSoFar : Type 0 where
+  pub imported : List ℕ
+  pub own : List ℕ
+
+-- the first, if there is one, and those behind it
+abbrev pub headed_by : {X : Type 0} → Option X → List X → List X
+headed_by None xs = []
+headed_by (Some x) xs = x ∷ xs
+
 -- What items refer to. Of functions and globals those that are imported stand apart; of tables and memories they come first.
 pub record ModuleContext : Type 0 where
   pub types : List FuncType

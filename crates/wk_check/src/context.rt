@@ -4,6 +4,8 @@ ghost use Rattle.std.specs.Prelude.{◌≡◌, ◌++◌, ◌∷◌, [], length, 
 ghost use Rattle.wk_module.specs.Sections.{no_lists};
 ghost use Rattle.wk_check.specs.Contexts.{context_of, add_desc, add_func, add_table, add_memory};
 
+use crate::few_limits::FewLimits;
+use crate::func_space::FuncSpace;
 use crate::spaces::{IndexSpaces, answer_by};
 use std::alloc::Global;
 use std::marker::Model;
@@ -15,12 +17,10 @@ use wk_typing::{Answer, Env};
 #[derive(Debug, Drop)]
 pub(crate) struct Context {
     pub(crate) types: TypeList,
-    // the index of the type of each imported function, and of each that the module defines
-    imported_funcs: Vec<u32>,
-    funcs: Vec<u32>,
-    // imported ones first
-    tables: Vec<Limits>,
-    memories: Vec<Limits>,
+    // imported ones first, here and below
+    funcs: FuncSpace,
+    tables: FewLimits,
+    memories: FewLimits,
     imported_globals: Vec<GlobalType>,
     globals: Vec<GlobalType>,
 }
@@ -35,10 +35,10 @@ impl Model for Context {
 
     ghost view = { λ c. record {
       types = c.types;
-      imported_funcs = c.imported_funcs.items;
-      funcs = c.funcs.items;
-      tables = c.tables.items;
-      memories = c.memories.items;
+      imported_funcs = c.funcs.imported;
+      funcs = c.funcs.own;
+      tables = c.tables;
+      memories = c.memories;
       imported_globals = c.imported_globals.items;
       globals = c.globals.items;
     } };
@@ -65,10 +65,9 @@ impl Context {
     {
         Context {
             types: TypeList::new(alloc),
-            imported_funcs: Vec::new(alloc),
-            funcs: Vec::new(alloc),
-            tables: Vec::new(alloc),
-            memories: Vec::new(alloc),
+            funcs: FuncSpace::new(alloc),
+            tables: FewLimits::new(alloc),
+            memories: FewLimits::new(alloc),
             imported_globals: Vec::new(alloc),
             globals: Vec::new(alloc),
         }
@@ -79,7 +78,6 @@ impl Context {
         ensures { self.new ≡ context_of no_lists }
     {
         self.types.clear();
-        self.imported_funcs.clear();
         self.funcs.clear();
         self.tables.clear();
         self.memories.clear();
@@ -87,38 +85,37 @@ impl Context {
         self.globals.clear();
     }
 
-    /// Adds what is imported, where so many imports are still to come, this one among them.
-    pub(crate) fn add_import(&mut self, desc: ImportDesc, left: u32) -> Result<(), OutOfMemory>
+    /// Adds what is imported.
+    pub(crate) fn add_import(&mut self, desc: ImportDesc) -> Result<(), OutOfMemory>
         ensures { OnOk result (self.new ≡ add_desc self.old desc) }
     {
         match desc {
-            // Most of them are functions.
-            ImportDesc::Func(ty) => append(&mut self.imported_funcs, ty, left),
-            ImportDesc::Table(limits) => append(&mut self.tables, limits, 1),
-            ImportDesc::Memory(limits) => append(&mut self.memories, limits, 1),
+            ImportDesc::Func(ty) => self.funcs.push_imported(ty),
+            ImportDesc::Table(limits) => self.tables.push(limits),
+            ImportDesc::Memory(limits) => self.memories.push(limits),
             ImportDesc::Global(ty) => append(&mut self.imported_globals, ty, 1),
         }
     }
 
-    /// Adds a function of the type with an index, where so many are still to come.
-    pub(crate) fn add_func(&mut self, ty: u32, left: u32) -> Result<(), OutOfMemory>
+    /// Adds a function of the type with an index.
+    pub(crate) fn add_func(&mut self, ty: u32) -> Result<(), OutOfMemory>
         ensures { OnOk result (self.new ≡ add_func self.old ty) }
     {
-        append(&mut self.funcs, ty, left)
+        self.funcs.push_own(ty)
     }
 
-    /// Adds a table, where so many are still to come.
-    pub(crate) fn add_table(&mut self, limits: Limits, left: u32) -> Result<(), OutOfMemory>
+    /// Adds a table.
+    pub(crate) fn add_table(&mut self, limits: Limits) -> Result<(), OutOfMemory>
         ensures { OnOk result (self.new ≡ add_table self.old limits) }
     {
-        append(&mut self.tables, limits, left)
+        self.tables.push(limits)
     }
 
-    /// Adds a memory, where so many are still to come.
-    pub(crate) fn add_memory(&mut self, limits: Limits, left: u32) -> Result<(), OutOfMemory>
+    /// Adds a memory.
+    pub(crate) fn add_memory(&mut self, limits: Limits) -> Result<(), OutOfMemory>
         ensures { OnOk result (self.new ≡ add_memory self.old limits) }
     {
-        append(&mut self.memories, limits, left)
+        self.memories.push(limits)
     }
 
     /// Adds a global of a type, where so many are still to come.
@@ -133,7 +130,7 @@ impl Context {
     pub(crate) fn funcs(&self) -> &[u32]
         ensures { result.now ≡ self.now.funcs }
     {
-        self.funcs.as_slice()
+        self.funcs.own()
     }
 
     /// The types of the imported globals.
@@ -168,11 +165,7 @@ impl IndexSpaces for Context {
     }
 
     fn func(&self, x: u32) -> Option<u32> {
-        let x = x as usize;
-        if x < self.imported_funcs.len() {
-            return Some(self.imported_funcs[x]);
-        }
-        self.funcs.get(x - self.imported_funcs.len()).copied()
+        self.funcs.get(x)
     }
 
     fn global(&self, x: u32) -> Option<GlobalType> {
@@ -184,8 +177,7 @@ impl IndexSpaces for Context {
     }
 
     fn has_func(&self, x: u32) -> bool {
-        let x = x as usize;
-        x < self.imported_funcs.len() || x - self.imported_funcs.len() < self.funcs.len()
+        (x as usize) < self.funcs.len()
     }
 
     fn has_table(&self, x: u32) -> bool {

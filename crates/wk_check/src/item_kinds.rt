@@ -90,7 +90,7 @@ impl ItemKind for Imports {
         } else {
             None
         };
-        context.add_import(desc, next.left)?;
+        context.add_import(desc)?;
         Ok(flaw)
     }
 }
@@ -121,7 +121,7 @@ impl ItemKind for Funcs {
         _rooms: &mut Rooms,
     ) -> Result<Option<Flaw>, ReadFault> {
         let ty = cursor.u32()?;
-        context.add_func(ty, next.left)?;
+        context.add_func(ty)?;
         if next.is_asked {
             return Ok(flaw_of_type_index(context.types().len(), ty));
         }
@@ -156,7 +156,7 @@ impl ItemKind for Tables {
     ) -> Result<Option<Flaw>, ReadFault> {
         let limits = read_table_type(cursor)?;
         let is_first = context.tables() == 0;
-        context.add_table(limits, next.left)?;
+        context.add_table(limits)?;
         if next.is_asked {
             return Ok(flaw_of_table(&limits, is_first));
         }
@@ -191,7 +191,7 @@ impl ItemKind for Memories {
     ) -> Result<Option<Flaw>, ReadFault> {
         let limits = read_memory_type(cursor)?;
         let is_first = context.memories() == 0;
-        context.add_memory(limits, next.left)?;
+        context.add_memory(limits)?;
         if next.is_asked {
             return Ok(flaw_of_memory(&limits, is_first));
         }

@@ -36,6 +36,8 @@
 mod code_faults;
 mod context;
 mod exports;
+mod few_limits;
+mod func_space;
 mod incremental;
 mod item_kinds;
 mod judge_encoded;
