@@ -6,12 +6,12 @@ ghost use Rattle.wk_check.specs.Contexts.{context_of, add_desc, add_func, add_ta
 
 use crate::few_limits::FewLimits;
 use crate::func_space::FuncSpace;
-use crate::spaces::{IndexSpaces, answer_by};
+use crate::spaces::{IndexSpaces, look_up_in};
 use std::alloc::Global;
 use std::marker::Model;
 use wk_bytes::OutOfMemory;
-use wk_module::{FuncType, GlobalType, ImportDesc, Limits, Ref, TypeList};
-use wk_typing::{Answer, Env};
+use wk_module::{FuncTypeRef, GlobalType, ImportDesc, Limits, Ref, TypeList};
+use wk_typing::{Lookup, Scope};
 
 /// What the items of a module refer to (3.1.1), in room that may be kept from one module to the next.
 #[derive(Debug, Drop)]
@@ -160,10 +160,16 @@ impl IndexSpaces for Context {
 
     ghost spaces = { λ c. spaces_in c };
 
-    fn types(&self) -> &[FuncType] {
-        self.types.as_slice()
+    fn type_count(&self) -> usize {
+        self.types.len()
     }
 
+    #[inline(always)]
+    fn func_type(&self, x: u32) -> Option<FuncTypeRef<'_>> {
+        self.types.get(x as usize)
+    }
+
+    #[inline(always)]
     fn func(&self, x: u32) -> Option<u32> {
         self.funcs.get(x)
     }
@@ -194,7 +200,7 @@ impl IndexSpaces for Context {
     }
 }
 
-impl Env for Context {
+impl Scope for Context {
     ghost use Rattle.wk_check.specs.Contexts.{spaces_in};
     ghost use Rattle.wk_check.specs.Spaces.{answer_in, answers_of_kind};
 
@@ -202,7 +208,8 @@ impl Env for Context {
 
     ghost of_kind = { λ c r. answers_of_kind (spaces_in c) r };
 
-    fn answer(&self, reference: Ref) -> Answer<'_> {
-        answer_by(self, reference)
+    #[inline(always)]
+    fn look_up(&self, reference: Ref) -> Lookup<'_> {
+        look_up_in(self, reference)
     }
 }

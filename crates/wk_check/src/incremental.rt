@@ -42,7 +42,7 @@ pub fn verdict_with_type(profile: Profile, place: u32, ty: &FuncType) -> Verdict
     ensures { (m : PartsOf) → m.profile ≡ profile → length m.types ≡ place
         → module_verdict m ≡ Verdict.Valid → result ≡ module_verdict (with_type ty.now m) }
 {
-    verdict_by_flaw(flaw_of_type(profile, ty), section_id::TYPE, place)
+    verdict_by_flaw(flaw_of_type(profile, ty.as_ref()), section_id::TYPE, place)
 }
 
 /// The verdict of a valid module with so many types to which a function comes, the one of number `place` among those that it

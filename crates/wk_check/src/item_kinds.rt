@@ -23,7 +23,7 @@ use wk_module::{
     DataSeg, Elem, FuncType, GlobalDef, Import, Limits, ValType, read_global_type,
     read_import_desc, read_memory_type, read_sized_bytes, read_table_type,
 };
-use wk_typing::{Env, FaultKind, Flaw, Rooms, next_constant_flaw};
+use wk_typing::{FaultKind, Flaw, Rooms, Scope, next_constant_flaw};
 
 /// Types (5.5.4).
 pub(crate) struct Types;
@@ -44,14 +44,14 @@ impl ItemKind for Types {
 
     #[tactic(auto, unfolding(wk_module::specs::Formats::made_at))]
     fn judge_next(
-        alloc: Global,
+        _alloc: Global,
         context: &mut Context,
         next: &Next,
         cursor: &mut Cursor<'_>,
         _rooms: &mut Rooms,
     ) -> Result<Option<Flaw>, ReadFault> {
-        context.types.read_next(alloc, cursor)?;
-        Ok(match context.types.as_slice().last() {
+        context.types.read_next(cursor)?;
+        Ok(match context.types.last() {
             Some(ty) if next.is_asked => flaw_of_type(next.profile, ty),
             _ => None,
         })
@@ -85,7 +85,7 @@ impl ItemKind for Imports {
     ) -> Result<Option<Flaw>, ReadFault> {
         let desc = read_import_desc(cursor)?;
         let flaw = if next.is_asked {
-            let types = context.types().len();
+            let types = context.type_count();
             flaw_of_import(types, context.tables(), context.memories(), &desc)
         } else {
             None
@@ -123,7 +123,7 @@ impl ItemKind for Funcs {
         let ty = cursor.u32()?;
         context.add_func(ty)?;
         if next.is_asked {
-            return Ok(flaw_of_type_index(context.types().len(), ty));
+            return Ok(flaw_of_type_index(context.type_count(), ty));
         }
         Ok(None)
     }
@@ -201,7 +201,7 @@ impl ItemKind for Memories {
 
 // What is wrong with the constant expression that comes next, where that is asked. Else it is read alone.
 #[tactic(auto, unfolding(wk_module::specs::Formats::made_at))]
-fn next_flaw<E: Env>(
+fn next_flaw<E: Scope>(
     alloc: Global,
     env: &E,
     ty: ValType,

@@ -2,8 +2,8 @@
 //!
 //! # What it promises
 //!
-//! - The typing of code is that of `wk_typing`, whose calls for other crates are handed on: [`Env`], [`judge_body`] with its [`Meter`],
-//!   [`declarative_rules`], [`carry`], [`carry_moved`], [`verdicts_that_keep`], and the words of verdicts.
+//! - The typing of code is that of `wk_typing`, whose calls for other crates are handed on: [`Env`], [`Scope`], [`judge_body`] with its
+//!   [`Meter`], [`declarative_rules`], [`carry`], [`carry_moved`], [`verdicts_that_keep`], and the words of verdicts.
 //! - [`Whole`] is the [`Env`] over the lists of a module (`answer_in`, `spaces_of` of `specs/Spaces`).
 //! - [`judge`] is `module_verdict` (`specs/Verdict`), the first flaw of the items of all sections, and that is so in words
 //!   (`IsVerdict`). Its clause `valid` says that it is `Valid` exactly where each body is derived and no other section has a flaw
@@ -62,6 +62,6 @@ pub use judging::{judge, judge_around};
 pub use validator::Validator;
 pub use whole::Whole;
 pub use wk_typing::{
-    Answer, BodyVerdict, Env, Fault, FaultKind, Flaw, Meter, Place, Verdict, carry, carry_moved,
-    declarative_rules, judge_body, verdicts_that_keep,
+    Answer, BodyVerdict, Env, Fault, FaultKind, Flaw, Lookup, Meter, Place, Scope, Verdict, carry,
+    carry_moved, declarative_rules, judge_body, verdicts_that_keep,
 };

@@ -1,22 +1,23 @@
 //! What is asked of the items of each section (3.2, 3.4).
 
 ghost use Rattle.std.specs.Prelude.{◌≡◌, ◌+◌, ◌<◌, ◌^◌, ℕ, length, take, nat_lt, if◌then◌else◌};
+ghost use Rattle.wk_module.specs.InPlace.{func_type_view};
 ghost use Rattle.wk_check.specs.Flaws.{numbered, first_in};
 ghost use Rattle.wk_typing.specs.Faults.{body_flaw};
 ghost use Rattle.wk_check.specs.Items.{in_order, in_range, all_within, table_flaw, memory_flaw, type_flaw, global_flaw, elem_flaw, data_flaw, import_flaw, unless, import_flaw_by, is_start, start_flaw};
 ghost use Rattle.wk_check.specs.Spaces.{answer_in, spaces_of, initial_spaces};
 ghost use Rattle.wk_check.specs.Verdict.{func_verdict};
-ghost use Rattle.wk_typing.specs.Answers.{found};
+ghost use Rattle.wk_typing.specs.Answers.{seen};
 
 use crate::rule::Rule;
 use crate::spaces::{IndexSpaces, Initial, found_func};
 use crate::whole::Whole;
 use wk_bytes::OutOfMemory;
 use wk_module::{
-    DataSeg, Elem, Func, FuncType, GlobalDef, Import, ImportDesc, Kind, Limits, Lists, Profile,
-    ValType, import_count, section_id,
+    DataSeg, Elem, Func, FuncType, FuncTypeRef, GlobalDef, Import, ImportDesc, Kind, Limits, Lists,
+    Profile, ValType, import_count, section_id,
 };
-use wk_typing::{Answer, Fault, FaultKind, Flaw, Room, constant_flaw, type_body};
+use wk_typing::{Fault, FaultKind, Flaw, Lookup, Room, constant_flaw, type_body};
 
 /// The most pages that a memory may have, 4 GiB in all.
 const MAX_PAGES: u32 = 1 << 16;
@@ -71,8 +72,8 @@ pub(crate) fn flaw_of_memory(limits: &Limits, is_first: bool) -> Option<Flaw>
 }
 
 /// What is wrong with a type of a module of a profile: in WebAssembly 1.0 it has at most one result.
-pub(crate) fn flaw_of_type(profile: Profile, ty: &FuncType) -> Option<Flaw>
-    ensures { result ≡ type_flaw profile ty.now }
+pub(crate) fn flaw_of_type(profile: Profile, ty: FuncTypeRef<'_>) -> Option<Flaw>
+    ensures { result ≡ type_flaw profile (func_type_view ty.entry) }
 {
     if profile == Profile::Core && ty.results.len() > 1 {
         return Some(Flaw::of(FaultKind::TypeArity));
@@ -105,7 +106,7 @@ impl Rule<FuncType> for TypeRule {
         ty: &FuncType,
         _room: &mut Room,
     ) -> Result<Option<Flaw>, OutOfMemory> {
-        Ok(flaw_of_type(self.profile, ty))
+        Ok(flaw_of_type(self.profile, ty.as_ref()))
     }
 }
 
@@ -286,11 +287,11 @@ pub(crate) fn imports_fault(types: &[FuncType], imports: &[Import]) -> Option<Fa
 }
 
 // Whether a function takes nothing and gives nothing.
-fn is_start(answer: &Answer<'_>) -> bool
-    ensures { result ≡ is_start (found answer.now) }
+fn is_start(func: Lookup<'_>) -> bool
+    ensures { result ≡ is_start (seen func.entry) }
 {
-    match answer {
-        Answer::Func(ty) => ty.params.is_empty() && ty.results.is_empty(),
+    match func {
+        Lookup::Func(ty) => ty.params.is_empty() && ty.results.is_empty(),
         _ => false,
     }
 }
@@ -302,7 +303,7 @@ pub(crate) fn flaw_of_start<S: IndexSpaces>(spaces: &S, start: u32) -> Option<Fl
     if !spaces.has_func(start) {
         return Some(Flaw::of(FaultKind::UnknownFunc));
     }
-    if !is_start(&found_func(spaces, start)) {
+    if !is_start(found_func(spaces, start)) {
         return Some(Flaw::of(FaultKind::StartType));
     }
     None

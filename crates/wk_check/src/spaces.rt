@@ -1,24 +1,30 @@
 //! The index spaces of a module (2.5.1), and what references find in them.
 
 ghost use Rattle.std.specs.Prelude.{◌≡◌, if◌then◌else◌};
-ghost use Rattle.wk_typing.specs.Answers.{IsAbsent, IsPresent, found};
+ghost use Rattle.wk_typing.specs.Answers.{IsAbsent, IsPresent, seen};
 ghost use Rattle.wk_check.specs.Contexts.{with_globals};
 ghost use Rattle.wk_check.specs.Spaces.{answer_in};
 ghost use Rattle.wk_body.specs.declared.references.Ref.{Ref};
 
-use wk_module::{FuncType, GlobalType, Ref};
-use wk_typing::{Answer, Env};
+use wk_module::{FuncTypeRef, GlobalType, Ref};
+use wk_typing::{Lookup, Scope};
 
 /// The index spaces of a module, in which what is imported comes first (2.5.1). No call takes memory.
 pub(crate) trait IndexSpaces {
-    ghost use Rattle.std.specs.Prelude.{◌≡◌, length, nat_lt, slice_get};
+    ghost use Rattle.std.specs.Prelude.{◌≡◌, MatchOption, None, Some, length, nat_lt, slice_get};
+    ghost use Rattle.wk_module.specs.InPlace.{func_type_view};
     ghost use Rattle.wk_check.specs.Spaces.{Spaces};
 
     ghost spaces: { Self → Spaces };
 
-    /// The types.
-    fn types(&self) -> &[FuncType]
-        ensures { result.now ≡ (spaces self.now).types };
+    /// How many types there are.
+    fn type_count(&self) -> usize
+        ensures { result ≡ length (spaces self.now).types };
+
+    /// The type of that index, lent.
+    fn func_type(&self, x: u32) -> Option<FuncTypeRef<'_>>
+        ensures { MatchOption result (slice_get (spaces self.now).types x ≡ None)
+            (λ ty. slice_get (spaces self.now).types x ≡ Some (func_type_view ty)) };
 
     /// The index of the type of a function.
     fn func(&self, x: u32) -> Option<u32>
@@ -46,51 +52,56 @@ pub(crate) trait IndexSpaces {
 }
 
 // What a reference to the type of an index finds.
-fn found_type<S: IndexSpaces>(spaces: &S, x: u32) -> Answer<'_>
-    ensures { found result ≡ answer_in (S.spaces spaces.now) (Ref.Ty x) }
+#[inline(always)]
+fn found_type<S: IndexSpaces>(spaces: &S, x: u32) -> Lookup<'_>
+    ensures { seen result ≡ answer_in (S.spaces spaces.now) (Ref.Ty x) }
 {
-    match spaces.types().get(x as usize) {
-        Some(ty) => Answer::Ty(ty),
-        None => Answer::NoType,
+    match spaces.func_type(x) {
+        Some(ty) => Lookup::Ty(ty),
+        None => Lookup::NoType,
     }
 }
 
 /// What a reference to a function finds.
-pub(crate) fn found_func<S: IndexSpaces>(spaces: &S, x: u32) -> Answer<'_>
-    ensures { found result ≡ answer_in (S.spaces spaces.now) (Ref.Func x) }
+#[inline(always)]
+pub(crate) fn found_func<S: IndexSpaces>(spaces: &S, x: u32) -> Lookup<'_>
+    ensures { seen result ≡ answer_in (S.spaces spaces.now) (Ref.Func x) }
 {
     let Some(ty) = spaces.func(x) else {
-        return Answer::NoFunc;
+        return Lookup::NoFunc;
     };
-    match spaces.types().get(ty as usize) {
-        Some(ty) => Answer::Func(ty),
-        None => Answer::FuncOfNoType,
+    match spaces.func_type(ty) {
+        Some(ty) => Lookup::Func(ty),
+        None => Lookup::FuncOfNoType,
     }
 }
 
 // What a reference to a global finds.
-fn found_global<S: IndexSpaces>(spaces: &S, x: u32) -> Answer<'_>
-    ensures { found result ≡ answer_in (S.spaces spaces.now) (Ref.Global x) }
+#[inline(always)]
+fn found_global<S: IndexSpaces>(spaces: &S, x: u32) -> Lookup<'_>
+    ensures { seen result ≡ answer_in (S.spaces spaces.now) (Ref.Global x) }
 {
     match spaces.global(x) {
-        Some(ty) => Answer::Global(ty),
-        None => Answer::NoGlobal,
+        Some(ty) => Lookup::Global(ty),
+        None => Lookup::NoGlobal,
     }
 }
 
 // What a reference to the table, or to the memory, finds, where it is known whether there is a first.
-fn found_first(has_first: bool) -> Answer<'static>
-    ensures { found result ≡ (if has_first then IsPresent else IsAbsent) }
+#[inline(always)]
+fn found_first(has_first: bool) -> Lookup<'static>
+    ensures { seen result ≡ (if has_first then IsPresent else IsAbsent) }
 {
     if has_first {
-        return Answer::Present;
+        return Lookup::Present;
     }
-    Answer::Absent
+    Lookup::Absent
 }
 
 /// What a reference finds in index spaces (3.1.1).
-pub(crate) fn answer_by<S: IndexSpaces>(spaces: &S, reference: Ref) -> Answer<'_>
-    ensures { found result ≡ answer_in (S.spaces spaces.now) reference }
+#[inline(always)]
+pub(crate) fn look_up_in<S: IndexSpaces>(spaces: &S, reference: Ref) -> Lookup<'_>
+    ensures { seen result ≡ answer_in (S.spaces spaces.now) reference }
 {
     match reference {
         Ref::Ty(x) => found_type(spaces, x),
@@ -111,19 +122,19 @@ pub(crate) struct Initial<'a, S: IndexSpaces> {
 
 impl<'a, S: IndexSpaces> Initial<'a, S> {
     // What a reference to a global finds.
-    fn found_global(&self, x: u32) -> Answer<'_>
-        ensures { found result
+    fn found_global(&self, x: u32) -> Lookup<'_>
+        ensures { seen result
             ≡ answer_in (with_globals self.now.imported.now (S.spaces self.now.spaces.now))
             (Ref.Global x) }
     {
         match self.imported.get(x as usize) {
-            Some(ty) => Answer::Global(*ty),
-            None => Answer::NoGlobal,
+            Some(ty) => Lookup::Global(*ty),
+            None => Lookup::NoGlobal,
         }
     }
 }
 
-impl<'a, S: IndexSpaces> Env for Initial<'a, S> {
+impl<'a, S: IndexSpaces> Scope for Initial<'a, S> {
     ghost use Rattle.wk_check.specs.Contexts.{with_globals};
     ghost use Rattle.wk_check.specs.Spaces.{answer_in, answers_of_kind};
 
@@ -131,10 +142,10 @@ impl<'a, S: IndexSpaces> Env for Initial<'a, S> {
 
     ghost of_kind = { λ i r. answers_of_kind (with_globals i.imported.now (S.spaces i.spaces.now)) r };
 
-    fn answer(&self, reference: Ref) -> Answer<'_> {
+    fn look_up(&self, reference: Ref) -> Lookup<'_> {
         match reference {
             Ref::Global(x) => self.found_global(x),
-            _ => answer_by(self.spaces, reference),
+            _ => look_up_in(self.spaces, reference),
         }
     }
 }

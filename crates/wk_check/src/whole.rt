@@ -1,15 +1,17 @@
 //! A module as its code sees it.
 
-ghost use Rattle.std.specs.Prelude.{◌≡◌, ◌++◌, ◌∷◌, [], IfOk, OnOk, length};
+ghost use Rattle.std.specs.Prelude.{◌≡◌, ◌++◌, ◌∷◌, [], IfOk, OnOk, if◌then◌else◌, length};
+ghost use Rattle.wk_body.specs.declared.references.Ref.{Ref};
 ghost use Rattle.wk_module.specs.Listed.{listed};
-ghost use Rattle.wk_check.specs.Spaces.{imported, table_in, memory_in, global_in};
+ghost use Rattle.wk_typing.specs.Answers.{IsAbsent, IsPresent, found};
+ghost use Rattle.wk_check.specs.Spaces.{answer_in, imported, spaces_of, table_in, memory_in, global_in};
 ghost use Rattle.wk_check.specs.Whole.{IsImported};
 
-use crate::spaces::{IndexSpaces, answer_by};
+use crate::spaces::IndexSpaces;
 use std::alloc::Global;
 use std::marker::Model;
 use wk_bytes::OutOfMemory;
-use wk_module::{FuncType, GlobalType, Import, ImportDesc, Lists, Ref};
+use wk_module::{FuncTypeRef, GlobalType, Import, ImportDesc, Lists, Ref};
 use wk_typing::{Answer, Env};
 
 /// What is counted of a module's imports, which come first in their spaces (2.5.1).
@@ -134,8 +136,15 @@ impl<'a> IndexSpaces for Whole<'a> {
 
     ghost spaces = { λ w. spaces_of w };
 
-    fn types(&self) -> &[FuncType] {
-        self.lists.types
+    fn type_count(&self) -> usize {
+        self.lists.types.len()
+    }
+
+    fn func_type(&self, x: u32) -> Option<FuncTypeRef<'_>> {
+        match self.lists.types.get(x as usize) {
+            Some(ty) => Some(ty.as_ref()),
+            None => None,
+        }
     }
 
     fn func(&self, x: u32) -> Option<u32> {
@@ -178,6 +187,31 @@ impl<'a> IndexSpaces for Whole<'a> {
     }
 }
 
+impl<'a> Whole<'a> {
+    // What a reference to a function finds.
+    fn found_func(&self, x: u32) -> Answer<'_>
+        ensures { found result ≡ answer_in (spaces_of self.now) (Ref.Func x) }
+    {
+        let Some(ty) = self.func(x) else {
+            return Answer::NoFunc;
+        };
+        match self.lists.types.get(ty as usize) {
+            Some(ty) => Answer::Func(ty),
+            None => Answer::FuncOfNoType,
+        }
+    }
+}
+
+// What a reference to the table, or to the memory, finds, where it is known whether there is a first.
+fn found_first(has_first: bool) -> Answer<'static>
+    ensures { found result ≡ (if has_first then IsPresent else IsAbsent) }
+{
+    if has_first {
+        return Answer::Present;
+    }
+    Answer::Absent
+}
+
 impl<'a> Env for Whole<'a> {
     ghost use Rattle.wk_check.specs.Spaces.{answer_in, spaces_of, answers_of_kind};
 
@@ -186,6 +220,18 @@ impl<'a> Env for Whole<'a> {
     ghost of_kind = { λ w r. answers_of_kind (spaces_of w) r };
 
     fn answer(&self, reference: Ref) -> Answer<'_> {
-        answer_by(self, reference)
+        match reference {
+            Ref::Ty(x) => match self.lists.types.get(x as usize) {
+                Some(ty) => Answer::Ty(ty),
+                None => Answer::NoType,
+            },
+            Ref::Func(x) => self.found_func(x),
+            Ref::Global(x) => match self.global(x) {
+                Some(ty) => Answer::Global(ty),
+                None => Answer::NoGlobal,
+            },
+            Ref::Table => found_first(self.has_table(0)),
+            Ref::Memory => found_first(self.has_memory(0)),
+        }
     }
 }

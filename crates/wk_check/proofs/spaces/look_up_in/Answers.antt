@@ -1,7 +1,7 @@
 use Rattle.std.proofs.Common.{if◌then◌else◌, ap, ◌∙◌}
 use Rattle.wk_typing.specs.Answers.{IsPresent, IsAbsent}
 use Rattle.wk_check.proofs.Imported.{first_found}
-use Rattle.wk_check.proofs.spaces.answer_by.Goals as goal
+use Rattle.wk_check.proofs.spaces.look_up_in.Goals as goal
 
 pub returns-in-Table : goal.returns-in-Table
 returns-in-Table g c =
