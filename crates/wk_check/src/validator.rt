@@ -21,8 +21,7 @@ use wk_typing::Verdict;
 ///
 /// It keeps room alone (no clause says so), of each part as much as the module asked for that asked for most of it, and
 /// [`shrink`](Validator::shrink) gives it back. With the call go the set of the names of exports, where there are more than sixteen,
-/// and a body that is held whole: one that is invalid, or that stands behind a fault. With the next call goes a type of more than 32
-/// parameters or results.
+/// and a body that is held whole: one that is invalid, or that stands behind a fault.
 ///
 /// # Example
 ///
