@@ -98,7 +98,8 @@ fn reads_wide(alloc: Global, list: &mut TypeList, params: u8, results: u8) -> bo
     match wide(alloc, params, results) {
         Ok(bytes) => {
             let is_read = read_types(list, &bytes, 1) == Ok(0);
-            let is_so = is_wide(list.get(0), params, results) && is_wide(list.last(), params, results);
+            let is_so = is_wide(list.get(0), params, results)
+                && is_wide(list.last(), params, results);
             list.clear();
             is_read && is_so && are(list, &[])
         }
