@@ -46,8 +46,8 @@ impl TypeBounds {
 // Reads value types behind their count (5.1.3) to the end of a list. A refusal may leave some of them there.
 #[tactic(auto, using(crate::proofs::VectorReading::goes_on, crate::proofs::VectorReading::is_done, crate::proofs::TypeLists::front_stays), unfolding(wk_body::specs::Vectors::vector_at, crate::specs::Formats::made_at))]
 fn append_valtypes(lists: &mut Vec<ValType>, cursor: &mut Cursor<'_>) -> Result<(), ReadFault>
-    ensures read { Parses (λ u. lists.new.items) (made_at (λ ts. lists.old.items ++ ts) (vector_at valtype_at))
-        cursor.old result cursor.new }
+    ensures read { Parses (λ u. lists.new.items)
+        (made_at (λ ts. lists.old.items ++ ts) (vector_at valtype_at)) cursor.old result cursor.new }
     ensures stays { take (length lists.old.items) lists.new.items ≡ lists.old.items }
 {
     let count = cursor.u32()?;
@@ -161,7 +161,7 @@ impl TypeList {
     }
 
     /// Reads a function type (5.3.3) behind the others. Room for 64 value types is made once the first is read; else it grows with those that
-    /// are read and not with a count. Up to sixteen types take no room beside.
+    /// are read and not with a count. Where the types lie in it takes memory only behind the sixteenth.
     ///
     /// # Errors
     ///
