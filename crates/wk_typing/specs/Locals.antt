@@ -4,7 +4,7 @@ use Rattle.wk_body.specs.declared.types.ValType.{ValType}
 use Rattle.wk_body.specs.declared.types.LocalGroup.{LocalGroup}
 use Rattle.wk_typing.specs.Effects.{local_type}
 
--- the parameters of a function and the groups of locals behind them
+-- types one by one, of the parameters or of more of the first locals, and the groups of locals behind them
 pub record LocalsOf : Type 0 where
   pub params : List ValType
   pub groups : List LocalGroup
@@ -14,7 +14,7 @@ abbrev pub ends_from : ℕ → List LocalGroup → List ℕ
 ends_from n [] = []
 ends_from n (g ∷ gs) = (n + g.count) ∷ ends_from (n + g.count) gs
 
--- all locals are those of these types, and behind them those of the groups from an index on
+-- the locals of these types, with the groups from an index on behind them, are those of the parameters with all groups behind them
 abbrev pub AreFirst : List ValType → List LocalGroup → ℕ → List ValType → Type 0
 AreFirst params groups at first = (x : ℕ) → local_type first (drop at groups) x ≡ local_type params groups x
 

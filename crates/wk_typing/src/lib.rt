@@ -24,8 +24,8 @@
 //!
 //! A body is typed in one pass over its tokens; nothing recurses over nested blocks. An operand stack and a list of control frames are
 //! made once and serve all bodies and constant expressions: those of a [`Room`], of a [`StreamRoom`] or of a [`Meter`]. The types of a
-//! body's first locals are written out, 256 at the most, which asks for no memory. The others are found by where their groups end, so
-//! billions of locals in one group take no room.
+//! body's first locals are written out, 256 at the most, which asks for no memory; more parameters than these stay where they lie. The
+//! others are found by where their groups end, so billions of locals in one group take no room.
 #![tactic(auto)]
 
 mod carry_verdict;

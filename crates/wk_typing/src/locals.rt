@@ -10,7 +10,7 @@ use std::marker::Model;
 use wk_bytes::OutOfMemory;
 use wk_module::{LocalGroup, ValType};
 
-/// Writes into `ends` the number of locals up to the end of each group. The groups declare fewer than 2^32.
+// Writes into `ends` the number of locals up to the end of each group. The groups declare fewer than 2^32.
 fn put_ends(groups: &[LocalGroup], ends: &mut Vec<u32>) -> Result<(), OutOfMemory>
     requires { AreGroups groups.now }
     ensures { OnOk result (ends.new.items ≡ ends_from 0 groups.now) }
@@ -158,8 +158,8 @@ impl<'a> Model for Locals<'a> {
 }
 
 impl<'a> Locals<'a> {
-    /// The locals of these parameters and groups. Those that are too many to be written out are parameters already, or else in groups,
-    /// and only the ends of these groups ask for memory.
+    /// The locals of these parameters and groups. More than 256 parameters stay where they lie; else they are written out with the groups
+    /// behind them that fit whole. Memory is asked for only by the ends of the groups that are not written out.
     pub(crate) fn of(
         params: &'a [ValType],
         groups: &'a [LocalGroup],
