@@ -17,7 +17,7 @@ use wk_typing::{Lookup, Scope};
 #[derive(Debug, Drop)]
 pub(crate) struct Context {
     pub(crate) types: TypeList,
-    // imported ones first, here and below
+    // the imported ones first, as in the two below
     funcs: FuncSpace,
     tables: FewLimits,
     memories: FewLimits,

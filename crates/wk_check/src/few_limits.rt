@@ -7,11 +7,11 @@ use std::marker::Model;
 use wk_bytes::OutOfMemory;
 use wk_module::Limits;
 
-/// Limits, the first of which take no memory of their own: a valid module has one table and one memory at most (3.4.10).
+/// Limits, of which the first lie in the value itself and take no memory: a valid module has one table and one memory at most (3.4.10).
 #[derive(Debug, Drop)]
 pub(crate) struct FewLimits {
     first: Option<Limits>,
-    // those behind the first, where there is one
+    // those behind the first; where there is no first, they are of the module before, and do not count
     more: Vec<Limits>,
 }
 
