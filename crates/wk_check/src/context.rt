@@ -93,7 +93,7 @@ impl Context {
             ImportDesc::Func(ty) => self.funcs.push_imported(ty),
             ImportDesc::Table(limits) => self.tables.push(limits),
             ImportDesc::Memory(limits) => self.memories.push(limits),
-            ImportDesc::Global(ty) => append(&mut self.imported_globals, ty, 1),
+            ImportDesc::Global(ty) => append(&mut self.imported_globals, ty, FIRST_ROOM),
         }
     }
 

@@ -10,10 +10,12 @@ use wk_check::FaultKind::{
     Alignment, ConstantExpected, GlobalImmutable, StackHeight, StackUnderflow, TypeMismatch,
     UnknownFunc, UnknownGlobal, UnknownMemory, UnknownTable, UnknownType,
 };
-use wk_check::{Answer, BodyVerdict, Env, FaultKind, Meter, Whole, judge_body};
+use wk_check::{
+    Answer, BodyVerdict, Env, FaultKind, Lookup, Meter, Scope, Whole, judge_body,
+};
 use wk_module::{
-    FuncType, GlobalType, Limits, Lists, Parts, Profile, Ref, ValType, read_body_in, read_expr_in,
-    read_in,
+    FuncType, GlobalType, Limits, Lists, Parts, Profile, Ref, TypeList, ValType, read_body_in,
+    read_expr_in, read_in,
 };
 use wk_typing::{
     Fault, Flaw, Place, Room, Rooms, constant_flaw, next_constant_flaw, type_body,
@@ -89,8 +91,44 @@ impl<'a> Env for Lent<'a> {
     }
 }
 
+// What references find where types lie in one room, and all else in lists that are lent.
+struct InRoom<'a> {
+    types: &'a TypeList,
+    rest: Lent<'a>,
+}
+
+impl<'a> Scope for InRoom<'a> {
+    ghost use Rattle.wk_check.specs.Spaces.{answer_in, answers_of_kind};
+    ghost use Rattle.wk_verdict_tests.specs.Lent.{lent};
+
+    ghost answers = { λ s r. answer_in
+        (lent s.types.now s.rest.funcs.now s.rest.tables.now s.rest.memories.now s.rest.globals.now)
+        r };
+
+    ghost of_kind = { λ s r. answers_of_kind
+        (lent s.types.now s.rest.funcs.now s.rest.tables.now s.rest.memories.now s.rest.globals.now)
+        r };
+
+    fn look_up(&self, reference: Ref) -> Lookup<'_> {
+        match reference {
+            Ref::Ty(x) => match self.types.get(x as usize) {
+                Some(ty) => Lookup::Ty(ty),
+                None => Lookup::NoType,
+            },
+            Ref::Func(x) => match self.rest.funcs.get(x as usize) {
+                Some(ty) => match self.types.get(*ty as usize) {
+                    Some(ty) => Lookup::Func(ty),
+                    None => Lookup::FuncOfNoType,
+                },
+                None => Lookup::NoFunc,
+            },
+            _ => self.rest.look_up(reference),
+        }
+    }
+}
+
 // The verdict of a body under the type of an index.
-fn judged<E: Env>(
+fn judged<E: Scope>(
     alloc: Global,
     env: &E,
     own_type: u32,
@@ -104,7 +142,7 @@ fn judged<E: Env>(
 }
 
 // The verdict of the same body by the call that counts nothing, and by the one that reads it too.
-fn typed<E: Env>(
+fn typed<E: Scope>(
     alloc: Global,
     env: &E,
     own_type: u32,
@@ -127,7 +165,7 @@ fn verdict_of(fault: Option<(FaultKind, u32)>) -> BodyVerdict {
 }
 
 // Judges bodies, each under the type of an index, with one meter and in one room: valid, or a fault and its token.
-fn looks<E: Env>(rt: &impl Abort, alloc: Global, env: &E, rows: &[Row]) -> Result<(), Fail> {
+fn looks<E: Scope>(rt: &impl Abort, alloc: Global, env: &E, rows: &[Row]) -> Result<(), Fail> {
     let mut meter = Meter::new(alloc);
     let mut rooms = Rooms::new(alloc);
     let mut count = 0;
@@ -146,7 +184,7 @@ fn looks<E: Env>(rt: &impl Abort, alloc: Global, env: &E, rows: &[Row]) -> Resul
 }
 
 // The same where the functions are one of the second type and one of a type that is not there, and the globals a constant i32
-// and an i64.
+// and an i64: with types that are held, and with the same in one room.
 fn judges(
     rt: &impl Abort,
     alloc: Global,
@@ -162,7 +200,19 @@ fn judges(
         tables,
         memories,
     };
-    looks(rt, alloc, &env, rows)
+    looks(rt, alloc, &env, rows)?;
+    let mut types = TypeList::new(alloc);
+    // Behind the header, and the id, the size and the count of the section.
+    let mut cursor = Cursor::new(TYPES.get(11..).unwrap_or(&[]));
+    for _ in 0..3 {
+        types.read_next(&mut cursor)?;
+    }
+    let rest = Lent { types: &[], ..env };
+    let in_room = InRoom {
+        types: &types,
+        rest,
+    };
+    looks(rt, alloc, &in_room, rows)
 }
 
 #[test]
