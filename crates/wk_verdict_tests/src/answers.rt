@@ -92,6 +92,7 @@ impl<'a> Env for Lent<'a> {
 }
 
 // What references find where types lie in one room, and all else in lists that are lent.
+#[derive(Clone, Copy)]
 struct InRoom<'a> {
     types: &'a TypeList,
     rest: Lent<'a>,
