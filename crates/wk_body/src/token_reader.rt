@@ -48,8 +48,10 @@ impl Model for TokenReader {
     ghost view = { λ r. record { kinds = reverse r.blocks.items; labels = r.labels.items } };
 }
 
-// For how many labels room is made at first, and for how many open blocks: short lists then ask for memory once.
+// For how many labels room is made at first, so that a short list asks for memory once.
 const FIRST_LABELS: u32 = 64;
+
+// The same of open blocks.
 const FIRST_BLOCKS: usize = 64;
 
 // A label at the end of the others, of which there are so many in all. It stands apart, so that no cursor has to lie in memory for it.

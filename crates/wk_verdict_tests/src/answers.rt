@@ -10,9 +10,7 @@ use wk_check::FaultKind::{
     Alignment, ConstantExpected, GlobalImmutable, StackHeight, StackUnderflow, TypeMismatch,
     UnknownFunc, UnknownGlobal, UnknownMemory, UnknownTable, UnknownType,
 };
-use wk_check::{
-    Answer, BodyVerdict, Env, FaultKind, Lookup, Meter, Scope, Whole, judge_body,
-};
+use wk_check::{Answer, BodyVerdict, Env, FaultKind, Lookup, Meter, Scope, Whole, judge_body};
 use wk_module::{
     FuncType, GlobalType, Limits, Lists, Parts, Profile, Ref, TypeList, ValType, read_body_in,
     read_expr_in, read_in,
