@@ -3,9 +3,9 @@ use Rattle.std.proofs.Common.{◌≡◌, ℕ, zero, suc, ◌+◌, ◌<◌, ◌�
 use Rattle.std.proofs.Common.{◌∙◌, append_assoc, arith, inl, inr, length-append}
 use Rattle.wk_bytes.specs.declared.fault.ReadFault.{ReadFault}
 use Rattle.wk_bytes.specs.Leb.{◌>>=◌, SpellsU}
-use Rattle.wk_bytes.specs.LebLaws.{IsBytes, bind_ok, SpellsU-below}
+use Rattle.wk_bytes.specs.LebLaws.{IsBytes, bind_ok, SpellsU-below, IsBytes-after}
 use Rattle.wk_bytes.specs.Span.{u32_at}
-use Rattle.wk_bytes.specs.SpanLaws.{ok_is, good, IsBytes-after}
+use Rattle.wk_bytes.specs.SpanLaws.{ok_is, good}
 use Rattle.wk_bytes.specs.PieceLaws.{u32_at-found, u32_at-again}
 use Rattle.wk_body.specs.declared.types.Profile.{Profile}
 use Rattle.wk_body.specs.declared.types.BlockType.{BlockType}

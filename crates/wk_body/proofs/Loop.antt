@@ -1,9 +1,8 @@
 -- The loop over tokens, up to the end that closes no block.
 use Rattle.std.proofs.Common.{◌≡◌, ℕ, zero, suc, ◌+◌, ◌<◌, ◌≤◌, Bool, true, false, List, [], length, Some, Result, Ok, Err, refl, sym, ap, subst, ◌∙◌, arith}
 use Rattle.wk_bytes.specs.declared.fault.ReadFault.{ReadFault}
-use Rattle.wk_bytes.specs.LebLaws.{IsBytes}
+use Rattle.wk_bytes.specs.LebLaws.{IsBytes, IsBytes-before}
 use Rattle.wk_bytes.specs.Span.{Span}
-use Rattle.wk_bytes.specs.SpanLaws.{IsBytes-before}
 use Rattle.wk_body.specs.declared.types.Profile.{Profile}
 use Rattle.wk_body.specs.declared.scratch.Scratch.{Scratch}
 use Rattle.wk_body.specs.Tree.{Tok, Close, Part, over, before}

@@ -4,9 +4,8 @@ use Rattle.std.proofs.Common.{ℕ, ◌<◌, ◌^◌, pos, List, [], ◌∷◌, l
 use Rattle.std.specs.List.{AllByRecursion}
 use Rattle.byteorder.specs.Numbers.{little_from-lt}
 use Rattle.wk_bytes.specs.Leb.{SpellsU}
-use Rattle.wk_bytes.specs.LebLaws.{IsBytes, SpellsU-below, SpellsS-fits}
+use Rattle.wk_bytes.specs.LebLaws.{IsBytes, SpellsU-below, SpellsS-fits, IsBytes-after}
 use Rattle.wk_bytes.specs.Pieces.{SpellsWord}
-use Rattle.wk_bytes.specs.SpanLaws.{IsBytes-after}
 use Rattle.wk_body.specs.declared.types.Profile.{Profile}
 use Rattle.wk_body.specs.declared.types.Profile.TheVariants.{Core, Extended}
 use Rattle.wk_body.specs.declared.types.BlockType.{BlockType}

@@ -5,10 +5,10 @@ use Rattle.std.proofs.lemmas.Bool.{ltb-true, lt-ltb, eqb-true, ne_eqb, cases_lt}
 use Rattle.wk_bytes.specs.declared.fault.ReadKind.TheVariants.{BadByte, TooManyLocals}
 use Rattle.wk_bytes.specs.declared.fault.ReadFault.{ReadFault}
 use Rattle.wk_bytes.specs.Leb.{◌>>=◌, or_fail, SpellsU, SpellsS}
-use Rattle.wk_bytes.specs.LebLaws.{IsBytes, bind_ok, chosen, or_fail_ok, some_is, last_value}
+use Rattle.wk_bytes.specs.LebLaws.{IsBytes, bind_ok, chosen, or_fail_ok, some_is, last_value, IsBytes-after}
 use Rattle.wk_bytes.specs.Pieces.{SpellsWord}
 use Rattle.wk_bytes.specs.Span.{fault, byte_at, u32_at, signed_at, word_at}
-use Rattle.wk_bytes.specs.SpanLaws.{ok_is, byte_at-takes, IsBytes-after}
+use Rattle.wk_bytes.specs.SpanLaws.{ok_is, byte_at-takes}
 use Rattle.wk_bytes.specs.PieceLaws.{u32_at-found, u32_at-again, signed_at-found, signed_at-again, word_at-found, word_at-again}
 use Rattle.wk_body.specs.declared.types.ValType.{ValType}
 use Rattle.wk_body.specs.declared.types.ValType.TheVariants.{I32, I64, F32, F64}

@@ -1,8 +1,7 @@
 -- What the grammar spells: shaped trees of the profile, each in one way.
 use Rattle.std.proofs.Common.{◌≡◌, ℕ, List, [], ◌∷◌, ◌++◌, refl, ap, ◌∙◌, inl, inr, append_assoc}
 use Rattle.std.specs.Prelude.{◌⊎◌}
-use Rattle.wk_bytes.specs.LebLaws.{IsBytes}
-use Rattle.wk_bytes.specs.SpanLaws.{IsBytes-after, IsBytes-before}
+use Rattle.wk_bytes.specs.LebLaws.{IsBytes, IsBytes-after, IsBytes-before}
 use Rattle.wk_bytes.specs.PieceLaws.{read_prefix_free}
 use Rattle.wk_body.specs.declared.types.Profile.{Profile}
 use Rattle.wk_body.specs.declared.types.Profile.TheVariants.{Core, Extended}

@@ -6,12 +6,11 @@ use Rattle.std.proofs.lemmas.Int.{ints}
 use Rattle.std.proofs.lemmas.List.{append-nil, drop_more, drop-drop, take-append-drop}
 use Rattle.byteorder.specs.Endian.{little_bytes, little_number}
 use Rattle.wk_bytes.specs.Leb.{SpellsU, SpellsS, joinS}
-use Rattle.wk_bytes.specs.LebLaws.{IsBytes, last_value}
+use Rattle.wk_bytes.specs.LebLaws.{IsBytes, last_value, IsBytes-before, IsBytes-after}
 use Rattle.wk_bytes.specs.Short.{is_lastS, highS, short, short_signed}
 use Rattle.wk_bytes.specs.ShortLaws.{short-more, short-some, short-least, short-only, short_signed-more, short_signed-some, short_signed-least}
 use Rattle.wk_bytes.specs.ShortLaws.{short_signed-only}
 use Rattle.wk_bytes.specs.Span.{byte_at, u32_at, signed_at, word_at}
-use Rattle.wk_bytes.specs.SpanLaws.{IsBytes-before, IsBytes-after}
 use Rattle.wk_bytes.specs.PieceLaws.{u32_at-again, signed_at-again, word_at-again}
 use Rattle.wk_body.specs.declared.immediate_kind.ImmediateKind.{ImmediateKind}
 use Rattle.wk_body.specs.declared.immediate_kind.ImmediateKind.TheVariants as imms

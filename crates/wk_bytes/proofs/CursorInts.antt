@@ -1,9 +1,10 @@
 -- Integers of a cursor: the short way of one byte, and the slow way.
 use Rattle.std.proofs.Common.{◌≡◌, ℕ, ◌-◌, ◌^◌, ◌<◌, ◌≤◌, ℤ, pos, inl, inr, List, [], ◌∷◌, ◌++◌, Ok, Err, refl, sym, ap, subst, ◌∙◌, arith}
 use Rattle.wk_bytes.specs.declared.fault.ReadFault.{ReadFault}
-use Rattle.wk_bytes.specs.Leb.{SpellsU, SpellsS}
-use Rattle.wk_bytes.specs.Span.{Span, u32_at, signed_at}
-use Rattle.wk_bytes.specs.Stands.{IsWidth}
+use Rattle.wk_bytes.specs.Leb.{SpellsU, SpellsS, lastU, lastS}
+use Rattle.wk_bytes.specs.Span.{Span, IsIntFault, u32_at, signed_at}
+use Rattle.wk_bytes.specs.Stands.{IsWidth, Stands}
+use Rattle.wk_bytes.specs.StandsLaws.{first_stands, u32_stands, signed_stands}
 use Rattle.wk_bytes.specs.PieceLaws.{u32_at-again, signed_at-again, none_spelled}
 
 one_u32 : (x : ℕ) → x < 128 → SpellsU 32 (x ∷ []) x
@@ -18,6 +19,10 @@ short_u32-spelled old new x n small parts is = (x ∷ [], (omega (arith, is, sma
 
 pub no_u32 : (old : Span) (e : ReadFault) → u32_at old.end old.rest ≡ Err e → (b rest : List ℕ) (y : ℕ) → SpellsU 32 b y → old.rest ≡ b ++ rest → ⊥
 no_u32 = none_spelled (SpellsU 32) u32_at u32_at-again
+
+-- the fault of an integer that is refused stands
+pub u32_fault_stands : (s : Span) (e : ReadFault) → IsIntFault lastU 32 s e → Stands s e
+u32_fault_stands s e f = first_stands s e f.0 (u32_stands s.rest e.kind f.1)
 
 -- ---- signed
 
@@ -46,3 +51,6 @@ short_signed-spelled N old new x z width small parts is = (x ∷ [], subst (Spel
 pub no_signed : (N : ℕ) (old : Span) (e : ReadFault) → signed_at N old.end old.rest ≡ Err e → (b rest : List ℕ) (z : ℤ) → SpellsS N b z
     → old.rest ≡ b ++ rest → ⊥
 no_signed N = none_spelled (SpellsS N) (signed_at N) (signed_at-again N)
+
+pub signed_fault_stands : (N : ℕ) (s : Span) (e : ReadFault) → IsWidth N → IsIntFault lastS N s e → Stands s e
+signed_fault_stands N s e width f = first_stands s e f.0 (signed_stands N width s.rest e.kind f.1)

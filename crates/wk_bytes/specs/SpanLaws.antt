@@ -8,8 +8,8 @@ use Rattle.byteorder.specs.Endian.{little_number}
 use Rattle.wk_bytes.specs.declared.fault.ReadKind.{ReadKind}
 use Rattle.wk_bytes.specs.declared.fault.ReadKind.TheVariants.{UnexpectedEnd, IntTooLong, IntTooLarge, BadUtf8}
 use Rattle.wk_bytes.specs.declared.fault.ReadFault.{ReadFault}
-use Rattle.wk_bytes.specs.Leb.{◌>>=◌, or_fail, int_by, lastU, lastS, joinU, joinS, uint_at, sint_at}
-use Rattle.wk_bytes.specs.LebLaws.{IsBytes, bind_ok, chosen, done}
+use Rattle.wk_bytes.specs.Leb.{◌>>=◌, SpellsU, uint_at, sint_at}
+use Rattle.wk_bytes.specs.LebLaws.{IsBytes, bind_ok, chosen, uint_fronts, sint_fronts}
 use Rattle.wk_bytes.specs.Span.{fault, placed, byte_at, piece_at, u32_at, signed_at, word_at, name_at}
 
 abbrev pub good : {A : Type 0} → A → Result A ReadFault
@@ -27,11 +27,6 @@ err_is d e h = cc
 pub not_both : {A E : Type 0} (r : Result A E) (e : E) (x : A) → r ≡ Err e → r ≡ Ok x → ⊥
 not_both r e x p q = cc
 
-rest_is : {V : Type 0} (v w : V) (a b : List ℕ) → done {A = V × List ℕ} {E = ReadKind} (v, a) ≡ done (w, b) → a ≡ b
-rest_is {V = V} v w a b e =
-    let both : (v, a) ≡ (w, b) = cc in
-    ap (λ (p : V × List ℕ). p.1) both
-
 pub placed_ok : {A : Type 0} (r : Result A ReadKind) (end : ℕ) (bytes : List ℕ) (x : A) → placed r end bytes ≡ Ok x → r ≡ Ok x
 placed_ok (Ok y) end bytes x e = cc
 placed_ok (Err k) end bytes x e = absurd cc
@@ -41,50 +36,29 @@ pub placed_err : {A : Type 0} (r : Result A ReadKind) (end : ℕ) (bytes : List 
 placed_err (Ok y) end bytes e h = absurd cc
 placed_err (Err k) end bytes e h = (k, refl, cc)
 
--- what is left after a front is bytes too
-pub IsBytes-after : (front later bytes : List ℕ) → bytes ≡ front ++ later → IsBytes bytes → IsBytes later
-IsBytes-after front later bytes e fits i = rw (← get_or-append-add front later i 0, ← e) (fits (length front + i))
-
--- and so is the front
-pub IsBytes-before : (front later bytes : List ℕ) → bytes ≡ front ++ later → IsBytes bytes → IsBytes front
-IsBytes-before front later bytes e fits i =
-    elim (cases_lt i (length front)) [
-      | inl lt ↦ rw (← get_or_append_left front later 0 i lt, ← e) (fits i)
-      | inr le ↦ rw (get_or_past front i 0 le) (omega arith)
-    ]
-
 -- ---- what is taken
-
-module _ {V : Type 0} (last : ℕ → ℕ → Option V) (join : ℕ → V → V) where
-  pub int_by-takes : (N : ℕ) (bytes : List ℕ) (v : V) (rest : List ℕ) → int_by last join N bytes ≡ Ok (v, rest)
-      → (x : ℕ) × (front : List ℕ) × (bytes ≡ x ∷ (front ++ rest))
-  int_by-takes N [] v rest e = absurd cc
-  int_by-takes N (x ∷ bytes) v rest e =
-      elim (chosen (ltb x 128) (or_fail (last N x) IntTooLarge >>= λ w. Ok (w, bytes))
-      (cond (leb N 7) (Err IntTooLong) (int_by last join (N - 7) bytes >>= (λ h. Ok (join (x - 128) h.0, h.1)))) (Ok (v, rest)) e) [
-        | inl p ↦
-            let a = bind_ok (or_fail (last N x) IntTooLarge) (λ w. Ok (w, bytes)) (v, rest) p.1 in
-            (x, [], ap (λ (b : List ℕ). x ∷ b) (rest_is a.0 v bytes rest a.2))
-        | inr p ↦
-            elim (chosen (leb N 7) (Err IntTooLong) (int_by last join (N - 7) bytes >>= (λ h. Ok (join (x - 128) h.0, h.1))) (Ok (v, rest)) p.1) [
-              | inl q ↦ absurd cc
-              | inr q ↦
-                  let a = bind_ok (int_by last join (N - 7) bytes) (λ h. Ok (join (x - 128) h.0, h.1)) (v, rest) q.1 in
-                  let more = int_by-takes (N - 7) bytes a.0.0 a.0.1 a.1 in
-                  let same : a.0.1 ≡ rest = rest_is (join (x - 128) a.0.0) v a.0.1 rest a.2 in
-                  (x, more.0 ∷ more.1, ap (λ (b : List ℕ). x ∷ b) (more.2 ∙ ap (λ (b : List ℕ). more.0 ∷ (more.1 ++ b)) same))
-            ]
-      ]
 
 pub u32_at-takes : (end : ℕ) (bytes : List ℕ) (n : ℕ) (rest : List ℕ) → u32_at end bytes ≡ Ok (n, rest)
     → (x : ℕ) × (front : List ℕ) × (bytes ≡ x ∷ (front ++ rest))
-unfolding u32_at uint_at
-u32_at-takes end bytes n rest e = int_by-takes lastU joinU 32 bytes n rest (placed_ok (uint_at 32 bytes) end bytes (n, rest) e)
+unfolding u32_at
+u32_at-takes end bytes n rest e =
+    let f = uint_fronts 32 bytes n rest (placed_ok (uint_at 32 bytes) end bytes (n, rest) e) in
+    (f.0, f.1, f.2)
+
+-- the bytes that it takes spell the number
+pub u32_at-counts : (end : ℕ) (bytes : List ℕ) (n : ℕ) (rest : List ℕ) → u32_at end bytes ≡ Ok (n, rest)
+    → (count : List ℕ) × (0 < length count) × (bytes ≡ count ++ rest) × (IsBytes count → SpellsU 32 count n)
+unfolding u32_at
+u32_at-counts end bytes n rest e =
+    let f = uint_fronts 32 bytes n rest (placed_ok (uint_at 32 bytes) end bytes (n, rest) e) in
+    (f.0 ∷ f.1, omega arith, f.2, f.3)
 
 pub signed_at-takes : (N end : ℕ) (bytes : List ℕ) (z : ℤ) (rest : List ℕ) → signed_at N end bytes ≡ Ok (z, rest)
     → (x : ℕ) × (front : List ℕ) × (bytes ≡ x ∷ (front ++ rest))
-unfolding signed_at sint_at
-signed_at-takes N end bytes z rest e = int_by-takes lastS joinS N bytes z rest (placed_ok (sint_at N bytes) end bytes (z, rest) e)
+unfolding signed_at
+signed_at-takes N end bytes z rest e =
+    let f = sint_fronts N bytes z rest (placed_ok (sint_at N bytes) end bytes (z, rest) e) in
+    (f.0, f.1, f.2)
 
 pub u32_at-shorter : (end : ℕ) (bytes : List ℕ) (n : ℕ) (rest : List ℕ) → u32_at end bytes ≡ Ok (n, rest) → length rest < length bytes
 u32_at-shorter end bytes n rest e =

@@ -1,8 +1,8 @@
 -- What a reader of bytes hands up of a fault that stands.
-use Rattle.std.proofs.Common.{◌≡◌, ℕ, ◌+◌, ◌-◌, ◌<◌, ◌≤◌, cond, leb, inl, inr, List, [], ◌∷◌, ◌++◌, length, take, drop, Result, Ok, Err, Option, refl, sym, ap}
+use Rattle.std.proofs.Common.{◌≡◌, ℕ, ◌+◌, ◌-◌, ◌<◌, ◌≤◌, ◌⊎◌, cond, leb, inl, inr, List, [], ◌∷◌, ◌++◌, length, take, drop, Result, Ok, Err, Option, refl, sym, ap}
 use Rattle.std.proofs.Common.{subst, ◌∙◌, append_assoc, length-append, arith}
-use Rattle.std.proofs.lemmas.Bool.{false≢true}
-use Rattle.std.proofs.lemmas.List.{take-append-le, append-nil}
+use Rattle.std.proofs.lemmas.Bool.{false≢true, leb-false}
+use Rattle.std.proofs.lemmas.List.{append-nil}
 use Rattle.std.specs.Str.{is_utf8}
 use Rattle.std.proofs.lemmas.Str.{is_utf8-from_IsUtf8}
 use Rattle.byteorder.specs.Endian.{little_number}
@@ -11,69 +11,92 @@ use Rattle.wk_bytes.specs.declared.fault.ReadKind.TheVariants.{BadMagic, BadVers
 use Rattle.wk_bytes.specs.declared.fault.ReadKind.TheVariants.{SectionSize, BadUtf8, BadByte, UnknownOpcode, TooManyLocals, FuncCodeCount, BodySize, TooDeep}
 use Rattle.wk_bytes.specs.declared.fault.ReadKind.TheVariants.{LongInput, Memory}
 use Rattle.wk_bytes.specs.declared.fault.ReadFault.{ReadFault}
-use Rattle.wk_bytes.specs.Leb.{◌>>=◌, IsTooLong, IsTooLarge, IsIntKind, lastU, lastS, uint_at, sint_at}
+use Rattle.wk_bytes.specs.Leb.{◌>>=◌, IsIntKind, lastU, lastS, uint_at, sint_at}
 use Rattle.wk_bytes.specs.LebLaws.{bind_ok, chosen, uint_wrong, sint_wrong}
-use Rattle.wk_bytes.specs.Span.{Span, fault, byte_at, piece_at, u32_at, signed_at, word_at, name_at}
-use Rattle.wk_bytes.specs.SpanLaws.{ok_is, err_is, placed_err, byte_at-takes, piece_at-takes, u32_at-takes, signed_at-takes}
+use Rattle.wk_bytes.specs.Span.{Span, offset, fault, byte_at, piece_at, u32_at, signed_at, word_at, name_at}
+use Rattle.wk_bytes.specs.SpanLaws.{ok_is, err_is, placed_err, byte_at-takes, piece_at-takes, u32_at-takes, u32_at-counts, signed_at-takes, word_at-takes}
 use Rattle.wk_bytes.specs.Frames.{Section}
-use Rattle.wk_bytes.specs.Stands.{BeginsOtherwise, Begins, IsWidth, StandsAt, Stands, StandsOrMemory, StandsIn, contents_of, whole, LiesIn}
+use Rattle.wk_bytes.specs.Stands.{Counts, EndsWithSize, BeginsCount, IsCut, IsWidth, StandsAt, EndsThere, Stands, StandsOrMemory, StandsInCode, StandsIn}
+use Rattle.wk_bytes.specs.Stands.{IsShort, contents_of, whole, LiesIn}
 
--- ---- more bytes behind change nothing
+-- ---- more bytes in front change nothing
 
-BeginsOtherwise-append : (half from later : List ℕ) → BeginsOtherwise half from → BeginsOtherwise half (from ++ later)
-BeginsOtherwise-append half from later b =
-    (omega (arith, b.0, length-append from later), λ e. b.1 (sym (take-append-le (length half) from later b.0) ∙ e))
+pub EndsWithSize-later : (front bytes : List ℕ) (n : ℕ) → EndsWithSize bytes n → EndsWithSize (front ++ bytes) n
+EndsWithSize-later front bytes n s = (front ++ s.0, s.1, ap (λ b. front ++ b) s.2 ∙ sym (append_assoc front s.0 s.1), s.3)
 
-Begins-append : (P : ℕ → Type 0) (from later : List ℕ) → Begins P from → Begins P (from ++ later)
-Begins-append P [] later b = absurd b
-Begins-append P (x ∷ from) later b = b
+-- the same of bytes that end with others
+ends-later : (front skipped before end : List ℕ) → skipped ≡ before ++ end → front ++ skipped ≡ (front ++ before) ++ end
+ends-later front skipped before end parts = ap (λ b. front ++ b) parts ∙ sym (append_assoc front before end)
 
-some-append : (from later : List ℕ) → 0 < length from → 0 < length (from ++ later)
-some-append from later some = omega (arith, some, length-append from later)
+IsCut-later : (front skipped from : List ℕ) → IsCut skipped from → IsCut (front ++ skipped) from
+IsCut-later front skipped from (inl none) = inl none
+IsCut-later front skipped from (inr (inl int)) = inr (inl int)
+IsCut-later front skipped from (inr (inr (inl (inl word)))) =
+    inr (inr (inl (inl (front ++ word.0, ends-later front skipped word.0 (0x43 ∷ []) word.1, word.2))))
+IsCut-later front skipped from (inr (inr (inl (inr word)))) =
+    inr (inr (inl (inr (front ++ word.0, ends-later front skipped word.0 (0x44 ∷ []) word.1, word.2))))
+IsCut-later front skipped from (inr (inr (inr piece))) = inr (inr (inr (piece.0, EndsWithSize-later front skipped piece.0 piece.1, piece.2)))
 
-IsTooLong-append : (N : ℕ) (from later : List ℕ) → IsTooLong N from → IsTooLong N (from ++ later)
-IsTooLong-append N [] later s = absurd s
-IsTooLong-append N (x ∷ from) later (high, inl last) = (high, inl last)
-IsTooLong-append N (x ∷ from) later (high, inr more) = (high, inr (IsTooLong-append (N - 7) from later more))
+StandsAt-later : (kind : ReadKind) (front skipped from : List ℕ) → StandsAt kind skipped from → StandsAt kind (front ++ skipped) from
+StandsAt-later UnexpectedEnd front skipped from s = IsCut-later front skipped from s
+StandsAt-later BadMagic front skipped from s = s
+StandsAt-later BadVersion front skipped from s = s
+StandsAt-later IntTooLong front skipped from s = s
+StandsAt-later IntTooLarge front skipped from s = s
+StandsAt-later UnknownSection front skipped from s = s
+StandsAt-later SectionOrder front skipped from s = s
+StandsAt-later SectionSize front skipped from s = s
+StandsAt-later BadUtf8 front skipped from s = s
+StandsAt-later BadByte front skipped from s = s
+StandsAt-later UnknownOpcode front skipped from s = s
+StandsAt-later TooManyLocals front skipped from s = s
+StandsAt-later FuncCodeCount front skipped from s = s
+StandsAt-later BodySize front skipped from s = s
+StandsAt-later TooDeep front skipped from s = s
+StandsAt-later LongInput front skipped from s = absurd s
+StandsAt-later Memory front skipped from s = absurd s
 
-IsTooLarge-append : {V : Type 0} (last : ℕ → ℕ → Option V) (N : ℕ) (from later : List ℕ) → IsTooLarge last N from → IsTooLarge last N (from ++ later)
-IsTooLarge-append last N [] later s = absurd s
-IsTooLarge-append last N (x ∷ from) later (inl ends) = inl ends
-IsTooLarge-append last N (x ∷ from) later (inr (high, wide, more)) = inr (high, wide, IsTooLarge-append last (N - 7) from later more)
-
-pub StandsAt-append : (kind : ReadKind) (from later : List ℕ) → StandsAt kind from → StandsAt kind (from ++ later)
-StandsAt-append BadMagic from later s = BeginsOtherwise-append _ from later s
-StandsAt-append BadVersion from later s = BeginsOtherwise-append _ from later s
-StandsAt-append UnexpectedEnd from later s = s
-StandsAt-append IntTooLong from later s = (s.0, s.1, IsTooLong-append s.0 from later s.2)
-StandsAt-append IntTooLarge from later (inl s) = inl (IsTooLarge-append lastU 32 from later s)
-StandsAt-append IntTooLarge from later (inr s) = inr (s.0, s.1, IsTooLarge-append lastS s.0 from later s.2)
-StandsAt-append UnknownSection from later s = Begins-append _ from later s
-StandsAt-append SectionOrder from later s = Begins-append _ from later s
-StandsAt-append SectionSize from later s = some-append from later s
-StandsAt-append BadUtf8 from later s = (s.0, s.1 ++ later, ap (λ b. b ++ later) s.2 ∙ append_assoc s.0 s.1 later, s.3)
-StandsAt-append BadByte from later s = some-append from later s
-StandsAt-append UnknownOpcode from later s = Begins-append _ from later s
-StandsAt-append TooManyLocals from later s = some-append from later s
-StandsAt-append FuncCodeCount from later s = s
-StandsAt-append BodySize from later s = some-append from later s
-StandsAt-append TooDeep from later s = some-append from later s
-StandsAt-append LongInput from later s = absurd s
-StandsAt-append Memory from later s = absurd s
+EndsThere-later : (front skipped from later : List ℕ) → EndsThere skipped from later → EndsThere (front ++ skipped) from later
+EndsThere-later front skipped from later (inl none) = inl none
+EndsThere-later front skipped from later (inr s) =
+    inr (front ++ s.0, s.1, ends-later front skipped s.0 s.1 s.2, EndsWithSize-later front s.0 (length s.1 + length from) s.3)
 
 -- ---- from a part to the whole
 
--- a span between other bytes
+-- a fault in what is left after a front was taken
+pub Stands-later : (front : List ℕ) (s t : Span) (e : ReadFault) → s.rest ≡ front ++ t.rest → s.end ≡ t.end → length s.rest ≤ s.end → Stands t e → Stands s e
+Stands-later front s t e parts ends fits stood = record {
+  skipped = front ++ stood.skipped;
+  from = stood.from;
+  later = stood.later;
+  parts = parts ∙ ends-later front t.rest stood.skipped (stood.from ++ stood.later) stood.parts;
+  place = omega (arith, stood.place, ends, fits, ap length parts, length-append front t.rest, length-append front stood.skipped);
+  ends = EndsThere-later front stood.skipped stood.from stood.later stood.ends;
+  stands = StandsAt-later e.kind front stood.skipped stood.from stood.stands;
+}
+
+-- what ends where a piece ends does so behind its size
+ends_within : (front back skipped from later : List ℕ) → EndsWithSize front (length (skipped ++ (from ++ later))) → EndsThere skipped from later
+    → EndsThere (front ++ skipped) from (later ++ back)
+ends_within front back skipped from later sized (inl none) =
+    let long : length (skipped ++ (from ++ later)) ≡ length skipped + length from =
+    omega (arith, length-append skipped (from ++ later), length-append from later, ap length none) in
+    inr (front, skipped, refl, subst (EndsWithSize front) long sized)
+ends_within front back skipped from later sized (inr s) =
+    inr (front ++ s.0, s.1, ends-later front skipped s.0 s.1 s.2, EndsWithSize-later front s.0 (length s.1 + length from) s.3)
+
+-- a span between other bytes, of which those in front end with its size
 pub Stands-within : (front back : List ℕ) (s t : Span) (e : ReadFault) → s.rest ≡ front ++ (t.rest ++ back) → s.end ≡ t.end + length back
-    → length s.rest ≤ s.end → Stands t e → Stands s e
-Stands-within front back s t e parts ends fits stood =
-    let whole_rest : s.rest ≡ (front ++ stood.skipped) ++ (stood.from ++ back) =
-    parts ∙ ap (λ b. front ++ (b ++ back)) stood.parts ∙ ap (λ b. front ++ b) (append_assoc stood.skipped stood.from back)
-    ∙ sym (append_assoc front stood.skipped (stood.from ++ back)) in
+    → length s.rest ≤ s.end → EndsWithSize front (length t.rest) → Stands t e → Stands s e
+Stands-within front back s t e parts ends fits sized stood =
+    let inner : t.rest ++ back ≡ stood.skipped ++ (stood.from ++ (stood.later ++ back)) =
+    ap (λ b. b ++ back) stood.parts ∙ append_assoc stood.skipped (stood.from ++ stood.later) back
+    ∙ ap (λ b. stood.skipped ++ b) (append_assoc stood.from stood.later back) in
     record {
       skipped = front ++ stood.skipped;
-      from = stood.from ++ back;
-      parts = whole_rest;
+      from = stood.from;
+      later = stood.later ++ back;
+      parts = parts ∙ ends-later front (t.rest ++ back) stood.skipped (stood.from ++ (stood.later ++ back)) inner;
       place = omega (
         arith,
         stood.place,
@@ -83,39 +106,48 @@ Stands-within front back s t e parts ends fits stood =
         length-append front (t.rest ++ back),
         length-append t.rest back,
         length-append front stood.skipped,
-        ap length stood.parts,
-        length-append stood.skipped stood.from,
       );
-      stands = StandsAt-append e.kind stood.from back stood.stands;
+      ends = ends_within front back stood.skipped stood.from stood.later (subst (λ b. EndsWithSize front (length b)) stood.parts sized) stood.ends;
+      stands = StandsAt-later e.kind front stood.skipped stood.from stood.stands;
     }
-
--- a fault in what is left after a front was taken
-pub Stands-later : (front : List ℕ) (s t : Span) (e : ReadFault) → s.rest ≡ front ++ t.rest → s.end ≡ t.end → length s.rest ≤ s.end → Stands t e → Stands s e
-Stands-later front s t e parts ends fits =
-    Stands-within front [] s t e (parts ∙ ap (λ b. front ++ b) (sym (append-nil t.rest))) (omega (arith, ends)) fits
 
 -- a fault in the contents of a section
 pub Stands-contents : (bytes : List ℕ) (s : Section) (e : ReadFault) → LiesIn bytes s → Stands (contents_of s) e → Stands (whole bytes) e
-Stands-contents bytes s e lies stood = record {
-  skipped = lies.before ++ stood.skipped;
-  from = stood.from ++ lies.after;
-  parts = lies.parts ∙ ap (λ b. lies.before ++ (b ++ lies.after)) stood.parts
-      ∙ ap (λ b. lies.before ++ b) (append_assoc stood.skipped stood.from lies.after) ∙ sym (append_assoc lies.before stood.skipped (stood.from ++ lies.after));
-  place = omega (arith, stood.place, lies.place, length-append lies.before stood.skipped);
-  stands = StandsAt-append e.kind stood.from lies.after stood.stands;
-}
+Stands-contents bytes s e lies stood =
+    let long : length bytes ≡ (s.at + length s.contents) + length lies.after =
+    omega (arith, ap length lies.parts, length-append lies.before (s.contents ++ lies.after), length-append s.contents lies.after, lies.place) in
+    Stands-within lies.before lies.after (whole bytes) (contents_of s) e lies.parts long (omega arith) lies.sized stood
 
 -- a fault at the first byte
-pub Stands-here : (kind : ReadKind) (end : ℕ) (bytes : List ℕ) → StandsAt kind bytes → Stands (record { rest = bytes; end = end }) (fault kind end bytes)
-Stands-here kind end bytes stands = record { skipped = []; from = bytes; parts = refl; place = omega arith; stands = stands }
+pub first_stands : (s : Span) (e : ReadFault) → e.at ≡ offset s → StandsAt e.kind [] s.rest → Stands s e
+first_stands s e place stands = record {
+  skipped = [];
+  from = s.rest;
+  later = [];
+  parts = sym (append-nil s.rest);
+  place = omega (arith, place);
+  ends = inl refl;
+  stands = stands;
+}
 
--- a fault at the end of an input
-pub Stands-at_end : (kind : ReadKind) (bytes : List ℕ) → StandsAt kind [] → Stands (whole bytes) (record { kind = kind; at = length bytes })
-Stands-at_end kind bytes stands = record { skipped = bytes; from = []; parts = sym (append-nil bytes); place = omega arith; stands = stands }
+pub Stands-here : (kind : ReadKind) (end : ℕ) (bytes : List ℕ) → StandsAt kind [] bytes → Stands (record { rest = bytes; end = end }) (fault kind end bytes)
+Stands-here kind end bytes stands = first_stands (record { rest = bytes; end = end }) (fault kind end bytes) refl stands
+
+-- a fault at the end of an input, which no bytes decide
+pub Stands-at_end : (kind : ReadKind) (bytes : List ℕ) → StandsAt kind bytes [] → Stands (whole bytes) (record { kind = kind; at = length bytes })
+Stands-at_end kind bytes stands = record {
+  skipped = bytes;
+  from = [];
+  later = [];
+  parts = sym (append-nil bytes);
+  place = omega arith;
+  ends = inl refl;
+  stands = stands;
+}
 
 -- ---- the same of calls that take memory
 
-pub StandsOrMemory-whole : (bytes : List ℕ) (e : ReadFault) → StandsOrMemory (whole bytes) e → StandsIn bytes e
+pub StandsOrMemory-whole : (bytes : List ℕ) (e : ReadFault) → StandsOrMemory (whole bytes) e → StandsInCode bytes e
 StandsOrMemory-whole bytes e (inl none) = inl none
 StandsOrMemory-whole bytes e (inr stood) = inr (inr stood)
 
@@ -157,37 +189,74 @@ module _ {A B : Type 0} (read : ℕ → List ℕ → Result (A × List ℕ) Read
 
 -- ---- each reader
 
-pub stands_as : (kind : ReadKind) (end : ℕ) (bytes : List ℕ) (e : ReadFault) → fault kind end bytes ≡ e → StandsAt kind bytes
+pub stands_as : (kind : ReadKind) (end : ℕ) (bytes : List ℕ) (e : ReadFault) → fault kind end bytes ≡ e → StandsAt kind [] bytes
     → Stands (record { rest = bytes; end = end }) e
 stands_as kind end bytes e is stands = subst (Stands (record { rest = bytes; end = end })) is (Stands-here kind end bytes stands)
 
 byte_at-faults : (end : ℕ) (bytes : List ℕ) (e : ReadFault) → byte_at end bytes ≡ Err e → length bytes ≤ end → Stands (record { rest = bytes; end = end }) e
 unfolding byte_at
-byte_at-faults end [] e h fits = stands_as UnexpectedEnd end [] e (err_is {A = ℕ × List ℕ} _ _ h) tt
+byte_at-faults end [] e h fits = stands_as UnexpectedEnd end [] e (err_is {A = ℕ × List ℕ} _ _ h) (inl refl)
 byte_at-faults end (x ∷ bytes) e h fits = absurd cc
 
 pub ReadsFront-byte_at : ReadsFront byte_at
 ReadsFront-byte_at = record { takes = λ end bytes x rest e. (x ∷ [], byte_at-takes end bytes x rest e); faults = byte_at-faults }
 
-piece_at-faults : (n end : ℕ) (bytes : List ℕ) (e : ReadFault) → piece_at n end bytes ≡ Err e → length bytes ≤ end
-    → Stands (record { rest = bytes; end = end }) e
+-- One that reads a piece of n bytes first: its faults stand, or it wants more bytes than are left.
+pub record ReadsPiece {A : Type 0} (n : ℕ) (read : ℕ → List ℕ → Result (A × List ℕ) ReadFault) : Type 0 where
+  pub takes : (end : ℕ) (bytes : List ℕ) (x : A) (rest : List ℕ) → read end bytes ≡ Ok (x, rest) → (front : List ℕ) × (bytes ≡ front ++ rest)
+  pub faults : (end : ℕ) (bytes : List ℕ) (e : ReadFault) → read end bytes ≡ Err e → length bytes ≤ end
+      → Stands (record { rest = bytes; end = end }) e ⊎ IsShort n (record { rest = bytes; end = end }) e
+
+pub piece_at-short : (n end : ℕ) (bytes : List ℕ) (e : ReadFault) → piece_at n end bytes ≡ Err e → IsShort n (record { rest = bytes; end = end }) e
 unfolding piece_at
-piece_at-faults n end bytes e h fits =
+piece_at-short n end bytes e h =
     elim (chosen (leb n (length bytes)) (Ok (take n bytes, drop n bytes)) (Err (fault UnexpectedEnd end bytes)) (Err e) h) [
       | inl p ↦ absurd cc
-      | inr p ↦ stands_as UnexpectedEnd end bytes e (err_is {A = List ℕ × List ℕ} _ _ p.1) tt
+      | inr p ↦ (sym (err_is {A = List ℕ × List ℕ} _ _ p.1), leb-false n (length bytes) p.0)
     ]
 
-pub ReadsFront-piece_at : (n : ℕ) → ReadsFront (piece_at n)
-ReadsFront-piece_at n = record { takes = λ end bytes piece rest e. (piece, (piece_at-takes n end bytes piece rest e).0); faults = piece_at-faults n }
+pub ReadsPiece-piece_at : (n : ℕ) → ReadsPiece n (piece_at n)
+ReadsPiece-piece_at n = record {
+  takes = λ end bytes piece rest e. (piece, (piece_at-takes n end bytes piece rest e).0);
+  faults = λ end bytes e h fits. inr (piece_at-short n end bytes e h);
+}
 
-pub ReadsFront-word_at : (n : ℕ) → ReadsFront (word_at n)
+-- the word of a piece
+abbrev word_of : ℕ → List ℕ × List ℕ → Result (ℕ × List ℕ) ReadFault
+word_of n p = Ok (little_number n p.0, p.1)
+
+word_at-faults : (n end : ℕ) (bytes : List ℕ) (e : ReadFault) (r : Result (List ℕ × List ℕ) ReadFault) → piece_at n end bytes ≡ r
+    → (r >>= word_of n) ≡ Err e → IsShort n (record { rest = bytes; end = end }) e
+word_at-faults n end bytes e (Err d) is h = piece_at-short n end bytes e (is ∙ cc)
+word_at-faults n end bytes e (Ok p) is h = absurd cc
+
+pub word_at-short : (n end : ℕ) (bytes : List ℕ) (e : ReadFault) → word_at n end bytes ≡ Err e → IsShort n (record { rest = bytes; end = end }) e
 unfolding word_at
-ReadsFront-word_at n = ReadsFront-then (piece_at n) (λ piece end rest. Ok (little_number n piece, rest)) (ReadsFront-piece_at n)
-    (λ piece. ReadsFront-done (little_number n piece))
+word_at-short n end bytes e h = word_at-faults n end bytes e (piece_at n end bytes) refl h
 
-u32_stands : (bytes : List ℕ) (kind : ReadKind) → IsIntKind lastU 32 bytes kind → StandsAt kind bytes
-u32_stands bytes UnexpectedEnd s = tt
+pub ReadsPiece-word_at : (n : ℕ) → ReadsPiece n (word_at n)
+ReadsPiece-word_at n = record {
+  takes = λ end bytes w rest e. let t = word_at-takes n end bytes w rest e in (t.0, t.1);
+  faults = λ end bytes e h fits. inr (word_at-short n end bytes e h);
+}
+
+-- more is wanted than is left, and how much is spelled in front
+pub short_stands : (front : List ℕ) (n : ℕ) (s t : Span) (e : ReadFault) → s.rest ≡ front ++ t.rest → s.end ≡ t.end → length s.rest ≤ s.end
+    → StandsAt UnexpectedEnd front t.rest → IsShort n t e → Stands s e
+short_stands front n s t e parts ends fits cut short =
+    let stood : Stands s (fault UnexpectedEnd t.end t.rest) = record {
+      skipped = front;
+      from = t.rest;
+      later = [];
+      parts = parts ∙ ap (λ b. front ++ b) (sym (append-nil t.rest));
+      place = omega (arith, ends, fits, ap length parts, length-append front t.rest);
+      ends = inl refl;
+      stands = cut;
+    } in
+    subst (Stands s) (sym short.0) stood
+
+pub u32_stands : (bytes : List ℕ) (kind : ReadKind) → IsIntKind lastU 32 bytes kind → StandsAt kind [] bytes
+u32_stands bytes UnexpectedEnd s = inr (inl (32, inl refl, s))
 u32_stands bytes IntTooLong s = (32, inl refl, s)
 u32_stands bytes IntTooLarge s = inl s
 u32_stands bytes _ s = absurd s
@@ -201,8 +270,8 @@ u32_at-faults end bytes e h fits =
 pub ReadsFront-u32_at : ReadsFront u32_at
 ReadsFront-u32_at = record { takes = λ end bytes n rest e. let t = u32_at-takes end bytes n rest e in (t.0 ∷ t.1, t.2); faults = u32_at-faults }
 
-signed_stands : (N : ℕ) → IsWidth N → (bytes : List ℕ) (kind : ReadKind) → IsIntKind lastS N bytes kind → StandsAt kind bytes
-signed_stands N width bytes UnexpectedEnd s = tt
+pub signed_stands : (N : ℕ) → IsWidth N → (bytes : List ℕ) (kind : ReadKind) → IsIntKind lastS N bytes kind → StandsAt kind [] bytes
+signed_stands N width bytes UnexpectedEnd s = inr (inl (N, width, s))
 signed_stands N width bytes IntTooLong s = (N, width, s)
 signed_stands N width bytes IntTooLarge s = inr (N, width, s)
 signed_stands N width bytes _ s = absurd s
@@ -217,6 +286,38 @@ signed_at-faults N width end bytes e h fits =
 pub ReadsFront-signed_at : (N : ℕ) → IsWidth N → ReadsFront (signed_at N)
 ReadsFront-signed_at N width =
     record { takes = λ end bytes z rest e. let t = signed_at-takes N end bytes z rest e in (t.0 ∷ t.1, t.2); faults = signed_at-faults N width }
+
+-- ---- a piece behind its size
+
+-- a count that was read is spelled
+pub u32_there : (end : ℕ) (bytes : List ℕ) (x : ℕ × List ℕ) → u32_at end bytes ≡ Ok x → BeginsCount bytes
+u32_there end bytes x e = let c = u32_at-counts end bytes x.0 x.1 e in (c.0, x.1, x.0, c.1, c.2, c.3)
+
+module _ {B : Type 0} (more : ℕ → ℕ → List ℕ → Result (B × List ℕ) ReadFault) (pieces : (n : ℕ) → ReadsPiece n (more n)) where
+  sized_takes : (end : ℕ) (bytes : List ℕ) (y : B) (rest : List ℕ) → (u32_at end bytes >>= λ p. more p.0 end p.1) ≡ Ok (y, rest)
+      → (front : List ℕ) × (bytes ≡ front ++ rest)
+  sized_takes end bytes y rest e =
+      let a = bind_ok (u32_at end bytes) (λ p. more p.0 end p.1) (y, rest) e in
+      let one = ReadsFront-u32_at.takes end bytes a.0.0 a.0.1 a.1 in
+      let two = (pieces a.0.0).takes end a.0.1 y rest a.2 in
+      (one.0 ++ two.0, one.1 ∙ ap (λ b. one.0 ++ b) two.1 ∙ sym (append_assoc one.0 two.0 rest))
+
+  sized_faults : (end : ℕ) (bytes : List ℕ) (e : ReadFault) (r : Result (ℕ × List ℕ) ReadFault) → u32_at end bytes ≡ r
+      → (r >>= λ p. more p.0 end p.1) ≡ Err e → length bytes ≤ end → Stands (record { rest = bytes; end = end }) e
+  sized_faults end bytes e (Err d) is h fits = ReadsFront-u32_at.faults end bytes e (is ∙ cc) fits
+  sized_faults end bytes e (Ok p) is h fits =
+      let c = u32_at-counts end bytes p.0 p.1 is in
+      let s : Span = record { rest = bytes; end = end } in
+      let t : Span = record { rest = p.1; end = end } in
+      let fits' : length p.1 ≤ end = omega (arith, ap length c.2, length-append c.0 p.1) in
+      elim ((pieces p.0).faults end p.1 e h fits') [
+        | inl stood ↦ Stands-later c.0 s t e c.2 refl fits stood
+        | inr short ↦ short_stands c.0 p.0 s t e c.2 refl fits (inr (inr (inr (p.0, ([], c.0, refl, c.3), short.1)))) short
+      ]
+
+  -- a size, and then a piece of that many bytes
+  pub ReadsFront-sized : ReadsFront (λ end bytes. u32_at end bytes >>= λ p. more p.0 end p.1)
+  ReadsFront-sized = record { takes = sized_takes; faults = λ end bytes e h fits. sized_faults end bytes e (u32_at end bytes) refl h fits }
 
 -- the text of a name, behind its size
 abbrev text_at : ℕ → ℕ → List ℕ → Result (List ℕ × List ℕ) ReadFault
@@ -234,23 +335,19 @@ text_at-takes n end bytes text rest e =
     ]
 
 text_at-faults_of : (n end : ℕ) (bytes : List ℕ) (e : ReadFault) (r : Result (List ℕ × List ℕ) ReadFault) → piece_at n end bytes ≡ r
-    → (r >>= λ text. cond (is_utf8 text.0) (Ok text) (Err (fault BadUtf8 end bytes))) ≡ Err e → length bytes ≤ end
-    → Stands (record { rest = bytes; end = end }) e
-text_at-faults_of n end bytes e (Err d) is h fits = piece_at-faults n end bytes e (is ∙ cc) fits
-text_at-faults_of n end bytes e (Ok text) is h fits =
+    → (r >>= λ text. cond (is_utf8 text.0) (Ok text) (Err (fault BadUtf8 end bytes))) ≡ Err e
+    → Stands (record { rest = bytes; end = end }) e ⊎ IsShort n (record { rest = bytes; end = end }) e
+text_at-faults_of n end bytes e (Err d) is h = inr (piece_at-short n end bytes e (is ∙ cc))
+text_at-faults_of n end bytes e (Ok text) is h =
     elim (chosen (is_utf8 text.0) (Ok text) (Err (fault BadUtf8 end bytes)) (Err e) h) [
       | inl p ↦ absurd cc
       | inr p ↦
           let t = piece_at-takes n end bytes text.0 text.1 is in
-          stands_as BadUtf8 end bytes e (err_is {A = List ℕ × List ℕ} _ _ p.1)
-          (text.0, text.1, t.0, λ utf8. false≢true (sym p.0 ∙ is_utf8-from_IsUtf8 text.0 utf8))
+          inl (stands_as BadUtf8 end bytes e (err_is {A = List ℕ × List ℕ} _ _ p.1)
+          (text.0, text.1, t.0, λ utf8. false≢true (sym p.0 ∙ is_utf8-from_IsUtf8 text.0 utf8)))
     ]
-
-text_at-faults : (n end : ℕ) (bytes : List ℕ) (e : ReadFault) → text_at n end bytes ≡ Err e → length bytes ≤ end → Stands (record { rest = bytes; end = end }) e
-text_at-faults n end bytes e h fits = text_at-faults_of n end bytes e (piece_at n end bytes) refl h fits
 
 pub ReadsFront-name_at : ReadsFront name_at
 unfolding name_at
-ReadsFront-name_at = ReadsFront-then u32_at text_at ReadsFront-u32_at (λ n. record { takes = text_at-takes n; faults = text_at-faults n })
-
--- ---- of a call
+ReadsFront-name_at = ReadsFront-sized text_at
+    (λ n. record { takes = text_at-takes n; faults = λ end bytes e h fits. text_at-faults_of n end bytes e (piece_at n end bytes) refl h })

@@ -7,11 +7,11 @@ use Rattle.std.specs.Str.{IsUtf8}
 use Rattle.wk_bytes.specs.declared.fault.ReadKind.TheVariants.{BadByte}
 use Rattle.wk_bytes.specs.declared.fault.ReadFault.{ReadFault}
 use Rattle.wk_bytes.specs.Leb.{◌>>=◌, or_fail, SpellsU}
-use Rattle.wk_bytes.specs.LebLaws.{IsBytes, bind_ok, chosen, or_fail_ok, SpellsU-below}
+use Rattle.wk_bytes.specs.LebLaws.{IsBytes, bind_ok, chosen, or_fail_ok, SpellsU-below, IsBytes-after, IsBytes-before}
 use Rattle.wk_bytes.specs.Short.{short}
 use Rattle.wk_bytes.specs.ShortLaws.{short-some, short-spells, short-least}
 use Rattle.wk_bytes.specs.Span.{fault, byte_at, piece_at, u32_at, name_at}
-use Rattle.wk_bytes.specs.SpanLaws.{ok_is, IsBytes-after, IsBytes-before, byte_at-takes, piece_at-takes, piece_at-again}
+use Rattle.wk_bytes.specs.SpanLaws.{ok_is, byte_at-takes, piece_at-takes, piece_at-again}
 use Rattle.wk_bytes.specs.Pieces.{SpellsName}
 use Rattle.wk_bytes.specs.PieceLaws.{u32_at-found, u32_at-again, name_at-found, name_at-again}
 use Rattle.wk_bytes.specs.Stands.{Stands}

@@ -6,11 +6,11 @@ use Rattle.std.specs.List.{AllByRecursion}
 use Rattle.std.specs.Str.{IsUtf8}
 use Rattle.wk_bytes.specs.declared.fault.ReadFault.{ReadFault}
 use Rattle.wk_bytes.specs.Leb.{◌>>=◌, SpellsU}
-use Rattle.wk_bytes.specs.LebLaws.{IsBytes, bind_ok, chosen, some_is}
+use Rattle.wk_bytes.specs.LebLaws.{IsBytes, bind_ok, chosen, some_is, IsBytes-after, IsBytes-before}
 use Rattle.wk_bytes.specs.Short.{short}
 use Rattle.wk_bytes.specs.ShortLaws.{short-least}
 use Rattle.wk_bytes.specs.Span.{u32_at}
-use Rattle.wk_bytes.specs.SpanLaws.{good, IsBytes-after, IsBytes-before}
+use Rattle.wk_bytes.specs.SpanLaws.{good}
 use Rattle.wk_bytes.specs.Stands.{Stands}
 use Rattle.wk_bytes.specs.StandsLaws.{ReadsFront, Stands-within}
 use Rattle.wk_body.specs.declared.types.Profile.{Profile}

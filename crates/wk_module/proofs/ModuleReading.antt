@@ -6,11 +6,10 @@ use Rattle.std.proofs.lemmas.List.{append-nil}
 use Rattle.std.specs.Prelude.{IfOk, IfErr}
 use Rattle.wk_bytes.specs.declared.fault.ReadKind.TheVariants.{FuncCodeCount, Memory}
 use Rattle.wk_bytes.specs.declared.fault.ReadFault.{ReadFault}
-use Rattle.wk_bytes.specs.LebLaws.{IsBytes, bind_ok, chosen, done, ok_is}
+use Rattle.wk_bytes.specs.LebLaws.{IsBytes, bind_ok, chosen, done, ok_is, IsBytes-after, IsBytes-before}
 use Rattle.wk_bytes.specs.Pieces.{SpellsName}
 use Rattle.wk_bytes.specs.PieceLaws.{name_at-found, name_at-again}
 use Rattle.wk_bytes.specs.Span.{name_at}
-use Rattle.wk_bytes.specs.SpanLaws.{IsBytes-after, IsBytes-before}
 use Rattle.wk_bytes.specs.Frames.{Frame, Section, MayCome, frame_of, SpellsFrames, SpellsFraming, magic, version, sections_of, without_fault}
 use Rattle.wk_bytes.specs.FrameLaws.{contents_bytes, sections_of-found, sections_of-again}
 use Rattle.wk_body.specs.declared.types.Profile.{Profile}

@@ -7,11 +7,11 @@ use Rattle.std.specs.List.{AllByRecursion}
 use Rattle.wk_bytes.specs.declared.fault.ReadKind.TheVariants.{FuncCodeCount}
 use Rattle.wk_bytes.specs.declared.fault.ReadFault.{ReadFault}
 use Rattle.wk_bytes.specs.Leb.{◌>>=◌, SpellsU}
-use Rattle.wk_bytes.specs.LebLaws.{IsBytes, bind_ok, chosen, one_SpellsU, SpellsU-below}
+use Rattle.wk_bytes.specs.LebLaws.{IsBytes, bind_ok, chosen, one_SpellsU, SpellsU-below, IsBytes-after}
 use Rattle.wk_bytes.specs.ListWords.{is_empty}
 use Rattle.wk_bytes.specs.ShortLaws.{short-some}
 use Rattle.wk_bytes.specs.Span.{fault, u32_at}
-use Rattle.wk_bytes.specs.SpanLaws.{err_is, IsBytes-after}
+use Rattle.wk_bytes.specs.SpanLaws.{err_is}
 use Rattle.wk_bytes.specs.Stands.{Stands}
 use Rattle.wk_bytes.specs.StandsLaws.{Stands-later, stands_as}
 use Rattle.wk_body.specs.declared.types.Profile.{Profile}

@@ -3,8 +3,7 @@ use Rattle.std.proofs.Common.{◌≡◌, ◌≢◌, ℕ, zero, suc, ◌<◌, ◌
 use Rattle.std.proofs.Common.{arith}
 use Rattle.std.proofs.lemmas.Bool.{eqb-true, eqb-false, ne_eqb, cases_Bool}
 use Rattle.std.specs.Str.{IsUtf8}
-use Rattle.wk_bytes.specs.LebLaws.{IsBytes}
-use Rattle.wk_bytes.specs.SpanLaws.{IsBytes-after, IsBytes-before}
+use Rattle.wk_bytes.specs.LebLaws.{IsBytes, IsBytes-after, IsBytes-before}
 use Rattle.wk_bytes.specs.FrameLaws.{contents_bytes}
 use Rattle.wk_bytes.specs.Frames.{Frame, SpellsFrames, magic, version}
 use Rattle.wk_body.specs.declared.types.Profile.{Profile}

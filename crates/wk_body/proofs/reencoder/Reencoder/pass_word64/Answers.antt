@@ -1,6 +1,5 @@
 use Rattle.std.proofs.Common.{subst, refl}
-use Rattle.wk_bytes.specs.LebLaws.{IsBytes}
-use Rattle.wk_bytes.specs.SpanLaws.{IsBytes-before}
+use Rattle.wk_bytes.specs.LebLaws.{IsBytes, IsBytes-before}
 use Rattle.wk_body.proofs.Walking.{word_kept}
 use Rattle.wk_body.proofs.reencoder.Reencoder.pass_word64.Goals as goal
 
