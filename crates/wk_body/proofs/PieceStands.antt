@@ -6,11 +6,11 @@ use Rattle.wk_bytes.specs.declared.fault.ReadKind.TheVariants.{BadByte, UnknownO
 use Rattle.wk_bytes.specs.declared.fault.ReadFault.{ReadFault}
 use Rattle.wk_bytes.specs.Leb.{◌>>=◌, or_fail}
 use Rattle.wk_bytes.specs.LebLaws.{bind_ok, chosen, or_fail_ok}
-use Rattle.wk_bytes.specs.Span.{fault, byte_at, u32_at, signed_at, word_at}
-use Rattle.wk_bytes.specs.SpanLaws.{good, ok_is, err_is, byte_at-takes, u32_at-shorter, signed_at-takes}
-use Rattle.wk_bytes.specs.Stands.{StandsAt, Stands}
+use Rattle.wk_bytes.specs.Span.{Span, fault, byte_at, u32_at, signed_at, word_at}
+use Rattle.wk_bytes.specs.SpanLaws.{good, ok_is, err_is, byte_at-takes, signed_at-takes}
+use Rattle.wk_bytes.specs.Stands.{IsCut, StandsAt, Stands}
 use Rattle.wk_bytes.specs.StandsLaws.{ReadsFront, ReadsFront-done, ReadsFront-then, ReadsFront-byte_at, ReadsFront-u32_at, ReadsFront-signed_at}
-use Rattle.wk_bytes.specs.StandsLaws.{ReadsFront-word_at, Stands-later, stands_as}
+use Rattle.wk_bytes.specs.StandsLaws.{ReadsPiece, ReadsPiece-word_at, Stands-later, short_stands, stands_as, u32_there}
 use Rattle.wk_body.specs.declared.types.ValType.{ValType}
 use Rattle.wk_body.specs.declared.types.Profile.{Profile}
 use Rattle.wk_body.specs.declared.types.Profile.TheVariants.{Core, Extended}
@@ -53,7 +53,7 @@ module _ {A B : Type 0} (kind : ReadKind) (read : ℕ → List ℕ → Result (A
       let two = (second (fault kind end bytes) a.0.0).takes end a.0.1 y rest a.2 in
       (one.0 ++ two.0, one.1 ∙ ap (λ b. one.0 ++ b) two.1 ∙ sym (append_assoc one.0 two.0 rest))
 
-  or_faults : ReadsFront read → ((end : ℕ) (bytes : List ℕ) (x : A × List ℕ) → read end bytes ≡ Ok x → StandsAt kind bytes)
+  or_faults : ReadsFront read → ((end : ℕ) (bytes : List ℕ) (x : A × List ℕ) → read end bytes ≡ Ok x → StandsAt kind [] bytes)
       → ((e : ReadFault) (x : A) → ReadsOr e (more e x))
       → (end : ℕ) (bytes : List ℕ) (e : ReadFault) (r : Result (A × List ℕ) ReadFault) → read end bytes ≡ r
       → (r >>= λ p. more (fault kind end bytes) p.0 end p.1) ≡ Err e → length bytes ≤ end → Stands (record { rest = bytes; end = end }) e
@@ -66,7 +66,7 @@ module _ {A B : Type 0} (kind : ReadKind) (read : ℕ → List ℕ → Result (A
         | inr later ↦ Stands-later one.0 (record { rest = bytes; end = end }) (record { rest = p.1; end = end }) e one.1 refl fits later
       ]
 
-  pub ReadsFront-or : ReadsFront read → ((end : ℕ) (bytes : List ℕ) (x : A × List ℕ) → read end bytes ≡ Ok x → StandsAt kind bytes)
+  pub ReadsFront-or : ReadsFront read → ((end : ℕ) (bytes : List ℕ) (x : A × List ℕ) → read end bytes ≡ Ok x → StandsAt kind [] bytes)
       → ((e : ReadFault) (x : A) → ReadsOr e (more e x)) → ReadsFront (λ end bytes. read end bytes >>= λ p. more (fault kind end bytes) p.0 end p.1)
   ReadsFront-or first there second = record {
     takes = or_takes first second;
@@ -76,9 +76,6 @@ module _ {A B : Type 0} (kind : ReadKind) (read : ℕ → List ℕ → Result (A
 -- there is a byte where one was read
 byte_there : (end : ℕ) (bytes : List ℕ) (x : ℕ × List ℕ) → byte_at end bytes ≡ Ok x → 0 < length bytes
 byte_there end bytes x e = omega (arith, ap length (byte_at-takes end bytes x.0 x.1 e))
-
-u32_there : (end : ℕ) (bytes : List ℕ) (x : ℕ × List ℕ) → u32_at end bytes ≡ Ok x → 0 < length bytes
-u32_there end bytes x e = omega (arith, u32_at-shorter end bytes x.0 x.1 e)
 
 signed_there : (N end : ℕ) (bytes : List ℕ) (x : ℤ × List ℕ) → signed_at N end bytes ≡ Ok x → 0 < length bytes
 signed_there N end bytes x e = let t = signed_at-takes N end bytes x.0 x.1 e in omega (arith, ap length t.2)
@@ -199,20 +196,60 @@ ReadsFront-labels_at =
     (ReadsFront-vector_at u32_at ReadsFront-u32_at) (λ labels.
     ReadsFront-made u32_at (λ other. (labels, other)) ReadsFront-u32_at)
 
-pub ReadsFront-behind_form : (f : Form) → HasWidth f → ReadsFront (behind_form f)
+-- how many bytes the word of a form has, if it has one
+abbrev word_size : Form → ℕ
+word_size (WithWord size make) = size
+word_size _ = 0
+
+-- one that reads a piece of no bytes first
+ReadsPiece-front : {A : Type 0} (n : ℕ) (read : ℕ → List ℕ → Result (A × List ℕ) ReadFault) → ReadsFront read → ReadsPiece n read
+ReadsPiece-front n read reads = record { takes = reads.takes; faults = λ end bytes e h fits. inl (reads.faults end bytes e h fits) }
+
+abbrev remade : {A B : Type 0} → (A → B) → A × List ℕ → Result (B × List ℕ) ReadFault
+remade make x = Ok (make x.0, x.1)
+
+made_takes : {A B : Type 0} (read : ℕ → List ℕ → Result (A × List ℕ) ReadFault) (make : A → B) (end : ℕ) (bytes : List ℕ) (y : B) (rest : List ℕ)
+    → ((x : A) (after : List ℕ) → read end bytes ≡ Ok (x, after) → (front : List ℕ) × (bytes ≡ front ++ after))
+    → (read end bytes >>= remade make) ≡ Ok (y, rest) → (front : List ℕ) × (bytes ≡ front ++ rest)
+made_takes {B = B} read make end bytes y rest takes h =
+    let a = bind_ok (read end bytes) (remade make) (y, rest) h in
+    let t = takes a.0.0 a.0.1 a.1 in
+    (t.0, t.1 ∙ ap (λ (p : B × List ℕ). t.0 ++ p.1) (ok_is (make a.0.0, a.0.1) (y, rest) a.2))
+
+made_fails : {A B : Type 0} (make : A → B) (e : ReadFault) (r : Result (A × List ℕ) ReadFault) → (r >>= remade make) ≡ Err e → r ≡ Err e
+made_fails make e (Ok x) h = absurd cc
+made_fails make e (Err d) h = cc
+
+ReadsPiece-made : {A B : Type 0} (n : ℕ) (read : ℕ → List ℕ → Result (A × List ℕ) ReadFault) (make : A → B) → ReadsPiece n read
+    → ReadsPiece n (λ end bytes. read end bytes >>= remade make)
+ReadsPiece-made n read make reads = record {
+  takes = λ end bytes y rest h. made_takes read make end bytes y rest (reads.takes end bytes) h;
+  faults = λ end bytes e h fits. reads.faults end bytes e (made_fails make e (read end bytes) h) fits;
+}
+
+-- what a form reads behind an opcode
+ReadsPiece-form : (x : ℕ) (f : Form) → HasWidth x f → ReadsPiece (word_size f) (behind_form f)
 unfolding behind_form
-ReadsFront-behind_form (Alone p) width = ReadsFront-done p
-ReadsFront-behind_form (WithReserved p) width = ReadsFront-made reserved_at (λ z. p) ReadsFront-reserved_at
-ReadsFront-behind_form (WithIndex make) width = ReadsFront-made u32_at make ReadsFront-u32_at
-ReadsFront-behind_form (WithIndexReserved make) width =
-    ReadsFront-then u32_at (λ x end rest. reserved_at end rest >>= λ z. Ok (make x, z.1)) ReadsFront-u32_at
-    (λ x. ReadsFront-made reserved_at (λ z. make x) ReadsFront-reserved_at)
-ReadsFront-behind_form (WithLabels make) width = ReadsFront-made labels_at (λ ls. make ls.0 ls.1) ReadsFront-labels_at
-ReadsFront-behind_form (WithMemarg make) width =
-    ReadsFront-then u32_at (λ align end rest. u32_at end rest >>= λ offset. Ok (make align offset.0, offset.1)) ReadsFront-u32_at
-    (λ align. ReadsFront-made u32_at (make align) ReadsFront-u32_at)
-ReadsFront-behind_form (WithSigned bits make) width = ReadsFront-made (signed_at bits) make (ReadsFront-signed_at bits width)
-ReadsFront-behind_form (WithWord size make) width = ReadsFront-made (word_at size) make (ReadsFront-word_at size)
+ReadsPiece-form x (Alone p) width = ReadsPiece-front 0 (behind_form (Alone p)) (ReadsFront-done p)
+ReadsPiece-form x (WithReserved p) width = ReadsPiece-front 0 (behind_form (WithReserved p)) (ReadsFront-made reserved_at (λ z. p) ReadsFront-reserved_at)
+ReadsPiece-form x (WithIndex make) width = ReadsPiece-front 0 (behind_form (WithIndex make)) (ReadsFront-made u32_at make ReadsFront-u32_at)
+ReadsPiece-form x (WithIndexReserved make) width = ReadsPiece-front 0 (behind_form (WithIndexReserved make))
+    (ReadsFront-then u32_at (λ x end rest. reserved_at end rest >>= λ z. Ok (make x, z.1)) ReadsFront-u32_at
+    (λ x. ReadsFront-made reserved_at (λ z. make x) ReadsFront-reserved_at))
+ReadsPiece-form x (WithLabels make) width =
+    ReadsPiece-front 0 (behind_form (WithLabels make)) (ReadsFront-made labels_at (λ ls. make ls.0 ls.1) ReadsFront-labels_at)
+ReadsPiece-form x (WithMemarg make) width = ReadsPiece-front 0 (behind_form (WithMemarg make))
+    (ReadsFront-then u32_at (λ align end rest. u32_at end rest >>= λ offset. Ok (make align offset.0, offset.1)) ReadsFront-u32_at
+    (λ align. ReadsFront-made u32_at (make align) ReadsFront-u32_at))
+ReadsPiece-form x (WithSigned bits make) width =
+    ReadsPiece-front 0 (behind_form (WithSigned bits make)) (ReadsFront-made (signed_at bits) make (ReadsFront-signed_at bits width))
+ReadsPiece-form x (WithWord size make) width = ReadsPiece-made size (word_at size) make (ReadsPiece-word_at size)
+
+-- a word that is cut short wants four or eight bytes, as the opcode in front says
+form_cut : (x : ℕ) (f : Form) (rest : List ℕ) → HasWidth x f → length rest < word_size f → IsCut (x ∷ []) rest
+form_cut x (WithWord size make) rest (inl is) short = inr (inr (inl (inl ([], ap (λ (b : ℕ). b ∷ []) is.0, omega (arith, is.1, short)))))
+form_cut x (WithWord size make) rest (inr is) short = inr (inr (inl (inr ([], ap (λ (b : ℕ). b ∷ []) is.0, omega (arith, is.1, short)))))
+form_cut x _ rest width short = absurd (omega (arith, short))
 
 -- ---- an instruction that holds no others
 
@@ -221,7 +258,7 @@ pub plain_at-takes : (profile : Profile) (e : ReadFault) (opcode end : ℕ) (res
 unfolding plain_at
 plain_at-takes profile e opcode end rest x h =
     let f = bind_ok (or_fail (form_of profile opcode) e) (λ f. behind_form f end rest) x h in
-    let reads = ReadsFront-behind_form f.0 (form_of-width profile opcode f.0 (or_fail_ok (form_of profile opcode) e f.0 f.1)) in
+    let reads = ReadsPiece-form opcode f.0 (form_of-width profile opcode f.0 (or_fail_ok (form_of profile opcode) e f.0 f.1)) in
     reads.takes end rest x.0 x.1 f.2
 
 plain_faults : (profile : Profile) (opcode end : ℕ) (rest : List ℕ) (e : ReadFault) (o : Option Form) → form_of profile opcode ≡ o → (opcode ≡ 0x02 → ⊥)
@@ -231,9 +268,13 @@ plain_faults : (profile : Profile) (opcode end : ℕ) (rest : List ℕ) (e : Rea
 plain_faults profile opcode end rest e None is two three four closes h fits =
     stands_as UnknownOpcode end (opcode ∷ rest) e (err_is {A = Plain × List ℕ} _ e h) (form_of-none profile opcode two three four closes is)
 plain_faults profile opcode end rest e (Some f) is two three four closes h fits =
-    let reads = ReadsFront-behind_form f (form_of-width profile opcode f is) in
-    Stands-later (opcode ∷ []) (record { rest = opcode ∷ rest; end = end }) (record { rest = rest; end = end }) e refl refl fits
-    (reads.faults end rest e h (omega arith))
+    let width = form_of-width profile opcode f is in
+    let s : Span = record { rest = opcode ∷ rest; end = end } in
+    let t : Span = record { rest = rest; end = end } in
+    elim ((ReadsPiece-form opcode f width).faults end rest e h (omega arith)) [
+      | inl stood ↦ Stands-later (opcode ∷ []) s t e refl refl fits stood
+      | inr short ↦ short_stands (opcode ∷ []) (word_size f) s t e refl refl fits (form_cut opcode f rest width short.1) short
+    ]
 
 -- behind an opcode that neither opens nor ends a block
 pub plain_stands : (profile : Profile) (opcode end : ℕ) (rest : List ℕ) (e : ReadFault) → (opcode ≡ 0x02 → ⊥) → (opcode ≡ 0x03 → ⊥)

@@ -11,7 +11,7 @@ use Rattle.wk_bytes.specs.LebLaws.{IsBytes, bind_ok, chosen}
 use Rattle.wk_bytes.specs.Span.{Span, fault}
 use Rattle.wk_bytes.specs.SpanLaws.{ok_is, err_is, not_both}
 use Rattle.wk_bytes.specs.PieceLaws.{read_prefix_free}
-use Rattle.wk_bytes.specs.Stands.{StandsAt, Stands, StandsOrMemory, StandsIn, whole}
+use Rattle.wk_bytes.specs.Stands.{StandsAt, Stands, StandsOrMemory, StandsInCode, whole}
 use Rattle.wk_bytes.specs.StandsLaws.{ReadsFront, StandsOrMemory-whole}
 use Rattle.wk_body.specs.declared.types.Profile.{Profile}
 use Rattle.wk_body.specs.Tree.{Instrs}
@@ -160,7 +160,7 @@ body_stands profile s (Err e) fits given = stands_or s e _ (λ h. all_body_stand
 
 -- a fault that stands in the bytes of a whole input
 pub stands_in : {X : Type 0} (bytes : List ℕ) (result : Result X ReadFault) → IfErr result (λ e. StandsOrMemory (whole bytes) e)
-    → IfErr result (λ e. StandsIn bytes e)
+    → IfErr result (λ e. StandsInCode bytes e)
 stands_in bytes (Ok x) stands = tt
 stands_in bytes (Err e) stands = StandsOrMemory-whole bytes e stands
 
@@ -253,7 +253,7 @@ bodies_read profile = all_read (SpellsBody profile) (body_at profile) (bodies pr
 
 -- a fault that stands is no want of memory
 stands_not_memory : (s : Span) (e : ReadFault) → Stands s e → e.kind ≢ Memory
-stands_not_memory s e stood = λ same. subst (λ (kind : ReadKind). StandsAt kind stood.from) same stood.stands
+stands_not_memory s e stood = λ same. subst (λ (kind : ReadKind). StandsAt kind stood.skipped stood.from) same stood.stands
 
 long_not_memory : long_input.kind ≢ Memory
 long_not_memory = λ same. absurd cc

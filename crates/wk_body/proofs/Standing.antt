@@ -9,7 +9,7 @@ use Rattle.wk_bytes.specs.Leb.{◌>>=◌}
 use Rattle.wk_bytes.specs.LebLaws.{chosen}
 use Rattle.wk_bytes.specs.Span.{fault, u32_at}
 use Rattle.wk_bytes.specs.SpanLaws.{ok_is, err_is}
-use Rattle.wk_bytes.specs.Stands.{Stands}
+use Rattle.wk_bytes.specs.Stands.{Opens, Stands}
 use Rattle.wk_bytes.specs.StandsLaws.{Stands-later, Stands-here, stands_as, ReadsFront, ReadsFront-done, ReadsFront-then, ReadsFront-u32_at}
 use Rattle.wk_body.specs.declared.types.Profile.{Profile}
 use Rattle.wk_body.specs.declared.types.BlockType.{BlockType}
@@ -65,13 +65,13 @@ behind_stands : (opcode end : ℕ) (rest : List ℕ) (e : ReadFault) → length 
 behind_stands opcode end rest e fits stood = Stands-later (opcode ∷ []) (record { rest = opcode ∷ rest; end = end })
     (record { rest = rest; end = end }) e refl refl fits stood
 
-here_deep : (opcode end : ℕ) (rest : List ℕ) → Stands (record { rest = opcode ∷ rest; end = end }) (fault TooDeep end (opcode ∷ rest))
-here_deep opcode end rest = Stands-here TooDeep end (opcode ∷ rest) (omega arith)
+here_deep : (opcode end : ℕ) (rest : List ℕ) → Opens opcode → Stands (record { rest = opcode ∷ rest; end = end }) (fault TooDeep end (opcode ∷ rest))
+here_deep opcode end rest opens = Stands-here TooDeep end (opcode ∷ rest) opens
 
 opening_behind : (profile : Profile) (make : BlockType → Tok) (ks : List Bool) (opcode end : ℕ) (rest : List ℕ)
-    → ReadsBehind opcode end rest (opening_at make profile ks (end - length (opcode ∷ rest)) end rest)
+    → Opens opcode → ReadsBehind opcode end rest (opening_at make profile ks (end - length (opcode ∷ rest)) end rest)
 unfolding type_here
-opening_behind profile make ks opcode end rest =
+opening_behind profile make ks opcode end rest opens =
     let deep = fault TooDeep end (opcode ∷ rest) in
     let types = ReadsFront-type_at profile in
     behind_mapped opcode end rest make (type_here profile ks deep end rest)
@@ -81,7 +81,7 @@ opening_behind profile make ks opcode end rest =
     ])
     (λ e h fits. elim (chosen (ltb (length ks) depth_limit) (type_at profile end rest) (Err deep) (Err e) h) [
       | inl p ↦ behind_stands opcode end rest e fits (types.faults end rest e p.1 (omega arith))
-      | inr p ↦ subst (Stands (record { rest = opcode ∷ rest; end = end })) (err_is {A = BlockType × List ℕ} deep e p.1) (here_deep opcode end rest)
+      | inr p ↦ subst (Stands (record { rest = opcode ∷ rest; end = end })) (err_is {A = BlockType × List ℕ} deep e p.1) (here_deep opcode end rest opens)
     ])
 
 plain_behind : (profile : Profile) (opcode end : ℕ) (rest : List ℕ) → (opcode ≡ 0x02 → ⊥) → (opcode ≡ 0x03 → ⊥) → (opcode ≡ 0x04 → ⊥) → (opcode ≡ 0x0B → ⊥)
@@ -102,6 +102,9 @@ either opcode end rest false x y then_ else_ = else_ refl
 stray_else : (opcode end : ℕ) (rest : List ℕ) → opcode ≡ 0x05 → Stands (record { rest = opcode ∷ rest; end = end }) (fault UnknownOpcode end (opcode ∷ rest))
 stray_else opcode end rest is = Stands-here UnknownOpcode end (opcode ∷ rest) (rw is refl)
 
+opens_at : (opcode x : ℕ) → 0x02 ≤ x → x ≤ 0x04 → eqb opcode x ≡ true → Opens opcode
+opens_at opcode x low high is = let same = eqb-true opcode x is in (omega (arith, same, low), omega (arith, same, high))
+
 pub token_behind : (profile : Profile) (ks : List Bool) (opcode end : ℕ) (rest : List ℕ)
     → ReadsBehind opcode end rest (behind_at profile ks (end - length (opcode ∷ rest)) opcode end rest)
 unfolding behind_at
@@ -110,9 +113,12 @@ token_behind profile ks opcode end rest =
     either opcode end rest (eqb opcode 0x05) _ _
     (λ is. either opcode end rest (may_else ks) _ _ (λ _. behind_alone opcode end rest (Otherwise 0))
     (λ _. behind_fault opcode end rest _ (λ fits. stray_else opcode end rest (eqb-true _ _ is)))) (λ _.
-    either opcode end rest (eqb opcode 0x02) _ _ (λ _. opening_behind profile (λ ty. Open kinds.Block ty 0) ks opcode end rest) (λ no_block.
-    either opcode end rest (eqb opcode 0x03) _ _ (λ _. opening_behind profile (λ ty. Open kinds.Loop ty 0) ks opcode end rest) (λ no_loop.
-    either opcode end rest (eqb opcode 0x04) _ _ (λ _. opening_behind profile (λ ty. OpenIf ty 0) ks opcode end rest) (λ no_if.
+    either opcode end rest (eqb opcode 0x02) _ _
+    (λ is. opening_behind profile (λ ty. Open kinds.Block ty 0) ks opcode end rest (opens_at opcode 0x02 (omega arith) (omega arith) is)) (λ no_block.
+    either opcode end rest (eqb opcode 0x03) _ _
+    (λ is. opening_behind profile (λ ty. Open kinds.Loop ty 0) ks opcode end rest (opens_at opcode 0x03 (omega arith) (omega arith) is)) (λ no_loop.
+    either opcode end rest (eqb opcode 0x04) _ _
+    (λ is. opening_behind profile (λ ty. OpenIf ty 0) ks opcode end rest (opens_at opcode 0x04 (omega arith) (omega arith) is)) (λ no_if.
     plain_behind profile opcode end rest (eqb-false _ _ no_block) (eqb-false _ _ no_loop) (eqb-false _ _ no_if) (eqb-false _ _ no_end))))))
 
 token_takes : (profile : Profile) (ks : List Bool) (end : ℕ) (bytes : List ℕ) (t : Tok) (rest : List ℕ) → token_at profile ks end bytes ≡ Ok (t, rest)
@@ -124,7 +130,7 @@ token_takes profile ks end (opcode ∷ bytes) t rest e =
 
 token_faults : (profile : Profile) (ks : List Bool) (end : ℕ) (bytes : List ℕ) (e : ReadFault) → token_at profile ks end bytes ≡ Err e
     → length bytes ≤ end → Stands (record { rest = bytes; end = end }) e
-token_faults profile ks end [] e h fits = stands_as UnexpectedEnd end [] e (err_is {A = Tok × List ℕ} _ _ h) tt
+token_faults profile ks end [] e h fits = stands_as UnexpectedEnd end [] e (err_is {A = Tok × List ℕ} _ _ h) (inl refl)
 token_faults profile ks end (opcode ∷ bytes) e h fits = (token_behind profile ks opcode end bytes).faults e h fits
 
 pub ReadsFront-token_at : (profile : Profile) (ks : List Bool) → ReadsFront (token_at profile ks)
@@ -143,7 +149,7 @@ ends_early : {A : Type 0} → ReadsFront {A = A} (λ end bytes. Err (fault Unexp
 ends_early {A = A} = record {
   takes = λ end bytes x rest e. absurd cc;
   faults = λ end bytes e h fits. subst (Stands (record { rest = bytes; end = end })) (err_is {A = A × List ℕ} _ e h)
-      (record { skipped = bytes; from = []; parts = sym (append-nil bytes); place = omega arith; stands = tt });
+      (record { skipped = bytes; from = []; later = []; parts = sym (append-nil bytes); place = omega arith; ends = inl refl; stands = inl refl });
 }
 
 -- what a token and those behind it give

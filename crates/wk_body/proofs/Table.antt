@@ -1,6 +1,6 @@
 -- The table of instructions from both sides: the form of an opcode makes the instructions of that opcode, and each
 -- instruction has the form of its opcode.
-use Rattle.std.proofs.Common.{◌≡◌, ℕ, zero, suc, ◌+◌, ◌-◌, ◌<◌, ◌≤◌, ℤ, Bool, true, false, cond, ltb, leb, eqb, inl, inr, List, [], ◌∷◌, Option, Some, None}
+use Rattle.std.proofs.Common.{◌≡◌, ℕ, zero, suc, ◌+◌, ◌-◌, ◌<◌, ◌≤◌, ℤ, Bool, true, false, cond, ltb, leb, eqb, ◌⊎◌, inl, inr, List, [], ◌∷◌, Option, Some, None}
 use Rattle.std.proofs.Common.{refl, sym, ap, subst, ◌∙◌, arith}
 use Rattle.std.specs.Prelude.{slice_get, ◌&&◌, ◌||◌, not, is_some}
 use Rattle.std.specs.List.{AllByRecursion}
@@ -163,27 +163,29 @@ form_of-makes profile x f e =
       | inr p ↦ (any_form-makes x f p.1, ltb-false _ _ p.0)
     ]
 
--- ---- the widths of signed integers
+-- ---- the widths of signed integers and of words
 
-abbrev pub HasWidth : Form → Type 0
-HasWidth (WithSigned bits make) = IsWidth bits
-HasWidth _ = Unit {0}
+-- signed integers have a width of the format, and the words of an `f32.const` and an `f64.const` have four and eight bytes
+abbrev pub HasWidth : ℕ → Form → Type 0
+HasWidth x (WithSigned bits make) = IsWidth bits
+HasWidth x (WithWord size make) = ((x ≡ 0x43) × (size ≡ 4)) ⊎ ((x ≡ 0x44) × (size ≡ 8))
+HasWidth x _ = Unit {0}
 
-rows_have_width : OfRows (λ x f. HasWidth f) rows
+rows_have_width : OfRows HasWidth rows
 rows_have_width = (
   tt,
   (
     tt,
-    (tt, (tt, (tt, (tt, (tt, (tt, (tt, (tt, (tt, (tt, (tt, (tt, (tt, (tt, (tt, (inl refl, (inr (inr refl), (tt, (tt, tt))))))))))))))))))),
+    (tt, (tt, (tt, (tt, (tt, (tt, (tt, (tt, (tt, (tt, (tt, (tt, (tt, (tt, (tt, (inl refl, (inr (inr refl), (inl (refl, refl), (inr (refl, refl), tt))))))))))))))))))),
   ),
 )
 
-pub form_of-width : (profile : Profile) (x : ℕ) (f : Form) → form_of profile x ≡ Some f → HasWidth f
+pub form_of-width : (profile : Profile) (x : ℕ) (f : Form) → form_of profile x ≡ Some f → HasWidth x f
 unfolding form_of
 form_of-width profile x f e =
     elim (chosen (ltb (last_opcode profile) x) None (any_form x) (Some f) e) [
       | inl p ↦ absurd cc
-      | inr p ↦ of_opcode (λ x f. HasWidth f) rows_have_width (λ op. tt) (λ op. tt) x f p.1
+      | inr p ↦ of_opcode HasWidth rows_have_width (λ op. tt) (λ op. tt) x f p.1
     ]
 
 -- ---- each instruction has the form of its opcode

@@ -4,7 +4,7 @@ ghost use Rattle.std.specs.Prelude.{◌≡◌, ◌≢◌, ◌<◌, ◌≤◌, �
 ghost use Rattle.wk_bytes.specs.declared.fault.ReadKind.TheVariants.{BodySize};
 ghost use Rattle.wk_bytes.specs.Fault.{long_input};
 ghost use Rattle.wk_bytes.specs.Span.{fault};
-ghost use Rattle.wk_bytes.specs.Stands.{StandsIn, StandsOrMemory};
+ghost use Rattle.wk_bytes.specs.Stands.{StandsInCode, StandsOrMemory};
 ghost use Rattle.wk_body.specs.ValTypes.{valtype_at};
 ghost use Rattle.wk_body.specs.Reads.{FailsAs, Parses, Reads};
 ghost use Rattle.wk_body.specs.Reading.{groups_at, body_at, expr_at, all_expr_at, all_body_at, whole_at};
@@ -172,7 +172,7 @@ pub fn read_body_in(alloc: Global, bytes: &[u8], profile: Profile) -> Result<Bod
     ensures exact { Reads (λ b. b) result (whole_at (all_body_at profile) bytes.now) }
     ensures only { FindsOnly (λ b. b) (SpellsBody profile) bytes.now result }
     ensures profile { IfOk result (λ b. IsOf profile b.instrs) }
-    ensures fault { IfErr result (λ e. StandsIn bytes.now e) }
+    ensures fault { IfErr result (λ e. StandsInCode bytes.now e) }
 {
     check_len(bytes)?;
     Scratch::new(alloc).read_body(alloc, &Cursor::new(bytes), profile)
@@ -183,7 +183,7 @@ pub fn read_body(alloc: Global, bytes: &[u8]) -> Result<Body, ReadFault>
     ensures exact { Reads (λ b. b) result (whole_at (all_body_at Profile.Core) bytes.now) }
     ensures only { FindsOnly (λ b. b) (SpellsBody Profile.Core) bytes.now result }
     ensures profile { IfOk result (λ b. IsOf Profile.Core b.instrs) }
-    ensures fault { IfErr result (λ e. StandsIn bytes.now e) }
+    ensures fault { IfErr result (λ e. StandsInCode bytes.now e) }
 {
     read_body_in(alloc, bytes, Profile::Core)
 }
@@ -208,7 +208,7 @@ pub fn read_expr_in(alloc: Global, bytes: &[u8], profile: Profile) -> Result<Exp
     ensures exact { Reads (λ e. e) result (whole_at (all_expr_at profile) bytes.now) }
     ensures only { FindsOnly (λ e. e) (SpellsExpr profile) bytes.now result }
     ensures profile { IfOk result (IsOf profile) }
-    ensures fault { IfErr result (λ e. StandsIn bytes.now e) }
+    ensures fault { IfErr result (λ e. StandsInCode bytes.now e) }
 {
     check_len(bytes)?;
     expr_whole(alloc, &Cursor::new(bytes), profile)
@@ -219,7 +219,7 @@ pub fn read_expr(alloc: Global, bytes: &[u8]) -> Result<Expr, ReadFault>
     ensures exact { Reads (λ e. e) result (whole_at (all_expr_at Profile.Core) bytes.now) }
     ensures only { FindsOnly (λ e. e) (SpellsExpr Profile.Core) bytes.now result }
     ensures profile { IfOk result (IsOf Profile.Core) }
-    ensures fault { IfErr result (λ e. StandsIn bytes.now e) }
+    ensures fault { IfErr result (λ e. StandsInCode bytes.now e) }
 {
     read_expr_in(alloc, bytes, Profile::Core)
 }
