@@ -11,12 +11,12 @@ use Rattle.wk_bytes.specs.LebLaws.{IsBytes, bind_ok, chosen, or_fail_ok, SpellsU
 use Rattle.wk_bytes.specs.Short.{short}
 use Rattle.wk_bytes.specs.ShortLaws.{short-some, short-spells, short-least}
 use Rattle.wk_bytes.specs.Span.{fault, byte_at, piece_at, u32_at, name_at}
-use Rattle.wk_bytes.specs.SpanLaws.{ok_is, byte_at-takes, piece_at-takes, piece_at-again}
+use Rattle.wk_bytes.specs.SpanLaws.{ok_is, byte_at-takes, piece_at-takes, piece_at-again, u32_at-counts}
 use Rattle.wk_bytes.specs.Pieces.{SpellsName}
 use Rattle.wk_bytes.specs.PieceLaws.{u32_at-found, u32_at-again, name_at-found, name_at-again}
-use Rattle.wk_bytes.specs.Stands.{Stands}
-use Rattle.wk_bytes.specs.StandsLaws.{ReadsFront, ReadsFront-done, ReadsFront-then, ReadsFront-byte_at, ReadsFront-piece_at, ReadsFront-u32_at}
-use Rattle.wk_bytes.specs.StandsLaws.{ReadsFront-name_at, Stands-here}
+use Rattle.wk_bytes.specs.Stands.{Counts, EndsWithSize, Stands}
+use Rattle.wk_bytes.specs.StandsLaws.{ReadsFront, ReadsFront-done, ReadsFront-then, ReadsFront-byte_at, ReadsFront-u32_at}
+use Rattle.wk_bytes.specs.StandsLaws.{ReadsFront-sized, ReadsPiece-piece_at, ReadsFront-name_at, Stands-here}
 use Rattle.wk_body.specs.Shape.{IsU32}
 use Rattle.wk_body.specs.Vectors.{SpellsItems, SpellsVector, items_at, vector_at, written_vector}
 use Rattle.wk_module.specs.WritingLaws.{length_le_flat_map}
@@ -87,12 +87,14 @@ bytes_found end bytes x rest fits e =
     )
 
 -- the bytes of the number alone stand before what is read
-pub bytes_parts : (end : ℕ) (bytes x rest : List ℕ) → bytes_at end bytes ≡ Ok (x, rest) → (size : List ℕ) × (bytes ≡ size ++ (x ++ rest))
+pub bytes_parts : (end : ℕ) (bytes x rest : List ℕ) → bytes_at end bytes ≡ Ok (x, rest)
+    → (size : List ℕ) × (bytes ≡ size ++ (x ++ rest)) × EndsWithSize size (length x)
 unfolding bytes_at
 bytes_parts end bytes x rest e =
     let a = bind_ok (u32_at end bytes) (λ n. piece_at n.0 end n.1) (x, rest) e in
-    let size = ReadsFront-u32_at.takes end bytes a.0.0 a.0.1 a.1 in
-    (size.0, behind bytes size.0 a.0.1 (x ++ rest) size.1 (piece_at-takes a.0.0 end a.0.1 x rest a.2).0)
+    let size = u32_at-counts end bytes a.0.0 a.0.1 a.1 in
+    let piece = piece_at-takes a.0.0 end a.0.1 x rest a.2 in
+    (size.0, behind bytes size.0 a.0.1 (x ++ rest) size.2 piece.0, ([], size.0, refl, subst (Counts size.0) (sym piece.1) size.3))
 
 bytes_again : (end : ℕ) (b x rest : List ℕ) → SpellsBytes b x → bytes_at end (b ++ rest) ≡ Ok (x, rest)
 unfolding bytes_at
@@ -101,7 +103,7 @@ bytes_again end b x rest s =
 
 bytes_front : ReadsFront bytes_at
 unfolding bytes_at
-bytes_front = ReadsFront-then u32_at piece_at ReadsFront-u32_at ReadsFront-piece_at
+bytes_front = ReadsFront-sized piece_at ReadsPiece-piece_at
 
 pub bytes_format : IsFormat (λ (b : List ℕ). Unit {0}) SpellsBytes bytes_at written_bytes
 bytes_format = record {

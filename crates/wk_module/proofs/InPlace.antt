@@ -18,7 +18,7 @@ use Rattle.wk_module.proofs.Standing.{memory_or_read}
 
 -- what stands in bytes is no want of memory
 pub stands_sure : (s : Span) (e : ReadFault) → Stands s e → e.kind ≡ Memory → ⊥
-stands_sure s e stood is = subst (λ (k : ReadKind). StandsAt k stood.from) is stood.stands
+stands_sure s e stood is = subst (λ (k : ReadKind). StandsAt k stood.skipped stood.from) is stood.stands
 
 -- a fault that is answered and is no want of memory stands in the bytes left
 sure_stands : {A : Type 0} (read : Reader A) → ReadsFront read → (s : Span) (e : ReadFault) → length s.rest ≤ s.end → e.kind ≢ Memory

@@ -11,7 +11,7 @@ use Rattle.wk_bytes.specs.Short.{short}
 use Rattle.wk_bytes.specs.ShortLaws.{short-least}
 use Rattle.wk_bytes.specs.Span.{u32_at}
 use Rattle.wk_bytes.specs.SpanLaws.{good}
-use Rattle.wk_bytes.specs.Stands.{Stands}
+use Rattle.wk_bytes.specs.Stands.{EndsWithSize, Stands}
 use Rattle.wk_bytes.specs.StandsLaws.{ReadsFront, Stands-within}
 use Rattle.wk_body.specs.declared.types.Profile.{Profile}
 use Rattle.wk_body.specs.declared.types.ValType.{ValType}
@@ -338,16 +338,16 @@ module _ (profile : Profile) (laws : CodeLaws profile) where
   code_takes end bytes body rest e = let m = code_steps end bytes body rest e in bytes_format.fronts.takes end bytes m.0 rest m.1
 
   -- a fault of the code within the bytes
-  body_stands : (end : ℕ) (bytes code rest : List ℕ) (e : ReadFault) → (size : List ℕ) × (bytes ≡ size ++ (code ++ rest)) → length bytes ≤ end
+  body_stands : (end : ℕ) (bytes code rest : List ℕ) (e : ReadFault) → (size : List ℕ) × (bytes ≡ size ++ (code ++ rest)) × EndsWithSize size (length code) → length bytes ≤ end
       → all_body_at profile (end - length rest) code ≡ Err e → Stands (record { rest = bytes; end = end }) e
   body_stands end bytes code rest e parts fits h =
       let long : length bytes ≡ length parts.0 + (length code + length rest) =
       omega (arith, ap length parts.1, length-append parts.0 (code ++ rest), length-append code rest) in
-      Stands-within parts.0 rest (record { rest = bytes; end = end }) (record { rest = code; end = end - length rest }) e parts.1 (omega arith) fits
+      Stands-within parts.0 rest (record { rest = bytes; end = end }) (record { rest = code; end = end - length rest }) e parts.1 (omega arith) fits parts.2
       (laws.body.stands (end - length rest) code e h (omega arith))
 
-  body_fault : (end : ℕ) (bytes code rest : List ℕ) (e : ReadFault) (r : Result BodyOf ReadFault) → (size : List ℕ) × (bytes ≡ size ++ (code ++ rest))
-      → length bytes ≤ end → all_body_at profile (end - length rest) code ≡ r → (r >>= λ body. read_to body rest) ≡ Err e
+  body_fault : (end : ℕ) (bytes code rest : List ℕ) (e : ReadFault) (r : Result BodyOf ReadFault)
+      → (size : List ℕ) × (bytes ≡ size ++ (code ++ rest)) × EndsWithSize size (length code) → length bytes ≤ end → all_body_at profile (end - length rest) code ≡ r → (r >>= λ body. read_to body rest) ≡ Err e
       → Stands (record { rest = bytes; end = end }) e
   body_fault end bytes code rest e (Ok body) parts fits is h = absurd cc
   body_fault end bytes code rest e (Err d) parts fits is h = body_stands end bytes code rest e parts fits (is ∙ cc)

@@ -110,14 +110,16 @@ unfolding sections_from
 framing_ordered (Ok s) = within_ordered (length s.rest) 0 s.end s.rest
 framing_ordered (Err e) = tt
 
-stands_fair : (e : ReadFault) (kind : ReadKind) (from : List ℕ) → StandsAt kind from → IsFair e kind
-stands_fair e Memory from stands = absurd stands
-stands_fair e _ from stands = tt
+stands_fair : (e : ReadFault) (kind : ReadKind) (skipped from : List ℕ) → StandsAt kind skipped from → IsFair e kind
+stands_fair e Memory skipped from stands = absurd stands
+stands_fair e _ skipped from stands = tt
 
 stand_fair : (b : List ℕ) (e : ReadFault) → StandsIn b e → IsFair e e.kind
 stand_fair b e (inl none) = subst (λ (x : ReadFault). IsFair x x.kind) (sym none) refl
-stand_fair b e (inr (inl long)) = subst (λ (x : ReadFault). IsFair x x.kind) (sym long.0) tt
-stand_fair b e (inr (inr stands)) = stands_fair e e.kind stands.from stands.stands
+stand_fair b e (inr (inl (inl long))) = subst (λ (x : ReadFault). IsFair x x.kind) (sym long.0) tt
+stand_fair b e (inr (inl (inr (inl short)))) = subst (λ (x : ReadFault). IsFair x x.kind) (sym short.0) tt
+stand_fair b e (inr (inl (inr (inr short)))) = subst (λ (x : ReadFault). IsFair x x.kind) (sym short.0) tt
+stand_fair b e (inr (inr stands)) = stands_fair e e.kind stands.skipped stands.from stands.stands
 
 ordered_rise : (b : List ℕ) (last : ℕ) (items : List (Result Section ReadFault)) → AreOrdered last items → All (ItemStands b) items → Rise last items
 ordered_rise b last [] ordered stand = tt

@@ -13,7 +13,7 @@ use Rattle.wk_bytes.specs.ShortLaws.{short-some}
 use Rattle.wk_bytes.specs.Span.{fault, u32_at}
 use Rattle.wk_bytes.specs.SpanLaws.{err_is}
 use Rattle.wk_bytes.specs.Stands.{Stands}
-use Rattle.wk_bytes.specs.StandsLaws.{Stands-later, stands_as}
+use Rattle.wk_bytes.specs.StandsLaws.{Stands-later, stands_as, u32_there}
 use Rattle.wk_body.specs.declared.types.Profile.{Profile}
 use Rattle.wk_body.specs.Bodies.{BodyOf}
 use Rattle.wk_body.specs.Shape.{IsU32}
@@ -190,7 +190,7 @@ module _ (profile : Profile) (laws : CodeLaws profile) where
             let fits' : length n.1 ≤ end = omega (arith, ap length count.1, length-append count.0 n.1) in
             Stands-later count.0 (record { rest = bytes; end = end }) (record { rest = n.1; end = end }) e count.1 refl fits
             ((items_front (code_format profile laws) n.0).faults end n.1 e p.1 fits')
-        | inr p ↦ stands_as FuncCodeCount end bytes e (err_is {A = List BodyOf × List ℕ} _ _ p.1) tt
+        | inr p ↦ stands_as FuncCodeCount end bytes e (err_is {A = List BodyOf × List ℕ} _ _ p.1) (inr (u32_there end bytes n is))
       ]
 
   codes_fault : (funcs end : ℕ) (bytes : List ℕ) (e : ReadFault) → codes_at profile funcs end bytes ≡ Err e → length bytes ≤ end

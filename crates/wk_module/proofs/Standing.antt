@@ -1,6 +1,7 @@
 -- The faults of reading a module stand in its bytes.
-use Rattle.std.proofs.Common.{◌≡◌, ◌≢◌, ℕ, ◌-◌, ◌≤◌, ◌==◌, ◌⊎◌, List, [], ◌∷◌, ◌++◌, length, length-append, Option, Some, None, Result, Ok, Err, All, refl}
+use Rattle.std.proofs.Common.{◌≡◌, ◌≢◌, ℕ, ◌-◌, ◌<◌, ◌≤◌, ◌==◌, ◌⊎◌, List, [], ◌∷◌, ◌++◌, length, length-append, Option, Some, None, Result, Ok, Err, All, refl}
 use Rattle.std.proofs.Common.{sym, ap, subst, ◌∙◌, inl, inr, arith}
+use Rattle.std.specs.Prelude.{IfErr, MatchResult}
 use Rattle.std.proofs.lemmas.List.Elements.{All-head, All-tail}
 use Rattle.wk_bytes.specs.declared.fault.ReadKind.{ReadKind}
 use Rattle.wk_bytes.specs.declared.fault.ReadKind.TheVariants.{SectionSize, FuncCodeCount, Memory}
@@ -9,11 +10,11 @@ use Rattle.wk_bytes.specs.Fault.{no_memory}
 use Rattle.wk_bytes.specs.Leb.{◌>>=◌}
 use Rattle.wk_bytes.specs.LebLaws.{chosen}
 use Rattle.wk_bytes.specs.Span.{Span, fault, u32_at, name_at}
-use Rattle.wk_bytes.specs.SpanLaws.{err_is}
+use Rattle.wk_bytes.specs.SpanLaws.{err_is, u32_at-counts}
 use Rattle.wk_bytes.specs.Frames.{Section, sections_of}
 use Rattle.wk_bytes.specs.FrameStands.{sections_of-stand}
-use Rattle.wk_bytes.specs.Stands.{Stands, StandsIn, StandsOrMemory, LiesIn, ItemStands, contents_of, whole}
-use Rattle.wk_bytes.specs.StandsLaws.{ReadsFront, ReadsFront-name_at, ReadsFront-u32_at, Stands-here, Stands-later, Stands-within, Stands-contents}
+use Rattle.wk_bytes.specs.Stands.{IsShort, Stands, StandsIn, StandsOrMemory, LiesIn, ItemStands, contents_of, whole}
+use Rattle.wk_bytes.specs.StandsLaws.{ReadsFront, ReadsFront-name_at, short_stands, u32_there, Stands-here, Stands-later, Stands-within, Stands-contents}
 use Rattle.wk_bytes.specs.StandsLaws.{Stands-at_end}
 use Rattle.wk_body.specs.declared.types.Profile.{Profile}
 use Rattle.wk_body.specs.Reads.{FailsAs}
@@ -73,7 +74,7 @@ joined_stands : (profile : Profile) (b : List ℕ) (p : Progress) (e : ReadFault
 joined_stands profile b p e h =
     elim (chosen (length p.lists.funcs == length p.lists.codes) (Ok (module_of profile p)) (Err (record { kind = FuncCodeCount; at = length b })) (Err e) h) [
       | inl a ↦ absurd cc
-      | inr a ↦ inr (inr (subst (Stands (whole b)) (err_is {A = Parts} _ _ a.1) (Stands-at_end FuncCodeCount b tt)))
+      | inr a ↦ inr (inr (subst (Stands (whole b)) (err_is {A = Parts} _ _ a.1) (Stands-at_end FuncCodeCount b (inl refl))))
     ]
 
 -- sections one after the other, as a step reads each
@@ -174,13 +175,29 @@ module _ (profile : Profile) (b : List ℕ) (is : IsReading profile b (module_at
 
 -- ---- codes
 
--- a fault behind a size stands in what was left in front of it
+-- bytes that are fewer than the size in front of them says
 pub behind_size : (old ahead after : Span) (n : ℕ) (e : ReadFault) → ahead ≡ old
-    → (u32_at ahead.end ahead.rest ≡ Ok (n, after.rest)) × (after.end ≡ ahead.end) → length old.rest ≤ old.end → Stands after e → Stands old e
-behind_size old ahead after n e same size fits stood =
+    → (u32_at ahead.end ahead.rest ≡ Ok (n, after.rest)) × (after.end ≡ ahead.end) → length old.rest ≤ old.end → IsShort n after e → Stands old e
+behind_size old ahead after n e same size fits short =
     let is : u32_at old.end old.rest ≡ Ok (n, after.rest) = ap (λ (s : Span). u32_at s.end s.rest) (sym same) ∙ size.0 in
-    let front = ReadsFront-u32_at.takes old.end old.rest n after.rest is in
-    Stands-later front.0 old after e front.1 (sym (size.1 ∙ ap (λ (s : Span). s.end) same)) fits stood
+    let count = u32_at-counts old.end old.rest n after.rest is in
+    short_stands count.0 n old after e count.2 (sym (size.1 ∙ ap (λ (s : Span). s.end) same)) fits
+    (inr (inr (inr (n, ([], count.0, refl, count.3), short.1)))) short
+
+-- a count that is another than was declared
+pub count_stands : (s : Span) (n : ℕ) (rest : List ℕ) (e : ReadFault) → u32_at s.end s.rest ≡ Ok (n, rest) → e ≡ fault FuncCodeCount s.end s.rest → Stands s e
+count_stands s n rest e read is =
+    subst (Stands s) (sym is) (Stands-here FuncCodeCount s.end s.rest (inr (u32_there s.end s.rest (n, rest) read)))
+
+-- bytes that are left over
+pub left_over_stands : {X : Type 0} (s : Span) (r : Result X ReadFault)
+    → MatchResult r (λ x. s.rest ≡ []) (λ e. (e ≡ fault SectionSize s.end s.rest) × (s.rest ≢ [])) → IfErr r (λ e. Stands s e)
+left_over_stands s (Ok x) ends = tt
+left_over_stands s (Err e) ends = subst (Stands s) (sym ends.0) (Stands-here SectionSize s.end s.rest (some s.rest ends.1))
+  where
+    some : (bytes : List ℕ) → bytes ≢ [] → 0 < length bytes
+    some [] other = absurd (other refl)
+    some (x ∷ bytes) other = omega arith
 
 -- a fault in the bytes of a code stands in what is left of the section
 pub code_stands : (s after code : Span) (e : ReadFault) → bytes_at s.end s.rest ≡ Ok (code.rest, after.rest) → code.end ≡ s.end - length after.rest
@@ -189,4 +206,4 @@ code_stands s after code e taken ends fits (inl none) = inl none
 code_stands s after code e taken ends fits (inr stood) =
     let p = bytes_parts s.end s.rest code.rest after.rest taken in
     inr (Stands-within p.0 after.rest s code e p.1
-    (omega (arith, ends, fits, ap length p.1, length-append p.0 (code.rest ++ after.rest), length-append code.rest after.rest)) fits stood)
+    (omega (arith, ends, fits, ap length p.1, length-append p.0 (code.rest ++ after.rest), length-append code.rest after.rest)) fits p.2 stood)
