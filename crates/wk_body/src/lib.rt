@@ -19,7 +19,8 @@
 //!   that are read whole.
 //! - [`encode_body`] and [`encode_expr`] give the written form (`specs/Written`), which spells what it was made of in each profile that
 //!   it belongs to. [`append_body`] and [`append_expr`] append it; [`body_len`], [`expr_len`] and [`Token::head_len`] measure it;
-//!   [`code_bytes`] copies a spelling that is as long as the written form, which it then is.
+//!   [`code_bytes`] copies a spelling that is as long as the written form, which it then is. A vector that any call appends to is as
+//!   before where the call is refused.
 //!   [`Token::operands`] gives a token's opcode and what stands behind it (`specs/Operands`).
 //! - [`refs`] is the set of what a body refers to, [`uses`] the same with a function's own type. [`shift`], [`shift_expr`] and
 //!   [`shift_index`] move references (`specs/References`), and overflow exactly where one that moves has no next. [`expr_movement`]

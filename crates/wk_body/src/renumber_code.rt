@@ -13,6 +13,7 @@ use crate::length::groups_len;
 use crate::references::{Ref, add};
 use crate::renumber::{Moving, next_index};
 use crate::shifts::{Shifts, put_tokens};
+use crate::writing::or_undone;
 use std::alloc::Global;
 use std::collections::BTreeSet;
 use wk_bytes::OutOfMemory;
@@ -66,9 +67,8 @@ fn one_import(kind: Moving, from: u32) -> Shifts
     }
 }
 
-/// Appends the written form of a body after [`shift`](crate::shift), by the one before, which is `code`. After a refusal what stood in
-/// `out` stands at its front.
-pub fn append_shifted(
+// The written form of a body after a shift.
+fn put_shifted(
     out: &mut Vec<u8>,
     body: &Body,
     code: &[u8],
@@ -87,4 +87,24 @@ pub fn append_shifted(
     let whole = put_tokens(out, code, head, one_import(kind, from))?;
     prove!(whole);
     Ok(())
+}
+
+/// Appends the written form of a body after [`shift`](crate::shift), by the one before, which is `code`. After a refusal `out` holds
+/// what it held before.
+pub fn append_shifted(
+    out: &mut Vec<u8>,
+    body: &Body,
+    code: &[u8],
+    kind: Moving,
+    from: u32,
+) -> Result<(), OutOfMemory>
+    requires free { any_stuck kind from (refs_of body.now.instrs) ≡ false }
+    requires code { code.now ≡ written_body body.now }
+    ensures ok { OnOk result
+        (out.new.items ≡ out.old.items ++ written_body (shift_body kind from body.now)) }
+    ensures err { OnErr result (out.new.items ≡ out.old.items) }
+{
+    let start = out.len();
+    let appended = put_shifted(out, body, code, kind, from);
+    or_undone(out, start, appended)
 }

@@ -1,6 +1,6 @@
 //! Several imports at once in front of what a module defines: what the written form of a body is then, by the one before alone.
 
-ghost use Rattle.std.specs.Prelude.{◌≡◌, ◌<◌, ◌≤◌, ◌^◌, ◌+◌, ◌++◌, ℕ, List, true, false, None, Some, drop, length, IfOk, IfSome, slice_index};
+ghost use Rattle.std.specs.Prelude.{◌≡◌, ◌<◌, ◌≤◌, ◌^◌, ◌+◌, ◌++◌, ℕ, List, true, false, None, Some, drop, length, IfOk, IfSome, OnErr, slice_index};
 ghost use Rattle.wk_bytes.specs.Short.{short};
 ghost use Rattle.wk_body.specs.Bodies.{BodyOf, AreGroups};
 ghost use Rattle.wk_body.specs.Shape.{IsShaped};
@@ -276,13 +276,8 @@ pub(crate) fn put_tokens(
     Ok(true)
 }
 
-/// Appends the written form of a body with its references where they stand then, by the one before, which is `code`.
-///
-/// Says whether it did: it did where no index that moves gets past 4,294,967,295 and the code is no longer than a module may be. In
-/// any case, and after a refusal, what stood in `out` stands at its front.
-///
-/// It goes once over the bytes, keeps nothing, and takes them for a written form: of other bytes no more than that is promised.
-pub fn append_shifts(out: &mut Vec<u8>, code: &[u8], shifts: Shifts) -> Result<bool, OutOfMemory>
+// The written form of a body with its references where they stand then, or a part of it.
+fn put_shifts(out: &mut Vec<u8>, code: &[u8], shifts: Shifts) -> Result<bool, OutOfMemory>
     ensures exact { IfOk result
         (λ done. done ≡ true → (b : BodyOf) → AreGroups b.groups → IsShaped b.instrs
         → code.now ≡ written_body b
@@ -307,4 +302,33 @@ pub fn append_shifts(out: &mut Vec<u8>, code: &[u8], shifts: Shifts) -> Result<b
         return Ok(false);
     };
     put_tokens(out, code, head, shifts)
+}
+
+/// Appends the written form of a body with its references where they stand then, by the one before, which is `code`.
+///
+/// Says whether it did: it did where no index that moves gets past 4,294,967,295 and the code is no longer than a module may be. If it
+/// did not, and after a refusal, `out` holds what it held before.
+///
+/// It goes once over the bytes, keeps nothing, and takes them for a written form: of other bytes no more is promised than that `out`
+/// begins with what it held before.
+pub fn append_shifts(out: &mut Vec<u8>, code: &[u8], shifts: Shifts) -> Result<bool, OutOfMemory>
+    ensures exact { IfOk result
+        (λ done. done ≡ true → (b : BodyOf) → AreGroups b.groups → IsShaped b.instrs
+        → code.now ≡ written_body b
+        → out.new.items ≡ out.old.items ++ written_body (shifted_body shifts b)) }
+    ensures sure { IfOk result
+        (λ done. done ≡ false → (b : BodyOf) → AreGroups b.groups → IsShaped b.instrs
+        → code.now ≡ written_body b → length code.now ≤ LIMIT
+        → IsShaped (shifted_body shifts b).instrs → ⊥) }
+    ensures front { StaysInFront out.old.items out.new.items }
+    ensures unmoved { IfOk result (λ done. done ≡ false → out.new.items ≡ out.old.items) }
+    ensures err { OnErr result (out.new.items ≡ out.old.items) }
+{
+    let start = out.len();
+    let done = put_shifts(out, code, shifts);
+    if let Ok(true) = done {
+        return Ok(true);
+    }
+    out.truncate(start);
+    done
 }

@@ -29,6 +29,23 @@ use wk_bytes::{OutOfMemory, put_s32, put_s33, put_s64, put_u32};
 /// So many tokens are written into a buffer: fewer are written sooner one by one.
 const BUFFER_FROM: usize = 8;
 
+/// What appending answered. Where it was refused, the vector is cut to its length before.
+#[inline(always)]
+pub(crate) fn or_undone<T>(
+    out: &mut Vec<u8>,
+    start: usize,
+    appended: Result<T, OutOfMemory>,
+) -> Result<T, OutOfMemory>
+    ensures same { result ≡ appended }
+    ensures ok { OnOk appended (out.new.items ≡ out.old.items) }
+    ensures err { OnErr appended (out.new.items ≡ take start out.old.items) }
+{
+    if appended.is_err() {
+        out.truncate(start);
+    }
+    appended
+}
+
 // Appends a byte where there may be no room.
 #[cold]
 #[inline(never)]
@@ -235,8 +252,8 @@ fn put_tokens(out: &mut Vec<u8>, labels: &[u32], tokens: &[Token]) -> Result<(),
     put_buffered(out, labels, tokens)
 }
 
-/// Appends the written form of an expression, which spells it. After a refusal what stood in `out` stands at its front.
-pub fn append_expr(out: &mut Vec<u8>, expr: &Expr) -> Result<(), OutOfMemory>
+// The same of the expression itself.
+fn put_expr(out: &mut Vec<u8>, expr: &Expr) -> Result<(), OutOfMemory>
     ensures ok { OnOk result (out.new.items ≡ out.old.items ++ written_expr expr.now) }
     ensures err { OnErr result (StaysInFront out.old.items out.new.items) }
     ensures spells { (profile : Profile) → IsOf profile expr.now
@@ -244,6 +261,18 @@ pub fn append_expr(out: &mut Vec<u8>, expr: &Expr) -> Result<(), OutOfMemory>
 {
     let (tokens, labels) = expr.tokens();
     put_tokens(out, labels, tokens)
+}
+
+/// Appends the written form of an expression, which spells it. After a refusal `out` holds what it held before.
+pub fn append_expr(out: &mut Vec<u8>, expr: &Expr) -> Result<(), OutOfMemory>
+    ensures ok { OnOk result (out.new.items ≡ out.old.items ++ written_expr expr.now) }
+    ensures err { OnErr result (out.new.items ≡ out.old.items) }
+    ensures spells { (profile : Profile) → IsOf profile expr.now
+        → SpellsExpr profile expr.now (written_expr expr.now) }
+{
+    let start = out.len();
+    let appended = put_expr(out, expr);
+    or_undone(out, start, appended)
 }
 
 fn put_groups(out: &mut Vec<u8>, groups: &[LocalGroup]) -> Result<(), OutOfMemory>
@@ -257,9 +286,8 @@ fn put_groups(out: &mut Vec<u8>, groups: &[LocalGroup]) -> Result<(), OutOfMemor
     Ok(())
 }
 
-/// Appends the written form of a body, a code without its size, which spells it. After a refusal what stood in `out` stands at its
-/// front.
-pub fn append_body(out: &mut Vec<u8>, body: &Body) -> Result<(), OutOfMemory>
+// A body: its groups of locals behind their number, and its expression.
+fn put_body(out: &mut Vec<u8>, body: &Body) -> Result<(), OutOfMemory>
     ensures ok { OnOk result (out.new.items ≡ out.old.items ++ written_body body.now) }
     ensures err { OnErr result (StaysInFront out.old.items out.new.items) }
     ensures spells { OnOk result
@@ -269,7 +297,20 @@ pub fn append_body(out: &mut Vec<u8>, body: &Body) -> Result<(), OutOfMemory>
     let groups = body.groups();
     put_u32(out, groups.len() as u32)?;
     put_groups(out, groups)?;
-    append_expr(out, body.expr())
+    put_expr(out, body.expr())
+}
+
+/// Appends the written form of a body, a code without its size, which spells it. After a refusal `out` holds what it held before.
+pub fn append_body(out: &mut Vec<u8>, body: &Body) -> Result<(), OutOfMemory>
+    ensures ok { OnOk result (out.new.items ≡ out.old.items ++ written_body body.now) }
+    ensures err { OnErr result (out.new.items ≡ out.old.items) }
+    ensures spells { OnOk result
+        ((profile : Profile) → IsOf profile body.now.instrs
+        → SpellsBody profile body.now (written_body body.now)) }
+{
+    let start = out.len();
+    let appended = put_body(out, body);
+    or_undone(out, start, appended)
 }
 
 /// The written form of an expression.

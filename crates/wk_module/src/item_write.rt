@@ -1,8 +1,8 @@
 //! Writing what the lists of a module hold (5.3, 5.5).
 
-ghost use Rattle.std.specs.Prelude.{◌≡◌, ◌<◌, ◌^◌, ◌++◌, length, OnOk};
+ghost use Rattle.std.specs.Prelude.{◌≡◌, ◌<◌, ◌^◌, ◌++◌, length, OnOk, OnErr};
 ghost use Rattle.wk_body.specs.Lengths.{GrowsBy};
-ghost use Rattle.wk_body.specs.Written.{written_expr};
+ghost use Rattle.wk_body.specs.Written.{written_expr, StaysInFront};
 ghost use Rattle.wk_module.specs.Types.{flag_byte, kind_byte, written_limits, written_tabletype, written_globaltype};
 ghost use Rattle.wk_module.specs.Items.{desc_kind, written_desc};
 
@@ -76,7 +76,8 @@ fn plus_expr(total: Option<u32>, expr: &Expr) -> Option<u32>
 
 // Limits (5.3.4).
 fn put_limits(limits: Limits, bytes: &mut Vec<u8>) -> Result<(), OutOfMemory>
-    ensures { OnOk result (bytes.new.items ≡ bytes.old.items ++ written_limits limits) }
+    ensures ok { OnOk result (bytes.new.items ≡ bytes.old.items ++ written_limits limits) }
+    ensures err { OnErr result (StaysInFront bytes.old.items bytes.new.items) }
 {
     bytes.push(flag_code(limits.max.is_some()))?;
     put_u32(bytes, limits.min)?;
@@ -88,7 +89,8 @@ fn put_limits(limits: Limits, bytes: &mut Vec<u8>) -> Result<(), OutOfMemory>
 
 // A table type (5.3.6).
 fn put_table_type(limits: Limits, bytes: &mut Vec<u8>) -> Result<(), OutOfMemory>
-    ensures { OnOk result (bytes.new.items ≡ bytes.old.items ++ written_tabletype limits) }
+    ensures ok { OnOk result (bytes.new.items ≡ bytes.old.items ++ written_tabletype limits) }
+    ensures err { OnErr result (StaysInFront bytes.old.items bytes.new.items) }
 {
     bytes.push(FUNC_REF)?;
     put_limits(limits, bytes)
@@ -96,7 +98,8 @@ fn put_table_type(limits: Limits, bytes: &mut Vec<u8>) -> Result<(), OutOfMemory
 
 // A global type (5.3.7).
 fn put_global_type(ty: GlobalType, bytes: &mut Vec<u8>) -> Result<(), OutOfMemory>
-    ensures { OnOk result (bytes.new.items ≡ bytes.old.items ++ written_globaltype ty) }
+    ensures ok { OnOk result (bytes.new.items ≡ bytes.old.items ++ written_globaltype ty) }
+    ensures err { OnErr result (StaysInFront bytes.old.items bytes.new.items) }
 {
     bytes.extend_from_slice(&[ty.val.byte(), flag_code(ty.mutable)])?;
     Ok(())
@@ -104,7 +107,8 @@ fn put_global_type(ty: GlobalType, bytes: &mut Vec<u8>) -> Result<(), OutOfMemor
 
 // What is imported (5.5.5).
 fn put_desc(desc: &ImportDesc, bytes: &mut Vec<u8>) -> Result<(), OutOfMemory>
-    ensures { OnOk result (bytes.new.items ≡ bytes.old.items ++ written_desc desc.now) }
+    ensures ok { OnOk result (bytes.new.items ≡ bytes.old.items ++ written_desc desc.now) }
+    ensures err { OnErr result (StaysInFront bytes.old.items bytes.new.items) }
 {
     bytes.push(kind_code(desc.kind()))?;
     match *desc {

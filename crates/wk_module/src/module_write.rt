@@ -1,10 +1,11 @@
 //! The written form of a module.
 
-ghost use Rattle.std.specs.Prelude.{◌≡◌, ◌≤◌, ◌∷◌, ◌++◌, length, OnOk, IfOk, IfErr, MatchResult};
+ghost use Rattle.std.specs.Prelude.{◌≡◌, ◌≤◌, ◌∷◌, ◌++◌, Some, length, OnOk, OnErr, IfOk, IfErr, MatchResult};
 ghost use Rattle.wk_bytes.specs.Frames.{limit};
 ghost use Rattle.wk_bytes.specs.Short.{short};
 ghost use Rattle.wk_body.specs.declared.fault.EncodeFault.TheVariants.{TooLarge, Memory};
-ghost use Rattle.wk_body.specs.Written.{Fits as FewBytes, Unwritten};
+ghost use Rattle.wk_body.specs.Lengths.{limited};
+ghost use Rattle.wk_body.specs.Written.{Fits as FewBytes, StaysInFront, Unwritten};
 ghost use Rattle.wk_module.specs.declared.types.Parts.{Parts as Seen};
 ghost use Rattle.wk_module.specs.Codes.{body_sizes};
 ghost use Rattle.wk_module.specs.Customs.{written_custom};
@@ -83,28 +84,47 @@ pub fn encode_section(alloc: Global, lists: &Lists<'_>, id: u8) -> Result<Vec<u8
     Ok(bytes)
 }
 
-/// These bytes with the section of an id, 1 to 9 or 11, behind them, as it stands in the written form: its id, its size and its
-/// contents, or nothing where it is left out. Of any other id nothing is appended, since lists that are lent have no codes.
+// The section of an id, whose contents are so many bytes: its id, their number and they; or nothing where there are none.
+fn put_section_by(
+    lists: &Lists<'_>,
+    id: u8,
+    contents: u32,
+    bytes: &mut Vec<u8>,
+) -> Result<(), OutOfMemory>
+    requires { Some contents ≡ limited (length (contents_by (listed lists.now) (of_number id))) }
+    ensures ok { OnOk result
+        (bytes.new.items ≡ bytes.old.items ++ section_by (listed lists.now) (of_number id)) }
+    ensures err { OnErr result (StaysInFront bytes.old.items bytes.new.items) }
+{
+    if contents == 0 {
+        return Ok(());
+    }
+    put_front(id, contents, bytes)?;
+    lists.put_contents(id, bytes)
+}
+
+/// Appends the section of an id, 1 to 9 or 11, as it is in the written form: its id, its size and its contents, or nothing where it
+/// is left out. Of any other id nothing is appended, since lists that are lent have no codes.
 ///
 /// # Errors
 ///
-/// `TooLarge` where the contents are more than 2,147,483,647 bytes, and else `Memory` where a growth is refused. Then the bytes are
-/// gone.
-pub fn append_section(lists: &Lists<'_>, id: u8, bytes: Vec<u8>) -> Result<Vec<u8>, EncodeFault>
-    ensures { MatchResult result
-        (λ longer. longer.items ≡ bytes.items ++ section_by (listed lists.now) (of_number id))
-        (Unwritten (contents_by (listed lists.now) (of_number id))) }
+/// `TooLarge` where the contents are more than 2,147,483,647 bytes, and else `Memory` where a growth is refused. Then `bytes` holds
+/// what it held before.
+pub fn append_section(lists: &Lists<'_>, id: u8, bytes: &mut Vec<u8>) -> Result<(), EncodeFault>
+    ensures ok { OnOk result
+        (bytes.new.items ≡ bytes.old.items ++ section_by (listed lists.now) (of_number id)) }
+    ensures err { OnErr result (bytes.new.items ≡ bytes.old.items) }
+    ensures fault { IfErr result (Unwritten (contents_by (listed lists.now) (of_number id))) }
 {
-    let mut bytes = bytes;
     let Some(contents) = lists.contents_len(id) else {
         return Err(EncodeFault::TooLarge);
     };
-    if contents == 0 {
-        return Ok(bytes);
+    let start = bytes.len();
+    if put_section_by(lists, id, contents, bytes).is_err() {
+        bytes.truncate(start);
+        return Err(EncodeFault::Memory);
     }
-    put_front(id, contents, &mut bytes)?;
-    lists.put_contents(id, &mut bytes)?;
-    Ok(bytes)
+    Ok(())
 }
 
 /// The contents of a custom section: its name and its bytes.
@@ -174,7 +194,8 @@ fn put_contents(
 
 // Appends what stands in front of the contents of a section: its id, and how many bytes they are.
 fn put_front(id: u8, size: u32, bytes: &mut Vec<u8>) -> Result<(), OutOfMemory>
-    ensures { OnOk result (bytes.new.items ≡ bytes.old.items ++ id ∷ short size) }
+    ensures ok { OnOk result (bytes.new.items ≡ bytes.old.items ++ id ∷ short size) }
+    ensures err { OnErr result (StaysInFront bytes.old.items bytes.new.items) }
 {
     bytes.push(id)?;
     put_u32(bytes, size)

@@ -1,10 +1,11 @@
 //! Writing items one after the other (5.1.3): how long they get, and their bytes.
 
-ghost use Rattle.std.specs.Prelude.{◌≡◌, ℕ, ◌+◌, ◌<◌, ◌≤◌, ◌++◌, length, OnOk};
+ghost use Rattle.std.specs.Prelude.{◌≡◌, ℕ, ◌+◌, ◌<◌, ◌≤◌, ◌++◌, length, OnOk, OnErr};
 ghost use Rattle.wk_bytes.specs.Frames.{limit};
 ghost use Rattle.wk_bytes.specs.Short.{short};
 ghost use Rattle.wk_body.specs.Lengths.{limited, GrowsBy};
 ghost use Rattle.wk_body.specs.Vectors.{written_vector};
+ghost use Rattle.wk_body.specs.Written.{StaysInFront};
 ghost use Rattle.wk_module.specs.Formats.{written_bytes};
 ghost use Rattle.wk_module.specs.Writing.{list_contents};
 
@@ -24,10 +25,11 @@ pub(crate) trait Writable {
     fn measure(item: &Self::Item, so_far: Option<u32>) -> Option<u32>
         ensures { GrowsBy (length (written item.now)) so_far result };
 
-    /// Appends the written form. After a refusal some of it may stand there.
+    /// Appends the written form, or a part of it where memory is refused.
     fn put(item: &Self::Item, bytes: &mut Vec<u8>) -> Result<(), OutOfMemory>
         requires { length (written item.now) ≤ limit }
-        ensures { OnOk result (bytes.new.items ≡ bytes.old.items ++ written item.now) };
+        ensures ok { OnOk result (bytes.new.items ≡ bytes.old.items ++ written item.now) }
+        ensures err { OnErr result (StaysInFront bytes.old.items bytes.new.items) };
 
     // No written form is empty.
     ghost some: { (x : Self.Item) → 0 < length (written x) };
@@ -81,14 +83,15 @@ pub(crate) fn plus_bytes(bytes: &[u8], so_far: Option<u32>) -> Option<u32>
     plus_count(plus(so_far, bytes.len()), bytes.len())
 }
 
-/// Appends a vector. After a refusal some of it may stand there.
+/// Appends a vector, or a part of it where memory is refused.
 pub(crate) fn put_vector<F: Writable>(
     items: &[F::Item],
     bytes: &mut Vec<u8>,
 ) -> Result<(), OutOfMemory>
     requires { length (written_vector F.written items.now) ≤ limit }
-    ensures { OnOk result
+    ensures ok { OnOk result
         (bytes.new.items ≡ bytes.old.items ++ written_vector F.written items.now) }
+    ensures err { OnErr result (StaysInFront bytes.old.items bytes.new.items) }
 {
     put_u32(bytes, items.len() as u32)?;
     for item in items {
@@ -97,10 +100,11 @@ pub(crate) fn put_vector<F: Writable>(
     Ok(())
 }
 
-/// Appends bytes behind their number. After a refusal some of it may stand there.
+/// Appends bytes behind their number, or a part of that where memory is refused.
 pub(crate) fn put_bytes(piece: &[u8], bytes: &mut Vec<u8>) -> Result<(), OutOfMemory>
     requires { length piece.now ≤ limit }
-    ensures { OnOk result (bytes.new.items ≡ bytes.old.items ++ written_bytes piece.now) }
+    ensures ok { OnOk result (bytes.new.items ≡ bytes.old.items ++ written_bytes piece.now) }
+    ensures err { OnErr result (StaysInFront bytes.old.items bytes.new.items) }
 {
     put_u32(bytes, piece.len() as u32)?;
     bytes.extend_from_slice(piece)?;
@@ -117,13 +121,15 @@ pub(crate) fn list_len<F: Writable>(items: &[F::Item]) -> Option<u32>
     plus_vector::<F>(items, Some(0))
 }
 
-/// Appends the contents of a section that is a vector, which are none where it is empty.
+/// Appends the contents of a section that is a vector, which are none where it is empty; or a part of them where memory is refused.
 pub(crate) fn put_list<F: Writable>(
     items: &[F::Item],
     bytes: &mut Vec<u8>,
 ) -> Result<(), OutOfMemory>
     requires { length (list_contents F.written items.now) ≤ limit }
-    ensures { OnOk result (bytes.new.items ≡ bytes.old.items ++ list_contents F.written items.now) }
+    ensures ok { OnOk result
+        (bytes.new.items ≡ bytes.old.items ++ list_contents F.written items.now) }
+    ensures err { OnErr result (StaysInFront bytes.old.items bytes.new.items) }
 {
     if items.is_empty() {
         return Ok(());

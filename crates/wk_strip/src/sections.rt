@@ -1,6 +1,6 @@
 //! The sections that hold lists, each with the custom sections behind it.
 
-ghost use Rattle.std.specs.Prelude.{◌≡◌, ◌≢◌, ◌-◌, ◌≤◌, ◌++◌, Ok, Err, IfErr, MatchResult};
+ghost use Rattle.std.specs.Prelude.{◌≡◌, ◌≢◌, ◌-◌, ◌≤◌, ◌++◌, Ok, Err, OnOk, IfErr, MatchResult};
 ghost use Rattle.wk_bytes.specs.Frames.{magic, version};
 ghost use Rattle.wk_body.specs.declared.fault.EncodeFault.TheVariants.{TooLarge, Memory};
 ghost use Rattle.wk_module.specs.Listed.{listed};
@@ -14,27 +14,25 @@ use wk_module::{EncodeFault, HEADER, Lists, append_section, section_id};
 /// The ids end in front of this.
 pub(crate) const END: u8 = section_id::LAST + 1;
 
-// These bytes with the sections of the ids from `first` up to `end`, which is not among them, behind them, each with the custom
-// sections of its place.
+// Appends the sections of the ids from `first` up to `end`, which is not among them, each with the custom sections of its place.
 pub(crate) fn append_sections(
     lists: &Lists<'_>,
     customs: &[KeptCustom],
     first: u8,
     end: u8,
-    bytes: Vec<u8>,
-) -> Result<Vec<u8>, EncodeFault>
+    out: &mut Vec<u8>,
+) -> Result<(), EncodeFault>
     requires { first ≤ end }
-    ensures { MatchResult result
-        (λ longer. longer.items
-        ≡ bytes.items ++ sections_from (listed lists.now) customs.now first (end - first))
-        (λ e. e ≡ TooLarge → IsTooLong (listed lists.now) first end) }
+    ensures ok { OnOk result
+        (out.new.items
+        ≡ out.old.items ++ sections_from (listed lists.now) customs.now first (end - first)) }
+    ensures fault { IfErr result (λ e. e ≡ TooLarge → IsTooLong (listed lists.now) first end) }
 {
-    let mut out = bytes;
     for id in first..end {
-        out = append_section(lists, id, out)?;
-        append_customs(customs, id, &mut out)?;
+        append_section(lists, id, out)?;
+        append_customs(customs, id, out)?;
     }
-    Ok(out)
+    Ok(())
 }
 
 // The header, and the sections of the ids below `end`.
@@ -51,7 +49,8 @@ pub(crate) fn begin(
 {
     let mut bytes = Vec::new(alloc);
     bytes.extend_from_slice(&HEADER)?;
-    append_sections(lists, customs, 0, end, bytes)
+    append_sections(lists, customs, 0, end, &mut bytes)?;
+    Ok(bytes)
 }
 
 // What was written, or want of memory: no other fault comes of a module that fits.

@@ -63,7 +63,8 @@ fn assemble(
     let size = codes.len() - gap;
     let mut front = written(begin(alloc, lists, kept, section_id::CODE))?;
     append_code_front(lists.funcs.len() as u32, size as u32, &mut front)?;
-    let bytes = written(append_sections(lists, kept, section_id::CODE, END, codes))?;
+    let mut bytes = codes;
+    written(append_sections(lists, kept, section_id::CODE, END, &mut bytes))?;
     Stripped::behind(front, gap, bytes)
 }
 

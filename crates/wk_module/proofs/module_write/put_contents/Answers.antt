@@ -12,4 +12,4 @@ put_list-requires c =
 pub returns-in-3 : goal.returns-in-3
 returns-in-3 c =
     let same = list_contents-map short (λ (f : Func). f.ty) c.args.parts.now.funcs in
-    rw (c.in-3.is, ← same, ← c.as_slice.ensures) c.put_list.ensures
+    rw (c.in-3.is, ← same, ← c.as_slice.ensures) c.put_list.ensures.ok

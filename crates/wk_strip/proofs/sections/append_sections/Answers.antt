@@ -7,5 +7,5 @@ pub loop-id-preserved : goal.loop-id-preserved
 loop-id-preserved c = record {
   least = omega (arith, c.loop-id.invariant.least);
   left = one_section (listed c.args.lists.now) c.args.customs.now c.loop-id.id c.args.end _ _ _ _
-      (omega arith) c.in_ok-out.ensures c.in_ok-append_customs.ensures c.loop-id.invariant.left;
+      (omega arith) c.in_ok-append_section.ensures.ok c.in_ok-append_customs.ensures c.loop-id.invariant.left;
 }

@@ -7,5 +7,5 @@ abbrev pub invariant-loop-id : goal.invariant-loop-id
 invariant-loop-id l = record {
   least : l.first ≤ l.id;
   left : l.out.items ++ sections_from (listed l.lists) l.customs l.id (l.end - l.id)
-      ≡ l.fn.bytes.items ++ sections_from (listed l.lists) l.customs l.first (l.end - l.first);
+      ≡ l.fn.out.items ++ sections_from (listed l.lists) l.customs l.first (l.end - l.first);
 }

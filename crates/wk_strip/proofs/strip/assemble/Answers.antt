@@ -14,11 +14,11 @@ returns c =
     let head = code_front (length c.args.lists.now.funcs.now) (length codes - gap) in
     let last = sections_from lists kept 10 2 in
     let front : c.in_ok-front.front.items ≡ (magic ++ version) ++ sections_from lists kept 0 10 = rw c.in_ok-front.ensures at c.begin.ensures in
-    let behind : c.in_ok-bytes.bytes.items ≡ codes ++ last = rw c.in_ok-bytes.ensures at c.append_sections.ensures in
+    let behind : c.append_sections.new.out.items ≡ codes ++ last = rw c.in_ok-written.ensures at c.append_sections.ensures.ok in
     let len : c.len.result ≡ length codes = search rules in
     let before : c.append_code_front.new.out.items ≡ c.in_ok-front.front.items ++ head = rw len at c.in_ok-append_code_front.ensures in
-    let later : drop gap c.in_ok-bytes.bytes.items ≡ drop gap codes ++ last =
+    let later : drop gap c.append_sections.new.out.items ≡ drop gap codes ++ last =
     ap (λ (b : List ℕ). drop gap b) behind ∙ drop-append-le gap codes last c.requires.within in
-    let whole = ap (λ (b : List ℕ). b ++ drop gap c.in_ok-bytes.bytes.items) (before ∙ ap (λ (b : List ℕ). b ++ head) front)
+    let whole = ap (λ (b : List ℕ). b ++ drop gap c.append_sections.new.out.items) (before ∙ ap (λ (b : List ℕ). b ++ head) front)
     ∙ ap (λ (b : List ℕ). (((magic ++ version) ++ sections_from lists kept 0 10) ++ head) ++ b) later in
     subst (λ (x : List ℕ). IfOk c.behind.result (λ s. s ≡ x)) whole c.behind.ensures

@@ -11,8 +11,8 @@ use Rattle.wk_body.specs.Shifts.{shifted_body}
 use Rattle.wk_body.specs.ShiftSteps.{Shifting, StaysBehind}
 use Rattle.wk_body.proofs.Found.{found_is, index_is, not_found}
 use Rattle.wk_body.proofs.ShiftedBody.{count_ahead, groups_ahead, groups_are, body_begins, moved_in_range, body_same}
-use Rattle.wk_body.proofs.shifts.append_shifts.Goals as goal
-use Rattle.wk_body.proofs.shifts.append_shifts.Goals.{After-put_tokens}
+use Rattle.wk_body.proofs.shifts.put_shifts.Goals as goal
+use Rattle.wk_body.proofs.shifts.put_shifts.Goals.{After-put_tokens}
 
 pub returns-then-shifts-eq0-2-clause-exact : goal.returns-then-shifts-eq0-2-clause-exact
 returns-then-shifts-eq0-2-clause-exact c = λ yes b groups shaped is.

@@ -4,7 +4,7 @@ use Rattle.std.proofs.lemmas.Result.{on_ok_weaker}
 use Rattle.wk_body.specs.Written.{tok_bytes}
 use Rattle.wk_body.proofs.Encoding.{tokens_written}
 use Rattle.wk_body.proofs.EncodedSpells.{expr_encoded}
-use Rattle.wk_body.proofs.writing.append_expr.Goals as goal
+use Rattle.wk_body.proofs.writing.put_expr.Goals as goal
 
 pub returns-clause-ok : goal.returns-clause-ok
 returns-clause-ok c =

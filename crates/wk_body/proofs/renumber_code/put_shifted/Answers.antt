@@ -9,8 +9,8 @@ use Rattle.wk_body.specs.Vectors.{written_vector}
 use Rattle.wk_body.specs.Written.{written_group, written_expr, written_body}
 use Rattle.wk_body.proofs.MovedTrees.{shift_shaped}
 use Rattle.wk_body.proofs.ShiftedBody.{body_begins, moved_in_range, one_moves}
-use Rattle.wk_body.proofs.renumber_code.append_shifted.Goals as goal
-use Rattle.wk_body.proofs.renumber_code.append_shifted.Goals.{After-put_tokens}
+use Rattle.wk_body.proofs.renumber_code.put_shifted.Goals as goal
+use Rattle.wk_body.proofs.renumber_code.put_shifted.Goals.{After-put_tokens}
 
 head : (c : After-put_tokens) → c.groups_len-head.result ≡ length (written_vector written_group c.args.body.now.groups)
 head c = c.groups_len-head.ensures ∙ ap (λ (gs : List LocalGroup). length (written_vector written_group gs)) c.groups.ensures.value
