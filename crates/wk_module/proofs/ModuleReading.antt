@@ -142,7 +142,7 @@ unfolding sections_read
 sections_again profile p [] last r = ap (λ (q : Progress). done q) r
 sections_again profile p (s ∷ ss) last r = rw r.1 (sections_again profile r.0 ss last r.2)
 
-may_come_small : (last id : ℕ) → MayCome last id → id ≤ 11
+pub may_come_small : (last id : ℕ) → MayCome last id → id ≤ 11
 may_come_small last id (inl p) = omega arith
 may_come_small last id (inr p) = p.1
 
@@ -222,15 +222,15 @@ module _ (profile : Profile) (sections : SectionLaws profile) where
   -- ---- one more section
 
   -- what the frames spell of one section, where l was read before
-  abbrev SpellsOne : SectionLists → List Frame → SectionLists → SectionId → Type 0
+  abbrev pub SpellsOne : SectionLists → List Frame → SectionLists → SectionId → Type 0
   SpellsOne l fs lists k = SpellsSection (number k) (SpellsContents profile k) (contents l k) fs (contents lists k)
 
   -- the frames spell the lists and the customs, behind what was read so far
-  record Completes (p : Progress) (fs : List Frame) (lists : SectionLists) (cs : List Custom) : Type 0 where
-    each : (k : SectionId) → SpellsOne p.lists fs lists k
-    later : List Custom
-    more : cs ≡ p.customs ++ later
-    customs : SpellsCustoms p.place fs later
+  pub record Completes (p : Progress) (fs : List Frame) (lists : SectionLists) (cs : List Custom) : Type 0 where
+    pub each : (k : SectionId) → SpellsOne p.lists fs lists k
+    pub later : List Custom
+    pub more : cs ≡ p.customs ++ later
+    pub customs : SpellsCustoms p.place fs later
 
   custom_step : (p : Progress) (s : Section) (c : Custom) → of_number s.id ≡ None → custom_at p.place (section_end s) s.contents ≡ Ok c
       → with_section profile p s ≡ Ok (with_custom p c)
@@ -242,7 +242,7 @@ module _ (profile : Profile) (sections : SectionLaws profile) where
   unfolding section_by
   lists_step p s k x is read = rw (is, read) refl
 
-  custom_stepped : (p : Progress) (s : Section) (q : Progress) → of_number s.id ≡ None → with_section profile p s ≡ Ok q
+  pub custom_stepped : (p : Progress) (s : Section) (q : Progress) → of_number s.id ≡ None → with_section profile p s ≡ Ok q
       → (c : Custom) × (custom_at p.place (section_end s) s.contents ≡ Ok c) × (with_custom p c ≡ q)
   unfolding section_by
   custom_stepped p s q is e =
@@ -250,7 +250,7 @@ module _ (profile : Profile) (sections : SectionLaws profile) where
       let a = bind_ok (custom_at p.place (section_end s) s.contents) (λ c. Ok (with_custom p c)) q e' in
       (a.0, a.1, ok_is _ _ a.2)
 
-  lists_stepped : (p : Progress) (s : Section) (q : Progress) (k : SectionId) → of_number s.id ≡ Some k → with_section profile p s ≡ Ok q
+  pub lists_stepped : (p : Progress) (s : Section) (q : Progress) (k : SectionId) → of_number s.id ≡ Some k → with_section profile p s ≡ Ok q
       → (x : ContentsOf k) × (all_at (contents_at profile (length p.lists.funcs) k) (section_end s) s.contents ≡ Ok x) × (with_lists k p x ≡ q)
   unfolding section_by
   lists_stepped p s q k is e =
@@ -399,7 +399,7 @@ module _ (profile : Profile) (sections : SectionLaws profile) where
 
   -- ---- all sections
 
-  sections_complete : (p : Progress) (ss : List Section) (end : Progress) (last : ℕ) (b : List ℕ) → IsBytes b → SpellsFrames last b (map frame_of ss)
+  pub sections_complete : (p : Progress) (ss : List Section) (end : Progress) (last : ℕ) (b : List ℕ) → IsBytes b → SpellsFrames last b (map frame_of ss)
       → IsReadTo profile p ss end → Completes p (map frame_of ss) end.lists end.customs
   sections_complete p [] end last b fits framed r = record {
     each = λ k. ap (λ (q : Progress). contents q.lists k) (sym r);

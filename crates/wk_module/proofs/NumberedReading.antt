@@ -17,7 +17,7 @@ use Rattle.wk_module.specs.NumberedLaws.{IsNumbered, numbered_with}
 use Rattle.wk_module.specs.Reading.{section_end}
 use Rattle.wk_module.specs.Sections.{SectionId, StartSection, CodeSection, of_number, SectionLists, ContentsOf, with_contents, contents_at}
 
-items_counted : {A : Type 0} (read : Reader A) (n end : ℕ) (bytes : List ℕ) (xs : List A) (rest : List ℕ) → items_at read n end bytes ≡ Ok (xs, rest)
+pub items_counted : {A : Type 0} (read : Reader A) (n end : ℕ) (bytes : List ℕ) (xs : List A) (rest : List ℕ) → items_at read n end bytes ≡ Ok (xs, rest)
     → length xs ≡ n
 items_counted {A = A} read zero end bytes xs rest e = ap (λ (x : List A × List ℕ). length x.0) (sym (ok_is ([], bytes) (xs, rest) e))
 items_counted {A = A} read (suc n) end bytes xs rest e =
@@ -40,7 +40,7 @@ contents_numbered profile funcs StartSection = λ end bytes x rest fits e. tt
 contents_numbered profile funcs CodeSection = λ end bytes x rest fits e. tt
 contents_numbered profile funcs _ = vector_numbered _
 
-taken_all : {A : Type 0} (end : ℕ) (x y : A) (rest : List ℕ) → taking_all end (x, rest) ≡ Ok y → x ≡ y
+pub taken_all : {A : Type 0} (end : ℕ) (x y : A) (rest : List ℕ) → taking_all end (x, rest) ≡ Ok y → x ≡ y
 taken_all end x y [] e = ok_is x y e
 taken_all end x y (b ∷ rest) e = absurd cc
 

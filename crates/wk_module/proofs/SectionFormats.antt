@@ -19,12 +19,14 @@ use Rattle.wk_body.specs.Bodies.{BodyOf}
 use Rattle.wk_body.specs.Shape.{IsU32}
 use Rattle.wk_body.specs.Vectors.{SpellsVector, items_at, vector_at, written_vector}
 use Rattle.wk_module.specs.declared.types.FuncType.{FuncType}
+use Rattle.wk_module.specs.ContentsFaults.{IsNumberFault, IsVectorFault, BreaksIn}
 use Rattle.wk_module.specs.FormatLaws.{CodeLaws, IsFormat, IsContents, SectionLaws}
 use Rattle.wk_module.specs.Formats.{Reader, made_at}
 use Rattle.wk_module.specs.Types.{SpellsFuncType, functype_at, written_functype}
 use Rattle.wk_module.specs.Items.{SpellsCode, code_at, written_code, IsCode}
 use Rattle.wk_module.specs.Sections.{TypeSection, ImportSection, FunctionSection, TableSection, MemorySection, GlobalSection, ExportSection}
 use Rattle.wk_module.specs.Sections.{StartSection, ElementSection, CodeSection, DataSection, is_some, SpellsStart, codes_at, written_start, IsStart, AreItems}
+use Rattle.wk_module.proofs.ContentsFaults.{start_wrong, vector_wrong, codes_wrong}
 use Rattle.wk_module.proofs.Formats.{u32_format, made_front, made_steps, made_again, valid_as, items_found, items_again, items_front, vector_made}
 use Rattle.wk_module.proofs.Formats.{vector_format, joined, both_parts}
 use Rattle.wk_module.proofs.ItemFormats.{functype_format, limits_format, tabletype_format, import_format, export_format, global_format, elem_format}
@@ -55,11 +57,14 @@ module _ {A : Type 0} (Spells : List ℕ → A → Type 0) where
 
 vector_contents : {A : Type 0} {Valid : List A → Type 0} {Spells : List ℕ → A → Type 0} {read : Reader (List A)} {written : List A → List ℕ} (id : ℕ)
     → id ≢ 8 → IsFormat Valid (SpellsVector Spells) read written
-    → IsContents id (λ funcs xs. Unit {0}) (λ xs. not (is_empty xs)) Valid (SpellsVector Spells) (λ funcs. read) written
-vector_contents {Spells = Spells} id other of = record {
+    → ((end : ℕ) (bytes : List ℕ) (e : ReadFault) → IsBytes bytes → length bytes ≤ end → read end bytes ≡ Err e
+    → IsVectorFault Spells (record { rest = bytes; end = end }) e)
+    → IsContents id (λ funcs xs. Unit {0}) (λ funcs. IsVectorFault Spells) (λ xs. not (is_empty xs)) Valid (SpellsVector Spells) (λ funcs. read) written
+vector_contents {Spells = Spells} id other of breaks = record {
   found = λ funcs. of.found;
   again = λ funcs end b xs rest counts s. of.again end b xs rest s;
   fronts = λ funcs. of.fronts;
+  breaks = λ funcs. breaks;
   some = λ xs full. of.some xs;
   spells = λ xs full. of.spells xs;
   least = of.least;
@@ -82,6 +87,12 @@ items_format of =
       least = vector.least;
       valid = λ b xs bytes s. (SpellsU-below 32 s.count (length xs) s.counts, vector.valid b xs bytes s);
     }
+
+list_contents : {A : Type 0} {Valid : A → Type 0} {Spells : List ℕ → A → Type 0} {read : Reader A} {written : A → List ℕ} (id : ℕ)
+    → id ≢ 8 → IsFormat Valid Spells read written
+    → IsContents id (λ funcs xs. Unit {0}) (λ funcs. IsVectorFault Spells) (λ xs. not (is_empty xs)) (AreItems Valid) (SpellsVector Spells)
+    (λ funcs. vector_at read) (written_vector written)
+list_contents id other of = vector_contents id other (items_format of) (vector_wrong of)
 
 -- any function types are valid
 types_format : IsFormat (λ (xs : List FuncType). IsU32 (length xs)) (SpellsVector SpellsFuncType) (vector_at functype_at) (written_vector written_functype)
@@ -125,11 +136,12 @@ start_full : (b : List ℕ) (x : Option ℕ) → SpellsStart b x → is_some x �
 start_full b None s e = s
 start_full b (Some x) s e = absurd cc
 
-start_contents : IsContents 8 (λ funcs x. Unit {0}) is_some IsStart SpellsStart (λ funcs. made_at Some u32_at) written_start
+start_contents : IsContents 8 (λ funcs x. Unit {0}) (λ funcs. IsNumberFault) is_some IsStart SpellsStart (λ funcs. made_at Some u32_at) written_start
 start_contents = record {
   found = λ funcs. start_found;
   again = λ funcs end b x rest counts s. start_again end b x rest s;
   fronts = λ funcs. made_front Some u32_at u32_format.fronts;
+  breaks = λ funcs end bytes e fits long. start_wrong end bytes e;
   some = start_some;
   spells = start_spells;
   least = start_least;
@@ -198,14 +210,15 @@ module _ (profile : Profile) (laws : CodeLaws profile) where
   unfolding codes_at
   codes_fault funcs end bytes e h fits = counted_fault funcs end bytes e (u32_at end bytes) refl h fits
 
-  codes_contents : IsContents 10 (λ funcs xs. length xs ≡ funcs) (λ xs. not (is_empty xs)) (AreItems (IsCode profile))
-      (SpellsVector (SpellsCode profile)) (codes_at profile) (written_vector written_code)
+  codes_contents : IsContents 10 (λ funcs xs. length xs ≡ funcs) (λ funcs. BreaksIn profile funcs CodeSection) (λ xs. not (is_empty xs))
+      (AreItems (IsCode profile)) (SpellsVector (SpellsCode profile)) (codes_at profile) (written_vector written_code)
   codes_contents =
       let of = items_format (code_format profile laws) in
       record {
         found = codes_found;
         again = codes_again;
         fronts = λ funcs. record { takes = codes_takes funcs; faults = codes_fault funcs };
+        breaks = codes_wrong (code_format profile laws);
         some = λ xs full. of.some xs;
         spells = λ xs full. of.spells xs;
         least = of.least;
@@ -217,14 +230,14 @@ module _ (profile : Profile) (laws : CodeLaws profile) where
 -- ---- all sections
 
 pub section_laws : (profile : Profile) → CodeLaws profile → SectionLaws profile
-section_laws profile laws TypeSection = vector_contents 1 (λ e. omega arith) types_format
-section_laws profile laws ImportSection = vector_contents 2 (λ e. omega arith) (items_format import_format)
-section_laws profile laws FunctionSection = vector_contents 3 (λ e. omega arith) (items_format u32_format)
-section_laws profile laws TableSection = vector_contents 4 (λ e. omega arith) (items_format tabletype_format)
-section_laws profile laws MemorySection = vector_contents 5 (λ e. omega arith) (items_format limits_format)
-section_laws profile laws GlobalSection = vector_contents 6 (λ e. omega arith) (items_format (global_format profile laws))
-section_laws profile laws ExportSection = vector_contents 7 (λ e. omega arith) (items_format export_format)
+section_laws profile laws TypeSection = vector_contents 1 (λ e. omega arith) types_format (vector_wrong functype_format)
+section_laws profile laws ImportSection = list_contents 2 (λ e. omega arith) import_format
+section_laws profile laws FunctionSection = list_contents 3 (λ e. omega arith) u32_format
+section_laws profile laws TableSection = list_contents 4 (λ e. omega arith) tabletype_format
+section_laws profile laws MemorySection = list_contents 5 (λ e. omega arith) limits_format
+section_laws profile laws GlobalSection = list_contents 6 (λ e. omega arith) (global_format profile laws)
+section_laws profile laws ExportSection = list_contents 7 (λ e. omega arith) export_format
 section_laws profile laws StartSection = start_contents
-section_laws profile laws ElementSection = vector_contents 9 (λ e. omega arith) (items_format (elem_format profile laws))
+section_laws profile laws ElementSection = list_contents 9 (λ e. omega arith) (elem_format profile laws)
 section_laws profile laws CodeSection = codes_contents profile laws
-section_laws profile laws DataSection = vector_contents 11 (λ e. omega arith) (items_format (data_format profile laws))
+section_laws profile laws DataSection = list_contents 11 (λ e. omega arith) (data_format profile laws)

@@ -22,6 +22,7 @@ use Rattle.wk_body.specs.ReadsLaws.{other_fault}
 use Rattle.wk_module.specs.declared.types.Custom.{Custom}
 use Rattle.wk_module.specs.declared.types.Parts.{Parts}
 use Rattle.wk_module.specs.Customs.{custom_at}
+use Rattle.wk_module.specs.FirstFaults.{IsFirstFault}
 use Rattle.wk_module.specs.FormatLaws.{SectionLaws}
 use Rattle.wk_module.specs.Formats.{Reader, bytes_at, taking_all, all_at}
 use Rattle.wk_module.specs.ListReading.{IsReading, listed_by, with_listed, lists_read}
@@ -104,7 +105,7 @@ module _ (profile : Profile) (sections : SectionLaws profile) where
       let read : Reader (ContentsOf k) = contents_at profile funcs k in
       all_at-stands read ((sections k).fronts funcs) (section_end s) s.contents e (failed_before (all_at read (section_end s) s.contents) f e h) (omega arith)
 
-  section_stands : (p : Progress) (s : Section) (e : ReadFault) (k : Option SectionId) → section_by profile p s k ≡ Err e → Stands (contents_of s) e
+  pub section_stands : (p : Progress) (s : Section) (e : ReadFault) (k : Option SectionId) → section_by profile p s k ≡ Err e → Stands (contents_of s) e
   unfolding section_by
   section_stands p s e None h =
       custom_at-stands p.place (section_end s) s.contents e (failed_before (custom_at p.place (section_end s) s.contents) (with_custom p) e h) (omega arith)
@@ -164,7 +165,7 @@ told_stands b e read stands fails =
 -- ---- what a fault of reading a module says of its bytes
 
 module _ (profile : Profile) (b : List ℕ) (is : IsReading profile b (module_at profile b)) where
-  fault_read : (e : ReadFault) → module_at profile b ≡ Err e → SpellsNone profile b × StandsIn b e
+  fault_read : (e : ReadFault) → module_at profile b ≡ Err e → SpellsNone profile b × StandsIn b e × IsFirstFault profile b e
   fault_read e read = subst (IsReading profile b) read is
 
   pub fault_refused : (e : ReadFault) → FailsAs e e.kind (module_at profile b) → e.kind ≢ Memory → SpellsNone profile b

@@ -28,6 +28,10 @@ pub mod Reading
 pub mod Listed
 -- Lists read section by section, and what reading a module says of the bytes.
 pub mod ListReading
+-- How the contents of a section break off.
+pub mod ContentsFaults
+-- The first fault of an input that spells no module, by the grammar.
+pub mod FirstFaults
 -- A module with a stub in the place of each body.
 pub mod Outlines
 -- ---- writing

@@ -13,6 +13,7 @@ use Rattle.wk_bytes.specs.Stands.{StandsIn}
 use Rattle.wk_body.specs.declared.types.Profile.{Profile}
 use Rattle.wk_body.specs.Bodies.{BodyOf}
 use Rattle.wk_module.specs.declared.types.Parts.{Parts}
+use Rattle.wk_module.specs.FirstFaults.{IsFirstFault}
 use Rattle.wk_module.specs.Formats.{all_at}
 use Rattle.wk_module.specs.Listed.{AreNumbered}
 use Rattle.wk_module.specs.Modules.{Spells, SpellsNone}
@@ -116,7 +117,7 @@ joined_lists end l = if length l.funcs == length l.codes then Ok l else Err (rec
 abbrev pub AreListsOfModule : Profile → List ℕ → Type 0
 AreListsOfModule profile b = (module_at profile b >>= λ m. Ok (lists_of m)) ≡ (lists_read profile no_lists (sections_of b) >>= joined_lists (length b))
 
--- What is read is the one module of the profile that the bytes spell. Where there is a fault it stands in them, and they spell none.
+-- What is read is the one module of the profile that the bytes spell. Where there is a fault they spell none, and it is the first.
 abbrev pub IsReading : Profile → List ℕ → Result Parts ReadFault → Type 0
 IsReading profile b (Ok m) = (m.profile ≡ profile) × Spells b m × ((n : Parts) → n.profile ≡ profile → Spells b n → n ≡ m) × IsShaped m
-IsReading profile b (Err e) = SpellsNone profile b × StandsIn b e
+IsReading profile b (Err e) = SpellsNone profile b × StandsIn b e × IsFirstFault profile b e

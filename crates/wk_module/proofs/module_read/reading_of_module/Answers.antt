@@ -8,6 +8,7 @@ use Rattle.wk_module.specs.ListReading.{IsReading}
 use Rattle.wk_module.specs.Reading.{module_at}
 use Rattle.wk_module.specs.Writing.{Fits}
 use Rattle.wk_module.proofs.Fitting.{fits_spelled}
+use Rattle.wk_module.proofs.FirstFaults.{module_first}
 use Rattle.wk_module.proofs.ListReading.{lists_of_module, sections_rise}
 use Rattle.wk_module.proofs.ModuleReading.{module_found, module_none, answer_only}
 use Rattle.wk_module.proofs.Shaped.{shaped}
@@ -19,7 +20,7 @@ reading_is : (profile : Profile) (laws : SectionLaws profile) (b : List ℕ) (r 
 reading_is profile laws b (Ok m) fits is =
     let found = module_found profile laws b m fits is in
     (found.1, found.0, answer_only profile laws b (Ok m) is, shaped profile laws b m found.1 fits found.0)
-reading_is profile laws b (Err e) fits is = (module_none profile laws b e is, module_stands profile laws b e is)
+reading_is profile laws b (Err e) fits is = (module_none profile laws b e is, module_stands profile laws b e is, module_first profile laws b e fits is)
 
 fits_read : (profile : Profile) (laws : SectionLaws profile) (b : List ℕ) (r : Result Parts ReadFault) → IsBytes b → module_at profile b ≡ r
     → IfOk r (λ m. Fits m)
