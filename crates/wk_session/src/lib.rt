@@ -14,8 +14,8 @@
 //!   scratch.
 //! - A reply tells the [`Work`] of an edit (`specs/Dependents`): `typed` counts the bodies that the edit gives and those that refer to
 //!   something which is found to be another thing, `encoded` those that it gives and those that move, `sections` the sections that
-//!   are made again. [`work_of_edits`] ties the first two to the references that change and to those that move. That no more
-//!   than these are typed or made again is no clause: tests compare what a meter counts.
+//!   change. [`work_of_edits`] ties the first two to the references that change and to those that move. That no more
+//!   than these are typed or encoded is no clause: tests compare what a meter counts.
 //! - [`Session::write`] fails only where its output does, and takes no memory. So does [`Session::write_with`], which appends
 //!   `encoded_with` (`specs/Recoded`): the written form with other codes in the place of some. With the codes of bodies it is that of the
 //!   module with these bodies (`recoded` of `specs/RecodedLaws`).
