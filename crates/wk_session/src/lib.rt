@@ -26,9 +26,9 @@
 //! # What it costs
 //!
 //! Kept are the verdict of each body, what it refers to and its code, and the contents of each section. An edit types the bodies that
-//! find another thing than before, and no other; of a valid module it judges what it adds alone. It encodes the bodies that move and
-//! the sections that change, and writing puts what is kept in order. All growths come before what is kept changes; what was pushed to
-//! be judged is taken back where the edit is refused.
+//! find another thing than before, and no other; of a valid module it judges what it adds alone. It encodes the bodies that move,
+//! the sections in which something moves, and an item that comes, and writing puts what is kept in order. All growths come before a
+//! change that lasts; what was pushed to be judged is taken back where the edit is refused.
 //!
 //! Opening goes over the bytes once, and over each body once more: it is typed, unless its verdict
 //! is known, looked at, and, unless its code is at hand, written in turn, into one room that serves
