@@ -12,10 +12,11 @@ OPENERS, CLOSERS = "([{", ")]}"
 
 @dataclass
 class Clause:
-    """A clause of a call: its name, which may be empty, and its text in one line."""
+    """A clause of a call: its name, which may be empty, its text in one line, and whether its word has a star: then it is about memory."""
 
     name: str
     text: str
+    is_starred: bool = False
 
 
 @dataclass
@@ -84,7 +85,7 @@ def clauses_from(text, at):
     pattern = re.compile(r"\s*(ensures|requires)(\*?)\s*(\w*)\s*\{")
     while match := pattern.match(text, at):
         end = closing(text, match.end() - 1)
-        found[match[1]].append(Clause(match[3], " ".join(text[match.end() : end].split())))
+        found[match[1]].append(Clause(match[3], " ".join(text[match.end() : end].split()), bool(match[2])))
         at = end + 1
     return found["ensures"], found["requires"]
 
@@ -188,6 +189,12 @@ def crates_below_tests():
         named = [line.partition("#")[0].partition(":")[0].split()[0] for line in file if line.partition("#")[0].strip()]
     has_root = lambda name: os.path.exists(os.path.join(CRATES, name, "src", "lib.rt"))
     return [name for name in named if has_root(name) and not name.endswith("_tests") and name != "wk_samples"]
+
+
+def unit_types():
+    """The types whose value is the unit, as their models say."""
+    pattern = re.compile(r"\bimpl Model for (\w+)[^{]*\{\s*ghost Value = \{ Unit \{0\} \};")
+    return {match[1] for crate in crates_below_tests() for text in sources_of(crate).values() for match in pattern.finditer(text)}
 
 
 def public_calls():

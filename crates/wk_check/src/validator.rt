@@ -48,9 +48,7 @@ impl Model for Validator {
 
 impl Validator {
     /// One that has judged nothing. It takes no memory yet.
-    pub fn new(alloc: Global) -> Validator
-        ensures { result ≡ tt }
-    {
+    pub fn new(alloc: Global) -> Validator {
         Validator {
             workspace: Workspace::new(alloc),
         }
@@ -82,9 +80,7 @@ impl Validator {
     }
 
     /// Gives back all room that is kept.
-    pub fn shrink(&mut self, alloc: Global)
-        ensures { self.new ≡ tt }
-    {
+    pub fn shrink(&mut self, alloc: Global) {
         self.workspace = Workspace::new(alloc);
     }
 }

@@ -6,7 +6,7 @@ use wk_session::{EditFault, Reply};
 /// What is answered.
 #[derive(Clone, Copy)]
 pub(crate) enum Answer {
-    /// So many bodies are typed and encoded, and so many sections made again.
+    /// So many bodies are typed and encoded, and so many sections change.
     Work(u32, u32, u32),
     /// Why the edit is refused, other than to keep the module valid.
     Refused(EditFault),

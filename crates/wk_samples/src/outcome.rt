@@ -11,7 +11,7 @@ pub struct Counts {
     pub typed: u32,
     /// How many bodies were encoded.
     pub encoded: u32,
-    /// How many sections were made again.
+    /// How many sections changed.
     pub sections: u32,
 }
 

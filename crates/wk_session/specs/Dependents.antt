@@ -118,7 +118,7 @@ sections_moving kind from m =
     + one_if (list_any (is_elem_moving kind from) m.elems)
     + one_if (list_any (is_data_moving kind from) m.datas)
 
--- how many sections are made again
+-- how many sections change
 abbrev pub sections_made : Edit → Parts → ℕ
 sections_made (edits.Ty t) m = 1
 sections_made (edits.Import i) m = 1 + sections_moving (desc_kind i.desc) (import_place i m) m

@@ -51,7 +51,7 @@ is_own (entries.Own v) = true
 is_own (entries.All vs) = false
 
 -- n may stay, and this is to be kept of it, but for its sections, where a code entry with that type and body comes to fs or changes among
--- them: so many sections are made anew
+-- them: so many sections change
 pub record IsPlanned (keep : Bool) (t : ℕ) (b : BodyOf) (n : Parts) (fs : List Func) (verdicts_kept : List BodyVerdict) (sections_made : ℕ)
     (p : Entry) : Type 0 where
   pub formed : IsFormed n

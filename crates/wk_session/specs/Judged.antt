@@ -47,7 +47,7 @@ pub record IsUnchanged (k new : Cache) : Type 0 where
   pub others : new ≡ record k { pieces = record k.pieces { sections = new.pieces.sections } }
   pub sections : new.pieces.sections.items ≡ k.pieces.sections.items
 
--- n stays and new is kept of it, where so many bodies were typed and sections made anew; or that, and what was kept is as it was
+-- n stays and new is kept of it, where so many bodies were typed and sections changed; or that, and what was kept is as it was
 abbrev pub IsGrown : Bool → (Ref → Found) → Parts → ℕ → ℕ → Cache → Cache → Result ℕ EditFault → Type 0
 IsGrown keep before n typed made k new (Ok sections) = (standing keep n ≡ Ok (settle n)) × IsKept n new
     × (typed ≡ count_by (is_retyped_in before (answers_of n)) n.funcs) × (sections ≡ made)

@@ -14,8 +14,8 @@
 //!   scratch.
 //! - A reply tells the [`Work`] of an edit (`specs/Dependents`): `typed` counts the bodies that the edit gives and those that refer to
 //!   something which is found to be another thing, `encoded` those that it gives and those that move, `sections` the sections that
-//!   are made again. [`work_of_edits`] ties the first two to the references that change and to those that move. That no more
-//!   than these are typed or made again is no clause: tests compare what a meter counts.
+//!   change. [`work_of_edits`] ties the first two to the references that change and to those that move. That no more
+//!   than these are typed or encoded is no clause: tests compare what a meter counts.
 //! - [`Session::write`] fails only where its output does, and takes no memory. So does [`Session::write_with`], which appends
 //!   `encoded_with` (`specs/Recoded`): the written form with other codes in the place of some. With the codes of bodies it is that of the
 //!   module with these bodies (`recoded` of `specs/RecodedLaws`).
@@ -26,9 +26,9 @@
 //! # What it costs
 //!
 //! Kept are the verdict of each body, what it refers to and its code, and the contents of each section. An edit types the bodies that
-//! find another thing than before, and no other; of a valid module it judges what it adds alone. It encodes the bodies that move and
-//! the sections that change, and writing puts what is kept in order. All growths come before what is kept changes; what was pushed to
-//! be judged is taken back where the edit is refused.
+//! find another thing than before, and no other; of a valid module it judges what it adds alone. It encodes the bodies that move,
+//! the sections in which something moves, and an item that comes, and writing puts what is kept in order. All growths come before a
+//! change that lasts; what was pushed to be judged is taken back where the edit is refused.
 //!
 //! Opening goes over the bytes once, and over each body once more: it is typed, unless its verdict
 //! is known, looked at, and, unless its code is at hand, written in turn, into one room that serves

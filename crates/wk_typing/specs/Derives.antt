@@ -1,5 +1,6 @@
 -- The standard's declarative rules (3.3): which operand stacks instructions may take to which. A stack is a list of value types
--- in the order in which they are written, the top last. No operand is of an open type, and no stack is dead.
+-- in the order in which they are written, the top last. No operand is of an open type, and no stack is dead. In 1.0 no block takes operands or
+-- has more than one result: the rule for those that do is this project's own, as are the types of the sign extensions.
 use Rattle.std.specs.Prelude.{◌≡◌, ℕ, List, [], ◌∷◌, ◌++◌, Option, Ok}
 use Rattle.wk_body.specs.declared.types.ValType.{ValType}
 use Rattle.wk_body.specs.declared.types.ValType.TheVariants.{I32}

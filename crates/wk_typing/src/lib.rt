@@ -8,10 +8,10 @@
 //!   [`Env`] is a [`Scope`] of the same meaning.
 //! - [`judge_body`] is `body_verdict` for that function (`specs/Typing`, by the table of `specs/Effects`). It counts one more on its
 //!   [`Meter`], want of memory included, and asks that the count is not the greatest `u64`. Its clauses `sound` and `complete` say that
-//!   it answers valid exactly where the body is derived by the standard's declarative rules (`IsDerived` of `specs/Derives`), for the
-//!   blocks and instructions of both profiles. These rules are said from the first instruction on; [`declarative_rules`] carries the
-//!   law that a list has a type exactly where each of two parts has one, so that they are the standard's, which go from the last one
-//!   back.
+//!   it answers valid exactly where the body is derived by declarative rules (`IsDerived` of `specs/Derives`): those of the standard,
+//!   with this project's own for what the extended profile adds. They are said from the first instruction on; [`declarative_rules`]
+//!   carries the law that a list has a type exactly where each of two parts has one, so that for 1.0 they are the standard's, which go
+//!   from the last one back.
 //! - [`type_body`] is the same verdict without the count, [`constant_flaw`] what is wrong with a constant expression (`specs/Constants`).
 //!   [`type_encoded_body`] is the verdict of the body that bytes encode, or the first fault of reading it (`encoded_verdict` of
 //!   `specs/Faults`): it types a body while it reads it, and one that is valid is not kept, which no clause says.

@@ -44,9 +44,7 @@ impl Model for StreamRoom {
 
 impl StreamRoom {
     /// Room that is still to grow: it takes no memory yet.
-    pub fn new(alloc: Global) -> StreamRoom
-        ensures { result ≡ tt }
-    {
+    pub fn new(alloc: Global) -> StreamRoom {
         StreamRoom {
             stream: Stream {
                 reader: TokenReader::new(alloc),

@@ -36,9 +36,7 @@ impl Model for Room {
 
 impl Room {
     /// Room that is still to grow: it takes no memory yet.
-    pub fn new(alloc: Global) -> Room
-        ensures { result ≡ tt }
-    {
+    pub fn new(alloc: Global) -> Room {
         Room {
             stacks: Stacks::new(alloc),
             locals: LocalsRoom::new(alloc),

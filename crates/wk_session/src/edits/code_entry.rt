@@ -36,7 +36,7 @@ pub(super) struct Entry {
     pub(super) codes_len: u32,
     /// How many bodies were encoded.
     pub(super) encoded: u32,
-    /// How many sections are made anew.
+    /// How many sections change.
     pub(super) sections: u32,
     /// What is kept of the module as a whole.
     pub(super) appraisal: Appraisal,

@@ -116,7 +116,7 @@ fn new_export(
 }
 
 // Appends an export where the module with it may stay, which is so long, and keeps what is to be kept of it. Answers how many sections
-// were made anew; or leaves all as it was.
+// changed; or leaves all as it was.
 fn push_export(
     alloc: Global,
     keep: bool,
@@ -277,8 +277,8 @@ fn len_without(kept: &Cache, funcs: usize, count: u32, span: Span) -> Option<u32
     module_len(sizes, funcs, pieces.codes_len, pieces.customs_len)
 }
 
-// Keeps what is to be kept of a module without an export of so many where it may stay, and answers how many sections were made anew for
-// it; or leaves what is kept as it was.
+// Keeps what is to be kept of a module without an export of so many where it may stay, and answers how many sections changed; or leaves
+// what is kept as it was.
 fn keep_shrunk(
     alloc: Global,
     kept: &mut Cache,
@@ -306,8 +306,8 @@ fn keep_shrunk(
     Ok(made)
 }
 
-// Takes an export out where the module without it may stay, and keeps what is to be kept of it. Answers how many sections were made anew;
-// or leaves all as it was.
+// Takes an export out where the module without it may stay, and keeps what is to be kept of it. Answers how many sections changed; or leaves all
+// as it was.
 fn take_export(
     alloc: Global,
     keep: bool,

@@ -68,8 +68,8 @@ fn new_type(
     new_item(alloc, &alone, section_id::TYPE, parts.types.len() as u32)
 }
 
-// Appends a type where the module with it may stay, which is so long, and keeps what is to be kept of it. Answers how many sections were
-// made anew; or leaves all as it was.
+// Appends a type where the module with it may stay, which is so long, and keeps what is to be kept of it. Answers how many sections changed;
+// or leaves all as it was.
 fn push_type(
     alloc: Global,
     keep: bool,

@@ -109,7 +109,7 @@ fn new_global(
     new_item(alloc, &alone, section_id::GLOBAL, count)
 }
 
-// Appends a global where the module with it may stay, and keeps what is to be kept of it. Answers how many sections were made anew; or
+// Appends a global where the module with it may stay, and keeps what is to be kept of it. Answers how many sections changed; or
 // leaves all as it was.
 fn push_global(
     alloc: Global,

@@ -51,7 +51,7 @@ pub(crate) struct NewItem {
     pub(crate) count: u32,
     /// The contents of a list of this item alone.
     pub(crate) alone: Items<u8>,
-    /// How many sections are made again with it.
+    /// How many sections change with it: its own.
     pub(crate) made: u32,
 }
 
@@ -219,8 +219,8 @@ pub(crate) fn keep_judgement(kept: &mut Cache, judgement: Judgement)
     }
 }
 
-/// Keeps what is to be kept of a module with an item more where it may stay, and answers how many sections were made anew for it; or
-/// leaves what is kept as it was.
+/// Keeps what is to be kept of a module with an item more where it may stay, and answers how many sections changed; or leaves
+/// what is kept as it was.
 pub(crate) fn keep_grown(
     alloc: Global,
     kept: &mut Cache,
