@@ -8,10 +8,10 @@ use Rattle.wk_bytes.specs.declared.fault.ReadKind.{ReadKind}
 use Rattle.wk_bytes.specs.declared.fault.ReadKind.TheVariants.{UnexpectedEnd, BadUtf8, FuncCodeCount}
 use Rattle.wk_bytes.specs.declared.fault.ReadFault.{ReadFault}
 use Rattle.wk_bytes.specs.Leb.{◌>>=◌, SpellsU, IsIntKind, lastU, uint_at}
-use Rattle.wk_bytes.specs.LebLaws.{IsBytes, bind_ok, chosen, uint_wrong}
+use Rattle.wk_bytes.specs.LebLaws.{IsBytes, bind_ok, chosen, uint_wrong, IsBytes-after}
 use Rattle.wk_bytes.specs.PieceLaws.{u32_at-found, none_spelled}
 use Rattle.wk_bytes.specs.Span.{fault, u32_at, piece_at, name_at}
-use Rattle.wk_bytes.specs.SpanLaws.{err_is, placed_err, IsBytes-after, piece_at-takes}
+use Rattle.wk_bytes.specs.SpanLaws.{err_is, placed_err, piece_at-takes}
 use Rattle.wk_bytes.specs.Stands.{Stands}
 use Rattle.wk_body.specs.declared.types.Profile.{Profile}
 use Rattle.wk_body.specs.Bodies.{BodyOf}

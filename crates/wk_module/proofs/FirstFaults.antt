@@ -7,10 +7,10 @@ use Rattle.std.proofs.lemmas.List.Elements.{All-nil, All-cons}
 use Rattle.wk_bytes.specs.declared.fault.ReadKind.TheVariants.{FuncCodeCount, SectionSize}
 use Rattle.wk_bytes.specs.declared.fault.ReadFault.{ReadFault}
 use Rattle.wk_bytes.specs.Leb.{◌>>=◌, SpellsU}
-use Rattle.wk_bytes.specs.LebLaws.{IsBytes, chosen}
+use Rattle.wk_bytes.specs.LebLaws.{IsBytes, chosen, IsBytes-after, IsBytes-before}
 use Rattle.wk_bytes.specs.PieceLaws.{u32_at-found}
 use Rattle.wk_bytes.specs.Span.{Span, name_at}
-use Rattle.wk_bytes.specs.SpanLaws.{not_both, err_is, IsBytes-after, IsBytes-before, piece_at-takes}
+use Rattle.wk_bytes.specs.SpanLaws.{not_both, err_is, piece_at-takes}
 use Rattle.wk_bytes.specs.Frames.{Section, MayCome, SpellsFrames, frame_of, magic, version, section_at, each_then}
 use Rattle.wk_bytes.specs.Frames.{sections_within, sections_from, header_at, framing, sections_of}
 use Rattle.wk_bytes.specs.FrameLaws.{steps_of, id_at-takes, section_at-takes, section_at-shorter, header_at-takes}

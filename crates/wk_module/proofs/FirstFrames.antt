@@ -8,10 +8,10 @@ use Rattle.wk_bytes.specs.declared.fault.ReadKind.TheVariants.{BadMagic, BadVers
 use Rattle.wk_bytes.specs.declared.fault.ReadFault.{ReadFault}
 use Rattle.wk_bytes.specs.Fault.{long_input}
 use Rattle.wk_bytes.specs.Leb.{◌>>=◌}
-use Rattle.wk_bytes.specs.LebLaws.{IsBytes, chosen}
+use Rattle.wk_bytes.specs.LebLaws.{IsBytes, chosen, IsBytes-after}
 use Rattle.wk_bytes.specs.PieceLaws.{u32_at-found}
 use Rattle.wk_bytes.specs.Span.{Span, fault, byte_at, u32_at, piece_at}
-use Rattle.wk_bytes.specs.SpanLaws.{err_is, IsBytes-after, piece_at-takes}
+use Rattle.wk_bytes.specs.SpanLaws.{err_is, piece_at-takes}
 use Rattle.wk_bytes.specs.Frames.{Section, MayCome, limit, magic, version, id_at, section_at}
 use Rattle.wk_bytes.specs.Frames.{header_at}
 use Rattle.wk_bytes.specs.FrameLaws.{id_at-takes, first_then, second_then}
