@@ -2,7 +2,7 @@
 use Rattle.std.specs.Prelude.{◌≢◌, ℕ, List, [], ◌∷◌, Result, Err}
 use Rattle.wk_bytes.specs.declared.fault.ReadFault.{ReadFault}
 use Rattle.wk_bytes.specs.declared.fault.ReadKind.TheVariants as kinds
-use Rattle.wk_bytes.specs.Stands.{StandsIn}
+use Rattle.wk_bytes.specs.Stands.{StandsInCode}
 use Rattle.wk_body.specs.declared.types.Profile.{Profile}
 use Rattle.wk_body.specs.Meaning.{Whole}
 use Rattle.wk_body.specs.Spelling.{SpellsBody, SpellsExpr}
@@ -15,7 +15,7 @@ use Rattle.wk_session.specs.declared.edit.Work.{Work}
 -- Bytes that cannot be read spell nothing, and the fault stands in them and is never want of memory.
 pub record IsUnread {V : Type 0} (SpelledBy : V → List ℕ → Type 0) (bytes : List ℕ) (fault : ReadFault) : Type 0 where
   pub none : (v : V) → ¬ (Whole SpelledBy v bytes)
-  pub stands : StandsIn bytes fault
+  pub stands : StandsInCode bytes fault
   pub other : fault.kind ≢ kinds.Memory
 
 -- The edit is refused for its code or its expression. No other edit is refused so.
