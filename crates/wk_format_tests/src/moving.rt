@@ -137,12 +137,12 @@ fn moves_as_read(alloc: Global, row: Move) -> bool {
     }
 }
 
-// Whether the written form, moved by its bytes alone, is that one, or is none.
+// Whether the written form, moved by its bytes alone, is that one, or is none and leaves nothing.
 fn is_shifted(alloc: Global, code: &[u8], shifts: Shifts, becomes: Option<&[u8]>) -> bool {
     let mut moved = Vec::new(alloc);
     match (append_shifts(&mut moved, code, shifts), becomes) {
         (Ok(true), Some(bytes)) => moved.as_slice() == bytes,
-        (Ok(false), None) => true,
+        (Ok(false), None) => moved.is_empty(),
         _ => false,
     }
 }
@@ -176,6 +176,9 @@ const SHIFTED: &[u8] = b"\x02\x02\x7f\x01\x7c\
     \x0e\x03\x00\x01\x02\x00\
     \x03\x7f\x3f\x00\x0b\x0b";
 
+// A call of the function 5, and of the function 4,294,967,295.
+const STUCK_BEHIND_5: &[u8] = b"\x00\x10\x05\x10\xff\xff\xff\xff\x0f\x0b";
+
 fn shifts_bodies(alloc: Global) -> bool {
     let mut shifts = Shifts {
         funcs_from: 5,
@@ -184,11 +187,12 @@ fn shifts_bodies(alloc: Global) -> bool {
         globals_by: 120,
     };
     let both = is_shifted(alloc, BODY, shifts, Some(SHIFTED));
+    let stuck = is_shifted(alloc, STUCK_BEHIND_5, shifts, None);
     shifts.funcs_from = 6;
     shifts.globals_from = 8;
     let none = is_shifted(alloc, BODY, shifts, Some(BODY));
     let nothing = is_shifted(alloc, b"", shifts, None);
-    both && none && nothing && is_shifted(alloc, SHIFTED, UNMOVED, Some(SHIFTED))
+    both && stuck && none && nothing && is_shifted(alloc, SHIFTED, UNMOVED, Some(SHIFTED))
 }
 
 #[test]

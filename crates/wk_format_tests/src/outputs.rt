@@ -1,10 +1,10 @@
-//! Where bytes go: into memory, and to a writer that fails once.
+//! Where bytes go: into memory, and to a writer that fails.
 
 use std::alloc::Global;
 use std::io;
 use std::io::Write;
 use std::test::Fail;
-use wk_bytes::{Out, Sink, Stream, put_all};
+use wk_bytes::{Out, OutFault, Sink, Stream, put_all};
 
 const TEXT: &[u8] = b"abcdefghijklmnopqrstuvwxyz";
 
@@ -152,6 +152,99 @@ fn wrong_writer(alloc: Global) -> Option<(u32, usize)> {
 #[test]
 fn stops_where_the_writer_fails(rt: HostRuntime) -> Result<(), Fail> {
     assert_eq!(rt; wrong_writer(rt.alloc()), None);
+    Ok(())
+}
+
+// What a writer does at a call.
+#[derive(Clone, Copy, PartialEq, Eq)]
+enum Habit {
+    /// It takes so many bytes.
+    Takes(usize),
+    Fails(io::ErrorKind),
+}
+
+// A writer with a habit for each call, which counts its calls, those that failed and those that took nothing.
+#[derive(Drop)]
+struct Fickle<'a> {
+    habits: &'a [Habit],
+    calls: usize,
+    failed: u64,
+    empty: u64,
+}
+
+impl Write for Fickle<'_> {
+    fn write(&mut self, bytes: &[u8]) -> io::Result<usize> {
+        let habit = self.habits.get(self.calls);
+        self.calls = self.calls.saturating_add(1);
+        match habit {
+            Some(Habit::Fails(kind)) => {
+                self.failed = self.failed.saturating_add(1);
+                Err(io::Error::from(*kind))
+            }
+            Some(Habit::Takes(n)) if *n > 0 => Ok(bytes.len().min(*n)),
+            _ => {
+                self.empty = self.empty.saturating_add(1);
+                Ok(0)
+            }
+        }
+    }
+
+    fn flush(&mut self) -> io::Result<()> {
+        Ok(())
+    }
+}
+
+const HABITS: [Habit; 9] = [
+    Habit::Takes(26),
+    Habit::Fails(io::ErrorKind::Other),
+    Habit::Takes(1),
+    Habit::Takes(0),
+    Habit::Takes(25),
+    Habit::Fails(io::ErrorKind::Interrupted),
+    Habit::Fails(io::ErrorKind::WouldBlock),
+    Habit::Takes(26),
+    Habit::Takes(0),
+];
+
+// What a stream answers where its writer does so.
+fn answer_to(habit: Habit) -> Result<usize, OutFault> {
+    match habit {
+        Habit::Takes(n) if n > 0 => Ok(n),
+        _ => Err(OutFault),
+    }
+}
+
+// Whether each call of the stream is one of its writer, which it answers, and each of its failures one of the writer's.
+fn answers_as_its_writer() -> bool {
+    let mut stream = Stream::new(Fickle {
+        habits: &HABITS,
+        calls: 0,
+        failed: 0,
+        empty: 0,
+    });
+    let mut are_right = true;
+    for habit in HABITS {
+        let before = stream.failures();
+        if before > 100 {
+            return false;
+        }
+        let answer = stream.put(TEXT);
+        let more = u64::from(answer.is_err());
+        are_right = are_right
+            && answer == answer_to(habit)
+            && stream.failures() - before == more
+            && stream.put(b"") == Ok(0);
+    }
+    let failures = stream.failures();
+    let writer = stream.into_inner();
+    are_right
+        && writer.calls == HABITS.len()
+        && (writer.failed, writer.empty, failures) == (3, 2, 5)
+}
+
+#[test]
+fn fails_where_the_writer_does(rt: HostRuntime) -> Result<(), Fail> {
+    assert!(rt; answers_as_its_writer());
     Ok(())
 }
 

@@ -50,13 +50,8 @@ fn put_offset(text: &mut Vec<u8>, n: u32) -> Result<(), OutOfMemory>
     put_hex8(text, n)
 }
 
-/// Appends the line of a section as far as its size, as `    Type start=0x0000000a end=0x0000000e size=0x00000004`: where its
-/// contents start, where they end, and how many bytes they are. A section's id is 0 to 11; other ids have no name.
-///
-/// # Errors
-///
-/// Want of memory. What stood in `text` still stands at its front.
-pub fn put_header(text: &mut Vec<u8>, id: u8, start: u32, size: u32) -> Result<(), OutOfMemory>
+// The line of a section as far as its size, or a part of it where memory is refused.
+fn put_line(text: &mut Vec<u8>, id: u8, start: u32, size: u32) -> Result<(), OutOfMemory>
     requires { start + size < 2 ^ 32 }
     ensures ok { OnOk result (text.new.items ≡ text.old.items ++ header_text id start size) }
     ensures err { OnErr result (StandsInFront text.old.items text.new.items) }
@@ -68,4 +63,23 @@ pub fn put_header(text: &mut Vec<u8>, id: u8, start: u32, size: u32) -> Result<(
     put_offset(text, start + size)?;
     text.extend_from_slice(b" size=")?;
     put_offset(text, size)
+}
+
+/// Appends the line of a section as far as its size, as `    Type start=0x0000000a end=0x0000000e size=0x00000004`: where its
+/// contents start, where they end, and how many bytes they are. A section's id is 0 to 11; other ids have no name.
+///
+/// # Errors
+///
+/// Want of memory. Then `text` holds what it held before.
+pub fn put_header(text: &mut Vec<u8>, id: u8, start: u32, size: u32) -> Result<(), OutOfMemory>
+    requires { start + size < 2 ^ 32 }
+    ensures ok { OnOk result (text.new.items ≡ text.old.items ++ header_text id start size) }
+    ensures err { OnErr result (text.new.items ≡ text.old.items) }
+{
+    let len = text.len();
+    let put = put_line(text, id, start, size);
+    if put.is_err() {
+        text.truncate(len);
+    }
+    put
 }

@@ -14,7 +14,8 @@
 //!   offset handed down; what stands in front of an instruction is counted by its written bytes.
 //! - [`list`] and [`list_summary`] make the `Out` take that text, or after a fault a beginning of it; they count one failure more
 //!   exactly where they answer `Write`.
-//! - [`put_header`] appends the line of a section as far as its size (`header_text`), which `sections` of the program prints too.
+//! - [`put_header`] appends the line of a section as far as its size (`header_text`), which `sections` of the program prints too. Where it
+//!   is refused, the text is as before.
 //!
 //! Nothing recurses over nested blocks: tokens are listed as they are kept. Text goes out in pieces, so that no part is held whole:
 //! what is held is a piece, a buffer of 4 KB, one line (as long as its item needs), and the bytes of one initialiser or what one function

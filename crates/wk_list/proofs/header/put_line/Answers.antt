@@ -1,6 +1,6 @@
 use Rattle.wk_list.specs.Text.{StandsInFront}
 use Rattle.wk_list.proofs.Fronts.{front_more, front_refused}
-use Rattle.wk_list.proofs.header.put_header.Goals as goal
+use Rattle.wk_list.proofs.header.put_line.Goals as goal
 
 pub returns-clause-err : goal.returns-clause-err
 returns-clause-err c =
