@@ -1,12 +1,12 @@
 -- What each reader takes from the front, and what its faults are.
-use Rattle.std.proofs.Common.{◌≡◌, ℤ, ℕ, ◌+◌, ◌-◌, ◌<◌, ◌≤◌, true, cond, leb, ltb, inl, inr, List, [], ◌∷◌, ◌++◌, length, take, drop, Result, Ok, Err, Option}
+use Rattle.std.proofs.Common.{◌≡◌, ℤ, ℕ, ◌<◌, ◌≤◌, true, cond, leb, inl, inr, List, [], ◌∷◌, ◌++◌, length, take, drop, Result, Ok, Err}
 use Rattle.std.proofs.Common.{refl, sym, ap, ◌∙◌, length-append, arith}
-use Rattle.std.proofs.lemmas.Bool.{cases_lt, leb-true, le-leb}
-use Rattle.std.proofs.lemmas.List.{take-append-drop, take_at, drop_at, get_or-append-add, get_or_append_left, get_or_past, length-take-le}
+use Rattle.std.proofs.lemmas.Bool.{leb-true, le-leb}
+use Rattle.std.proofs.lemmas.List.{take-append-drop, take_at, drop_at, length-take-le}
 use Rattle.std.specs.Str.{is_utf8}
 use Rattle.byteorder.specs.Endian.{little_number}
 use Rattle.wk_bytes.specs.declared.fault.ReadKind.{ReadKind}
-use Rattle.wk_bytes.specs.declared.fault.ReadKind.TheVariants.{UnexpectedEnd, IntTooLong, IntTooLarge, BadUtf8}
+use Rattle.wk_bytes.specs.declared.fault.ReadKind.TheVariants.{UnexpectedEnd, BadUtf8}
 use Rattle.wk_bytes.specs.declared.fault.ReadFault.{ReadFault}
 use Rattle.wk_bytes.specs.Leb.{◌>>=◌, SpellsU, uint_at, sint_at}
 use Rattle.wk_bytes.specs.LebLaws.{IsBytes, bind_ok, chosen, uint_fronts, sint_fronts}

@@ -47,7 +47,7 @@ EndsWithSize bytes n = (before : List ℕ) × (size : List ℕ) × (bytes ≡ be
 abbrev pub BeginsCount : List ℕ → Type 0
 BeginsCount from = (count : List ℕ) × (later : List ℕ) × (n : ℕ) × (0 < length count) × (from ≡ count ++ later) × Counts count n
 
--- behind the opcode of an `f32.const` four bytes are wanted, behind that of an `f64.const` eight (5.4.5)
+-- after the opcode of an `f32.const` four bytes are wanted, after that of an `f64.const` eight (5.4.5)
 abbrev pub IsWordCut : List ℕ → List ℕ → Type 0
 IsWordCut skipped from =
     ((before : List ℕ) × (skipped ≡ before ++ 0x43 ∷ []) × (length from < 4)) ⊎ ((before : List ℕ) × (skipped ≡ before ++ 0x44 ∷ []) × (length from < 8))
@@ -74,8 +74,8 @@ Opens x = (0x02 ≤ x) × (x ≤ 0x04)
 
 -- What the bytes from the offset of a fault on are, up to where the piece ends in which it lies, and those in front of it.
 -- Each byte is wrong at some place of the grammar (0 as the form of a type, any other as a reserved byte), so `BadByte` asks for a byte
--- alone. So do the kinds of bytes left over: what came before decides them. `FuncCodeCount` lies at the count of the codes, or at the end.
--- `LongInput` and `Memory` do not stand at bytes.
+-- alone. So do the kinds of bytes left over, as what came before decides that they are. `FuncCodeCount` lies at the count of the codes, or
+-- at the end. `LongInput` and `Memory` do not lie at bytes.
 abbrev pub StandsAt : ReadKind → List ℕ → List ℕ → Type 0
 StandsAt BadMagic skipped from = BeginsOtherwise magic from
 StandsAt BadVersion skipped from = BeginsOtherwise version from
@@ -146,7 +146,7 @@ StandsIn bytes e = (e ≡ no_memory) ⊎ (((e ≡ long_input) × (limit < length
 abbrev pub contents_of : Section → Span
 contents_of s = record { rest = s.contents; end = s.at + length s.contents }
 
--- the contents stand at their offset in the input, behind their size
+-- the contents lie at their offset in the input, after their size
 pub record LiesIn (bytes : List ℕ) (s : Section) : Type 0 where
   pub before : List ℕ
   pub after : List ℕ

@@ -1,5 +1,5 @@
 -- What a reader of bytes hands up of a fault that stands.
-use Rattle.std.proofs.Common.{◌≡◌, ℕ, ◌+◌, ◌-◌, ◌<◌, ◌≤◌, ◌⊎◌, cond, leb, inl, inr, List, [], ◌∷◌, ◌++◌, length, take, drop, Result, Ok, Err, Option, refl, sym, ap}
+use Rattle.std.proofs.Common.{◌≡◌, ℕ, ◌+◌, ◌≤◌, ◌⊎◌, cond, leb, inl, inr, List, [], ◌∷◌, ◌++◌, length, take, drop, Result, Ok, Err, refl, sym, ap}
 use Rattle.std.proofs.Common.{subst, ◌∙◌, append_assoc, length-append, arith}
 use Rattle.std.proofs.lemmas.Bool.{false≢true, leb-false}
 use Rattle.std.proofs.lemmas.List.{append-nil}
@@ -16,7 +16,7 @@ use Rattle.wk_bytes.specs.LebLaws.{bind_ok, chosen, uint_wrong, sint_wrong}
 use Rattle.wk_bytes.specs.Span.{Span, offset, fault, byte_at, piece_at, u32_at, signed_at, word_at, name_at}
 use Rattle.wk_bytes.specs.SpanLaws.{ok_is, err_is, placed_err, byte_at-takes, piece_at-takes, u32_at-takes, u32_at-counts, signed_at-takes, word_at-takes}
 use Rattle.wk_bytes.specs.Frames.{Section}
-use Rattle.wk_bytes.specs.Stands.{Counts, EndsWithSize, BeginsCount, IsCut, IsWidth, StandsAt, EndsThere, Stands, StandsOrMemory, StandsInCode, StandsIn}
+use Rattle.wk_bytes.specs.Stands.{EndsWithSize, BeginsCount, IsCut, IsWidth, StandsAt, EndsThere, Stands, StandsOrMemory, StandsInCode}
 use Rattle.wk_bytes.specs.Stands.{IsShort, contents_of, whole, LiesIn}
 
 -- ---- more bytes in front change nothing

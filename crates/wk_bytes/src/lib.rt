@@ -7,7 +7,7 @@
 //! - A reading call of a cursor has three clauses. `exact`: the answer and the rest are those of a reader on lists (`u32_at`,
 //!   `name_at`, ..). `spelling`: a front of the rest is a spelling of the answer by the relation, and the cursor moved past it; or no
 //!   front is a spelling of any value, and the cursor did not move. `stands`: a fault stands, that is, the bytes from its offset on are
-//!   as its kind says (`specs/Stands`).
+//!   as its kind says (`specs/Stands`). Of a piece and a word that is `short`: fewer bytes are left than it has.
 //! - [`Sections`] is an iterator whose value, to a contract, is the list of items to come: the frames, in order. A fault comes at most
 //!   once, and last; where none comes, the bytes are the header and these frames alone.
 //! - [`put_u32`] and its kin append the shortest spelling, and `leb_len_*` count it. [`one_spelling`] and [`one_spelling_of_pieces`]
