@@ -40,10 +40,10 @@ use Rattle.wk_check.proofs.SectionFaults.{omitted_at_first, omitted_behind, omit
 -- ---- in general
 
 -- a fault of bytes is that of reading them
-pub stands_fails : {Y : Type 0} {skipped : List ℕ} (e : ReadFault) (kind : ReadKind) (from : List ℕ) (read : Result Y ReadFault)
+pub stands_fails : {Y : Type 0} (e : ReadFault) (kind : ReadKind) (skipped from : List ℕ) (read : Result Y ReadFault)
     → StandsAt kind skipped from → read ≡ Err e → FailsAs e kind read
-stands_fails e Memory from read stands is = absurd stands
-stands_fails e _ from read stands is = is
+stands_fails e Memory skipped from read stands is = absurd stands
+stands_fails e _ skipped from read stands is = is
 
 -- what is made of what is read fails where reading fails
 unread : {X Y : Type 0} (f : X → Y) (r : Result X ReadFault) (e : ReadFault) → (r >>= λ x. Ok (f x)) ≡ Err e → r ≡ Err e

@@ -31,10 +31,10 @@ use Rattle.wk_strip.proofs.Over.{middle_is, over_len, untouched, over_more, betw
 
 -- ---- faults
 
-by_kind : {A : Type 0} {skipped : List ℕ} (e : ReadFault) (kind : ReadKind) (r : Result A ReadFault) (from : List ℕ) → StandsAt kind skipped from
+by_kind : {A : Type 0} (e : ReadFault) (kind : ReadKind) (r : Result A ReadFault) (skipped from : List ℕ) → StandsAt kind skipped from
     → r ≡ Err e → FailsAs e kind r
-by_kind e Memory r from stands is = absurd stands
-by_kind e _ r from stands is = is
+by_kind e Memory r skipped from stands is = absurd stands
+by_kind e _ r skipped from stands is = is
 
 -- ---- a code is taken
 

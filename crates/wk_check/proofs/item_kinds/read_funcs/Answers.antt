@@ -10,7 +10,7 @@ returns-in_err-count c =
     let p = err_from_is_err_and c.from_residual.result c.from_residual.ensures.1 in
     let n = length (c.args.context.now.imported_funcs ++ c.args.context.now.funcs) in
     let cursor = c.args.cursor.now in
-    rw (p.1, p.2) (stands_fails _ _ _ _ c.in_err-count.ensures.stands.stands
+    rw (p.1, p.2) (stands_fails _ _ _ _ _ c.in_err-count.ensures.stands.stands
     (no_indices n cursor.end cursor.rest c.in_err-count.field-0.0 c.in_err-count.ensures.exact.0))
 
 pub loop-init : goal.loop-init
@@ -27,7 +27,7 @@ returns-in_err-func c =
     let p = err_from_is_err_and c.from_residual-in_err-func.result c.from_residual-in_err-func.ensures.1 in
     let n = length (c.args.context.now.imported_funcs ++ c.args.context.now.funcs) in
     let cursor = c.loop.cursor in
-    rw (p.1, p.2) (stands_fails _ _ _ _ c.in_err-func.ensures.stands.stands
+    rw (p.1, p.2) (stands_fails _ _ _ _ _ c.in_err-func.ensures.stands.stands
     (index_stops n c.in_ok-count.count c.loop.counter cursor.end cursor.rest c.loop.are_there c.in_err-func.field-0.0 _ c.loop-test.true
     c.in_err-func.ensures.exact.0 c.loop.invariant.reads))
 

@@ -19,7 +19,7 @@ pub returns-in_err-count : goal.returns-in_err-count
 returns-in_err-count c =
     let p = err_from_is_err_and c.from_residual.result c.from_residual.ensures.1 in
     let s = raw_view c.args.section.now in
-    rw (p.1, p.2) (stands_fails _ _ _ _ c.in_err-count.ensures.stands.stands
+    rw (p.1, p.2) (stands_fails _ _ _ _ _ c.in_err-count.ensures.stands.stands
     (exports_uncounted (section_end s) s.contents c.args.context.now c.args.before c.cursor-cursor.result c.in_err-count.field-0.0
     c.cursor-cursor.ensures c.in_err-count.ensures.exact.0))
 

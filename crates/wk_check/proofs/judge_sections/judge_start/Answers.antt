@@ -14,7 +14,7 @@ returns-in_err-index c =
     let p = err_from_is_err_and c.from_residual.result c.from_residual.ensures.1 in
     let e = c.in_err-index.field-0.0 in
     let s = raw_view c.args.section.now in
-    rw (p.1, p.2) (stands_fails _ _ _ _ c.in_err-index.ensures.stands.stands
+    rw (p.1, p.2) (stands_fails _ _ _ _ _ c.in_err-index.ensures.stands.stands
     (start_fails c.args.context.now c.args.before s c.cursor-cursor.result c.cursor-cursor.ensures e c.in_err-index.ensures.exact.0))
 
 pub returns-in_err-at_end : goal.returns-in_err-at_end

@@ -15,7 +15,7 @@ returns-in_err-_name-in_default c = λ l same none.
       | in_default-via-then-section-lt1 w ↦ inl (omega (arith, w))
       | in_default-via-else-section-lt1+else-section-lt6+else-section-lt12 w ↦ inr (omega (arith, w))
     ] in
-    rw (p.1, p.2) (stands_fails _ _ _ _ c.in_err-_name-in_default.ensures.stands.stands
+    rw (p.1, p.2) (stands_fails _ _ _ _ _ c.in_err-_name-in_default.ensures.stands.stands
     (custom_fails c.args.profile l c.args.before s c.cursor-cursor.result c.cursor-cursor.ensures (of_none s.id out) e
     c.in_err-_name-in_default.ensures.exact.0))
 
