@@ -4,7 +4,7 @@ use Rattle.std.proofs.Common.{map, Some, None, Result, Ok, Err, All, refl, sym, 
 use Rattle.std.proofs.lemmas.Bool.{cases_Bool, eqb-true, eqb-false}
 use Rattle.std.proofs.lemmas.List.{append-nil}
 use Rattle.std.proofs.lemmas.List.Elements.{All-nil, All-cons}
-use Rattle.wk_bytes.specs.declared.fault.ReadKind.TheVariants.{FuncCodeCount, SectionSize}
+use Rattle.wk_bytes.specs.declared.fault.ReadKind.TheVariants.{FuncCodeCount, SectionSize, Memory}
 use Rattle.wk_bytes.specs.declared.fault.ReadFault.{ReadFault}
 use Rattle.wk_bytes.specs.Leb.{◌>>=◌, SpellsU}
 use Rattle.wk_bytes.specs.LebLaws.{IsBytes, chosen}
@@ -17,6 +17,8 @@ use Rattle.wk_bytes.specs.FrameLaws.{steps_of, id_at-takes, section_at-takes, se
 use Rattle.wk_bytes.specs.FrameLaws.{sections_of-found}
 use Rattle.wk_body.specs.declared.types.Profile.{Profile}
 use Rattle.wk_body.specs.Bodies.{BodyOf}
+use Rattle.wk_body.specs.Reads.{FailsAs}
+use Rattle.wk_body.specs.ReadsLaws.{other_fault}
 use Rattle.wk_module.specs.declared.types.Custom.{Custom}
 use Rattle.wk_module.specs.declared.types.Parts.{Parts}
 use Rattle.wk_module.specs.Customs.{SpellsCustom, custom_at}
@@ -382,3 +384,7 @@ module _ (profile : Profile) (sections : SectionLaws profile) where
   pub module_first : (b : List ℕ) (e : ReadFault) → IsBytes b → module_at profile b ≡ Err e → IsFirstFault profile b e
   unfolding module_at
   module_first b e fits h = module_by b e (sections_read profile at_start (sections_of b)) fits refl h
+
+  -- so is the fault that a call answers, unless it wants memory
+  pub answer_first : (b : List ℕ) (e : ReadFault) → IsBytes b → FailsAs e e.kind (module_at profile b) → e.kind ≢ Memory → IsFirstFault profile b e
+  answer_first b e fits fails other = module_first b e fits (other_fault e e.kind (module_at profile b) other fails)
