@@ -156,7 +156,7 @@ module _ {A : Type 0} {Valid : A → Type 0} {Spells : List ℕ → A → Type 0
   items_wrong of has (suc n) end bytes e fits long h =
       items_by of has n end bytes e (read end bytes) fits long refl (λ later fits' long' h'. items_wrong of has n end later e fits' long' h') h
 
-  -- behind their count
+  -- after their count
   pub counted_wrong : IsFormat Valid Spells read written → HasKinds IsKind read → (n end : ℕ) (bytes count after : List ℕ) (e : ReadFault) → IsBytes bytes → length bytes ≤ end
       → SpellsU 32 count n → bytes ≡ count ++ after → items_at read n end after ≡ Err e → IsItemFault Spells IsKind n (record { rest = bytes; end = end }) e
   counted_wrong of has n end bytes count after e fits long counts parts h =

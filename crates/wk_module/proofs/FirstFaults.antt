@@ -130,13 +130,13 @@ module _ (profile : Profile) where
   unfolding sections_from
   halts_from p last end bytes e fits h = halts_within (length bytes) p last end bytes e (omega arith) fits h
 
--- no id of 1 to 10 may come behind 10
+-- no id of 1 to 10 may come after 10
 may_not : (last id n : ℕ) → MayCome last id → 10 ≤ last → 1 ≤ n → n ≤ 10 → id ≡ n → ⊥
 may_not last id n (inl p) high some few is = absurd (omega (arith, p, some, is))
 may_not last id n (inr p) high some few is = absurd (omega (arith, p.0, high, few, is))
 
 module _ (profile : Profile) (sections : SectionLaws profile) where
-  -- what a section holds stays behind others
+  -- what a section holds is the same after others
   keeps : (j : SectionId) (p q : Progress) (s : Section) → HasId s.id → s.id ≢ number j → with_section profile p s ≡ Ok q
       → contents q.lists j ≡ contents p.lists j
   keeps j p q s (inl is) other e =
@@ -156,7 +156,7 @@ module _ (profile : Profile) (sections : SectionLaws profile) where
   abbrev Same : Progress → Progress → Type 0
   Same p q = (q.lists.codes ≡ p.lists.codes) × (q.lists.funcs ≡ p.lists.funcs)
 
-  -- behind the code section no other gives codes, and none gives functions
+  -- after the code section no other gives codes, and none gives functions
   stays : (p : Progress) (ss : List Section) (q : Progress) (last : ℕ) (b : List ℕ) → 10 ≤ last → SpellsFrames last b (map frame_of ss)
       → IsReadTo profile p ss q → Same p q
   stays p [] q last b high framed goes = (ap (λ (r : Progress). r.lists.codes) (sym goes), ap (λ (r : Progress). r.lists.funcs) (sym goes))
