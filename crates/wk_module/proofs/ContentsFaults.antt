@@ -15,9 +15,10 @@ use Rattle.wk_bytes.specs.SpanLaws.{err_is, placed_err, piece_at-takes}
 use Rattle.wk_bytes.specs.Stands.{Stands}
 use Rattle.wk_body.specs.declared.types.Profile.{Profile}
 use Rattle.wk_body.specs.Bodies.{BodyOf}
+use Rattle.wk_body.specs.FaultKindLaws.{HasKinds, fails_as}
 use Rattle.wk_body.specs.Vectors.{SpellsItems, items_at, vector_at}
 use Rattle.wk_module.specs.ContentsFaults.{IsAt, BeginsNone, IsNumberFault, IsNameFault, IsItemFault, IsVectorFault}
-use Rattle.wk_module.specs.ContentsFaults.{BreaksIn}
+use Rattle.wk_module.specs.ContentsFaults.{IsBodyKind, BreaksIn}
 use Rattle.wk_module.specs.FormatLaws.{CountIs, IsFormat}
 use Rattle.wk_module.specs.Formats.{Reader, taking_all, all_at, made_at}
 use Rattle.wk_module.specs.Items.{SpellsCode, code_at}
@@ -55,14 +56,14 @@ text_wrong : (end : ℕ) (bytes size after : List ℕ) (n : ℕ) (e : ReadFault)
     → (r >>= λ text. cond (is_utf8 text.0) (Ok text) (Err (fault BadUtf8 end after))) ≡ Err e → IsNameFault (record { rest = bytes; end = end }) e
 text_wrong end bytes size after n e (Err d) parts counts is h =
     let short = piece_fails n end after e (is ∙ cc) in
-    inr (inl (record { size = size; after = after; n = n; parts = parts; counts = counts; fewer = short.0; there = short.1 }))
+    inl (inr (record { size = size; after = after; n = n; parts = parts; counts = counts; fewer = short.0; there = short.1 }))
 text_wrong end bytes size after n e (Ok text) parts counts is h =
     elim (chosen (is_utf8 text.0) (Ok text) (Err (fault BadUtf8 end after)) (Err e) h) [
       | inl p ↦ absurd cc
       | inr p ↦
           let t = piece_at-takes n end after text.0 text.1 is in
           let there = given BadUtf8 (end - length after) e (err_is {A = List ℕ × List ℕ} _ _ p.1) in
-          inr (inr (record {
+          inr (record {
             size = size;
             text = text.0;
             later = text.1;
@@ -70,13 +71,13 @@ text_wrong end bytes size after n e (Ok text) parts counts is h =
             counts = subst (SpellsU 32 size) (sym t.1) counts;
             wrong = λ utf8. false≢true (sym p.0 ∙ is_utf8-from_IsUtf8 text.0 utf8);
             there = (there.0, there.1 ∙ ap (λ (c : List ℕ). end - length c) t.0);
-          }))
+          })
     ]
 
 name_wrong_by : (end : ℕ) (bytes : List ℕ) (e : ReadFault) (r : Result (ℕ × List ℕ) ReadFault) → IsBytes bytes → u32_at end bytes ≡ r
     → (r >>= λ n. piece_at n.0 end n.1 >>= λ text. cond (is_utf8 text.0) (Ok text) (Err (fault BadUtf8 end n.1))) ≡ Err e
     → IsNameFault (record { rest = bytes; end = end }) e
-name_wrong_by end bytes e (Err d) fits is h = inl (u32_wrong end bytes e (is ∙ cc))
+name_wrong_by end bytes e (Err d) fits is h = inl (inl (u32_wrong end bytes e (is ∙ cc)))
 name_wrong_by end bytes e (Ok n) fits is h =
     let size = u32_at-found end bytes n.0 n.1 fits is in
     text_wrong end bytes size.0 n.1 n.0 e (piece_at n.0 end n.1) size.2 size.1 refl h
@@ -94,7 +95,7 @@ start_wrong end bytes e h =
 -- ---- items
 
 -- some items are spelled, and then none is
-record StopsShort {A : Type 0} (Spells : List ℕ → A → Type 0) (n end : ℕ) (bytes : List ℕ) (e : ReadFault) : Type 0 where
+record StopsShort {A : Type 0} (Spells : List ℕ → A → Type 0) (IsKind : ReadKind → Type 0) (n end : ℕ) (bytes : List ℕ) (e : ReadFault) : Type 0 where
   items : List ℕ
   rest : List ℕ
   before : List A
@@ -102,10 +103,11 @@ record StopsShort {A : Type 0} (Spells : List ℕ → A → Type 0) (n end : ℕ
   spelled : SpellsItems Spells items before
   fewer : length before < n
   none : BeginsNone Spells rest
+  kind : IsKind e.kind
   within : Stands (record { rest = rest; end = end }) e
 
-item_later : {A : Type 0} {Spells : List ℕ → A → Type 0} (n end : ℕ) (bytes front : List ℕ) (x : A) (later : List ℕ) (e : ReadFault) → Spells front x → bytes ≡ front ++ later
-    → StopsShort Spells n end later e → StopsShort Spells (suc n) end bytes e
+item_later : {A : Type 0} {Spells : List ℕ → A → Type 0} {IsKind : ReadKind → Type 0} (n end : ℕ) (bytes front : List ℕ) (x : A) (later : List ℕ) (e : ReadFault) → Spells front x → bytes ≡ front ++ later
+    → StopsShort Spells IsKind n end later e → StopsShort Spells IsKind (suc n) end bytes e
 item_later n end bytes front x later e spelled parts stop = record {
   items = front ++ stop.items;
   rest = stop.rest;
@@ -114,6 +116,7 @@ item_later n end bytes front x later e spelled parts stop = record {
   spelled = (front, stop.items, refl, spelled, stop.spelled);
   fewer = omega (arith, stop.fewer);
   none = stop.none;
+  kind = stop.kind;
   within = stop.within;
 }
 
@@ -121,10 +124,10 @@ item_later n end bytes front x later e spelled parts stop = record {
 abbrev then_items : {A : Type 0} → Reader A → ℕ → ℕ → A × List ℕ → Result (List A × List ℕ) ReadFault
 then_items read n end x = items_at read n end x.1 >>= λ ys. Ok (x.0 ∷ ys.0, ys.1)
 
-module _ {A : Type 0} {Valid : A → Type 0} {Spells : List ℕ → A → Type 0} {read : Reader A} {written : A → List ℕ} where
-  item_wrong : IsFormat Valid Spells read written → (n end : ℕ) (bytes : List ℕ) (e : ReadFault) → length bytes ≤ end → read end bytes ≡ Err e
-      → StopsShort Spells (suc n) end bytes e
-  item_wrong of n end bytes e long h = record {
+module _ {A : Type 0} {Valid : A → Type 0} {Spells : List ℕ → A → Type 0} {IsKind : ReadKind → Type 0} {read : Reader A} {written : A → List ℕ} where
+  item_wrong : IsFormat Valid Spells read written → HasKinds IsKind read → (n end : ℕ) (bytes : List ℕ) (e : ReadFault) → length bytes ≤ end → read end bytes ≡ Err e
+      → StopsShort Spells IsKind (suc n) end bytes e
+  item_wrong of has n end bytes e long h = record {
     items = [];
     rest = bytes;
     before = [];
@@ -132,32 +135,33 @@ module _ {A : Type 0} {Valid : A → Type 0} {Spells : List ℕ → A → Type 0
     spelled = refl;
     fewer = omega arith;
     none = λ x front later spelled parts. none_spelled Spells read of.again (record { rest = bytes; end = end }) e h front later x spelled parts;
+    kind = fails_as IsKind (read end bytes) e (has end bytes) h;
     within = of.fronts.faults end bytes e h long;
   }
 
-  items_by : IsFormat Valid Spells read written → (n end : ℕ) (bytes : List ℕ) (e : ReadFault) (r : Result (A × List ℕ) ReadFault) → IsBytes bytes
+  items_by : IsFormat Valid Spells read written → HasKinds IsKind read → (n end : ℕ) (bytes : List ℕ) (e : ReadFault) (r : Result (A × List ℕ) ReadFault) → IsBytes bytes
       → length bytes ≤ end → read end bytes ≡ r
-      → ((later : List ℕ) → IsBytes later → length later ≤ end → items_at read n end later ≡ Err e → StopsShort Spells n end later e)
-      → (r >>= then_items read n end) ≡ Err e → StopsShort Spells (suc n) end bytes e
-  items_by of n end bytes e (Err d) fits long is more h = item_wrong of n end bytes e long (is ∙ cc)
-  items_by of n end bytes e (Ok x) fits long is more h =
+      → ((later : List ℕ) → IsBytes later → length later ≤ end → items_at read n end later ≡ Err e → StopsShort Spells IsKind n end later e)
+      → (r >>= then_items read n end) ≡ Err e → StopsShort Spells IsKind (suc n) end bytes e
+  items_by of has n end bytes e (Err d) fits long is more h = item_wrong of has n end bytes e long (is ∙ cc)
+  items_by of has n end bytes e (Ok x) fits long is more h =
       let first = of.found end bytes x.0 x.1 fits is in
       let failed = failed_before (items_at read n end x.1) (λ ys. let all : List A × List ℕ = (x.0 ∷ ys.0, ys.1) in all) e h in
       item_later n end bytes first.0 x.0 x.1 e first.1 first.2
       (more x.1 (IsBytes-after first.0 x.1 bytes first.2 fits) (omega (arith, long, ap length first.2, length-append first.0 x.1)) failed)
 
-  items_wrong : IsFormat Valid Spells read written → (n end : ℕ) (bytes : List ℕ) (e : ReadFault) → IsBytes bytes → length bytes ≤ end
-      → items_at read n end bytes ≡ Err e → StopsShort Spells n end bytes e
-  items_wrong of zero end bytes e fits long h = absurd cc
-  items_wrong of (suc n) end bytes e fits long h =
-      items_by of n end bytes e (read end bytes) fits long refl (λ later fits' long' h'. items_wrong of n end later e fits' long' h') h
+  items_wrong : IsFormat Valid Spells read written → HasKinds IsKind read → (n end : ℕ) (bytes : List ℕ) (e : ReadFault) → IsBytes bytes → length bytes ≤ end
+      → items_at read n end bytes ≡ Err e → StopsShort Spells IsKind n end bytes e
+  items_wrong of has zero end bytes e fits long h = absurd cc
+  items_wrong of has (suc n) end bytes e fits long h =
+      items_by of has n end bytes e (read end bytes) fits long refl (λ later fits' long' h'. items_wrong of has n end later e fits' long' h') h
 
-  -- behind their count
-  pub counted_wrong : IsFormat Valid Spells read written → (n end : ℕ) (bytes count after : List ℕ) (e : ReadFault) → IsBytes bytes → length bytes ≤ end
-      → SpellsU 32 count n → bytes ≡ count ++ after → items_at read n end after ≡ Err e → IsItemFault Spells n (record { rest = bytes; end = end }) e
-  counted_wrong of n end bytes count after e fits long counts parts h =
+  -- after their count
+  pub counted_wrong : IsFormat Valid Spells read written → HasKinds IsKind read → (n end : ℕ) (bytes count after : List ℕ) (e : ReadFault) → IsBytes bytes → length bytes ≤ end
+      → SpellsU 32 count n → bytes ≡ count ++ after → items_at read n end after ≡ Err e → IsItemFault Spells IsKind n (record { rest = bytes; end = end }) e
+  counted_wrong of has n end bytes count after e fits long counts parts h =
       let long' : length after ≤ end = omega (arith, long, ap length parts, length-append count after) in
-      let stop = items_wrong of n end after e (IsBytes-after count after bytes parts fits) long' h in
+      let stop = items_wrong of has n end after e (IsBytes-after count after bytes parts fits) long' h in
       record {
         count = count;
         items = stop.items;
@@ -168,24 +172,26 @@ module _ {A : Type 0} {Valid : A → Type 0} {Spells : List ℕ → A → Type 0
         spelled = stop.spelled;
         fewer = stop.fewer;
         none = stop.none;
+        kind = stop.kind;
         within = stop.within;
       }
 
-  vector_by : IsFormat Valid Spells read written → (end : ℕ) (bytes : List ℕ) (e : ReadFault) (r : Result (ℕ × List ℕ) ReadFault) → IsBytes bytes
-      → length bytes ≤ end → u32_at end bytes ≡ r → (r >>= λ n. items_at read n.0 end n.1) ≡ Err e → IsVectorFault Spells (record { rest = bytes; end = end }) e
-  vector_by of end bytes e (Err d) fits long is h = inl (u32_wrong end bytes e (is ∙ cc))
-  vector_by of end bytes e (Ok n) fits long is h =
+  vector_by : IsFormat Valid Spells read written → HasKinds IsKind read → (end : ℕ) (bytes : List ℕ) (e : ReadFault) (r : Result (ℕ × List ℕ) ReadFault) → IsBytes bytes
+      → length bytes ≤ end → u32_at end bytes ≡ r → (r >>= λ n. items_at read n.0 end n.1) ≡ Err e → IsVectorFault Spells IsKind (record { rest = bytes; end = end }) e
+  vector_by of has end bytes e (Err d) fits long is h = inl (u32_wrong end bytes e (is ∙ cc))
+  vector_by of has end bytes e (Ok n) fits long is h =
       let count = u32_at-found end bytes n.0 n.1 fits is in
-      inr (n.0, counted_wrong of n.0 end bytes count.0 n.1 e fits long count.1 count.2 h)
+      inr (n.0, counted_wrong of has n.0 end bytes count.0 n.1 e fits long count.1 count.2 h)
 
-  pub vector_wrong : IsFormat Valid Spells read written → (end : ℕ) (bytes : List ℕ) (e : ReadFault) → IsBytes bytes → length bytes ≤ end
-      → vector_at read end bytes ≡ Err e → IsVectorFault Spells (record { rest = bytes; end = end }) e
+  pub vector_wrong : IsFormat Valid Spells read written → HasKinds IsKind read → (end : ℕ) (bytes : List ℕ) (e : ReadFault) → IsBytes bytes → length bytes ≤ end
+      → vector_at read end bytes ≡ Err e → IsVectorFault Spells IsKind (record { rest = bytes; end = end }) e
   unfolding vector_at
-  vector_wrong of end bytes e fits long h = vector_by of end bytes e (u32_at end bytes) fits long refl h
+  vector_wrong of has end bytes e fits long h = vector_by of has end bytes e (u32_at end bytes) fits long refl h
 
 -- ---- codes
 
-module _ {profile : Profile} {Valid : BodyOf → Type 0} {written : BodyOf → List ℕ} (of : IsFormat Valid (SpellsCode profile) (code_at profile) written) where
+module _ {profile : Profile} {Valid : BodyOf → Type 0} {written : BodyOf → List ℕ} (of : IsFormat Valid (SpellsCode profile) (code_at profile) written)
+    (has : HasKinds IsBodyKind (code_at profile)) where
   abbrev IsCodesFault : ℕ → ℕ → List ℕ → ReadFault → Type 0
   IsCodesFault funcs end bytes e = BreaksIn profile funcs CodeSection (record { rest = bytes; end = end }) e
 
@@ -198,8 +204,8 @@ module _ {profile : Profile} {Valid : BodyOf → Type 0} {written : BodyOf → L
       let count = u32_at-found end bytes n.0 n.1 fits is in
       elim (chosen (eqb n.0 funcs) (items_at (code_at profile) n.0 end n.1) (Err (fault FuncCodeCount end bytes)) (Err e) h) [
         | inl p ↦
-            let fault = counted_wrong of n.0 end bytes count.0 n.1 e fits long count.1 count.2 p.1 in
-            inr (inr (subst (λ (m : ℕ). IsItemFault (SpellsCode profile) m (record { rest = bytes; end = end }) e) (eqb-true n.0 funcs p.0) fault))
+            let fault = counted_wrong of has n.0 end bytes count.0 n.1 e fits long count.1 count.2 p.1 in
+            inr (inr (subst (λ (m : ℕ). IsItemFault (SpellsCode profile) IsBodyKind m (record { rest = bytes; end = end }) e) (eqb-true n.0 funcs p.0) fault))
         | inr p ↦
             let there = given FuncCodeCount (end - length bytes) e (err_is {A = List BodyOf × List ℕ} _ _ p.1) in
             inr (inl (record {

@@ -4,7 +4,7 @@ use Rattle.std.proofs.Common.{map, Some, None, Result, Ok, Err, All, refl, sym, 
 use Rattle.std.proofs.lemmas.Bool.{cases_Bool, eqb-true, eqb-false}
 use Rattle.std.proofs.lemmas.List.{append-nil}
 use Rattle.std.proofs.lemmas.List.Elements.{All-nil, All-cons}
-use Rattle.wk_bytes.specs.declared.fault.ReadKind.TheVariants.{FuncCodeCount, SectionSize}
+use Rattle.wk_bytes.specs.declared.fault.ReadKind.TheVariants.{FuncCodeCount, SectionSize, Memory}
 use Rattle.wk_bytes.specs.declared.fault.ReadFault.{ReadFault}
 use Rattle.wk_bytes.specs.Leb.{◌>>=◌, SpellsU}
 use Rattle.wk_bytes.specs.LebLaws.{IsBytes, chosen, IsBytes-after, IsBytes-before}
@@ -17,6 +17,8 @@ use Rattle.wk_bytes.specs.FrameLaws.{steps_of, id_at-takes, section_at-takes, se
 use Rattle.wk_bytes.specs.FrameLaws.{sections_of-found}
 use Rattle.wk_body.specs.declared.types.Profile.{Profile}
 use Rattle.wk_body.specs.Bodies.{BodyOf}
+use Rattle.wk_body.specs.Reads.{FailsAs}
+use Rattle.wk_body.specs.ReadsLaws.{other_fault}
 use Rattle.wk_module.specs.declared.types.Custom.{Custom}
 use Rattle.wk_module.specs.declared.types.Parts.{Parts}
 use Rattle.wk_module.specs.Customs.{SpellsCustom, custom_at}
@@ -128,13 +130,13 @@ module _ (profile : Profile) where
   unfolding sections_from
   halts_from p last end bytes e fits h = halts_within (length bytes) p last end bytes e (omega arith) fits h
 
--- no id of 1 to 10 may come behind 10
+-- no id of 1 to 10 may come after 10
 may_not : (last id n : ℕ) → MayCome last id → 10 ≤ last → 1 ≤ n → n ≤ 10 → id ≡ n → ⊥
 may_not last id n (inl p) high some few is = absurd (omega (arith, p, some, is))
 may_not last id n (inr p) high some few is = absurd (omega (arith, p.0, high, few, is))
 
 module _ (profile : Profile) (sections : SectionLaws profile) where
-  -- what a section holds stays behind others
+  -- what a section holds is the same after others
   keeps : (j : SectionId) (p q : Progress) (s : Section) → HasId s.id → s.id ≢ number j → with_section profile p s ≡ Ok q
       → contents q.lists j ≡ contents p.lists j
   keeps j p q s (inl is) other e =
@@ -154,7 +156,7 @@ module _ (profile : Profile) (sections : SectionLaws profile) where
   abbrev Same : Progress → Progress → Type 0
   Same p q = (q.lists.codes ≡ p.lists.codes) × (q.lists.funcs ≡ p.lists.funcs)
 
-  -- behind the code section no other gives codes, and none gives functions
+  -- after the code section no other gives codes, and none gives functions
   stays : (p : Progress) (ss : List Section) (q : Progress) (last : ℕ) (b : List ℕ) → 10 ≤ last → SpellsFrames last b (map frame_of ss)
       → IsReadTo profile p ss q → Same p q
   stays p [] q last b high framed goes = (ap (λ (r : Progress). r.lists.codes) (sym goes), ap (λ (r : Progress). r.lists.funcs) (sym goes))
@@ -382,3 +384,7 @@ module _ (profile : Profile) (sections : SectionLaws profile) where
   pub module_first : (b : List ℕ) (e : ReadFault) → IsBytes b → module_at profile b ≡ Err e → IsFirstFault profile b e
   unfolding module_at
   module_first b e fits h = module_by b e (sections_read profile at_start (sections_of b)) fits refl h
+
+  -- so is the fault that a call answers, unless it wants memory
+  pub answer_first : (b : List ℕ) (e : ReadFault) → IsBytes b → FailsAs e e.kind (module_at profile b) → e.kind ≢ Memory → IsFirstFault profile b e
+  answer_first b e fits fails other = module_first b e fits (other_fault e e.kind (module_at profile b) other fails)

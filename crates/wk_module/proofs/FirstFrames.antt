@@ -16,8 +16,8 @@ use Rattle.wk_bytes.specs.Frames.{Section, MayCome, limit, magic, version, id_at
 use Rattle.wk_bytes.specs.Frames.{header_at}
 use Rattle.wk_bytes.specs.FrameLaws.{id_at-takes, first_then, second_then}
 use Rattle.wk_body.specs.declared.types.Profile.{Profile}
-use Rattle.wk_module.specs.FirstFaults.{start_of, IsHeaderFault, IsIdFault, IsSizeFault}
-use Rattle.wk_module.specs.FirstFaults.{IsFirstFault}
+use Rattle.wk_module.specs.ContentsFaults.{IsSizeFault}
+use Rattle.wk_module.specs.FirstFaults.{last_of, start_of, IsHeaderFault, IsIdFault, IsFirstFault}
 use Rattle.wk_module.proofs.ContentsFaults.{at_place, given, piece_fails, u32_wrong}
 use Rattle.wk_module.proofs.Standing.{failed_before}
 
@@ -94,26 +94,26 @@ abbrev sized : ℕ → ℕ → ℕ × List ℕ → Result (Section × List ℕ) 
 sized end id size = piece_at size.0 end size.1 >>= λ piece. Ok (record { id = id; at = end - length size.1; contents = piece.0 }, piece.1)
 
 size_wrong : (b : List ℕ) (id : ℕ) (after : List ℕ) (e : ReadFault) (r : Result (ℕ × List ℕ) ReadFault) → IsBytes after → u32_at (length b) after ≡ r
-    → (r >>= sized (length b) id) ≡ Err e → IsSizeFault b after e
+    → (r >>= sized (length b) id) ≡ Err e → IsSizeFault (last_of b after) e
 size_wrong b id after e (Err d) fits is h = inl (u32_wrong (length b) after e (is ∙ cc))
 size_wrong b id after e (Ok n) fits is h =
     let size = u32_at-found (length b) after n.0 n.1 fits is in
     let short = piece_fails n.0 (length b) n.1 e (failed_before (piece_at n.0 (length b) n.1)
     (λ piece. let s : Section = record { id = id; at = length b - length n.1; contents = piece.0 } in (s, piece.1)) e h) in
-    inr (size.0, n.1, n.0, size.2, size.1, short.0, short.1)
+    inr (record { size = size.0; after = n.1; n = n.0; parts = size.2; counts = size.1; fewer = short.0; there = short.1 })
 
 frame_wrong_by : (last : ℕ) (b : List ℕ) (id : ℕ) (after : List ℕ) (e : ReadFault) (r : Result (ℕ × List ℕ) ReadFault) → IsBytes (id ∷ after)
     → id_at last (length b) (id ∷ after) ≡ r → (r >>= λ i. u32_at (length b) i.1 >>= sized (length b) i.0) ≡ Err e
-    → IsIdFault last id (start_of (id ∷ after) b) e ⊎ (MayCome last id × IsSizeFault b after e)
+    → IsIdFault last id (start_of b (id ∷ after)) e ⊎ (MayCome last id × IsSizeFault (last_of b after) e)
 frame_wrong_by last b id after e (Err d) fits is h = inl (id_wrong last (length b) id after e (is ∙ cc))
 frame_wrong_by last b id after e (Ok i) fits is h =
     let t = id_at-takes last (length b) (id ∷ after) i.0 i.1 is in
     let same_id : i.0 ≡ id = cc in
     let same : i.1 ≡ after = cc in
     let fits' : IsBytes i.1 = IsBytes-after (i.0 ∷ []) i.1 (id ∷ after) t.0 fits in
-    inr (subst (MayCome last) same_id t.1, subst (λ (c : List ℕ). IsSizeFault b c e) same (size_wrong b i.0 i.1 e (u32_at (length b) i.1) fits' refl h))
+    inr (subst (MayCome last) same_id t.1, subst (λ (c : List ℕ). IsSizeFault (last_of b c) e) same (size_wrong b i.0 i.1 e (u32_at (length b) i.1) fits' refl h))
 
 pub frame_wrong : (last : ℕ) (b : List ℕ) (id : ℕ) (after : List ℕ) (e : ReadFault) → IsBytes (id ∷ after) → section_at last (length b) (id ∷ after) ≡ Err e
-    → IsIdFault last id (start_of (id ∷ after) b) e ⊎ (MayCome last id × IsSizeFault b after e)
+    → IsIdFault last id (start_of b (id ∷ after)) e ⊎ (MayCome last id × IsSizeFault (last_of b after) e)
 unfolding section_at
 frame_wrong last b id after e fits h = frame_wrong_by last b id after e (id_at last (length b) (id ∷ after)) fits refl h

@@ -4,6 +4,7 @@ use Rattle.std.proofs.Common.{refl, sym, ap, subst, ◌∙◌, inl, inr, length-
 use Rattle.std.proofs.lemmas.Bool.{eq-eqb}
 use Rattle.std.proofs.lemmas.List.{append-nil}
 use Rattle.std.specs.List.{AllByRecursion}
+use Rattle.wk_bytes.specs.declared.fault.ReadKind.{ReadKind}
 use Rattle.wk_bytes.specs.declared.fault.ReadKind.TheVariants.{FuncCodeCount}
 use Rattle.wk_bytes.specs.declared.fault.ReadFault.{ReadFault}
 use Rattle.wk_bytes.specs.Leb.{◌>>=◌, SpellsU}
@@ -16,6 +17,7 @@ use Rattle.wk_bytes.specs.Stands.{Stands}
 use Rattle.wk_bytes.specs.StandsLaws.{Stands-later, stands_as, u32_there}
 use Rattle.wk_body.specs.declared.types.Profile.{Profile}
 use Rattle.wk_body.specs.Bodies.{BodyOf}
+use Rattle.wk_body.specs.FaultKindLaws.{HasKinds}
 use Rattle.wk_body.specs.Shape.{IsU32}
 use Rattle.wk_body.specs.Vectors.{SpellsVector, items_at, vector_at, written_vector}
 use Rattle.wk_module.specs.declared.types.FuncType.{FuncType}
@@ -29,6 +31,8 @@ use Rattle.wk_module.specs.Sections.{StartSection, ElementSection, CodeSection, 
 use Rattle.wk_module.proofs.ContentsFaults.{start_wrong, vector_wrong, codes_wrong}
 use Rattle.wk_module.proofs.Formats.{u32_format, made_front, made_steps, made_again, valid_as, items_found, items_again, items_front, vector_made}
 use Rattle.wk_module.proofs.Formats.{vector_format, joined, both_parts}
+use Rattle.wk_module.proofs.ItemKinds.{functype_fails, import_fails, index_fails, tabletype_fails, limits_fails, global_fails, export_fails, elem_fails}
+use Rattle.wk_module.proofs.ItemKinds.{code_fails, data_fails}
 use Rattle.wk_module.proofs.ItemFormats.{functype_format, limits_format, tabletype_format, import_format, export_format, global_format, elem_format}
 use Rattle.wk_module.proofs.ItemFormats.{code_format, data_format}
 
@@ -55,11 +59,11 @@ module _ {A : Type 0} (Spells : List ℕ → A → Type 0) where
 
 -- ---- sections that are vectors
 
-vector_contents : {A : Type 0} {Valid : List A → Type 0} {Spells : List ℕ → A → Type 0} {read : Reader (List A)} {written : List A → List ℕ} (id : ℕ)
+vector_contents : {A : Type 0} {Valid : List A → Type 0} {Spells : List ℕ → A → Type 0} {read : Reader (List A)} {written : List A → List ℕ} {IsKind : ReadKind → Type 0} (id : ℕ)
     → id ≢ 8 → IsFormat Valid (SpellsVector Spells) read written
     → ((end : ℕ) (bytes : List ℕ) (e : ReadFault) → IsBytes bytes → length bytes ≤ end → read end bytes ≡ Err e
-    → IsVectorFault Spells (record { rest = bytes; end = end }) e)
-    → IsContents id (λ funcs xs. Unit {0}) (λ funcs. IsVectorFault Spells) (λ xs. not (is_empty xs)) Valid (SpellsVector Spells) (λ funcs. read) written
+    → IsVectorFault Spells IsKind (record { rest = bytes; end = end }) e)
+    → IsContents id (λ funcs xs. Unit {0}) (λ funcs. IsVectorFault Spells IsKind) (λ xs. not (is_empty xs)) Valid (SpellsVector Spells) (λ funcs. read) written
 vector_contents {Spells = Spells} id other of breaks = record {
   found = λ funcs. of.found;
   again = λ funcs end b xs rest counts s. of.again end b xs rest s;
@@ -88,11 +92,11 @@ items_format of =
       valid = λ b xs bytes s. (SpellsU-below 32 s.count (length xs) s.counts, vector.valid b xs bytes s);
     }
 
-list_contents : {A : Type 0} {Valid : A → Type 0} {Spells : List ℕ → A → Type 0} {read : Reader A} {written : A → List ℕ} (id : ℕ)
-    → id ≢ 8 → IsFormat Valid Spells read written
-    → IsContents id (λ funcs xs. Unit {0}) (λ funcs. IsVectorFault Spells) (λ xs. not (is_empty xs)) (AreItems Valid) (SpellsVector Spells)
+list_contents : {A : Type 0} {Valid : A → Type 0} {Spells : List ℕ → A → Type 0} {read : Reader A} {written : A → List ℕ} {IsKind : ReadKind → Type 0} (id : ℕ)
+    → id ≢ 8 → IsFormat Valid Spells read written → HasKinds IsKind read
+    → IsContents id (λ funcs xs. Unit {0}) (λ funcs. IsVectorFault Spells IsKind) (λ xs. not (is_empty xs)) (AreItems Valid) (SpellsVector Spells)
     (λ funcs. vector_at read) (written_vector written)
-list_contents id other of = vector_contents id other (items_format of) (vector_wrong of)
+list_contents id other of has = vector_contents id other (items_format of) (vector_wrong of has)
 
 -- any function types are valid
 types_format : IsFormat (λ (xs : List FuncType). IsU32 (length xs)) (SpellsVector SpellsFuncType) (vector_at functype_at) (written_vector written_functype)
@@ -218,7 +222,7 @@ module _ (profile : Profile) (laws : CodeLaws profile) where
         found = codes_found;
         again = codes_again;
         fronts = λ funcs. record { takes = codes_takes funcs; faults = codes_fault funcs };
-        breaks = codes_wrong (code_format profile laws);
+        breaks = codes_wrong (code_format profile laws) (code_fails profile);
         some = λ xs full. of.some xs;
         spells = λ xs full. of.spells xs;
         least = of.least;
@@ -230,14 +234,14 @@ module _ (profile : Profile) (laws : CodeLaws profile) where
 -- ---- all sections
 
 pub section_laws : (profile : Profile) → CodeLaws profile → SectionLaws profile
-section_laws profile laws TypeSection = vector_contents 1 (λ e. omega arith) types_format (vector_wrong functype_format)
-section_laws profile laws ImportSection = list_contents 2 (λ e. omega arith) import_format
-section_laws profile laws FunctionSection = list_contents 3 (λ e. omega arith) u32_format
-section_laws profile laws TableSection = list_contents 4 (λ e. omega arith) tabletype_format
-section_laws profile laws MemorySection = list_contents 5 (λ e. omega arith) limits_format
-section_laws profile laws GlobalSection = list_contents 6 (λ e. omega arith) (global_format profile laws)
-section_laws profile laws ExportSection = list_contents 7 (λ e. omega arith) export_format
+section_laws profile laws TypeSection = vector_contents 1 (λ e. omega arith) types_format (vector_wrong functype_format functype_fails)
+section_laws profile laws ImportSection = list_contents 2 (λ e. omega arith) import_format import_fails
+section_laws profile laws FunctionSection = list_contents 3 (λ e. omega arith) u32_format index_fails
+section_laws profile laws TableSection = list_contents 4 (λ e. omega arith) tabletype_format tabletype_fails
+section_laws profile laws MemorySection = list_contents 5 (λ e. omega arith) limits_format limits_fails
+section_laws profile laws GlobalSection = list_contents 6 (λ e. omega arith) (global_format profile laws) (global_fails profile)
+section_laws profile laws ExportSection = list_contents 7 (λ e. omega arith) export_format export_fails
 section_laws profile laws StartSection = start_contents
-section_laws profile laws ElementSection = list_contents 9 (λ e. omega arith) (elem_format profile laws)
+section_laws profile laws ElementSection = list_contents 9 (λ e. omega arith) (elem_format profile laws) (elem_fails profile)
 section_laws profile laws CodeSection = codes_contents profile laws
-section_laws profile laws DataSection = list_contents 11 (λ e. omega arith) (data_format profile laws)
+section_laws profile laws DataSection = list_contents 11 (λ e. omega arith) (data_format profile laws) (data_fails profile)

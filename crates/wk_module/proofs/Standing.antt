@@ -171,6 +171,9 @@ module _ (profile : Profile) (b : List ℕ) (is : IsReading profile b (module_at
   pub fault_refused : (e : ReadFault) → FailsAs e e.kind (module_at profile b) → e.kind ≢ Memory → SpellsNone profile b
   fault_refused e fails other = (fault_read e (other_fault e e.kind (module_at profile b) other fails)).0
 
+  pub fault_first : (e : ReadFault) → FailsAs e e.kind (module_at profile b) → e.kind ≢ Memory → IsFirstFault profile b e
+  fault_first e fails other = (fault_read e (other_fault e e.kind (module_at profile b) other fails)).2
+
   pub fault_stands : (e : ReadFault) → FailsAs e e.kind (module_at profile b) → StandsIn b e
   fault_stands e = told_stands b e (module_at profile b) (λ d read. (fault_read d read).1)
 

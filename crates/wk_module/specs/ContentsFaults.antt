@@ -2,7 +2,8 @@
 use Rattle.std.specs.Prelude.{◌≡◌, ◌≢◌, ◌⊎◌, ℕ, ◌-◌, ◌<◌, List, ◌++◌, length}
 use Rattle.std.specs.Str.{IsUtf8}
 use Rattle.wk_bytes.specs.declared.fault.ReadKind.{ReadKind}
-use Rattle.wk_bytes.specs.declared.fault.ReadKind.TheVariants.{UnexpectedEnd, BadUtf8, FuncCodeCount}
+use Rattle.wk_bytes.specs.declared.fault.ReadKind.TheVariants.{UnexpectedEnd, IntTooLong, IntTooLarge, BadUtf8, BadByte, UnknownOpcode, TooManyLocals}
+use Rattle.wk_bytes.specs.declared.fault.ReadKind.TheVariants.{FuncCodeCount, BodySize, TooDeep}
 use Rattle.wk_bytes.specs.declared.fault.ReadFault.{ReadFault}
 use Rattle.wk_bytes.specs.Leb.{SpellsU, IsIntKind, lastU}
 use Rattle.wk_bytes.specs.Span.{Span, offset}
@@ -38,6 +39,10 @@ pub record IsShortFault (s : Span) (e : ReadFault) : Type 0 where
   pub fewer : length after < n
   pub there : IsAt e UnexpectedEnd (s.end - length after)
 
+-- the bytes begin with no size, or with one and then fewer bytes
+abbrev pub IsSizeFault : Span → ReadFault → Type 0
+IsSizeFault s e = IsNumberFault s e ⊎ IsShortFault s e
+
 -- A size is spelled, and then as many bytes, which are not UTF-8.
 pub record IsTextFault (s : Span) (e : ReadFault) : Type 0 where
   pub size : List ℕ
@@ -50,12 +55,28 @@ pub record IsTextFault (s : Span) (e : ReadFault) : Type 0 where
 
 -- the bytes begin with no name (5.2.4)
 abbrev pub IsNameFault : Span → ReadFault → Type 0
-IsNameFault s e = IsNumberFault s e ⊎ IsShortFault s e ⊎ IsTextFault s e
+IsNameFault s e = IsSizeFault s e ⊎ IsTextFault s e
 
 -- ---- vectors
 
--- The number n is spelled, and then fewer than n items, and then no item. There the fault lies.
-pub record IsItemFault {A : Type 0} (Spells : List ℕ → A → Type 0) (n : ℕ) (s : Span) (e : ReadFault) : Type 0 where
+-- The kinds of a fault of an integer; of an integer or a byte; of these or a name; of an expression; and of a code entry.
+abbrev pub IsIntegerKind : ReadKind → Type 0
+IsIntegerKind k = (k ≡ UnexpectedEnd) ⊎ (k ≡ IntTooLong) ⊎ (k ≡ IntTooLarge)
+
+abbrev pub IsByteKind : ReadKind → Type 0
+IsByteKind k = IsIntegerKind k ⊎ (k ≡ BadByte)
+
+abbrev pub IsNameKind : ReadKind → Type 0
+IsNameKind k = IsByteKind k ⊎ (k ≡ BadUtf8)
+
+abbrev pub IsExprKind : ReadKind → Type 0
+IsExprKind k = IsByteKind k ⊎ (k ≡ UnknownOpcode) ⊎ (k ≡ TooDeep)
+
+abbrev pub IsBodyKind : ReadKind → Type 0
+IsBodyKind k = IsExprKind k ⊎ (k ≡ TooManyLocals) ⊎ (k ≡ BodySize)
+
+-- The number n is spelled, and then fewer than n items, and then no item. There the fault lies, and it is of a kind that an item may have.
+pub record IsItemFault {A : Type 0} (Spells : List ℕ → A → Type 0) (IsKind : ReadKind → Type 0) (n : ℕ) (s : Span) (e : ReadFault) : Type 0 where
   pub count : List ℕ
   pub items : List ℕ
   pub rest : List ℕ
@@ -65,10 +86,11 @@ pub record IsItemFault {A : Type 0} (Spells : List ℕ → A → Type 0) (n : �
   pub spelled : SpellsItems Spells items before
   pub fewer : length before < n
   pub none : BeginsNone Spells rest
+  pub kind : IsKind e.kind
   pub within : Stands (record { rest = rest; end = s.end }) e
 
-abbrev pub IsVectorFault : {A : Type 0} → (List ℕ → A → Type 0) → Span → ReadFault → Type 0
-IsVectorFault Spells s e = IsNumberFault s e ⊎ ((n : ℕ) × IsItemFault Spells n s e)
+abbrev pub IsVectorFault : {A : Type 0} → (List ℕ → A → Type 0) → (ReadKind → Type 0) → Span → ReadFault → Type 0
+IsVectorFault Spells IsKind s e = IsNumberFault s e ⊎ ((n : ℕ) × IsItemFault Spells IsKind n s e)
 
 -- A number is spelled that is not how many functions are declared.
 pub record IsCodeCountFault (funcs : ℕ) (s : Span) (e : ReadFault) : Type 0 where
@@ -84,14 +106,14 @@ pub record IsCodeCountFault (funcs : ℕ) (s : Span) (e : ReadFault) : Type 0 wh
 
 -- No front of the bytes is what the section holds, where so many functions were declared before.
 abbrev pub BreaksIn : Profile → ℕ → SectionId → Span → ReadFault → Type 0
-BreaksIn profile funcs TypeSection = IsVectorFault SpellsFuncType
-BreaksIn profile funcs ImportSection = IsVectorFault SpellsImport
-BreaksIn profile funcs FunctionSection = IsVectorFault (SpellsU 32)
-BreaksIn profile funcs TableSection = IsVectorFault SpellsTableType
-BreaksIn profile funcs MemorySection = IsVectorFault SpellsLimits
-BreaksIn profile funcs GlobalSection = IsVectorFault (SpellsGlobal profile)
-BreaksIn profile funcs ExportSection = IsVectorFault SpellsExport
+BreaksIn profile funcs TypeSection = IsVectorFault SpellsFuncType IsByteKind
+BreaksIn profile funcs ImportSection = IsVectorFault SpellsImport IsNameKind
+BreaksIn profile funcs FunctionSection = IsVectorFault (SpellsU 32) IsIntegerKind
+BreaksIn profile funcs TableSection = IsVectorFault SpellsTableType IsByteKind
+BreaksIn profile funcs MemorySection = IsVectorFault SpellsLimits IsByteKind
+BreaksIn profile funcs GlobalSection = IsVectorFault (SpellsGlobal profile) IsExprKind
+BreaksIn profile funcs ExportSection = IsVectorFault SpellsExport IsNameKind
 BreaksIn profile funcs StartSection = IsNumberFault
-BreaksIn profile funcs ElementSection = IsVectorFault (SpellsElem profile)
-BreaksIn profile funcs CodeSection = λ s e. IsNumberFault s e ⊎ IsCodeCountFault funcs s e ⊎ IsItemFault (SpellsCode profile) funcs s e
-BreaksIn profile funcs DataSection = IsVectorFault (SpellsData profile)
+BreaksIn profile funcs ElementSection = IsVectorFault (SpellsElem profile) IsExprKind
+BreaksIn profile funcs CodeSection = λ s e. IsNumberFault s e ⊎ IsCodeCountFault funcs s e ⊎ IsItemFault (SpellsCode profile) IsBodyKind funcs s e
+BreaksIn profile funcs DataSection = IsVectorFault (SpellsData profile) IsExprKind

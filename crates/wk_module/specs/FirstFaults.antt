@@ -1,25 +1,28 @@
 -- The first fault of an input that spells no module, in the words of the grammar (5.5.2 to 5.5.15): how far the bytes go as those of a
 -- module do, and why nothing that comes there goes on so.
 use Rattle.std.specs.Prelude.{◌≡◌, ◌≢◌, ◌⊎◌, ℕ, ◌-◌, ◌<◌, ◌≤◌, max, List, [], ◌∷◌, ◌++◌, length, All}
-use Rattle.wk_bytes.specs.declared.fault.ReadKind.TheVariants.{BadMagic, BadVersion, UnexpectedEnd, UnknownSection, SectionOrder, FuncCodeCount}
-use Rattle.wk_bytes.specs.declared.fault.ReadKind.TheVariants.{SectionSize}
+use Rattle.wk_bytes.specs.declared.fault.ReadKind.TheVariants.{BadMagic, BadVersion, UnexpectedEnd, UnknownSection, SectionOrder, SectionSize}
+use Rattle.wk_bytes.specs.declared.fault.ReadKind.TheVariants.{FuncCodeCount}
 use Rattle.wk_bytes.specs.declared.fault.ReadFault.{ReadFault}
 use Rattle.wk_bytes.specs.Fault.{long_input}
-use Rattle.wk_bytes.specs.Leb.{SpellsU, IsIntKind, lastU}
-use Rattle.wk_bytes.specs.Span.{Span}
+use Rattle.wk_bytes.specs.Leb.{SpellsU}
+use Rattle.wk_bytes.specs.Span.{Span, offset}
 use Rattle.wk_bytes.specs.Frames.{Frame, Section, MayCome, SpellsFrames, limit, magic, version}
 use Rattle.wk_bytes.specs.Stands.{Stands, contents_of}
 use Rattle.wk_body.specs.declared.types.Profile.{Profile}
 use Rattle.wk_module.specs.declared.types.Custom.{Custom}
-use Rattle.wk_module.specs.ContentsFaults.{IsAt, IsNameFault, BreaksIn}
+use Rattle.wk_module.specs.ContentsFaults.{IsAt, IsSizeFault, IsNameFault, BreaksIn}
 use Rattle.wk_module.specs.Customs.{SpellsCustom, SpellsCustoms}
 use Rattle.wk_module.specs.FormatLaws.{CountIs}
 use Rattle.wk_module.specs.Modules.{SpellsSection}
 use Rattle.wk_module.specs.Sections.{SectionId, number, ContentsOf, SectionLists, contents, omitted, SpellsContents}
 
--- the offset at which the last bytes of an input begin
+-- the last bytes of an input, and the offset at which they begin
+abbrev pub last_of : List ℕ → List ℕ → Span
+last_of b rest = record { rest = rest; end = length b }
+
 abbrev pub start_of : List ℕ → List ℕ → ℕ
-start_of last b = length b - length last
+start_of b rest = offset (last_of b rest)
 
 -- ---- the header (5.5.15)
 
@@ -49,28 +52,22 @@ abbrev pub last_id : List Frame → ℕ
 last_id [] = 0
 last_id (f ∷ frames) = max f.id (last_id frames)
 
--- ---- a section that may not come there, or that the bytes have no room for (5.5.2)
+-- ---- a section that may not come there, or whose size is wrong (5.5.2)
 
--- An id is of no section, or its section comes too late: behind one of the same or a greater id.
+-- An id is of no section, or its section comes too late: after one of the same or a greater id.
 abbrev pub IsIdFault : ℕ → ℕ → ℕ → ReadFault → Type 0
 IsIdFault last id at e = ((11 < id) × IsAt e UnknownSection at) ⊎ ((1 ≤ id) × (id ≤ last) × IsAt e SectionOrder at)
 
--- The bytes after an id begin with no integer of 32 bits; or with one, and then there are fewer bytes than it says.
-abbrev pub IsSizeFault : List ℕ → List ℕ → ReadFault → Type 0
-IsSizeFault b after_id e =
-    (IsIntKind lastU 32 after_id e.kind × (e.at ≡ start_of after_id b))
-    ⊎ ((size after_size : List ℕ) × (n : ℕ) × (after_id ≡ size ++ after_size) × SpellsU 32 size n × (length after_size < n)
-    × IsAt e UnexpectedEnd (start_of after_size b))
-
+-- After some sections comes an id that may not come there; or one that may, and then no size, or fewer bytes than it says.
 pub record IsFrameFault (profile : Profile) (b : List ℕ) (e : ReadFault) : Type 0 where
   pub frames : List Frame
   pub lists : SectionLists
   pub id : ℕ
   pub after_id : List ℕ
   pub begins : BeginsWith profile b frames lists (id ∷ after_id)
-  pub wrong : IsIdFault (last_id frames) id (start_of (id ∷ after_id) b) e ⊎ (MayCome (last_id frames) id × IsSizeFault b after_id e)
+  pub wrong : IsIdFault (last_id frames) id (start_of b (id ∷ after_id)) e ⊎ (MayCome (last_id frames) id × IsSizeFault (last_of b after_id) e)
 
--- ---- a section whose contents are none (5.5.3 to 5.5.14)
+-- ---- a section with wrong contents (5.5.3 to 5.5.14)
 
 -- What the section holds is spelled, and then bytes are left over.
 pub record IsLeftOver (profile : Profile) (funcs : ℕ) (k : SectionId) (s : Span) (e : ReadFault) : Type 0 where
@@ -83,20 +80,20 @@ pub record IsLeftOver (profile : Profile) (funcs : ℕ) (k : SectionId) (s : Spa
   pub some : 0 < length left
   pub there : IsAt e SectionSize (s.end - length left)
 
--- The contents are those of no custom section, which begin with a name.
+-- The section is a custom one, and its contents do not begin with a name.
 pub record IsCustomFault (s : Section) (e : ReadFault) : Type 0 where
   pub id : s.id ≡ 0
   pub none : (c : Custom) → SpellsCustom s.contents c → ⊥
   pub name : IsNameFault (contents_of s) e
 
--- They are not what the section of that id holds, where so many functions were declared before. Of the code section that is as many codes.
+-- The section is another, and its contents are not what it holds: of the code section that is as many codes as functions were declared.
 pub record IsListFault (profile : Profile) (funcs : ℕ) (s : Section) (e : ReadFault) : Type 0 where
   pub id : SectionId
   pub is : s.id ≡ number id
   pub none : (x : ContentsOf id) → CountIs id funcs x → SpellsContents profile id s.contents x → ⊥
   pub wrong : BreaksIn profile funcs id (contents_of s) e ⊎ IsLeftOver profile funcs id (contents_of s) e
 
--- The fault is in the contents of a section that may come there.
+-- After some sections comes one that may come there, whole, and the fault is in its contents.
 pub record IsContentsFault (profile : Profile) (b : List ℕ) (e : ReadFault) : Type 0 where
   pub frames : List Frame
   pub lists : SectionLists
@@ -106,7 +103,7 @@ pub record IsContentsFault (profile : Profile) (b : List ℕ) (e : ReadFault) : 
   pub begins : BeginsWith profile b frames lists (section.id ∷ (size ++ (section.contents ++ later)))
   pub may : MayCome (last_id frames) section.id
   pub counts : SpellsU 32 size (length section.contents)
-  pub place : section.at ≡ start_of (section.contents ++ later) b
+  pub place : section.at ≡ start_of b (section.contents ++ later)
   pub wrong : IsCustomFault section e ⊎ IsListFault profile (length lists.funcs) section e
   pub within : Stands (contents_of section) e
 
@@ -123,8 +120,8 @@ pub record IsEndFault (profile : Profile) (b : List ℕ) (e : ReadFault) : Type 
 
 -- ---- any of them
 
--- The first fault of an input: it is longer than any module is; or its header is wrong; or after some sections one comes that may not, or
--- that breaks off; or one whose contents are none; or they end without the codes of their functions.
+-- The first fault of an input: it is longer than any module may be; or its header is wrong; or after some sections comes an id or a size
+-- that is wrong; or a section with wrong contents; or the sections end, and the codes of their functions are missing.
 abbrev pub IsFirstFault : Profile → List ℕ → ReadFault → Type 0
 IsFirstFault profile b e =
     ((limit < length b) × (e ≡ long_input))

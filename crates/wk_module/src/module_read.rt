@@ -7,6 +7,7 @@ ghost use Rattle.wk_bytes.specs.Stands.{StandsIn};
 ghost use Rattle.wk_body.specs.Reads.{Reads};
 ghost use Rattle.wk_module.specs.declared.types.Parts.{Parts as Lists};
 ghost use Rattle.wk_module.specs.Customs.{custom_at};
+ghost use Rattle.wk_module.specs.FirstFaults.{IsFirstFault};
 ghost use Rattle.wk_module.specs.FormatLaws.{SectionLaws};
 ghost use Rattle.wk_module.specs.Formats.{all_at};
 ghost use Rattle.wk_module.specs.ModuleLaws.{SpellOne, SpellAlike};
@@ -343,6 +344,8 @@ pub fn read_in(alloc: Global, bytes: &[u8], profile: Profile) -> Result<Module, 
     ensures fits { IfOk result (λ m. Fits m) }
     ensures refused { IfErr result (λ e. e.kind ≢ ReadKind.Memory → SpellsNone profile bytes.now) }
     ensures fault { IfErr result (λ e. StandsIn bytes.now e) }
+    ensures first { IfErr result
+        (λ e. e.kind ≢ ReadKind.Memory → IsFirstFault profile bytes.now e) }
 {
     // The proof asks for what this says of sections.
     laws_of_sections();
@@ -360,6 +363,8 @@ pub fn read(alloc: Global, bytes: &[u8]) -> Result<Module, ReadFault>
     ensures refused { IfErr result
         (λ e. e.kind ≢ ReadKind.Memory → SpellsNone Profile.Core bytes.now) }
     ensures fault { IfErr result (λ e. StandsIn bytes.now e) }
+    ensures first { IfErr result
+        (λ e. e.kind ≢ ReadKind.Memory → IsFirstFault Profile.Core bytes.now e) }
 {
     read_in(alloc, bytes, Profile::Core)
 }

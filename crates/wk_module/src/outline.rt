@@ -9,6 +9,7 @@ ghost use Rattle.wk_body.specs.Reads.{FailsAs, Parses, Reads};
 ghost use Rattle.wk_body.specs.Written.{written_body};
 ghost use Rattle.wk_module.specs.declared.types.Parts.{Parts as PartsOf};
 ghost use Rattle.wk_module.specs.Formats.{all_at};
+ghost use Rattle.wk_module.specs.FirstFaults.{IsFirstFault};
 ghost use Rattle.wk_module.specs.Modules.{SpellsNone};
 ghost use Rattle.wk_module.specs.OutlineReading.{aside, code_aside_at, codes_aside_at, read_aside, read_outlined, stub_of, partial, without_codes};
 ghost use Rattle.wk_module.specs.Outlines.{outlined, stub};
@@ -254,6 +255,8 @@ pub(crate) fn read_apart<K: Keep>(
         (λ e. FailsAs e e.kind (module_at profile bytes.now)) }
     ensures refused { IfErr result (λ e. e.kind ≢ ReadKind.Memory → SpellsNone profile bytes.now) }
     ensures fault { IfErr result (λ e. StandsIn bytes.now e) }
+    ensures first { IfErr result
+        (λ e. e.kind ≢ ReadKind.Memory → IsFirstFault profile bytes.now e) }
 {
     // The proof asks for what this says of modules.
     reading_of_module(bytes, profile);
@@ -278,6 +281,8 @@ pub fn read_outline(alloc: Global, bytes: &[u8], profile: Profile) -> Result<Out
         (λ e. FailsAs e e.kind (module_at profile bytes.now)) }
     ensures refused { IfErr result (λ e. e.kind ≢ ReadKind.Memory → SpellsNone profile bytes.now) }
     ensures fault { IfErr result (λ e. StandsIn bytes.now e) }
+    ensures first { IfErr result
+        (λ e. e.kind ≢ ReadKind.Memory → IsFirstFault profile bytes.now e) }
 {
     let (module, codes) = read_apart::<WrittenForm>(alloc, bytes, profile)?;
     Ok(Outline { module, codes })

@@ -5,6 +5,7 @@ ghost use Rattle.wk_bytes.specs.Stands.{StandsIn};
 ghost use Rattle.wk_body.specs.Reads.{FailsAs};
 ghost use Rattle.wk_module.specs.declared.types.Parts.{Parts as PartsOf};
 ghost use Rattle.wk_module.specs.Codes.{body_sizes, code_contents};
+ghost use Rattle.wk_module.specs.FirstFaults.{IsFirstFault};
 ghost use Rattle.wk_module.specs.Modules.{SpellsNone};
 ghost use Rattle.wk_module.specs.Outlines.{outlined};
 ghost use Rattle.wk_module.specs.Reading.{module_at};
@@ -65,6 +66,8 @@ pub fn read_skeleton(alloc: Global, bytes: &[u8], profile: Profile) -> Result<Sk
         (λ e. FailsAs e e.kind (module_at profile bytes.now)) }
     ensures refused { IfErr result (λ e. e.kind ≢ ReadKind.Memory → SpellsNone profile bytes.now) }
     ensures fault { IfErr result (λ e. StandsIn bytes.now e) }
+    ensures first { IfErr result
+        (λ e. e.kind ≢ ReadKind.Memory → IsFirstFault profile bytes.now e) }
 {
     // The proof asks for what this says of modules: one that is read fits.
     reading_of_module(bytes, profile);

@@ -2,6 +2,7 @@ use Rattle.std.proofs.Common.{◌≡◌, Ok, Err, arith}
 use Rattle.std.proofs.lemmas.Result.{err_from_is_err_and}
 use Rattle.wk_module.specs.Reading.{module_at}
 use Rattle.wk_module.specs.Shape.{IsShaped}
+use Rattle.wk_module.proofs.FirstFaults.{answer_first}
 use Rattle.wk_module.proofs.ModuleReading.{read_settled, module_found, answer_found, answer_profile, answer_only, answer_refused}
 use Rattle.wk_module.proofs.Shaped.{shaped}
 use Rattle.wk_module.proofs.Standing.{module_stands, told_stands}
@@ -21,6 +22,12 @@ returns-in_err-read_parts-clause-fault c =
     let p = err_from_is_err_and c.from_residual.result c.from_residual.ensures.1 in
     rw (p.1, p.2) (told_stands c.args.bytes.now c.in_err-read_parts.field-0.0 (module_at c.args.profile c.args.bytes.now)
     (module_stands c.args.profile (c.laws_of_sections.ensures c.args.profile) c.args.bytes.now) c.in_err-read_parts.ensures)
+
+pub returns-in_err-read_parts-clause-first : goal.returns-in_err-read_parts-clause-first
+returns-in_err-read_parts-clause-first c =
+    let p = err_from_is_err_and c.from_residual.result c.from_residual.ensures.1 in
+    rw (p.1, p.2) (answer_first c.args.profile (c.laws_of_sections.ensures c.args.profile) c.args.bytes.now c.in_err-read_parts.field-0.0
+    (λ i. omega (arith, c.type_inv.bytes i)) c.in_err-read_parts.ensures)
 
 -- ---- an answer
 

@@ -3,7 +3,7 @@ use Rattle.std.proofs.lemmas.Result.{err_from_is_err_and}
 use Rattle.wk_module.specs.OutlineReading.{partial}
 use Rattle.wk_module.specs.Reading.{at_start}
 use Rattle.wk_module.proofs.Outlining.{sections_fail, are_read, joined_fails, joined_outlined, outline_is, outline_formed, outline_settled}
-use Rattle.wk_module.proofs.Standing.{fault_refused, fault_stands}
+use Rattle.wk_module.proofs.Standing.{fault_refused, fault_stands, fault_first}
 use Rattle.wk_module.proofs.VectorReading.{read_few}
 use Rattle.wk_module.proofs.outline.read_apart.Goals as goal
 
@@ -18,6 +18,7 @@ returns-in_err-so_far g c =
       exact = fails;
       refused = fault_refused c.args.profile c.args.bytes.now c.reading_of_module.ensures.is e fails;
       fault = fault_stands c.args.profile c.args.bytes.now c.reading_of_module.ensures.is e fails;
+      first = fault_first c.args.profile c.args.bytes.now c.reading_of_module.ensures.is e fails;
     })
 
 -- ---- all sections are read
@@ -38,6 +39,7 @@ returns-in_err-parts g c =
       exact = fails;
       refused = fault_refused c.args.profile c.args.bytes.now c.reading_of_module.ensures.is e fails;
       fault = fault_stands c.args.profile c.args.bytes.now c.reading_of_module.ensures.is e fails;
+      first = fault_first c.args.profile c.args.bytes.now c.reading_of_module.ensures.is e fails;
     })
 
 pub of-requires : goal.of-requires
