@@ -29,23 +29,6 @@ use wk_bytes::{OutOfMemory, put_s32, put_s33, put_s64, put_u32};
 /// So many tokens are written into a buffer: fewer are written sooner one by one.
 const BUFFER_FROM: usize = 8;
 
-/// What appending answered. Where it was refused, the vector is cut to its length before.
-#[inline(always)]
-pub(crate) fn or_undone<T>(
-    out: &mut Vec<u8>,
-    start: usize,
-    appended: Result<T, OutOfMemory>,
-) -> Result<T, OutOfMemory>
-    ensures same { result ≡ appended }
-    ensures ok { OnOk appended (out.new.items ≡ out.old.items) }
-    ensures err { OnErr appended (out.new.items ≡ take start out.old.items) }
-{
-    if appended.is_err() {
-        out.truncate(start);
-    }
-    appended
-}
-
 // Appends a byte where there may be no room.
 #[cold]
 #[inline(never)]
@@ -252,7 +235,24 @@ fn put_tokens(out: &mut Vec<u8>, labels: &[u32], tokens: &[Token]) -> Result<(),
     put_buffered(out, labels, tokens)
 }
 
-// The same of the expression itself.
+/// What appending behind so many bytes answered. Where it was refused, the vector is cut back to these.
+#[inline(always)]
+pub(crate) fn or_undone(
+    out: &mut Vec<u8>,
+    start: usize,
+    appended: Result<(), OutOfMemory>,
+) -> Result<(), OutOfMemory>
+    ensures same { result ≡ appended }
+    ensures ok { OnOk appended (out.new.items ≡ out.old.items) }
+    ensures err { OnErr appended (out.new.items ≡ take start out.old.items) }
+{
+    if appended.is_err() {
+        out.truncate(start);
+    }
+    appended
+}
+
+// An expression: its tokens.
 fn put_expr(out: &mut Vec<u8>, expr: &Expr) -> Result<(), OutOfMemory>
     ensures ok { OnOk result (out.new.items ≡ out.old.items ++ written_expr expr.now) }
     ensures err { OnErr result (StaysInFront out.old.items out.new.items) }
