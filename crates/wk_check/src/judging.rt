@@ -1,6 +1,7 @@
 //! Judging a module (3.4.10).
 
 ghost use Rattle.std.specs.Prelude.{◌≡◌, ◌↔◌, ◌<◌, ◌^◌, [], ◌∷◌, length, map, IfOk};
+ghost use Rattle.wk_module.specs.declared.types.Parts.{Parts as PartsOf};
 ghost use Rattle.wk_module.specs.Listed.{listed, AreNumbered};
 ghost use Rattle.wk_module.specs.Shape.{lists_of};
 ghost use Rattle.wk_typing.specs.declared.fault.Verdict.{Verdict};
@@ -216,3 +217,8 @@ pub fn judge(alloc: Global, module: &Module) -> Result<Verdict, OutOfMemory>
     let fault = fault_up_to_code(alloc, parts, &whole, &mut room)?;
     verdict_behind(&whole, fault, &mut room)
 }
+
+/// The law of verdicts: that of a module is valid exactly where the module is (chapter 3). It does nothing.
+pub fn meaning_of_verdicts()
+    ensures { (m : PartsOf) → module_verdict m ≡ Verdict.Valid ↔ IsValidModule m }
+{}

@@ -7,9 +7,9 @@
 //! - [`Whole`] is the [`Env`] over the lists of a module (`answer_in`, `spaces_of` of `specs/Spaces`).
 //! - [`judge`] is `module_verdict` (`specs/Verdict`), the first flaw of the items of all sections, and that is so in words
 //!   (`IsVerdict`). Its clause `valid` says that it is `Valid` exactly where each body is derived and no other section has a flaw
-//!   (`IsValidModule` of `specs/Valid`). In the other profile it is the same unless it was V1 (`extended`). [`judge_around`] is the
-//!   same of lists that are lent, for a given first fault of the code section; it asks that each list has fewer than 2^32 items
-//!   (`AreNumbered`).
+//!   (`IsValidModule` of `specs/Valid`); [`meaning_of_verdicts`] carries that as a law of all modules. In the other profile it is the
+//!   same unless it was V1 (`extended`). [`judge_around`] is the same of lists that are lent, for a given first fault of the code section;
+//!   it asks that each list has fewer than 2^32 items (`AreNumbered`).
 //! - [`judge_bytes`] is `module_verdict` of the module that bytes spell in a profile, or the fault of reading it (`judged` of
 //!   `specs/Spelled`), or `Memory` at 0. Its clauses `meaning` and `valid` tell the verdict in words, and `is` says what that module
 //!   and that fault are. So it answers what [`judge`] does of what `read_in` gives; that it keeps no body is no clause.
@@ -58,7 +58,7 @@ pub use incremental::{
     verdict_with_global, verdict_with_import, verdict_with_type,
 };
 pub use judge_encoded::{judge_bytes, judge_spelled};
-pub use judging::{judge, judge_around};
+pub use judging::{judge, judge_around, meaning_of_verdicts};
 pub use validator::Validator;
 pub use whole::Whole;
 pub use wk_typing::{

@@ -1,34 +1,13 @@
--- A valid module is valid after edits that have to leave a valid one.
-use Rattle.std.proofs.Common.{◌≡◌, Bool, true, false, List, [], ◌∷◌, Result, Ok, Err, refl, ap, ◌∙◌}
+-- The module of a run of edits that have to leave a valid one is valid where it was.
+use Rattle.std.proofs.Common.{◌≡◌, Bool, true, List, Result, Ok, Err, ap, ◌∙◌}
 use Rattle.std.specs.Prelude.{IfOk, OnErr}
-use Rattle.wk_bytes.specs.Leb.{◌>>=◌}
 use Rattle.wk_module.specs.declared.types.Parts.{Parts}
-use Rattle.wk_typing.specs.declared.fault.Verdict.{Verdict}
-use Rattle.wk_typing.specs.declared.fault.Verdict.TheVariants.{Valid, Invalid}
+use Rattle.wk_typing.specs.declared.fault.Verdict.TheVariants.{Valid}
 use Rattle.wk_check.specs.Verdict.{module_verdict}
 use Rattle.wk_session.specs.declared.edit.Edit.{Edit}
-use Rattle.wk_session.specs.declared.edit.EditFault.{EditFault}
-use Rattle.wk_session.specs.Edits.{edited, lasting, unbroken}
-use Rattle.wk_session.specs.Runs.{left_by, after_one, after}
+use Rattle.wk_session.specs.LastingLaws.{stays_valid}
+use Rattle.wk_session.specs.Runs.{after}
 
-unbroken_valid : (m n : Parts) (v : Verdict) → module_verdict m ≡ Valid → module_verdict n ≡ v → module_verdict (left_by m (unbroken n v)) ≡ Valid
-unbroken_valid m n Valid was is = is
-unbroken_valid m n (Invalid f) was is = was
-
-lasting_valid : (m : Parts) (r : Result Parts EditFault) → module_verdict m ≡ Valid → module_verdict (left_by m (r >>= lasting true)) ≡ Valid
-lasting_valid m (Ok n) was = unbroken_valid m n (module_verdict n) was refl
-lasting_valid m (Err f) was = was
-
-one_valid : (e : Edit) (x : Bool) (m : Parts) → module_verdict m ≡ Valid → module_verdict (after_one true e x m) ≡ Valid
-one_valid e true m was = was
-one_valid e false m was = lasting_valid m (edited e m) was
-
-pub stays_valid : (es : List Edit) (xs : List Bool) (m : Parts) → module_verdict m ≡ Valid → module_verdict (after true es xs m) ≡ Valid
-stays_valid [] xs m was = was
-stays_valid (e ∷ es) [] m was = stays_valid es [] (after_one true e false m) (one_valid e false m was)
-stays_valid (e ∷ es) (x ∷ xs) m was = stays_valid es xs (after_one true e x m) (one_valid e x m was)
-
--- so is the module of a run, or it is as before
 pub run_valid : {A E : Type 0} (r : Result A E) (es : List Edit) (marks : A → List Bool) (m n : Parts) → IfOk r (λ a. n ≡ after true es (marks a) m)
     → OnErr r (n ≡ m) → module_verdict m ≡ Valid → module_verdict n ≡ Valid
 run_valid (Ok a) es marks m n is err was = ap module_verdict is ∙ stays_valid es (marks a) m was

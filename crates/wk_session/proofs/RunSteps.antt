@@ -8,6 +8,8 @@ use Rattle.wk_session.specs.declared.edit.Work.{Work}
 use Rattle.wk_session.specs.declared.edit.EditFault.{EditFault}
 use Rattle.wk_session.specs.declared.edit.EditFault.TheVariants.{Memory}
 use Rattle.wk_session.specs.Edits.{is_decided}
+use Rattle.wk_session.specs.Making.{IsMade, AreMade}
+use Rattle.wk_session.specs.MakingLaws.{made_more}
 use Rattle.wk_session.specs.Runs.{reply_of, after_one, is_memory, replies_of, after, refused_for_memory, AreUndecided}
 use Rattle.wk_session.specs.Told.{AreTold}
 use Rattle.wk_session.specs.ToldLaws.{ReadsCode, replies_told}
@@ -65,6 +67,12 @@ was_undecided e m (Err f) h = tt
 pub told_by : ReadsCode → (keep : Bool) (es : List Edit) (m : Parts) (rs : List (Result Work EditFault))
     → rs ≡ replies_of keep es (refused_for_memory rs) m → AreTold m.profile es rs
 told_by reads keep es m rs is = subst (AreTold m.profile es) (sym is) (replies_told reads keep es (refused_for_memory rs) m)
+
+pub made_end : (es : List Edit) (i : ℕ) (e : Edit) (rs rs' : List (Result Work EditFault)) (r : Result Work EditFault) (m s s' : Parts) → i < length es
+    → e ≡ get_or es i e → rs' ≡ rs ++ r ∷ [] → AreMade (take i es) rs m s → IsMade e r s s' → AreMade (take (i + 1) es) rs' m s'
+made_end es i e rs rs' r m s s' within at pushed sofar one =
+    let taken : take (i + 1) es ≡ take i es ++ e ∷ [] = take_more es i e within ∙ ap (λ y. take i es ++ y ∷ []) (sym at) in
+    rw (taken, pushed) (made_more (take i es) rs e r m s s' sofar one)
 
 module _ (keep : Bool) (es : List Edit) (i : ℕ) (e : Edit) (rs rs' : List (Result Work EditFault)) (r : Result Work EditFault) (m s s' : Parts)
     (within : i < length es) (at : e ≡ get_or es i e) (len : length rs ≡ i) (pushed : rs' ≡ rs ++ r ∷ [])

@@ -8,6 +8,8 @@ pub mod Dependents
 pub mod Runs
 -- What the refusal of an edit for its bytes says of these bytes.
 pub mod Told
+-- What accepted edits make of a module, in the words of the grammar.
+pub mod Making
 -- The texts of refusals, `E1` to `E8`.
 pub mod EditText
 -- ---- writing
@@ -50,5 +52,9 @@ pub mod MadeLaws
 pub mod DependentsLaws
 -- The bytes for which an edit is refused encode nothing, and the fault is true of them.
 pub mod ToldLaws
+-- An edit puts into the module what its bytes encode.
+pub mod MakingLaws
+-- A valid module stays valid through edits that have to leave a valid one.
+pub mod LastingLaws
 -- With the codes of a module that differs in bodies alone, the written form is that module's.
 pub mod RecodedLaws

@@ -19,7 +19,9 @@
 //! - [`Session::write`] fails only where its output does, and takes no memory. So does [`Session::write_with`], which appends
 //!   `encoded_with` (`specs/Recoded`): the written form with other codes in the place of some. With the codes of bodies it is that of the
 //!   module with these bodies (`recoded` of `specs/RecodedLaws`).
-//! - Where bytes of an edit are refused, alone or in a run, they spell nothing, and the fault stands in them (`IsTold` of `specs/Told`).
+//! - What an accepted edit puts into the module, alone or in a run, is what its bytes spell, and they spell nothing else (`IsMade` of
+//!   `specs/Making`). Where they are refused they spell nothing, and the fault stands in them (`IsTold` of `specs/Told`).
+//!   [`bytes_of_edit`] carries what the first rests on for other crates: that they are bytes.
 //! - What `is_decided` marks is never answered by want of memory (`decided`). `is_memory` marks the edits that were refused for want of
 //!   memory; what the others do and answer is said for those marks.
 //!
@@ -46,6 +48,7 @@
 
 mod append_item;
 mod basis;
+mod bytes;
 mod cache;
 mod codes;
 mod display;
@@ -63,6 +66,7 @@ mod verdict_and_len;
 mod write;
 mod written;
 
+pub use bytes::bytes_of_edit;
 pub use edit::{Edit, EditFault, Reply, Work};
 pub use laws::work_of_edits;
 pub use session::Session;

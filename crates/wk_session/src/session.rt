@@ -18,10 +18,12 @@ ghost use Rattle.wk_session.specs.Kept.{IsKept, Leads, uses_of};
 ghost use Rattle.wk_session.specs.Overlays.{with_items};
 ghost use Rattle.wk_session.specs.Pieces.{code_of};
 ghost use Rattle.wk_session.specs.Recoded.{encoded_with};
+ghost use Rattle.wk_session.specs.Making.{IsMade, AreMade};
 ghost use Rattle.wk_session.specs.Told.{IsTold, AreTold};
 ghost use Rattle.wk_session.specs.Written.{Leaves, failures_after_write};
 ghost use Rattle.wk_session.specs.Runs.{reply_of, after_one, is_memory, replies_of, after, refused_for_memory, AreUndecided};
 
+use crate::bytes::bytes_of_edit;
 use crate::cache::Cache;
 use crate::codes::Codes;
 use crate::edit::{Edit, EditFault, Reply};
@@ -346,12 +348,14 @@ impl Session {
     fn apply_with(&mut self, keep: bool, edit: &Edit) -> Reply
         ensures reply { result ≡ reply_of keep edit.now (is_memory result) self.old }
         ensures module_is { self.new ≡ after_one keep edit.now (is_memory result) self.old }
+        ensures made { IsMade edit.now result self.old self.new }
         ensures told { IsTold self.old.profile edit.now result }
         ensures decided { IfErr result
             (λ f. f ≡ EditFault.Memory → is_decided edit.now self.old ≡ false) }
     {
-        // The proof asks what this says: what code that is refused spells, and where its fault stands.
+        // The proof asks what these say: what code spells, or where its fault stands, and that an edit's code is bytes.
         reading_of_code();
+        bytes_of_edit(edit);
         let mut parts = take_parts(self.alloc, &mut self.module);
         let reply = edit_parts(self.alloc, keep, &mut parts, &mut self.kept, edit);
         self.module = Module::of(parts);
@@ -369,6 +373,8 @@ impl Session {
     pub fn apply(&mut self, edit: &Edit) -> Reply
         ensures reply { result ≡ reply_of false edit.now (is_memory result) self.old }
         ensures module_is { self.new ≡ after_one false edit.now (is_memory result) self.old }
+        // What comes to the module is what the edit's bytes spell, and a refusal leaves it as it was.
+        ensures made { IsMade edit.now result self.old self.new }
         // Bytes that are refused spell nothing, and the fault stands in them.
         ensures told { IsTold self.old.profile edit.now result }
         // What is decided without memory is never answered by want of it.
@@ -388,6 +394,8 @@ impl Session {
     pub fn apply_kept(&mut self, edit: &Edit) -> Reply
         ensures reply { result ≡ reply_of true edit.now (is_memory result) self.old }
         ensures module_is { self.new ≡ after_one true edit.now (is_memory result) self.old }
+        // What comes to the module is what the edit's bytes spell, and a refusal leaves it as it was.
+        ensures made { IsMade edit.now result self.old self.new }
         // Bytes that are refused spell nothing, and the fault stands in them.
         ensures told { IsTold self.old.profile edit.now result }
         // What is decided without memory is never answered by want of it.
@@ -404,6 +412,7 @@ impl Session {
         ensures count { IfOk result (λ rs. length rs.items ≡ length edits.now) }
         ensures module_is { IfOk result
             (λ rs. self.new ≡ after keep edits.now (refused_for_memory rs.items) self.old) }
+        ensures made { IfOk result (λ rs. AreMade edits.now rs.items self.old self.new) }
         ensures told { IfOk result (λ rs. AreTold self.old.profile edits.now rs.items) }
         ensures decided { IfOk result
             (λ rs. AreUndecided keep edits.now (refused_for_memory rs.items) self.old) }
@@ -450,6 +459,8 @@ impl Session {
         ensures count { IfOk result (λ rs. length rs.items ≡ length edits.now) }
         ensures module_is { IfOk result
             (λ rs. self.new ≡ after false edits.now (refused_for_memory rs.items) self.old) }
+        // What comes to the module is what the bytes of edits spell, and each refusal leaves it as it was.
+        ensures made { IfOk result (λ rs. AreMade edits.now rs.items self.old self.new) }
         // Bytes that are refused spell nothing, and the fault stands in them.
         ensures told { IfOk result (λ rs. AreTold self.old.profile edits.now rs.items) }
         // What is decided without memory is never answered by want of it.
@@ -471,6 +482,8 @@ impl Session {
         ensures count { IfOk result (λ rs. length rs.items ≡ length edits.now) }
         ensures module_is { IfOk result
             (λ rs. self.new ≡ after true edits.now (refused_for_memory rs.items) self.old) }
+        // What comes to the module is what the bytes of edits spell, and each refusal leaves it as it was.
+        ensures made { IfOk result (λ rs. AreMade edits.now rs.items self.old self.new) }
         // Bytes that are refused spell nothing, and the fault stands in them.
         ensures told { IfOk result (λ rs. AreTold self.old.profile edits.now rs.items) }
         // What is decided without memory is never answered by want of it.
