@@ -4,6 +4,7 @@ use Rattle.wk_list.specs.declared.fault.ListFault.{ListFault}
 use Rattle.wk_list.specs.declared.fault.ListFault.TheVariants as lists
 use Rattle.wasmkit.specs.declared.store.StoreFault.{StoreFault}
 use Rattle.wasmkit.specs.declared.store.StoreFault.TheVariants as stores
+use Rattle.wasmkit.specs.CommandLine.{SpellsNone}
 use Rattle.wasmkit.specs.declared.fault.ProgramFault.{ProgramFault}
 use Rattle.wasmkit.specs.declared.fault.ProgramFault.TheVariants.{CommandLine, BadWords, Read, Write, Output, Memory}
 
@@ -34,6 +35,13 @@ IsOfWords (CommandLine complaint) = Unit {0}
 IsOfWords BadWords = Unit {0}
 IsOfWords Memory = Unit {0}
 IsOfWords fault = ⊥
+
+-- of words that spell no command, or of want of memory
+abbrev pub RefusesWords : List (List ℕ) → ProgramFault → Type 0
+RefusesWords words (CommandLine complaint) = SpellsNone words
+RefusesWords words BadWords = SpellsNone words
+RefusesWords words Memory = Unit {0}
+RefusesWords words fault = ⊥
 
 -- of a listing that stopped
 abbrev pub of_list : ListFault → ProgramFault

@@ -11,7 +11,8 @@ use Rattle.wasmkit.specs.declared.fault.ProgramFault.{ProgramFault}
 use Rattle.wasmkit.specs.declared.fault.ProgramFault.TheVariants.{Output, Memory}
 use Rattle.wasmkit.specs.Answers.{Answer, edited, dumped, framed, stripped, judged}
 use Rattle.wasmkit.specs.Events.{Event, Loaded, Saved, then_all}
-use Rattle.wasmkit.specs.Faults.{fault_status, IsOfLoad, IsOfSave, IsOfWords}
+use Rattle.wasmkit.specs.CommandLine.{Spells}
+use Rattle.wasmkit.specs.Faults.{fault_status, IsOfLoad, IsOfSave, RefusesWords}
 
 -- ---- what an output gets
 
@@ -105,32 +106,26 @@ Carries (Sections file) = Loads file.now (λ input. Gives [] (framed input))
 Carries (Strip c) = Loads c.file.now (λ input. Gives c.out.now (stripped c input))
 Carries (Validate c) = Loads c.file.now (λ input. Gives [] (judged c input))
 
--- OUT is spelled neither as FILE nor as SCRIPT.
-abbrev pub IsSound : Asked → Type 0
-IsSound (Edit c) = (c.out.now ≢ c.file.now) × (c.out.now ≢ c.script.now)
-IsSound (Strip c) = c.out.now ≢ c.file.now
-IsSound asked = Unit {0}
-
 -- These events, and no others, are what the store was asked in between, and so it went.
 pub record Goes (rest : Rest) (before after : Option (List Event)) (p : Printing) (r : Result ℕ ProgramFault) : Type 0 where
   pub events : List Event
   pub asked : after ≡ then_all before events
   pub went : rest events p r
 
--- The words are no command, or memory was refused before one was read. The store is asked nothing, and nothing is printed.
-pub record IsUnread (before after : Option (List Event)) (p : Printing) (r : Result ℕ ProgramFault) : Type 0 where
+-- The words spell no command, or memory was refused before one was read. The store is asked nothing, and nothing is printed.
+pub record IsUnread (words : List (List ℕ)) (before after : Option (List Event)) (p : Printing) (r : Result ℕ ProgramFault) : Type 0 where
   pub asked : after ≡ before
   pub printed : GetsNothing p
-  pub why : IsErrAnd r IsOfWords
+  pub why : IsErrAnd r (RefusesWords words)
 
--- The words are a command, and it was carried out.
-pub record IsCarried (before after : Option (List Event)) (p : Printing) (r : Result ℕ ProgramFault) : Type 0 where
+-- The words spell a command, and it was carried out.
+pub record IsCarried (words : List (List ℕ)) (before after : Option (List Event)) (p : Printing) (r : Result ℕ ProgramFault) : Type 0 where
   pub command : Asked
-  pub sound : IsSound command
+  pub spelled : Spells words command
   pub carried : Goes (Carries command) before after p r
 
-abbrev pub IsAnswered : Option (List Event) → Option (List Event) → Printing → Result ℕ ProgramFault → Type 0
-IsAnswered before after p r = IsUnread before after p r ⊎ IsCarried before after p r
+abbrev pub IsAnswered : List (List ℕ) → Option (List Event) → Option (List Event) → Printing → Result ℕ ProgramFault → Type 0
+IsAnswered words before after p r = IsUnread words before after p r ⊎ IsCarried words before after p r
 
 -- ---- the exit status
 

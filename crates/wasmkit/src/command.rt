@@ -1,9 +1,10 @@
 //! The command line.
 
-ghost use Rattle.std.specs.Prelude.{◌≢◌, IfErr, IfOk};
-ghost use Rattle.wasmkit.specs.declared.command.Asked.TheVariants as asks;
-ghost use Rattle.wasmkit.specs.Faults.{IsOfWords};
-ghost use Rattle.wasmkit.specs.Runs.{IsSound};
+ghost use Rattle.std.specs.Prelude.{◌≡◌, ◌++◌, IfErr, IfOk, OnOk, Some, codes, false, map, option_map, string_bytes};
+ghost use Rattle.clap.specs.Words.{app_of, first_of, found_of, rows_of, rule_of, subcommand_rows_of};
+ghost use Rattle.wasmkit.specs.CommandLine.{edit, objdump, part_if, profile_of, sections, strip, validate, Form, KeepsName, Spells};
+ghost use Rattle.wasmkit.specs.Faults.{RefusesWords};
+ghost use Rattle.wasmkit.specs.Syntax.{flag_rule, setting_rule, wasmkit_app, with_form, word_rule, AreParts, IsFlag, IsOfForm, IsProfile, Reads, ReadsEdit, ReadsObjdump, ReadsStrip, ReadsValidate, Unreadable};
 
 use crate::fault::ProgramFault;
 use clap::{Arg, ArgAction, ArgMatches, Command};
@@ -123,15 +124,9 @@ const VALIDATE_EXAMPLE: &str = "Example:
 It prints `valid`, or the first fault and its place, such as
   invalid V15 StackHeight at section 10 item 0 token 1";
 
-/// The parts of a listing, in their order, each with the option that asks for it.
-const PARTS: [(&str, Part); 4] = [
-    ("headers", Part::Headers),
-    ("details", Part::Details),
-    ("code", Part::Code),
-    ("uses", Part::Uses),
-];
-
-fn word<'a>(alloc: Global, id: &'static str, help: &'static str) -> Arg<'a> {
+fn word<'a>(alloc: Global, id: &'static str, help: &'static str) -> Arg<'a>
+    ensures { (rule_of result ≡ word_rule id.entry.now) × (result.global ≡ false) }
+{
     Arg::new(alloc, id)
         .required(true)
         .action(ArgAction::Set)
@@ -139,15 +134,30 @@ fn word<'a>(alloc: Global, id: &'static str, help: &'static str) -> Arg<'a> {
 }
 
 // An option without a value.
-fn flag<'a>(alloc: Global, id: &'static str, help: &'static str) -> Arg<'a> {
+fn flag<'a>(alloc: Global, id: &'static str, help: &'static str) -> Arg<'a>
+    ensures { (rule_of result ≡ flag_rule id.entry.now) × (result.global ≡ false) }
+{
     Arg::new(alloc, id)
         .long(id)
         .action(ArgAction::SetTrue)
         .help(help)
 }
 
+// An option with a value, which help calls `value`.
+fn setting<'a>(alloc: Global, id: &'static str, value: &'static str, help: &'static str) -> Arg<'a>
+    ensures { (rule_of result ≡ setting_rule id.entry.now) × (result.global ≡ false) }
+{
+    Arg::new(alloc, id)
+        .long(id)
+        .value_name(value)
+        .action(ArgAction::Set)
+        .help(help)
+}
+
 // `--extended`, the option of commands that read a module.
-fn extended<'a>(alloc: Global) -> Arg<'a> {
+fn extended<'a>(alloc: Global) -> Arg<'a>
+    ensures { (rule_of result ≡ flag_rule (codes "extended")) × (result.global ≡ false) }
+{
     flag(
         alloc,
         "extended",
@@ -155,16 +165,9 @@ fn extended<'a>(alloc: Global) -> Arg<'a> {
     )
 }
 
-// The profile that was asked for.
-fn profile_of(found: &ArgMatches<'_>) -> Profile {
-    if found.get_flag("extended") {
-        Profile::Extended
-    } else {
-        Profile::Core
-    }
-}
-
-fn edit_command<'a>(alloc: Global) -> Result<Command<'a>, AllocError> {
+fn edit_command<'a>(alloc: Global) -> Result<Command<'a>, AllocError>
+    ensures { IfOk result (IsOfForm edit) }
+{
     let args = vec![in alloc;
         flag(
             alloc,
@@ -182,7 +185,9 @@ fn edit_command<'a>(alloc: Global) -> Result<Command<'a>, AllocError> {
         .args(args)
 }
 
-fn objdump_command<'a>(alloc: Global) -> Result<Command<'a>, AllocError> {
+fn objdump_command<'a>(alloc: Global) -> Result<Command<'a>, AllocError>
+    ensures { IfOk result (IsOfForm objdump) }
+{
     let args = vec![in alloc;
         flag(
             alloc,
@@ -201,19 +206,24 @@ fn objdump_command<'a>(alloc: Global) -> Result<Command<'a>, AllocError> {
         .args(args)
 }
 
-fn sections_command<'a>(alloc: Global) -> Result<Command<'a>, AllocError> {
+fn sections_command<'a>(alloc: Global) -> Result<Command<'a>, AllocError>
+    ensures { IfOk result (IsOfForm sections) }
+{
     Command::new(alloc, "sections")
         .about("Lists the sections of a module, unread")
         .after_help(SECTIONS_EXAMPLE)
         .arg(word(alloc, "FILE", "the module"))
 }
 
-fn strip_command<'a>(alloc: Global) -> Result<Command<'a>, AllocError> {
-    let keep = Arg::new(alloc, "keep")
-        .long("keep")
-        .value_name("NAME")
-        .action(ArgAction::Set)
-        .help("keeps the custom sections of this name");
+fn strip_command<'a>(alloc: Global) -> Result<Command<'a>, AllocError>
+    ensures { IfOk result (IsOfForm strip) }
+{
+    let keep = setting(
+        alloc,
+        "keep",
+        "NAME",
+        "keeps the custom sections of this name",
+    );
     let args = vec![in alloc;
         keep,
         extended(alloc),
@@ -226,7 +236,9 @@ fn strip_command<'a>(alloc: Global) -> Result<Command<'a>, AllocError> {
         .args(args)
 }
 
-fn validate_command<'a>(alloc: Global) -> Result<Command<'a>, AllocError> {
+fn validate_command<'a>(alloc: Global) -> Result<Command<'a>, AllocError>
+    ensures { IfOk result (IsOfForm validate) }
+{
     let args = vec![in alloc; extended(alloc), word(alloc, "FILE", "the module")]?;
     Command::new(alloc, "validate")
         .about("Says whether a module is valid, or its first fault")
@@ -238,7 +250,10 @@ fn validate_command<'a>(alloc: Global) -> Result<Command<'a>, AllocError> {
 fn with_subcommand<'a>(
     command: Command<'a>,
     made: Result<Command<'a>, AllocError>,
-) -> Result<Command<'a>, AllocError> {
+) -> Result<Command<'a>, AllocError>
+    ensures { (f : Form) → IfOk made.entry (IsOfForm f)
+        → IfOk result (λ c. app_of c ≡ with_form (app_of command.entry) f) }
+{
     match made {
         Ok(subcommand) => command.subcommand(subcommand),
         Err(fault) => {
@@ -248,7 +263,9 @@ fn with_subcommand<'a>(
     }
 }
 
-fn command<'a>(alloc: Global) -> Result<Command<'a>, AllocError> {
+fn command<'a>(alloc: Global) -> Result<Command<'a>, AllocError>
+    ensures { IfOk result (λ c. app_of c ≡ wasmkit_app) }
+{
     let command = Command::new(alloc, "wasmkit")
         .bin_name("wasmkit")?
         .about("Reads, judges, lists and edits WebAssembly 1.0 binary modules")
@@ -263,14 +280,47 @@ fn command<'a>(alloc: Global) -> Result<Command<'a>, AllocError> {
     with_subcommand(command, validate_command(alloc))
 }
 
+// The word of an argument, if it was found.
+fn text_of<'a>(found: &ArgMatches<'a>, id: &'static str) -> Option<&'a str>
+    ensures { option_map (λ s. s.now) result
+        ≡ first_of id.entry.now (rows_of (found_of found.now)) }
+{
+    found.get_str(id)
+}
+
+// Whether an option without a value was found.
+fn is_set(found: &ArgMatches<'_>, id: &'static str) -> bool
+    ensures { IsFlag id.entry.now (rows_of (found_of found.now)) result }
+{
+    found.get_flag(id)
+}
+
+// The profile of a command that is extended, or is not.
+fn profile_if(is_extended: bool) -> Profile
+    ensures { result ≡ profile_of is_extended }
+{
+    if is_extended {
+        Profile::Extended
+    } else {
+        Profile::Core
+    }
+}
+
+// The profile that was asked for.
+fn profile_in(found: &ArgMatches<'_>) -> Profile
+    ensures { IsProfile (rows_of (found_of found.now)) result }
+{
+    profile_if(is_set(found, "extended"))
+}
+
 fn read_edit<'a>(found: &ArgMatches<'a>) -> Result<EditCommand<'a>, ProgramFault<'a>>
-    ensures sound { IfOk result (λ c. IsSound (asks.Edit c)) }
-    ensures fault { IfErr result IsOfWords }
+    ensures ok { IfOk result (ReadsEdit (rows_of (found_of found.now))) }
+    ensures err { IfErr result (Unreadable (ReadsEdit (rows_of (found_of found.now)))) }
 {
     let (Some(file), Some(script), Some(out)) = (
-        found.get_str("FILE"),
-        found.get_str("SCRIPT"),
-        found.get_str("OUT"),
+        text_of(found, "FILE"),
+        text_of(found, "SCRIPT"),
+        text_of(found, "OUT"),
     ) else {
         return Err(ProgramFault::BadWords);
     };
@@ -278,22 +328,33 @@ fn read_edit<'a>(found: &ArgMatches<'a>) -> Result<EditCommand<'a>, ProgramFault
         return Err(ProgramFault::BadWords);
     }
     Ok(EditCommand {
-        keep_valid: found.get_flag("keep-valid"),
-        profile: profile_of(found),
+        keep_valid: is_set(found, "keep-valid"),
+        profile: profile_in(found),
         file,
         script,
         out,
     })
 }
 
-// The parts that were asked for: the headers where there are none.
-fn read_parts(alloc: Global, found: &ArgMatches<'_>) -> Result<Vec<Part>, AllocError> {
-    let mut parts = Vec::new(alloc);
-    for (option, part) in PARTS {
-        if found.get_flag(option) {
-            parts.push(part)?;
-        }
+// Adds a part that is asked for.
+fn add_part(parts: &mut Vec<Part>, is_asked: bool, part: Part) -> Result<(), AllocError>
+    ensures { OnOk result (parts.new.items ≡ parts.old.items ++ part_if is_asked part) }
+{
+    if is_asked {
+        parts.push(part)?;
     }
+    Ok(())
+}
+
+// The parts that were asked for, in their order: the headers where there are none.
+fn read_parts(alloc: Global, found: &ArgMatches<'_>) -> Result<Vec<Part>, AllocError>
+    ensures { IfOk result (λ parts. AreParts (rows_of (found_of found.now)) parts.items) }
+{
+    let mut parts = Vec::new(alloc);
+    add_part(&mut parts, is_set(found, "headers"), Part::Headers)?;
+    add_part(&mut parts, is_set(found, "details"), Part::Details)?;
+    add_part(&mut parts, is_set(found, "code"), Part::Code)?;
+    add_part(&mut parts, is_set(found, "uses"), Part::Uses)?;
     if parts.is_empty() {
         parts.push(Part::Headers)?;
     }
@@ -304,21 +365,35 @@ fn read_objdump<'a>(
     alloc: Global,
     found: &ArgMatches<'a>,
 ) -> Result<ObjdumpCommand<'a>, ProgramFault<'a>>
-    ensures { IfErr result IsOfWords }
+    ensures ok { IfOk result (ReadsObjdump (rows_of (found_of found.now))) }
+    ensures err { IfErr result (Unreadable (ReadsObjdump (rows_of (found_of found.now)))) }
 {
-    let Some(file) = found.get_str("FILE") else {
+    let Some(file) = text_of(found, "FILE") else {
         return Err(ProgramFault::BadWords);
     };
     Ok(ObjdumpCommand {
         parts: read_parts(alloc, found)?,
-        profile: profile_of(found),
+        profile: profile_in(found),
         file,
     })
 }
 
+fn read_sections<'a>(found: &ArgMatches<'a>) -> Result<&'a str, ProgramFault<'a>>
+    ensures ok { IfOk result (λ file.
+        first_of (codes "FILE") (rows_of (found_of found.now)) ≡ Some file.now) }
+    ensures err { IfErr result (Unreadable (λ file.
+        first_of (codes "FILE") (rows_of (found_of found.now)) ≡ Some file)) }
+{
+    match text_of(found, "FILE") {
+        Some(file) => Ok(file),
+        None => Err(ProgramFault::BadWords),
+    }
+}
+
 // The name to keep, spelled as in a script.
 fn read_keep<'a>(alloc: Global, word: Option<&str>) -> Result<Option<Text>, ProgramFault<'a>>
-    ensures { IfErr result IsOfWords }
+    ensures ok { IfOk result (KeepsName (option_map (λ s. s.now) word.entry)) }
+    ensures err { IfErr result (Unreadable (KeepsName (option_map (λ s. s.now) word.entry))) }
 {
     let Some(word) = word else {
         return Ok(None);
@@ -333,61 +408,59 @@ fn read_strip<'a>(
     alloc: Global,
     found: &ArgMatches<'a>,
 ) -> Result<StripCommand<'a>, ProgramFault<'a>>
-    ensures sound { IfOk result (λ c. IsSound (asks.Strip c)) }
-    ensures fault { IfErr result IsOfWords }
+    ensures ok { IfOk result (ReadsStrip (rows_of (found_of found.now))) }
+    ensures err { IfErr result (Unreadable (ReadsStrip (rows_of (found_of found.now)))) }
 {
-    let (Some(file), Some(out)) = (found.get_str("FILE"), found.get_str("OUT")) else {
+    let (Some(file), Some(out)) = (text_of(found, "FILE"), text_of(found, "OUT")) else {
         return Err(ProgramFault::BadWords);
     };
     if out == file {
         return Err(ProgramFault::BadWords);
     }
     Ok(StripCommand {
-        keep: read_keep(alloc, found.get_str("keep"))?,
-        profile: profile_of(found),
+        keep: read_keep(alloc, text_of(found, "keep"))?,
+        profile: profile_in(found),
         file,
         out,
     })
 }
 
 fn read_validate<'a>(found: &ArgMatches<'a>) -> Result<ValidateCommand<'a>, ProgramFault<'a>>
-    ensures { IfErr result IsOfWords }
+    ensures ok { IfOk result (ReadsValidate (rows_of (found_of found.now))) }
+    ensures err { IfErr result (Unreadable (ReadsValidate (rows_of (found_of found.now)))) }
 {
-    let Some(file) = found.get_str("FILE") else {
+    let Some(file) = text_of(found, "FILE") else {
         return Err(ProgramFault::BadWords);
     };
     Ok(ValidateCommand {
-        profile: profile_of(found),
+        profile: profile_in(found),
         file,
     })
 }
 
 // What was found in the words asks for.
 fn asked_of<'a>(alloc: Global, matches: &ArgMatches<'a>) -> Result<Asked<'a>, ProgramFault<'a>>
-    ensures sound { IfOk result IsSound }
-    ensures fault { IfErr result IsOfWords }
+    ensures ok { IfOk result (Reads (subcommand_rows_of matches.now)) }
+    ensures err { IfErr result (Unreadable (Reads (subcommand_rows_of matches.now))) }
 {
     match matches.subcommand() {
         Some(("edit", found)) => Ok(Asked::Edit(read_edit(found)?)),
         Some(("objdump", found)) => Ok(Asked::Objdump(read_objdump(alloc, found)?)),
-        Some(("sections", found)) => match found.get_str("FILE") {
-            Some(file) => Ok(Asked::Sections(file)),
-            None => Err(ProgramFault::BadWords),
-        },
+        Some(("sections", found)) => Ok(Asked::Sections(read_sections(found)?)),
         Some(("strip", found)) => Ok(Asked::Strip(read_strip(alloc, found)?)),
         Some(("validate", found)) => Ok(Asked::Validate(read_validate(found)?)),
         _ => Err(ProgramFault::BadWords),
     }
 }
 
-/// Reads the words after the program's name.
+/// Reads the words after the program's name: the command that they spell (`specs/CommandLine`).
 ///
 /// # Errors
 ///
 /// What `clap` says of words that are no command, and `BadWords` where OUT is spelled as FILE or SCRIPT, or NAME is no name.
 pub fn read_words<'a>(alloc: Global, words: &'a [String]) -> Result<Asked<'a>, ProgramFault<'a>>
-    ensures sound { IfOk result IsSound }
-    ensures fault { IfErr result IsOfWords }
+    ensures ok { IfOk result (Spells (map string_bytes words.now)) }
+    ensures err { IfErr result (RefusesWords (map string_bytes words.now)) }
 {
     let matches = command(alloc)?.try_get_matches_from(words)?;
     let asked = asked_of(alloc, &matches);

@@ -2,7 +2,7 @@
 //!
 //! `specs/Answers` says what each command makes of the files that it reads, and `specs/Runs` in which order they are read, what is
 //! saved, what is printed, and how it ends.
-ghost use Rattle.std.specs.Prelude.{◌≡◌, ◌⊎◌, ℕ, ◌-◌, ◌<◌, ◌^◌, false, if◌then◌else◌, [], option_map, Result, Ok, Err, IfOk, MatchResult};
+ghost use Rattle.std.specs.Prelude.{◌≡◌, ◌⊎◌, ℕ, ◌-◌, ◌<◌, ◌^◌, false, if◌then◌else◌, [], map, option_map, string_bytes, Result, Ok, Err, IfOk, MatchResult};
 ghost use Rattle.std.specs.List.{list_any};
 ghost use Rattle.wk_module.specs.Reading.{module_at};
 ghost use Rattle.wk_module.specs.Writing.{Fits};
@@ -375,7 +375,7 @@ fn answer<'a, S: Store, X: Out>(
     out: &mut X,
 ) -> Result<u8, ProgramFault<'a>>
     requires { X.failed out.old < 2 ^ 64 - 1 }
-    ensures { IsAnswered (S.asked store.old) (S.asked store.new)
+    ensures { IsAnswered (map string_bytes words.now) (S.asked store.old) (S.asked store.new)
         (between X.taken X.failed out.old out.new) result }
 {
     let asked = read_words(alloc, words)?;
@@ -403,7 +403,8 @@ pub fn tell<Y: Out>(alloc: Global, fault: &ProgramFault<'_>, err: &mut Y) -> u8
 /// (`Status`) or of `validate`, 0 or 2 of the other commands, 3 for a bad command line, 4 where a file or standard output failed, 5 for want
 /// of memory.
 ///
-/// The words are a command that is carried out, or none, and then nothing is loaded, saved or printed. Which of these, no clause says.
+/// Where the words spell a command (`specs/CommandLine`), it is carried out. Where they spell none, or memory is refused before that is
+/// known, nothing is loaded, saved or printed.
 pub fn program<S: Store, X: Out, Y: Out>(
     alloc: Global,
     words: &[String],
@@ -414,7 +415,7 @@ pub fn program<S: Store, X: Out, Y: Out>(
     requires out { X.failed out.old < 2 ^ 64 - 1 }
     requires err { Y.failed err.old < 2 ^ 64 - 1 }
     ensures { (r : Result ℕ Fault)
-        × IsAnswered (S.asked store.old) (S.asked store.new)
+        × IsAnswered (map string_bytes words.now) (S.asked store.old) (S.asked store.new)
         (printing (X.taken out.old) (X.taken out.new) (X.failed out.old) (X.failed out.new)) r
         × Exits r result
         (printing (Y.taken err.old) (Y.taken err.new) (Y.failed err.old) (Y.failed err.new)) }

@@ -1,6 +1,8 @@
 //! Why a command gives no answer.
 
 ghost use Rattle.std.specs.Prelude.{◌≡◌};
+ghost use Rattle.clap.specs.declared.error.kind.ErrorKind.TheVariants.{OutOfMemory as no_room};
+ghost use Rattle.clap.specs.Words.{kind_of};
 ghost use Rattle.wasmkit.specs.declared.fault.ProgramFault.TheVariants.{Memory as no_memory};
 ghost use Rattle.wasmkit.specs.Faults.{fault_status, of_list, IsOfLoad, IsOfSave, IsOfWords};
 
@@ -68,7 +70,7 @@ impl<'a> ProgramFault<'a> {
 }
 
 impl<'a> From<clap::Error> for ProgramFault<'a> {
-    ghost from_gives = { λ _ f. IsOfWords f };
+    ghost from_gives = { λ e f. IsOfWords f × (kind_of e ≡ no_room → f ≡ no_memory) };
 
     fn from(error: clap::Error) -> ProgramFault<'a> {
         match error.kind() {
