@@ -160,6 +160,7 @@ fn stops_where_the_writer_fails(rt: HostRuntime) -> Result<(), Fail> {
 enum Habit {
     /// It takes so many bytes.
     Takes(usize),
+    /// It fails so.
     Fails(io::ErrorKind),
 }
 

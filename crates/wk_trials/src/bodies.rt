@@ -4,7 +4,7 @@ ghost use Rattle.std.specs.Prelude.{◌≤◌, length};
 
 use crate::mark::{call_begins, call_ends};
 use crate::scenario::and_drop;
-use crate::sinks::{BEFORE, Room, has_appended, vector};
+use crate::sinks::{Room, has_appended, vector, was_appended};
 use std::alloc::{AllocError, Global};
 use std::collections::BTreeSet;
 use wk_body::{
@@ -320,16 +320,13 @@ impl Code {
     }
 
     fn appends(self, alloc: Global, body: &Body) -> Outcome {
-        let Some(mut bytes) = vector(alloc, Room::Full) else {
+        let Some(mut bytes) = vector(alloc, Room::Scant) else {
             return Outcome::NO_SAMPLE;
         };
         call_begins(alloc);
         let answer = append_body(&mut bytes, body);
         call_ends(alloc);
-        match answer {
-            Ok(()) => Outcome::answered(has_appended(&bytes, self.written)),
-            Err(OutOfMemory) => Outcome::refused(bytes.starts_with(&BEFORE)),
-        }
+        was_appended(&bytes, answer, self.written)
     }
 
     fn shifts(self, alloc: Global, body: &Body) -> Outcome {
@@ -345,7 +342,7 @@ impl Code {
     }
 
     fn appends_shifted(self, alloc: Global, body: &Body) -> Outcome {
-        let (Some(mut bytes), Ok(code)) = (vector(alloc, Room::Full), encode_body(alloc, body))
+        let (Some(mut bytes), Ok(code)) = (vector(alloc, Room::Scant), encode_body(alloc, body))
         else {
             return Outcome::NO_SAMPLE;
         };
@@ -355,14 +352,11 @@ impl Code {
         call_begins(alloc);
         let answer = append_shifted(&mut bytes, body, &code, Moving::Func, 5);
         call_ends(alloc);
-        match answer {
-            Ok(()) => Outcome::answered(has_appended(&bytes, self.moved)),
-            Err(OutOfMemory) => Outcome::refused(bytes.starts_with(&BEFORE)),
-        }
+        was_appended(&bytes, answer, self.moved)
     }
 
     fn appends_shifts(self, alloc: Global) -> Outcome {
-        let Some(mut bytes) = vector(alloc, Room::Full) else {
+        let Some(mut bytes) = vector(alloc, Room::Scant) else {
             return Outcome::NO_SAMPLE;
         };
         let shifts = Shifts {
@@ -376,7 +370,7 @@ impl Code {
         call_ends(alloc);
         match answer {
             Ok(done) => Outcome::answered(done && has_appended(&bytes, self.moved)),
-            Err(OutOfMemory) => Outcome::refused(bytes.starts_with(&BEFORE)),
+            Err(OutOfMemory) => Outcome::refused(has_appended(&bytes, b"")),
         }
     }
 

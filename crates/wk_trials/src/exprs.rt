@@ -2,13 +2,13 @@
 
 use crate::bodies::NO_MEMORY;
 use crate::mark::{call_begins, call_ends};
-use crate::sinks::{BEFORE, Room, has_appended, vector};
+use crate::sinks::{Room, vector, was_appended};
 use std::alloc::{AllocError, Global};
 use wk_body::{
     EncodeFault, Expr, Profile, Scratch, ShiftFault, append_expr, encode_expr, next_expr,
     next_expr_in, read_expr, read_expr_in, shift_expr,
 };
-use wk_bytes::{Cursor, OutOfMemory, ReadFault};
+use wk_bytes::{Cursor, ReadFault};
 use wk_samples::bodies::{EXPR, LONG_EXPR, MOVED_EXPR, MOVED_LONG_EXPR};
 use wk_samples::outcome::Outcome;
 
@@ -133,16 +133,13 @@ fn encodes(alloc: Global, sample: ExprSample, expr: &Expr) -> Outcome {
 }
 
 fn appends(alloc: Global, sample: ExprSample, expr: &Expr) -> Outcome {
-    let Some(mut bytes) = vector(alloc, Room::Full) else {
+    let Some(mut bytes) = vector(alloc, Room::Scant) else {
         return Outcome::NO_SAMPLE;
     };
     call_begins(alloc);
     let answer = append_expr(&mut bytes, expr);
     call_ends(alloc);
-    match answer {
-        Ok(()) => Outcome::answered(has_appended(&bytes, sample.spelled)),
-        Err(OutOfMemory) => Outcome::refused(bytes.starts_with(&BEFORE)),
-    }
+    was_appended(&bytes, answer, sample.spelled)
 }
 
 fn shifts(alloc: Global, sample: ExprSample, expr: &Expr) -> Outcome {

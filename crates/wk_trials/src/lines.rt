@@ -2,9 +2,8 @@
 
 use crate::bodies::NO_MEMORY;
 use crate::mark::{call_begins, call_ends};
-use crate::sinks::{BEFORE, Room, has_appended, vector};
+use crate::sinks::{Room, vector, was_appended};
 use std::alloc::{AllocError, Global};
-use wk_bytes::OutOfMemory;
 use wk_check::{Fault, FaultKind, Place, Verdict};
 use wk_edit::{malformed_line, read_name, verdict_line};
 use wk_list::put_header;
@@ -23,7 +22,7 @@ pub(crate) enum Line {
     Name,
     /// `read_name` of a name that stands for itself.
     PlainName,
-    /// `put_header` to a full vector.
+    /// `put_header`.
     Header,
 }
 
@@ -92,8 +91,5 @@ fn puts_header(alloc: Global) -> Outcome {
     let answer = put_header(&mut text, 11, 10, 20);
     call_ends(alloc);
     let line = b"    Data start=0x0000000a end=0x0000001e size=0x00000014";
-    match answer {
-        Ok(()) => Outcome::answered(has_appended(&text, line)),
-        Err(OutOfMemory) => Outcome::refused(text.starts_with(&BEFORE)),
-    }
+    was_appended(&text, answer, line)
 }

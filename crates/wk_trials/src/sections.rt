@@ -45,30 +45,39 @@ fn encode_each(alloc: Global, lists: &Lists<'_>) -> Result<bool, EncodeFault> {
     Ok(are_right)
 }
 
-// Whether these bytes are a section of one byte of size.
-fn is_framed(made: &[u8], id: u8, contents: &[u8]) -> bool {
-    match made {
-        [first, size, rest @ ..] => {
-            *first == id && usize::from(*size) == contents.len() && rest == contents
+// The bytes behind a section of one byte of size, with which these begin.
+fn behind_section<'a>(bytes: &'a [u8], id: u8, contents: &[u8]) -> Option<&'a [u8]> {
+    match bytes {
+        [first, size, rest @ ..] if *first == id && usize::from(*size) == contents.len() => {
+            rest.strip_prefix(contents)
         }
-        _ => false,
+        _ => None,
     }
 }
 
-// Appends each section, up to the first that is refused. Says whether the bytes are right, and what stood there stays.
-fn append_each(lists: &Lists<'_>, bytes: Vec<u8>) -> Result<bool, EncodeFault> {
-    let mut out = bytes;
-    let mut are_right = true;
+// Whether these bytes are `BEFORE`, and then the sections, or the first of them where the others were refused.
+fn are_sections(bytes: &[u8], is_refused: bool) -> bool {
+    let Some(mut rest) = bytes.strip_prefix(&BEFORE) else {
+        return false;
+    };
     for section in OF_WHOLE {
-        let start = out.len();
-        out = append_section(lists, section.id, out)?;
-        are_right = are_right
-            && match out.get(start..) {
-                Some(made) => is_framed(made, section.id, section.bytes),
-                None => false,
-            };
+        if rest.is_empty() {
+            return is_refused;
+        }
+        let Some(behind) = behind_section(rest, section.id, section.bytes) else {
+            return false;
+        };
+        rest = behind;
     }
-    Ok(are_right && out.starts_with(&BEFORE))
+    rest.is_empty()
+}
+
+// Appends each section, up to the first that is refused.
+fn append_each(lists: &Lists<'_>, out: &mut Vec<u8>) -> Result<(), EncodeFault> {
+    for section in OF_WHOLE {
+        append_section(lists, section.id, out)?;
+    }
+    Ok(())
 }
 
 fn encode_customs(alloc: Global, parts: &Parts) -> Result<bool, EncodeFault> {
@@ -133,13 +142,18 @@ impl OfWhole {
 }
 
 fn appends_each(alloc: Global, module: &Module, lists: &Lists<'_>) -> Outcome {
-    let Some(bytes) = vector(alloc, Room::Full) else {
+    let Some(mut bytes) = vector(alloc, Room::Scant) else {
         return Outcome::NO_SAMPLE;
     };
     call_begins(alloc);
-    let answer = append_each(lists, bytes);
+    let answer = append_each(lists, &mut bytes);
     call_ends(alloc);
-    was_encoded(alloc, answer, module, WHOLE)
+    let are_right = are_sections(&bytes, answer.is_err());
+    match answer {
+        Ok(()) => Outcome::answered(are_right),
+        Err(fault) if are_right => was_encoded(alloc, Err(fault), module, WHOLE),
+        Err(_) => Outcome::refused(false),
+    }
 }
 
 fn copies(alloc: Global, module: &Module) -> Outcome {

@@ -2,7 +2,8 @@
 ghost use Rattle.std.specs.Prelude.{◌≡◌, IfSome};
 
 use std::alloc::Global;
-use wk_bytes::{Out, Sink};
+use wk_bytes::{Out, OutOfMemory, Sink};
+use wk_samples::outcome::Outcome;
 
 /// What each output holds before a scenario.
 pub(crate) const BEFORE: [u8; 3] = [1, 2, 3];
@@ -12,6 +13,8 @@ pub(crate) const BEFORE: [u8; 3] = [1, 2, 3];
 pub(crate) enum Room {
     /// For none: it has to grow.
     Full,
+    /// For one byte: it has to grow behind that.
+    Scant,
     /// For all that a scenario puts: it never grows.
     Ample,
 }
@@ -19,8 +22,10 @@ pub(crate) enum Room {
 /// A vector that holds `BEFORE`.
 pub(crate) fn vector(alloc: Global, room: Room) -> Option<Vec<u8>> {
     let mut bytes = Vec::from_slice(alloc, &BEFORE).ok()?;
-    if room == Room::Ample {
-        bytes.reserve(2000).ok()?;
+    match room {
+        Room::Full => {}
+        Room::Scant => bytes.reserve_exact(1).ok()?,
+        Room::Ample => bytes.reserve(2000).ok()?,
     }
     Some(bytes)
 }
@@ -40,6 +45,14 @@ pub(crate) fn has_appended(bytes: &[u8], more: &[u8]) -> bool {
     match bytes.strip_prefix(&BEFORE) {
         Some(rest) => rest == more,
         None => false,
+    }
+}
+
+/// What appending these bytes to a vector that held `BEFORE` answered. After a refusal it has to hold that alone.
+pub(crate) fn was_appended(bytes: &[u8], answer: Result<(), OutOfMemory>, more: &[u8]) -> Outcome {
+    match answer {
+        Ok(()) => Outcome::answered(has_appended(bytes, more)),
+        Err(OutOfMemory) => Outcome::refused(has_appended(bytes, b"")),
     }
 }
 
