@@ -36,7 +36,8 @@ use Rattle.wk_session.specs.Imported.{after_import}
 use Rattle.wk_session.specs.Kept.{standing}
 use Rattle.wk_draft.specs.Drafts.{IsDraft, deferred_room}
 use Rattle.wk_body.specs.declared.shifts.Shifts.{Shifts}
-use Rattle.wk_draft.specs.Steps.{deferred_without, deferred_after, shifts_after, edit_room, is_unmeasured, HasBytes, Follows}
+use Rattle.wk_session.specs.Making.{HasBytes}
+use Rattle.wk_draft.specs.Steps.{deferred_without, deferred_after, shifts_after, edit_room, is_unmeasured, Follows}
 use Rattle.wk_draft.proofs.BodySketches.{entry_same, body_sketch}
 use Rattle.wk_draft.proofs.CodeLengths.{CodeIsLeast, written_within, written_expr_within}
 use Rattle.wk_draft.proofs.GrownLengths.{type_grown, func_grown, body_grown, global_grown, export_grown}

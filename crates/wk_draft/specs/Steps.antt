@@ -2,7 +2,6 @@
 use Rattle.std.specs.Prelude.{◌≡◌, ◌≤◌, nat_le, nat_lt, ℕ, ◌+◌, ◌-◌, ◌*◌, Bool, true, false, ◌&&◌, if◌then◌else◌, Option, Some, None, List, length, set, Result}
 use Rattle.std.specs.Prelude.{Ok, Err}
 use Rattle.wk_bytes.specs.Frames.{limit}
-use Rattle.wk_bytes.specs.LebLaws.{IsBytes}
 use Rattle.wk_bytes.specs.Short.{short}
 use Rattle.wk_body.specs.declared.shifts.Shifts.{Shifts}
 use Rattle.wk_module.specs.declared.types.Func.{Func}
@@ -63,13 +62,6 @@ abbrev pub is_unmeasured : Edit → Bool
 is_unmeasured (edits.Import i) = true
 is_unmeasured (edits.SetCustom name bytes) = true
 is_unmeasured _ = false
-
--- ---- what an edit brings as code is bytes
-abbrev pub HasBytes : Edit → Type 0
-HasBytes (edits.Func t code) = IsBytes code
-HasBytes (edits.Body x code) = IsBytes code
-HasBytes (edits.Global t init) = IsBytes init
-HasBytes _ = Unit {0}
 
 -- ---- the outcome of an edit of the module, by that of the same edit of its draft
 

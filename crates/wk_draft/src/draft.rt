@@ -8,13 +8,12 @@ ghost use Rattle.wk_draft.specs.Drafts.{deferred_room};
 ghost use Rattle.wk_draft.specs.Steps.{replaced_entry, shifts_after, deferred_without};
 ghost use Rattle.wk_draft.specs.Runs.{IsHeld, IsStepped};
 
-use crate::bytes::bytes_of_edit;
 use crate::size_bound::{has_room, is_sure};
 use wk_bytes::OutOfMemory;
 use wk_check::verdicts_that_keep;
 use wk_list::Shape;
 use wk_module::{Kind, Shifts, moving_of_module, reading_of_code, written_form_of_code};
-use wk_session::{Edit, EditFault, Reply, Session};
+use wk_session::{Edit, EditFault, Reply, Session, bytes_of_edit};
 
 /// What an edit is answered of which no work is told: whether it was made, or why it was refused.
 pub type Answer = Result<(), EditFault>;

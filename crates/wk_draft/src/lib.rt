@@ -20,7 +20,6 @@
 //! end each deferred body is put in its place, with its references where the imports that came have moved them.
 #![tactic(auto)]
 
-mod bytes;
 mod draft;
 mod edited;
 mod predict_refusal;
