@@ -17,10 +17,11 @@ use Rattle.clap.specs.declared.parser.matches.ArgMatches.{ArgMatches}
 use Rattle.wasmkit.specs.declared.command.Asked.{Asked}
 use Rattle.wasmkit.specs.declared.fault.ProgramFault.{ProgramFault}
 use Rattle.wasmkit.specs.declared.fault.ProgramFault.TheVariants.{CommandLine, BadWords, Read, Write, Output, Memory}
-use Rattle.wasmkit.specs.CommandLine.{Spells, SpellsNone}
+use Rattle.wasmkit.specs.CommandLine.{SpellsNone, SpellsOnly}
 use Rattle.wasmkit.specs.Faults.{IsOfWords, RefusesWords}
 use Rattle.wasmkit.specs.Syntax.{Reads, Unreadable, wasmkit_app}
 use Rattle.wasmkit.proofs.FirstWord.{is_free_program, is_simple_program}
+use Rattle.wasmkit.proofs.OneSpelling.{spelled_only}
 use Rattle.wasmkit.proofs.Spelling.{fault_spells_none, read_spelled, unread_spells_none}
 
 pub words_utf8 : {Z : Type 0} (words : List (String Z)) → AllByRecursion IsUtf8 (map string_bytes words)
@@ -72,10 +73,10 @@ module _ (words : List Text) (app : App) (m : ArgMatches) (is : app ≡ wasmkit_
 
   -- the command is read
   pub parsed_spells : AllByRecursion IsUtf8 words → (is_simple_and_free app ≡ true → fault_of app words ≡ []) → (r : Result Asked ProgramFault)
-      → IfOk r (Reads (subcommand_rows_of m)) → IfOk r (Spells words)
+      → IfOk r (Reads (subcommand_rows_of m)) → IfOk r (SpellsOnly words)
   parsed_spells utf8 passes (Ok a) reads =
       let none : fault_of wasmkit_app words ≡ [] = ap (λ x. fault_of x words) (sym is) ∙ passes (ap is_simple_and_free is ∙ is_free_program) in
-      read_spelled words utf8 none a (subst (λ found. Reads found a) rows_are reads)
+      spelled_only words a (read_spelled words utf8 none a (subst (λ found. Reads found a) rows_are reads))
   parsed_spells utf8 passes (Err f) reads = tt
 
   -- .. or there is none

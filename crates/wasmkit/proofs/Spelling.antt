@@ -22,24 +22,24 @@ use Rattle.wasmkit.proofs.FirstWord.{edit_named, fault_is, first_word, objdump_n
 
 -- ---- any command
 
-record Known (f : Form) : Type 0 where
-  named : IsNamed f
-  answers : Answers f (built_shape f)
-  asks : Asks f (built_shape f)
+pub record Known (f : Form) : Type 0 where
+  pub named : IsNamed f
+  pub answers : Answers f (built_shape f)
+  pub asks : Asks f (built_shape f)
 
-edit_known : Known edit
+pub edit_known : Known edit
 edit_known = record { named = edit_named; answers = edit_answers; asks = edit_asks }
 
-objdump_known : Known objdump
+pub objdump_known : Known objdump
 objdump_known = record { named = objdump_named; answers = objdump_answers; asks = objdump_asks }
 
-sections_known : Known sections
+pub sections_known : Known sections
 sections_known = record { named = sections_named; answers = sections_answers; asks = sections_asks }
 
-strip_known : Known strip
+pub strip_known : Known strip
 strip_known = record { named = strip_named; answers = strip_answers; asks = strip_asks }
 
-validate_known : Known validate
+pub validate_known : Known validate
 validate_known = record { named = validate_named; answers = validate_answers; asks = validate_asks }
 
 named_of : (f : Form) → IsCommand f → IsNamed f
@@ -50,7 +50,7 @@ named_of f (inr (inr (inr (inl e)))) = subst IsNamed (sym e) strip_named
 named_of f (inr (inr (inr (inr e)))) = subst IsNamed (sym e) validate_named
 
 -- the rows of a line, with defaults
-abbrev final_rows : Form → Line → List Row
+abbrev pub final_rows : Form → Line → List Row
 final_rows f l = fold with_default (rows_of_line f l) (built_shape f).rules
 
 abbrev Found : Type 0
@@ -64,7 +64,7 @@ rows_in : Option Found → List Row
 rows_in None = []
 rows_in (Some p) = p.1
 
-both_same : (a c : Text) (b d : List Row) (p q : Option Found) → p ≡ Some (a, b) → q ≡ Some (c, d) → p ≡ q → (a ≡ c) × (b ≡ d)
+pub both_same : (a c : Text) (b d : List Row) (p q : Option Found) → p ≡ Some (a, b) → q ≡ Some (c, d) → p ≡ q → (a ≡ c) × (b ≡ d)
 unfolding name_in rows_in
 both_same a c b d p q e f same =
     let one : Some (a, b) ≡ q = sym e ∙ same in
@@ -72,7 +72,7 @@ both_same a c b d p q e f same =
     (ap name_in all, ap rows_in all)
 
 module _ (f : Form) (known : Known f) where
-  spelled_passes : (words : List Text) (l : Line) → IsSpelled f words l → (fault_of wasmkit_app words ≡ []) × (subcommand_of wasmkit_app words ≡ Some (f.name, final_rows f l))
+  pub spelled_passes : (words : List Text) (l : Line) → IsSpelled f words l → (fault_of wasmkit_app words ≡ []) × (subcommand_of wasmkit_app words ≡ Some (f.name, final_rows f l))
   spelled_passes words l is =
       let passes = line_passes f (built_shape f) known.answers known.asks l is.1 in (
         ap (fault_of wasmkit_app) is.0 ∙ (fault_is f known.named (line_words l) ∙ passes.0),
@@ -134,17 +134,17 @@ flag_text_same true false e = cc
 flag_text_same false true e = cc
 flag_text_same false false e = refl
 
-some_same : (a b : Bool) → Some (flag_text a) ≡ Some (flag_text b) → a ≡ b
+pub some_same : (a b : Bool) → Some (flag_text a) ≡ Some (flag_text b) → a ≡ b
 some_same a b e = flag_text_same a b (cc)
 
 module _ (f : Form) (known : Known f) (l : Line) (is : IsLineOf f l) where
   abbrev found_flag : Text → Type 0
   found_flag n = one_of n (final_rows f l) ≡ Some (flag_text (is_given n l))
 
-  the_flag : (n : Text) → IsIn n f.flags → found_flag n
+  pub the_flag : (n : Text) → IsIn n f.flags → found_flag n
   the_flag n i = flag_read f (built_shape f) known.answers known.asks l is.pieces n i
 
-  the_setting : (n : Text) → IsIn n f.settings → first_of n (final_rows f l) ≡ value_of n l
+  pub the_setting : (n : Text) → IsIn n f.settings → first_of n (final_rows f l) ≡ value_of n l
   the_setting n i = setting_read f (built_shape f) known.answers known.asks l is.pieces n i
 
   the_operand : (n : Text) → IsIn n f.operands → first_of n (final_rows f l) ≡ first_of n (word_rows f.operands (operands_of l))
@@ -241,7 +241,7 @@ read_spelled words utf8 none (asks.Sections file) r = sections_read words r.0 fi
 read_spelled words utf8 none (asks.Strip c) r = strip_read words r.0 c utf8 none r.1 r.2
 read_spelled words utf8 none (asks.Validate c) r = validate_read words r.0 c utf8 none r.1 r.2
 
-operand_said : (f : Form) (known : Known f) (l : Line) (is : IsLineOf f l) (n : Text) (given : List Text) (a : Text) → IsIn n f.operands → operands_of l ≡ given
+pub operand_said : (f : Form) (known : Known f) (l : Line) (is : IsLineOf f l) (n : Text) (given : List Text) (a : Text) → IsIn n f.operands → operands_of l ≡ given
     → first_of n (word_rows f.operands given) ≡ Some a → first_of n (final_rows f l) ≡ Some a
 operand_said f known l is n given a i e h = the_operand f known l is n i ∙ (ap (λ ws. first_of n (word_rows f.operands ws)) e ∙ h)
 

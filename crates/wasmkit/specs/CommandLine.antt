@@ -245,3 +245,18 @@ Spells words (asks.Validate c) = SpellsValidate words c
 -- the words spell no command
 abbrev pub SpellsNone : List Word → Type 0
 SpellsNone words = (command : Asked) → ¬ (Spells words command)
+
+-- the two commands are the same
+abbrev pub IsSame : Asked → Asked → Type 0
+IsSame (asks.Edit c) (asks.Edit d) = (c.keep_valid ≡ d.keep_valid) × (c.profile ≡ d.profile) × (c.file.now ≡ d.file.now) × (c.script.now ≡ d.script.now)
+    × (c.out.now ≡ d.out.now)
+IsSame (asks.Objdump c) (asks.Objdump d) = (c.parts.items ≡ d.parts.items) × (c.profile ≡ d.profile) × (c.file.now ≡ d.file.now)
+IsSame (asks.Sections file) (asks.Sections other) = file.now ≡ other.now
+IsSame (asks.Strip c) (asks.Strip d) = (c.keep ≡ d.keep) × (c.profile ≡ d.profile) × (c.file.now ≡ d.file.now) × (c.out.now ≡ d.out.now)
+IsSame (asks.Validate c) (asks.Validate d) = (c.profile ≡ d.profile) × (c.file.now ≡ d.file.now)
+IsSame command other = ⊥
+
+-- the words spell the command, and no other
+pub record SpellsOnly (words : List Word) (command : Asked) : Type 0 where
+  pub spelled : Spells words command
+  pub only : (other : Asked) → Spells words other → IsSame command other

@@ -11,7 +11,7 @@ use Rattle.wasmkit.specs.declared.fault.ProgramFault.{ProgramFault}
 use Rattle.wasmkit.specs.declared.fault.ProgramFault.TheVariants.{Output, Memory}
 use Rattle.wasmkit.specs.Answers.{Answer, edited, dumped, framed, stripped, judged}
 use Rattle.wasmkit.specs.Events.{Event, Loaded, Saved, then_all}
-use Rattle.wasmkit.specs.CommandLine.{Spells}
+use Rattle.wasmkit.specs.CommandLine.{SpellsOnly}
 use Rattle.wasmkit.specs.Faults.{fault_status, IsOfLoad, IsOfSave, RefusesWords}
 
 -- ---- what an output gets
@@ -118,10 +118,10 @@ pub record IsUnread (words : List (List ℕ)) (before after : Option (List Event
   pub printed : GetsNothing p
   pub why : IsErrAnd r (RefusesWords words)
 
--- The words spell a command, and it was carried out.
+-- The words spell a command and no other, and it was carried out.
 pub record IsCarried (words : List (List ℕ)) (before after : Option (List Event)) (p : Printing) (r : Result ℕ ProgramFault) : Type 0 where
   pub command : Asked
-  pub spelled : Spells words command
+  pub spelled : SpellsOnly words command
   pub carried : Goes (Carries command) before after p r
 
 abbrev pub IsAnswered : List (List ℕ) → Option (List Event) → Option (List Event) → Printing → Result ℕ ProgramFault → Type 0

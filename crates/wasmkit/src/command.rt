@@ -2,7 +2,7 @@
 
 ghost use Rattle.std.specs.Prelude.{◌≡◌, ◌++◌, IfErr, IfOk, OnOk, Some, codes, false, map, option_map, string_bytes};
 ghost use Rattle.clap.specs.Words.{app_of, first_of, found_of, rows_of, rule_of, subcommand_rows_of};
-ghost use Rattle.wasmkit.specs.CommandLine.{edit, objdump, part_if, profile_of, sections, strip, validate, Form, KeepsName, Spells};
+ghost use Rattle.wasmkit.specs.CommandLine.{edit, objdump, part_if, profile_of, sections, strip, validate, Form, KeepsName, SpellsOnly};
 ghost use Rattle.wasmkit.specs.Faults.{RefusesWords};
 ghost use Rattle.wasmkit.specs.Syntax.{flag_rule, setting_rule, wasmkit_app, with_form, word_rule, AreParts, IsFlag, IsOfForm, IsProfile, Reads, ReadsEdit, ReadsObjdump, ReadsStrip, ReadsValidate, Unreadable};
 
@@ -459,7 +459,7 @@ fn asked_of<'a>(alloc: Global, matches: &ArgMatches<'a>) -> Result<Asked<'a>, Pr
 ///
 /// What `clap` says of words that are no command, and `BadWords` where OUT is spelled as FILE or SCRIPT, or NAME is no name.
 pub fn read_words<'a>(alloc: Global, words: &'a [String]) -> Result<Asked<'a>, ProgramFault<'a>>
-    ensures ok { IfOk result (Spells (map string_bytes words.now)) }
+    ensures ok { IfOk result (SpellsOnly (map string_bytes words.now)) }
     ensures err { IfErr result (RefusesWords (map string_bytes words.now)) }
 {
     let matches = command(alloc)?.try_get_matches_from(words)?;

@@ -6,8 +6,8 @@
 //!   the command are loaded in their order and nothing else is; OUT is saved at most once, behind them; standard output gets its text, or a
 //!   beginning of it where it fails or a listing wants memory; and the exit status is that of what came of the files, or of what failed, or 5.
 //! - What came of them is by the definitions of `wk_answers`, `wk_strip` and `wk_edit` (`specs/Answers`).
-//! - The words decide the command (`specs/CommandLine`, beside `docs/CLI.md`): what is carried out is a command that they spell. Where they spell
-//!   none, nothing is asked of the store, and nothing is printed on standard output.
+//! - The words decide the command (`specs/CommandLine`, beside `docs/CLI.md`): what is carried out is the only command that they spell. Where they
+//!   spell none, nothing is asked of the store, and nothing is printed on standard output.
 //!
 //! The texts on standard error and the machine's files have no clauses: they are tested.
 #![tactic(auto)]
