@@ -105,7 +105,7 @@ module _ (keep : Bool) (profile : Profile) (input script : List ℕ) where
       let read = other_fault e e.kind (module_at profile input) other fails in
       let told = rw read at is in
       rw (outcome_malformed keep profile input script e read)
-      (inl (record { fault = e; none = told.0; stands = told.1; other = other; out = refl; report = refl; status = refl }))
+      (inl (record { fault = e; none = told.0; stands = told.1; first = told.2; other = other; out = refl; report = refl; status = refl }))
   malformed_means (Err f) e other fails is = tt
 
   pub ran_ok : (r : Result Prepared RunFault) (m : Parts) (s : Result (List Edit) ScriptFault) → IfOk r (IsPrepared (outcome_on keep m s))

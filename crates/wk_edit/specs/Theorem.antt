@@ -7,6 +7,7 @@ use Rattle.wk_bytes.specs.declared.fault.ReadKind.TheVariants as kinds
 use Rattle.wk_bytes.specs.Stands.{StandsIn}
 use Rattle.wk_body.specs.declared.types.Profile.{Profile}
 use Rattle.wk_module.specs.declared.types.Parts.{Parts}
+use Rattle.wk_module.specs.FirstFaults.{IsFirstFault}
 use Rattle.wk_module.specs.Modules.{Spells, SpellsNone}
 use Rattle.wk_module.specs.Writing.{encoded}
 use Rattle.wk_check.specs.Verdict.{module_verdict}
@@ -19,12 +20,13 @@ use Rattle.wk_edit.specs.Outcome.{Outcome, out_of, run_status}
 use Rattle.wk_edit.specs.ReportText.{malformed_text, script_text, report_text}
 use Rattle.wk_edit.specs.ScriptGrammar.{IsScript, IsOnlyScript, IsNoScript, IsFaultOf}
 
--- The input spells no module of the profile. Nothing is written of one, and the report is one line, with a fault that stands in the input
--- and is never want of memory.
+-- The input spells no module of the profile. Nothing is written of one, and the report is one line, with the first fault of the input, at
+-- its offset. That is never want of memory.
 pub record IsMalformed (profile : Profile) (input : List ℕ) (o : Outcome) : Type 0 where
   pub fault : ReadFault
   pub none : SpellsNone profile input
   pub stands : StandsIn input fault
+  pub first : IsFirstFault profile input fault
   pub other : fault.kind ≢ kinds.Memory
   pub out : out_of o ≡ []
   pub report : o.report ≡ malformed_text fault
