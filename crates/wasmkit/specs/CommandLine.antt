@@ -2,6 +2,7 @@
 --
 -- The words are those after the name of the program. The first one names the command. Options and operands follow in any order; after `--`
 -- there are operands only. An option begins with `--`, and its value, if it has one, follows `=` or is the next word. `-` alone is an operand.
+-- Words that ask for help or the version spell no command.
 use Rattle.std.specs.Prelude.{◌≡◌, ◌≢◌, ◌⊎◌, ◌==◌, ℕ, Bool, true, false, not, ⊤, Option, Some, None, List, [], ◌∷◌, ◌++◌, length, codes, if◌then◌else◌}
 use Rattle.std.specs.List.{flat_map, list_any}
 use Rattle.std.specs.Str.{bytes_eq}
