@@ -2,6 +2,8 @@ pub mod Cutting
 pub mod Utf8
 pub mod ScriptSteps
 pub mod ReportSteps
+pub mod LastLine
+pub mod ScriptBytes
 pub mod OutcomeLemmas
 pub mod DraftOutcomes
 pub mod Joining

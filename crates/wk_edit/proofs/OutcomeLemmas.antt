@@ -1,6 +1,6 @@
 -- What is prepared is the outcome.
-use Rattle.std.proofs.Common.{◌≡◌, ◌≢◌, ℕ, Bool, false, List, [], ◌∷◌, Result, Ok, Err, refl, sym, ap, subst, ◌∙◌, inl, inr}
-use Rattle.std.specs.Prelude.{IfOk, OnOk, Some, string_bytes}
+use Rattle.std.proofs.Common.{◌≡◌, ◌≢◌, ℕ, Bool, true, false, codes, List, [], ◌∷◌, Result, Ok, Err, refl, sym, ap, subst, ◌∙◌, inl, inr}
+use Rattle.std.specs.Prelude.{◌↔◌, IfOk, OnOk, Some, string_bytes}
 use Rattle.std.specs.List.{list_any}
 use Rattle.std.proofs.lemmas.Bool.{or_parts}
 use Rattle.wk_bytes.specs.declared.fault.ReadKind.{ReadKind}
@@ -16,10 +16,14 @@ use Rattle.wk_module.specs.Reading.{module_at}
 use Rattle.wk_module.specs.Shape.{IsShaped}
 use Rattle.wk_module.specs.Writing.{encoded, Fits}
 use Rattle.wk_typing.specs.declared.fault.Verdict.{Verdict}
+use Rattle.wk_typing.specs.declared.fault.Verdict.TheVariants.{Valid}
+use Rattle.wk_check.specs.Valid.{IsValidModule}
 use Rattle.wk_check.specs.Verdict.{module_verdict}
 use Rattle.wk_session.specs.declared.edit.Edit.{Edit}
 use Rattle.wk_session.specs.declared.edit.Work.{Work}
 use Rattle.wk_session.specs.declared.edit.EditFault.{EditFault}
+use Rattle.wk_session.specs.LastingLaws.{stays_valid}
+use Rattle.wk_session.specs.MakingLaws.{edits_made}
 use Rattle.wk_session.specs.Runs.{is_memory, reply_of, after_one, replies_of, after, refused_for_memory}
 use Rattle.wk_edit.specs.declared.fault.ScriptFault.{ScriptFault}
 use Rattle.wk_edit.specs.declared.fault.RunFault.{RunFault}
@@ -29,7 +33,9 @@ use Rattle.wk_edit.specs.ScriptGrammar.{IsScript, IsOnlyScript, IsNoScript, IsFa
 use Rattle.wk_edit.specs.ReportText.{report_text}
 use Rattle.wk_edit.specs.Outcome.{malformed_outcome, run_status, run_outcome, script_outcome, outcome_on, outcome_of}
 use Rattle.wk_edit.specs.Prepared.{made_bytes, IsPrepared, IsSpelled}
-use Rattle.wk_edit.specs.Theorem.{IsRun, IsRead, IsReport}
+use Rattle.wk_edit.specs.Theorem.{HasLastLine, IsRun, IsRead, IsReport}
+use Rattle.wk_edit.proofs.LastLine.{valid_line}
+use Rattle.wk_edit.proofs.ScriptBytes.{script_bytes}
 use Rattle.wk_session.specs.ToldLaws.{ReadsCode, all_told}
 
 -- ---- the written form of a module spells it, and no other
@@ -89,6 +95,24 @@ same_module profile lent bytes s m same exact at =
     let both : (let r : Result Parts ReadFault = Ok s in r) ≡ Ok m = sym exact ∙ ap (module_at profile) same ∙ at in
     cc
 
+-- ---- what is valid
+
+-- what `meaning_of_verdicts` of `wk_check` says
+abbrev pub VerdictsMean : Type 0
+VerdictsMean = (m : Parts) → module_verdict m ≡ Valid ↔ IsValidModule m
+
+module _ (mean : VerdictsMean) where
+  -- where each edit has to leave a valid module
+  stays : (keep : Bool) → keep ≡ true → (es : List Edit) (m : Parts) → IsValidModule m → IsValidModule (after keep es [] m)
+  stays true is es m valid = (mean (after true es [] m)).0 (stays_valid es [] m ((mean m).1 valid))
+  stays false is es m valid = absurd cc
+
+  -- the last line says so exactly where the module is
+  said_valid : (m : Parts) (replies : List (Result Work EditFault)) → HasLastLine (report_text 1 replies (module_verdict m)) (codes "valid") ↔ IsValidModule m
+  said_valid m replies =
+      let line = valid_line 1 replies (module_verdict m) in
+      (λ last. (mean m).0 (line.0 last), λ valid. line.1 ((mean m).1 valid))
+
 -- ---- what `prepare` answers
 
 module _ (keep : Bool) (profile : Profile) (input script : List ℕ) where
@@ -112,9 +136,9 @@ module _ (keep : Bool) (profile : Profile) (input script : List ℕ) where
       → module_at profile input ≡ Ok m → script_of script ≡ s → IfOk r (IsPrepared (outcome_of keep profile input script))
   ran_ok r m s is read said = rw (outcome_ran keep profile input script m s read said) is
 
-  run_told : ReadsCode → (m : Parts) (es : List Edit) → IsScript script es → IsOnlyScript script es → IsSpelled (run_outcome keep m es).edited
+  run_told : ReadsCode → VerdictsMean → (m : Parts) (es : List Edit) → IsScript script es → IsOnlyScript script es → IsSpelled (run_outcome keep m es).edited
       → IsRun keep m script (run_outcome keep m es)
-  run_told reads m es is only spelled = record {
+  run_told reads mean m es is only spelled = record {
     edits = es;
     spelled = is;
     only = only;
@@ -123,9 +147,13 @@ module _ (keep : Bool) (profile : Profile) (input script : List ℕ) where
     out = refl;
     spells = spelled.0;
     alone = spelled.1;
+    steps = edits_made reads keep es (script_bytes script es is) [] m;
+    kept = λ kept valid. stays mean keep kept es m valid;
     told = all_told reads keep es m;
     report = refl;
     status = refl;
+    judged = mean (after keep es [] m);
+    valid = said_valid mean (after keep es [] m) (replies_of keep es [] m);
   }
 
   read_as : (m : Parts) → module_at profile input ≡ Ok m → IsReading profile input (module_at profile input) → IsRead profile input m
@@ -133,13 +161,13 @@ module _ (keep : Bool) (profile : Profile) (input script : List ℕ) where
       let told = rw read at is in
       record { profile_is = told.0; spelled = told.1; only = told.2 }
 
-  pub ran_means : ReadsCode → (r : Result Prepared RunFault) (m : Parts) (es : List Edit) → IsReading profile input (module_at profile input)
+  pub ran_means : ReadsCode → VerdictsMean → (r : Result Prepared RunFault) (m : Parts) (es : List Edit) → IsReading profile input (module_at profile input)
       → module_at profile input ≡ Ok m → IsScript script es → IsOnlyScript script es → script_of script ≡ Ok es
       → IfOk r (IsPrepared (outcome_of keep profile input script)) → OnOk r (IsReport keep profile input script (outcome_of keep profile input script))
-  ran_means reads (Ok p) m es of read is only said prepared =
+  ran_means reads mean (Ok p) m es of read is only said prepared =
       let ran = outcome_ran keep profile input script m (Ok es) read said in
-      rw ran (inr (m, read_as m read of, inr (run_told reads m es is only (rw ran at prepared.spelled))))
-  ran_means reads (Err e) m es of read is only said prepared = tt
+      rw ran (inr (m, read_as m read of, inr (run_told reads mean m es is only (rw ran at prepared.spelled))))
+  ran_means reads mean (Err e) m es of read is only said prepared = tt
 
   pub script_means : (r : Result Prepared RunFault) (m : Parts) (f : ScriptFault) → OnOk r (f ≢ ScriptFault.Memory)
       → IsReading profile input (module_at profile input) → module_at profile input ≡ Ok m → (f ≢ ScriptFault.Memory → script_of script ≡ Err f)

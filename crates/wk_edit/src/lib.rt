@@ -5,8 +5,9 @@
 //! - [`read_script`] is the grammar of scripts (`IsScript` of `specs/ScriptGrammar`), both ways: the edits that the lines spell, or the
 //!   fault of the first line that spells none. [`read_name`] is the name that a word of a script spells (`name_of`).
 //! - [`edit_owned`] gives `outcome_of` the two inputs (`specs/Outcome`), and that is a report in the words of the grammar, the edits and
-//!   the verdict (`IsReport` of `specs/Theorem`), whether each edit has to leave a valid module or not: what is written spells the
-//!   edited module, and no other. [`edit_in`] is that of bytes that are lent, and [`edit`] of 1.0.
+//!   the verdict (`IsReport` of `specs/Theorem`), whether each edit has to leave a valid module or not: what an edit puts into the module
+//!   is what its bytes spell, what is written spells the edited module, and no other, and the last line is `valid` exactly where that
+//!   module is. [`edit_in`] is that of bytes that are lent, and [`edit`] of 1.0.
 //! - After a fault of one output a beginning stands taken there, and nothing in the one behind it; after want of memory nothing in
 //!   either.
 //! - [`malformed_line`] and [`verdict_line`] lend the lines of a report to the program (`specs/ReportText`).

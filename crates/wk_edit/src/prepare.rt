@@ -22,7 +22,7 @@ use crate::script::read_script;
 use crate::worth::is_worth_draft;
 use std::alloc::Global;
 use wk_bytes::{Items, OutOfMemory, ReadFault, ReadKind};
-use wk_check::Verdict;
+use wk_check::{Verdict, meaning_of_verdicts};
 use wk_draft::{Drafted, Edited, Run, edit_outline};
 use wk_list::Shape;
 use wk_module::{
@@ -338,8 +338,9 @@ fn run_script(
         (outcome_of keep_valid profile input script.now)) }
     ensures memory { IfErr result (λ e. e ≡ RunFault.Memory) }
 {
-    // The proof asks what this says: what code that is refused spells, and where its fault stands.
+    // The proof asks what these say: what code spells, or where its fault stands, and which verdict a valid module has.
     reading_of_code();
+    meaning_of_verdicts();
     match read_script(alloc, script) {
         Ok(edits) => run_edits(alloc, opened, &edits, keep_valid, profile),
         Err(fault) => {

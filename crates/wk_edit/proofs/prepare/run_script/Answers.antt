@@ -26,5 +26,5 @@ returns-in-Ok-clause-means c = λ m input opened read is.
       body_never = c.reading_of_code.ensures.never_memory_body;
       expr_never = c.reading_of_code.ensures.never_memory_expr;
     } in
-    ran_means c.args.keep_valid c.args.profile input c.args.script.now reads c.run_edits.result m c.in-Ok.edits.items is read c.in-Ok.ensures.found
+    ran_means c.args.keep_valid c.args.profile input c.args.script.now reads c.meaning_of_verdicts.ensures c.run_edits.result m c.in-Ok.edits.items is read c.in-Ok.ensures.found
     c.in-Ok.ensures.only c.in-Ok.ensures.exact (returns-in-Ok-clause-ok c m input opened read)
