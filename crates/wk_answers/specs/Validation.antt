@@ -5,6 +5,7 @@ use Rattle.wk_bytes.specs.declared.fault.ReadFault.{ReadFault}
 use Rattle.wk_bytes.specs.Stands.{StandsIn}
 use Rattle.wk_body.specs.declared.types.Profile.{Profile}
 use Rattle.wk_module.specs.declared.types.Parts.{Parts}
+use Rattle.wk_module.specs.FirstFaults.{IsFirstFault}
 use Rattle.wk_module.specs.Modules.{Spells, SpellsNone}
 use Rattle.wk_typing.specs.declared.fault.Verdict.{Verdict}
 use Rattle.wk_typing.specs.declared.fault.Verdict.TheVariants.{Valid, Invalid}
@@ -35,12 +36,13 @@ pub record TellsVerdict (profile : Profile) (bytes line : List ℕ) (status : �
   pub line_is : line ≡ verdict_line (module_verdict told)
   pub status_is : status ≡ verdict_status (module_verdict told)
 
--- the bytes spell no module of the profile, and the line is that of a fault that stands in them, which is never want of memory
+-- the bytes spell no module of the profile, and the line is that of their first fault, which is never want of memory
 pub record TellsFault (profile : Profile) (bytes line : List ℕ) (status : ℕ) : Type 0 where
   pub none : SpellsNone profile bytes
   pub fault : ReadFault
   pub known : fault.kind ≢ Memory
   pub stands : StandsIn bytes fault
+  pub first : IsFirstFault profile bytes fault
   pub line_is : line ≡ malformed_text fault
   pub status_is : status ≡ 2
 

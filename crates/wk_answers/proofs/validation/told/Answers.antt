@@ -30,6 +30,7 @@ returns-in_ok-malformed_line-in-Err c =
         fault = fault;
         known = c.in_default.not-Memory;
         stands = told.1;
+        first = told.2;
         line_is = c.in_ok-malformed_line-in-Err.ensures;
         status_is = refl;
       });
