@@ -1,8 +1,8 @@
 -- What a command is that is built up in turn.
-use Rattle.std.proofs.Common.{◌≡◌, ◌∙◌, ◌||◌, Bool, true, false, List, [], ◌∷◌, map, refl, sym, ap, subst}
+use Rattle.std.proofs.Common.{◌≡◌, ◌∙◌, ◌||◌, false, List, [], ◌∷◌, map, sym, ap, subst}
 use Rattle.std.specs.List.{AllByRecursion, fold}
 use Rattle.clap.specs.Built.{AddsArg, AddsInTurn}
-use Rattle.clap.specs.Walk.{Rule, rule_of}
+use Rattle.clap.specs.Walk.{rule_of}
 use Rattle.clap.specs.Simple.{App, app_of, with_rule}
 use Rattle.clap.specs.declared.builder.arg.Arg.{Arg}
 use Rattle.clap.specs.declared.builder.command.Command.{Command}

@@ -1,5 +1,5 @@
 -- Words and the commands that they spell, worked out.
-use Rattle.std.proofs.Common.{◌≡◌, ◌≢◌, ◌∙◌, true, false, None, Some, [], ◌∷◌, length, refl, sym, ap, inl, arith, codes}
+use Rattle.std.proofs.Common.{◌≡◌, ◌∙◌, true, None, Some, [], ◌∷◌, length, refl, sym, ap, inl, arith, codes}
 use Rattle.clap.specs.declared.error.kind.ErrorKind.TheVariants as kind
 use Rattle.clap.proofs.OnLiterals.{clap_on_literals}
 use Rattle.wk_body.specs.declared.types.Profile.TheVariants.{Core, Extended}

@@ -1,21 +1,20 @@
 -- The first word names the command.
-use Rattle.std.proofs.Common.{◌≡◌, ◌⊎◌, ◌∙◌, ◌==◌, ◌||◌, ℕ, Bool, true, false, not, Option, Some, None, List, [], ◌∷◌, ◌++◌, length, refl, sym, subst, ap, inl, inr, codes, append-nil, append_assoc}
-use Rattle.std.specs.Prelude.{find, if◌then◌else◌, is_some, option_map}
-use Rattle.std.specs.List.{fold, list_any, AllByRecursion}
+use Rattle.std.proofs.Common.{◌≡◌, ◌⊎◌, ◌∙◌, ◌==◌, Bool, true, false, Some, None, List, [], ◌∷◌, ◌++◌, refl, sym, subst, ap, inl, inr, codes, append-nil, append_assoc}
+use Rattle.std.specs.Prelude.{find}
+use Rattle.std.specs.List.{fold, AllByRecursion}
 use Rattle.std.specs.Str.{bytes_eq, IsUtf8}
 use Rattle.std.proofs.lemmas.Slice.Eq.{bytes_eq-Decides}
 use Rattle.clap.specs.Lexer.{long_of, short_of}
-use Rattle.clap.specs.Kinds.{Kinds, or_else}
-use Rattle.clap.specs.Walk.{Names, Row, Rule, Text, Walk, answers_to, arg_by_long, arg_by_short, idle, nothing_held, rows_after, walk, walk_from, walked}
-use Rattle.clap.specs.Simple.{App, Shape, built, entered, filled, is_simple, label_of, names_of, subcommand_of, version_rule, with_index}
-use Rattle.clap.specs.Faults.{built_fault, defaults_fault, entered_fault, fault_of, flag_word_fault, is_simple_and_free, level_fault, long_fault, turn_fault, walk_fault, word_fault}
+use Rattle.clap.specs.Walk.{Names, Rule, Text, Walk, answers_to, arg_by_long, arg_by_short, idle, nothing_held, rows_after, walk, walk_from, walked}
+use Rattle.clap.specs.Simple.{App, Shape, built, filled, is_simple, label_of, names_of, subcommand_of, version_rule, with_index}
+use Rattle.clap.specs.Faults.{defaults_fault, fault_of, is_simple_and_free, level_fault, long_fault, turn_fault, walk_fault, word_fault}
 use Rattle.clap.proofs.FaultLemmas.{stopped_fault}
 use Rattle.clap.proofs.OnLiterals.{clap_on_literals}
 use Rattle.clap.specs.declared.error.kind.ErrorKind.TheVariants as kind
 use Rattle.wasmkit.specs.CommandLine.{Form, dashes, edit, objdump, sections, strip, validate}
 use Rattle.wasmkit.specs.Syntax.{wasmkit_app}
-use Rattle.wasmkit.proofs.WordSteps.{first_none, or_else-nil, second_none, plain_fault, plain_met, built_help}
-use Rattle.wasmkit.proofs.Looks.{IsLong, IsOption, IsShort, Look, free_plain, long_option, look}
+use Rattle.wasmkit.proofs.WordSteps.{first_none, or_else-nil, built_help}
+use Rattle.wasmkit.proofs.Looks.{IsOption, IsShort, Look, free_plain, long_option, look}
 use Rattle.wasmkit.proofs.Refusals.{help_requests, long_requests, short_apart, short_fails, HasNoShort, Requests}
 use Rattle.wasmkit.proofs.Forms.{built_shape}
 

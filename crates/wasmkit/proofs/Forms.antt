@@ -1,14 +1,13 @@
 -- What each command's arguments answer.
-use Rattle.std.proofs.Common.{◌≡◌, ◌⊎◌, ◌∙◌, ◌==◌, ◌||◌, ℕ, zero, suc, ◌+◌, ◌≤◌, Bool, true, false, not, Option, Some, None, List, [], ◌∷◌, ◌++◌, length, refl, sym, subst, ap, inl, inr, arith, codes}
+use Rattle.std.proofs.Common.{◌≡◌, ◌⊎◌, ◌∙◌, ◌==◌, ◌||◌, ℕ, ◌≤◌, Bool, true, false, Some, None, List, [], ◌∷◌, length, refl, sym, inl, inr, arith, codes}
 use Rattle.std.specs.Prelude.{if◌then◌else◌}
 use Rattle.std.specs.Str.{bytes_eq}
 use Rattle.std.proofs.lemmas.Slice.Eq.{bytes_eq-Decides}
-use Rattle.clap.specs.Walk.{Row, Rule, Text, arg_by_long, arg_by_short}
-use Rattle.clap.specs.Simple.{Shape, App, built, built_leaf, inherited, marked_built, with_leaf_noted}
+use Rattle.clap.specs.Walk.{Rule, Text, arg_by_long, arg_by_short}
+use Rattle.clap.specs.Simple.{Shape, built_leaf, inherited, marked_built, with_leaf_noted}
 use Rattle.wasmkit.specs.CommandLine.{Form, IsIn, edit, objdump, sections, strip, validate}
 use Rattle.wasmkit.specs.Syntax.{shape_of_form, wasmkit_top}
-use Rattle.wasmkit.proofs.Looks.{same_number}
-use Rattle.wasmkit.proofs.WordSteps.{built_flag, built_help, built_setting}
+use Rattle.wasmkit.proofs.WordSteps.{built_help}
 use Rattle.wasmkit.proofs.Refusals.{help_requests, HasNoShort, Requests}
 use Rattle.wasmkit.proofs.Walks.{Answers}
 use Rattle.wasmkit.proofs.LineEnds.{not_in}

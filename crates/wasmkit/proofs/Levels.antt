@@ -1,24 +1,23 @@
 -- The words of a command: which pass, and what is found in them.
-use Rattle.std.proofs.Common.{◌≡◌, ◌⊎◌, ◌∙◌, ◌&&◌, ◌||◌, ◌==◌, ℕ, zero, suc, ◌+◌, ◌≤◌, Bool, true, false, not, Option, Some, None, List, [], ◌∷◌, ◌++◌, length, refl, sym, subst, ap, ap₂, inl, inr, arith, codes}
-use Rattle.std.specs.Prelude.{find, if◌then◌else◌, is_some, option_map, option_and_then, slice_get}
+use Rattle.std.proofs.Common.{◌≡◌, ◌⊎◌, ◌∙◌, ◌≤◌, Bool, true, false, not, Option, Some, None, List, [], ◌∷◌, ◌++◌, length, refl, sym, subst, ap, ap₂, inl, inr, arith, codes}
+use Rattle.std.specs.Prelude.{if◌then◌else◌, is_some, option_map, option_and_then, slice_get}
 use Rattle.std.specs.Option.{option_or, option_map_or}
 use Rattle.clap.specs.Facts.{explicit_source}
-use Rattle.std.specs.List.{fold, flat_map, list_all, list_any, AllByRecursion}
+use Rattle.std.specs.List.{fold, list_all, list_any, AllByRecursion}
 use Rattle.std.specs.Str.{bytes_eq, IsUtf8}
-use Rattle.clap.specs.Kinds.{Kinds, or_else}
-use Rattle.clap.specs.Walk.{Row, Rule, Text, first_of, nothing_held, one_of, row_text, rows_after, with_default}
+use Rattle.clap.specs.Walk.{Row, Text, first_of, nothing_held, one_of, row_text, rows_after, with_default}
 use Rattle.clap.specs.Simple.{Shape}
 use Rattle.clap.specs.Takes.{is_given as is_given_in}
 use Rattle.clap.specs.Faults.{check_fault, level_fault}
 use Rattle.clap.specs.declared.error.kind.ErrorKind.TheVariants as kind
 use Rattle.clap.specs.declared.parser.matches.ValueSource.TheVariants.{DefaultValue}
-use Rattle.wasmkit.specs.CommandLine.{Form, IsIn, Line, NoneTwice, free_words, is_given, line_words, operands_of, options_of, rest_operands, value_of, ArePiecesOf, IsLineOf}
+use Rattle.wasmkit.specs.CommandLine.{Form, IsIn, Line, NoneTwice, is_given, line_words, operands_of, rest_operands, value_of, ArePiecesOf, IsLineOf}
 use Rattle.wasmkit.proofs.Names.{in-left, in-right}
 use Rattle.wasmkit.proofs.Rows.{flag_row, row_of, text_row}
-use Rattle.wasmkit.proofs.WordSteps.{at, first_none, second_none}
-use Rattle.wasmkit.proofs.Walks.{Answers, Reaches, end_of, level_is, run_fault, run_rows}
+use Rattle.wasmkit.proofs.WordSteps.{at}
+use Rattle.wasmkit.proofs.Walks.{Answers, end_of, level_is, run_fault}
 use Rattle.wasmkit.proofs.LineWalks.{given_rows, pieces_reach, word_rows}
-use Rattle.wasmkit.proofs.LineSearch.{Finds, finds}
+use Rattle.wasmkit.proofs.LineSearch.{finds}
 use Rattle.wasmkit.proofs.LineEnds.{all_apart, default_in, final_find, find_in, is_fine, or_none, no_default_fault, once_given, once_options}
 use Rattle.wasmkit.proofs.Lookups.{find_flag, find_operand, find_setting}
 

@@ -1,20 +1,19 @@
 -- The rows at the end of a walk, by the line.
-use Rattle.std.proofs.Common.{◌≡◌, ◌⊎◌, ◌∙◌, ◌&&◌, ◌||◌, ◌==◌, ℕ, zero, suc, ◌+◌, ◌≤◌, Bool, true, false, not, Option, Some, None, List, [], ◌∷◌, ◌++◌, length, refl, sym, subst, ap, inl, inr, arith, codes, append-nil}
-use Rattle.std.specs.Prelude.{find, if◌then◌else◌, is_some, option_map}
-use Rattle.std.specs.Option.{option_or, option_map_or}
+use Rattle.std.proofs.Common.{◌≡◌, ◌⊎◌, ◌∙◌, ◌||◌, Bool, true, false, not, Option, Some, None, List, [], ◌∷◌, refl, sym, subst, ap, inl, inr}
+use Rattle.std.specs.Prelude.{find, if◌then◌else◌}
+use Rattle.std.specs.Option.{option_or}
 use Rattle.std.specs.List.{fold, list_all, list_any}
 use Rattle.std.specs.Str.{bytes_eq}
 use Rattle.std.proofs.lemmas.List.Folds.{find-append}
 use Rattle.std.proofs.lemmas.Slice.Eq.{bytes_eq-Decides}
 use Rattle.clap.proofs.SimpleLemmas.{is_false, is_nil}
 use Rattle.clap.proofs.WalkLemmas.{both}
-use Rattle.clap.specs.Kinds.{Kinds, or_else}
 use Rattle.clap.specs.Walk.{Row, Rule, Text, default_rows, has_row, is_empty, more_values, reading_by, with_default}
 use Rattle.clap.specs.Faults.{default_fault, defaults_fault, given_default_fault}
-use Rattle.clap.specs.declared.parser.matches.ValueSource.TheVariants.{CommandLine, DefaultValue}
-use Rattle.wasmkit.specs.CommandLine.{Form, IsIn, NoneTwice, Piece, flag, joined, parted, operand, free_words, options_of, value_in, ArePiecesOf}
-use Rattle.wasmkit.proofs.Names.{ids, same_text}
-use Rattle.wasmkit.proofs.Rows.{at_none, flag_row, row_of, text_row}
+use Rattle.clap.specs.declared.parser.matches.ValueSource.TheVariants.{DefaultValue}
+use Rattle.wasmkit.specs.CommandLine.{Form, IsIn, NoneTwice, Piece, flag, joined, parted, operand, options_of, ArePiecesOf}
+use Rattle.wasmkit.proofs.Names.{ids}
+use Rattle.wasmkit.proofs.Rows.{at_none}
 use Rattle.wasmkit.proofs.LineWalks.{given_rows, word_rows}
 
 abbrev pub find_in : Text → List Row → Option Row

@@ -1,17 +1,16 @@
 -- The line of words that pass.
-use Rattle.std.proofs.Common.{◌≡◌, ◌⊎◌, ◌∙◌, ℕ, zero, suc, ◌+◌, ◌≤◌, Bool, true, false, Option, Some, None, List, [], ◌∷◌, ◌++◌, length, min, refl, sym, subst, ap, inl, inr, arith, append_assoc, append-nil}
+use Rattle.std.proofs.Common.{◌≡◌, ◌⊎◌, ◌∙◌, ℕ, zero, suc, ◌+◌, ◌≤◌, true, false, Option, Some, None, List, [], ◌∷◌, ◌++◌, length, min, refl, sym, ap, inl, inr, arith, append_assoc, append-nil}
 use Rattle.std.specs.List.{flat_map, AllByRecursion}
 use Rattle.std.specs.Str.{IsUtf8}
-use Rattle.clap.specs.Lexer.{long_of, usize_max}
-use Rattle.clap.specs.Kinds.{Kinds, or_else}
-use Rattle.clap.specs.Walk.{Row, Rule, Text, arg_by_id, arg_by_long, has_row, settled_rows, walked}
+use Rattle.clap.specs.Lexer.{usize_max}
+use Rattle.clap.specs.Walk.{Row, Text, arg_by_id, arg_by_long}
 use Rattle.clap.specs.Simple.{Shape}
-use Rattle.clap.specs.Faults.{repeat_fault, settle_fault, turn_fault}
+use Rattle.clap.specs.Faults.{repeat_fault, settle_fault}
 use Rattle.wasmkit.specs.CommandLine.{Form, IsIn, NoneTwice, Piece, flag, joined, parted, operand, dashes, free_words, is_free, option_word, piece_words, rest_operands, rest_words, ArePiecesOf}
 use Rattle.wasmkit.proofs.Names.{ids, twice_push}
 use Rattle.wasmkit.proofs.Rows.{flag_row, text_row}
-use Rattle.wasmkit.proofs.WordSteps.{at, at_open, built_flag, built_help, built_setting, dashes_walk, extend, held_open, first_none, second_none, flag_turn, flag_walk, has_pending, help_turn, joined_turn, joined_walk, none_pending, open_settle, open_turn, open_walk, pending_fault, pending_values, repeat_none, setting_text, settled_is, stray_turn, unknown_turn, value_walk, valued_turn, word_text, word_turn, word_walk, IsPendingOf, IsPlain, Pending}
-use Rattle.wasmkit.proofs.Looks.{IsLong, IsOption, IsShort, Look, free_plain, long_option, look, spelled}
+use Rattle.wasmkit.proofs.WordSteps.{at, at_open, built_help, built_setting, dashes_walk, extend, held_open, first_none, second_none, flag_turn, flag_walk, has_pending, help_turn, joined_turn, joined_walk, none_pending, open_settle, open_turn, open_walk, repeat_none, setting_text, settled_is, stray_turn, unknown_turn, value_walk, valued_turn, word_text, word_turn, word_walk, IsPendingOf, Pending}
+use Rattle.wasmkit.proofs.Looks.{IsOption, Look, free_plain, long_option, look, spelled}
 use Rattle.wasmkit.proofs.Refusals.{open_fails, short_turn}
 use Rattle.wasmkit.proofs.Walks.{Answers, HasOperands, end_pending, open_dashes, rest_none, run_fault, turn_none, word_as}
 use Rattle.wasmkit.proofs.LineWalks.{given_rows, once_as, push_once, regroup, word_rows}

@@ -1,19 +1,17 @@
 -- A walk over the words of a line, and the line of words that pass.
-use Rattle.std.proofs.Common.{◌≡◌, ◌⊎◌, ◌∙◌, ℕ, zero, suc, ◌+◌, ◌≤◌, Bool, true, false, Option, Some, None, List, [], ◌∷◌, ◌++◌, length, min, refl, sym, subst, ap, inl, inr, arith, append_assoc, append-nil}
-use Rattle.std.specs.List.{flat_map, AllByRecursion}
-use Rattle.std.specs.Str.{IsUtf8}
+use Rattle.std.proofs.Common.{◌≡◌, ◌∙◌, ℕ, ◌+◌, ◌≤◌, true, false, Option, Some, None, List, [], ◌∷◌, ◌++◌, length, min, refl, sym, subst, inl, inr, arith, append_assoc, append-nil}
+use Rattle.std.specs.List.{flat_map}
 use Rattle.clap.specs.Lexer.{usize_max}
-use Rattle.clap.specs.Kinds.{Kinds, or_else}
+use Rattle.clap.specs.Kinds.{or_else}
 use Rattle.clap.specs.Walk.{Row, Rule, Text, has_row, settled_rows}
 use Rattle.clap.specs.Simple.{Shape}
-use Rattle.clap.specs.Faults.{repeat_fault, settle_fault, turn_fault}
-use Rattle.wasmkit.specs.CommandLine.{Form, IsIn, NoneTwice, Piece, flag, joined, parted, operand, dashes, free_words, is_free, option_word, piece_words, rest_operands, rest_words, ArePiecesOf}
+use Rattle.clap.specs.Faults.{repeat_fault}
+use Rattle.wasmkit.specs.CommandLine.{Form, NoneTwice, Piece, flag, joined, parted, operand, dashes, free_words, option_word, piece_words, rest_operands, rest_words, ArePiecesOf}
 use Rattle.wasmkit.proofs.Names.{ids, twice_not_has, twice_push}
 use Rattle.wasmkit.proofs.Rows.{flag_row, text_row}
-use Rattle.wasmkit.proofs.WordSteps.{at, at_open, built_setting, dashes_turn, dashes_walk, extend, first_none, second_none, flag_turn, flag_walk, has_pending, help_turn, joined_turn, joined_walk, none_pending, open_settle, open_turn, open_walk, pending_fault, pending_none, pending_values, repeat_none, setting_text, settled_is, stray_turn, unknown_turn, value_turn, value_walk, valued_turn, word_text, word_turn, word_walk, IsPendingOf, IsPlain, Pending}
-use Rattle.wasmkit.proofs.Looks.{IsLong, IsOption, IsShort, free_plain, long_option, look, spelled}
-use Rattle.wasmkit.proofs.Refusals.{open_fails, short_turn}
-use Rattle.wasmkit.proofs.Walks.{Answers, HasOperands, Reaches, end_of, end_pending, reach, reach_end, run_fault}
+use Rattle.wasmkit.proofs.WordSteps.{at, at_open, dashes_turn, dashes_walk, extend, flag_turn, flag_walk, has_pending, joined_turn, joined_walk, open_turn, open_walk, pending_fault, pending_none, pending_values, setting_text, settled_is, value_turn, value_walk, word_text, word_turn, word_walk, IsPendingOf, Pending}
+use Rattle.wasmkit.proofs.Looks.{free_plain}
+use Rattle.wasmkit.proofs.Walks.{Answers, HasOperands, Reaches, reach, reach_end}
 
 -- ---- the rows of a line
 

@@ -1,6 +1,6 @@
 -- What is found in the rows of a line.
-use Rattle.std.proofs.Common.{◌≡◌, ◌⊎◌, ◌∙◌, ◌||◌, ℕ, Bool, true, false, Option, Some, None, List, [], ◌∷◌, ◌++◌, refl, sym, subst, ap, inl, inr, codes}
-use Rattle.std.specs.Prelude.{find, if◌then◌else◌, option_map}
+use Rattle.std.proofs.Common.{◌≡◌, ◌⊎◌, ◌∙◌, Bool, true, false, Option, Some, None, List, [], ◌∷◌, ◌++◌, refl, sym, subst, ap, inl, inr}
+use Rattle.std.specs.Prelude.{if◌then◌else◌, option_map}
 use Rattle.std.specs.List.{list_any}
 use Rattle.std.specs.Str.{bytes_eq}
 use Rattle.std.proofs.lemmas.Slice.Eq.{bytes_eq-Decides}
@@ -8,7 +8,7 @@ use Rattle.clap.specs.Walk.{Row, Text}
 use Rattle.wasmkit.specs.CommandLine.{Form, IsIn, Piece, flag, joined, parted, operand, free_words, options_of, value_in, ArePiecesOf}
 use Rattle.wasmkit.proofs.Rows.{flag_row, text_row}
 use Rattle.wasmkit.proofs.LineWalks.{given_rows, word_rows}
-use Rattle.wasmkit.proofs.LineEnds.{find_in, of_command}
+use Rattle.wasmkit.proofs.LineEnds.{find_in}
 
 differs : (x y : Text) → (x ≡ y → ⊥) → bytes_eq x y ≡ false
 differs x y h = go (bytes_eq x y) refl

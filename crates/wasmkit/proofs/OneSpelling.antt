@@ -1,11 +1,11 @@
 -- Words spell one command at most.
-use Rattle.std.proofs.Common.{◌≡◌, ◌≢◌, ◌∙◌, ◌==◌, ℕ, Bool, false, arith, Option, Some, None, List, [], ◌∷◌, refl, sym, subst, ap, inl, inr, codes}
+use Rattle.std.proofs.Common.{◌≡◌, ◌≢◌, ◌∙◌, ◌==◌, ℕ, false, arith, Option, Some, None, List, ◌∷◌, refl, sym, subst, ap, inl, inr, codes}
 use Rattle.std.proofs.lemmas.Bool.Decides.{nat_tests}
-use Rattle.clap.specs.Walk.{Row, Text, first_of, one_of}
+use Rattle.clap.specs.Walk.{Text, first_of, one_of}
 use Rattle.wk_edit.proofs.WordLaws.{name_said}
 use Rattle.wasmkit.specs.declared.command.Asked.{Asked}
 use Rattle.wasmkit.specs.declared.command.Asked.TheVariants as asks
-use Rattle.wasmkit.specs.CommandLine.{Form, IsIn, IsSame, IsSpelled, KeepsName, Line, Spells, SpellsOnly, edit, is_given, objdump, operands_of, parts_of, profile_of, sections, strip, validate, value_of}
+use Rattle.wasmkit.specs.CommandLine.{Form, IsIn, IsSame, IsSpelled, KeepsName, Line, Spells, SpellsOnly, edit, is_given, objdump, operands_of, profile_of, sections, strip, validate, value_of}
 use Rattle.wasmkit.proofs.LineWalks.{word_rows}
 use Rattle.wasmkit.proofs.Spelling.{Known, both_same, edit_known, final_rows, objdump_known, operand_said, sections_known, some_same, spelled_passes, strip_known, the_flag, the_setting, validate_known}
 

@@ -1,5 +1,5 @@
 -- What the answers for reading the words share.
-use Rattle.std.proofs.Common.{◌≡◌, ◌⊎◌, ◌∙◌, ℕ, true, Option, Some, None, List, [], ◌∷◌, map, Result, Ok, Err, refl, sym, subst, ap, inl, inr, string_bytes}
+use Rattle.std.proofs.Common.{◌≡◌, ◌∙◌, true, List, [], ◌∷◌, map, Result, Ok, Err, sym, subst, ap, inl, inr, string_bytes}
 use Rattle.std.specs.Prelude.{IfErr, IfOk, IsErrAnd}
 use Rattle.std.specs.List.{AllByRecursion}
 use Rattle.std.specs.Str.{IsUtf8}

@@ -1,14 +1,13 @@
 -- Words at which a walk fails.
-use Rattle.std.proofs.Common.{suc, ◌≡◌, ◌⊎◌, ◌∙◌, ◌==◌, ℕ, ◌+◌, Bool, true, false, Option, Some, None, List, [], ◌∷◌, ◌++◌, length, refl, sym, subst, ap, inl, inr}
-use Rattle.std.specs.Prelude.{drop, encode_utf8, if◌then◌else◌, is_some, slice_get}
+use Rattle.std.proofs.Common.{suc, ◌≡◌, ◌⊎◌, ℕ, Bool, true, false, Option, Some, None, List, [], ◌∷◌, length, refl, inl, inr}
+use Rattle.std.specs.Prelude.{slice_get}
 use Rattle.std.specs.Str.{bytes_eq, chars, IsUtf8}
 use Rattle.clap.specs.Lexer.{long_of, short_of}
-use Rattle.clap.specs.Kinds.{Kinds, or_else}
-use Rattle.clap.specs.Walk.{Held, Row, Rule, Text, Waiting, Walk, idle, option, arg_by_long, arg_by_short, reacted, settled, takes_values}
+use Rattle.clap.specs.Walk.{Held, Row, Rule, Text, idle, option, arg_by_long, arg_by_short, settled, takes_values}
 use Rattle.clap.specs.Simple.{Shape}
-use Rattle.clap.specs.Faults.{bundle_fault, bundle_step_fault, flag_word_fault, flags_fault, long_fault, option_fault, settle_fault, short_fault, turn_fault, use_fault, word_fault}
+use Rattle.clap.specs.Faults.{flag_word_fault, flags_fault, long_fault, settle_fault, turn_fault, use_fault, word_fault}
 use Rattle.clap.specs.declared.error.kind.ErrorKind.TheVariants as kind
-use Rattle.wasmkit.specs.CommandLine.{dashes, option_word}
+use Rattle.wasmkit.specs.CommandLine.{dashes}
 use Rattle.wasmkit.proofs.WordSteps.{at, at_open, held_open, built_help, first_none, second_none, Pending, held}
 use Rattle.wasmkit.proofs.Looks.{IsShort, IsOption, short_char}
 

@@ -1,5 +1,5 @@
 -- What is read of the words is the command that they spell.
-use Rattle.std.proofs.Common.{◌≡◌, ◌≢◌, ◌⊎◌, ◌∙◌, ◌+◌, ℕ, Bool, true, false, Option, Some, None, List, [], ◌∷◌, length, refl, sym, subst, ap, inl, inr, arith, codes}
+use Rattle.std.proofs.Common.{◌≡◌, ◌∙◌, Bool, true, false, Option, Some, None, List, [], ◌∷◌, length, refl, sym, subst, ap, inl, inr, arith, codes}
 use Rattle.std.specs.List.{fold, AllByRecursion}
 use Rattle.std.specs.Str.{IsUtf8}
 use Rattle.wk_body.specs.declared.types.Profile.{Profile}
@@ -12,8 +12,8 @@ use Rattle.wasmkit.specs.declared.command.EditCommand.{EditCommand}
 use Rattle.wasmkit.specs.declared.command.ObjdumpCommand.{ObjdumpCommand}
 use Rattle.wasmkit.specs.declared.command.StripCommand.{StripCommand}
 use Rattle.wasmkit.specs.declared.command.ValidateCommand.{ValidateCommand}
-use Rattle.wasmkit.specs.CommandLine.{Form, IsIn, IsLineOf, IsSpelled, KeepsName, Line, SpellsEdit, SpellsNone, SpellsObjdump, SpellsSections, SpellsStrip, SpellsValidate, Spells, edit, is_given, line_words, objdump, operands_of, parts_of, profile_of, sections, strip, validate, value_of}
-use Rattle.wasmkit.specs.Syntax.{AreParts, IsFlag, IsProfile, Reads, ReadsEdit, ReadsObjdump, ReadsStrip, ReadsValidate, flag_text, wasmkit_app}
+use Rattle.wasmkit.specs.CommandLine.{Form, IsIn, IsLineOf, IsSpelled, KeepsName, Line, SpellsEdit, SpellsNone, SpellsObjdump, SpellsSections, SpellsStrip, SpellsValidate, Spells, edit, is_given, line_words, objdump, operands_of, profile_of, sections, strip, validate, value_of}
+use Rattle.wasmkit.specs.Syntax.{IsFlag, IsProfile, Reads, ReadsEdit, ReadsObjdump, ReadsStrip, ReadsValidate, flag_text, wasmkit_app}
 use Rattle.wasmkit.proofs.Walks.{Answers}
 use Rattle.wasmkit.proofs.LineWalks.{word_rows}
 use Rattle.wasmkit.proofs.Levels.{flag_read, line_found, line_passes, operand_read, rows_of_line, setting_read, Asks}

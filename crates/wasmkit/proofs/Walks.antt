@@ -1,16 +1,15 @@
 -- A walk over all the words of a command, and what its end asks.
-use Rattle.std.proofs.Common.{◌≡◌, ◌⊎◌, ◌∙◌, ℕ, zero, suc, ◌+◌, ◌≤◌, Bool, true, false, Option, Some, None, List, [], ◌∷◌, ◌++◌, length, min, refl, sym, subst, ap, inl, inr, arith}
+use Rattle.std.proofs.Common.{◌≡◌, ◌⊎◌, ◌∙◌, ℕ, ◌+◌, Bool, true, false, Some, None, List, [], ◌∷◌, ◌++◌, min, refl, sym, subst, ap}
 use Rattle.std.specs.List.{fold}
-use Rattle.std.specs.Str.{bytes_eq, IsUtf8}
+use Rattle.std.specs.Str.{bytes_eq}
 use Rattle.clap.specs.Lexer.{long_of, usize_max}
 use Rattle.clap.specs.Kinds.{Kinds, or_else}
-use Rattle.clap.specs.Walk.{Held, Row, Rule, Text, Waiting, Walk, idle, option, arg_by_id, arg_by_index, arg_by_long, finished, is_pending, nothing_held, settled, settled_rows, walk, walk_from, walked, with_default}
+use Rattle.clap.specs.Walk.{Held, Row, Rule, Text, Waiting, Walk, option, arg_by_id, arg_by_index, arg_by_long, is_pending, nothing_held, settled, walked, with_default}
 use Rattle.clap.specs.Simple.{Shape}
 use Rattle.clap.specs.Faults.{check_fault, defaults_fault, level_fault, settle_fault, turn_fault, walk_fault}
 use Rattle.clap.specs.declared.error.kind.ErrorKind.TheVariants as kind
 use Rattle.wasmkit.specs.CommandLine.{Form, IsIn, dashes, option_word}
-use Rattle.wasmkit.proofs.Rows.{text_row}
-use Rattle.wasmkit.proofs.WordSteps.{at, at_open, held_open, built_flag, built_help, built_setting, built_word, extend, first_none, second_none, has_pending, held, none_pending, pending_none, pending_values, settle_is, settled_is, word_text, word_turn, word_walk, stray_turn, unless_false, IsPendingOf, Pending}
+use Rattle.wasmkit.proofs.WordSteps.{at, at_open, held_open, built_flag, built_help, built_setting, built_word, extend, first_none, second_none, has_pending, held, none_pending, pending_none, settle_is, settled_is, unless_false, IsPendingOf, Pending}
 use Rattle.wasmkit.proofs.Refusals.{HasNoShort}
 
 -- ---- what a command's arguments answer

@@ -1,17 +1,16 @@
 -- One word of a walk over the words of a command.
-use Rattle.std.proofs.Common.{◌≡◌, ◌⊎◌, ◌∙◌, ◌==◌, ◌&&◌, ◌||◌, ℕ, ◌+◌, Bool, true, false, Option, Some, None, List, [], ◌∷◌, ◌++◌, length, map, min, refl, sym, subst, ap, inl, inr, codes}
-use Rattle.std.specs.Prelude.{find, if◌then◌else◌, option_map, nat_lt}
-use Rattle.std.specs.Option.{option_map_or}
+use Rattle.std.proofs.Common.{◌≡◌, ◌⊎◌, ◌∙◌, ◌&&◌, ◌||◌, ℕ, ◌+◌, Bool, true, false, Option, Some, None, List, [], ◌∷◌, ◌++◌, min, refl, ap, inl, inr, codes}
+use Rattle.std.specs.Prelude.{if◌then◌else◌}
 use Rattle.std.specs.Str.{bytes_eq}
 use Rattle.clap.specs.Lexer.{long_of, short_of, usize_max}
 use Rattle.clap.specs.Kinds.{Kinds, or_else}
-use Rattle.clap.specs.Walk.{Held, Row, Rule, Text, Waiting, Walk, idle, option, arg_by_id, arg_by_index, arg_by_long, arg_by_short, has_row, is_pending, settled, settled_rows, used, value, walked, word_met, with_values, without}
+use Rattle.clap.specs.Walk.{Held, Row, Rule, Text, Walk, idle, option, arg_by_id, arg_by_index, arg_by_long, has_row, is_pending, settled_rows, used, value, walked, word_met, with_values, without}
 use Rattle.clap.specs.Simple.{Shape, filled, help_rule, with_index}
 use Rattle.clap.specs.Faults.{repeat_fault, settle_fault, turn_fault, use_fault, word_fault}
 use Rattle.clap.specs.declared.builder.value_parser.Reading.TheVariants as reading
 use Rattle.clap.specs.declared.parser.matches.ValueSource.TheVariants.{CommandLine}
 use Rattle.clap.specs.declared.error.kind.ErrorKind.TheVariants as kind
-use Rattle.wasmkit.specs.CommandLine.{Form, IsIn, dashes, is_free, option_word}
+use Rattle.wasmkit.specs.CommandLine.{dashes}
 use Rattle.wasmkit.specs.Syntax.{flag_rule, setting_rule, word_rule}
 use Rattle.wasmkit.proofs.Names.{same_text}
 use Rattle.wasmkit.proofs.Rows.{flag_row, text_row, with_used}

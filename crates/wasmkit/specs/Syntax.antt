@@ -1,5 +1,5 @@
 -- What the parser of the command line is told of the commands, and what is read of the matches that it finds.
-use Rattle.std.specs.Prelude.{◌≡◌, ◌≢◌, false, true, Bool, ℕ, List, [], ◌∷◌, ◌++◌, map, codes, Option, Some, if◌then◌else◌}
+use Rattle.std.specs.Prelude.{◌≡◌, ◌≢◌, false, true, Bool, List, [], ◌++◌, map, codes, Option, Some, if◌then◌else◌}
 use Rattle.clap.specs.Walk.{Row, Rule, Text, first_of, one_of}
 use Rattle.clap.specs.Simple.{App, Shape, app_of, new_rule, new_shape, with_subcommand}
 use Rattle.clap.specs.declared.builder.action.ArgAction.TheVariants.{Set, SetTrue}
