@@ -1,6 +1,6 @@
 -- What an edit makes by its definition, which reads its bytes, is what these spell.
 use Rattle.std.proofs.Common.{◌≡◌, ◌≤◌, ℕ, nat_le, Bool, true, false, inl, inr, Option, Some, None, List, [], ◌∷◌, ◌++◌, length, Result, Ok, Err}
-use Rattle.std.proofs.Common.{refl, sym, subst, arith}
+use Rattle.std.proofs.Common.{refl, subst, arith}
 use Rattle.std.specs.List.{AllByRecursion, list_any}
 use Rattle.wk_bytes.specs.declared.fault.ReadFault.{ReadFault}
 use Rattle.wk_bytes.specs.Fault.{long_input}
@@ -21,7 +21,7 @@ use Rattle.wk_session.specs.declared.edit.Edit.TheVariants as edits
 use Rattle.wk_session.specs.declared.edit.EditFault.{EditFault}
 use Rattle.wk_session.specs.declared.edit.Work.{Work}
 use Rattle.wk_session.specs.Edits.{fitting, from_bytes, import_place, entry_of, body_put, with_exports, is_named, without_customs, with_custom}
-use Rattle.wk_session.specs.Edits.{without_all_customs, edited, made}
+use Rattle.wk_session.specs.Edits.{edited, made}
 use Rattle.wk_session.specs.MadeLaws.{Gives, then_lasting, fitting_gives, import_gives, customs_gives}
 use Rattle.wk_session.specs.Making.{SpellsOnly, Makes, IsMade, AreMade, HasBytes}
 use Rattle.wk_session.specs.Runs.{left_by, reply_to, reply_of, after_one, replies_of, after}
