@@ -95,7 +95,8 @@ start_wrong end bytes e h =
 -- ---- items
 
 -- some items are spelled, and then none is
-record StopsShort {A : Type 0} (Spells : List ℕ → A → Type 0) (IsKind : ReadKind → Type 0) (n end : ℕ) (bytes : List ℕ) (e : ReadFault) : Type 0 where
+record StopsShort {A : Type 0} (Spells : List ℕ → A → Type 0) (read : Reader A) (IsKind : ReadKind → Type 0) (n end : ℕ) (bytes : List ℕ) (e : ReadFault) :
+    Type 0 where
   items : List ℕ
   rest : List ℕ
   before : List A
@@ -105,9 +106,10 @@ record StopsShort {A : Type 0} (Spells : List ℕ → A → Type 0) (IsKind : Re
   none : BeginsNone Spells rest
   kind : IsKind e.kind
   within : Stands (record { rest = rest; end = end }) e
+  met : read end rest ≡ Err e
 
-item_later : {A : Type 0} {Spells : List ℕ → A → Type 0} {IsKind : ReadKind → Type 0} (n end : ℕ) (bytes front : List ℕ) (x : A) (later : List ℕ) (e : ReadFault) → Spells front x → bytes ≡ front ++ later
-    → StopsShort Spells IsKind n end later e → StopsShort Spells IsKind (suc n) end bytes e
+item_later : {A : Type 0} {Spells : List ℕ → A → Type 0} {read : Reader A} {IsKind : ReadKind → Type 0} (n end : ℕ) (bytes front : List ℕ) (x : A) (later : List ℕ) (e : ReadFault) → Spells front x → bytes ≡ front ++ later
+    → StopsShort Spells read IsKind n end later e → StopsShort Spells read IsKind (suc n) end bytes e
 item_later n end bytes front x later e spelled parts stop = record {
   items = front ++ stop.items;
   rest = stop.rest;
@@ -118,6 +120,7 @@ item_later n end bytes front x later e spelled parts stop = record {
   none = stop.none;
   kind = stop.kind;
   within = stop.within;
+  met = stop.met;
 }
 
 -- an item, and the others
@@ -126,7 +129,7 @@ then_items read n end x = items_at read n end x.1 >>= λ ys. Ok (x.0 ∷ ys.0, y
 
 module _ {A : Type 0} {Valid : A → Type 0} {Spells : List ℕ → A → Type 0} {IsKind : ReadKind → Type 0} {read : Reader A} {written : A → List ℕ} where
   item_wrong : IsFormat Valid Spells read written → HasKinds IsKind read → (n end : ℕ) (bytes : List ℕ) (e : ReadFault) → length bytes ≤ end → read end bytes ≡ Err e
-      → StopsShort Spells IsKind (suc n) end bytes e
+      → StopsShort Spells read IsKind (suc n) end bytes e
   item_wrong of has n end bytes e long h = record {
     items = [];
     rest = bytes;
@@ -137,12 +140,13 @@ module _ {A : Type 0} {Valid : A → Type 0} {Spells : List ℕ → A → Type 0
     none = λ x front later spelled parts. none_spelled Spells read of.again (record { rest = bytes; end = end }) e h front later x spelled parts;
     kind = fails_as IsKind (read end bytes) e (has end bytes) h;
     within = of.fronts.faults end bytes e h long;
+    met = h;
   }
 
   items_by : IsFormat Valid Spells read written → HasKinds IsKind read → (n end : ℕ) (bytes : List ℕ) (e : ReadFault) (r : Result (A × List ℕ) ReadFault) → IsBytes bytes
       → length bytes ≤ end → read end bytes ≡ r
-      → ((later : List ℕ) → IsBytes later → length later ≤ end → items_at read n end later ≡ Err e → StopsShort Spells IsKind n end later e)
-      → (r >>= then_items read n end) ≡ Err e → StopsShort Spells IsKind (suc n) end bytes e
+      → ((later : List ℕ) → IsBytes later → length later ≤ end → items_at read n end later ≡ Err e → StopsShort Spells read IsKind n end later e)
+      → (r >>= then_items read n end) ≡ Err e → StopsShort Spells read IsKind (suc n) end bytes e
   items_by of has n end bytes e (Err d) fits long is more h = item_wrong of has n end bytes e long (is ∙ cc)
   items_by of has n end bytes e (Ok x) fits long is more h =
       let first = of.found end bytes x.0 x.1 fits is in
@@ -151,14 +155,14 @@ module _ {A : Type 0} {Valid : A → Type 0} {Spells : List ℕ → A → Type 0
       (more x.1 (IsBytes-after first.0 x.1 bytes first.2 fits) (omega (arith, long, ap length first.2, length-append first.0 x.1)) failed)
 
   items_wrong : IsFormat Valid Spells read written → HasKinds IsKind read → (n end : ℕ) (bytes : List ℕ) (e : ReadFault) → IsBytes bytes → length bytes ≤ end
-      → items_at read n end bytes ≡ Err e → StopsShort Spells IsKind n end bytes e
+      → items_at read n end bytes ≡ Err e → StopsShort Spells read IsKind n end bytes e
   items_wrong of has zero end bytes e fits long h = absurd cc
   items_wrong of has (suc n) end bytes e fits long h =
       items_by of has n end bytes e (read end bytes) fits long refl (λ later fits' long' h'. items_wrong of has n end later e fits' long' h') h
 
   -- after their count
   pub counted_wrong : IsFormat Valid Spells read written → HasKinds IsKind read → (n end : ℕ) (bytes count after : List ℕ) (e : ReadFault) → IsBytes bytes → length bytes ≤ end
-      → SpellsU 32 count n → bytes ≡ count ++ after → items_at read n end after ≡ Err e → IsItemFault Spells IsKind n (record { rest = bytes; end = end }) e
+      → SpellsU 32 count n → bytes ≡ count ++ after → items_at read n end after ≡ Err e → IsItemFault Spells read IsKind n (record { rest = bytes; end = end }) e
   counted_wrong of has n end bytes count after e fits long counts parts h =
       let long' : length after ≤ end = omega (arith, long, ap length parts, length-append count after) in
       let stop = items_wrong of has n end after e (IsBytes-after count after bytes parts fits) long' h in
@@ -174,17 +178,18 @@ module _ {A : Type 0} {Valid : A → Type 0} {Spells : List ℕ → A → Type 0
         none = stop.none;
         kind = stop.kind;
         within = stop.within;
+        met = stop.met;
       }
 
   vector_by : IsFormat Valid Spells read written → HasKinds IsKind read → (end : ℕ) (bytes : List ℕ) (e : ReadFault) (r : Result (ℕ × List ℕ) ReadFault) → IsBytes bytes
-      → length bytes ≤ end → u32_at end bytes ≡ r → (r >>= λ n. items_at read n.0 end n.1) ≡ Err e → IsVectorFault Spells IsKind (record { rest = bytes; end = end }) e
+      → length bytes ≤ end → u32_at end bytes ≡ r → (r >>= λ n. items_at read n.0 end n.1) ≡ Err e → IsVectorFault Spells read IsKind (record { rest = bytes; end = end }) e
   vector_by of has end bytes e (Err d) fits long is h = inl (u32_wrong end bytes e (is ∙ cc))
   vector_by of has end bytes e (Ok n) fits long is h =
       let count = u32_at-found end bytes n.0 n.1 fits is in
       inr (n.0, counted_wrong of has n.0 end bytes count.0 n.1 e fits long count.1 count.2 h)
 
   pub vector_wrong : IsFormat Valid Spells read written → HasKinds IsKind read → (end : ℕ) (bytes : List ℕ) (e : ReadFault) → IsBytes bytes → length bytes ≤ end
-      → vector_at read end bytes ≡ Err e → IsVectorFault Spells IsKind (record { rest = bytes; end = end }) e
+      → vector_at read end bytes ≡ Err e → IsVectorFault Spells read IsKind (record { rest = bytes; end = end }) e
   unfolding vector_at
   vector_wrong of has end bytes e fits long h = vector_by of has end bytes e (u32_at end bytes) fits long refl h
 
@@ -205,7 +210,7 @@ module _ {profile : Profile} {Valid : BodyOf → Type 0} {written : BodyOf → L
       elim (chosen (eqb n.0 funcs) (items_at (code_at profile) n.0 end n.1) (Err (fault FuncCodeCount end bytes)) (Err e) h) [
         | inl p ↦
             let fault = counted_wrong of has n.0 end bytes count.0 n.1 e fits long count.1 count.2 p.1 in
-            inr (inr (subst (λ (m : ℕ). IsItemFault (SpellsCode profile) IsBodyKind m (record { rest = bytes; end = end }) e) (eqb-true n.0 funcs p.0) fault))
+            inr (inr (subst (λ (m : ℕ). IsItemFault (SpellsCode profile) (code_at profile) IsBodyKind m (record { rest = bytes; end = end }) e) (eqb-true n.0 funcs p.0) fault))
         | inr p ↦
             let there = given FuncCodeCount (end - length bytes) e (err_is {A = List BodyOf × List ℕ} _ _ p.1) in
             inr (inl (record {

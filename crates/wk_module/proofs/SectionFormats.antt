@@ -59,11 +59,13 @@ module _ {A : Type 0} (Spells : List ℕ → A → Type 0) where
 
 -- ---- sections that are vectors
 
-vector_contents : {A : Type 0} {Valid : List A → Type 0} {Spells : List ℕ → A → Type 0} {read : Reader (List A)} {written : List A → List ℕ} {IsKind : ReadKind → Type 0} (id : ℕ)
+vector_contents : {A : Type 0} {Valid : List A → Type 0} {Spells : List ℕ → A → Type 0} {item_at : Reader A} {read : Reader (List A)}
+    {written : List A → List ℕ} {IsKind : ReadKind → Type 0} (id : ℕ)
     → id ≢ 8 → IsFormat Valid (SpellsVector Spells) read written
     → ((end : ℕ) (bytes : List ℕ) (e : ReadFault) → IsBytes bytes → length bytes ≤ end → read end bytes ≡ Err e
-    → IsVectorFault Spells IsKind (record { rest = bytes; end = end }) e)
-    → IsContents id (λ funcs xs. Unit {0}) (λ funcs. IsVectorFault Spells IsKind) (λ xs. not (is_empty xs)) Valid (SpellsVector Spells) (λ funcs. read) written
+    → IsVectorFault Spells item_at IsKind (record { rest = bytes; end = end }) e)
+    → IsContents id (λ funcs xs. Unit {0}) (λ funcs. IsVectorFault Spells item_at IsKind) (λ xs. not (is_empty xs)) Valid (SpellsVector Spells)
+    (λ funcs. read) written
 vector_contents {Spells = Spells} id other of breaks = record {
   found = λ funcs. of.found;
   again = λ funcs end b xs rest counts s. of.again end b xs rest s;
@@ -94,7 +96,7 @@ items_format of =
 
 list_contents : {A : Type 0} {Valid : A → Type 0} {Spells : List ℕ → A → Type 0} {read : Reader A} {written : A → List ℕ} {IsKind : ReadKind → Type 0} (id : ℕ)
     → id ≢ 8 → IsFormat Valid Spells read written → HasKinds IsKind read
-    → IsContents id (λ funcs xs. Unit {0}) (λ funcs. IsVectorFault Spells IsKind) (λ xs. not (is_empty xs)) (AreItems Valid) (SpellsVector Spells)
+    → IsContents id (λ funcs xs. Unit {0}) (λ funcs. IsVectorFault Spells read IsKind) (λ xs. not (is_empty xs)) (AreItems Valid) (SpellsVector Spells)
     (λ funcs. vector_at read) (written_vector written)
 list_contents id other of has = vector_contents id other (items_format of) (vector_wrong of has)
 

@@ -1,19 +1,21 @@
 -- How the contents of a section break off (5.1.3, 5.5.3 to 5.5.14): what of them is spelled, and what comes then.
-use Rattle.std.specs.Prelude.{◌≡◌, ◌≢◌, ◌⊎◌, ℕ, ◌-◌, ◌<◌, List, ◌++◌, length}
+use Rattle.std.specs.Prelude.{◌≡◌, ◌≢◌, ◌⊎◌, ℕ, ◌-◌, ◌<◌, List, ◌++◌, length, Err}
 use Rattle.std.specs.Str.{IsUtf8}
 use Rattle.wk_bytes.specs.declared.fault.ReadKind.{ReadKind}
 use Rattle.wk_bytes.specs.declared.fault.ReadKind.TheVariants.{UnexpectedEnd, IntTooLong, IntTooLarge, BadUtf8, BadByte, UnknownOpcode, TooManyLocals}
 use Rattle.wk_bytes.specs.declared.fault.ReadKind.TheVariants.{FuncCodeCount, BodySize, TooDeep}
 use Rattle.wk_bytes.specs.declared.fault.ReadFault.{ReadFault}
 use Rattle.wk_bytes.specs.Leb.{SpellsU, IsIntKind, lastU}
-use Rattle.wk_bytes.specs.Span.{Span, offset}
+use Rattle.wk_bytes.specs.Span.{Span, offset, u32_at}
 use Rattle.wk_bytes.specs.Stands.{Stands}
 use Rattle.wk_body.specs.declared.types.Profile.{Profile}
 use Rattle.wk_body.specs.Vectors.{SpellsItems}
-use Rattle.wk_module.specs.Items.{SpellsImport, SpellsGlobal, SpellsExport, SpellsElem, SpellsCode, SpellsData}
+use Rattle.wk_module.specs.Formats.{Reader}
+use Rattle.wk_module.specs.Items.{SpellsImport, import_at, SpellsGlobal, global_at, SpellsExport, export_at, SpellsElem, elem_at, SpellsCode, code_at}
+use Rattle.wk_module.specs.Items.{SpellsData, data_at}
 use Rattle.wk_module.specs.Sections.{SectionId, TypeSection, ImportSection, FunctionSection, TableSection, MemorySection, GlobalSection, ExportSection}
 use Rattle.wk_module.specs.Sections.{StartSection, ElementSection, CodeSection, DataSection}
-use Rattle.wk_module.specs.Types.{SpellsFuncType, SpellsLimits, SpellsTableType}
+use Rattle.wk_module.specs.Types.{SpellsFuncType, functype_at, SpellsLimits, limits_at, SpellsTableType, tabletype_at}
 
 -- the fault is of that kind, and at that offset
 abbrev pub IsAt : ReadFault → ReadKind → ℕ → Type 0
@@ -75,8 +77,10 @@ IsExprKind k = IsByteKind k ⊎ (k ≡ UnknownOpcode) ⊎ (k ≡ TooDeep)
 abbrev pub IsBodyKind : ReadKind → Type 0
 IsBodyKind k = IsExprKind k ⊎ (k ≡ TooManyLocals) ⊎ (k ≡ BodySize)
 
--- The number n is spelled, and then fewer than n items, and then no item. There the fault lies, and it is of a kind that an item may have.
-pub record IsItemFault {A : Type 0} (Spells : List ℕ → A → Type 0) (IsKind : ReadKind → Type 0) (n : ℕ) (s : Span) (e : ReadFault) : Type 0 where
+-- The number n is spelled, and then fewer than n items, and then no item. The fault lies there or later, and is of a kind that an item may
+-- have. Which it is, and where, is what reading that item from left to right meets first.
+pub record IsItemFault {A : Type 0} (Spells : List ℕ → A → Type 0) (item_at : Reader A) (IsKind : ReadKind → Type 0) (n : ℕ) (s : Span) (e : ReadFault) :
+    Type 0 where
   pub count : List ℕ
   pub items : List ℕ
   pub rest : List ℕ
@@ -88,9 +92,10 @@ pub record IsItemFault {A : Type 0} (Spells : List ℕ → A → Type 0) (IsKind
   pub none : BeginsNone Spells rest
   pub kind : IsKind e.kind
   pub within : Stands (record { rest = rest; end = s.end }) e
+  pub met : item_at s.end rest ≡ Err e
 
-abbrev pub IsVectorFault : {A : Type 0} → (List ℕ → A → Type 0) → (ReadKind → Type 0) → Span → ReadFault → Type 0
-IsVectorFault Spells IsKind s e = IsNumberFault s e ⊎ ((n : ℕ) × IsItemFault Spells IsKind n s e)
+abbrev pub IsVectorFault : {A : Type 0} → (List ℕ → A → Type 0) → Reader A → (ReadKind → Type 0) → Span → ReadFault → Type 0
+IsVectorFault Spells item_at IsKind s e = IsNumberFault s e ⊎ ((n : ℕ) × IsItemFault Spells item_at IsKind n s e)
 
 -- A number is spelled that is not how many functions are declared.
 pub record IsCodeCountFault (funcs : ℕ) (s : Span) (e : ReadFault) : Type 0 where
@@ -106,14 +111,15 @@ pub record IsCodeCountFault (funcs : ℕ) (s : Span) (e : ReadFault) : Type 0 wh
 
 -- No front of the bytes is what the section holds, where so many functions were declared before.
 abbrev pub BreaksIn : Profile → ℕ → SectionId → Span → ReadFault → Type 0
-BreaksIn profile funcs TypeSection = IsVectorFault SpellsFuncType IsByteKind
-BreaksIn profile funcs ImportSection = IsVectorFault SpellsImport IsNameKind
-BreaksIn profile funcs FunctionSection = IsVectorFault (SpellsU 32) IsIntegerKind
-BreaksIn profile funcs TableSection = IsVectorFault SpellsTableType IsByteKind
-BreaksIn profile funcs MemorySection = IsVectorFault SpellsLimits IsByteKind
-BreaksIn profile funcs GlobalSection = IsVectorFault (SpellsGlobal profile) IsExprKind
-BreaksIn profile funcs ExportSection = IsVectorFault SpellsExport IsNameKind
+BreaksIn profile funcs TypeSection = IsVectorFault SpellsFuncType functype_at IsByteKind
+BreaksIn profile funcs ImportSection = IsVectorFault SpellsImport import_at IsNameKind
+BreaksIn profile funcs FunctionSection = IsVectorFault (SpellsU 32) u32_at IsIntegerKind
+BreaksIn profile funcs TableSection = IsVectorFault SpellsTableType tabletype_at IsByteKind
+BreaksIn profile funcs MemorySection = IsVectorFault SpellsLimits limits_at IsByteKind
+BreaksIn profile funcs GlobalSection = IsVectorFault (SpellsGlobal profile) (global_at profile) IsExprKind
+BreaksIn profile funcs ExportSection = IsVectorFault SpellsExport export_at IsNameKind
 BreaksIn profile funcs StartSection = IsNumberFault
-BreaksIn profile funcs ElementSection = IsVectorFault (SpellsElem profile) IsExprKind
-BreaksIn profile funcs CodeSection = λ s e. IsNumberFault s e ⊎ IsCodeCountFault funcs s e ⊎ IsItemFault (SpellsCode profile) IsBodyKind funcs s e
-BreaksIn profile funcs DataSection = IsVectorFault (SpellsData profile) IsExprKind
+BreaksIn profile funcs ElementSection = IsVectorFault (SpellsElem profile) (elem_at profile) IsExprKind
+BreaksIn profile funcs CodeSection = λ s e. IsNumberFault s e ⊎ IsCodeCountFault funcs s e
+    ⊎ IsItemFault (SpellsCode profile) (code_at profile) IsBodyKind funcs s e
+BreaksIn profile funcs DataSection = IsVectorFault (SpellsData profile) (data_at profile) IsExprKind
