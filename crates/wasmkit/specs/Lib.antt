@@ -8,5 +8,5 @@ pub mod Events
 pub mod Faults
 -- How a command is run: what is loaded, saved and printed, in order, and how it ends.
 pub mod Runs
--- What the parser of the command line is told, and what is read of its matches.
+-- What the parser of the command line knows of the commands, and what is read of its matches.
 pub mod Syntax

@@ -1,5 +1,5 @@
 -- How a command is run: what the store is asked, in which order, what standard output gets, and how it ends.
-use Rattle.std.specs.Prelude.{◌≡◌, ◌≢◌, ◌⊎◌, ℕ, ◌+◌, true, Option, Some, None, List, [], ◌∷◌, Result, Ok, Err, IsErrAnd}
+use Rattle.std.specs.Prelude.{◌≡◌, ◌≢◌, ◌⊎◌, ℕ, ◌+◌, true, Option, Some, None, List, [], ◌∷◌, Result, Ok, Err, IsErrAnd, codes}
 use Rattle.std.specs.Io.KnownBytes.{Appends}
 use Rattle.wk_bytes.specs.declared.fault.ReadFault.{ReadFault}
 use Rattle.wk_bytes.specs.declared.fault.ReadKind.TheVariants as reads
@@ -129,7 +129,11 @@ IsAnswered words before after p r = IsUnread words before after p r ⊎ IsCarrie
 
 -- ---- the exit status
 
--- It is that of the answer, with nothing on standard error; or of the fault, or of want of memory for its text.
+-- the text, or a beginning of it where the output failed
+abbrev pub GetsOrFails : List ℕ → Printing → Type 0
+GetsOrFails text p = Gets text p ⊎ Fails text p
+
+-- It is that of the answer, with nothing on standard error; or of the fault; or 5, with that memory was wanted for the fault's text.
 abbrev pub Exits : Result ℕ ProgramFault → ℕ → Printing → Type 0
 Exits (Ok told) status err = (status ≡ told) × GetsNothing err
-Exits (Err fault) status err = (status ≡ fault_status fault) ⊎ (status ≡ 5)
+Exits (Err fault) status err = (status ≡ fault_status fault) ⊎ ((status ≡ 5) × GetsOrFails (codes "out of memory\n") err)

@@ -1,4 +1,4 @@
--- What the parser of the command line is told of the commands, and what is read of the matches that it finds.
+-- What the parser of the command line knows of the commands, and what is read of the matches that it finds.
 use Rattle.std.specs.Prelude.{◌≡◌, ◌≢◌, false, true, Bool, List, [], ◌++◌, map, codes, Option, Some, if◌then◌else◌}
 use Rattle.clap.specs.Walk.{Row, Rule, Text, first_of, one_of}
 use Rattle.clap.specs.Simple.{App, Shape, app_of, new_rule, new_shape, with_subcommand}
@@ -17,7 +17,7 @@ use Rattle.wasmkit.specs.declared.fault.ProgramFault.{ProgramFault}
 use Rattle.wasmkit.specs.declared.fault.ProgramFault.TheVariants.{BadWords, Memory}
 use Rattle.wasmkit.specs.CommandLine.{Form, KeepsName, edit, objdump, parts_of, profile_of, sections, strip, validate}
 
--- ---- what the parser is told
+-- ---- what the parser knows
 
 abbrev pub flag_rule : Text → Rule
 flag_rule name = record (new_rule name) { long = Some name; action = Some SetTrue }

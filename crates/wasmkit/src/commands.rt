@@ -2,7 +2,7 @@
 //!
 //! `specs/Answers` says what each command makes of the files that it reads, and `specs/Runs` in which order they are read, what is
 //! saved, what is printed, and how it ends.
-ghost use Rattle.std.specs.Prelude.{◌≡◌, ◌⊎◌, ℕ, ◌-◌, ◌<◌, ◌^◌, false, if◌then◌else◌, [], map, option_map, string_bytes, Result, Ok, Err, IfOk, MatchResult};
+ghost use Rattle.std.specs.Prelude.{◌≡◌, ◌⊎◌, ℕ, ◌-◌, ◌<◌, ◌^◌, codes, false, if◌then◌else◌, [], map, option_map, string_bytes, Result, Ok, Err, IfOk, MatchResult};
 ghost use Rattle.std.specs.List.{list_any};
 ghost use Rattle.wk_module.specs.Reading.{module_at};
 ghost use Rattle.wk_module.specs.Writing.{Fits};
@@ -14,7 +14,7 @@ ghost use Rattle.wasmkit.specs.declared.store.StoreFault.{StoreFault as Why};
 ghost use Rattle.wasmkit.specs.Answers.{listed, on_module, saved_of, AreOf};
 ghost use Rattle.wasmkit.specs.Events.{Loaded, Saved, then_asked};
 ghost use Rattle.wasmkit.specs.Faults.{fault_status, IsOfLoad, IsOfSave};
-ghost use Rattle.wasmkit.specs.Runs.{between, printing, Carries, Exits, Gives, Goes, IsAnswered, Prints, Refuses, Saves};
+ghost use Rattle.wasmkit.specs.Runs.{between, printing, Carries, Exits, Gives, GetsOrFails, Goes, IsAnswered, Prints, Refuses, Saves};
 
 use crate::command::{
     Asked, EditCommand, ObjdumpCommand, StripCommand, ValidateCommand, read_words,
@@ -385,7 +385,8 @@ fn answer<'a, S: Store, X: Out>(
 /// Says on standard error why there is no answer, and gives the status. Where standard error fails, nothing changes.
 pub fn tell<Y: Out>(alloc: Global, fault: &ProgramFault<'_>, err: &mut Y) -> u8
     requires { Y.failed err.old < 2 ^ 64 - 1 }
-    ensures { (result ≡ fault_status fault.now) ⊎ (result ≡ 5) }
+    ensures { (result ≡ fault_status fault.now) ⊎ ((result ≡ 5)
+        × GetsOrFails (codes "out of memory\n") (between Y.taken Y.failed err.old err.new)) }
 {
     match fault.to_string(alloc) {
         Ok(text) => {
@@ -393,8 +394,10 @@ pub fn tell<Y: Out>(alloc: Global, fault: &ProgramFault<'_>, err: &mut Y) -> u8
             fault.status()
         }
         Err(_) => {
-            let _ = put_all(err, b"out of memory\n");
-            5
+            // By a match, since the proof asks what the output took in either case.
+            match put_all(err, b"out of memory\n") {
+                Ok(()) | Err(_) => 5,
+            }
         }
     }
 }

@@ -1,4 +1,4 @@
--- Constant expressions (3.3.7.2) by the standard's declarative rules.
+-- Constant expressions (3.3.7.2) by declarative rules, which are the standard's for 1.0.
 use Rattle.std.specs.Prelude.{◌≡◌, false, [], ◌∷◌}
 use Rattle.wk_body.specs.declared.types.ValType.{ValType}
 use Rattle.wk_body.specs.declared.references.Ref.{Ref}

@@ -1,4 +1,4 @@
--- What a valid module is (3.4.10), its bodies, its initialisers and its offsets by the standard's declarative rules.
+-- What a valid module is (3.4.10), its bodies, its initialisers and its offsets by declarative rules, which are the standard's for 1.0.
 use Rattle.std.specs.Prelude.{◌<◌, length, Result, Ok, Err}
 use Rattle.std.specs.List.{AllByRecursion}
 use Rattle.wk_bytes.specs.declared.fault.ReadFault.{ReadFault}

@@ -54,7 +54,7 @@ pub record HasLastLine (text line : List ℕ) : Type 0 where
 -- The script spells edits, and no others. They are made in order on the module that the input spells: an accepted one puts into it what its bytes
 -- spell, and they spell nothing else; a refused one leaves it as it was, and where that is for its bytes they spell nothing. Where each edit has
 -- to leave a valid module, a valid one stays valid. What is written spells the module that they make, and no other of its profile. The
--- report has a line for each edit, and last the verdict on that module, which is `valid` exactly where the module is (chapter 3).
+-- report has a line for each edit, and last the verdict on that module, which is `valid` exactly where the module is.
 pub record IsRun (keep : Bool) (m : Parts) (script : List ℕ) (o : Outcome) : Type 0 where
   pub edits : List Edit
   pub spelled : IsScript script edits
