@@ -87,6 +87,9 @@ class Code:
     def __init__(self, cursor, is_extended):
         self.cursor, self.is_extended = cursor, is_extended
 
+    def begin_token(self, at, opcode):
+        """Does nothing. It is called with the offset of each token and its first byte."""
+
     def block_type(self):
         at = self.cursor.at
         if self.cursor.byte() in b"\x40" + VALUE_TYPES:
@@ -102,6 +105,7 @@ class Code:
         cursor, opened = self.cursor, []
         while True:
             at, opcode = cursor.at, cursor.byte()
+            self.begin_token(at, opcode)
             if opcode == 0x0B:
                 if not opened:
                     return
@@ -163,7 +167,12 @@ class Contents:
     """The contents of one section."""
 
     def __init__(self, cursor, is_extended):
-        self.cursor, self.code = cursor, Code(cursor, is_extended)
+        self.cursor, self.is_extended = cursor, is_extended
+        self.code = self.code_at(cursor, is_extended)
+
+    def code_at(self, cursor, is_extended):
+        """What reads code from there."""
+        return Code(cursor, is_extended)
 
     def limits(self):
         if self.cursor.one_of(b"\0\1") == 1:
@@ -209,26 +218,32 @@ class Contents:
 
     def coded(self):
         inside = self.cursor.take(self.cursor.u32())
-        Code(inside, self.code.is_extended).body()
+        self.code_at(inside, self.is_extended).body()
         if inside.at < inside.end:
             raise Fault(14, "BodySize", inside.at)
 
-    def section(self, number):
-        """The section of an id but for custom ones and those that are counted, 3 and 10."""
-        items = {
+    def item(self, number):
+        """What reads an item of the section of an id, but for custom ones. That of id 8 has one, without a count."""
+        return {
             1: self.function_type,
             2: self.imported,
+            3: self.cursor.u32,
             4: self.table_type,
             5: self.limits,
             6: self.defined_global,
             7: self.export,
+            8: self.cursor.u32,
             9: self.element,
+            10: self.coded,
             11: self.data,
-        }
+        }[number]
+
+    def section(self, number):
+        """The section of an id but for custom ones and those that are counted, 3 and 10."""
         if number == 8:
             self.cursor.u32()
         else:
-            self.cursor.vector(items[number])
+            self.cursor.vector(self.item(number))
 
 
 def read_section(number, contents, is_extended, functions):

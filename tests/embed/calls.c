@@ -3,12 +3,14 @@
  *     validate PROFILE MODULE            sections MODULE            list PROFILE PART MODULE
  *     strip PROFILE KEEP MODULE          edit PROFILE KEEP_VALID MODULE SCRIPT
  *     judge PROFILE BEFORE MODULE        a validator judges BEFORE and then MODULE, or MODULE alone where BEFORE is -
+ *     locate PROFILE MODULE              the numbers of MODULE's fault, by a call of its own and by the validator that is kept
+ *     version                            the versions of the header and of the library
  *     bad                                each call with bad arguments
  *     many MODULE MODULE MODULE MODULE   a validator judges these in turn, 100,000 times in all
  *
  * PROFILE, PART and KEEP_VALID are numbers, MODULE and SCRIPT files, and KEEP is a name, or - for none. Each call is made with no room at
  * all, with a byte less than it needs, with all that it needs and with more. Each judgement is made by a validator of its own, and by one
- * that is kept from one line to the next. What is wrong is printed after `wrong:`.
+ * that is kept from one line to the next. Numbers are asked for with memory for none to eight. What is wrong is printed after `wrong:`.
  */
 #define _XOPEN_SOURCE 700
 #include <sys/resource.h>
@@ -19,7 +21,7 @@
 
 #include "wasmkit.h"
 
-enum { FILL = 0xA5, MORE = 7, PAGE = 4, FEW = 1000, MANY = 100000, MOST = 4 };
+enum { FILL = 0xA5, MORE = 7, PAGE = 4, FEW = 1000, MANY = 100000, MOST = 4, NUMBERS = 6, PLACES = 8 };
 
 struct bytes {
     uint8_t *at;
@@ -141,10 +143,46 @@ static void run(const struct question *q) {
     size_t out_needed = 99, text_needed = 99;
     enum wasmkit_result result = answer(q, NULL, 0, &out_needed, NULL, 0, &text_needed);
     check((result == WASMKIT_TOO_SMALL) == (out_needed != 0 || text_needed != 0), "with no room it is not too small, or is for nothing");
+    if (!strcmp(q->call, "validate") || !strcmp(q->call, "judge")) check(text_needed <= WASMKIT_LINE_MAX, "a line is too long");
     if (out_needed) try_small(q, out_needed - 1, text_needed, out_needed, text_needed);
     if (text_needed) try_small(q, out_needed, text_needed - 1, out_needed, text_needed);
     try_room(q, MORE, out_needed, text_needed, 0);
     try_room(q, 0, out_needed, text_needed, 1);
+}
+
+/* ---- numbers */
+
+/* Looks that the numbers of a fault are these in front of memory, and that what is behind them is as it was. */
+static void are_numbers(const uint32_t *found, size_t count, const struct wasmkit_fault *fault) {
+    const uint32_t wanted[NUMBERS] = {fault->fault, fault->section, fault->item, fault->token, fault->offset, fault->function};
+    size_t told = count < NUMBERS ? 0 : NUMBERS;
+    check(!memcmp(found, wanted, told * sizeof *wanted), "other numbers");
+    check(is_fill((const uint8_t *)(found + told), (PLACES - told) * sizeof *found), "something is written where it should not be");
+}
+
+/* Makes the calls of the library with memory for so many numbers. */
+static void try_count(const struct question *q, size_t count, enum wasmkit_result result, const struct wasmkit_fault *fault) {
+    const uint8_t *at = wasmkit_in(q->module.at);
+    uint32_t *found = (uint32_t *)filled(PLACES * sizeof *found), *kept_found = (uint32_t *)filled(PLACES * sizeof *found);
+    check(wk_ffi_locate(at, q->module.length, q->profile, found, count) == (uint32_t)result, "another result of the library");
+    check(wk_validator_locate(kept, at, q->module.length, q->profile, kept_found, count) == (uint32_t)result, "another one of the validator");
+    are_numbers(found, count, fault);
+    are_numbers(kept_found, count, fault);
+    free(found), free(kept_found);
+}
+
+static void locate(const struct question *q) {
+    struct wasmkit_fault fault, other;
+    const uint8_t *at = q->module.at;
+    size_t count, length = q->module.length;
+    enum wasmkit_result result = wasmkit_locate(at, length, q->profile, &fault);
+    check(wasmkit_validator_locate(kept, at, length, q->profile, &other) == result, "the validator answers otherwise");
+    check(!memcmp(&fault, &other, sizeof fault), "the validator tells another fault");
+    check(wasmkit_locate(at, length, q->profile, NULL) == result, "another result where no fault is asked for");
+    check(wasmkit_validator_locate(kept, at, length, q->profile, NULL) == result, "another one of the validator where none is asked for");
+    for (count = 0; count <= PLACES; count++) try_count(q, count, result, &fault);
+    printf("result %d\n%u %u %u", result, fault.fault, fault.section, fault.item);
+    printf(" %u %u %u\n", fault.token, fault.offset, fault.function);
 }
 
 /* ---- memory */
@@ -172,6 +210,7 @@ static int is_same(const struct verdict *one, const struct verdict *other) {
 static void try_many(const struct bytes *modules, size_t count) {
     struct wasmkit_validator *validator = new_validator();
     struct verdict wanted[2 * MOST], told;
+    struct wasmkit_fault where;
     size_t i;
     long few = 0;
     for (i = 0; i < 2 * count; i++) {
@@ -183,6 +222,7 @@ static void try_many(const struct bytes *modules, size_t count) {
         const struct bytes *it = &modules[i % count];
         uint32_t profile = i / count % 2;
         told.result = wasmkit_validator_judge(validator, it->at, it->length, profile, told.text, sizeof told.text, &told.length);
+        check(wasmkit_validator_locate(validator, it->at, it->length, profile, &where) == told.result, "another result with numbers");
         if (!is_same(&told, &wanted[i % (2 * count)])) check(0, "another verdict than by a call of its own");
         if (i + 1 == FEW) few = peak();
     }
@@ -196,6 +236,7 @@ static void try_many(const struct bytes *modules, size_t count) {
 static uint8_t module[8] = {0, 'a', 's', 'm', 1, 0, 0, 0};
 static uint8_t out[64], text[64];
 static size_t out_length, text_length;
+static struct wasmkit_fault fault;
 
 /* Looks that a call with bad arguments said so, told no length, and left all as it was. */
 static void is_refused(enum wasmkit_result result, const char *what) {
@@ -203,6 +244,7 @@ static void is_refused(enum wasmkit_result result, const char *what) {
     check(result == WASMKIT_BAD_ARGUMENT, "not a bad argument");
     check(out_length == 0 && text_length == 0, "a length is told");
     check(is_fill(out, sizeof out) && is_fill(text, sizeof text), "something is written");
+    check(is_fill((const uint8_t *)&fault, sizeof fault), "a fault is written");
     check(!memcmp(module, "\0asm\1\0\0\0", 8), "the module is changed");
     out_length = text_length = 0;
 }
@@ -219,6 +261,9 @@ static void try_long(void) {
     vast[0] = 0;
     REFUSED(wasmkit_validate(vast, long_one, 0, TEXT));
     REFUSED(wasmkit_validator_judge(kept, vast, long_one, 0, TEXT));
+    REFUSED(wasmkit_locate(vast, long_one, 0, &fault));
+    REFUSED(wasmkit_locate(vast, long_one, 0, NULL));
+    REFUSED(wasmkit_validator_locate(kept, vast, long_one, 0, &fault));
     REFUSED(wasmkit_sections(vast, long_one, TEXT));
     REFUSED(wasmkit_list(vast, long_one, 0, 0, TEXT));
     REFUSED(wasmkit_strip(vast, long_one, 0, NULL, 0, OUT, TEXT));
@@ -242,6 +287,12 @@ static void try_bad_validator(void) {
     REFUSED(wasmkit_validator_judge(kept, module, 8, 0, text, 64, NULL));
     REFUSED(wasmkit_validator_judge(kept, module, 8, 0, module + 7, 1, &text_length));
     REFUSED(wasmkit_validator_judge(kept, module, 8, 0, (uint8_t *)&text_length, sizeof text_length, &text_length));
+    REFUSED(wasmkit_validator_locate(none, module, 8, 0, &fault));
+    REFUSED(wasmkit_validator_locate(kept, NULL, 8, 0, &fault));
+    REFUSED(wasmkit_validator_locate(kept, module, much, 0, NULL));
+    REFUSED(wasmkit_validator_locate(kept, module, 8, 2, &fault));
+    REFUSED(wasmkit_validator_locate(kept, module, 8, 2, NULL));
+    REFUSED(wasmkit_validator_locate(kept, (uint8_t *)&fault, sizeof fault, 0, &fault));
     wasmkit_validator_free(none);
     check(wasmkit_validator_judge(kept, module, 8, 0, TEXT) == WASMKIT_OK && text_length == 6 && !memcmp(text, "valid\n", 6),
           "the validator does not judge on");
@@ -253,6 +304,14 @@ static void try_bad(void) {
     const size_t much = (size_t)PTRDIFF_MAX + 1, most = (size_t)-1;
     memset(out, FILL, sizeof out);
     memset(text, FILL, sizeof text);
+    memset(&fault, FILL, sizeof fault);
+    REFUSED(wasmkit_locate(NULL, 8, 0, &fault));
+    REFUSED(wasmkit_locate(module, much, 0, &fault));
+    REFUSED(wasmkit_locate(module, most, 0, NULL));
+    REFUSED(wasmkit_locate(module, 8, 2, &fault));
+    REFUSED(wasmkit_locate(module, 8, (uint32_t)-1, NULL));
+    REFUSED(wasmkit_locate((uint8_t *)&fault, sizeof fault, 0, &fault));
+    REFUSED(wasmkit_locate((uint8_t *)&fault + sizeof fault - 1, 1, 0, &fault));
     REFUSED(wasmkit_validate(NULL, 8, 0, TEXT));
     REFUSED(wasmkit_validate(module, much, 0, TEXT));
     REFUSED(wasmkit_validate(module, most, 0, TEXT));
@@ -307,6 +366,7 @@ static int read_question(const char *line, struct question *q) {
     memset(q, 0, sizeof *q);
     if (sscanf(line, "%15s", q->call) != 1) return 0;
     if (sscanf(line, "validate %u %255s", &q->profile, first) == 2) return q->module = load(first), 1;
+    if (sscanf(line, "locate %u %255s", &q->profile, first) == 2) return q->module = load(first), 1;
     if (sscanf(line, "judge %u %255s %255s", &q->profile, second, first) == 3) {
         if (strcmp(second, "-")) q->other = load(second);
         return q->module = load(first), 1;
@@ -347,8 +407,11 @@ int main(void) {
             try_bad();
         } else if (!strncmp(line, "many ", 5)) {
             read_many(line);
+        } else if (!strcmp(line, "version")) {
+            printf("header %u\nlibrary %u\n", WASMKIT_VERSION, wasmkit_version());
         } else if (read_question(line, &q)) {
-            run(&q);
+            if (!strcmp(q.call, "locate")) locate(&q);
+            else run(&q);
             free(q.module.at), free(q.other.at);
         } else {
             puts("wrong: no call");

@@ -29,6 +29,10 @@ from samples import (
     MODULE,
     MOVING,
     MOVING_STRIPPED,
+    NO_OPCODE,
+    NO_OPCODE_LINES,
+    NO_OPERAND,
+    NO_OPERAND_LINES,
     NO_OUT,
     OF_EACH_KIND,
     OF_MOST_KINDS,
@@ -54,7 +58,7 @@ from samples import (
 @dataclass
 class Command:
     """A command line, the files that it finds, and what it answers where no allocation is refused. The files that it finds
-    stay as they are."""
+    stay as they are. In the place of bytes a link has the name that it leads to."""
 
     name: str
     words: list
@@ -70,7 +74,45 @@ class Command:
         files = self.files if self.out is None else {**self.files, "out.wasm": self.out}
         return (ran.status, ran.stdout, ran.stderr, ran.files) == (self.status, self.stdout, self.stderr, files)
 
+    def of_memory(self, is_onward):
+        """What both streams may have where an allocation was refused, alone or with all behind it."""
+        return {(piece, NO_MEMORY) for piece in (b"", *self.pieces)}
 
+    def wanted(self):
+        """What both streams have for one refusal at least."""
+        return {(piece, NO_MEMORY) for piece in (b"", *self.pieces)[-1:]}
+
+
+@dataclass
+class Each(Command):
+    """`validate --each`, and of each file what it adds to standard output and to standard error."""
+
+    answers: tuple = ()
+
+    def of_files(self, answers):
+        return b"".join(out for out, _ in answers), b"".join(err for _, err in answers)
+
+    def of_memory_at_one(self, is_onward):
+        wanting = (b"", NO_MEMORY)
+        for at in range(len(self.answers)):
+            behind = [wanting] * (len(self.answers) - at - 1) if is_onward else self.answers[at + 1 :]
+            yield self.of_files([*self.answers[:at], wanting, *behind])
+
+    def of_memory(self, is_onward):
+        return {(b"", NO_MEMORY), *self.of_memory_at_one(is_onward)}
+
+    def wanted(self):
+        return {*self.of_memory_at_one(False), *self.of_memory_at_one(True)}
+
+
+def each(name, words, files, status, answers):
+    """The command line, whose files are asked for in their order."""
+    command = Each(name, words, files, status, answers=answers)
+    command.stdout, command.stderr = command.of_files(answers)
+    return command
+
+
+NO_MEMORY = b"out of memory\n"
 EDIT = ["edit", "in.wasm", "edits", "out.wasm"]
 EDIT_EXTENDED = [*EDIT, "--extended"]
 EDIT_KEPT = [*EDIT, "--keep-valid"]
@@ -105,6 +147,10 @@ LISTED = (
 )
 
 
+# By the first OUT is `out.wasm`.
+LINKS = {"first": "./second", "second": "out.wasm"}
+
+
 def files(module, script):
     return {"in.wasm": module, "edits": script}
 
@@ -113,6 +159,7 @@ COMMANDS = [
     Command("edit", EDIT, files(MODULE, SCRIPT), 1, REPORT, out=EDITED),
     Command("edit of the empty module", EDIT, files(HEADER, b"type - -\n"), 0, FINE, out=ONE_TYPE),
     Command("edit that makes an invalid module", EDIT, files(MODULE, b"type - i32,i32"), 1, INVALID, out=OF_TWO_RESULTS),
+    Command("edit through links", [*EDIT[:3], "first"], {**files(MODULE, SCRIPT), **LINKS}, 1, REPORT, out=EDITED),
     Command("edit of a malformed module", EDIT, files(HEADER + b"\x0c\x00", b""), 2, MALFORMED),
     Command("edit by a bad script", EDIT, files(MODULE, b"type - -\ntype"), 3, BAD_SCRIPT),
     Command("edit of a missing file", EDIT, {"edits": b""}, 4, stderr=UNREAD),
@@ -192,7 +239,25 @@ COMMANDS = [
     Command("validate of an invalid module", VALIDATE, {"in.wasm": INVALID_MODULE}, 1, INVALID_LINE),
     Command("validate of a malformed module", VALIDATE, {"in.wasm": HEADER + b"\x0c\x00"}, 2, MALFORMED),
     Command("validate of a missing file", VALIDATE, {}, 4, stderr=UNREAD),
+    Command("validate with the place of a token", [*VALIDATE, "--explain"], {"in.wasm": NO_OPERAND}, 1, NO_OPERAND_LINES),
+    Command("validate with the body of a fault", [*VALIDATE, "--explain"], {"in.wasm": NO_OPCODE}, 2, NO_OPCODE_LINES),
     Command("validate in the other profile", [*VALIDATE, "--extended"], {"in.wasm": EXTENDED}, 0, b"valid\n"),
+    each(
+        "validate of several files",
+        ["validate", "--each", "in.wasm", "none", "wrong.wasm", "bad.wasm", "in.wasm", "x:y"],
+        {"in.wasm": VALID, "wrong.wasm": INVALID_MODULE, "bad.wasm": HEADER + b"\x0c\x00", "x:y": BRANCHES},
+        4,
+        (
+            (b"in.wasm: valid\n", b""),
+            (b"", b"cannot read none\n"),
+            (b"wrong.wasm: " + INVALID_LINE, b""),
+            (b"bad.wasm: " + MALFORMED, b""),
+            (b"in.wasm: valid\n", b""),
+            (b"x:783a79: valid\n", b""),
+        ),
+    ),
+    each("validate of one file of several", ["validate", "in.wasm", "--each"], {"in.wasm": VALID}, 0, ((b"in.wasm: valid\n", b""),)),
+    Command("validate of several files without a word for it", ["validate", "in.wasm", "x"], {"in.wasm": VALID}, 3, stderr=BAD_WORDS),
     Command("strip", STRIP, {"in.wasm": MODULE}, 0, out=KEPT),
     Command("strip in the other profile", ["strip", "--extended", *STRIP[3:]], {"in.wasm": EXTENDED}, 0, out=EXTENDED),
     Command("strip of code", ["strip", *STRIP[3:]], {"in.wasm": MOVING}, 0, out=MOVING_STRIPPED),

@@ -46,6 +46,23 @@ BRANCHES = HEADER + b"\x01\x04\x01\x60\x00\x00\x03\x02\x01\x00\x0a\x0a\x01\x08\x
 # A body that leaves an operand.
 INVALID_MODULE = HEADER + b"\x01\x04\x01\x60\x00\x00\x03\x02\x01\x00\x0a\x06\x01\x04\x00\x41\x01\x0b"
 INVALID_LINE = b"invalid V15 StackHeight at section 10 item 0 token 1\n"
+# A branch with a label and no operand, and a body that cannot be read, each with what is said of the place.
+NO_OPERAND = HEADER + b"\x01\x04\x01\x60\x00\x00\x03\x02\x01\x00\x0a\x08\x01\x06\x00\x0e\x01\x00\x00\x0b"
+NO_OPERAND_LINES = b"invalid V13 StackUnderflow at section 10 item 0 token 0\n at 0x00000017 in func[0]: br_table 0 0\n"
+NO_OPCODE = HEADER + b"\x01\x04\x01\x60\x00\x00\x03\x02\x01\x00\x0a\x05\x01\x03\x00\xff\x0b"
+NO_OPCODE_LINES = b"malformed R11 UnknownOpcode at 0x00000017\n in func[0]\n"
+# Modules with a fault behind what takes memory to read: in the blocks of a second body, which is invalid or malformed, and at a second type with two
+# results, in the profile that has none.
+FAULTY = {
+    "a body that is invalid": HEADER
+    + b"\x01\x04\x01\x60\x00\x00\x02\x07\x01\x01a\x01f\x00\x00\x03\x03\x02\x00\x00"
+    + b"\x0a\x0f\x02\x02\x00\x0b\x0a\x00\x02\x40\x02\x40\x6a\x0b\x0b\x01\x0b",
+    "a body that is malformed": HEADER
+    + b"\x01\x04\x01\x60\x00\x00\x02\x07\x01\x01a\x01f\x00\x00\x03\x03\x02\x00\x00"
+    + b"\x0a\x0f\x02\x02\x00\x0b\x0a\x00\x02\x40\x02\x40\xff\x0b\x0b\x01\x0b",
+    "a type with two results": HEADER + b"\x01\x0b\x02\x60\x01\x7f\x00\x60\x01\x7e\x02\x7f\x7f",
+}
+FAULTY_IN = {"a type with two results": "0"}  # the profiles, where they are not both
 # A block whose type is the index of a function type.
 EXTENDED = (
     HEADER

@@ -1,11 +1,12 @@
 -- Words and the commands that they spell, worked out.
-use Rattle.std.proofs.Common.{◌≡◌, ◌∙◌, true, None, Some, [], ◌∷◌, length, refl, sym, ap, inl, arith, codes}
+use Rattle.std.proofs.Common.{◌≡◌, ◌∙◌, true, false, None, Some, [], ◌∷◌, length, refl, sym, ap, inl, inr, arith, codes}
 use Rattle.clap.specs.declared.error.kind.ErrorKind.TheVariants as kind
 use Rattle.clap.proofs.OnLiterals.{clap_on_literals}
 use Rattle.wk_body.specs.declared.types.Profile.TheVariants.{Core, Extended}
+use Rattle.wasmkit.specs.declared.command.EachCommand.{EachCommand}
 use Rattle.wasmkit.specs.declared.command.EditCommand.{EditCommand}
 use Rattle.wasmkit.specs.declared.command.ValidateCommand.{ValidateCommand}
-use Rattle.wasmkit.specs.CommandLine.{flag, operand, SpellsEdit, SpellsNone, SpellsValidate}
+use Rattle.wasmkit.specs.CommandLine.{files_of, flag, operand, SpellsEach, SpellsEdit, SpellsNone, SpellsValidate}
 use Rattle.wasmkit.proofs.Spelling.{fault_spells_none}
 
 -- `edit --keep-valid -- -f edits out`
@@ -22,15 +23,36 @@ edit_line c file script out keep_valid profile = record {
 }
 
 -- `validate in --extended`
-validate_line : (c : ValidateCommand) → c.file.now ≡ codes "in" → c.profile ≡ Extended → SpellsValidate (codes "validate" ∷ codes "in" ∷ codes "--extended" ∷ []) c
-validate_line c file profile = record {
+validate_line : (c : ValidateCommand) → c.file.now ≡ codes "in" → c.profile ≡ Extended → c.explain ≡ false → SpellsValidate (codes "validate" ∷ codes "in" ∷ codes "--extended" ∷ []) c
+validate_line c file profile explain = record {
   line = record { pieces = operand (codes "in") ∷ flag (codes "extended") ∷ []; rest = None };
-  spelled = (refl, record { pieces = (refl, (inl refl, tt)); once = ((λ i. i), tt); operands = refl });
+  spelled = (refl, record { pieces = (refl, (inr (inl refl), tt)); once = ((λ i. i), tt); operands = omega arith });
+  alone = refl;
+  explain = explain;
   operands = rw file refl;
   profile = profile;
 }
 
--- `validate in -h` and `strip --keep a --keep=b in out` spell nothing.
+-- `validate --explain a --each -- -b`
+each_line : (c : EachCommand) → files_of c ≡ codes "a" ∷ codes "-b" ∷ [] → c.profile ≡ Core → c.explain ≡ true
+    → SpellsEach (codes "validate" ∷ codes "--explain" ∷ codes "a" ∷ codes "--each" ∷ codes "--" ∷ codes "-b" ∷ []) c
+each_line c files profile explain = record {
+  line = record { pieces = flag (codes "explain") ∷ operand (codes "a") ∷ flag (codes "each") ∷ []; rest = Some (codes "-b" ∷ []) };
+  spelled = (refl, record { pieces = (inr (inr (inl refl)), (refl, (inl refl, tt))); once = ((λ i. elim i [ inl e ↦ other e | inr j ↦ absurd j ]), ((λ i. i), tt)); operands = omega arith });
+  each = refl;
+  explain = explain;
+  operands = sym files;
+  profile = profile;
+}
+  where
+    other : codes "explain" ≡ codes "each" → ⊥
+    other e = let bad : 7 ≡ 4 = ap length e in absurd (omega (arith, bad))
+
+-- `validate --each`, `validate in -h` and `strip --keep a --keep=b in out` spell nothing.
+no_file_none : SpellsNone (codes "validate" ∷ codes "--each" ∷ [])
+unfolding clap_on_literals
+no_file_none = fault_spells_none (codes "validate" ∷ codes "--each" ∷ []) (λ e. let bad : kind.MissingRequiredArgument ∷ [] ≡ [] = e in cc)
+
 help_none : SpellsNone (codes "validate" ∷ codes "in" ∷ codes "-h" ∷ [])
 unfolding clap_on_literals
 help_none = fault_spells_none (codes "validate" ∷ codes "in" ∷ codes "-h" ∷ []) (λ e. let bad : kind.DisplayHelp ∷ [] ≡ [] = e in cc)

@@ -1,5 +1,5 @@
 -- What each command's arguments answer.
-use Rattle.std.proofs.Common.{◌≡◌, ◌⊎◌, ◌∙◌, ◌==◌, ◌||◌, ℕ, ◌≤◌, Bool, true, false, Some, None, List, [], ◌∷◌, length, refl, sym, inl, inr, arith, codes}
+use Rattle.std.proofs.Common.{◌≡◌, ◌⊎◌, ◌∙◌, ◌==◌, ◌||◌, ℕ, ◌≤◌, Bool, true, false, not, Some, None, List, [], ◌∷◌, length, refl, sym, inl, inr, arith, codes}
 use Rattle.std.specs.Prelude.{if◌then◌else◌}
 use Rattle.std.specs.Str.{bytes_eq}
 use Rattle.std.proofs.lemmas.Slice.Eq.{bytes_eq-Decides}
@@ -11,7 +11,10 @@ use Rattle.wasmkit.proofs.WordSteps.{built_help}
 use Rattle.wasmkit.proofs.Refusals.{help_requests, HasNoShort, Requests}
 use Rattle.wasmkit.proofs.Walks.{Answers}
 use Rattle.wasmkit.proofs.LineEnds.{not_in}
+use Rattle.clap.specs.Takes.{is_given}
+use Rattle.clap.specs.declared.error.kind.ErrorKind.TheVariants as kind
 use Rattle.wasmkit.proofs.Levels.{lacks, Asks}
+use Rattle.wasmkit.proofs.ManyLines.{AnswersMany}
 
 abbrev pub built_shape : Form → Shape
 built_shape f = built_leaf (inherited (with_leaf_noted (marked_built wasmkit_top)) (shape_of_form f))
@@ -204,36 +207,34 @@ strip_asks = record {
   fills = two_full;
 }
 
-validate_sorts : (n : Text) → Sorts validate n
-validate_sorts n = go (bytes_eq (codes "extended") n) (bytes_eq (codes "help") n) refl refl
+validate_sorts : (n : Text) → IsIn n validate.flags ⊎ ((arg_by_long (built_shape validate).rules n ≡ None) ⊎ (arg_by_long (built_shape validate).rules n ≡ Some built_help))
+validate_sorts n = go (bytes_eq (codes "each") n) (bytes_eq (codes "extended") n) (bytes_eq (codes "explain") n) (bytes_eq (codes "help") n) refl refl refl refl
   where
-    go : (b0 b1 : Bool) → bytes_eq (codes "extended") n ≡ b0 → bytes_eq (codes "help") n ≡ b1 → Sorts validate n
-    go true b1 e0 e1 = inl (inl (same (codes "extended") n e0))
-    go false true e0 e1 = inr (inr (inr (rw (e0, e1) refl)))
-    go false false e0 e1 = inr (inr (inl (rw (e0, e1) refl)))
+    go : (b0 b1 b2 b3 : Bool) → bytes_eq (codes "each") n ≡ b0 → bytes_eq (codes "extended") n ≡ b1 → bytes_eq (codes "explain") n ≡ b2 → bytes_eq (codes "help") n ≡ b3
+        → IsIn n validate.flags ⊎ ((arg_by_long (built_shape validate).rules n ≡ None) ⊎ (arg_by_long (built_shape validate).rules n ≡ Some built_help))
+    go true b1 b2 b3 e0 e1 e2 e3 = inl (inl (same (codes "each") n e0))
+    go false true b2 b3 e0 e1 e2 e3 = inl (inr (inl (same (codes "extended") n e1)))
+    go false false true b3 e0 e1 e2 e3 = inl (inr (inr (inl (same (codes "explain") n e2))))
+    go false false false true e0 e1 e2 e3 = inr (inr (rw (e0, e1, e2, e3) refl))
+    go false false false false e0 e1 e2 e3 = inr (inl (rw (e0, e1, e2, e3) refl))
 
-pub validate_answers : Answers validate (built_shape validate)
+pub validate_answers : AnswersMany validate (codes "FILE") (built_shape validate)
 validate_answers = record {
   again = refl;
-  leaf = refl;
-  flags = λ n i. elim i [ inl e ↦ rw e refl | inr j ↦ absurd j ];
-  settings = λ n i. absurd i;
+  flags = λ n i. elim i [ inl e ↦ rw e refl | inr (inl e) ↦ rw e refl | inr (inr (inl e)) ↦ rw e refl | inr (inr (inr j)) ↦ absurd j ];
+  settings = λ n i. i;
   others = validate_sorts;
   shorts = shorts (built_shape validate).rules (λ x. refl);
-  operands = (refl, refl, refl);
-  names = λ n i. elim i [ inl j ↦ elim j [ inl e ↦ (rw e refl, rw e refl) | inr j ↦ absurd j ] | inr j ↦ absurd j ];
-  values = λ n v i. absurd i;
-}
-
-pub validate_asks : Asks validate (built_shape validate)
-validate_asks = record {
-  apart = refl;
-  sorts = refl;
-  distinct = (not_in (codes "FILE") ([]) refl, tt);
+  named = refl;
+  placed = refl;
+  names = λ n i. elim i [ inl e ↦ (rw e refl, rw e refl) | inr (inl e) ↦ (rw e refl, rw e refl) | inr (inr (inl e)) ↦ (rw e refl, rw e refl) | inr (inr (inr j)) ↦ absurd j ];
+  apart = λ n i. elim i [ inl e ↦ rw e refl | inr (inl e) ↦ rw e refl | inr (inr (inl e)) ↦ rw e refl | inr (inr (inr j)) ↦ absurd j ];
   fine = refl;
-  wants = λ rows. refl;
-  flags = λ n i. elim i [ inl e ↦ rw e refl | inr j ↦ absurd j ];
-  others = λ n i. elim i [ inl j ↦ absurd j | inr j ↦ elim j [ inl e ↦ rw e refl | inr j ↦ absurd j ] ];
-  counts = one;
-  fills = one_full;
+  wants = λ rows. wants (is_given (codes "FILE") rows);
+  flag_defaults = λ n i. elim i [ inl e ↦ rw e refl | inr (inl e) ↦ rw e refl | inr (inr (inl e)) ↦ rw e refl | inr (inr (inr j)) ↦ absurd j ];
+  no_default = refl;
 }
+  where
+    wants : (b : Bool) → (if not b || false then kind.MissingRequiredArgument ∷ [] else []) ≡ (if not b then kind.MissingRequiredArgument ∷ [] else [])
+    wants true = refl
+    wants false = refl

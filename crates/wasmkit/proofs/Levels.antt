@@ -11,7 +11,8 @@ use Rattle.clap.specs.Takes.{is_given as is_given_in}
 use Rattle.clap.specs.Faults.{check_fault, level_fault}
 use Rattle.clap.specs.declared.error.kind.ErrorKind.TheVariants as kind
 use Rattle.clap.specs.declared.parser.matches.ValueSource.TheVariants.{DefaultValue}
-use Rattle.wasmkit.specs.CommandLine.{Form, IsIn, Line, NoneTwice, is_given, line_words, operands_of, rest_operands, value_of, ArePiecesOf, IsLineOf}
+use Rattle.wasmkit.specs.CommandLine.{Form, IsIn, Line, NoneTwice, is_given, line_words, operands_of, options_of, rest_operands, value_of, ArePiecesOf}
+use Rattle.wasmkit.specs.Syntax.{flag_text}
 use Rattle.wasmkit.proofs.Names.{in-left, in-right}
 use Rattle.wasmkit.proofs.Rows.{flag_row, row_of, text_row}
 use Rattle.wasmkit.proofs.WordSteps.{at}
@@ -61,9 +62,6 @@ none_missing : (b : Bool) → (if b then kind.MissingRequiredArgument ∷ [] els
 none_missing true h = cc
 none_missing false h = refl
 
-abbrev pub flag_text : Bool → Text
-flag_text b = if b then codes "true" else codes "false"
-
 module _ (f : Form) (s : Shape) (answers : Answers f s) (asks : Asks f s) where
   no_option : (n : Text) → IsIn n f.operands → IsIn n f.flags ⊎ IsIn n f.settings → ⊥
   no_option n i (inl flag) = all_apart f.operands (f.flags ++ f.settings) asks.apart n i (in-left n f.flags f.settings flag)
@@ -109,28 +107,33 @@ module _ (f : Form) (s : Shape) (answers : Answers f s) (asks : Asks f s) where
     pub operand_read : (n : Text) → IsIn n f.operands → first_of n (fold with_default (rows_of_line f l) s.rules) ≡ first_of n (word_rows f.operands (operands_of l))
     operand_read n i = ap (option_and_then (λ r. slice_get r.values 0)) (operand_find n i)
 
-  pub line_passes : (l : Line) → IsLineOf f l
+  pub line_passes : (l : Line) → ArePiecesOf f l.pieces → NoneTwice (options_of l.pieces) → length (operands_of l) ≡ length f.operands
       → (level_fault s [] nothing_held (line_words l) false [] ≡ []) × (rows_after s.rules [] (line_words l) ≡ fold with_default (rows_of_line f l) s.rules)
-  line_passes l is =
-      let once = once_given f f.operands l.pieces (rest_operands l.rest) is.pieces is.once asks.distinct no_option in
-      let fits : length (operands_of l) ≤ length f.operands = omega (arith, is.operands) in
-      let reaches = pieces_reach f s answers l.pieces l.rest f.operands [] None 1 tt answers.operands is.pieces fits once in
-      let full : end_of s (rows_of_line f l) ≡ [] = rw (end_is l is.pieces, asks.fills (operands_of l) is.operands) refl in
+  line_passes l pieces none_twice many =
+      let once = once_given f f.operands l.pieces (rest_operands l.rest) pieces none_twice asks.distinct no_option in
+      let fits : length (operands_of l) ≤ length f.operands = omega (arith, many) in
+      let reaches = pieces_reach f s answers l.pieces l.rest f.operands [] None 1 tt answers.operands pieces fits once in
+      let full : end_of s (rows_of_line f l) ≡ [] = rw (end_is l pieces, asks.fills (operands_of l) many) refl in
       (level_is s (line_words l) ∙ (reaches.faults ∙ full), ap (λ rows. fold with_default rows s.rules) reaches.are)
 
-  pub line_found : (words : List Text) → AllByRecursion IsUtf8 words → level_fault s [] nothing_held words false [] ≡ [] → (l : Line) × (words ≡ line_words l) × IsLineOf f l
+  pub record FoundLine (words : List Text) : Type 0 where
+    pub line : Line
+    pub are : words ≡ line_words line
+    pub pieces : ArePiecesOf f line.pieces
+    pub once : NoneTwice (options_of line.pieces)
+    pub operands : length (operands_of line) ≡ length f.operands
+
+  pub line_found : (words : List Text) → AllByRecursion IsUtf8 words → level_fault s [] nothing_held words false [] ≡ [] → FoundLine words
   line_found words utf8 none =
       let run : run_fault s (at [] None 1 false) words ≡ [] = sym (level_is s words) ∙ none in
       let found = (finds f s answers (length words) words f.operands [] None 1 (omega arith) utf8 tt answers.operands tt run).1 in
       let l : Line = record { pieces = found.pieces; rest = found.rest } in
       let reaches = pieces_reach f s answers found.pieces found.rest f.operands [] None 1 tt answers.operands found.of found.fits found.once in
       let ended : end_of s (rows_of_line f l) ≡ [] = sym reaches.faults ∙ subst (λ ws. run_fault s (at [] None 1 false) ws ≡ []) found.are run in
-      let full = none_missing (lacks f.operands (operands_of l)) (sym (end_is l found.of) ∙ ended) in (
-        l,
-        found.are,
-        record {
-          pieces = found.of;
-          once = once_options f.operands found.pieces (rest_operands found.rest) found.once;
-          operands = asks.counts (operands_of l) found.fits full;
-        },
-      )
+      let full = none_missing (lacks f.operands (operands_of l)) (sym (end_is l found.of) ∙ ended) in record {
+        line = l;
+        are = found.are;
+        pieces = found.of;
+        once = once_options f.operands found.pieces (rest_operands found.rest) found.once;
+        operands = asks.counts (operands_of l) found.fits full;
+      }

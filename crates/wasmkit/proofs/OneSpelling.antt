@@ -1,13 +1,14 @@
 -- Words spell one command at most.
-use Rattle.std.proofs.Common.{◌≡◌, ◌≢◌, ◌∙◌, ◌==◌, ℕ, false, arith, Option, Some, None, List, ◌∷◌, refl, sym, subst, ap, inl, inr, codes}
+use Rattle.std.proofs.Common.{◌≡◌, ◌≢◌, ◌∙◌, ◌==◌, ℕ, false, arith, true, Option, Some, None, List, [], ◌∷◌, refl, sym, subst, ap, inl, inr, codes}
 use Rattle.std.proofs.lemmas.Bool.Decides.{nat_tests}
-use Rattle.clap.specs.Walk.{Text, first_of, one_of}
+use Rattle.clap.specs.Walk.{Text, all_of, first_of, one_of}
 use Rattle.wk_edit.proofs.WordLaws.{name_said}
 use Rattle.wasmkit.specs.declared.command.Asked.{Asked}
 use Rattle.wasmkit.specs.declared.command.Asked.TheVariants as asks
 use Rattle.wasmkit.specs.CommandLine.{Form, IsIn, IsSame, IsSpelled, KeepsName, Line, Spells, SpellsOnly, edit, is_given, objdump, operands_of, profile_of, sections, strip, validate, value_of}
 use Rattle.wasmkit.proofs.LineWalks.{word_rows}
-use Rattle.wasmkit.proofs.Spelling.{Known, both_same, edit_known, final_rows, objdump_known, operand_said, sections_known, some_same, spelled_passes, strip_known, the_flag, the_setting, validate_known}
+use Rattle.wasmkit.proofs.Known.{Known, edit_known, files_read, final_rows, objdump_known, sections_known, strip_known, validate_known}
+use Rattle.wasmkit.proofs.Spelling.{both_same, operand_said, some_same, some_words, spelled_passes, the_flag, the_setting}
 
 some_text : (a b : Text) → Some a ≡ Some b → a ≡ b
 some_text a b e = cc
@@ -27,6 +28,16 @@ module _ (f : Form) (known : Known f) (words : List Text) (l m : Line) (s : IsSp
   same_operand n given other a b i d e g h =
       some_text a b (sym (operand_said f known l s.1 n given a i d g) ∙ (ap (first_of n) same_rows ∙ operand_said f known m t.1 n other b i e h))
 
+same_files : (words : List Text) (l m : Line) → IsSpelled validate words l → IsSpelled validate words m → operands_of l ≡ operands_of m
+same_files words l m s t =
+    some_words (sym (files_read l s.1) ∙ (ap (all_of (codes "FILE")) (same_rows validate validate_known words l m s t) ∙ files_read m t.1))
+
+one_text : {a b : Text} → a ∷ [] ≡ b ∷ [] → a ≡ b
+one_text e = cc
+
+not_both : false ≡ true → ⊥
+not_both e = cc
+
 same_name : (v : Option Text) (keep other : Option (List ℕ)) → KeepsName v keep → KeepsName v other → keep ≡ other
 same_name None keep other s t = s ∙ sym t
 same_name (Some word) None other s t = absurd s
@@ -44,13 +55,14 @@ name_of_asked (asks.Objdump c) = objdump.name
 name_of_asked (asks.Sections file) = sections.name
 name_of_asked (asks.Strip c) = strip.name
 name_of_asked (asks.Validate c) = validate.name
+name_of_asked (asks.ValidateEach c) = validate.name
 
 -- the second byte tells the names of commands apart
-second : Text → ℕ
+unfoldable pub second : Text → ℕ
 second (x ∷ y ∷ rest) = y
 second name = 0
 
-differ : (x y : ℕ) → (x == y) ≡ false → x ≢ y
+pub differ : (x y : ℕ) → (x == y) ≡ false → x ≢ y
 differ x y h = grind (arith, nat_tests)
 
 begins : (words : List Text) (a : Asked) → Spells words a → (rest : List Text) × (words ≡ name_of_asked a ∷ rest)
@@ -60,6 +72,7 @@ begins words (asks.Objdump c) s = (_, s.spelled.0)
 begins words (asks.Sections file) s = (_, s.spelled.0)
 begins words (asks.Strip c) s = (_, s.spelled.0)
 begins words (asks.Validate c) s = (_, s.spelled.0)
+begins words (asks.ValidateEach c) s = (_, s.spelled.0)
 
 one_head : (words : List Text) (x y : Text) (xs ys : List Text) → words ≡ x ∷ xs → words ≡ y ∷ ys → x ≡ y
 one_head words x y xs ys e f = cc
@@ -96,9 +109,19 @@ same_asked words (asks.Strip c) (asks.Strip d) s t name =
       word (codes "OUT") _ _ _ _ (inr (inl refl)) s.operands t.operands refl refl,
     )
 same_asked words (asks.Validate c) (asks.Validate d) s t name = (
-  s.profile ∙ (ap profile_of (same_flag validate validate_known words s.line t.line s.spelled t.spelled (codes "extended") (inl refl)) ∙ sym t.profile),
-  same_operand validate validate_known words s.line t.line s.spelled t.spelled (codes "FILE") _ _ _ _ (inl refl) s.operands t.operands refl refl,
+  s.explain ∙ (same_flag validate validate_known words s.line t.line s.spelled t.spelled (codes "explain") (inr (inr (inl refl))) ∙ sym t.explain),
+  s.profile ∙ (ap profile_of (same_flag validate validate_known words s.line t.line s.spelled t.spelled (codes "extended") (inr (inl refl))) ∙ sym t.profile),
+  one_text (sym s.operands ∙ (same_files words s.line t.line s.spelled t.spelled ∙ t.operands)),
 )
+same_asked words (asks.ValidateEach c) (asks.ValidateEach d) s t name = (
+  s.explain ∙ (same_flag validate validate_known words s.line t.line s.spelled t.spelled (codes "explain") (inr (inr (inl refl))) ∙ sym t.explain),
+  s.profile ∙ (ap profile_of (same_flag validate validate_known words s.line t.line s.spelled t.spelled (codes "extended") (inr (inl refl))) ∙ sym t.profile),
+  sym s.operands ∙ (same_files words s.line t.line s.spelled t.spelled ∙ t.operands),
+)
+same_asked words (asks.Validate c) (asks.ValidateEach d) s t name =
+    absurd (not_both (sym s.alone ∙ (same_flag validate validate_known words s.line t.line s.spelled t.spelled (codes "each") (inl refl) ∙ t.each)))
+same_asked words (asks.ValidateEach c) (asks.Validate d) s t name =
+    absurd (not_both (sym t.alone ∙ (same_flag validate validate_known words t.line s.line t.spelled s.spelled (codes "each") (inl refl) ∙ s.each)))
 same_asked words a b s t name = absurd (differ (second (name_of_asked a)) (second (name_of_asked b)) refl (ap second name))
 
 pub spelled_only : (words : List Text) (a : Asked) → Spells words a → SpellsOnly words a

@@ -1,5 +1,5 @@
 -- What the answers for reading the words share.
-use Rattle.std.proofs.Common.{◌≡◌, ◌∙◌, true, List, [], ◌∷◌, map, Result, Ok, Err, sym, subst, ap, inl, inr, string_bytes}
+use Rattle.std.proofs.Common.{◌≡◌, ◌∙◌, true, Option, Some, List, [], ◌∷◌, map, Result, Ok, Err, refl, sym, subst, ap, inl, inr, string_bytes}
 use Rattle.std.specs.Prelude.{IfErr, IfOk, IsErrAnd}
 use Rattle.std.specs.List.{AllByRecursion}
 use Rattle.std.specs.Str.{IsUtf8}
@@ -7,7 +7,7 @@ use Rattle.std.specs.declared.string.String.{String}
 use Rattle.std.proofs.lemmas.Str.{IsUtf8-string_bytes}
 use Rattle.clap.specs.Kinds.{HasKind, IsAmong, Kinds}
 use Rattle.clap.specs.Values.{kind_of}
-use Rattle.clap.specs.Walk.{Text}
+use Rattle.clap.specs.Walk.{Row, Text}
 use Rattle.clap.specs.Simple.{App, HasMatchesOf, is_simple, subcommand_of, subcommand_rows_of}
 use Rattle.clap.specs.Faults.{fault_of, is_simple_and_free}
 use Rattle.clap.specs.declared.error.Error.{Error}
@@ -15,14 +15,15 @@ use Rattle.clap.specs.declared.error.kind.ErrorKind.{ErrorKind}
 use Rattle.clap.specs.declared.error.kind.ErrorKind.TheVariants as kind
 use Rattle.clap.specs.declared.parser.matches.ArgMatches.{ArgMatches}
 use Rattle.wasmkit.specs.declared.command.Asked.{Asked}
+use Rattle.wasmkit.specs.declared.command.Asked.TheVariants as asks
 use Rattle.wasmkit.specs.declared.fault.ProgramFault.{ProgramFault}
 use Rattle.wasmkit.specs.declared.fault.ProgramFault.TheVariants.{CommandLine, BadWords, Read, Write, Output, Memory}
-use Rattle.wasmkit.specs.CommandLine.{SpellsNone, SpellsOnly}
+use Rattle.wasmkit.specs.CommandLine.{SpellsNone, SpellsOnly, edit, objdump, sections, strip, validate}
 use Rattle.wasmkit.specs.Faults.{IsOfWords, RefusesWords}
-use Rattle.wasmkit.specs.Syntax.{Reads, Unreadable, wasmkit_app}
+use Rattle.wasmkit.specs.Syntax.{Reads, ReadsEach, ReadsJudging, ReadsValidate, Unreadable, wasmkit_app}
 use Rattle.wasmkit.proofs.FirstWord.{is_free_program, is_simple_program}
-use Rattle.wasmkit.proofs.OneSpelling.{spelled_only}
-use Rattle.wasmkit.proofs.Spelling.{fault_spells_none, read_spelled, unread_spells_none}
+use Rattle.wasmkit.proofs.OneSpelling.{differ, second, spelled_only}
+use Rattle.wasmkit.proofs.Spelling.{both_same, fault_spells_none, read_spelled, unread_spells_none}
 
 pub words_utf8 : {Z : Type 0} (words : List (String Z)) → AllByRecursion IsUtf8 (map string_bytes words)
 words_utf8 [] = tt
@@ -37,6 +38,37 @@ unreadable_up (Err f) fault P Q is step p = go f (subst (Unreadable P) (sym is) 
     go : (f : ProgramFault) → Unreadable P f → Unreadable Q f
     go (CommandLine complaint) p = p
     go BadWords p = step p
+    go (Read name) p = p
+    go (Write name) p = p
+    go Output p = p
+    go Memory p = p
+
+-- nothing is read of the matches of `validate`
+module _ (rows : List Row) (found : Option (Text × List Row)) (is : found ≡ Some (validate.name, rows)) where
+  -- the second byte tells the name from those of other commands
+  named_as : (name : Text) (other : List Row) → found ≡ Some (name, other) → second validate.name ≡ second name
+  named_as name other e = ap second (both_same validate.name name rows other found found is e refl).0
+
+  rows_as : (other : List Row) → found ≡ Some (validate.name, other) → other ≡ rows
+  rows_as other e = (both_same validate.name validate.name other rows found found e is refl).1
+
+  unread_judging : ((a : Asked) → ReadsJudging rows a → ⊥) → (a : Asked) → Reads found a → ⊥
+  unfolding second
+  unread_judging none (asks.Edit c) r = differ (second validate.name) (second edit.name) refl (named_as edit.name r.0 r.1)
+  unread_judging none (asks.Objdump c) r = differ (second validate.name) (second objdump.name) refl (named_as objdump.name r.0 r.1)
+  unread_judging none (asks.Sections file) r = differ (second validate.name) (second sections.name) refl (named_as sections.name r.0 r.1)
+  unread_judging none (asks.Strip c) r = differ (second validate.name) (second strip.name) refl (named_as strip.name r.0 r.1)
+  unread_judging none (asks.Validate c) r = none (asks.Validate c) (subst (λ rs. ReadsValidate rs c) (rows_as r.0 r.1) r.2)
+  unread_judging none (asks.ValidateEach c) r = none (asks.ValidateEach c) (subst (λ rs. ReadsEach rs c) (rows_as r.0 r.1) r.2)
+
+pub judging_up : {T : Type 0} (r : Result T ProgramFault) (rows : List Row) (found : Option (Text × List Row)) → found ≡ Some (validate.name, rows)
+    → IfErr r (Unreadable (ReadsJudging rows)) → IfErr r (Unreadable (Reads found))
+judging_up (Ok x) rows found is p = tt
+judging_up (Err f) rows found is p = go f p
+  where
+    go : (f : ProgramFault) → Unreadable (ReadsJudging rows) f → Unreadable (Reads found) f
+    go (CommandLine complaint) p = p
+    go BadWords p = unread_judging rows found is p
     go (Read name) p = p
     go (Write name) p = p
     go Output p = p

@@ -1,46 +1,26 @@
 -- What is read of the words is the command that they spell.
 use Rattle.std.proofs.Common.{◌≡◌, ◌∙◌, Bool, true, false, Option, Some, None, List, [], ◌∷◌, length, refl, sym, subst, ap, inl, inr, arith, codes}
-use Rattle.std.specs.List.{fold, AllByRecursion}
+use Rattle.std.specs.List.{AllByRecursion}
 use Rattle.std.specs.Str.{IsUtf8}
 use Rattle.wk_body.specs.declared.types.Profile.{Profile}
-use Rattle.clap.specs.Walk.{Row, Text, first_of, nothing_held, one_of, with_default}
+use Rattle.clap.specs.Walk.{Row, Text, first_of, nothing_held, one_of}
 use Rattle.clap.specs.Simple.{subcommand_of}
 use Rattle.clap.specs.Faults.{fault_of, level_fault}
 use Rattle.wasmkit.specs.declared.command.Asked.{Asked}
 use Rattle.wasmkit.specs.declared.command.Asked.TheVariants as asks
+use Rattle.wasmkit.specs.declared.command.EachCommand.{EachCommand}
 use Rattle.wasmkit.specs.declared.command.EditCommand.{EditCommand}
 use Rattle.wasmkit.specs.declared.command.ObjdumpCommand.{ObjdumpCommand}
 use Rattle.wasmkit.specs.declared.command.StripCommand.{StripCommand}
 use Rattle.wasmkit.specs.declared.command.ValidateCommand.{ValidateCommand}
-use Rattle.wasmkit.specs.CommandLine.{Form, IsIn, IsLineOf, IsSpelled, KeepsName, Line, SpellsEdit, SpellsNone, SpellsObjdump, SpellsSections, SpellsStrip, SpellsValidate, Spells, edit, is_given, line_words, objdump, operands_of, profile_of, sections, strip, validate, value_of}
-use Rattle.wasmkit.specs.Syntax.{IsFlag, IsProfile, Reads, ReadsEdit, ReadsObjdump, ReadsStrip, ReadsValidate, flag_text, wasmkit_app}
-use Rattle.wasmkit.proofs.Walks.{Answers}
+use Rattle.wasmkit.specs.CommandLine.{Form, IsIn, IsLineOf, IsSpelled, KeepsName, Line, SpellsEach, SpellsEdit, SpellsNone, SpellsObjdump, SpellsSections, SpellsStrip, SpellsValidate, Spells, edit, is_given, line_words, objdump, operands_of, profile_of, sections, strip, validate, value_of}
+use Rattle.wasmkit.specs.Syntax.{IsFlag, IsProfile, Reads, ReadsEach, ReadsEdit, ReadsObjdump, ReadsStrip, ReadsValidate, flag_text, wasmkit_app}
 use Rattle.wasmkit.proofs.LineWalks.{word_rows}
-use Rattle.wasmkit.proofs.Levels.{flag_read, line_found, line_passes, operand_read, rows_of_line, setting_read, Asks}
-use Rattle.wasmkit.proofs.Forms.{built_shape, edit_answers, edit_asks, objdump_answers, objdump_asks, sections_answers, sections_asks, strip_answers, strip_asks, validate_answers, validate_asks}
+use Rattle.wasmkit.proofs.Forms.{built_shape}
+use Rattle.wasmkit.proofs.Known.{Known, each_read, edit_known, files_read, final_rows, objdump_known, sections_known, strip_known, validate_known}
 use Rattle.wasmkit.proofs.FirstWord.{edit_named, fault_is, first_word, objdump_named, sections_named, strip_named, subcommand_is, validate_named, IsCommand, IsNamed}
 
 -- ---- any command
-
-pub record Known (f : Form) : Type 0 where
-  pub named : IsNamed f
-  pub answers : Answers f (built_shape f)
-  pub asks : Asks f (built_shape f)
-
-pub edit_known : Known edit
-edit_known = record { named = edit_named; answers = edit_answers; asks = edit_asks }
-
-pub objdump_known : Known objdump
-objdump_known = record { named = objdump_named; answers = objdump_answers; asks = objdump_asks }
-
-pub sections_known : Known sections
-sections_known = record { named = sections_named; answers = sections_answers; asks = sections_asks }
-
-pub strip_known : Known strip
-strip_known = record { named = strip_named; answers = strip_answers; asks = strip_asks }
-
-pub validate_known : Known validate
-validate_known = record { named = validate_named; answers = validate_answers; asks = validate_asks }
 
 named_of : (f : Form) → IsCommand f → IsNamed f
 named_of f (inl e) = subst IsNamed (sym e) edit_named
@@ -48,10 +28,6 @@ named_of f (inr (inl e)) = subst IsNamed (sym e) objdump_named
 named_of f (inr (inr (inl e))) = subst IsNamed (sym e) sections_named
 named_of f (inr (inr (inr (inl e)))) = subst IsNamed (sym e) strip_named
 named_of f (inr (inr (inr (inr e)))) = subst IsNamed (sym e) validate_named
-
--- the rows of a line, with defaults
-abbrev pub final_rows : Form → Line → List Row
-final_rows f l = fold with_default (rows_of_line f l) (built_shape f).rules
 
 abbrev Found : Type 0
 Found = Text × List Row
@@ -73,11 +49,10 @@ both_same a c b d p q e f same =
 
 module _ (f : Form) (known : Known f) where
   pub spelled_passes : (words : List Text) (l : Line) → IsSpelled f words l → (fault_of wasmkit_app words ≡ []) × (subcommand_of wasmkit_app words ≡ Some (f.name, final_rows f l))
-  spelled_passes words l is =
-      let passes = line_passes f (built_shape f) known.answers known.asks l is.1 in (
-        ap (fault_of wasmkit_app) is.0 ∙ (fault_is f known.named (line_words l) ∙ passes.0),
-        ap (subcommand_of wasmkit_app) is.0 ∙ (subcommand_is f known.named (line_words l) ∙ ap (λ rows. Some (f.name, rows)) passes.1),
-      )
+  spelled_passes words l is = (
+    ap (fault_of wasmkit_app) is.0 ∙ (fault_is f known.named (line_words l) ∙ known.passes l is.1),
+    ap (subcommand_of wasmkit_app) is.0 ∙ subcommand_is f known.named (line_words l),
+  )
 
   passes_spelled : (words : List Text) (rows : List Row) → AllByRecursion IsUtf8 words → fault_of wasmkit_app words ≡ [] → subcommand_of wasmkit_app words ≡ Some (f.name, rows)
       → (l : Line) × IsSpelled f words l × (rows ≡ final_rows f l)
@@ -90,7 +65,7 @@ module _ (f : Form) (known : Known f) where
       let is : words ≡ f.name ∷ rest = first.3 ∙ ap (λ (w : Text). w ∷ rest) same.0 in
       let utf8_rest : AllByRecursion IsUtf8 rest = (subst (AllByRecursion IsUtf8) is utf8).1 in
       let level : level_fault (built_shape f) [] nothing_held rest false [] ≡ [] = sym (fault_is f known.named rest) ∙ (ap (fault_of wasmkit_app) (sym is) ∙ none) in
-      let line = line_found f (built_shape f) known.answers known.asks rest utf8_rest level in
+      let line = known.found rest utf8_rest level in
       let spelled : IsSpelled f words line.0 = (is ∙ ap (λ t. f.name ∷ t) line.1, line.2) in
       let again = both_same f.name f.name rows (final_rows f line.0) _ _ found (spelled_passes words line.0 spelled).1 refl in
       (line.0, spelled, again.1)
@@ -105,6 +80,9 @@ two_names = codes "FILE" ∷ codes "OUT" ∷ []
 
 abbrev three_names : List Text
 three_names = codes "FILE" ∷ codes "SCRIPT" ∷ codes "OUT" ∷ []
+
+pub some_words : {words files : List Text} → Some words ≡ Some files → words ≡ files
+some_words e = cc
 
 one_word : (words : List Text) (a : Text) → length words ≡ 1 → first_of (codes "FILE") (word_rows file_names words) ≡ Some a → words ≡ a ∷ []
 one_word [] a h e = absurd (omega arith)
@@ -142,13 +120,13 @@ module _ (f : Form) (known : Known f) (l : Line) (is : IsLineOf f l) where
   found_flag n = one_of n (final_rows f l) ≡ Some (flag_text (is_given n l))
 
   pub the_flag : (n : Text) → IsIn n f.flags → found_flag n
-  the_flag n i = flag_read f (built_shape f) known.answers known.asks l is.pieces n i
+  the_flag n i = known.flags l is n i
 
   pub the_setting : (n : Text) → IsIn n f.settings → first_of n (final_rows f l) ≡ value_of n l
-  the_setting n i = setting_read f (built_shape f) known.answers known.asks l is.pieces n i
+  the_setting n i = known.settings l is n i
 
   the_operand : (n : Text) → IsIn n f.operands → first_of n (final_rows f l) ≡ first_of n (word_rows f.operands (operands_of l))
-  the_operand n i = operand_read f (built_shape f) known.answers known.asks l is.pieces n i
+  the_operand n i = known.operands l is n i
 
   -- both ways, of a flag
   flag_said : (n : Text) → IsIn n f.flags → (b : Bool) → b ≡ is_given n l → IsFlag n (final_rows f l) b
@@ -229,8 +207,25 @@ module _ (words : List Text) where
       let reads = subst (λ rs. ReadsValidate rs c) got.2 reads0 in record {
         line = l;
         spelled = got.1;
-        operands = one_word (operands_of l) _ is.operands (sym (the_operand validate validate_known l is (codes "FILE") (inl refl)) ∙ reads.file);
-        profile = reads.profile _ (the_flag validate validate_known l is (codes "extended") (inl refl));
+        alone = sym (each_read l is) ∙ reads.alone;
+        explain = reads.explain _ (the_flag validate validate_known l is (codes "explain") (inr (inr (inl refl))));
+        operands = some_words (sym (files_read l is) ∙ reads.file);
+        profile = reads.profile _ (the_flag validate validate_known l is (codes "extended") (inr (inl refl)));
+      }
+
+  each_spelled : (rows : List Row) (c : EachCommand) → AllByRecursion IsUtf8 words → fault_of wasmkit_app words ≡ []
+      → subcommand_of wasmkit_app words ≡ Some (validate.name, rows) → ReadsEach rows c → SpellsEach words c
+  each_spelled rows c utf8 none found reads0 =
+      let got = passes_spelled validate validate_known words rows utf8 none found in
+      let l = got.0 in
+      let is = got.1.1 in
+      let reads = subst (λ rs. ReadsEach rs c) got.2 reads0 in record {
+        line = l;
+        spelled = got.1;
+        each = sym (each_read l is) ∙ reads.each;
+        explain = reads.explain _ (the_flag validate validate_known l is (codes "explain") (inr (inr (inl refl))));
+        operands = some_words (sym (files_read l is) ∙ reads.files);
+        profile = reads.profile _ (the_flag validate validate_known l is (codes "extended") (inr (inl refl)));
       }
 
 -- what is read is what the words spell
@@ -240,6 +235,7 @@ read_spelled words utf8 none (asks.Objdump c) r = objdump_read words r.0 c utf8 
 read_spelled words utf8 none (asks.Sections file) r = sections_read words r.0 file.now utf8 none r.1 r.2
 read_spelled words utf8 none (asks.Strip c) r = strip_read words r.0 c utf8 none r.1 r.2
 read_spelled words utf8 none (asks.Validate c) r = validate_read words r.0 c utf8 none r.1 r.2
+read_spelled words utf8 none (asks.ValidateEach c) r = each_spelled words r.0 c utf8 none r.1 r.2
 
 pub operand_said : (f : Form) (known : Known f) (l : Line) (is : IsLineOf f l) (n : Text) (given : List Text) (a : Text) → IsIn n f.operands → operands_of l ≡ given
     → first_of n (word_rows f.operands given) ≡ Some a → first_of n (final_rows f l) ≡ Some a
@@ -319,8 +315,25 @@ spelled_read words (asks.Validate c) s =
         final_rows validate s.line,
         passes.1,
         record {
-          file = operand_said validate validate_known s.line is (codes "FILE") (c.file.now ∷ []) _ (inl refl) s.operands refl;
-          profile = profile_said validate validate_known s.line is (inl refl) c.profile s.profile;
+          alone = each_read s.line is ∙ s.alone;
+          explain = flag_said validate validate_known s.line is (codes "explain") (inr (inr (inl refl))) c.explain s.explain;
+          file = files_read s.line is ∙ ap (λ files. Some files) s.operands;
+          profile = profile_said validate validate_known s.line is (inr (inl refl)) c.profile s.profile;
+        },
+      ),
+    )
+spelled_read words (asks.ValidateEach c) s =
+    let passes = spelled_passes validate validate_known words s.line s.spelled in
+    let is = s.spelled.1 in (
+      passes.0,
+      (
+        final_rows validate s.line,
+        passes.1,
+        record {
+          each = each_read s.line is ∙ s.each;
+          explain = flag_said validate validate_known s.line is (codes "explain") (inr (inr (inl refl))) c.explain s.explain;
+          files = files_read s.line is ∙ ap (λ files. Some files) s.operands;
+          profile = profile_said validate validate_known s.line is (inr (inl refl)) c.profile s.profile;
         },
       ),
     )

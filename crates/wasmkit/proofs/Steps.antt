@@ -1,8 +1,9 @@
 -- Runs, step by step.
-use Rattle.std.proofs.Common.{◌≡◌, ℕ, Option, Some, List, [], ◌∷◌, Result, Ok, Err, refl, sym, subst, ap, ◌∙◌, inl, inr}
+use Rattle.std.proofs.Common.{◌≡◌, ◌≤◌, ◌<◌, ℕ, Option, Some, List, [], ◌∷◌, length, Result, Ok, Err, refl, sym, subst, ap, ◌∙◌, inl, inr}
 use Rattle.std.specs.Prelude.{IsErrAnd}
 use Rattle.std.specs.Io.KnownBytes.{Appends}
 use Rattle.wk_bytes.specs.declared.fault.ReadFault.{ReadFault}
+use Rattle.wk_bytes.specs.Frames.{limit}
 use Rattle.wk_bytes.specs.Taken.{TakesFront}
 use Rattle.wk_body.specs.Reads.{FailsAs}
 use Rattle.wk_body.specs.ReadsLaws.{other_fault}
@@ -13,12 +14,14 @@ use Rattle.wk_list.specs.declared.listing.Part.{Part}
 use Rattle.wk_list.specs.Taken.{failed_after}
 use Rattle.wk_edit.specs.declared.fault.Status.{Status}
 use Rattle.wk_edit.specs.Outcome.{Outcome, status_code}
+use Rattle.wasmkit.specs.declared.command.EditCommand.{EditCommand}
 use Rattle.wasmkit.specs.declared.fault.ProgramFault.{ProgramFault}
+use Rattle.wasmkit.specs.declared.fault.ProgramFault.TheVariants.{Read}
 use Rattle.wasmkit.specs.declared.store.StoreFault.{StoreFault}
-use Rattle.wasmkit.specs.Answers.{Answer, answer_of, listed, on_module, saved_of, AreOf}
+use Rattle.wasmkit.specs.Answers.{Answer, answer_of, edited, listed, on_module, saved_of, AreOf}
 use Rattle.wasmkit.specs.Events.{Event, Loaded, Saved, then_asked, then_all}
 use Rattle.wasmkit.specs.Faults.{of_list, IsOfLoad, IsOfSave}
-use Rattle.wasmkit.specs.Runs.{printing, Rest, Printing, GetsNothing, Goes, Loads, Saves, Stops, Prints, Gives, Refuses}
+use Rattle.wasmkit.specs.Runs.{printing, Rest, Printing, GetsNothing, Goes, Loads, Quietly, Saves, Scripted, Stops, Prints, Gives, Refuses}
 
 -- nothing is printed between equal states
 pub nothing : {T : Option (List ℕ)} {n : ℕ} → GetsNothing (record { before = T; after = T; failed_before = n; failed_after = n })
@@ -110,3 +113,17 @@ stopped these seen m fault p (Ok x) same taken failed is = absurd is
 stopped these seen m lists.Write p (Err f) same taken failed is = rw is (inl (refl, record { taken = rw same at taken; failed = failed }))
 stopped these seen m lists.Memory p (Err f) same taken failed is =
     rw is (inr (inr (refl, refl, record { taken = rw same at taken; failed = failed }, refl)))
+
+-- a SCRIPT is no longer than a module may be
+pub scripted : (c : EditCommand) (input script : List ℕ) (old new : Option (List Event)) (p : Printing) (r : Result ℕ ProgramFault) → length script ≤ limit
+    → Goes (Gives c.out.now (edited c input script)) old new p r → Goes (Scripted c input script) old new p r
+scripted c input script old new p r fits g = record { events = g.events; asked = g.asked; went = inl (fits, g.went) }
+
+-- .. or it is longer
+pub script_refused : (c : EditCommand) (input script : List ℕ) (log : Option (List Event)) (taken : Option (List ℕ)) (failed : ℕ) → limit < length script
+    → Goes (Scripted c input script) log log (printing taken taken failed failed) (Err (Read c.script))
+script_refused c input script log taken failed long = ends (inr (long, (refl, nothing, refl)))
+
+-- nothing was told on standard error
+pub quietly : (rest : Rest) (old new : Option (List Event)) (p : Printing) (r : Result ℕ ProgramFault) → Goes rest old new p r → Goes (Quietly rest []) old new p r
+quietly rest old new p r g = record { events = g.events; asked = g.asked; went = (refl, g.went) }

@@ -3,7 +3,7 @@
 -- The words are those after the name of the program. The first one names the command. Options and operands follow in any order; after `--`
 -- there are operands only. An option begins with `--`, and its value, if it has one, follows `=` or is the next word. `-` alone is an operand.
 -- Words that ask for help or the version spell no command.
-use Rattle.std.specs.Prelude.{◌≡◌, ◌≢◌, ◌⊎◌, ◌==◌, ℕ, Bool, true, false, not, ⊤, Option, Some, None, List, [], ◌∷◌, ◌++◌, length, codes, if◌then◌else◌}
+use Rattle.std.specs.Prelude.{◌≡◌, ◌≢◌, ◌⊎◌, ◌==◌, ◌<◌, ℕ, Bool, true, false, not, ⊤, Option, Some, None, List, [], ◌∷◌, ◌++◌, length, map, codes, if◌then◌else◌}
 use Rattle.std.specs.List.{flat_map, list_any}
 use Rattle.std.specs.Str.{bytes_eq}
 use Rattle.wk_body.specs.declared.types.Profile.{Profile}
@@ -13,6 +13,7 @@ use Rattle.wk_list.specs.declared.listing.Part.TheVariants.{Headers, Details, Co
 use Rattle.wk_edit.specs.ScriptGrammar.{SpellsName}
 use Rattle.wasmkit.specs.declared.command.Asked.{Asked}
 use Rattle.wasmkit.specs.declared.command.Asked.TheVariants as asks
+use Rattle.wasmkit.specs.declared.command.EachCommand.{EachCommand}
 use Rattle.wasmkit.specs.declared.command.EditCommand.{EditCommand}
 use Rattle.wasmkit.specs.declared.command.ObjdumpCommand.{ObjdumpCommand}
 use Rattle.wasmkit.specs.declared.command.StripCommand.{StripCommand}
@@ -32,6 +33,8 @@ pub record Form : Type 0 where
   pub settings : List Word
   -- what its operands are, in order
   pub operands : List Word
+  -- what the operands after those are, of which there is one at least
+  pub more : Option Word
 
 abbrev pub edit : Form
 edit = record {
@@ -39,6 +42,7 @@ edit = record {
   flags = codes "keep-valid" ∷ codes "extended" ∷ [];
   settings = [];
   operands = codes "FILE" ∷ codes "SCRIPT" ∷ codes "OUT" ∷ [];
+  more = None;
 }
 
 abbrev pub objdump : Form
@@ -47,10 +51,11 @@ objdump = record {
   flags = codes "headers" ∷ codes "details" ∷ codes "code" ∷ codes "uses" ∷ codes "extended" ∷ [];
   settings = [];
   operands = codes "FILE" ∷ [];
+  more = None;
 }
 
 abbrev pub sections : Form
-sections = record { name = codes "sections"; flags = []; settings = []; operands = codes "FILE" ∷ [] }
+sections = record { name = codes "sections"; flags = []; settings = []; operands = codes "FILE" ∷ []; more = None }
 
 abbrev pub strip : Form
 strip = record {
@@ -58,10 +63,17 @@ strip = record {
   flags = codes "extended" ∷ [];
   settings = codes "keep" ∷ [];
   operands = codes "FILE" ∷ codes "OUT" ∷ [];
+  more = None;
 }
 
 abbrev pub validate : Form
-validate = record { name = codes "validate"; flags = codes "extended" ∷ []; settings = []; operands = codes "FILE" ∷ [] }
+validate = record {
+  name = codes "validate";
+  flags = codes "each" ∷ codes "extended" ∷ codes "explain" ∷ [];
+  settings = [];
+  operands = [];
+  more = Some (codes "FILE");
+}
 
 -- ---- what is spelled
 
@@ -149,11 +161,16 @@ abbrev pub ArePiecesOf : Form → List Piece → Type 0
 ArePiecesOf f [] = ⊤
 ArePiecesOf f (p ∷ ps) = IsPieceOf f p × ArePiecesOf f ps
 
+-- how many operands a command may have, by how many have a name of their own, and whether there are more
+abbrev pub MayHave : ℕ → Option Word → ℕ → Type 0
+MayHave named None n = n ≡ named
+MayHave named (Some more) n = named < n
+
 -- the options are those of the command, none of them twice, and there are as many operands as it takes
 pub record IsLineOf (f : Form) (l : Line) : Type 0 where
   pub pieces : ArePiecesOf f l.pieces
   pub once : NoneTwice (options_of l.pieces)
-  pub operands : length (operands_of l) ≡ length f.operands
+  pub operands : MayHave (length f.operands) f.more (length (operands_of l))
 
 -- ---- what a line gives
 
@@ -229,10 +246,26 @@ pub record SpellsStrip (words : List Word) (c : StripCommand) : Type 0 where
   pub profile : c.profile ≡ profile_of (is_given (codes "extended") line)
   pub new : c.out.now ≢ c.file.now
 
+-- one FILE, without `--each`
 pub record SpellsValidate (words : List Word) (c : ValidateCommand) : Type 0 where
   pub line : Line
   pub spelled : IsSpelled validate words line
+  pub alone : is_given (codes "each") line ≡ false
+  pub explain : c.explain ≡ is_given (codes "explain") line
   pub operands : operands_of line ≡ c.file.now ∷ []
+  pub profile : c.profile ≡ profile_of (is_given (codes "extended") line)
+
+-- the names of its FILEs
+abbrev pub files_of : EachCommand → List Word
+files_of c = map (λ file. file.now) c.files.items
+
+-- one FILE or more, with `--each`
+pub record SpellsEach (words : List Word) (c : EachCommand) : Type 0 where
+  pub line : Line
+  pub spelled : IsSpelled validate words line
+  pub each : is_given (codes "each") line ≡ true
+  pub explain : c.explain ≡ is_given (codes "explain") line
+  pub operands : operands_of line ≡ files_of c
   pub profile : c.profile ≡ profile_of (is_given (codes "extended") line)
 
 -- the words spell the command
@@ -242,6 +275,7 @@ Spells words (asks.Objdump c) = SpellsObjdump words c
 Spells words (asks.Sections file) = SpellsSections words file.now
 Spells words (asks.Strip c) = SpellsStrip words c
 Spells words (asks.Validate c) = SpellsValidate words c
+Spells words (asks.ValidateEach c) = SpellsEach words c
 
 -- the words spell no command
 abbrev pub SpellsNone : List Word → Type 0
@@ -254,7 +288,8 @@ IsSame (asks.Edit c) (asks.Edit d) = (c.keep_valid ≡ d.keep_valid) × (c.profi
 IsSame (asks.Objdump c) (asks.Objdump d) = (c.parts.items ≡ d.parts.items) × (c.profile ≡ d.profile) × (c.file.now ≡ d.file.now)
 IsSame (asks.Sections file) (asks.Sections other) = file.now ≡ other.now
 IsSame (asks.Strip c) (asks.Strip d) = (c.keep ≡ d.keep) × (c.profile ≡ d.profile) × (c.file.now ≡ d.file.now) × (c.out.now ≡ d.out.now)
-IsSame (asks.Validate c) (asks.Validate d) = (c.profile ≡ d.profile) × (c.file.now ≡ d.file.now)
+IsSame (asks.Validate c) (asks.Validate d) = (c.explain ≡ d.explain) × (c.profile ≡ d.profile) × (c.file.now ≡ d.file.now)
+IsSame (asks.ValidateEach c) (asks.ValidateEach d) = (c.explain ≡ d.explain) × (c.profile ≡ d.profile) × (files_of c ≡ files_of d)
 IsSame command other = ⊥
 
 -- the words spell the command, and no other

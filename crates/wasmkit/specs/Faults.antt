@@ -1,5 +1,5 @@
 -- Why a command gives no answer.
-use Rattle.std.specs.Prelude.{◌≡◌, ℕ, List}
+use Rattle.std.specs.Prelude.{◌≡◌, ℕ, List, ◌++◌, Option, Some, None, codes}
 use Rattle.wk_list.specs.declared.fault.ListFault.{ListFault}
 use Rattle.wk_list.specs.declared.fault.ListFault.TheVariants as lists
 use Rattle.wasmkit.specs.declared.store.StoreFault.{StoreFault}
@@ -16,6 +16,25 @@ fault_status (Read name) = 4
 fault_status (Write name) = 4
 fault_status Output = 4
 fault_status Memory = 5
+
+-- ---- what standard error gets
+
+abbrev pub unread_text : List ℕ → List ℕ
+unread_text name = codes "cannot read " ++ (name ++ codes "\n")
+
+abbrev pub memory_text : List ℕ
+memory_text = codes "out of memory\n"
+
+-- the text of a fault, where it is not the parser's
+abbrev pub fault_text : ProgramFault → Option (List ℕ)
+fault_text (CommandLine complaint) = None
+fault_text BadWords = Some (codes "bad command line\n")
+fault_text (Read name) = Some (unread_text name.now)
+fault_text (Write name) = Some (codes "cannot write " ++ (name.now ++ codes "\n"))
+fault_text Output = Some (codes "cannot write standard output\n")
+fault_text Memory = Some memory_text
+
+-- ---- what a fault is of
 
 -- of a file of that name that was not read
 abbrev pub IsOfLoad : List ℕ → StoreFault → ProgramFault → Type 0

@@ -1,21 +1,24 @@
 -- What the parser of the command line knows of the commands, and what is read of the matches that it finds.
-use Rattle.std.specs.Prelude.{◌≡◌, ◌≢◌, false, true, Bool, List, [], ◌++◌, map, codes, Option, Some, if◌then◌else◌}
-use Rattle.clap.specs.Walk.{Row, Rule, Text, first_of, one_of}
+use Rattle.std.specs.Prelude.{◌≡◌, ◌≢◌, false, true, Bool, List, [], ◌∷◌, ◌++◌, map, codes, Option, Some, None, if◌then◌else◌}
+use Rattle.std.specs.Option.{option_map_or}
+use Rattle.std.specs.Str.{bytes_eq}
+use Rattle.clap.specs.Walk.{Row, Rule, Text, all_of, first_of, one_of}
 use Rattle.clap.specs.Simple.{App, Shape, app_of, new_rule, new_shape, with_subcommand}
-use Rattle.clap.specs.declared.builder.action.ArgAction.TheVariants.{Set, SetTrue}
+use Rattle.clap.specs.declared.builder.action.ArgAction.TheVariants.{Append, Set, SetTrue}
 use Rattle.clap.specs.declared.builder.command.Command.{Command}
 use Rattle.clap.specs.declared.builder.command.Command.TheViews.{out-Command}
 use Rattle.wk_body.specs.declared.types.Profile.{Profile}
 use Rattle.wk_list.specs.declared.listing.Part.{Part}
 use Rattle.wasmkit.specs.declared.command.Asked.{Asked}
 use Rattle.wasmkit.specs.declared.command.Asked.TheVariants as asks
+use Rattle.wasmkit.specs.declared.command.EachCommand.{EachCommand}
 use Rattle.wasmkit.specs.declared.command.EditCommand.{EditCommand}
 use Rattle.wasmkit.specs.declared.command.ObjdumpCommand.{ObjdumpCommand}
 use Rattle.wasmkit.specs.declared.command.StripCommand.{StripCommand}
 use Rattle.wasmkit.specs.declared.command.ValidateCommand.{ValidateCommand}
 use Rattle.wasmkit.specs.declared.fault.ProgramFault.{ProgramFault}
 use Rattle.wasmkit.specs.declared.fault.ProgramFault.TheVariants.{BadWords, Memory}
-use Rattle.wasmkit.specs.CommandLine.{Form, KeepsName, edit, objdump, parts_of, profile_of, sections, strip, validate}
+use Rattle.wasmkit.specs.CommandLine.{Form, KeepsName, Word, edit, files_of, objdump, parts_of, profile_of, sections, strip, validate}
 
 -- ---- what the parser knows
 
@@ -28,8 +31,18 @@ setting_rule name = record (new_rule name) { long = Some name; action = Some Set
 abbrev pub word_rule : Text → Rule
 word_rule name = record (new_rule name) { action = Some Set; required = true }
 
+-- a word that may be given again
+abbrev pub words_rule : Text → Rule
+words_rule name = record (new_rule name) { action = Some Append; required = true }
+
+abbrev pub more_rules : Option Word → List Rule
+more_rules None = []
+more_rules (Some name) = words_rule name ∷ []
+
 abbrev pub shape_of_form : Form → Shape
-shape_of_form f = record (new_shape f.name) { rules = map setting_rule f.settings ++ (map flag_rule f.flags ++ map word_rule f.operands) }
+shape_of_form f = record (new_shape f.name) {
+  rules = map setting_rule f.settings ++ (map flag_rule f.flags ++ (map word_rule f.operands ++ more_rules f.more));
+}
 
 -- the parser of one command
 pub record IsOfForm (f : Form) (c : Command) : Type 0 where
@@ -54,6 +67,10 @@ flag_text b = if b then codes "true" else codes "false"
 -- the matches say whether the flag is given
 abbrev pub IsFlag : Text → List Row → Bool → Type 0
 IsFlag name rows b = (v : Bool) → one_of name rows ≡ Some (flag_text v) → b ≡ v
+
+-- whether the matches have the flag as given
+abbrev pub is_on : Text → List Row → Bool
+is_on name rows = option_map_or (λ text. bytes_eq text (codes "true")) (first_of name rows) false
 
 abbrev pub IsProfile : List Row → Profile → Type 0
 IsProfile rows p = (v : Bool) → one_of (codes "extended") rows ≡ Some (flag_text v) → p ≡ profile_of v
@@ -85,8 +102,22 @@ pub record ReadsStrip (rows : List Row) (c : StripCommand) : Type 0 where
   pub new : c.out.now ≢ c.file.now
 
 pub record ReadsValidate (rows : List Row) (c : ValidateCommand) : Type 0 where
-  pub file : first_of (codes "FILE") rows ≡ Some c.file.now
+  pub alone : is_on (codes "each") rows ≡ false
+  pub explain : IsFlag (codes "explain") rows c.explain
+  pub file : all_of (codes "FILE") rows ≡ Some (c.file.now ∷ [])
   pub profile : IsProfile rows c.profile
+
+pub record ReadsEach (rows : List Row) (c : EachCommand) : Type 0 where
+  pub each : is_on (codes "each") rows ≡ true
+  pub explain : IsFlag (codes "explain") rows c.explain
+  pub files : all_of (codes "FILE") rows ≡ Some (files_of c)
+  pub profile : IsProfile rows c.profile
+
+-- both commands that are called `validate`
+abbrev pub ReadsJudging : List Row → Asked → Type 0
+ReadsJudging rows (asks.Validate c) = ReadsValidate rows c
+ReadsJudging rows (asks.ValidateEach c) = ReadsEach rows c
+ReadsJudging rows other = ⊥
 
 -- the name of a command and its matches, as the command that they ask for
 abbrev pub Reads : Option (Text × List Row) → Asked → Type 0
@@ -95,6 +126,7 @@ Reads found (asks.Objdump c) = (rows : List Row) × (found ≡ Some (objdump.nam
 Reads found (asks.Sections file) = (rows : List Row) × (found ≡ Some (sections.name, rows)) × (first_of (codes "FILE") rows ≡ Some file.now)
 Reads found (asks.Strip c) = (rows : List Row) × (found ≡ Some (strip.name, rows)) × ReadsStrip rows c
 Reads found (asks.Validate c) = (rows : List Row) × (found ≡ Some (validate.name, rows)) × ReadsValidate rows c
+Reads found (asks.ValidateEach c) = (rows : List Row) × (found ≡ Some (validate.name, rows)) × ReadsEach rows c
 
 -- no command is read, because there is none or memory was refused
 abbrev pub Unreadable : {C : Type 0} → (C → Type 0) → ProgramFault → Type 0

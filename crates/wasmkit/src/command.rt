@@ -1,13 +1,16 @@
 //! The command line.
 
-ghost use Rattle.std.specs.Prelude.{◌≡◌, ◌++◌, IfErr, IfOk, OnOk, Some, codes, false, map, option_map, string_bytes};
-ghost use Rattle.clap.specs.Words.{app_of, first_of, found_of, rows_of, rule_of, subcommand_rows_of};
-ghost use Rattle.wasmkit.specs.CommandLine.{edit, objdump, part_if, profile_of, sections, strip, validate, Form, KeepsName, SpellsOnly};
+ghost use Rattle.std.specs.Prelude.{◌≡◌, ◌++◌, IfErr, IfOk, OnOk, Some, codes, map, option_map, string_bytes};
+ghost use Rattle.clap.specs.Words.{all_of, first_of, found_of, rows_of, subcommand_rows_of};
+ghost use Rattle.wasmkit.specs.CommandLine.{part_if, profile_of, KeepsName, SpellsOnly};
 ghost use Rattle.wasmkit.specs.Faults.{RefusesWords};
-ghost use Rattle.wasmkit.specs.Syntax.{flag_rule, setting_rule, wasmkit_app, with_form, word_rule, AreParts, IsFlag, IsOfForm, IsProfile, Reads, ReadsEdit, ReadsObjdump, ReadsStrip, ReadsValidate, Unreadable};
+ghost use Rattle.wasmkit.specs.Syntax.{is_on, AreParts, IsFlag, IsProfile, Reads, ReadsEdit, ReadsJudging, ReadsObjdump, ReadsStrip, Unreadable};
 
+mod parser;
+
+use crate::command::parser::command;
 use crate::fault::ProgramFault;
-use clap::{Arg, ArgAction, ArgMatches, Command};
+use clap::ArgMatches;
 use std::alloc::{AllocError, Global};
 use wk_bytes::Text;
 use wk_edit::read_name;
@@ -27,6 +30,8 @@ pub enum Asked<'a> {
     Strip(StripCommand<'a>),
     /// `validate`
     Validate(ValidateCommand<'a>),
+    /// `validate --each`
+    ValidateEach(EachCommand<'a>),
 }
 
 /// `edit [--keep-valid] [--extended] FILE SCRIPT OUT`: the names of files, as they stand.
@@ -68,216 +73,26 @@ pub struct StripCommand<'a> {
     pub out: &'a str,
 }
 
-/// `validate [--extended] FILE`: the name of the file, as it stands.
+/// `validate --each [--explain] [--extended] FILE..`: the names of files, as they stand.
+#[derive(Debug, Drop)]
+pub struct EachCommand<'a> {
+    /// Whether a line says where in the bytes each fault is.
+    pub explain: bool,
+    /// The profile that the modules are read and judged in.
+    pub profile: Profile,
+    /// The modules, in order.
+    pub files: Vec<&'a str>,
+}
+
+/// `validate [--explain] [--extended] FILE`: the name of the file, as it stands.
 #[derive(Clone, Copy, Debug)]
 pub struct ValidateCommand<'a> {
+    /// Whether a line says where in the bytes the fault is.
+    pub explain: bool,
     /// The profile that the module is read and judged in.
     pub profile: Profile,
     /// The module.
     pub file: &'a str,
-}
-
-/// The version of the program.
-const VERSION: &str = "0.9.0";
-
-const EXAMPLE: &str = "Example:
-  wasmkit validate app.wasm
-
-Exit status:
-  0  it was done; of edit and validate: the module is valid, and each edit was made
-  1  the module is invalid, or an edit was refused
-  2  the file is not a module
-  3  the command line or the script is wrong, or it asked for help or the version
-  4  a file could not be read or written, or standard output could not be written
-  5  there was not enough memory";
-
-const EDIT_EXAMPLE: &str =
-    "Example, where the file edits has the lines `custom set build 0142` and `export func main 3`:
-  wasmkit edit --keep-valid app.wasm edits out.wasm
-
-It makes both edits, writes out.wasm and prints
-  1 ok
-  2 ok
-  valid
-
-All lines that a script may have are in docs/SCRIPTS.md.";
-
-const OBJDUMP_EXAMPLE: &str = "Example:
-  wasmkit objdump --details --code app.wasm
-
-It lists the items of each section, and then the instructions of each function, with their offsets.";
-
-const SECTIONS_EXAMPLE: &str = "Example:
-  wasmkit sections app.wasm
-
-It prints a line for each section, such as
-    Type start=0x0000000a end=0x0000000e size=0x00000004";
-
-const STRIP_EXAMPLE: &str = "Example:
-  wasmkit strip --keep name app.wasm out.wasm
-
-It writes the module to out.wasm without its custom sections, but for those named `name`.";
-
-const VALIDATE_EXAMPLE: &str = "Example:
-  wasmkit validate app.wasm
-
-It prints `valid`, or the first fault and its place, such as
-  invalid V15 StackHeight at section 10 item 0 token 1";
-
-fn word<'a>(alloc: Global, id: &'static str, help: &'static str) -> Arg<'a>
-    ensures { (rule_of result ≡ word_rule id.entry.now) × (result.global ≡ false) }
-{
-    Arg::new(alloc, id)
-        .required(true)
-        .action(ArgAction::Set)
-        .help(help)
-}
-
-// An option without a value.
-fn flag<'a>(alloc: Global, id: &'static str, help: &'static str) -> Arg<'a>
-    ensures { (rule_of result ≡ flag_rule id.entry.now) × (result.global ≡ false) }
-{
-    Arg::new(alloc, id)
-        .long(id)
-        .action(ArgAction::SetTrue)
-        .help(help)
-}
-
-// An option with a value, which help calls `value`.
-fn setting<'a>(alloc: Global, id: &'static str, value: &'static str, help: &'static str) -> Arg<'a>
-    ensures { (rule_of result ≡ setting_rule id.entry.now) × (result.global ≡ false) }
-{
-    Arg::new(alloc, id)
-        .long(id)
-        .value_name(value)
-        .action(ArgAction::Set)
-        .help(help)
-}
-
-// `--extended`, the option of commands that read a module.
-fn extended<'a>(alloc: Global) -> Arg<'a>
-    ensures { (rule_of result ≡ flag_rule (codes "extended")) × (result.global ≡ false) }
-{
-    flag(
-        alloc,
-        "extended",
-        "reads sign extension, and blocks of any function type, as well",
-    )
-}
-
-fn edit_command<'a>(alloc: Global) -> Result<Command<'a>, AllocError>
-    ensures { IfOk result (IsOfForm edit) }
-{
-    let args = vec![in alloc;
-        flag(
-            alloc,
-            "keep-valid",
-            "refuses an edit that would leave an invalid module"
-        ),
-        extended(alloc),
-        word(alloc, "FILE", "the module"),
-        word(alloc, "SCRIPT", "the edits, one a line"),
-        word(alloc, "OUT", "where the edited module goes"),
-    ]?;
-    Command::new(alloc, "edit")
-        .about("Makes the edits of a script on a module")
-        .after_help(EDIT_EXAMPLE)
-        .args(args)
-}
-
-fn objdump_command<'a>(alloc: Global) -> Result<Command<'a>, AllocError>
-    ensures { IfOk result (IsOfForm objdump) }
-{
-    let args = vec![in alloc;
-        flag(
-            alloc,
-            "headers",
-            "lists the sections; so it is without any of these options"
-        ),
-        flag(alloc, "details", "lists the items of each section"),
-        flag(alloc, "code", "lists the instructions of each function"),
-        flag(alloc, "uses", "lists what each function refers to"),
-        extended(alloc),
-        word(alloc, "FILE", "the module"),
-    ]?;
-    Command::new(alloc, "objdump")
-        .about("Lists parts of a module, by its written form")
-        .after_help(OBJDUMP_EXAMPLE)
-        .args(args)
-}
-
-fn sections_command<'a>(alloc: Global) -> Result<Command<'a>, AllocError>
-    ensures { IfOk result (IsOfForm sections) }
-{
-    Command::new(alloc, "sections")
-        .about("Lists the sections of a module, unread")
-        .after_help(SECTIONS_EXAMPLE)
-        .arg(word(alloc, "FILE", "the module"))
-}
-
-fn strip_command<'a>(alloc: Global) -> Result<Command<'a>, AllocError>
-    ensures { IfOk result (IsOfForm strip) }
-{
-    let keep = setting(
-        alloc,
-        "keep",
-        "NAME",
-        "keeps the custom sections of this name",
-    );
-    let args = vec![in alloc;
-        keep,
-        extended(alloc),
-        word(alloc, "FILE", "the module"),
-        word(alloc, "OUT", "where the stripped module goes"),
-    ]?;
-    Command::new(alloc, "strip")
-        .about("Removes the custom sections of a module")
-        .after_help(STRIP_EXAMPLE)
-        .args(args)
-}
-
-fn validate_command<'a>(alloc: Global) -> Result<Command<'a>, AllocError>
-    ensures { IfOk result (IsOfForm validate) }
-{
-    let args = vec![in alloc; extended(alloc), word(alloc, "FILE", "the module")]?;
-    Command::new(alloc, "validate")
-        .about("Says whether a module is valid, or its first fault")
-        .after_help(VALIDATE_EXAMPLE)
-        .args(args)
-}
-
-// The command with another below it, if that could be made.
-fn with_subcommand<'a>(
-    command: Command<'a>,
-    made: Result<Command<'a>, AllocError>,
-) -> Result<Command<'a>, AllocError>
-    ensures { (f : Form) → IfOk made.entry (IsOfForm f)
-        → IfOk result (λ c. app_of c ≡ with_form (app_of command.entry) f) }
-{
-    match made {
-        Ok(subcommand) => command.subcommand(subcommand),
-        Err(fault) => {
-            drop(command);
-            Err(fault)
-        }
-    }
-}
-
-fn command<'a>(alloc: Global) -> Result<Command<'a>, AllocError>
-    ensures { IfOk result (λ c. app_of c ≡ wasmkit_app) }
-{
-    let command = Command::new(alloc, "wasmkit")
-        .bin_name("wasmkit")?
-        .about("Reads, judges, lists and edits WebAssembly 1.0 binary modules")
-        .version(VERSION)
-        .after_help(EXAMPLE)
-        .no_binary_name(true)
-        .subcommand_required(true);
-    let command = with_subcommand(command, edit_command(alloc))?;
-    let command = with_subcommand(command, objdump_command(alloc))?;
-    let command = with_subcommand(command, sections_command(alloc))?;
-    let command = with_subcommand(command, strip_command(alloc))?;
-    with_subcommand(command, validate_command(alloc))
 }
 
 // The word of an argument, if it was found.
@@ -293,6 +108,24 @@ fn is_set(found: &ArgMatches<'_>, id: &'static str) -> bool
     ensures { IsFlag id.entry.now (rows_of (found_of found.now)) result }
 {
     found.get_flag(id)
+}
+
+// All words of an argument, if it was found.
+fn texts_of<'b, 'a>(found: &'b ArgMatches<'a>, id: &'static str) -> Option<&'b [&'a str]>
+    ensures { option_map (λ words. map (λ word. word.now) words.now) result
+        ≡ all_of id.entry.now (rows_of (found_of found.now)) }
+{
+    found.get_strs(id)
+}
+
+// Whether `--each` was found: the text of an option without a value is `true` or `false`.
+fn is_each(found: &ArgMatches<'_>) -> bool
+    ensures { result ≡ is_on (codes "each") (rows_of (found_of found.now)) }
+{
+    match text_of(found, "each") {
+        Some(text) => text == "true",
+        None => false,
+    }
 }
 
 // The profile of a command that is extended, or is not.
@@ -425,17 +258,26 @@ fn read_strip<'a>(
     })
 }
 
-fn read_validate<'a>(found: &ArgMatches<'a>) -> Result<ValidateCommand<'a>, ProgramFault<'a>>
-    ensures ok { IfOk result (ReadsValidate (rows_of (found_of found.now))) }
-    ensures err { IfErr result (Unreadable (ReadsValidate (rows_of (found_of found.now)))) }
+// Without `--each` there is one FILE.
+fn read_validate<'a>(alloc: Global, found: &ArgMatches<'a>) -> Result<Asked<'a>, ProgramFault<'a>>
+    ensures ok { IfOk result (ReadsJudging (rows_of (found_of found.now))) }
+    ensures err { IfErr result (Unreadable (ReadsJudging (rows_of (found_of found.now)))) }
 {
-    let Some(file) = text_of(found, "FILE") else {
-        return Err(ProgramFault::BadWords);
-    };
-    Ok(ValidateCommand {
-        profile: profile_in(found),
-        file,
-    })
+    let explain = is_set(found, "explain");
+    let profile = profile_in(found);
+    match (is_each(found), texts_of(found, "FILE")) {
+        (true, Some(files)) => Ok(Asked::ValidateEach(EachCommand {
+            explain,
+            profile,
+            files: files.to_owned(alloc)?,
+        })),
+        (false, Some([file])) => Ok(Asked::Validate(ValidateCommand {
+            explain,
+            profile,
+            file,
+        })),
+        _ => Err(ProgramFault::BadWords),
+    }
 }
 
 // What was found in the words asks for.
@@ -448,7 +290,7 @@ fn asked_of<'a>(alloc: Global, matches: &ArgMatches<'a>) -> Result<Asked<'a>, Pr
         Some(("objdump", found)) => Ok(Asked::Objdump(read_objdump(alloc, found)?)),
         Some(("sections", found)) => Ok(Asked::Sections(read_sections(found)?)),
         Some(("strip", found)) => Ok(Asked::Strip(read_strip(alloc, found)?)),
-        Some(("validate", found)) => Ok(Asked::Validate(read_validate(found)?)),
+        Some(("validate", found)) => read_validate(alloc, found),
         _ => Err(ProgramFault::BadWords),
     }
 }
@@ -457,7 +299,8 @@ fn asked_of<'a>(alloc: Global, matches: &ArgMatches<'a>) -> Result<Asked<'a>, Pr
 ///
 /// # Errors
 ///
-/// What `clap` says of words that are no command, and `BadWords` where OUT is spelled as FILE or SCRIPT, or NAME is no name.
+/// What `clap` says of words that are no command, and `BadWords` where OUT is spelled as FILE or SCRIPT, NAME is no name, or `validate`
+/// has several FILEs without `--each`.
 pub fn read_words<'a>(alloc: Global, words: &'a [String]) -> Result<Asked<'a>, ProgramFault<'a>>
     ensures ok { IfOk result (SpellsOnly (map string_bytes words.now)) }
     ensures err { IfErr result (RefusesWords (map string_bytes words.now)) }

@@ -2,30 +2,38 @@
 //!
 //! `specs/Answers` says what each command makes of the files that it reads, and `specs/Runs` in which order they are read, what is
 //! saved, what is printed, and how it ends.
-ghost use Rattle.std.specs.Prelude.{◌≡◌, ◌⊎◌, ℕ, ◌-◌, ◌<◌, ◌^◌, codes, false, if◌then◌else◌, [], map, option_map, string_bytes, Result, Ok, Err, IfOk, MatchResult};
+ghost use Rattle.std.specs.Prelude.{◌≡◌, ℕ, ◌-◌, ◌<◌, ◌^◌, false, if◌then◌else◌, List, [], map, option_map, string_bytes, Result, Ok, Err, IfOk, MatchResult};
 ghost use Rattle.std.specs.List.{list_any};
 ghost use Rattle.wk_module.specs.Reading.{module_at};
 ghost use Rattle.wk_module.specs.Writing.{Fits};
 ghost use Rattle.wk_list.specs.Listing.{lists_bodies};
 ghost use Rattle.wk_edit.specs.Outcome.{outcome_of};
-ghost use Rattle.wasmkit.specs.declared.command.Asked.TheVariants as asks;
 ghost use Rattle.wasmkit.specs.declared.fault.ProgramFault.{ProgramFault as Fault};
 ghost use Rattle.wasmkit.specs.declared.store.StoreFault.{StoreFault as Why};
 ghost use Rattle.wasmkit.specs.Answers.{listed, on_module, saved_of, AreOf};
 ghost use Rattle.wasmkit.specs.Events.{Loaded, Saved, then_asked};
-ghost use Rattle.wasmkit.specs.Faults.{fault_status, IsOfLoad, IsOfSave};
-ghost use Rattle.wasmkit.specs.Runs.{between, printing, Carries, Exits, Gives, GetsOrFails, Goes, IsAnswered, Prints, Refuses, Saves};
+ghost use Rattle.wasmkit.specs.Faults.{IsOfLoad, IsOfSave};
+ghost use Rattle.wasmkit.specs.Runs.{between, printing, Carries, Dumps, Edits, Exits, Frames, Gives, Goes, Hears, IsAnswered, Judges, Prints, Refuses, Saves, Strips};
+
+mod each;
+mod judging;
+mod telling;
 
 use crate::command::{
     Asked, EditCommand, ObjdumpCommand, StripCommand, ValidateCommand, read_words,
 };
+use crate::commands::each::run_each;
+use crate::commands::judging::judged;
+use crate::commands::telling::tell_after;
 use crate::fault::ProgramFault;
 use crate::store::Store;
 use std::alloc::Global;
+pub use telling::tell;
 use wk_answers::{
-    Listing, Validation, list_bodies, list_parts, list_sections, list_summary_parts, validate,
+    Explanation, Listing, list_bodies, list_parts, list_sections, list_summary_parts,
 };
-use wk_bytes::{Out, OutOfMemory, ReadFault, ReadKind, Sink, put_all};
+use wk_bytes::{LIMIT, Out, OutOfMemory, ReadFault, ReadKind, Sink, put_all};
+use wk_check::Validator;
 use wk_edit::{Status, edit_owned, malformed_line};
 use wk_list::{Layout, Part, Summary};
 use wk_module::{EncodeFault, Module, Profile, read_in};
@@ -169,11 +177,14 @@ fn run_edit<'a, S: Store, X: Out>(
     out: &mut X,
 ) -> Result<u8, ProgramFault<'a>>
     requires { X.failed out.old < 2 ^ 64 - 1 }
-    ensures { Goes (Carries (asks.Edit command.entry)) (S.asked store.old) (S.asked store.new)
+    ensures { Goes (Edits command.entry) (S.asked store.old) (S.asked store.new)
         (between X.taken X.failed out.old out.new) result }
 {
     let input = load(store, command.file)?;
     let script = load(store, command.script)?;
+    if script.len() > LIMIT {
+        return Err(ProgramFault::Read(command.script));
+    }
     let edited = edit_bytes(alloc, input, &script, command.keep_valid, command.profile)?;
     give(
         command.out,
@@ -267,7 +278,7 @@ fn run_objdump<'a, S: Store, X: Out>(
     out: &mut X,
 ) -> Result<u8, ProgramFault<'a>>
     requires { X.failed out.old < 2 ^ 64 - 1 }
-    ensures { Goes (Carries (asks.Objdump command.entry)) (S.asked store.old) (S.asked store.new)
+    ensures { Goes (Dumps command.entry) (S.asked store.old) (S.asked store.new)
         (between X.taken X.failed out.old out.new) result }
 {
     let ObjdumpCommand {
@@ -298,7 +309,7 @@ fn run_sections<'a, S: Store, X: Out>(
     out: &mut X,
 ) -> Result<u8, ProgramFault<'a>>
     requires { X.failed out.old < 2 ^ 64 - 1 }
-    ensures { Goes (Carries (asks.Sections file.entry)) (S.asked store.old) (S.asked store.new)
+    ensures { Goes (Frames file.entry.now) (S.asked store.old) (S.asked store.new)
         (between X.taken X.failed out.old out.new) result }
 {
     let input = load(store, file)?;
@@ -314,7 +325,7 @@ fn run_strip<'a, S: Store, X: Out>(
     out: &mut X,
 ) -> Result<u8, ProgramFault<'a>>
     requires { X.failed out.old < 2 ^ 64 - 1 }
-    ensures { Goes (Carries (asks.Strip command.entry)) (S.asked store.old) (S.asked store.new)
+    ensures { Goes (Strips command.entry) (S.asked store.old) (S.asked store.new)
         (between X.taken X.failed out.old out.new) result }
 {
     let StripCommand {
@@ -338,25 +349,34 @@ fn run_validate<'a, S: Store, X: Out>(
     out: &mut X,
 ) -> Result<u8, ProgramFault<'a>>
     requires { X.failed out.old < 2 ^ 64 - 1 }
-    ensures { Goes (Carries (asks.Validate command.entry)) (S.asked store.old) (S.asked store.new)
+    ensures { Goes (Judges command.entry) (S.asked store.old) (S.asked store.new)
         (between X.taken X.failed out.old out.new) result }
 {
-    let ValidateCommand { profile, file } = command;
+    let ValidateCommand {
+        explain,
+        profile,
+        file,
+    } = command;
     let input = load(store, file)?;
-    let Validation { line, status } = validate(alloc, &input, profile)?;
-    print(line.as_bytes(), status, out)
+    let mut validator = Validator::new(alloc);
+    let Explanation { text, status } = judged(alloc, &mut validator, explain, &input, profile)?;
+    print(&text, status, out)
 }
 
 // Carries out a command.
-fn run<'a, S: Store, X: Out>(
+fn run<'a, S: Store, X: Out, Y: Out>(
     alloc: Global,
     asked: Asked<'a>,
     store: &mut S,
     out: &mut X,
+    err: &mut Y,
 ) -> Result<u8, ProgramFault<'a>>
-    requires { X.failed out.old < 2 ^ 64 - 1 }
-    ensures { Goes (Carries asked.entry) (S.asked store.old) (S.asked store.new)
-        (between X.taken X.failed out.old out.new) result }
+    requires out { X.failed out.old < 2 ^ 64 - 1 }
+    requires err { Y.failed err.old < 2 ^ 64 - 1 }
+    ensures { (told : List ℕ)
+        × Goes (Carries asked.entry told) (S.asked store.old) (S.asked store.new)
+        (between X.taken X.failed out.old out.new) result
+        × Hears told (between Y.taken Y.failed err.old err.new) }
 {
     match asked {
         Asked::Edit(command) => run_edit(alloc, command, store, out),
@@ -364,50 +384,35 @@ fn run<'a, S: Store, X: Out>(
         Asked::Sections(file) => run_sections(alloc, file, store, out),
         Asked::Strip(command) => run_strip(alloc, command, store, out),
         Asked::Validate(command) => run_validate(alloc, command, store, out),
+        Asked::ValidateEach(command) => run_each(alloc, command, store, out, err),
     }
 }
 
 // Reads the words, and carries out their command.
-fn answer<'a, S: Store, X: Out>(
+fn answer<'a, S: Store, X: Out, Y: Out>(
     alloc: Global,
     words: &'a [String],
     store: &mut S,
     out: &mut X,
+    err: &mut Y,
 ) -> Result<u8, ProgramFault<'a>>
-    requires { X.failed out.old < 2 ^ 64 - 1 }
-    ensures { IsAnswered (map string_bytes words.now) (S.asked store.old) (S.asked store.new)
-        (between X.taken X.failed out.old out.new) result }
+    requires out { X.failed out.old < 2 ^ 64 - 1 }
+    requires err { Y.failed err.old < 2 ^ 64 - 1 }
+    ensures { (told : List ℕ)
+        × IsAnswered (map string_bytes words.now) (S.asked store.old) (S.asked store.new)
+        (between X.taken X.failed out.old out.new) told result
+        × Hears told (between Y.taken Y.failed err.old err.new) }
 {
     let asked = read_words(alloc, words)?;
-    run(alloc, asked, store, out)
-}
-
-/// Says on standard error why there is no answer, and gives the status. Where standard error fails, nothing changes.
-pub fn tell<Y: Out>(alloc: Global, fault: &ProgramFault<'_>, err: &mut Y) -> u8
-    requires { Y.failed err.old < 2 ^ 64 - 1 }
-    ensures { (result ≡ fault_status fault.now) ⊎ ((result ≡ 5)
-        × GetsOrFails (codes "out of memory\n") (between Y.taken Y.failed err.old err.new)) }
-{
-    match fault.to_string(alloc) {
-        Ok(text) => {
-            let _ = put_all(err, text.as_bytes());
-            fault.status()
-        }
-        Err(_) => {
-            // By a match, since the proof asks what the output took in either case.
-            match put_all(err, b"out of memory\n") {
-                Ok(()) | Err(_) => 5,
-            }
-        }
-    }
+    run(alloc, asked, store, out, err)
 }
 
 /// Runs the command of these words, the ones after the program's name, and gives the exit status: 0 to 3 of a run
 /// (`Status`) or of `validate`, 0 or 2 of the other commands, 3 for a bad command line, 4 where a file or standard output failed, 5 for want
-/// of memory.
+/// of memory. Of `validate --each` it is the highest of its files.
 ///
 /// Where the words spell a command (`specs/CommandLine`), it is carried out. Where they spell none, or memory is refused before that is
-/// known, nothing is loaded, saved or printed.
+/// known, nothing is loaded, saved or printed. Where standard error fails, nothing else changes.
 pub fn program<S: Store, X: Out, Y: Out>(
     alloc: Global,
     words: &[String],
@@ -417,14 +422,15 @@ pub fn program<S: Store, X: Out, Y: Out>(
 ) -> u8
     requires out { X.failed out.old < 2 ^ 64 - 1 }
     requires err { Y.failed err.old < 2 ^ 64 - 1 }
-    ensures { (r : Result ℕ Fault)
+    ensures { (r : Result ℕ Fault) × (told : List ℕ)
         × IsAnswered (map string_bytes words.now) (S.asked store.old) (S.asked store.new)
-        (printing (X.taken out.old) (X.taken out.new) (X.failed out.old) (X.failed out.new)) r
-        × Exits r result
+        (printing (X.taken out.old) (X.taken out.new) (X.failed out.old) (X.failed out.new)) told r
+        × Exits told r result
         (printing (Y.taken err.old) (Y.taken err.new) (Y.failed err.old) (Y.failed err.new)) }
 {
-    match answer(alloc, words, store, out) {
+    let start = err.failures();
+    match answer(alloc, words, store, out, err) {
         Ok(status) => status,
-        Err(fault) => tell(alloc, &fault, err),
+        Err(fault) => tell_after(start, alloc, &fault, err),
     }
 }

@@ -4,35 +4,29 @@ ghost use Rattle.std.specs.Prelude.{◌≡◌};
 ghost use Rattle.clap.specs.declared.error.kind.ErrorKind.TheVariants.{OutOfMemory as no_room};
 ghost use Rattle.clap.specs.Words.{kind_of};
 ghost use Rattle.wasmkit.specs.declared.fault.ProgramFault.TheVariants.{Memory as no_memory};
-ghost use Rattle.wasmkit.specs.Faults.{fault_status, of_list, IsOfLoad, IsOfSave, IsOfWords};
+ghost use Rattle.wasmkit.specs.Faults.{fault_status, fault_text, of_list, IsOfLoad, IsOfSave, IsOfWords};
 
 use crate::store::StoreFault;
 use clap::error::ErrorKind;
 use std::alloc::{AllocError, AllocFailed};
-use thiserror::Error;
+use std::fmt;
 use wk_bytes::OutOfMemory;
 use wk_list::ListFault;
 
 /// Why a command gives no answer. Its text, which ends with LF, goes to standard error.
-#[derive(Debug, Drop, Error)]
+#[derive(Debug, Drop)]
 pub enum ProgramFault<'a> {
     /// The words are no command, or ask for help.
-    #[error("{0}")]
     CommandLine(clap::Error),
     /// The words are a command, but not a good one.
-    #[error("bad command line\n")]
     BadWords,
     /// The file of this name could not be read.
-    #[error("cannot read {0}\n")]
     Read(&'a str),
     /// The file of this name could not be written.
-    #[error("cannot write {0}\n")]
     Write(&'a str),
     /// Standard output failed.
-    #[error("cannot write standard output\n")]
     Output,
     /// A growth was refused.
-    #[error("out of memory\n")]
     Memory,
 }
 
@@ -65,6 +59,21 @@ impl<'a> ProgramFault<'a> {
         match fault {
             StoreFault::Failed => ProgramFault::Write(name),
             StoreFault::Memory => ProgramFault::Memory,
+        }
+    }
+}
+
+impl<'a> fmt::Display for ProgramFault<'a> {
+    ghost output = { λ fault. fault_text fault };
+
+    fn fmt<W: fmt::Write>(&self, f: &mut fmt::Formatter<W>) -> fmt::Result {
+        match self {
+            ProgramFault::CommandLine(complaint) => write!(f, "{complaint}"),
+            ProgramFault::BadWords => f.write_str("bad command line\n"),
+            ProgramFault::Read(name) => writeln!(f, "cannot read {name}"),
+            ProgramFault::Write(name) => writeln!(f, "cannot write {name}"),
+            ProgramFault::Output => f.write_str("cannot write standard output\n"),
+            ProgramFault::Memory => f.write_str("out of memory\n"),
         }
     }
 }

@@ -1,129 +1,80 @@
 //! The machine's files.
 
-use crate::store::{Store, StoreFault};
-use std::fs::{Metadata, OpenFile, OpenOptions, Permissions};
-use std::io::{Read, Write};
-use std::rt::Files;
-use std::{fs, io};
+mod part;
+mod target;
 
-/// How many names beside a file are tried for the one that is to take its place.
-const NAMES_BESIDE: u32 = 100;
+use crate::store::{Store, StoreFault};
+use part::{replace, write_through};
+use std::fs::{self, File, OpenFile};
+use std::io::{self, ErrorKind, Read, Write};
+use std::rt::Files;
+use target::{Target, target_of};
+use wk_bytes::LIMIT;
+
+/// What standard output gets once a file is saved.
+#[derive(Clone, Copy, Debug, PartialEq, Eq)]
+pub enum AfterSave {
+    /// A report.
+    Report,
+    /// Nothing.
+    Nothing,
+}
 
 /// The machine's files.
 #[derive(Drop)]
 pub struct MachineFiles<'a, R> {
     rt: &'a R,
+    after_save: AfterSave,
 }
 
-impl<'a, R: Files + AllocGlobal> MachineFiles<'a, R> {
-    /// Those that the machine lends to the program.
-    pub fn new(rt: &'a R) -> MachineFiles<'a, R> {
-        MachineFiles { rt }
+impl<'a, R: Files<File = File> + Print + AllocGlobal> MachineFiles<'a, R> {
+    /// Those that the machine lends to a program that prints this once a file is saved.
+    pub fn new(rt: &'a R, after_save: AfterSave) -> MachineFiles<'a, R> {
+        MachineFiles { rt, after_save }
     }
 }
 
 fn fault_of(error: io::Error) -> StoreFault {
     match error.kind() {
-        io::ErrorKind::OutOfMemory => StoreFault::Memory,
+        ErrorKind::OutOfMemory => StoreFault::Memory,
         _ => StoreFault::Failed,
     }
 }
 
-// All bytes of a file. Where the machine tells its length, room is made for that at once, with a byte for the read that finds the
-// end, so that none is made in vain. A pipe, and a file that is made as it is read, tell none.
+// All bytes of a file; of one that has more than a module may have, the first of them, one too many. Where the machine tells the file's
+// length, memory for that is asked for at once, with a byte for the read that finds the end, so that none is made in vain. A pipe, and a
+// file that is made as it is read, tell none.
 fn read_whole<R: Files + AllocGlobal>(rt: &R, name: &str) -> io::Result<Vec<u8>> {
-    let mut file = fs::File::open(rt, name)?;
+    let most = LIMIT as u64 + 1;
+    let file = fs::open(rt, name)?;
     let told = file.metadata().map_or(0, |metadata| metadata.len());
-    let room = match usize::try_from(told) {
-        Ok(0) | Err(_) => 0,
-        Ok(len) => len.saturating_add(1),
+    let capacity = match told.min(most) as usize {
+        0 => 0,
+        len => len.saturating_add(1),
     };
-    let mut bytes = Vec::with_capacity(rt.alloc(), room)?;
-    file.read_to_end(&mut bytes)?;
+    let mut bytes = Vec::with_capacity(rt.alloc(), capacity)?;
+    file.take(most).read_to_end(&mut bytes)?;
     Ok(bytes)
 }
 
-// What becomes of a file that is to be written.
-#[derive(Drop)]
-enum Target {
-    /// It is not there, or a regular file that may be written: a new file takes its name, with these permissions if it was there.
-    Replaced(Option<Permissions>),
-    /// Another thing, as a device, a pipe or a link: it is written through.
-    Written,
-}
-
-// What is to become of the file of a name.
-fn target_of(found: io::Result<Metadata>) -> Target {
-    match found {
-        Ok(metadata) if metadata.is_file() && !metadata.permissions().readonly() => {
-            Target::Replaced(Some(metadata.permissions()))
-        }
-        Err(error) if error.kind() == io::ErrorKind::NotFound => Target::Replaced(None),
-        _ => Target::Written,
-    }
-}
-
-// Makes a file that is not there yet, beside the one of this name; or nothing, where none can be made.
-fn make_beside<R: Files + AllocGlobal>(
-    rt: &R,
-    name: &str,
-) -> io::Result<Option<(String, R::File)>> {
-    for number in 0..NAMES_BESIDE {
-        let beside = format!(in rt.alloc(); "{name}.part{number}")?;
-        match OpenOptions::new()
-            .write(true)
-            .create_new(true)
-            .open(rt, &beside)
-        {
-            Ok(file) => return Ok(Some((beside, file))),
-            Err(error) if error.kind() == io::ErrorKind::AlreadyExists => {}
-            Err(_) => return Ok(None),
-        }
-    }
-    Ok(None)
-}
-
-// Writes all bytes of a file, and gives it permissions.
-fn fill<F: Write + OpenFile + Drop>(
-    mut file: F,
-    bytes: &[u8],
-    permissions: Option<Permissions>,
-) -> io::Result<()> {
-    file.write_all(bytes)?;
-    match permissions {
-        Some(permissions) => file.set_permissions(permissions),
-        None => Ok(()),
-    }
-}
-
-// Gives the name to a file of these bytes that is made beside it, so that a run that is cut short leaves the old file or the new one.
-fn replace<R: Files + AllocGlobal>(
+// Writes a file whole, as it is to be.
+fn write_whole<R: Files<File = File> + Print + AllocGlobal>(
     rt: &R,
     name: &str,
     bytes: &[u8],
-    permissions: Option<Permissions>,
+    after_save: AfterSave,
 ) -> io::Result<()> {
-    let Some((beside, file)) = make_beside(rt, name)? else {
-        return fs::write(rt, name, bytes);
-    };
-    let done = match fill(file, bytes, permissions) {
-        Ok(()) => fs::rename(rt, &beside, name),
-        Err(error) => Err(error),
-    };
-    if done.is_err() {
-        let _ = fs::remove_file(rt, &beside);
-    }
-    done
-}
-
-fn write_whole<R: Files + AllocGlobal>(rt: &R, name: &str, bytes: &[u8]) -> io::Result<()> {
-    match target_of(fs::symlink_metadata(rt, name)) {
-        Target::Replaced(permissions) => replace(rt, name, bytes, permissions),
-        Target::Written => fs::write(rt, name, bytes),
+    match target_of(rt, name)? {
+        Target::Replaced { place, old } => replace(rt, &place, bytes, old.as_ref()),
+        Target::Written => write_through(rt, name, bytes),
+        Target::StandardOutput => match after_save {
+            AfterSave::Report => Err(io::Error::from(ErrorKind::ResourceBusy)),
+            AfterSave::Nothing => io::writer(rt).write_all(bytes),
+        },
     }
 }
 
-impl<'a, R: Files + AllocGlobal> Store for MachineFiles<'a, R> {
+impl<'a, R: Files<File = File> + Print + AllocGlobal> Store for MachineFiles<'a, R> {
     ghost use Rattle.std.specs.Prelude.{None};
 
     ghost asked = { λ files. None };
@@ -133,6 +84,6 @@ impl<'a, R: Files + AllocGlobal> Store for MachineFiles<'a, R> {
     }
 
     fn save(&mut self, name: &str, bytes: &[u8]) -> Result<(), StoreFault> {
-        write_whole(self.rt, name, bytes).map_err(fault_of)
+        write_whole(self.rt, name, bytes, self.after_save).map_err(fault_of)
     }
 }

@@ -1,2 +1,3 @@
 pub mod DumpingSteps
 pub mod ListingSteps
+pub mod Telling

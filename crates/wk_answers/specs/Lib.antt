@@ -2,3 +2,5 @@
 pub mod Listing
 -- What `validate` prints, its status, and what both mean.
 pub mod Validation
+-- What `validate --explain` prints: where in the bytes the fault is.
+pub mod Explaining

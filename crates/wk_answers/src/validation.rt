@@ -1,5 +1,5 @@
 //! Judging the module that bytes spell.
-ghost use Rattle.std.specs.Prelude.{◌≡◌, IfOk, string_bytes};
+ghost use Rattle.std.specs.Prelude.{◌≡◌, ◌≢◌, IfErr, IfOk, OnOk, string_bytes};
 ghost use Rattle.wk_body.specs.Reads.{Reads};
 ghost use Rattle.wk_module.specs.ListReading.{IsReading};
 ghost use Rattle.wk_module.specs.Reading.{module_at};
@@ -21,19 +21,20 @@ pub struct Validation {
     pub status: u8,
 }
 
-// What is printed of a module that was judged, or of bytes that are no module.
-fn told(
+/// What is printed of a module that was judged, or of bytes that are no module.
+pub(crate) fn told(
     alloc: Global,
     _bytes: &[u8],
     _profile: Profile,
-    verdict: Result<Verdict, ReadFault>,
+    verdict: &Result<Verdict, ReadFault>,
 ) -> Result<Validation, OutOfMemory>
-    requires exact { Reads (λ v. v) verdict (judged (module_at _profile _bytes.now)) }
+    requires exact { Reads (λ v. v) verdict.now (judged (module_at _profile _bytes.now)) }
     requires is { IsReading _profile _bytes.now (module_at _profile _bytes.now) }
     ensures line { IfOk result
         (λ v. string_bytes v.line ≡ printed (module_at _profile _bytes.now)) }
     ensures means { IfOk result (λ v. Means _profile _bytes.now (string_bytes v.line) v.status) }
     ensures status { IfOk result (λ v. v.status ≡ status_of (module_at _profile _bytes.now)) }
+    ensures known { OnOk result (IfErr verdict.now (λ e. e.kind ≢ ReadKind.Memory)) }
 {
     match verdict {
         Ok(verdict) => {
@@ -42,7 +43,7 @@ fn told(
                 Verdict::Invalid(_) => 1,
             };
             Ok(Validation {
-                line: verdict_line(alloc, &verdict)?,
+                line: verdict_line(alloc, verdict)?,
                 status,
             })
         }
@@ -51,7 +52,7 @@ fn told(
                 return Err(OutOfMemory);
             }
             Ok(Validation {
-                line: malformed_line(alloc, &fault)?,
+                line: malformed_line(alloc, fault)?,
                 status: 2,
             })
         }
@@ -69,7 +70,7 @@ pub fn validate(alloc: Global, bytes: &[u8], profile: Profile) -> Result<Validat
     ensures status { IfOk result (λ v. v.status ≡ status_of (module_at profile bytes.now)) }
 {
     let verdict = judge_bytes(alloc, bytes, profile);
-    told(alloc, bytes, profile, verdict)
+    told(alloc, bytes, profile, &verdict)
 }
 
 /// Judges the module of a profile that the bytes spell, as [`validate`] does, with room that is kept from one module to the next. The
@@ -89,5 +90,5 @@ pub fn validate_with(
     ensures status { IfOk result (λ v. v.status ≡ status_of (module_at profile bytes.now)) }
 {
     let verdict = validator.judge_bytes(alloc, bytes, profile);
-    told(alloc, bytes, profile, verdict)
+    told(alloc, bytes, profile, &verdict)
 }

@@ -1,3 +1,4 @@
 pub mod Names
 pub mod Meaning
 pub mod Boxes
+pub mod Located

@@ -29,3 +29,7 @@ keep_of (x ∷ xs) = if is_utf8 (x ∷ xs) then Some (Some (x ∷ xs)) else None
 -- bytes that are not too many to be read
 abbrev pub short_enough : List ℕ → Bool
 short_enough bytes = nat_le (length bytes) limit
+
+-- the profile of a call that takes these arguments
+abbrev pub taken : ℕ → List ℕ → Option Profile
+taken profile bytes = if short_enough bytes then profile_of profile else None

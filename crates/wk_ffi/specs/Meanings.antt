@@ -1,5 +1,5 @@
 -- What there is to tell means, in the words of the grammars and of the verdict.
-use Rattle.std.specs.Prelude.{◌≢◌, ℕ, Option, Some, None, List, Result, Ok, Err}
+use Rattle.std.specs.Prelude.{◌≢◌, ℕ, Option, Some, None, List, Result, Ok, Err, IfErr}
 use Rattle.wk_bytes.specs.declared.fault.ReadFault.{ReadFault}
 use Rattle.wk_bytes.specs.declared.fault.ReadKind.TheVariants.{Memory}
 use Rattle.wk_bytes.specs.Stands.{StandsIn}
@@ -24,6 +24,11 @@ Given (Some a) P = P a
 -- the text is the verdict of the one module that the bytes spell, or a fault that stands in them where they spell none
 abbrev pub ValidationMeans : ℕ → List ℕ → Type 0
 ValidationMeans profile bytes = Given (profile_of profile) (λ p. Means p bytes (printed (module_at p bytes)) (status_of (module_at p bytes)))
+
+-- what is located is the fault of the one module that the bytes spell, or where they spell none their first fault, which is no want of memory
+abbrev pub LocateMeans : ℕ → List ℕ → Type 0
+LocateMeans profile bytes =
+    Given (profile_of profile) (λ p. IsReading p bytes (module_at p bytes) × IfErr (module_at p bytes) (λ e. e.kind ≢ Memory))
 
 -- the bytes spell no module, and the fault, which is no want of memory, stands in them
 abbrev pub MeansNone : Profile → List ℕ → ReadFault → Type 0

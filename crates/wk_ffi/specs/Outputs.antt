@@ -1,11 +1,16 @@
 -- What calls leave in the memory that they are given.
 use Rattle.std.specs.Prelude.{◌≡◌, ◌≢◌, ℕ, ◌<◌, ◌≤◌, ◌⊎◌, Option, Some, None, List, ◌++◌, length, drop, Result, Ok, Err}
+use Rattle.wk_body.specs.declared.types.Profile.{Profile}
+use Rattle.wk_module.specs.Reading.{module_at}
+use Rattle.wk_answers.specs.Validation.{status_of}
 use Rattle.wk_ffi.specs.declared.code.Answer.{Answer}
 use Rattle.wk_ffi.specs.declared.code.CallFault.{CallFault}
 use Rattle.wk_ffi.specs.declared.code.CallFault.TheVariants.{Memory, Argument}
 use Rattle.wk_ffi.specs.declared.code.Code.{Code}
 use Rattle.wk_ffi.specs.declared.code.Code.TheVariants.{NoMemory, BadArgument, TooSmall}
-use Rattle.wk_ffi.specs.Told.{Told, code_number}
+use Rattle.wk_ffi.specs.declared.numbers.FaultNumbers.{FaultNumbers}
+use Rattle.wk_ffi.specs.Numbers.{in_order, AreOfRead}
+use Rattle.wk_ffi.specs.Told.{Told, code_number, status_told}
 
 -- an output: what its memory held, what it holds, and the length that was told
 pub record Output : Type 0 where
@@ -55,6 +60,23 @@ AnswersBoth None bytes text result = (result ≡ code_number BadArgument) × Unt
 AnswersBoth (Some t) bytes text result =
     HandsBoth t bytes text result
     ⊎ ((result ≡ code_number NoMemory) × Untouched bytes × Untouched text)
+
+-- ---- numbers
+
+-- such numbers are in front, and what is behind them stays; or there is memory for fewer than six, and all stays
+abbrev pub PutsNumbers : (FaultNumbers → Type 0) → List ℕ → List ℕ → Type 0
+PutsNumbers Are old new =
+    ((length old < 6) × (new ≡ old)) ⊎ ((6 ≤ length old) × ((n : FaultNumbers) × Are n × (new ≡ in_order n ++ drop 6 old)))
+
+-- the code is that of the verdict or of bytes that are no module, and the numbers are those of what reading gives
+abbrev pub HandsNumbers : Profile → List ℕ → List ℕ → List ℕ → ℕ → Type 0
+HandsNumbers profile bytes old new result =
+    let read = module_at profile bytes in (result ≡ code_number (status_told (status_of read))) × PutsNumbers (AreOfRead profile bytes read) old new
+
+-- a call that takes its arguments and judges in that profile, or whose arguments are bad
+abbrev pub AnswersNumbers : Option Profile → List ℕ → List ℕ → List ℕ → ℕ → Type 0
+AnswersNumbers None bytes old new result = (result ≡ code_number BadArgument) × (new ≡ old)
+AnswersNumbers (Some p) bytes old new result = HandsNumbers p bytes old new result ⊎ ((result ≡ code_number NoMemory) × (new ≡ old))
 
 -- ---- what the answers mean
 

@@ -11,6 +11,8 @@
 //! No pointer is null, no length is above 9,223,372,036,854,775,807, and no output lies in what another argument points to: the
 //! language has no other slices. `include/wasmkit.h` checks all that of what a C program passes, and then calls these.
 //!
+//! [`wk_ffi_locate`] answers with numbers in place of a text, and [`wk_ffi_version`] with the version of the library.
+//!
 //! For a host that judges many modules, [`wk_validator_new`] makes a validator that keeps its room from one module to the next. C holds
 //! its pointer, which goes to one call at a time, may go on to another thread, and is gone after [`wk_validator_free`].
 //!
@@ -24,6 +26,11 @@
 //!   the text does not fit, with the length that it needs, and `BadArgument` exactly where the definition has nothing to tell, as of a
 //!   profile that has no such number or of more than 2,147,483,647 bytes. Want of memory is `NoMemory`. After these three nothing is
 //!   written but lengths.
+//! - [`wk_ffi_locate`] is `AnswersNumbers` (`specs/Outputs`): the code of [`wk_ffi_validate`], and where there is memory for six numbers those of the
+//!   fault (`AreOfRead` of `specs/Numbers`) in front of it, with all behind it as it was. Of an invalid module these are the fault of
+//!   `module_verdict` and its place, the offset that this place has in the bytes (`LiesThere` of `wk_place`) and the index of the function
+//!   (`func_index`); of bytes that spell no module the fault of reading them, its offset, and the function in whose body it is
+//!   (`IsInBodyOf`). With memory for fewer numbers the code is the same, and nothing is written; nor is after `NoMemory` and `BadArgument`.
 //! - [`wk_ffi_strip`] and [`wk_ffi_edit`] are `AnswersBoth` of `strip_told` and `edit_told`: the same of a module and a text, both or
 //!   neither.
 //! - The text and the code are those of `wk_answers::validate`, `list_sections`, `wk_list::listing` and `outcome_of`. The bytes of
@@ -32,11 +39,13 @@
 //!   that the bytes spell ([`wk_ffi_list`], `MeansListed`) or what `IsStripped` of `wk_strip` does ([`wk_ffi_strip`]), or that the bytes
 //!   spell no module and the fault stands in them, or what the main theorem does ([`wk_ffi_edit`], `IsReport`): their clauses `means`.
 //!   Sections that are listed lie in the bytes, and the fault behind them stands there ([`wk_ffi_sections`], `stands`).
-//! - [`wk_validator_judge`] has the clauses of [`wk_ffi_validate`], whatever its validator judged before, and leaves the validator where
-//!   it lies after any answer, want of memory too, so that it judges on.
+//! - Where numbers are told, the module is the one that the bytes spell, or they spell none and the fault is the first and stands in them
+//!   ([`wk_ffi_locate`], `LocateMeans`).
+//! - [`wk_validator_judge`] has the clauses of [`wk_ffi_validate`], and [`wk_validator_locate`] those of [`wk_ffi_locate`], whatever its validator
+//!   judged before, and leaves the validator where it lies after any answer, want of memory too, so that it judges on.
 //! - [`wk_validator_new`] is `Fine` with a pointer that is not null, or `NoMemory` with null (`IsNew` of `specs/Handles`). With the pointer
-//!   the caller is given the memory of the validator and the right to free it (`validator_at`): [`wk_validator_judge`] asks for both and
-//!   gives them back, and [`wk_validator_free`] takes them. So it can be called once for each pointer that was handed out, and no call with it
+//!   the caller is given the memory of the validator and the right to free it (`validator_at`): [`wk_validator_judge`] and [`wk_validator_locate`] ask for
+//!   both and give them back, and [`wk_validator_free`] takes them. So it can be called once for each pointer that was handed out, and no call with it
 //!   can follow. That it frees the memory, and that there is memory for the next call, no clause says: `tests/embed` and `tests/refusals` look.
 //! - But for a validator's pointer, no clause speaks of null, of lengths that no slice has and of outputs that lie in one another, since a slice has none of these:
 //!   the header checks them, and `tests/embed` tries them.
@@ -47,19 +56,24 @@ mod code;
 mod hand;
 mod handle;
 mod jobs;
+mod locating;
+mod numbers;
 
-ghost use Rattle.std.specs.Prelude.{All};
+ghost use Rattle.std.specs.Prelude.{◌≡◌, All};
 ghost use Rattle.wk_bytes.specs.Frames.{sections_of};
 ghost use Rattle.wk_bytes.specs.Stands.{ItemStands};
+ghost use Rattle.wk_ffi.specs.Asked.{taken};
 ghost use Rattle.wk_ffi.specs.Handles.{handed_out, validator_at, IsNew};
-ghost use Rattle.wk_ffi.specs.Meanings.{EditMeans, ListMeans, StripMeans, ValidationMeans};
-ghost use Rattle.wk_ffi.specs.Outputs.{output, AnswersBoth, AnswersText, IsTold};
+ghost use Rattle.wk_ffi.specs.Meanings.{EditMeans, ListMeans, LocateMeans, StripMeans, ValidationMeans};
+ghost use Rattle.wk_ffi.specs.Numbers.{version_number};
+ghost use Rattle.wk_ffi.specs.Outputs.{output, AnswersBoth, AnswersNumbers, AnswersText, IsTold};
 ghost use Rattle.wk_ffi.specs.Told.{edit_told, list_told, sections_told, strip_told, validation_told};
 ghost use types.Logic.{sem};
 
 use crate::code::Code;
 use crate::hand::{hand_both, hand_text};
 use crate::handle::Handle;
+use crate::locating::locate_with;
 use std::alloc::Global;
 use std::ptr::null_mut;
 use wk_check::Validator;
@@ -79,6 +93,25 @@ pub extern "C" fn wk_ffi_validate(
     ensures means { IsTold result → ValidationMeans profile bytes.now }
 {
     hand_text(jobs::validation(alloc, bytes, profile), text, text_len)
+}
+
+/// Judges the module that bytes spell, and says in numbers where its fault is, or that of bytes that spell none: the fault, the section, the
+/// item, the token, the offset and the index of the function, as `struct wasmkit_fault` has them, each 4,294,967,295 where there is none.
+/// Where `numbers` has fewer than six nothing is written to it, and no place is looked for. The code is `Fine`, `Invalid` or `Malformed`, or
+/// `NoMemory` or `BadArgument`, and then nothing is written.
+#[unsafe(no_mangle)]
+pub extern "C" fn wk_ffi_locate(
+    alloc: Global,
+    bytes: &[u8],
+    profile: u32,
+    numbers: &mut [u32],
+) -> u32
+    ensures told { AnswersNumbers (taken profile bytes.now) bytes.now numbers.old numbers.new
+        result }
+    ensures means { IsTold result → LocateMeans profile bytes.now }
+{
+    let mut validator = Validator::new(alloc);
+    locate_with(&mut validator, alloc, bytes, profile, numbers)
 }
 
 /// Lists the sections that stand in bytes, with their contents unread, and the fault behind them, if there is one: `Malformed`, and
@@ -203,10 +236,43 @@ pub unsafe extern "C" fn wk_validator_judge(
     )
 }
 
+/// Judges the module that bytes spell and says where its fault is, as `wk_ffi_locate` does, with a validator of `wk_validator_new` that is not
+/// yet freed. What it judged before makes no difference, and after any answer, want of memory too, it judges on.
+#[unsafe(no_mangle)]
+pub unsafe extern "C" fn wk_validator_locate(
+    alloc: Global,
+    validator: *mut Handle,
+    bytes: &[u8],
+    profile: u32,
+    numbers: &mut [u32],
+) -> u32
+    requires* { sem 𝓛 (validator_at alloc validator) }
+    ensures* memory { sem 𝓛 (validator_at alloc validator) }
+    ensures told { AnswersNumbers (taken profile bytes.now) bytes.now numbers.old numbers.new
+        result }
+    ensures means { IsTold result → LocateMeans profile bytes.now }
+{
+    locate_with(
+        &mut *(validator as *mut Validator),
+        alloc,
+        bytes,
+        profile,
+        numbers,
+    )
+}
+
 /// Frees a validator of `wk_validator_new`, which is gone then.
 #[unsafe(no_mangle)]
 pub unsafe extern "C" fn wk_validator_free(alloc: Global, validator: *mut Handle)
     requires* { sem 𝓛 (validator_at alloc validator) }
 {
     handle::let_go(Box::from_raw(alloc, validator as *mut Validator));
+}
+
+/// The version of the library: of major.minor.patch it is major * 1,000,000 + minor * 1,000 + patch.
+#[unsafe(no_mangle)]
+pub extern "C" fn wk_ffi_version() -> u32
+    ensures { result ≡ version_number 0 9 0 }
+{
+    9_000
 }

@@ -14,6 +14,7 @@
 //!   offset handed down; what stands in front of an instruction is counted by its written bytes.
 //! - [`list`] and [`list_summary`] make the `Out` take that text, or after a fault a beginning of it; they count one failure more
 //!   exactly where they answer `Write`.
+//! - [`token_text`] is the text of one token, as the code listing has it (`tok_text` of `specs/TokenText`).
 //! - [`put_header`] appends the line of a section as far as its size (`header_text`), which `sections` of the program prints too. Where it
 //!   is refused, the text is as before.
 //!
@@ -53,3 +54,4 @@ pub use listing::{Part, list};
 pub use plain::Plain;
 pub use shape::Shape;
 pub use summary::{Summary, list_summary};
+pub use token::token_text;

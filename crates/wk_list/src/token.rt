@@ -1,6 +1,6 @@
 //! The line of a token in the code listing.
 
-ghost use Rattle.std.specs.Prelude.{◌≡◌, ◌<◌, ◌≤◌, ◌+◌, ◌^◌, ◌++◌, List, ℕ, codes, length, OnOk};
+ghost use Rattle.std.specs.Prelude.{◌≡◌, ◌<◌, ◌≤◌, ◌+◌, ◌^◌, ◌++◌, List, ℕ, codes, length, IfOk, OnOk};
 ghost use Rattle.std.specs.Fmt.{signed_decimal};
 ghost use Rattle.wk_body.specs.Instructions.{Memarg};
 ghost use Rattle.wk_body.specs.Kept.{told, IsWithin};
@@ -11,6 +11,7 @@ ghost use Rattle.wk_list.specs.TokenText.{tok_text, behind_name, operands_text, 
 use crate::rows::put_field;
 use crate::text::{put_all_spaced, put_hex8, put_hex16, put_signed, put_spaced, put_spaces};
 use crate::typetext::valtype_name;
+use std::alloc::Global;
 use wk_body::Operands;
 use wk_bytes::OutOfMemory;
 use wk_module::{BlockType, Token};
@@ -107,6 +108,31 @@ pub(crate) fn depths(token: &Token, depth: usize) -> (usize, usize)
     }
 }
 
+// The name of a token and what stands behind it. Its labels lie in the pool.
+fn put_text(text: &mut Vec<u8>, labels: &[u32], token: &Token) -> Result<(), OutOfMemory>
+    requires { IsWithin (length labels.now) token.now }
+    ensures { OnOk result
+        (text.new.items ≡ text.old.items ++ tok_text (told labels.now token.now)) }
+{
+    text.extend_from_slice(token.name().as_bytes())?;
+    put_immediates(text, labels, token)
+}
+
+/// The name of a token and its immediates, as a line of the code listing has them after the offset: `local.get 39`, `call_indirect type=2`.
+/// The labels of a `br_table` lie in `labels`.
+///
+/// # Errors
+///
+/// Want of memory.
+pub fn token_text(alloc: Global, labels: &[u32], token: &Token) -> Result<Vec<u8>, OutOfMemory>
+    requires { IsWithin (length labels.now) token.now }
+    ensures { IfOk result (λ text. text.items ≡ tok_text (told labels.now token.now)) }
+{
+    let mut text = Vec::new(alloc);
+    put_text(&mut text, labels, token)?;
+    Ok(text)
+}
+
 /// The line of a token at a place. Its labels lie in the pool.
 #[tactic(auto, unfolding(crate::specs::CodeText::code_line))]
 pub(crate) fn put_line(
@@ -126,8 +152,7 @@ pub(crate) fn put_line(
     put_hex8(text, place.at)?;
     text.extend_from_slice(b": ")?;
     put_spaces(text, 2 * place.depth)?;
-    text.extend_from_slice(token.name().as_bytes())?;
-    put_immediates(text, labels, token)?;
+    put_text(text, labels, token)?;
     text.extend_from_slice(b"\n")?;
     Ok(())
 }

@@ -4,9 +4,11 @@ use crate::bodies::NO_MEMORY;
 use crate::mark::{call_begins, call_ends};
 use crate::sinks::{Room, vector, was_appended};
 use std::alloc::{AllocError, Global};
+use wk_bytes::OutOfMemory;
 use wk_check::{Fault, FaultKind, Place, Verdict};
 use wk_edit::{malformed_line, read_name, verdict_line};
-use wk_list::put_header;
+use wk_list::{put_header, token_text};
+use wk_module::Token;
 use wk_samples::outcome::Outcome;
 
 /// A text that is made.
@@ -24,6 +26,8 @@ pub(crate) enum Line {
     PlainName,
     /// `put_header`.
     Header,
+    /// `token_text`.
+    Token,
 }
 
 const FAULT: Verdict = Verdict::Invalid(Fault {
@@ -54,6 +58,7 @@ impl Line {
             Line::Name => reads_name(alloc, b"x:6e616d65"),
             Line::PlainName => reads_name(alloc, b"name"),
             Line::Header => puts_header(alloc),
+            Line::Token => tells_token(alloc),
         }
     }
 }
@@ -92,4 +97,19 @@ fn puts_header(alloc: Global) -> Outcome {
     call_ends(alloc);
     let line = b"    Data start=0x0000000a end=0x0000001e size=0x00000014";
     was_appended(&text, answer, line)
+}
+
+fn tells_token(alloc: Global) -> Outcome {
+    let token = Token::BrTable {
+        start: 1,
+        len: 2,
+        other: 0,
+    };
+    call_begins(alloc);
+    let answer = token_text(alloc, &[7, 1, 2], &token);
+    call_ends(alloc);
+    match answer {
+        Ok(text) => Outcome::answered(text.as_slice() == b"br_table 1 2 0".as_slice()),
+        Err(OutOfMemory) => Outcome::refused(true),
+    }
 }

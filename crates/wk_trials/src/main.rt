@@ -20,6 +20,7 @@ mod listings;
 mod many;
 mod mark;
 mod modules;
+mod places;
 mod recoded;
 mod runs;
 mod same;

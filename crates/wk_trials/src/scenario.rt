@@ -10,6 +10,7 @@ use crate::jobs::Job;
 use crate::judging::{Constants, OfValid, Validate};
 use crate::lines::Line;
 use crate::modules::Sample;
+use crate::places::Placing;
 use crate::runs::Edits;
 use crate::sections::{OfWhole, Walk};
 use crate::sinks::Room;
@@ -76,6 +77,8 @@ pub(crate) enum Scenario {
     NextConstants(Constants, Sample),
     /// A call that is lent a valid module in which all that can move does.
     OfValid(OfValid, Sample),
+    /// A call of `wk_place`.
+    Place(Placing),
     /// `Plain::of`.
     Plain(Sample),
     /// `Layout::of`.
@@ -195,6 +198,7 @@ impl Scenario {
             Scenario::TypeCodes(sample) => judging::types_codes(alloc, sample),
             Scenario::NextConstants(call, sample) => call.run(alloc, sample),
             Scenario::OfValid(call, sample) => call.run(alloc, sample),
+            Scenario::Place(call) => call.run(alloc),
             Scenario::Plain(sample) => listings::sees_plain(alloc, sample),
             Scenario::Layout(sample) => listings::lays_out(alloc, sample),
             Scenario::List(part, profile, room) => listings::lists(alloc, part, profile, room),

@@ -1,4 +1,5 @@
-//! Tests of verdicts: bodies typed through the calls of `wk_typing`, and modules and bodies judged through those of `wk_check`.
+//! Tests of verdicts: bodies typed through the calls of `wk_typing`, and modules and bodies judged through those of `wk_check`;
+//! and where faults lie, through those of `wk_place`.
 #![tactic(auto)]
 
 #[cfg(test)]
@@ -19,6 +20,8 @@ mod kept;
 mod locals;
 #[cfg(test)]
 mod order;
+#[cfg(test)]
+mod places;
 #[cfg(test)]
 mod references;
 #[cfg(test)]

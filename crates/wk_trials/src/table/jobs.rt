@@ -7,7 +7,7 @@ use crate::scenario::{Named, Scenario, scenarios};
 use crate::sinks::Room::{Ample, Full};
 
 /// Calls of `wk_edit` and `wk_answers`, and what they are made of.
-pub(crate) static JOBS: [Named; 23] = scenarios! {
+pub(crate) static JOBS: [Named; 24] = scenarios! {
     "read-script" => Scenario::ReadScript,
     "malformed-line" => Scenario::Line(Line::Malformed),
     "verdict-line" => Scenario::Line(Line::Valid),
@@ -15,6 +15,7 @@ pub(crate) static JOBS: [Named; 23] = scenarios! {
     "read-name" => Scenario::Line(Line::Name),
     "read-plain-name" => Scenario::Line(Line::PlainName),
     "put-header" => Scenario::Line(Line::Header),
+    "token-text" => Scenario::Line(Line::Token),
     "edit" => Scenario::Edit(jobs::EDITS, Ample, Ample),
     "edit-of-code" => Scenario::Edit(jobs::EDIT_OF_CODE, Ample, Ample),
     "edit-each-kind" => Scenario::Edit(jobs::EACH_KIND, Ample, Ample),

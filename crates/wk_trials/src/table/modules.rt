@@ -1,7 +1,8 @@
-//! Calls of `wk_module`, `wk_check`, `wk_list` and `wk_strip`.
+//! Calls of `wk_module`, `wk_check`, `wk_place`, `wk_list` and `wk_strip`.
 
 use crate::judging::{Constants, OfValid, Validate};
 use crate::modules::{OF_ALL, OF_MANY, OF_MOVING, OF_TWO, OF_TYPES, OF_VALID, OF_WIDE};
+use crate::places::Placing;
 use crate::scenario::{Named, Scenario, scenarios};
 use crate::sections::{OfWhole, Walk};
 use crate::sinks::Room::{Ample, Full};
@@ -9,8 +10,8 @@ use crate::strips;
 use wk_list::Part;
 use wk_module::Profile::{Core, Extended};
 
-/// Calls of `wk_module`, `wk_check`, `wk_list` and `wk_strip`.
-pub(crate) static MODULES: [Named; 87] = scenarios! {
+/// Calls of `wk_module`, `wk_check`, `wk_place`, `wk_list` and `wk_strip`.
+pub(crate) static MODULES: [Named; 92] = scenarios! {
     "read-types" => Scenario::Read(OF_TYPES),
     "read-whole" => Scenario::Read(OF_ALL),
     "read-valid" => Scenario::Read(OF_VALID),
@@ -68,6 +69,11 @@ pub(crate) static MODULES: [Named; 87] = scenarios! {
     "see-whole-wide" => Scenario::OfValid(OfValid::Whole, OF_WIDE),
     "verdict-with-global-wide" => Scenario::OfValid(OfValid::WithGlobal, OF_WIDE),
     "verdict-with-wide-in-room" => Scenario::OfValid(OfValid::Look, OF_WIDE),
+    "locate-type" => Scenario::Place(Placing::Type),
+    "locate-global" => Scenario::Place(Placing::Global),
+    "locate-code" => Scenario::Place(Placing::Code),
+    "read-token" => Scenario::Place(Placing::Token),
+    "func-of-fault" => Scenario::Place(Placing::Func),
     "plain-in-room" => Scenario::Plain(OF_ALL),
     "plain-wide-in-room" => Scenario::Plain(OF_WIDE),
     "layout" => Scenario::Layout(OF_ALL),

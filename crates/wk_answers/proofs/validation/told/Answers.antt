@@ -35,4 +35,5 @@ returns-in_ok-malformed_line-in-Err c =
         status_is = refl;
       });
       status = sym (ap status_of is);
+      known = rw c.in-Err.is c.in_default.not-Memory;
     }

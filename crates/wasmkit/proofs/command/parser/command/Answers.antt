@@ -3,7 +3,7 @@ use Rattle.std.proofs.lemmas.Result.{IfOk-weaker}
 use Rattle.clap.specs.Simple.{App, app_of}
 use Rattle.wasmkit.specs.Syntax.{wasmkit_top, with_form}
 use Rattle.wasmkit.specs.CommandLine.{edit, objdump, sections, strip, validate}
-use Rattle.wasmkit.proofs.command.command.Goals as goal
+use Rattle.wasmkit.proofs.command.parser.command.Goals as goal
 
 pub returns : goal.returns
 returns c =

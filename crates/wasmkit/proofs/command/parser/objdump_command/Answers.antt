@@ -7,7 +7,7 @@ use Rattle.clap.specs.declared.builder.command.Command.TheViews.{out-Command}
 use Rattle.wasmkit.specs.Syntax.{flag_rule, word_rule}
 use Rattle.wasmkit.specs.CommandLine.{objdump}
 use Rattle.wasmkit.proofs.Building.{in_turn}
-use Rattle.wasmkit.proofs.command.objdump_command.Goals as goal
+use Rattle.wasmkit.proofs.command.parser.objdump_command.Goals as goal
 
 pub returns : goal.returns
 returns c =
