@@ -5,7 +5,8 @@ was built is kept in the machine's cache, under a name that tells what it was bu
 library, and it is taken from there.
 
 `tests/programs.py take NAME` puts the library of a crate from the cache where the tests look for it, with status 1 where none is kept of these
-sources. `tests/programs.py keep NAME` keeps the one that stands there.
+sources. `tests/programs.py keep NAME` keeps the one that stands there. `tests/programs.py has NAME` has status 0 where the program of a crate is
+built from the sources as they are.
 """
 import hashlib
 import os
@@ -166,13 +167,16 @@ def wasmkit():
 
 
 def main():
-    """Takes a library from the cache, or keeps one there."""
+    """Takes a library from the cache, keeps one there, or says whether a program is built."""
     rt = shutil.which("rt")
-    if len(sys.argv) != 3 or sys.argv[1] not in ("take", "keep") or not rt:
+    if len(sys.argv) != 3 or sys.argv[1] not in ("take", "keep", "has") or not rt:
         return 2
-    if sys.argv[1] == "take":
-        return 0 if take_library(sys.argv[2], rt) else 1
-    keep_library(sys.argv[2], rt)
+    word, name = sys.argv[1:]
+    if word == "take":
+        return 0 if take_library(name, rt) else 1
+    if word == "has":
+        return 0 if is_current(f"{TOP}/crates/{name}/out/{name}", name) else 1
+    keep_library(name, rt)
     return 0
 
 
