@@ -18,10 +18,6 @@ use Rattle.wk_module.specs.Shape.{lists_of, IsInOrderFrom}
 use Rattle.wk_module.specs.Sizes.{entry_size, whole_size}
 use Rattle.wk_module.specs.Writing.{encoded, section_contents, ids}
 use Rattle.wk_module.specs.WritingLaws.{contents_by-lent, contents_size, contents_within, length-encoded, length-encoded_sizes}
-use Rattle.wk_pieces.specs.declared.edit.EditFault.TheVariants.{TooLarge, Memory}
-use Rattle.wk_pieces.specs.Kept.{standing}
-use Rattle.wk_pieces.specs.Refusals.{encode_refusal}
-use Rattle.wk_pieces.proofs.Leading.{too_large}
 use Rattle.wk_pieces.specs.Pieces.{code_of, codes_size, customs_size, entries_size, section_piece, section_pieces}
 
 -- ---- the limit
