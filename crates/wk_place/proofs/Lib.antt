@@ -16,5 +16,6 @@ pub mod FaultTokens
 pub mod ModulePlaces
 pub mod VerdictPlaces
 pub mod PlacesOfVerdicts
+pub mod FoundEntries
 pub mod PlaceLaws
 pub mod TokenTexts

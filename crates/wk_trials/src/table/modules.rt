@@ -74,6 +74,7 @@ pub(crate) static MODULES: [Named; 92] = scenarios! {
     "locate-code" => Scenario::Place(Placing::Code),
     "read-token" => Scenario::Place(Placing::Token),
     "func-of-fault" => Scenario::Place(Placing::Func),
+    "entry-of-fault" => Scenario::Place(Placing::Entry),
     "plain-in-room" => Scenario::Plain(OF_ALL),
     "plain-wide-in-room" => Scenario::Plain(OF_WIDE),
     "layout" => Scenario::Layout(OF_ALL),

@@ -21,7 +21,7 @@ returns-in-Invalid c read is reads known =
     let fault = c.in-Invalid.fault in
     let exact = subst (λ v. Reads (λ (w : Verdict). w) v (judged read)) c.in-Ok.is reads ∙ ap verdict_is c.in-Invalid.is in
     all_on_ok c.put_place.result (λ (m : Parts). (m.profile ≡ c.args.profile) × Spells b m × (module_verdict m ≡ Invalid fault))
-    (λ m. Puts (TellsPlace c.args.profile b m fault.place) old new) (Puts (TellsMore c.args.profile b read) old new)
+    (λ m. Puts (TellsPlace c.args.profile b m fault) old new) (Puts (TellsMore c.args.profile b read) old new)
     (λ m of. c.put_place.ensures m of.0 of.1 of.2)
     (λ all. told_verdict c.args.profile b old new read (Invalid fault) is exact (λ m of s v. all m (of, s, v)))
 
