@@ -4,7 +4,7 @@ use Rattle.wk_list.specs.declared.fault.ListFault.{ListFault}
 use Rattle.wk_list.specs.declared.fault.ListFault.TheVariants as lists
 use Rattle.wk_command_line.specs.CommandLine.{SpellsNone}
 use Rattle.wk_command_line.specs.declared.fault.WordsFault.{WordsFault}
-use Rattle.wk_command_line.specs.declared.fault.WordsFault.TheVariants as words
+use Rattle.wk_command_line.specs.declared.fault.WordsFault.TheVariants as faults
 use Rattle.wasmkit.specs.declared.store.StoreFault.{StoreFault}
 use Rattle.wasmkit.specs.declared.store.StoreFault.TheVariants as stores
 use Rattle.wasmkit.specs.declared.fault.ProgramFault.{ProgramFault}
@@ -71,6 +71,6 @@ of_list lists.Memory = Memory
 
 -- of words that were not read
 abbrev pub of_words : WordsFault → ProgramFault
-of_words (words.CommandLine complaint) = CommandLine complaint
-of_words words.BadWords = BadWords
-of_words words.Memory = Memory
+of_words (faults.CommandLine complaint) = CommandLine complaint
+of_words faults.BadWords = BadWords
+of_words faults.Memory = Memory
