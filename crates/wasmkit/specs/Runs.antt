@@ -6,7 +6,7 @@ use Rattle.wk_bytes.specs.declared.fault.ReadKind.TheVariants as reads
 use Rattle.wk_bytes.specs.Frames.{limit}
 use Rattle.wk_bytes.specs.Taken.{TakesFront}
 use Rattle.wk_module.specs.Reading.{module_at}
-use Rattle.wk_edit.specs.ReportText.{malformed_text}
+use Rattle.wk_check.specs.VerdictLines.{malformed_text}
 use Rattle.wk_answers.specs.Validation.{status_of}
 use Rattle.wk_command_line.specs.declared.command.Asked.{Asked}
 use Rattle.wk_command_line.specs.declared.command.Asked.TheVariants.{Edit, Objdump, Sections, Strip, Validate, ValidateEach}

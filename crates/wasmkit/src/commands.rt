@@ -30,11 +30,12 @@ use wk_answers::{
     Explanation, Listing, list_bodies, list_parts, list_sections, list_summary_parts,
 };
 use wk_bytes::{LIMIT, Out, OutOfMemory, ReadFault, ReadKind, Sink, put_all};
-use wk_check::Validator;
+use wk_check::malformed_line;
 use wk_command_line::{
     Asked, EditCommand, ObjdumpCommand, StripCommand, ValidateCommand, read_words,
 };
-use wk_edit::{Status, edit_owned, malformed_line};
+use wk_edit::{Status, edit_owned};
+use wk_judging::Validator;
 use wk_list::{Layout, Part, Summary};
 use wk_module::{EncodeFault, Module, Profile, read_in};
 use wk_strip::strip_bytes;

@@ -11,7 +11,7 @@ use Rattle.wk_module.specs.ListReading.{IsReading}
 use Rattle.wk_module.specs.Modules.{Spells}
 use Rattle.wk_typing.specs.declared.fault.Verdict.{Verdict}
 use Rattle.wk_typing.specs.declared.fault.Verdict.TheVariants.{Valid}
-use Rattle.wk_check.specs.Spelled.{judged}
+use Rattle.wk_judging.specs.Spelled.{judged}
 use Rattle.wk_check.specs.Verdict.{module_verdict}
 use Rattle.wk_answers.specs.Explaining.{Puts, TellsBody, TellsMore, TellsVerdict}
 

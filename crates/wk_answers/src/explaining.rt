@@ -9,7 +9,7 @@ ghost use Rattle.wk_module.specs.ListReading.{IsReading};
 ghost use Rattle.wk_module.specs.Modules.{Spells};
 ghost use Rattle.wk_module.specs.Reading.{module_at};
 ghost use Rattle.wk_typing.specs.declared.fault.Verdict.TheVariants as VerdictOf;
-ghost use Rattle.wk_check.specs.Spelled.{judged};
+ghost use Rattle.wk_judging.specs.Spelled.{judged};
 ghost use Rattle.wk_check.specs.Verdict.{module_verdict};
 ghost use Rattle.wk_answers.specs.Validation.{status_of};
 ghost use Rattle.wk_answers.specs.Explaining.{behind_colon, entry_text, func_text, place_line, Explains, Puts, TellsBody, TellsMore, TellsPlace};
@@ -17,7 +17,7 @@ ghost use Rattle.wk_answers.specs.Explaining.{behind_colon, entry_text, func_tex
 use crate::validation::{Validation, told};
 use std::alloc::Global;
 use wk_bytes::{OutOfMemory, ReadFault, ReadKind};
-use wk_check::{Fault, Validator, Verdict};
+use wk_judging::{Fault, Validator, Verdict};
 use wk_module::Profile;
 use wk_place::{Located, entry_of_fault, func_of_fault, locate, locate_token};
 

@@ -10,7 +10,7 @@ use Rattle.wk_module.specs.declared.types.Parts.{Parts}
 use Rattle.wk_module.specs.ListReading.{IsReading}
 use Rattle.wk_module.specs.Modules.{Spells}
 use Rattle.wk_typing.specs.declared.fault.Verdict.{Verdict}
-use Rattle.wk_check.specs.Spelled.{judged}
+use Rattle.wk_judging.specs.Spelled.{judged}
 use Rattle.wk_check.specs.Verdict.{module_verdict}
 use Rattle.wk_place.specs.Places.{IsInBodyOf, IsInNoBody}
 use Rattle.wk_ffi.specs.declared.numbers.FaultNumbers.{FaultNumbers}

@@ -5,7 +5,7 @@ use std::alloc::Global;
 use std::process::Abort;
 use std::test::Fail;
 use wk_bytes::{ReadFault, ReadKind};
-use wk_check::{Fault, FaultKind, Place, Verdict, judge_bytes};
+use wk_judging::{Fault, FaultKind, Place, Verdict, judge_bytes};
 use wk_module::{Profile, Token, TokenReader, read_in};
 use wk_place::{Located, entry_of_fault, func_of_fault, locate, read_token};
 

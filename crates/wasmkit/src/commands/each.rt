@@ -18,8 +18,8 @@ use crate::store::Store;
 use std::alloc::{AllocError, Global};
 use wk_answers::Explanation;
 use wk_bytes::Out;
-use wk_check::Validator;
 use wk_command_line::EachCommand;
+use wk_judging::Validator;
 
 // Whether a byte is a control character of ASCII.
 fn is_control(b: u8) -> bool

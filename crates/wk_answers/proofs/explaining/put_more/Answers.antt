@@ -7,7 +7,7 @@ use Rattle.wk_module.specs.declared.types.Parts.{Parts}
 use Rattle.wk_module.specs.Modules.{Spells}
 use Rattle.wk_typing.specs.declared.fault.Verdict.{Verdict}
 use Rattle.wk_typing.specs.declared.fault.Verdict.TheVariants.{Invalid}
-use Rattle.wk_check.specs.Spelled.{judged}
+use Rattle.wk_judging.specs.Spelled.{judged}
 use Rattle.wk_check.specs.Verdict.{module_verdict}
 use Rattle.wk_answers.specs.Explaining.{Puts, TellsBody, TellsMore, TellsPlace}
 use Rattle.wk_answers.proofs.Telling.{all_on_ok, one_on_ok, told_fault, told_verdict, verdict_is}
