@@ -98,7 +98,7 @@ def functions_in(text, crate, owner, is_public):
             continue
         begin = text.index("(", skip_generics(text, match.end()))
         end = closing(text, begin)
-        head = re.compile(r"\s*(?:->\s*([^{;]*?))?\s*(?=\bwhere\b|\bensures\b|\brequires\b|\{|;)", re.S).match(text, end + 1)
+        head = re.compile(r"\s*(?:->\s*((?:\[[^\]]*\]|[^{;\[])*?))?\s*(?=\bwhere\b|\bensures\b|\brequires\b|\{|;)", re.S).match(text, end + 1)
         where = re.compile(r"where\b[^{;]*?(?=\bensures\b|\brequires\b|\{|;)", re.S).match(text, head.end())
         ensures, requires = clauses_from(text, where.end() if where else head.end())
         result = " ".join((head[1] or "").split())

@@ -13,8 +13,8 @@ use Rattle.wk_body.specs.Written.{written_body}
 use Rattle.wk_module.specs.declared.types.Func.{Func}
 use Rattle.wk_module.specs.Items.{IsCode}
 use Rattle.wk_typing.specs.Answers.{Found}
-use Rattle.wk_session.specs.Overlays.{with_items}
-use Rattle.wk_session.specs.Pieces.{code_of}
+use Rattle.wk_pieces.specs.Overlays.{with_items}
+use Rattle.wk_pieces.specs.Pieces.{code_of}
 use Rattle.wk_draft.specs.Drafts.{AreDrafted}
 use Rattle.wk_draft.specs.Runs.{deferred_codes}
 

@@ -7,7 +7,7 @@ use Rattle.std.proofs.lemmas.List.{take_all}
 use Rattle.std.proofs.lemmas.List.Sums.{sum_by_more, sum_by-cons}
 use Rattle.wk_module.specs.declared.types.Func.{Func}
 use Rattle.wk_module.specs.Sizes.{body_size}
-use Rattle.wk_session.specs.Pieces.{code_of}
+use Rattle.wk_pieces.specs.Pieces.{code_of}
 use Rattle.wk_draft.specs.Drafts.{deferred_room}
 
 -- by how many bytes one may grow, its size with it

@@ -18,10 +18,10 @@ use Rattle.wk_typing.specs.declared.fault.Verdict.{Verdict}
 use Rattle.wk_typing.specs.declared.fault.Verdict.TheVariants.{Valid}
 use Rattle.wk_check.specs.SpacesLaws.{answers_of}
 use Rattle.wk_check.specs.Verdict.{module_verdict}
-use Rattle.wk_session.specs.Overlays.{with_items}
-use Rattle.wk_session.specs.Pieces.{code_of}
-use Rattle.wk_session.specs.Recoded.{encoded_with}
-use Rattle.wk_session.specs.RecodedLaws.{recoded}
+use Rattle.wk_pieces.specs.Overlays.{with_items}
+use Rattle.wk_pieces.specs.Pieces.{code_of}
+use Rattle.wk_pieces.specs.Recoded.{encoded_with}
+use Rattle.wk_pieces.specs.RecodedLaws.{recoded}
 use Rattle.wk_draft.specs.declared.draft.Draft.{Draft}
 use Rattle.wk_draft.specs.Runs.{IsHeld, IsOutlined}
 use Rattle.wk_draft.proofs.SketchTypes.{same_types}

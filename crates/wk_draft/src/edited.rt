@@ -19,9 +19,9 @@ pub struct Edited {
 impl Model for Edited {
     ghost use Rattle.std.specs.Prelude.{◌≡◌, ◌≤◌, ℕ, List, length, map};
     ghost use Rattle.wk_bytes.specs.Frames.{limit};
-    ghost use Rattle.wk_session.specs.Overlays.{with_items};
-    ghost use Rattle.wk_session.specs.Pieces.{code_of};
-    ghost use Rattle.wk_session.specs.Recoded.{encoded_with};
+    ghost use Rattle.wk_pieces.specs.Overlays.{with_items};
+    ghost use Rattle.wk_pieces.specs.Pieces.{code_of};
+    ghost use Rattle.wk_pieces.specs.Recoded.{encoded_with};
 
     ghost Value = { List ℕ };
 

@@ -9,8 +9,8 @@ ghost use Rattle.wk_body.specs.Written.{written_body};
 ghost use Rattle.wk_module.specs.declared.types.Func.{Func as FuncOf};
 ghost use Rattle.wk_module.specs.declared.types.Parts.{Parts as PartsOf};
 ghost use Rattle.wk_module.specs.Items.{IsCode};
-ghost use Rattle.wk_session.specs.Overlays.{with_items};
-ghost use Rattle.wk_session.specs.Pieces.{code_of};
+ghost use Rattle.wk_pieces.specs.Overlays.{with_items};
+ghost use Rattle.wk_pieces.specs.Pieces.{code_of};
 ghost use Rattle.wk_draft.specs.Runs.{IsHeld, deferred_codes};
 
 use crate::draft::Draft;

@@ -4,7 +4,7 @@ ghost use Rattle.std.specs.Prelude.{◌≡◌, ◌+◌, ◌≤◌, true, List, l
 ghost use Rattle.wk_bytes.specs.Frames.{limit};
 ghost use Rattle.wk_module.specs.declared.types.Func.{Func as FuncOf};
 ghost use Rattle.wk_typing.specs.declared.fault.Fault.{Fault as FaultOf};
-ghost use Rattle.wk_session.specs.Pieces.{code_of};
+ghost use Rattle.wk_pieces.specs.Pieces.{code_of};
 ghost use Rattle.wk_draft.specs.Drafts.{deferred_room};
 ghost use Rattle.wk_draft.specs.Steps.{edit_room, IsSure};
 

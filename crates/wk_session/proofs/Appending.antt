@@ -12,6 +12,8 @@ use Rattle.wk_typing.specs.declared.fault.Verdict.{Verdict}
 use Rattle.wk_typing.specs.Answers.{Found}
 use Rattle.wk_typing.specs.Finds.{Grows}
 use Rattle.wk_check.specs.SpacesLaws.{answers_of}
+use Rattle.wk_pieces.specs.Longer.{IsLonger}
+use Rattle.wk_pieces.specs.Pieces.{IsOverlong, section_piece}
 use Rattle.wk_session.specs.declared.cache.Cache.{Cache}
 use Rattle.wk_session.specs.declared.edit.Edit.{Edit}
 use Rattle.wk_session.specs.declared.edit.EditFault.{EditFault}
@@ -23,13 +25,12 @@ use Rattle.wk_session.specs.Dependents.{work_of}
 use Rattle.wk_session.specs.Judged.{AreKept, IsGrown, IsJudged, IsKnown}
 use Rattle.wk_session.specs.Edits.{fitting, is_decided, is_large, made}
 use Rattle.wk_session.specs.Kept.{IsKept, Leads, standing}
-use Rattle.wk_session.specs.Longer.{IsLonger, IsNewItem}
-use Rattle.wk_session.specs.Pieces.{IsOverlong, section_piece}
+use Rattle.wk_session.specs.Added.{IsNewItem}
 use Rattle.wk_session.specs.Refusals.{encode_refusal}
 use Rattle.wk_session.proofs.Keeping.{others_kept}
 use Rattle.wk_session.proofs.Leading.{Returns, returned, wants_memory, refused, kept_again, accepted, too_large, is_none_at, not_large}
 use Rattle.wk_session.proofs.LongerLists.{longer_by, overlong_more}
-use Rattle.wk_session.proofs.Piecing.{unwritten}
+use Rattle.wk_session.proofs.Oversized.{unwritten}
 
 -- ---- the module with the item, judged by lists in which references find what they found without it
 

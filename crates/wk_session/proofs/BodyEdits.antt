@@ -22,6 +22,8 @@ use Rattle.wk_typing.specs.Answers.{Found}
 use Rattle.wk_check.specs.Spaces.{answer_in, spaces_of}
 use Rattle.wk_check.specs.SpacesLaws.{answers_of}
 use Rattle.wk_check.specs.Verdict.{func_verdict}
+use Rattle.wk_pieces.specs.Pieces.{IsOverlong, code_of, codes_size, contents_of, entries_size, section_pieces}
+use Rattle.wk_pieces.proofs.Piecing.{entries_codes}
 use Rattle.wk_session.specs.declared.edit.Edit.TheVariants as edits
 use Rattle.wk_session.specs.declared.edit.EditFault.{EditFault}
 use Rattle.wk_session.specs.declared.edit.EditFault.TheVariants.{Memory}
@@ -32,12 +34,10 @@ use Rattle.wk_session.specs.Dependents.{all_but, is_retyped_in, work_of}
 use Rattle.wk_session.specs.Edits.{entry_of, fitting, lasting, made, body_put}
 use Rattle.wk_session.specs.Functions.{IsPlanned, body_spelled}
 use Rattle.wk_session.specs.Kept.{IsKept, Leads, uses_of, standing}
-use Rattle.wk_session.specs.Pieces.{IsOverlong, code_of, codes_size, contents_of, entries_size, section_pieces}
 use Rattle.wk_session.specs.Refusals.{encode_refusal}
 use Rattle.wk_session.proofs.EntryEdits.{unencoded}
 use Rattle.wk_session.proofs.Lent.{lent, lent_is}
 use Rattle.wk_session.proofs.Leading.{accepted}
-use Rattle.wk_session.proofs.Piecing.{entries_codes}
 use Rattle.wk_session.proofs.Works.{count_zero, none_retyped, work_is}
 
 -- ---- one item of a list

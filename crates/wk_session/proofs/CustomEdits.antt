@@ -11,6 +11,8 @@ use Rattle.wk_module.specs.declared.types.Parts.{Parts}
 use Rattle.wk_module.specs.Shape.{IsFormed, IsInOrderFrom, settle}
 use Rattle.wk_module.specs.Writing.{encoded, Fits}
 use Rattle.wk_module.specs.WritingLaws.{length-encoded_filter}
+use Rattle.wk_pieces.specs.Pieces.{customs_size}
+use Rattle.wk_pieces.proofs.Piecing.{customs_within, limited_within}
 use Rattle.wk_session.specs.declared.edit.Edit.{Edit}
 use Rattle.wk_session.specs.declared.edit.Edit.TheVariants as edits
 use Rattle.wk_session.specs.declared.edit.EditFault.{EditFault}
@@ -21,11 +23,9 @@ use Rattle.wk_session.specs.Customs.{IsPut, with_customs_len}
 use Rattle.wk_session.specs.Dependents.{work_of}
 use Rattle.wk_session.specs.Edits.{fitting, is_named, without_customs, lasting, made}
 use Rattle.wk_session.specs.Kept.{IsAppraised, IsKept, Leads, standing}
-use Rattle.wk_session.specs.Pieces.{customs_size}
 use Rattle.wk_session.proofs.CustomPuts.{length_customs}
 use Rattle.wk_session.proofs.Keeping.{kept_with_customs}
 use Rattle.wk_session.proofs.Leading.{Returns, returned}
-use Rattle.wk_session.proofs.Piecing.{customs_within, limited_within}
 
 pub filtered_fits : (keep : Custom → Bool) (m n : Parts) → n ≡ record m { customs = filter keep m.customs } → Fits m → Fits n
 filtered_fits keep m n is fits = omega (arith, fits, length-encoded_filter keep m, ap (λ (p : Parts). length (encoded p)) is)

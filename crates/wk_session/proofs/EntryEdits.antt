@@ -28,24 +28,24 @@ use Rattle.wk_typing.specs.declared.fault.BodyVerdict.{BodyVerdict}
 use Rattle.wk_typing.specs.Answers.{Found}
 use Rattle.wk_check.specs.SpacesLaws.{answers_of}
 use Rattle.wk_check.specs.Verdict.{func_verdict}
+use Rattle.wk_pieces.specs.declared.pieces.EncodedSections.{EncodedSections}
+use Rattle.wk_pieces.specs.Pieces.{ArePieces, IsOverlong, code_of, codes_size, entries_size, section_pieces}
+use Rattle.wk_pieces.proofs.Piecing.{codes_within, entries_codes, limited_within, past_limit}
 use Rattle.wk_session.specs.declared.edit.Edit.TheVariants as edits
 use Rattle.wk_session.specs.declared.edit.EditFault.{EditFault}
 use Rattle.wk_session.specs.declared.edit.EditFault.TheVariants.{TooLarge, Memory}
 use Rattle.wk_session.specs.declared.edit.Work.{Work}
 use Rattle.wk_session.specs.declared.edits.code_entry.Entry.{Entry}
 use Rattle.wk_session.specs.declared.cache.Cache.{Cache}
-use Rattle.wk_session.specs.declared.pieces.EncodedSections.{EncodedSections}
 use Rattle.wk_session.specs.Dependents.{is_retyped_in, work_of}
 use Rattle.wk_session.specs.Edits.{fitting, lasting, made}
 use Rattle.wk_session.specs.Functions.{IsKeptWithType, IsPlanned, body_spelled}
 use Rattle.wk_session.specs.Kept.{IsKept, Leads, uses_of, standing}
-use Rattle.wk_session.specs.Pieces.{ArePieces, IsOverlong, code_of, codes_size, entries_size, section_pieces}
 use Rattle.wk_session.specs.Refusals.{encode_refusal}
 use Rattle.wk_session.proofs.Keeping.{kept_fits}
 use Rattle.wk_session.proofs.Outcomes.{told_fits}
 use Rattle.wk_session.proofs.Leading.{accepted, too_large}
 use Rattle.wk_session.proofs.Lent.{answers_in, answers_lent, lent}
-use Rattle.wk_session.proofs.Piecing.{codes_within, entries_codes, limited_within, past_limit}
 use Rattle.wk_session.proofs.Works.{count_zero, work_is}
 
 -- ---- one more item

@@ -10,6 +10,8 @@ use Rattle.wk_module.specs.declared.types.Parts.{Parts}
 use Rattle.wk_module.specs.Changes.{with_import}
 use Rattle.wk_module.specs.Items.{desc_kind}
 use Rattle.wk_module.specs.Moving.{moved_func, with_lists}
+use Rattle.wk_pieces.specs.Overlays.{with_items}
+use Rattle.wk_pieces.proofs.Replacing.{map-with_items}
 use Rattle.wk_session.specs.declared.edit.Edit.TheVariants as edits
 use Rattle.wk_session.specs.declared.edit.EditFault.{EditFault}
 use Rattle.wk_session.specs.declared.edit.EditFault.TheVariants.{Memory}
@@ -17,10 +19,8 @@ use Rattle.wk_session.specs.declared.edits.import.ImportPlan.{ImportPlan}
 use Rattle.wk_session.specs.Edits.{import_place, made}
 use Rattle.wk_session.specs.Imported.{after_import, IsImportPlan, IsUnplanned}
 use Rattle.wk_session.specs.Kept.{uses_of}
-use Rattle.wk_session.specs.Overlays.{with_items}
 use Rattle.wk_session.proofs.ImportEdits.{AreLaid, made_stuck}
 use Rattle.wk_session.proofs.MovedCode.{set_keys}
-use Rattle.wk_session.proofs.Replacing.{map-with_items}
 
 -- ---- refusals
 

@@ -15,17 +15,17 @@ use Rattle.wk_module.specs.Moving.{instead, start_instead, some_if, start_if_mov
 use Rattle.wk_module.specs.Sections.{SectionLists, FunctionSection, GlobalSection, ExportSection, StartSection, ElementSection, DataSection}
 use Rattle.wk_module.specs.Shape.{IsInOrderFrom}
 use Rattle.wk_module.specs.Writing.{section_contents}
+use Rattle.wk_pieces.specs.declared.pieces.NewSections.{NewSections}
+use Rattle.wk_pieces.specs.Overlays.{with_items}
+use Rattle.wk_pieces.specs.Pieces.{IsUnwritten, section_piece, section_pieces}
 use Rattle.wk_session.specs.declared.edit.EditFault.TheVariants.{Memory}
-use Rattle.wk_session.specs.declared.pieces.NewSections.{NewSections}
 use Rattle.wk_session.specs.Dependents.{one_if, sections_moving}
 use Rattle.wk_session.specs.Edits.{import_place}
 use Rattle.wk_session.specs.Imported.{after_import, new_where, news_after, IsRemadeAfter}
 use Rattle.wk_session.specs.Kept.{standing}
-use Rattle.wk_session.specs.Overlays.{with_items}
-use Rattle.wk_session.specs.Pieces.{IsUnwritten, section_piece, section_pieces}
 use Rattle.wk_session.specs.Refusals.{encode_refusal}
 use Rattle.wk_session.proofs.ImportEdits.{AreLaid}
-use Rattle.wk_session.proofs.Piecing.{section_large}
+use Rattle.wk_session.proofs.Oversized.{section_large}
 
 -- ---- sections
 

@@ -12,10 +12,10 @@ use Rattle.wk_module.specs.Writing.{encoded, Fits}
 use Rattle.wk_module.specs.WritingLaws.{length-encoded, length-encoded_settle, room}
 use Rattle.wk_check.specs.SpacesLaws.{answers_of}
 use Rattle.wk_check.specs.Verdict.{func_verdict}
+use Rattle.wk_pieces.specs.Pieces.{code_of, codes_size, customs_size}
 use Rattle.wk_session.specs.declared.cache.Cache.{Cache}
 use Rattle.wk_session.specs.Judged.{AreKept}
 use Rattle.wk_session.specs.Kept.{IsKept, uses_of}
-use Rattle.wk_session.specs.Pieces.{code_of, codes_size, customs_size}
 use Rattle.wk_session.proofs.Outcomes.{told_fits}
 
 -- a module that something is kept of is not too large

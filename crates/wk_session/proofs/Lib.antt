@@ -2,7 +2,6 @@ pub mod Rows
 pub mod SameFound
 pub mod Judging
 pub mod Popped
-pub mod Replacing
 pub mod MovedCode
 pub mod ImportEdits
 pub mod ImportOutcome
@@ -16,6 +15,7 @@ pub mod WrittenBack
 pub mod Keeping
 pub mod Settling
 pub mod Leading
+pub mod Oversized
 pub mod Lent
 pub mod Used
 pub mod Lasting
@@ -23,16 +23,12 @@ pub mod EntryEdits
 pub mod BodyEdits
 pub mod LongerLists
 pub mod Appending
-pub mod Gaps
 pub mod ShorterLists
 pub mod LastItems
 pub mod Removals
 pub mod Shrinking
-pub mod Piecing
-pub mod Putting
 pub mod Shaping
 pub mod NewSections
-pub mod CodeLengths
 pub mod ImportPieces
 pub mod Growing
 pub mod Opening

@@ -20,10 +20,11 @@ use Rattle.wk_module.specs.Changes.{with_export, with_func, with_type}
 use Rattle.wk_module.specs.Items.{written_export, written_global}
 use Rattle.wk_module.specs.Types.{written_functype}
 use Rattle.wk_module.specs.Writing.{list_contents}
-use Rattle.wk_session.specs.Longer.{IsLonger, IsNewItem, with_item}
+use Rattle.wk_pieces.specs.Longer.{IsLonger, with_item}
+use Rattle.wk_pieces.specs.Pieces.{IsOverlong, section_piece, section_pieces}
+use Rattle.wk_pieces.proofs.Piecing.{limited_within}
+use Rattle.wk_session.specs.Added.{IsNewItem}
 use Rattle.wk_session.specs.declared.edits.plan_append.NewItem.{NewItem}
-use Rattle.wk_session.specs.Pieces.{IsOverlong, section_piece, section_pieces}
-use Rattle.wk_session.proofs.Piecing.{limited_within}
 
 one_byte : short 1 ≡ 1 ∷ []
 one_byte = short-last 1 (omega arith)

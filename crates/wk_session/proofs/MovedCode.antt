@@ -17,14 +17,14 @@ use Rattle.wk_module.specs.declared.types.Kind.{Kind}
 use Rattle.wk_module.specs.declared.types.Kind.TheVariants as kinds
 use Rattle.wk_module.specs.Moving.{moved_func, is_code_moving, is_code_stuck}
 use Rattle.wk_list.specs.UsesLaws.{in_order_same}
+use Rattle.wk_pieces.specs.Overlays.{with_items}
+use Rattle.wk_pieces.specs.Pieces.{code_of}
+use Rattle.wk_pieces.proofs.Replacing.{with_items_push}
 use Rattle.wk_session.specs.declared.edits.renumber.MovedEntry.{MovedEntry}
 use Rattle.wk_session.specs.declared.edits.renumber.MovedEntries.{MovedEntries}
 use Rattle.wk_session.specs.Dependents.{held, one_if}
 use Rattle.wk_session.specs.Kept.{uses_of}
 use Rattle.wk_session.specs.MovedEntries.{uses_movement, IsMovedEntry, AreMovedEntries}
-use Rattle.wk_session.specs.Overlays.{with_items}
-use Rattle.wk_session.specs.Pieces.{code_of}
-use Rattle.wk_session.proofs.Replacing.{with_items_push}
 
 -- ---- sets
 

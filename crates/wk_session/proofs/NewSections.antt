@@ -3,9 +3,9 @@ use Rattle.std.proofs.Common.{◌≡◌, ℕ, Bool, true, false, if◌then◌els
 use Rattle.wk_module.specs.declared.renumber.MovedLists.{MovedLists}
 use Rattle.wk_module.specs.Sections.{SectionLists, of_number}
 use Rattle.wk_module.specs.Writing.{contents_by}
-use Rattle.wk_session.specs.declared.pieces.NewSections.{NewSections}
+use Rattle.wk_pieces.specs.declared.pieces.NewSections.{NewSections}
+use Rattle.wk_pieces.specs.Pieces.{one_new, IsOneRemade}
 use Rattle.wk_session.specs.Imported.{new_where, IsRemadeWhere, IsRemadeAfter}
-use Rattle.wk_session.specs.Pieces.{one_new, IsOneRemade}
 
 put_where : (moved : Bool) (id : ℕ) (contents : List ℕ) (was now xs : List (Option (List ℕ)))
     → now ≡ (if moved then set was id (Some contents) else was) → was ≡ xs → set xs id None ≡ xs

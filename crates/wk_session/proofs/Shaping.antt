@@ -17,10 +17,10 @@ use Rattle.wk_module.specs.Sections.{CodeSection}
 use Rattle.wk_module.specs.Shape.{IsInOrderFrom}
 use Rattle.wk_module.specs.Writing.{section_contents, Fits}
 use Rattle.wk_module.specs.WritingLaws.{contents_within, custom_within, length-framed}
-use Rattle.wk_session.specs.Pieces.{ArePieces, code_of, codes_size}
-use Rattle.wk_session.specs.declared.pieces.EncodedSections.{EncodedSections}
-use Rattle.wk_session.proofs.Piecing.{code_contents_size, codes_within, limited_within, section_within}
-use Rattle.wk_session.proofs.Putting.{codes_length, piece_at}
+use Rattle.wk_pieces.specs.Pieces.{ArePieces, code_of, codes_size}
+use Rattle.wk_pieces.specs.declared.pieces.EncodedSections.{EncodedSections}
+use Rattle.wk_pieces.proofs.Piecing.{code_contents_size, codes_within, limited_within, section_within}
+use Rattle.wk_pieces.proofs.Putting.{codes_length, piece_at}
 
 -- a code of a list is no longer than all of them
 code_le : (fs : List Func) (i : ℕ) (c : List ℕ) → i < length fs → c ≡ slice_index_or (map code_of fs) i c → length c ≤ codes_size fs

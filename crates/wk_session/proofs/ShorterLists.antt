@@ -12,10 +12,10 @@ use Rattle.wk_bytes.specs.Short.{short}
 use Rattle.wk_module.specs.declared.types.Parts.{Parts}
 use Rattle.wk_module.specs.Items.{written_export}
 use Rattle.wk_module.specs.Writing.{list_contents}
-use Rattle.wk_session.specs.Pieces.{section_pieces}
-use Rattle.wk_session.specs.Shorter.{cut, without_item}
-use Rattle.wk_session.proofs.Gaps.{cut_at}
-use Rattle.wk_session.proofs.Replacing.{empty_list}
+use Rattle.wk_pieces.specs.Pieces.{section_pieces}
+use Rattle.wk_pieces.specs.Shorter.{cut, without_item}
+use Rattle.wk_pieces.proofs.Gaps.{cut_at}
+use Rattle.wk_pieces.proofs.Replacing.{empty_list}
 
 module _ {A : Type 0} (written : A → List ℕ) where
   -- what stands before an item, and it

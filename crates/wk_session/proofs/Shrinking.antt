@@ -7,10 +7,10 @@ use Rattle.wk_module.specs.Changes.{without_first}
 use Rattle.wk_module.specs.ChangeLaws.{without_export_shorter}
 use Rattle.wk_module.specs.Shape.{settle, IsInOrderFrom}
 use Rattle.wk_module.specs.Writing.{encoded, Fits}
+use Rattle.wk_pieces.proofs.Piecing.{limited_within}
 use Rattle.wk_session.specs.Edits.{lasting}
 use Rattle.wk_session.specs.Kept.{standing}
 use Rattle.wk_session.proofs.Appraising.{fitting_stands}
-use Rattle.wk_session.proofs.Piecing.{limited_within}
 
 pub shrunk_stands : (keep : Bool) (name : List ℕ) (rest : List Export) (m : Parts) → without_first name m.exports ≡ Some rest → IsInOrderFrom 0 m.customs
     → Fits m → lasting keep (settle (record m { exports = rest })) ≡ standing keep (record m { exports = rest })

@@ -14,6 +14,7 @@ use Rattle.wk_typing.specs.declared.fault.BodyVerdict.{BodyVerdict}
 use Rattle.wk_check.specs.SpacesLaws.{answers_of}
 use Rattle.wk_typing.specs.Typing.{body_verdict}
 use Rattle.wk_check.specs.Verdict.{func_verdict, module_verdict}
+use Rattle.wk_pieces.specs.Pieces.{ArePieces, codes_size}
 use Rattle.wk_session.specs.declared.edit.EditFault.{EditFault}
 use Rattle.wk_session.specs.declared.edit.EditFault.TheVariants.{Memory}
 use Rattle.wk_session.specs.declared.edits.code_entry.Entry.{Entry}
@@ -24,7 +25,6 @@ use Rattle.wk_session.specs.declared.verdict_and_len.Appraisal.{Appraisal}
 use Rattle.wk_session.specs.Dependents.{is_retyped_in}
 use Rattle.wk_session.specs.Edits.{from_bytes}
 use Rattle.wk_session.specs.Kept.{IsAppraised, uses_of, standing}
-use Rattle.wk_session.specs.Pieces.{ArePieces, codes_size}
 
 -- the body that the bytes of an edit spell, or the first fault in them
 abbrev pub body_spelled : Profile → List ℕ → Result BodyOf EditFault

@@ -13,18 +13,18 @@ use Rattle.wk_module.specs.Shape.{IsFormed}
 use Rattle.wk_module.specs.Writing.{contents_by}
 use Rattle.wk_check.specs.SpacesLaws.{answers_of}
 use Rattle.wk_check.specs.Verdict.{func_verdict}
+use Rattle.wk_pieces.specs.declared.pieces.NewSections.{NewSections}
+use Rattle.wk_pieces.specs.Overlays.{with_items}
+use Rattle.wk_pieces.specs.Pieces.{codes_size, section_pieces}
 use Rattle.wk_session.specs.declared.edit.EditFault.{EditFault}
 use Rattle.wk_session.specs.declared.edit.EditFault.TheVariants.{IndexOverflow, Memory}
 use Rattle.wk_session.specs.declared.edits.import.ImportPlan.{ImportPlan}
 use Rattle.wk_session.specs.declared.edits.import.ImportJudgement.{ImportJudgement}
 use Rattle.wk_session.specs.declared.cache.Cache.{Cache}
 use Rattle.wk_session.specs.Edits.{import_place}
-use Rattle.wk_session.specs.declared.pieces.NewSections.{NewSections}
 use Rattle.wk_session.specs.declared.edit.Edit.TheVariants as edits
 use Rattle.wk_session.specs.Dependents.{one_if, is_retyped, sections_moving}
 use Rattle.wk_session.specs.Kept.{IsAppraised, IsKept, standing}
-use Rattle.wk_session.specs.Overlays.{with_items}
-use Rattle.wk_session.specs.Pieces.{codes_size, section_pieces}
 use Rattle.wk_session.specs.MovedEntries.{AreMovedEntries}
 
 -- the module with the import, and with each reference moved that it moves; its customs are not settled

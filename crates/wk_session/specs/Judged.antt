@@ -7,12 +7,12 @@ use Rattle.wk_typing.specs.declared.fault.Verdict.{Verdict}
 use Rattle.wk_typing.specs.Answers.{Found}
 use Rattle.wk_check.specs.SpacesLaws.{answers_of}
 use Rattle.wk_check.specs.Verdict.{func_verdict, module_verdict}
+use Rattle.wk_pieces.specs.Pieces.{code_of, codes_size, customs_size}
 use Rattle.wk_session.specs.declared.edit.EditFault.{EditFault}
 use Rattle.wk_session.specs.declared.edits.plan_append.Judgement.{Judgement}
 use Rattle.wk_session.specs.declared.cache.Cache.{Cache}
 use Rattle.wk_session.specs.Dependents.{is_retyped_in}
 use Rattle.wk_session.specs.Kept.{uses_of, standing, IsAppraised, IsKept}
-use Rattle.wk_session.specs.Pieces.{code_of, codes_size, customs_size}
 
 -- Each part that is kept of functions is that of the functions of n, and the verdicts are those by what references found before.
 pub record AreKept (before : Ref → Found) (n : Parts) (k : Cache) : Type 0 where

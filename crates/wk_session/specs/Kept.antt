@@ -14,6 +14,7 @@ use Rattle.wk_typing.specs.declared.fault.Verdict.{Verdict}
 use Rattle.wk_check.specs.SpacesLaws.{answers_of}
 use Rattle.wk_check.specs.Verdict.{func_verdict, module_verdict}
 use Rattle.wk_list.specs.Uses.{in_order}
+use Rattle.wk_pieces.specs.Pieces.{ArePieces}
 use Rattle.wk_session.specs.declared.verdict_and_len.Appraisal.{Appraisal}
 use Rattle.wk_session.specs.declared.edit.Edit.{Edit}
 use Rattle.wk_session.specs.declared.edit.EditFault.{EditFault}
@@ -22,7 +23,6 @@ use Rattle.wk_session.specs.declared.edit.Work.{Work}
 use Rattle.wk_session.specs.declared.cache.Cache.{Cache as Kept}
 use Rattle.wk_session.specs.Dependents.{held, work_of}
 use Rattle.wk_session.specs.Edits.{fitting, lasting, made, is_decided}
-use Rattle.wk_session.specs.Pieces.{ArePieces}
 
 -- ---- what a function refers to, in order
 

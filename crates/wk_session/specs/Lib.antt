@@ -14,18 +14,10 @@ pub mod Making
 pub mod EditText
 -- ---- writing
 
--- The written form of a module in pieces: section contents, code entries, custom sections.
-pub mod Pieces
--- A list with new items in the place of some of its own.
-pub mod Overlays
--- The written form of a module with other code entries in the place of its own.
-pub mod Recoded
 -- What an output has taken where a write failed, and how its failures are counted.
 pub mod Written
 -- ---- laws and steps, for those who read proofs
 
--- What an output takes in a call that puts bytes out.
-pub mod Puts
 -- What a session keeps beside its module: what would be computed of the module anew.
 pub mod Kept
 -- What the verdict of a module tells of its bodies.
@@ -40,10 +32,8 @@ pub mod MovedEntries
 pub mod Imported
 -- Changes of custom sections, and what is kept then.
 pub mod Customs
--- The contents of a section to which an item comes.
-pub mod Longer
--- The contents of a section from which an item is taken.
-pub mod Shorter
+-- The item that an edit adds to a list.
+pub mod Added
 -- The refusal of an edit for each fault of writing.
 pub mod Refusals
 -- What holds of each module that an edit may make holds of the one that it makes.
@@ -56,5 +46,3 @@ pub mod ToldLaws
 pub mod MakingLaws
 -- A valid module stays valid through edits that have to leave a valid one.
 pub mod LastingLaws
--- With the codes of a module that differs in bodies alone, the written form is that module's.
-pub mod RecodedLaws

@@ -10,11 +10,11 @@ use Rattle.wk_module.specs.declared.types.Kind.{Kind}
 use Rattle.wk_module.specs.declared.types.Kind.TheVariants.{Func, Global}
 use Rattle.wk_module.specs.declared.types.Func.{Func as FuncOf}
 use Rattle.wk_module.specs.Moving.{moved_func, is_code_moving}
+use Rattle.wk_pieces.specs.Overlays.{with_items}
+use Rattle.wk_pieces.specs.Pieces.{code_of}
 use Rattle.wk_session.specs.declared.edits.renumber.MovedEntry.{MovedEntry}
 use Rattle.wk_session.specs.declared.edits.renumber.MovedEntries.{MovedEntries}
 use Rattle.wk_session.specs.Kept.{uses_of}
-use Rattle.wk_session.specs.Overlays.{with_items}
-use Rattle.wk_session.specs.Pieces.{code_of}
 
 -- what moves of what a function refers to, where an import of the kind comes in front of the index `from`
 abbrev pub uses_movement : Kind → ℕ → List Ref → Movement

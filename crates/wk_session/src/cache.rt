@@ -12,19 +12,18 @@ ghost use Rattle.wk_typing.specs.declared.fault.Verdict.{Verdict as VerdictOf};
 ghost use Rattle.wk_check.specs.Flaws.{first_in};
 ghost use Rattle.wk_typing.specs.Faults.{body_flaw};
 ghost use Rattle.wk_check.specs.Verdict.{func_verdict, module_verdict, verdict_around};
+ghost use Rattle.wk_pieces.specs.Pieces.{ArePieces, code_of};
 ghost use Rattle.wk_session.specs.Kept.{IsKept, uses_of};
 ghost use Rattle.wk_session.specs.Known.{AreKnown};
-ghost use Rattle.wk_session.specs.Pieces.{ArePieces, code_of};
 
 use crate::judged::type_body;
 use crate::known::told_body;
-use crate::lengths::{module_len, sizes_after};
-use crate::pieces::{EncodedSections, code_in_room, no_news};
 use std::alloc::Global;
 use std::collections::BTreeSet;
 use wk_bytes::{Items, OutOfMemory};
 use wk_check::{BodyVerdict, Env, Meter, Verdict, Whole, first_code_fault, judge_around};
 use wk_module::{Body, Func, Lists, Module, Ref, uses};
+use wk_pieces::{EncodedSections, code_in_room, module_len, no_news, sizes_after};
 
 /// What is kept beside a module: each part is what computing it from the module would give (`IsKept` of `specs/Kept`).
 #[derive(Debug, Drop)]

@@ -17,8 +17,8 @@
 //!   change. [`work_of_edits`] ties the first two to the references that change and to those that move. That no more
 //!   than these are typed or encoded is no clause: tests compare what a meter counts.
 //! - [`Session::write`] fails only where its output does, and takes no memory. So does [`Session::write_with`], which appends
-//!   `encoded_with` (`specs/Recoded`): the written form with other codes in the place of some. With the codes of bodies it is that of the
-//!   module with these bodies (`recoded` of `specs/RecodedLaws`).
+//!   `encoded_with` of `wk_pieces`: the written form with other codes in the place of some. With the codes of bodies it is that of the
+//!   module with these bodies (`recoded` there).
 //! - What an accepted edit puts into the module, alone or in a run, is what its bytes spell, and they spell nothing else (`IsMade` of
 //!   `specs/Making`). Where they are refused they spell nothing, and the fault stands in them (`IsTold` of `specs/Told`).
 //!   [`bytes_of_edit`] carries what the first rests on for other crates: that they are bytes.
@@ -27,10 +27,10 @@
 //!
 //! # What it costs
 //!
-//! Kept are the verdict of each body, what it refers to and its code, and the contents of each section. An edit types the bodies that
-//! find another thing than before, and no other; of a valid module it judges what it adds alone. It encodes the bodies that move,
-//! the sections in which something moves, and an item that comes, and writing puts what is kept in order. All growths come before a
-//! change that lasts; what was pushed to be judged is taken back where the edit is refused.
+//! Kept are the verdict of each body, what it refers to and its code, and the contents of each section: the last two by `wk_pieces`. An
+//! edit types the bodies that find another thing than before, and no other; of a valid module it judges what it adds alone. It encodes the
+//! bodies that move, the sections in which something moves, and an item that comes, and writing puts what is kept in order. All growths
+//! come before a change that lasts; what was pushed to be judged is taken back where the edit is refused.
 //!
 //! Opening goes over the bytes once, and over each body once more: it is typed, unless its verdict
 //! is known, looked at, and, unless its code is at hand, written in turn, into one room that serves
@@ -46,25 +46,18 @@
 //! custom section costs its own bytes, and a verdict, a length and what a function refers to cost nothing: they are looked up.
 #![tactic(auto)]
 
-mod append_item;
 mod basis;
 mod bytes;
 mod cache;
-mod codes;
 mod display;
 mod edit;
 mod edits;
 mod judged;
 mod known;
 mod laws;
-mod lengths;
-mod pieces;
-mod remove_item;
-mod replace;
 mod session;
 mod verdict_and_len;
 mod write;
-mod written;
 
 pub use bytes::bytes_of_edit;
 pub use edit::{Edit, EditFault, Reply, Work};

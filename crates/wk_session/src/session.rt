@@ -13,11 +13,11 @@ ghost use Rattle.wk_module.specs.Writing.{encoded, Fits};
 ghost use Rattle.wk_check.specs.Verdict.{module_verdict};
 ghost use Rattle.wk_list.specs.Listing.{listing};
 ghost use Rattle.wk_list.specs.Taken.{failed_after};
+ghost use Rattle.wk_pieces.specs.Overlays.{with_items};
+ghost use Rattle.wk_pieces.specs.Pieces.{code_of};
+ghost use Rattle.wk_pieces.specs.Recoded.{encoded_with};
 ghost use Rattle.wk_session.specs.Edits.{is_decided};
 ghost use Rattle.wk_session.specs.Kept.{IsKept, Leads, uses_of};
-ghost use Rattle.wk_session.specs.Overlays.{with_items};
-ghost use Rattle.wk_session.specs.Pieces.{code_of};
-ghost use Rattle.wk_session.specs.Recoded.{encoded_with};
 ghost use Rattle.wk_session.specs.Making.{IsMade, AreMade};
 ghost use Rattle.wk_session.specs.Told.{IsTold, AreTold};
 ghost use Rattle.wk_session.specs.Written.{Leaves, failures_after_write};
@@ -25,15 +25,12 @@ ghost use Rattle.wk_session.specs.Runs.{reply_of, after_one, is_memory, replies_
 
 use crate::bytes::bytes_of_edit;
 use crate::cache::Cache;
-use crate::codes::Codes;
 use crate::edit::{Edit, EditFault, Reply};
 use crate::edits::{
     add_export, add_func, add_global, add_import, add_type, put_body, remove_export, set_custom,
     strip_all, strip_custom,
 };
-use crate::lengths::code_contents;
 use crate::write::WriteFault;
-use crate::written::put_module;
 use std::alloc::Global;
 use std::collections::BTreeSet;
 use std::marker::Model;
@@ -45,6 +42,7 @@ use wk_module::{
     EncodeFault, Module, Parts, Profile, Ref, custom_len, encoded_len, one_module, read_in,
     reading_of_code, section_id, written_form_of_module,
 };
+use wk_pieces::{Codes, code_contents, put_module};
 
 /// A module under edits, seen by contracts as its plain lists.
 #[derive(Debug, Drop)]

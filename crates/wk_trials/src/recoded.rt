@@ -2,9 +2,9 @@
 
 ghost use Rattle.std.specs.Prelude.{◌≡◌, ◌≤◌, ◌∷◌, [], IfSome, Some, length, map};
 ghost use Rattle.wk_bytes.specs.Frames.{limit};
-ghost use Rattle.wk_session.specs.Overlays.{with_items};
-ghost use Rattle.wk_session.specs.Pieces.{code_of};
-ghost use Rattle.wk_session.specs.Recoded.{encoded_with};
+ghost use Rattle.wk_pieces.specs.Overlays.{with_items};
+ghost use Rattle.wk_pieces.specs.Pieces.{code_of};
+ghost use Rattle.wk_pieces.specs.Recoded.{encoded_with};
 
 use crate::mark::{call_begins, call_ends};
 use crate::same::is_session_of;

@@ -14,25 +14,24 @@ ghost use Rattle.wk_module.specs.Writing.{encoded};
 ghost use Rattle.wk_check.specs.SpacesLaws.{answers_of};
 ghost use Rattle.wk_typing.specs.Typing.{body_verdict};
 ghost use Rattle.wk_check.specs.Verdict.{func_verdict};
+ghost use Rattle.wk_pieces.specs.Pieces.{entries_size};
 ghost use Rattle.wk_session.specs.declared.edit.Edit.{Edit};
 ghost use Rattle.wk_session.specs.Edits.{entry_of as entry_of_index};
 ghost use Rattle.wk_session.specs.Functions.{AreVerdicts, IsEntryJudged, IsEntryPlanned};
 ghost use Rattle.wk_session.specs.Kept.{IsKept, Leads};
-ghost use Rattle.wk_session.specs.Pieces.{entries_size};
 
 use crate::basis::Basis;
 use crate::cache::{Cache, func_uses};
 use crate::edit::{EditFault, Reply, Work};
 use crate::edits::code_entry::{Entry, Verdicts, keep_entry, spelled_body, with_other};
 use crate::judged::type_body;
-use crate::lengths::{module_len, plus_code, sizes_of};
-use crate::pieces::{EncodedSections, encoded_body};
 use crate::verdict_and_len::{Appraisal, admit, appraise};
 use std::alloc::Global;
 use std::mem;
 use wk_bytes::{Items, OutOfMemory};
 use wk_check::{BodyVerdict, Meter, Verdict, Whole, verdict_with_body};
 use wk_module::{Body, Func, Kind, Lists, Parts, import_count};
+use wk_pieces::{EncodedSections, encoded_body, module_len, plus_code, sizes_of};
 
 // Which of the functions that the module defines has an index.
 fn entry_of(parts: &Parts, func: u32) -> Option<usize>

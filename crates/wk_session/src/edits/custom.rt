@@ -9,20 +9,20 @@ ghost use Rattle.wk_module.specs.declared.types.Parts.{Parts as PartsOf};
 ghost use Rattle.wk_module.specs.Shape.{IsInOrderFrom, IsShaped};
 ghost use Rattle.wk_module.specs.Writing.{encoded, Fits};
 ghost use Rattle.wk_module.specs.WritingLaws.{written_frame};
+ghost use Rattle.wk_pieces.specs.Pieces.{customs_size};
 ghost use Rattle.wk_session.specs.declared.edit.Edit.{Edit};
 ghost use Rattle.wk_session.specs.Customs.{IsPut, bytes_at, last_custom, with_customs_len};
 ghost use Rattle.wk_session.specs.Edits.{is_named, with_custom, without_customs};
 ghost use Rattle.wk_session.specs.Kept.{IsKept, Leads};
-ghost use Rattle.wk_session.specs.Pieces.{customs_size};
 
 use crate::cache::Cache;
 use crate::edit::{EditFault, Reply, work_on};
-use crate::lengths::customs_len;
 use crate::verdict_and_len::{admit, check_verdict};
 use std::alloc::{AllocError, Global};
 use std::mem;
 use wk_bytes::{Items, LIMIT, Text};
 use wk_module::{Custom, Parts, framed_len, named_len, section_id};
+use wk_pieces::customs_len;
 
 // Keeps the length of a module that has other customs than before, and how much of it these are.
 fn keep_len(kept: &mut Cache, len: u32)

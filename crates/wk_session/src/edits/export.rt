@@ -15,12 +15,12 @@ ghost use Rattle.wk_module.specs.Writing.{encoded, list_contents};
 ghost use Rattle.wk_typing.specs.Answers.{Found};
 ghost use Rattle.wk_check.specs.SpacesLaws.{answers_of};
 ghost use Rattle.wk_check.specs.Verdict.{module_verdict};
+ghost use Rattle.wk_pieces.specs.Pieces.{IsOverlong, codes_size, customs_size, section_pieces};
+ghost use Rattle.wk_pieces.specs.Shorter.{without_item};
 ghost use Rattle.wk_session.specs.declared.edit.Edit.{Edit};
 ghost use Rattle.wk_session.specs.Judged.{AreKept, IsGrown, IsJudged};
 ghost use Rattle.wk_session.specs.Kept.{IsKept, Leads};
-ghost use Rattle.wk_session.specs.Longer.{IsNewItem};
-ghost use Rattle.wk_session.specs.Pieces.{IsOverlong, codes_size, customs_size, section_pieces};
-ghost use Rattle.wk_session.specs.Shorter.{without_item};
+ghost use Rattle.wk_session.specs.Added.{IsNewItem};
 
 use crate::basis::Basis;
 use crate::cache::Cache;
@@ -28,14 +28,13 @@ use crate::edit::{EditFault, Reply, work_on};
 use crate::edits::plan_append::{
     Judgement, NewItem, keep_grown, keep_judgement, len_beside, new_item,
 };
-use crate::lengths::{module_len, sizes_with};
-use crate::remove_item::{Span, remove_item, shrunk_len};
 use crate::verdict_and_len::appraise;
 use std::alloc::Global;
 use std::{mem, slice};
 use wk_bytes::{Items, Text};
 use wk_check::{Verdict, laws_of_valid_modules, verdict_with_export};
 use wk_module::{EncodeFault, Export, Lists, Parts, export_len, section_id};
+use wk_pieces::{Span, module_len, remove_item, shrunk_len, sizes_with};
 
 // The verdict of a module with an export more, where it is known: where the one without is valid.
 fn known_with_export(parts: &Parts, kept: &Cache, export: &Export) -> Option<Verdict>

@@ -8,11 +8,11 @@ ghost use Rattle.wk_module.specs.Shape.{IsShaped};
 ghost use Rattle.wk_module.specs.Types.{written_functype};
 ghost use Rattle.wk_module.specs.Writing.{encoded, list_contents};
 ghost use Rattle.wk_check.specs.SpacesLaws.{answers_of};
+ghost use Rattle.wk_pieces.specs.Pieces.{IsOverlong};
 ghost use Rattle.wk_session.specs.declared.edit.Edit.{Edit};
 ghost use Rattle.wk_session.specs.Judged.{IsGrown, IsKnown};
 ghost use Rattle.wk_session.specs.Kept.{IsKept, Leads};
-ghost use Rattle.wk_session.specs.Longer.{IsNewItem};
-ghost use Rattle.wk_session.specs.Pieces.{IsOverlong};
+ghost use Rattle.wk_session.specs.Added.{IsNewItem};
 
 use crate::basis::Basis;
 use crate::cache::Cache;

@@ -13,27 +13,25 @@ ghost use Rattle.wk_module.specs.Shape.{IsShaped};
 ghost use Rattle.wk_module.specs.Writing.{encoded, list_contents};
 ghost use Rattle.wk_check.specs.SpacesLaws.{answers_of};
 ghost use Rattle.wk_check.specs.Verdict.{func_verdict};
+ghost use Rattle.wk_pieces.specs.Pieces.{IsOverlong, section_pieces};
 ghost use Rattle.wk_session.specs.declared.edit.Edit.{Edit};
 ghost use Rattle.wk_session.specs.Functions.{AreVerdicts, IsEntryJudged, IsEntryPlanned, IsKeptWithType, is_own, typed_with};
 ghost use Rattle.wk_session.specs.Kept.{IsKept, Leads};
-ghost use Rattle.wk_session.specs.Longer.{IsNewItem};
-ghost use Rattle.wk_session.specs.Pieces.{IsOverlong, section_pieces};
+ghost use Rattle.wk_session.specs.Added.{IsNewItem};
 
-use crate::append_item::append_item;
 use crate::basis::Basis;
 use crate::cache::{Cache, func_uses};
 use crate::edit::{EditFault, Reply, Work};
 use crate::edits::code_entry::{Entry, Verdicts, keep_entry, spelled_body};
 use crate::edits::plan_append::{NewItem, bytes_of, item_len, len_grown, new_item};
 use crate::judged::{rejudge_bodies, type_body};
-use crate::lengths::plus_code;
-use crate::pieces::encoded_body;
 use crate::verdict_and_len::{Appraisal, admit, appraise};
 use std::alloc::Global;
 use std::slice;
 use wk_bytes::{Items, OutOfMemory};
 use wk_check::{BodyVerdict, Meter, Verdict, Whole, laws_of_valid_modules, verdict_with_func};
 use wk_module::{Body, EncodeFault, Func, Lists, Parts, section_id};
+use wk_pieces::{append_item, encoded_body, plus_code};
 
 // The verdicts of all bodies where a function comes whose type stands behind those of the others already.
 fn verdicts_with(

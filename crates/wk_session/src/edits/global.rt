@@ -8,12 +8,12 @@ ghost use Rattle.wk_module.specs.Listed.{listed};
 ghost use Rattle.wk_module.specs.Shape.{IsShaped};
 ghost use Rattle.wk_module.specs.Writing.{list_contents};
 ghost use Rattle.wk_check.specs.SpacesLaws.{answers_of};
+ghost use Rattle.wk_pieces.specs.Pieces.{IsOverlong};
 ghost use Rattle.wk_session.specs.declared.edit.Edit.{Edit};
 ghost use Rattle.wk_session.specs.Edits.{from_bytes};
 ghost use Rattle.wk_session.specs.Judged.{IsGrown, IsKnown};
 ghost use Rattle.wk_session.specs.Kept.{IsKept, Leads};
-ghost use Rattle.wk_session.specs.Longer.{IsNewItem};
-ghost use Rattle.wk_session.specs.Pieces.{IsOverlong};
+ghost use Rattle.wk_session.specs.Added.{IsNewItem};
 
 use crate::basis::Basis;
 use crate::cache::Cache;

@@ -13,22 +13,19 @@ ghost use Rattle.wk_typing.specs.Finds.{Grows};
 ghost use Rattle.wk_check.specs.Spaces.{answer_in, spaces_of};
 ghost use Rattle.wk_check.specs.SpacesLaws.{answers_of};
 ghost use Rattle.wk_check.specs.Verdict.{func_verdict, module_verdict};
+ghost use Rattle.wk_pieces.specs.Overlays.{with_items};
+ghost use Rattle.wk_pieces.specs.Pieces.{IsUnwritten};
 ghost use Rattle.wk_session.specs.declared.edit.Edit.{Edit};
 ghost use Rattle.wk_session.specs.Dependents.{is_retyped_in};
 ghost use Rattle.wk_session.specs.Edits.{import_place};
 ghost use Rattle.wk_session.specs.Imported.{IsRemadeAfter, IsRemadeWhere, after_import, before_import, retyped_by, IsImportPlan, IsUnplanned, IsReady, IsImportJudgement, IsImportRefusal};
 ghost use Rattle.wk_session.specs.Kept.{IsKept, Leads};
-ghost use Rattle.wk_session.specs.Overlays.{with_items};
-ghost use Rattle.wk_session.specs.Pieces.{IsUnwritten};
 
 use crate::basis::Basis;
 use crate::cache::Cache;
 use crate::edit::{EditFault, Reply, Work};
 use crate::edits::renumber::{MovedEntries, is_any_code_stuck, moved_entries, put_moved};
 use crate::judged::rejudge_bodies;
-use crate::lengths::{codes_len_after, module_len, sizes_after};
-use crate::pieces::{NewSections, one_remade, remake_section};
-use crate::replace::replace_each;
 use crate::verdict_and_len::{Appraisal, appraise};
 use std::alloc::Global;
 use wk_bytes::OutOfMemory;
@@ -40,6 +37,7 @@ use wk_module::{
     EncodeFault, Import, ImportDesc, Kind, Limits, Lists, MovedLists, Parts, ShiftFault,
     import_count, moving_of_code, moving_of_module, section_id, shift_lists,
 };
+use wk_pieces::{NewSections, codes_len_after, module_len, one_remade, remake_section, replace_each, sizes_after};
 
 /// What an import makes of a module beside its list of imports.
 #[derive(Drop)]

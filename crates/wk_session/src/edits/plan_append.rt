@@ -14,24 +14,23 @@ ghost use Rattle.wk_typing.specs.Finds.{Grows};
 ghost use Rattle.wk_check.specs.Spaces.{answer_in, spaces_of};
 ghost use Rattle.wk_check.specs.SpacesLaws.{answers_of};
 ghost use Rattle.wk_check.specs.Verdict.{func_verdict};
+ghost use Rattle.wk_pieces.specs.Longer.{IsLonger};
+ghost use Rattle.wk_pieces.specs.Pieces.{IsOverlong, codes_size, customs_size};
 ghost use Rattle.wk_session.specs.Dependents.{is_retyped_in};
 ghost use Rattle.wk_session.specs.Kept.{IsKept};
-ghost use Rattle.wk_session.specs.Longer.{IsLonger, IsNewItem};
+ghost use Rattle.wk_session.specs.Added.{IsNewItem};
 ghost use Rattle.wk_session.specs.Judged.{AreKept, IsGrown, IsJudged, IsKnown};
-ghost use Rattle.wk_session.specs.Pieces.{IsOverlong, codes_size, customs_size};
 
-use crate::append_item::{append_item, grown_len};
 use crate::basis::Basis;
 use crate::cache::Cache;
 use crate::edit::EditFault;
 use crate::judged::rejudge_bodies;
-use crate::lengths::{module_len, sizes_with};
-use crate::pieces::{EncodedSections, remake_section};
 use crate::verdict_and_len::{Appraisal, admit, appraise};
 use std::alloc::Global;
 use wk_bytes::{Items, OutOfMemory};
 use wk_check::{BodyVerdict, Meter, Verdict, Whole};
 use wk_module::{EncodeFault, Lists, Parts};
+use wk_pieces::{EncodedSections, append_item, grown_len, module_len, remake_section, sizes_with};
 
 /// What is to be kept of a module that an edit would make.
 #[derive(Drop)]

@@ -7,10 +7,10 @@ ghost use Rattle.wk_body.specs.References.{is_stuck, any_stuck, refs_of, shift_b
 ghost use Rattle.wk_body.specs.Written.{written_body};
 ghost use Rattle.wk_module.specs.declared.types.Func.{Func as FuncOf};
 ghost use Rattle.wk_module.specs.Moving.{moved_func, is_code_moving, is_code_stuck, with_lists};
+ghost use Rattle.wk_pieces.specs.Pieces.{code_of};
 ghost use Rattle.wk_session.specs.Kept.{uses_of};
 ghost use Rattle.wk_session.specs.Dependents.{one_if};
 ghost use Rattle.wk_session.specs.MovedEntries.{uses_movement, shifted_func, IsMovedEntry, AreMovedEntries};
-ghost use Rattle.wk_session.specs.Pieces.{code_of};
 
 use std::alloc::Global;
 use std::collections::BTreeSet;

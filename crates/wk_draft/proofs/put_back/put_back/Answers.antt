@@ -1,8 +1,8 @@
 use Rattle.std.proofs.Common.{◌≡◌, ◌-◌, ◌∙◌, ◌++◌, None, length, map, refl, ap, arith, vec_len}
 use Rattle.std.specs.Prelude.{replicate}
 use Rattle.wk_check.specs.SpacesLaws.{answers_of}
-use Rattle.wk_session.specs.Overlays.{with_items}
-use Rattle.wk_session.specs.Pieces.{code_of}
+use Rattle.wk_pieces.specs.Overlays.{with_items}
+use Rattle.wk_pieces.specs.Pieces.{code_of}
 use Rattle.wk_draft.proofs.DeferredCodes.{deferred_put, filled_none, filled_more}
 use Rattle.wk_draft.proofs.put_back.put_back.Goals as goal
 

@@ -6,8 +6,8 @@ use Rattle.std.proofs.Common.{Global}
 use Rattle.wk_body.specs.declared.references.Ref.{Ref}
 use Rattle.wk_module.specs.declared.types.Func.{Func}
 use Rattle.wk_check.specs.Verdict.{func_verdict}
+use Rattle.wk_pieces.specs.Pieces.{code_of}
 use Rattle.wk_session.specs.Kept.{uses_of}
-use Rattle.wk_session.specs.Pieces.{code_of}
 use Rattle.wk_session.proofs.Opening.{pushed}
 use Rattle.wk_session.proofs.cache.entries_in.Goals.{then-not-is_written+in_ok-code_in_room+in_ok-push, else-not-is_written}
 use Rattle.wk_session.proofs.cache.entries_in.Goals as goal

@@ -1,7 +1,7 @@
 use Rattle.std.proofs.Common.{◌≡◌, ◌≤◌, take, map, if◌then◌else◌}
 use Rattle.wk_check.specs.Verdict.{func_verdict}
+use Rattle.wk_pieces.specs.Pieces.{code_of}
 use Rattle.wk_session.specs.Kept.{uses_of}
-use Rattle.wk_session.specs.Pieces.{code_of}
 use Rattle.wk_session.proofs.cache.entries_in.Given as goal
 
 abbrev pub invariant-loop-i : goal.invariant-loop-i

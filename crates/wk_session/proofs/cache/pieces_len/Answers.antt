@@ -1,7 +1,7 @@
 use Rattle.std.proofs.Common.{List, ℕ, length, map, ap, ◌∙◌}
-use Rattle.wk_session.specs.Overlays.{with_items}
-use Rattle.wk_session.specs.Pieces.{no_news}
-use Rattle.wk_session.proofs.Putting.{codes_length}
+use Rattle.wk_pieces.specs.Overlays.{with_items}
+use Rattle.wk_pieces.specs.Pieces.{no_news}
+use Rattle.wk_pieces.proofs.Putting.{codes_length}
 use Rattle.wk_session.proofs.cache.pieces_len.Goals as goal
 
 pub returns : goal.returns

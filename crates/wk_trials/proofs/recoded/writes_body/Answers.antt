@@ -11,10 +11,10 @@ use Rattle.wk_module.specs.Sections.{SectionLists}
 use Rattle.wk_module.specs.Shape.{IsInOrderFrom}
 use Rattle.wk_module.specs.Sizes.{AreListsOf}
 use Rattle.wk_module.specs.Writing.{encoded}
-use Rattle.wk_session.specs.Overlays.{with_items}
-use Rattle.wk_session.specs.Pieces.{code_of}
-use Rattle.wk_session.specs.Recoded.{encoded_with}
-use Rattle.wk_session.specs.RecodedLaws.{recoded}
+use Rattle.wk_pieces.specs.Overlays.{with_items}
+use Rattle.wk_pieces.specs.Pieces.{code_of}
+use Rattle.wk_pieces.specs.Recoded.{encoded_with}
+use Rattle.wk_pieces.specs.RecodedLaws.{recoded}
 use Rattle.wk_trials.proofs.recoded.writes_body.Goals as goal
 
 with_body : Parts → Func → BodyOf → Parts

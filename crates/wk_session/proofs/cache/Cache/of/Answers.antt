@@ -13,12 +13,12 @@ use Rattle.wk_typing.specs.Faults.{body_flaw}
 use Rattle.wk_check.specs.Spaces.{answer_in, spaces_of}
 use Rattle.wk_check.specs.SpacesLaws.{answers_of}
 use Rattle.wk_check.specs.Verdict.{func_verdict, module_verdict, verdict_around}
+use Rattle.wk_pieces.specs.Pieces.{ArePieces}
+use Rattle.wk_pieces.proofs.Putting.{codes_length}
 use Rattle.wk_session.specs.Kept.{IsPending, uses_of}
 use Rattle.wk_session.specs.Known.{AreKnown}
-use Rattle.wk_session.specs.Pieces.{ArePieces}
 use Rattle.wk_session.proofs.KnownBodies.{told_bodies}
 use Rattle.wk_session.proofs.Lent.{answers_in, lent, lent_is, numbered_lent, verdicts_few}
-use Rattle.wk_session.proofs.Putting.{codes_length}
 use Rattle.wk_module.specs.WritingLaws.{room_for_func}
 use Rattle.wk_session.proofs.Appraising.{verdict_lent}
 use Rattle.wk_session.proofs.cache.Cache.of.Goals as goal

@@ -2,9 +2,9 @@ use Rattle.std.proofs.Common.{◌≡◌, ◌+◌, ◌-◌, set, length, sym, ap,
 use Rattle.wk_body.specs.Lengths.{limited}
 use Rattle.wk_body.specs.LengthsLaws.{limited_none, limited_some}
 use Rattle.wk_module.specs.Sizes.{entry_size}
-use Rattle.wk_session.specs.Pieces.{entries_size}
+use Rattle.wk_pieces.specs.Pieces.{entries_size}
+use Rattle.wk_pieces.proofs.Piecing.{limited_within}
 use Rattle.wk_session.proofs.BodyEdits.{entries_set, entry_within}
-use Rattle.wk_session.proofs.Piecing.{limited_within}
 use Rattle.wk_session.proofs.edits.body.codes_len_with.Goals as goal
 use Rattle.wk_session.proofs.edits.body.codes_len_with.Goals.{In-Some}
 

@@ -4,11 +4,11 @@ use Rattle.wk_body.specs.Lengths.{limited}
 use Rattle.wk_module.specs.Changes.{with_body}
 use Rattle.wk_module.specs.ChangeLaws.{body_formed}
 use Rattle.wk_module.specs.NumberedLaws.{funcs_numbered}
-use Rattle.wk_session.specs.Pieces.{codes_size, entries_size, section_pieces}
+use Rattle.wk_pieces.specs.Pieces.{codes_size, entries_size, section_pieces}
+use Rattle.wk_pieces.proofs.Piecing.{codes_within, entries_codes}
 use Rattle.wk_session.proofs.EntryEdits.{codes_large, codes_len_is}
 use Rattle.wk_session.proofs.BodyEdits.{body_sections, body_unencoded, codes_given, length-given}
 use Rattle.wk_session.proofs.Keeping.{kept_fits}
-use Rattle.wk_session.proofs.Piecing.{codes_within, entries_codes}
 use Rattle.wk_session.proofs.edits.body.planned_body.Goals as goal
 use Rattle.wk_session.proofs.edits.body.planned_body.Goals.{After-codes_len_with}
 

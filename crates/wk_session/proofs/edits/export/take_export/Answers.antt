@@ -10,14 +10,14 @@ use Rattle.wk_module.specs.NumberedLaws.{funcs_numbered}
 use Rattle.wk_module.specs.Sections.{ExportSection}
 use Rattle.wk_module.specs.Writing.{encoded, list_contents}
 use Rattle.wk_check.specs.SpacesLaws.{answers_of}
+use Rattle.wk_pieces.specs.Pieces.{section_pieces}
+use Rattle.wk_pieces.specs.Shorter.{without_item}
+use Rattle.wk_pieces.proofs.Piecing.{section_within}
 use Rattle.wk_session.specs.declared.edit.EditFault.{EditFault}
 use Rattle.wk_session.specs.declared.cache.Cache.{Cache}
 use Rattle.wk_session.specs.Judged.{IsGrown, IsJudged}
 use Rattle.wk_session.specs.Kept.{IsKept}
-use Rattle.wk_session.specs.Pieces.{section_pieces}
-use Rattle.wk_session.specs.Shorter.{without_item}
 use Rattle.wk_session.proofs.Keeping.{kept_fits, others_kept, room_kept}
-use Rattle.wk_session.proofs.Piecing.{section_within}
 use Rattle.wk_session.proofs.ShorterLists.{before, export_shorter, items_within, itself, span_within}
 use Rattle.wk_session.proofs.edits.export.take_export.Goals as goal
 use Rattle.wk_session.proofs.edits.export.take_export.Goals.{After-deref, After-keep_shrunk, After-span_of-span}

@@ -3,7 +3,7 @@ use Rattle.std.specs.List.{flat_map}
 use Rattle.wk_bytes.specs.Frames.{limit}
 use Rattle.wk_body.specs.LengthsLaws.{limited_none, limited_some}
 use Rattle.wk_module.specs.Items.{written_export}
-use Rattle.wk_session.proofs.Putting.{flat_split}
+use Rattle.wk_pieces.proofs.Putting.{flat_split}
 use Rattle.wk_session.proofs.edits.export.written_len.Goals as goal
 use Rattle.wk_session.proofs.edits.export.written_len.Goals.{After-export_len}
 

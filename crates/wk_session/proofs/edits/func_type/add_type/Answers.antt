@@ -6,8 +6,8 @@ use Rattle.wk_module.specs.Types.{written_functype}
 use Rattle.wk_module.specs.Sections.{TypeSection}
 use Rattle.wk_module.specs.Shape.{settle}
 use Rattle.wk_module.specs.Writing.{list_contents}
+use Rattle.wk_pieces.specs.Longer.{IsLonger}
 use Rattle.wk_session.specs.declared.edit.Edit.TheVariants as edits
-use Rattle.wk_session.specs.Longer.{IsLonger}
 use Rattle.wk_session.proofs.Appending.{IsAddition, copy_long, pushed, too_long, uncopied, unpushed}
 use Rattle.wk_session.proofs.Keeping.{room_kept}
 use Rattle.wk_session.proofs.LongerLists.{alone_len, type_longer}

@@ -6,7 +6,7 @@ use Rattle.wk_module.specs.Changes.{with_func}
 use Rattle.wk_module.specs.NumberedLaws.{funcs_numbered}
 use Rattle.wk_module.specs.Shape.{IsFormed}
 use Rattle.wk_module.specs.Sizes.{entry_size}
-use Rattle.wk_session.specs.Pieces.{codes_size}
+use Rattle.wk_pieces.specs.Pieces.{codes_size}
 use Rattle.wk_session.proofs.EntryEdits.{codes_kept, codes_large, codes_len_is, codes_more, formed_with_func, func_unencoded, types_with}
 use Rattle.wk_session.proofs.LongerLists.{func_longer, item_told, longer_by}
 use Rattle.wk_session.proofs.Outcomes.{told_fits}

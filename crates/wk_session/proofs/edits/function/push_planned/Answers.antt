@@ -6,11 +6,11 @@ use Rattle.wk_module.specs.declared.types.Parts.{Parts}
 use Rattle.wk_module.specs.Changes.{with_func}
 use Rattle.wk_module.specs.Writing.{list_contents}
 use Rattle.wk_module.specs.WritingLaws.{room_for_func}
-use Rattle.wk_session.specs.Longer.{with_item}
-use Rattle.wk_session.specs.Pieces.{section_piece}
+use Rattle.wk_pieces.specs.Longer.{with_item}
+use Rattle.wk_pieces.specs.Pieces.{section_piece}
 use Rattle.wk_session.proofs.LongerLists.{func_longer, overlong_more}
 use Rattle.wk_session.proofs.Outcomes.{told_fits}
-use Rattle.wk_session.proofs.Piecing.{unwritten}
+use Rattle.wk_session.proofs.Oversized.{unwritten}
 use Rattle.wk_session.proofs.Popped.{popped}
 use Rattle.wk_session.proofs.edits.function.push_planned.Goals as goal
 

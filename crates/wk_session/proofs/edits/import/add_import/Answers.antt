@@ -11,13 +11,13 @@ use Rattle.wk_module.specs.MovedLaws.{types_stay}
 use Rattle.wk_module.specs.Moving.{is_code_moving}
 use Rattle.wk_module.specs.NumberedLaws.{funcs_numbered, module_numbered}
 use Rattle.wk_module.specs.Shape.{IsFormed, settle}
+use Rattle.wk_pieces.specs.Overlays.{with_items}
 use Rattle.wk_session.specs.declared.edit.Edit.TheVariants as edits
 use Rattle.wk_session.specs.declared.edit.Work.{Work}
 use Rattle.wk_session.specs.Dependents.{work_of}
 use Rattle.wk_session.specs.Edits.{import_place, made}
 use Rattle.wk_session.specs.Imported.{after_import, IsImportPlan}
 use Rattle.wk_session.specs.Kept.{IsKept}
-use Rattle.wk_session.specs.Overlays.{with_items}
 use Rattle.wk_session.proofs.ImportEdits.{made_free}
 use Rattle.wk_session.proofs.ImportOutcome.{unplanned, laid_parts, laid_refs}
 use Rattle.wk_session.proofs.Keeping.{refs_count}

@@ -10,16 +10,16 @@ use Rattle.wk_module.specs.Sections.{SectionLists}
 use Rattle.wk_module.specs.Writing.{encoded}
 use Rattle.wk_check.specs.SpacesLaws.{answers_of}
 use Rattle.wk_check.specs.Verdict.{func_verdict}
+use Rattle.wk_pieces.specs.Overlays.{with_items}
+use Rattle.wk_pieces.specs.Pieces.{codes_size, entries_size, section_pieces}
+use Rattle.wk_pieces.proofs.Piecing.{entries_codes}
 use Rattle.wk_session.specs.Edits.{import_place}
 use Rattle.wk_session.specs.Imported.{before_import, after_import}
 use Rattle.wk_session.specs.Kept.{IsPending}
-use Rattle.wk_session.specs.Overlays.{with_items}
-use Rattle.wk_session.specs.Pieces.{codes_size, entries_size, section_pieces}
 use Rattle.wk_session.proofs.EntryEdits.{codes_large, codes_len_is}
 use Rattle.wk_session.proofs.ImportEdits.{pending_lists}
 use Rattle.wk_session.proofs.Lent.{lent, numbered_lent, verdicts_few}
 use Rattle.wk_session.proofs.ImportPieces.{pieces_after, made_after, unwritten}
-use Rattle.wk_session.proofs.Piecing.{entries_codes}
 use Rattle.wk_session.proofs.edits.import.judged_import.Goals as goal
 use Rattle.wk_session.proofs.edits.import.judged_import.Goals.{After-with_moved-now, In_ok-remade, After-codes_len_after, After-len, After-module_len-len}
 use Rattle.wk_session.proofs.edits.import.judged_import.Goals.{After-verdicts_or-verdicts_now}

@@ -1,7 +1,7 @@
 use Rattle.std.proofs.Common.{length, ap, sym, subst, ◌∙◌, arith}
 use Rattle.wk_module.specs.NumberedLaws.{funcs_numbered}
 use Rattle.wk_module.specs.Shape.{IsInOrderFrom}
-use Rattle.wk_session.specs.Pieces.{codes_size, customs_size}
+use Rattle.wk_pieces.specs.Pieces.{codes_size, customs_size}
 use Rattle.wk_session.proofs.edits.plan_append.len_beside.Goals as goal
 
 pub len_grown-requires-clause-sections : goal.len_grown-requires-clause-sections

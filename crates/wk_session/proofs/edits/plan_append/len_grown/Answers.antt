@@ -1,7 +1,7 @@
 use Rattle.std.proofs.Common.{length, drop, sym, ◌∙◌, arith, length-drop}
 use Rattle.wk_body.specs.LengthsLaws.{limited_none}
 use Rattle.wk_module.specs.Writing.{encoded}
-use Rattle.wk_session.proofs.Piecing.{past_limit, section_within}
+use Rattle.wk_pieces.proofs.Piecing.{past_limit, section_within}
 use Rattle.wk_session.proofs.edits.plan_append.len_grown.Goals as goal
 
 -- an item that is too long makes the module so

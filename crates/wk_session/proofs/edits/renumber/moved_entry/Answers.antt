@@ -5,9 +5,9 @@ use Rattle.wk_body.specs.declared.renumber.Movement.{Movement}
 use Rattle.wk_module.specs.declared.types.Kind.{Kind}
 use Rattle.wk_module.specs.declared.types.Kind.TheVariants as kinds
 use Rattle.wk_module.specs.Moving.{moved_func, is_code_moving}
+use Rattle.wk_pieces.specs.Pieces.{code_of}
 use Rattle.wk_session.specs.Dependents.{one_if}
 use Rattle.wk_session.specs.Kept.{uses_of}
-use Rattle.wk_session.specs.Pieces.{code_of}
 use Rattle.wk_session.proofs.MovedCode.{shifted_is, uses_as_code}
 use Rattle.wk_session.proofs.edits.renumber.moved_entry.Goals as goal
 use Rattle.wk_session.proofs.edits.renumber.moved_entry.Goals.{After-uses_movement}

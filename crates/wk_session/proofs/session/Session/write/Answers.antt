@@ -1,10 +1,10 @@
 use Rattle.std.proofs.Common.{◌≡◌, length, sym, ap, ◌∙◌, arith}
 use Rattle.wk_module.specs.Writing.{encoded}
-use Rattle.wk_session.specs.Pieces.{entries_size}
-use Rattle.wk_session.specs.Recoded.{encoded_with}
+use Rattle.wk_pieces.specs.Pieces.{entries_size}
+use Rattle.wk_pieces.specs.Recoded.{encoded_with}
+use Rattle.wk_pieces.proofs.Piecing.{entries_codes}
+use Rattle.wk_pieces.proofs.Putting.{session_form}
 use Rattle.wk_session.proofs.Keeping.{kept_fits}
-use Rattle.wk_session.proofs.Piecing.{entries_codes}
-use Rattle.wk_session.proofs.Putting.{session_form}
 use Rattle.wk_session.proofs.WrittenBack.{kept_alone}
 use Rattle.wk_session.proofs.session.Session.write.Given.{Over}
 use Rattle.wk_session.proofs.session.Session.write.Goals as goal

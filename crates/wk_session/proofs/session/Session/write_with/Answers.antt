@@ -1,9 +1,9 @@
 use Rattle.std.proofs.Common.{◌≡◌, length, map, refl, sym, ap, ◌∙◌, arith}
 use Rattle.wk_module.specs.declared.types.Parts.{Parts}
-use Rattle.wk_session.specs.Overlays.{with_items}
-use Rattle.wk_session.specs.Pieces.{code_of}
-use Rattle.wk_session.specs.Recoded.{encoded_with}
-use Rattle.wk_session.proofs.Putting.{codes_length, entries_in_form, session_codes}
+use Rattle.wk_pieces.specs.Overlays.{with_items}
+use Rattle.wk_pieces.specs.Pieces.{code_of}
+use Rattle.wk_pieces.specs.Recoded.{encoded_with}
+use Rattle.wk_pieces.proofs.Putting.{codes_length, entries_in_form, session_codes}
 use Rattle.wk_session.proofs.session.Session.write_with.Given.{Over}
 use Rattle.wk_session.proofs.session.Session.write_with.Goals as goal
 use Rattle.wk_session.proofs.session.Session.write_with.Goals.{After-parts}

@@ -4,8 +4,8 @@ use Rattle.wk_module.specs.Sections.{CodeSection, of_number}
 use Rattle.wk_module.specs.Shape.{lists_of}
 use Rattle.wk_module.specs.Writing.{contents_by, section_contents}
 use Rattle.wk_module.specs.WritingLaws.{room_for_func}
+use Rattle.wk_pieces.proofs.Putting.{codes_length}
 use Rattle.wk_session.proofs.Keeping.{kept_fits}
-use Rattle.wk_session.proofs.Putting.{codes_length}
 use Rattle.wk_session.proofs.Shaping.{code_contents_is, code_contents_fit, piece_fits}
 use Rattle.wk_session.proofs.session.SessionShape.section_len.Goals as goal
 use Rattle.wk_session.proofs.session.SessionShape.section_len.Goals.{After-code_contents}

@@ -1,0 +1,5 @@
+pub mod Replacing
+pub mod Gaps
+pub mod Piecing
+pub mod CodeLengths
+pub mod Putting
