@@ -299,8 +299,8 @@ fn asked_of<'a>(alloc: Global, matches: &ArgMatches<'a>) -> Result<Asked<'a>, Wo
 ///
 /// # Errors
 ///
-/// What `clap` says of words that are no command, and `BadWords` where OUT is spelled as FILE or SCRIPT, NAME is no name, or `validate`
-/// has several FILEs without `--each`.
+/// `CommandLine`, with what `clap` says of words that are no command; `BadWords` where OUT is spelled as FILE or SCRIPT, NAME is no name,
+/// or `validate` has several FILEs without `--each`; and `Memory` where a growth was refused.
 pub fn read_words<'a>(alloc: Global, words: &'a [String]) -> Result<Asked<'a>, WordsFault>
     ensures ok { IfOk result (SpellsOnly (map string_bytes words.now)) }
     ensures err { IfErr result (RefusesWords (map string_bytes words.now)) }

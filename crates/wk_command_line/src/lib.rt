@@ -2,17 +2,16 @@
 //!
 //! # What it promises
 //!
-//! - [`read_words`] gives the command that the words after the program's name spell, and no other spells it (`SpellsOnly` of
-//!   `specs/CommandLine`, beside `docs/CLI.md`): the file names as they stand, the profile, and what its options say.
+//! - [`read_words`] gives the one command that the words after the program's name spell (`SpellsOnly` of `specs/CommandLine`, beside
+//!   `docs/CLI.md`): the names of its files as they stand, the profile, and what its options say.
 //! - Where it gives none, the words spell no command, or memory was refused (`RefusesWords` of `specs/Faults`).
 //!
 //! What `clap` says of words that are no command has no clause: it is tested.
 //!
 //! # What it costs
 //!
-//! The parser has five commands and some twenty options and operands, whatever the words are. Each word is looked at once by `clap`, which
-//! keeps it where it stands. What comes lends file names from the words, and holds the parts of a listing, the name to keep or the list of
-//! files alone.
+//! A call makes the parser of the five commands, reads the words by it, and has dropped the parser and what it found when it returns. What
+//! comes lends the names of files from the words. Of memory it holds the parts of a listing, the name to keep, or the list of FILEs.
 #![tactic(auto)]
 
 mod command;
