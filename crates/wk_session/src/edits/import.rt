@@ -37,7 +37,9 @@ use wk_module::{
     EncodeFault, Import, ImportDesc, Kind, Limits, Lists, MovedLists, Parts, ShiftFault,
     import_count, moving_of_code, moving_of_module, section_id, shift_lists,
 };
-use wk_pieces::{NewSections, codes_len_after, module_len, one_remade, remake_section, replace_each, sizes_after};
+use wk_pieces::{
+    NewSections, codes_len_after, module_len, one_remade, remake_section, replace_each, sizes_after,
+};
 
 /// What an import makes of a module beside its list of imports.
 #[derive(Drop)]
