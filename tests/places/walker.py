@@ -19,10 +19,10 @@ class NotedCode(Code):
 
 
 class NotedContents(Contents):
-    """The contents of a section. `tokens` has those of the item that was read last, and `in_body` says whether its body was begun."""
+    """The contents of a section. `tokens` and `funcs` have those of the item that was read last, and `in_body` says whether its body was begun."""
 
     def __init__(self, cursor, is_extended):
-        self.tokens, self.in_body, self.is_func = [], False, False
+        self.tokens, self.funcs, self.in_body, self.is_func = [], [], False, False
         super().__init__(cursor, is_extended)
 
     def code_at(self, cursor, is_extended):
@@ -36,16 +36,21 @@ class NotedContents(Contents):
         self.is_func = kind == 0
         (self.cursor.u32, self.table_type, self.limits, self.global_type)[kind]()
 
+    def element(self):
+        self.cursor.u32()
+        self.code.expression()
+        self.cursor.vector(lambda: self.funcs.append(self.cursor.u32()))
+
     def next(self, number):
         """Reads an item, and gives its offset and what is noted of it."""
-        del self.tokens[:]
+        del self.tokens[:], self.funcs[:]
         self.in_body, self.is_func, at = False, False, self.cursor.at
         self.item(number)()
-        return at, list(self.tokens), self.is_func
+        return at, list(self.tokens), list(self.funcs), self.is_func
 
 
 class Places:
-    """The items of each section: of each its offset, and the offsets of its tokens."""
+    """The items of each section: of each its offset, the offsets of its tokens, and the functions that a segment names."""
 
     def __init__(self, data, is_extended):
         self.items, self.imported, self.declared, self.broken = {}, 0, 0, None
@@ -64,19 +69,25 @@ class Places:
             return
         for _ in range(count):
             try:
-                at, tokens, is_func = noted.next(number)
+                at, tokens, funcs, is_func = noted.next(number)
             except Fault as fault:
                 if number == 10 and noted.in_body:
                     self.broken = self.imported + len(self.items[10]), str(fault)
                 raise
-            self.items[number].append((at, tokens))
+            self.items[number].append((at, tokens, funcs))
             self.imported += is_func
             self.declared += number == 3
 
     def of(self, section, item, token):
         """The offset of a place."""
-        at, tokens = self.items[section][item]
+        at, tokens, _ = self.items[section][item]
         return at if token is None else tokens[token]
+
+    def entry(self, segment):
+        """The number of the first function of a segment that the module has not, where the segment has several functions."""
+        funcs = self.items[9][segment][2]
+        unknown = [number for number, func in enumerate(funcs) if func >= self.imported + self.declared]
+        return unknown[0] if unknown and len(funcs) > 1 else None
 
 
 def broken_function(data, is_extended, line):

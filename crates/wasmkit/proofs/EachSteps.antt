@@ -5,12 +5,12 @@ use Rattle.std.specs.Borrow.{Bor}
 use Rattle.std.proofs.lemmas.List.{drop_more, get_or-map, length-map, take-append-drop, take_more}
 use Rattle.std.specs.Io.KnownBytes.{Appends}
 use Rattle.wk_bytes.specs.TakenLaws.{Appends-none, Appends-then}
-use Rattle.wasmkit.specs.declared.command.EachCommand.{EachCommand}
+use Rattle.wk_command_line.specs.declared.command.EachCommand.{EachCommand}
 use Rattle.wasmkit.specs.declared.fault.ProgramFault.{ProgramFault}
 use Rattle.wasmkit.specs.declared.fault.ProgramFault.TheVariants.{BadWords, CommandLine, Memory, Output, Read, Write}
 use Rattle.wasmkit.specs.declared.store.StoreFault.{StoreFault}
 use Rattle.wasmkit.specs.declared.store.StoreFault.TheVariants as stores
-use Rattle.wasmkit.specs.CommandLine.{Word, files_of}
+use Rattle.wk_command_line.specs.CommandLine.{Word, files_of}
 use Rattle.wasmkit.specs.Answers.{IsPrinted, Judged, both_judged, exhausted, judged_as, named_line, nothing_judged, unread}
 use Rattle.wasmkit.specs.Events.{Event, Loaded, Saved, then_all, then_asked}
 use Rattle.wasmkit.specs.Faults.{fault_status, fault_text, unread_text}

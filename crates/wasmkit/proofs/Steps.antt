@@ -14,7 +14,7 @@ use Rattle.wk_list.specs.declared.listing.Part.{Part}
 use Rattle.wk_list.specs.Taken.{failed_after}
 use Rattle.wk_edit.specs.declared.fault.Status.{Status}
 use Rattle.wk_edit.specs.Outcome.{Outcome, status_code}
-use Rattle.wasmkit.specs.declared.command.EditCommand.{EditCommand}
+use Rattle.wk_command_line.specs.declared.command.EditCommand.{EditCommand}
 use Rattle.wasmkit.specs.declared.fault.ProgramFault.{ProgramFault}
 use Rattle.wasmkit.specs.declared.fault.ProgramFault.TheVariants.{Read}
 use Rattle.wasmkit.specs.declared.store.StoreFault.{StoreFault}

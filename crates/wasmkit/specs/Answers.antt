@@ -16,14 +16,14 @@ use Rattle.wk_strip.specs.Stripped.{with_kept}
 use Rattle.wk_edit.specs.declared.fault.Status.{Status}
 use Rattle.wk_edit.specs.declared.fault.Status.TheVariants.{Accepted, Refused, Malformed, BadScript}
 use Rattle.wk_edit.specs.Outcome.{Outcome, outcome_of, out_of, status_code}
-use Rattle.wk_edit.specs.ReportText.{malformed_text}
+use Rattle.wk_check.specs.VerdictLines.{malformed_text}
 use Rattle.wk_answers.specs.Listing.{is_fault, listing}
 use Rattle.wk_answers.specs.Explaining.{Explains}
 use Rattle.wk_answers.specs.Validation.{printed, status_of}
-use Rattle.wasmkit.specs.declared.command.EachCommand.{EachCommand}
-use Rattle.wasmkit.specs.declared.command.EditCommand.{EditCommand}
-use Rattle.wasmkit.specs.declared.command.ObjdumpCommand.{ObjdumpCommand}
-use Rattle.wasmkit.specs.declared.command.StripCommand.{StripCommand}
+use Rattle.wk_command_line.specs.declared.command.EachCommand.{EachCommand}
+use Rattle.wk_command_line.specs.declared.command.EditCommand.{EditCommand}
+use Rattle.wk_command_line.specs.declared.command.ObjdumpCommand.{ObjdumpCommand}
+use Rattle.wk_command_line.specs.declared.command.StripCommand.{StripCommand}
 use Rattle.wasmkit.specs.Faults.{memory_text, unread_text}
 
 pub record Answer : Type 0 where

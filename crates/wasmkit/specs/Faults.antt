@@ -2,9 +2,11 @@
 use Rattle.std.specs.Prelude.{◌≡◌, ℕ, List, ◌++◌, Option, Some, None, codes}
 use Rattle.wk_list.specs.declared.fault.ListFault.{ListFault}
 use Rattle.wk_list.specs.declared.fault.ListFault.TheVariants as lists
+use Rattle.wk_command_line.specs.CommandLine.{SpellsNone}
+use Rattle.wk_command_line.specs.declared.fault.WordsFault.{WordsFault}
+use Rattle.wk_command_line.specs.declared.fault.WordsFault.TheVariants as faults
 use Rattle.wasmkit.specs.declared.store.StoreFault.{StoreFault}
 use Rattle.wasmkit.specs.declared.store.StoreFault.TheVariants as stores
-use Rattle.wasmkit.specs.CommandLine.{SpellsNone}
 use Rattle.wasmkit.specs.declared.fault.ProgramFault.{ProgramFault}
 use Rattle.wasmkit.specs.declared.fault.ProgramFault.TheVariants.{CommandLine, BadWords, Read, Write, Output, Memory}
 
@@ -66,3 +68,9 @@ RefusesWords words fault = ⊥
 abbrev pub of_list : ListFault → ProgramFault
 of_list lists.Write = Output
 of_list lists.Memory = Memory
+
+-- of words that were not read
+abbrev pub of_words : WordsFault → ProgramFault
+of_words (faults.CommandLine complaint) = CommandLine complaint
+of_words faults.BadWords = BadWords
+of_words faults.Memory = Memory

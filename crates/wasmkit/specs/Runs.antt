@@ -6,22 +6,22 @@ use Rattle.wk_bytes.specs.declared.fault.ReadKind.TheVariants as reads
 use Rattle.wk_bytes.specs.Frames.{limit}
 use Rattle.wk_bytes.specs.Taken.{TakesFront}
 use Rattle.wk_module.specs.Reading.{module_at}
-use Rattle.wk_edit.specs.ReportText.{malformed_text}
+use Rattle.wk_check.specs.VerdictLines.{malformed_text}
 use Rattle.wk_answers.specs.Validation.{status_of}
-use Rattle.wasmkit.specs.declared.command.Asked.{Asked}
-use Rattle.wasmkit.specs.declared.command.Asked.TheVariants.{Edit, Objdump, Sections, Strip, Validate, ValidateEach}
-use Rattle.wasmkit.specs.declared.command.EachCommand.{EachCommand}
-use Rattle.wasmkit.specs.declared.command.EditCommand.{EditCommand}
-use Rattle.wasmkit.specs.declared.command.ObjdumpCommand.{ObjdumpCommand}
-use Rattle.wasmkit.specs.declared.command.StripCommand.{StripCommand}
-use Rattle.wasmkit.specs.declared.command.ValidateCommand.{ValidateCommand}
+use Rattle.wk_command_line.specs.declared.command.Asked.{Asked}
+use Rattle.wk_command_line.specs.declared.command.Asked.TheVariants.{Edit, Objdump, Sections, Strip, Validate, ValidateEach}
+use Rattle.wk_command_line.specs.declared.command.EachCommand.{EachCommand}
+use Rattle.wk_command_line.specs.declared.command.EditCommand.{EditCommand}
+use Rattle.wk_command_line.specs.declared.command.ObjdumpCommand.{ObjdumpCommand}
+use Rattle.wk_command_line.specs.declared.command.StripCommand.{StripCommand}
+use Rattle.wk_command_line.specs.declared.command.ValidateCommand.{ValidateCommand}
 use Rattle.wasmkit.specs.declared.fault.ProgramFault.{ProgramFault}
 use Rattle.wasmkit.specs.declared.fault.ProgramFault.TheVariants.{Output, Memory}
 use Rattle.wasmkit.specs.declared.store.StoreFault.{StoreFault}
 use Rattle.wasmkit.specs.declared.store.StoreFault.TheVariants as stores
 use Rattle.wasmkit.specs.Answers.{Answer, IsPrinted, Judged, both_judged, dumped, edited, exhausted, framed, judged_as, named_line, nothing_judged, stripped, unread}
 use Rattle.wasmkit.specs.Events.{Event, Loaded, Saved, then_all}
-use Rattle.wasmkit.specs.CommandLine.{SpellsOnly, Word, files_of}
+use Rattle.wk_command_line.specs.CommandLine.{SpellsOnly, Word, files_of}
 use Rattle.wasmkit.specs.Faults.{fault_status, fault_text, memory_text, IsOfLoad, IsOfSave, RefusesWords}
 
 -- ---- what an output gets

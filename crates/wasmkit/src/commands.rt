@@ -19,9 +19,6 @@ mod each;
 mod judging;
 mod telling;
 
-use crate::command::{
-    Asked, EditCommand, ObjdumpCommand, StripCommand, ValidateCommand, read_words,
-};
 use crate::commands::each::run_each;
 use crate::commands::judging::judged;
 use crate::commands::telling::tell_after;
@@ -33,8 +30,12 @@ use wk_answers::{
     Explanation, Listing, list_bodies, list_parts, list_sections, list_summary_parts,
 };
 use wk_bytes::{LIMIT, Out, OutOfMemory, ReadFault, ReadKind, Sink, put_all};
-use wk_check::Validator;
-use wk_edit::{Status, edit_owned, malformed_line};
+use wk_check::malformed_line;
+use wk_command_line::{
+    Asked, EditCommand, ObjdumpCommand, StripCommand, ValidateCommand, read_words,
+};
+use wk_edit::{Status, edit_owned};
+use wk_judging::Validator;
 use wk_list::{Layout, Part, Summary};
 use wk_module::{EncodeFault, Module, Profile, read_in};
 use wk_strip::strip_bytes;
@@ -411,8 +412,8 @@ fn answer<'a, S: Store, X: Out, Y: Out>(
 /// (`Status`) or of `validate`, 0 or 2 of the other commands, 3 for a bad command line, 4 where a file or standard output failed, 5 for want
 /// of memory. Of `validate --each` it is the highest of its files.
 ///
-/// Where the words spell a command (`specs/CommandLine`), it is carried out. Where they spell none, or memory is refused before that is
-/// known, nothing is loaded, saved or printed. Where standard error fails, nothing else changes.
+/// Where the words spell a command (`read_words` of `wk_command_line`), it is carried out. Where they spell none, or memory is refused
+/// before that is known, nothing is loaded, saved or printed. Where standard error fails, nothing else changes.
 pub fn program<S: Store, X: Out, Y: Out>(
     alloc: Global,
     words: &[String],

@@ -1,16 +1,14 @@
 //! Why a command gives no answer.
 
 ghost use Rattle.std.specs.Prelude.{◌≡◌};
-ghost use Rattle.clap.specs.declared.error.kind.ErrorKind.TheVariants.{OutOfMemory as no_room};
-ghost use Rattle.clap.specs.Words.{kind_of};
 ghost use Rattle.wasmkit.specs.declared.fault.ProgramFault.TheVariants.{Memory as no_memory};
-ghost use Rattle.wasmkit.specs.Faults.{fault_status, fault_text, of_list, IsOfLoad, IsOfSave, IsOfWords};
+ghost use Rattle.wasmkit.specs.Faults.{fault_status, fault_text, of_list, of_words, IsOfLoad, IsOfSave};
 
 use crate::store::StoreFault;
-use clap::error::ErrorKind;
 use std::alloc::{AllocError, AllocFailed};
 use std::fmt;
 use wk_bytes::OutOfMemory;
+use wk_command_line::WordsFault;
 use wk_list::ListFault;
 
 /// Why a command gives no answer. Its text, which ends with LF, goes to standard error.
@@ -78,13 +76,14 @@ impl<'a> fmt::Display for ProgramFault<'a> {
     }
 }
 
-impl<'a> From<clap::Error> for ProgramFault<'a> {
-    ghost from_gives = { λ e f. IsOfWords f × (kind_of e ≡ no_room → f ≡ no_memory) };
+impl<'a> From<WordsFault> for ProgramFault<'a> {
+    ghost from_gives = { λ e f. f ≡ of_words e };
 
-    fn from(error: clap::Error) -> ProgramFault<'a> {
-        match error.kind() {
-            ErrorKind::OutOfMemory => ProgramFault::Memory,
-            _ => ProgramFault::CommandLine(error),
+    fn from(fault: WordsFault) -> ProgramFault<'a> {
+        match fault {
+            WordsFault::CommandLine(complaint) => ProgramFault::CommandLine(complaint),
+            WordsFault::BadWords => ProgramFault::BadWords,
+            WordsFault::Memory => ProgramFault::Memory,
         }
     }
 }

@@ -7,7 +7,7 @@
 //!   beginning of it where it fails or a listing wants memory, or nothing where memory is refused before; standard error gets the text of what
 //!   failed, but for what `clap` says of words; and the exit status is that of what came of the files, or of what failed, or 5.
 //! - What came of them is by the definitions of `wk_answers`, `wk_strip` and `wk_edit` (`specs/Answers`).
-//! - The words decide the command (`specs/CommandLine`, beside `docs/CLI.md`): what is carried out is the only command that they spell. Where they
+//! - The words decide the command (`wk_command_line`, beside `docs/CLI.md`): what is carried out is the only command that they spell. Where they
 //!   spell none, nothing is asked of the store, and nothing is printed on standard output.
 //!
 //! `main` hands the machine's words, files and streams to `program`, and its status to the machine. This, the machine's files and what `clap` says of
@@ -16,7 +16,6 @@
 
 ghost use Rattle.wasmkit.specs.Faults.{IsOfWords};
 
-mod command;
 mod commands;
 mod fault;
 mod files;

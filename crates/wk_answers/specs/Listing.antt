@@ -2,7 +2,7 @@
 use Rattle.std.specs.Prelude.{ℕ, Bool, true, false, List, [], ◌∷◌, ◌++◌, length, Result, Ok, Err, codes}
 use Rattle.wk_bytes.specs.declared.fault.ReadFault.{ReadFault}
 use Rattle.wk_bytes.specs.Frames.{Section}
-use Rattle.wk_edit.specs.ReportText.{malformed_text}
+use Rattle.wk_check.specs.VerdictLines.{malformed_text}
 use Rattle.wk_list.specs.Headers.{header_text}
 
 -- the line of a section: its name, where its contents start and end, and their length

@@ -10,7 +10,7 @@ use Rattle.wk_module.specs.Modules.{Spells, SpellsNone}
 use Rattle.wk_typing.specs.declared.fault.Verdict.{Verdict}
 use Rattle.wk_typing.specs.declared.fault.Verdict.TheVariants.{Valid, Invalid}
 use Rattle.wk_check.specs.Verdict.{module_verdict}
-use Rattle.wk_edit.specs.ReportText.{malformed_text, verdict_line}
+use Rattle.wk_check.specs.VerdictLines.{malformed_text, verdict_line}
 
 -- the verdict of the module that the bytes spell, or their first fault where they spell none
 abbrev pub printed : Result Parts ReadFault → List ℕ

@@ -9,17 +9,17 @@ ghost use Rattle.wk_module.specs.ListReading.{IsReading};
 ghost use Rattle.wk_module.specs.Modules.{Spells};
 ghost use Rattle.wk_module.specs.Reading.{module_at};
 ghost use Rattle.wk_typing.specs.declared.fault.Verdict.TheVariants as VerdictOf;
-ghost use Rattle.wk_check.specs.Spelled.{judged};
+ghost use Rattle.wk_judging.specs.Spelled.{judged};
 ghost use Rattle.wk_check.specs.Verdict.{module_verdict};
 ghost use Rattle.wk_answers.specs.Validation.{status_of};
-ghost use Rattle.wk_answers.specs.Explaining.{behind_colon, func_text, place_line, Explains, Puts, TellsBody, TellsMore, TellsPlace};
+ghost use Rattle.wk_answers.specs.Explaining.{behind_colon, entry_text, func_text, place_line, Explains, Puts, TellsBody, TellsMore, TellsPlace};
 
 use crate::validation::{Validation, told};
 use std::alloc::Global;
 use wk_bytes::{OutOfMemory, ReadFault, ReadKind};
-use wk_check::{Fault, Validator, Verdict};
+use wk_judging::{Fault, Validator, Verdict};
 use wk_module::Profile;
-use wk_place::{Located, func_of_fault, locate, locate_token};
+use wk_place::{Located, entry_of_fault, func_of_fault, locate, locate_token};
 
 /// What `validate --explain` prints, and its status.
 #[derive(Debug, Drop)]
@@ -52,6 +52,18 @@ fn put_offset(alloc: Global, offset: u32, text: &mut Vec<u8>) -> Result<(), OutO
     Ok(())
 }
 
+// Appends the entry of an element segment, if one is meant.
+fn put_entry(alloc: Global, entry: Option<u32>, text: &mut Vec<u8>) -> Result<(), OutOfMemory>
+    ensures { OnOk result (text.new.items ≡ text.old.items ++ entry_text entry) }
+{
+    let Some(entry) = entry else {
+        return Ok(());
+    };
+    let line = format!(in alloc; " entry {entry}")?;
+    text.extend_from_slice(line.as_bytes())?;
+    Ok(())
+}
+
 // Appends a token behind a colon, if there is one.
 fn put_token(token: Option<&Vec<u8>>, text: &mut Vec<u8>) -> Result<(), OutOfMemory>
     ensures { OnOk result
@@ -68,18 +80,20 @@ fn put_token(token: Option<&Vec<u8>>, text: &mut Vec<u8>) -> Result<(), OutOfMem
 fn put_line(
     alloc: Global,
     located: Option<Located>,
+    entry: Option<u32>,
     token: Option<&Vec<u8>>,
     text: &mut Vec<u8>,
 ) -> Result<(), OutOfMemory>
     ensures { OnOk result
         (text.new.items
-        ≡ text.old.items ++ place_line located (option_map (λ t. t.now.items) token.entry)) }
+        ≡ text.old.items ++ place_line located entry (option_map (λ t. t.now.items) token.entry)) }
 {
     let Some(Located { offset, func }) = located else {
         return Ok(());
     };
     put_offset(alloc, offset, text)?;
     put_func(alloc, func, text)?;
+    put_entry(alloc, entry, text)?;
     put_token(token, text)?;
     text.extend_from_slice(b"\n")?;
     Ok(())
@@ -95,12 +109,13 @@ fn put_place(
 ) -> Result<(), OutOfMemory>
     ensures { (m : Parts) → m.profile ≡ profile → Spells bytes.now m
         → module_verdict m ≡ VerdictOf.Invalid fault.now
-        → OnOk result (Puts (TellsPlace profile bytes.now m fault.now.place) text.old.items
+        → OnOk result (Puts (TellsPlace profile bytes.now m fault.now) text.old.items
         text.new.items) }
 {
     let located = locate(alloc, bytes, profile, fault)?;
+    let entry = entry_of_fault(alloc, bytes, profile, fault)?;
     let token = locate_token(alloc, bytes, profile, fault)?;
-    put_line(alloc, located, token.as_ref(), text)
+    put_line(alloc, located, entry, token.as_ref(), text)
 }
 
 // Appends the line of the body in which a fault of reading lies, if it lies in one.
@@ -147,7 +162,8 @@ fn put_more(
 /// Judges the module of a profile that the bytes spell, as [`validate_with`](crate::validate_with) does, and says where in the bytes the fault
 /// of an invalid module is: behind the line of the verdict comes one as ` at 0x00000058 in func[2]: call 1`. Its offset is that of the first byte
 /// of the item, or of the token where the verdict names one; the function has its index in the function index space, where the item is a body; and
-/// the token is as in the code listing. Of bytes that are no module it says in which function's body the fault is, as ` in func[2]`, where it is in one. The
+/// the token is as in the code listing. Where an element segment of several functions has one that the module has not, the line says which is the
+/// first, counted from 0, as ` at 0x00000058 entry 17`. Of bytes that are no module it says in which function's body the fault is, as ` in func[2]`, where it is in one. The
 /// validator may be used again whatever this answered.
 ///
 /// # Errors

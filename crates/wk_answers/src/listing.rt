@@ -8,7 +8,7 @@ ghost use Rattle.wk_answers.specs.Listing.{is_fault, item_line, listing, section
 
 use std::alloc::Global;
 use wk_bytes::{OutOfMemory, RawSection, ReadFault, Sections};
-use wk_edit::malformed_line;
+use wk_check::malformed_line;
 use wk_list::put_header;
 
 /// A line for each section, and one for the fault behind them, if there is one.

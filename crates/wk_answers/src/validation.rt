@@ -3,13 +3,13 @@ ghost use Rattle.std.specs.Prelude.{◌≡◌, ◌≢◌, IfErr, IfOk, OnOk, str
 ghost use Rattle.wk_body.specs.Reads.{Reads};
 ghost use Rattle.wk_module.specs.ListReading.{IsReading};
 ghost use Rattle.wk_module.specs.Reading.{module_at};
-ghost use Rattle.wk_check.specs.Spelled.{judged};
+ghost use Rattle.wk_judging.specs.Spelled.{judged};
 ghost use Rattle.wk_answers.specs.Validation.{printed, status_of, Means};
 
 use std::alloc::Global;
 use wk_bytes::{OutOfMemory, ReadFault, ReadKind};
-use wk_check::{Validator, Verdict, judge_bytes};
-use wk_edit::{malformed_line, verdict_line};
+use wk_check::{malformed_line, verdict_line};
+use wk_judging::{Validator, Verdict, judge_bytes};
 use wk_module::Profile;
 
 /// What `validate` prints, and its status.

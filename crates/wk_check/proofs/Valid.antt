@@ -1,13 +1,11 @@
 -- The verdict is valid exactly where the module is.
-use Rattle.std.proofs.Common.{◌≡◌, ℕ, ◌+◌, ◌<◌, nat_lt, Bool, true, false, if◌then◌else◌, List, [], ◌∷◌, length, map, Option, Some, None, Result, Ok, Err, IfOk}
+use Rattle.std.proofs.Common.{◌≡◌, ℕ, ◌+◌, ◌<◌, nat_lt, Bool, true, false, if◌then◌else◌, List, [], ◌∷◌, length, map, Option, Some, None}
 use Rattle.std.proofs.Common.{refl, ap, subst, ◌∙◌, inl, inr}
 use Rattle.std.proofs.lemmas.Bool.{cases_Bool, lt-ltb, ltb-true}
 use Rattle.std.specs.Prelude.{◌↔◌}
 use Rattle.std.specs.List.{AllByRecursion}
-use Rattle.wk_bytes.specs.declared.fault.ReadFault.{ReadFault}
 use Rattle.wk_body.specs.declared.references.Ref.{Ref}
 use Rattle.wk_body.specs.declared.types.ValType.TheVariants.{I32}
-use Rattle.wk_body.specs.Reads.{Reads}
 use Rattle.wk_module.specs.declared.types.Func.{Func}
 use Rattle.wk_module.specs.declared.types.GlobalDef.{GlobalDef}
 use Rattle.wk_module.specs.declared.types.Elem.{Elem}
@@ -30,14 +28,12 @@ use Rattle.wk_check.specs.Flaws.{numbered, AreFine, IsFirst}
 use Rattle.wk_typing.specs.Faults.{body_flaw}
 use Rattle.wk_check.specs.Items.{earlier, unless, within, all_within, global_flaw, start_flaws, elem_flaw, data_flaw}
 use Rattle.wk_check.specs.Spaces.{Spaces, answer_in, spaces_of, initial_spaces}
-use Rattle.wk_check.specs.Spelled.{judged}
 use Rattle.wk_typing.specs.Typing.{body_verdict}
-use Rattle.wk_check.specs.Valid.{IsValidElem, IsValidData, IsValidModule, IsValidRead}
+use Rattle.wk_check.specs.Valid.{IsValidElem, IsValidData, IsValidModule}
 use Rattle.wk_check.specs.Verdict.{type_flaws, import_flaws, func_flaws, table_flaws, memory_flaws, global_flaws, export_flaws, elem_flaws, code_flaws}
 use Rattle.wk_check.specs.Verdict.{data_flaws, func_verdict, module_flaws, IsVerdict}
 use Rattle.wk_typing.proofs.All.{back}
 use Rattle.wk_check.proofs.ConstantRules.{constant_derived, derived_constant}
-use Rattle.wk_check.proofs.JudgedCodes.{told_meaning}
 use Rattle.wk_typing.proofs.Sound.{valid_derived, derived_valid}
 
 -- ---- bodies
@@ -206,10 +202,3 @@ module _ (m : Parts) where
 pub valid_exactly : (m : Parts) (v : Verdict) → IsVerdict m v → v ≡ Valid ↔ IsValidModule m
 valid_exactly m Valid fine = (λ is. fine_valid m fine, λ valid. refl)
 valid_exactly m (Invalid fault) first = (λ is. absurd cc, λ valid. absurd (no_first (module_flaws m) fault (valid_fine m valid) first))
-
--- of what is read
-pub read_exactly : (read : Result Parts ReadFault) (answer : Result Verdict ReadFault) → Reads (λ v. v) answer (judged read)
-    → IfOk answer (λ v. v ≡ Valid ↔ IsValidRead read)
-read_exactly (Ok m) (Ok v) reads = valid_exactly m v (told_meaning (Ok m) (Ok v) reads)
-read_exactly (Err e) (Ok v) reads = absurd cc
-read_exactly read (Err e) reads = tt

@@ -16,10 +16,8 @@ pub mod Flaws
 pub mod Verdict
 -- Valid modules (3.4.10), with bodies and constant expressions by the declarative rules.
 pub mod Valid
--- The verdict of the module that bytes encode, or the fault of reading it.
-pub mod Spelled
--- The context in which items are judged while they are read, section by section.
-pub mod Contexts
+-- The lines that tell a verdict, or that bytes are no module.
+pub mod VerdictLines
 -- ---- what keeps a verdict
 
 -- What references find in a module that gets one more item or one more import.
@@ -30,5 +28,3 @@ pub mod Growth
 
 -- What is counted of a module's imports, once for all references.
 pub mod Whole
--- The names of exports that came before.
-pub mod Names

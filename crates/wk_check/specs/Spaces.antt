@@ -60,6 +60,10 @@ spaces_of l = record {
 abbrev pub initial_spaces : SectionLists → Spaces
 initial_spaces l = record (spaces_of l) { globals = imported global_in l.imports }
 
+-- the same spaces with other globals
+abbrev pub with_globals : List GlobalType → Spaces → Spaces
+with_globals globals s = record s { globals = globals }
+
 -- ---- answers
 
 abbrev pub type_found : Option FuncType → Found

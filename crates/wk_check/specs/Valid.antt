@@ -1,7 +1,6 @@
 -- What a valid module is (3.4.10), its bodies, its initialisers and its offsets by declarative rules, which are the standard's for 1.0.
-use Rattle.std.specs.Prelude.{◌<◌, length, Result, Ok, Err}
+use Rattle.std.specs.Prelude.{◌<◌, length}
 use Rattle.std.specs.List.{AllByRecursion}
-use Rattle.wk_bytes.specs.declared.fault.ReadFault.{ReadFault}
 use Rattle.wk_body.specs.declared.types.ValType.TheVariants.{I32}
 use Rattle.wk_module.specs.declared.types.Func.{Func}
 use Rattle.wk_module.specs.declared.types.GlobalDef.{GlobalDef}
@@ -42,8 +41,3 @@ pub record IsValidModule (m : Parts) : Type 0 where
   pub elems : AllByRecursion (IsValidElem (spaces_of (lists_of m))) m.elems
   pub bodies : AllByRecursion (λ (f : Func). IsDerived (answer_in (spaces_of (lists_of m))) f.ty f.body) m.funcs
   pub datas : AllByRecursion (IsValidData (spaces_of (lists_of m))) m.datas
-
--- the module that is read is valid
-abbrev pub IsValidRead : Result Parts ReadFault → Type 0
-IsValidRead (Ok m) = IsValidModule m
-IsValidRead (Err e) = ⊥

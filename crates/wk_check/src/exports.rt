@@ -17,7 +17,7 @@ use wk_module::{Export, Kind, Lists, import_count, section_id};
 use wk_typing::{Fault, FaultKind, Flaw};
 
 /// What is wrong with the index of an export.
-pub(crate) fn flaw_of_index<S: IndexSpaces>(spaces: &S, kind: Kind, index: u32) -> Option<Flaw>
+pub fn flaw_of_index<S: IndexSpaces>(spaces: &S, kind: Kind, index: u32) -> Option<Flaw>
     ensures { result ≡ index_flaw (S.spaces spaces.now) kind index }
 {
     let (is_there, fault) = match kind {

@@ -1,4 +1,4 @@
-//! The verdict of a module: valid, or the first fault and its place.
+//! The verdict of a module that is held: valid, or the first fault and its place.
 //!
 //! # What it promises
 //!
@@ -10,11 +10,6 @@
 //!   (`IsValidModule` of `specs/Valid`); [`meaning_of_verdicts`] carries that as a law of all modules. In the other profile it is the
 //!   same unless it was V1 (`extended`). [`judge_around`] is the same of lists that are lent, for a given first fault of the code section;
 //!   it asks that each list has fewer than 2^32 items (`AreNumbered`).
-//! - [`judge_bytes`] is `module_verdict` of the module that bytes spell in a profile, or the fault of reading it (`judged` of
-//!   `specs/Spelled`), or `Memory` at 0. Its clauses `meaning` and `valid` tell the verdict in words, and `is` says what that module
-//!   and that fault are. So it answers what [`judge`] does of what `read_in` gives; that it keeps no body is no clause.
-//!   [`judge_spelled`] is `module_verdict` of the module that bytes are known to spell, with the same clauses. A [`Validator`] answers what
-//!   [`judge_bytes`] does, with its clauses, of one module after the other, and keeps room from one to the next.
 //! - [`first_code_fault`] is the first flaw of the code section, by the verdicts of its bodies.
 //! - [`verdict_with_type`], [`verdict_with_func`], [`verdict_with_body`], [`verdict_with_global`], [`verdict_with_export`] and
 //!   [`verdict_with_import`] are `module_verdict` of a valid module with that one item more, or with that other body, for every module
@@ -22,44 +17,40 @@
 //!   that of a global take no memory. [`laws_of_valid_modules`] carries what they rest on: a valid module stays so without one of its
 //!   exports (`without`), its bodies are valid (`bodies`), and where what was there is found as it was they stay so (`stay`), as does
 //!   all that its functions refer to (`found`).
+//! - An [`IndexSpaces`] has what a module's references find, whoever holds its lists; [`look_up_in`] and [`Initial`] answer from it
+//!   (`answer_in`). [`flaw_of_type`], [`flaw_of_import`] and their kin are what is wrong with one item (`specs/Items`), for `wk_judging`,
+//!   which judges items while it reads them.
+//! - [`verdict_line`] and [`malformed_line`] are the lines that tell a verdict, or that bytes are no module (`specs/VerdictLines`).
 //!
 //! # What it costs
 //!
 //! Judging a module of 1.0 takes time and memory in line with its bytes (`docs/VERDICTS.md`, "Cost"). The sections in front of the
 //! bodies are judged first, and where one has a fault no body is typed. The imports are counted once, for all references. One room
-//! serves all bodies and constant expressions; [`judge_bytes`] has a second one, for these expressions and the first body that is not
-//! valid. It holds the types, and the types of functions and globals, tables and memories; the names of its exports, if they are more
-//! than sixteen, while it reads the export section; an initialiser or an offset while it looks at it; and no body up to the first fault,
-//! then one at a time.
+//! serves all bodies and constant expressions.
 #![tactic(auto)]
 
 mod code_faults;
-mod context;
 mod exports;
-mod few_limits;
-mod func_space;
 mod incremental;
-mod item_kinds;
-mod judge_encoded;
-mod judge_exports;
-mod judge_items;
-mod judge_sections;
 mod judging;
-mod names;
+mod lines;
 mod rule;
 mod rules;
 mod spaces;
-mod validator;
 mod whole;
 
 pub use code_faults::first_code_fault;
+pub use exports::flaw_of_index;
 pub use incremental::{
     laws_of_valid_modules, verdict_with_body, verdict_with_export, verdict_with_func,
     verdict_with_global, verdict_with_import, verdict_with_type,
 };
-pub use judge_encoded::{judge_bytes, judge_spelled};
 pub use judging::{judge, judge_around, meaning_of_verdicts};
-pub use validator::Validator;
+pub use lines::{malformed_line, verdict_line};
+pub use rules::{
+    flaw_of_import, flaw_of_memory, flaw_of_start, flaw_of_table, flaw_of_type, flaw_of_type_index,
+};
+pub use spaces::{IndexSpaces, Initial, look_up_in};
 pub use whole::Whole;
 pub use wk_typing::{
     Answer, BodyVerdict, Env, Fault, FaultKind, Flaw, Lookup, Meter, Place, Scope, Verdict, carry,

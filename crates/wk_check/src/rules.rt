@@ -43,7 +43,7 @@ fn are_in_range(limits: &Limits) -> bool
 }
 
 /// What is wrong with a table, which is the first in its space or not.
-pub(crate) fn flaw_of_table(limits: &Limits, is_first: bool) -> Option<Flaw>
+pub fn flaw_of_table(limits: &Limits, is_first: bool) -> Option<Flaw>
     ensures { (before : ℕ) → is_first ≡ nat_lt before 1 → result ≡ table_flaw before limits.now }
 {
     if !are_in_order(limits) {
@@ -56,7 +56,7 @@ pub(crate) fn flaw_of_table(limits: &Limits, is_first: bool) -> Option<Flaw>
 }
 
 /// What is wrong with a memory, which is the first in its space or not.
-pub(crate) fn flaw_of_memory(limits: &Limits, is_first: bool) -> Option<Flaw>
+pub fn flaw_of_memory(limits: &Limits, is_first: bool) -> Option<Flaw>
     ensures { (before : ℕ) → is_first ≡ nat_lt before 1 → result ≡ memory_flaw before limits.now }
 {
     if !are_in_order(limits) {
@@ -72,7 +72,7 @@ pub(crate) fn flaw_of_memory(limits: &Limits, is_first: bool) -> Option<Flaw>
 }
 
 /// What is wrong with a type of a module of a profile: in WebAssembly 1.0 it has at most one result.
-pub(crate) fn flaw_of_type(profile: Profile, ty: FuncTypeRef<'_>) -> Option<Flaw>
+pub fn flaw_of_type(profile: Profile, ty: FuncTypeRef<'_>) -> Option<Flaw>
     ensures { result ≡ type_flaw profile (func_type_view ty.entry) }
 {
     if profile == Profile::Core && ty.results.len() > 1 {
@@ -82,7 +82,7 @@ pub(crate) fn flaw_of_type(profile: Profile, ty: FuncTypeRef<'_>) -> Option<Flaw
 }
 
 /// What is wrong with the index of a type, where there are so many.
-pub(crate) fn flaw_of_type_index(types: usize, ty: u32) -> Option<Flaw>
+pub fn flaw_of_type_index(types: usize, ty: u32) -> Option<Flaw>
     ensures { result ≡ unless FaultKind.UnknownType (nat_lt ty types) }
 {
     if (ty as usize) < types {
@@ -237,7 +237,7 @@ impl<'a> Rule<Func> for Whole<'a> {
 }
 
 /// What is wrong with an import, where there are so many types, and so many tables and memories are imported before it.
-pub(crate) fn flaw_of_import(
+pub fn flaw_of_import(
     types: usize,
     tables: usize,
     memories: usize,
@@ -297,7 +297,7 @@ fn is_start(func: Lookup<'_>) -> bool
 }
 
 /// What is wrong with the start function.
-pub(crate) fn flaw_of_start<S: IndexSpaces>(spaces: &S, start: u32) -> Option<Flaw>
+pub fn flaw_of_start<S: IndexSpaces>(spaces: &S, start: u32) -> Option<Flaw>
     ensures { result ≡ start_flaw (S.spaces spaces.now) start }
 {
     if !spaces.has_func(start) {

@@ -2,15 +2,14 @@
 
 ghost use Rattle.std.specs.Prelude.{◌≡◌, if◌then◌else◌};
 ghost use Rattle.wk_typing.specs.Answers.{IsAbsent, IsPresent, seen};
-ghost use Rattle.wk_check.specs.Contexts.{with_globals};
-ghost use Rattle.wk_check.specs.Spaces.{answer_in};
+ghost use Rattle.wk_check.specs.Spaces.{answer_in, with_globals};
 ghost use Rattle.wk_body.specs.declared.references.Ref.{Ref};
 
 use wk_module::{FuncTypeRef, GlobalType, Ref};
 use wk_typing::{Lookup, Scope};
 
 /// The index spaces of a module, in which what is imported comes first (2.5.1). No call takes memory.
-pub(crate) trait IndexSpaces {
+pub trait IndexSpaces {
     ghost use Rattle.std.specs.Prelude.{◌≡◌, MatchOption, None, Some, length, nat_lt, slice_get};
     ghost use Rattle.wk_module.specs.InPlace.{func_type_view};
     ghost use Rattle.wk_check.specs.Spaces.{Spaces};
@@ -100,7 +99,7 @@ fn found_first(has_first: bool) -> Lookup<'static>
 
 /// What a reference finds in index spaces (3.1.1).
 #[inline(always)]
-pub(crate) fn look_up_in<S: IndexSpaces>(spaces: &S, reference: Ref) -> Lookup<'_>
+pub fn look_up_in<S: IndexSpaces>(spaces: &S, reference: Ref) -> Lookup<'_>
     ensures { seen result ≡ answer_in (S.spaces spaces.now) reference }
 {
     match reference {
@@ -114,10 +113,10 @@ pub(crate) fn look_up_in<S: IndexSpaces>(spaces: &S, reference: Ref) -> Lookup<'
 
 /// The same spaces as the initialisers of globals see them: of the globals they see the imported ones alone (3.4.10).
 #[derive(Clone, Copy, Debug)]
-pub(crate) struct Initial<'a, S: IndexSpaces> {
-    pub(crate) spaces: &'a S,
+pub struct Initial<'a, S: IndexSpaces> {
+    pub spaces: &'a S,
     /// The types of the imported globals.
-    pub(crate) imported: &'a [GlobalType],
+    pub imported: &'a [GlobalType],
 }
 
 impl<'a, S: IndexSpaces> Initial<'a, S> {
@@ -135,8 +134,7 @@ impl<'a, S: IndexSpaces> Initial<'a, S> {
 }
 
 impl<'a, S: IndexSpaces> Scope for Initial<'a, S> {
-    ghost use Rattle.wk_check.specs.Contexts.{with_globals};
-    ghost use Rattle.wk_check.specs.Spaces.{answer_in, answers_of_kind};
+    ghost use Rattle.wk_check.specs.Spaces.{answer_in, answers_of_kind, with_globals};
 
     ghost answers = { λ i r. answer_in (with_globals i.imported.now (S.spaces i.spaces.now)) r };
 

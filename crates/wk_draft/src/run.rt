@@ -25,7 +25,8 @@ use crate::put_back::put_back;
 use crate::size_bound::{deferred_room, has_room};
 use std::alloc::Global;
 use wk_bytes::{Items, OutOfMemory, ReadFault, ReadKind};
-use wk_check::{Verdict, judge_bytes, judge_spelled, laws_of_valid_modules};
+use wk_check::laws_of_valid_modules;
+use wk_judging::{Verdict, judge_bytes, judge_spelled};
 use wk_list::Shape;
 use wk_module::{
     EncodeFault, Kind, Module, Outline, Parts, Profile, Shifts, import_count, read_outline,

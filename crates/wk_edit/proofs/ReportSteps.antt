@@ -6,7 +6,8 @@ use Rattle.wk_session.specs.declared.edit.EditFault.{EditFault}
 use Rattle.wk_session.specs.declared.edit.Work.{Work}
 use Rattle.wk_typing.specs.declared.fault.Verdict.{Verdict}
 use Rattle.wk_draft.specs.Runs.{AreAlike, IsAlike}
-use Rattle.wk_edit.specs.ReportText.{reply_line, report_text, verdict_line}
+use Rattle.wk_check.specs.VerdictLines.{verdict_line}
+use Rattle.wk_edit.specs.ReportText.{reply_line, report_text}
 
 alike_len : {A : Type 0} (rs : List (Result A EditFault)) (qs : List (Result Work EditFault)) → AreAlike rs qs → length rs ≡ length qs
 alike_len [] [] alike = refl

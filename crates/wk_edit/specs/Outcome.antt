@@ -21,7 +21,8 @@ use Rattle.wk_edit.specs.declared.fault.Status.TheVariants.{Accepted, Refused, M
 use Rattle.wk_edit.specs.declared.fault.RunFault.{RunFault}
 use Rattle.wk_edit.specs.declared.fault.RunFault.TheVariants.{Out, Report, Memory}
 use Rattle.wk_edit.specs.Script.{script_of}
-use Rattle.wk_edit.specs.ReportText.{malformed_text, script_text, report_text}
+use Rattle.wk_check.specs.VerdictLines.{malformed_text}
+use Rattle.wk_edit.specs.ReportText.{script_text, report_text}
 
 pub record Outcome : Type 0 where
   -- the edited module, where a module and a script were read

@@ -1,9 +1,7 @@
 -- The texts of reports.
 use Rattle.std.specs.Prelude.{ℕ, ◌+◌, List, [], ◌∷◌, ◌++◌, Result, Ok, Err, codes, decimal}
-use Rattle.wk_bytes.specs.declared.fault.ReadFault.{ReadFault}
-use Rattle.wk_bytes.specs.FaultText.{read_fault_text}
 use Rattle.wk_typing.specs.declared.fault.Verdict.{Verdict}
-use Rattle.wk_typing.specs.VerdictText.{verdict_text}
+use Rattle.wk_check.specs.VerdictLines.{verdict_line}
 use Rattle.wk_session.specs.declared.edit.EditFault.{EditFault}
 use Rattle.wk_session.specs.declared.edit.Work.{Work}
 use Rattle.wk_session.specs.EditText.{edit_fault_text}
@@ -22,13 +20,6 @@ script_fault_text Memory = codes "S3 Memory"
 abbrev pub reply_line : ℕ → Result Work EditFault → List ℕ
 reply_line number (Ok work) = decimal number ++ codes " ok\n"
 reply_line number (Err fault) = decimal number ++ (codes " refused " ++ (edit_fault_text fault ++ codes "\n"))
-
-abbrev pub verdict_line : Verdict → List ℕ
-verdict_line verdict = verdict_text verdict ++ codes "\n"
-
--- the report of a module that cannot be read
-abbrev pub malformed_text : ReadFault → List ℕ
-malformed_text fault = codes "malformed " ++ (read_fault_text fault ++ codes "\n")
 
 -- the report of a script that cannot be read
 abbrev pub script_text : ScriptFault → List ℕ

@@ -20,7 +20,8 @@ use Rattle.wk_session.specs.Told.{AreTold}
 use Rattle.wk_edit.specs.declared.fault.ScriptFault.{ScriptFault}
 use Rattle.wk_edit.specs.declared.fault.Status.TheVariants.{Malformed, BadScript}
 use Rattle.wk_edit.specs.Outcome.{Outcome, out_of, run_status}
-use Rattle.wk_edit.specs.ReportText.{malformed_text, script_text, report_text}
+use Rattle.wk_check.specs.VerdictLines.{malformed_text}
+use Rattle.wk_edit.specs.ReportText.{script_text, report_text}
 use Rattle.wk_edit.specs.ScriptGrammar.{IsScript, IsOnlyScript, IsNoScript, IsFaultOf}
 
 -- The input spells no module of the profile. Nothing is written of one, and the report is one line, with the first fault of the input, at

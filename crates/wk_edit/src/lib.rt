@@ -10,7 +10,7 @@
 //!   module is. [`edit_in`] is that of bytes that are lent, and [`edit`] of 1.0.
 //! - After a fault of one output a beginning stands taken there, and nothing in the one behind it; after want of memory nothing in
 //!   either.
-//! - [`malformed_line`] and [`verdict_line`] lend the lines of a report to the program (`specs/ReportText`).
+//! - [`malformed_line`] and [`verdict_line`] of `wk_check` are handed on, since a report has such lines (`specs/ReportText`).
 //!
 //! # How it goes
 //!
@@ -37,6 +37,6 @@ mod worth;
 
 pub use fault::{RunFault, ScriptFault, Status};
 pub use job::{edit, edit_in, edit_owned};
-pub use lines::{malformed_line, verdict_line};
 pub use name::read_name;
 pub use script::read_script;
+pub use wk_check::{malformed_line, verdict_line};

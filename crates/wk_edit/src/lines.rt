@@ -4,12 +4,11 @@ ghost use Rattle.std.specs.Prelude.{◌≡◌, ◌++◌, List, Result, IfOk, OnO
 ghost use Rattle.wk_session.specs.declared.edit.EditFault.{EditFault as EditFaultOf};
 ghost use Rattle.wk_session.specs.declared.edit.Work.{Work as WorkOf};
 ghost use Rattle.wk_draft.specs.Runs.{AreAlike, IsAlike};
-ghost use Rattle.wk_edit.specs.ReportText.{malformed_text, reply_line, report_text, script_text, verdict_line};
+ghost use Rattle.wk_edit.specs.ReportText.{reply_line, report_text, script_text};
 
 use crate::fault::ScriptFault;
 use std::alloc::{AllocError, Global};
-use wk_bytes::ReadFault;
-use wk_check::Verdict;
+use wk_check::{Verdict, verdict_line};
 use wk_session::EditFault;
 
 // The line of an edit. It has no word of what an accepted one is told.
@@ -27,24 +26,6 @@ fn put_reply<T>(
         Err(fault) => format!(in alloc; "{number} refused {fault}\n")?,
     };
     text.push_str(line.as_str())
-}
-
-/// The line of a verdict: `valid`, or `invalid` and the fault, as in `invalid V1 TypeArity at section 1 item 0`.
-///
-/// Want of memory is the only refusal.
-pub fn verdict_line(alloc: Global, verdict: &Verdict) -> Result<String, AllocError>
-    ensures { IfOk result (λ line. string_bytes line ≡ verdict_line verdict.now) }
-{
-    format!(in alloc; "{verdict}\n")
-}
-
-/// The line of bytes that are no module: `malformed R5 IntTooLarge at 0x00000009`. It is the report of such a module.
-///
-/// Want of memory is the only refusal.
-pub fn malformed_line(alloc: Global, fault: &ReadFault) -> Result<String, AllocError>
-    ensures { IfOk result (λ line. string_bytes line ≡ malformed_text fault.now) }
-{
-    format!(in alloc; "malformed {fault}\n")
 }
 
 /// The report of a script that cannot be read: `script S1 BadWord line 3`.

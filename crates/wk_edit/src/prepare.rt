@@ -17,12 +17,12 @@ ghost use Rattle.wk_edit.specs.Prepared.{IsOpened, IsPrepared, is_made};
 ghost use Rattle.wk_edit.specs.Theorem.{IsReport};
 
 use crate::fault::{RunFault, ScriptFault, Status};
-use crate::lines::{malformed_line, refused_script, report};
+use crate::lines::{refused_script, report};
 use crate::script::read_script;
 use crate::worth::is_worth_draft;
 use std::alloc::Global;
 use wk_bytes::{Items, OutOfMemory, ReadFault, ReadKind};
-use wk_check::{Verdict, meaning_of_verdicts};
+use wk_check::{Verdict, malformed_line, meaning_of_verdicts};
 use wk_draft::{Drafted, Edited, Run, edit_outline};
 use wk_list::Shape;
 use wk_module::{

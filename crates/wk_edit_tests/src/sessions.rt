@@ -6,8 +6,8 @@ use std::alloc::Global;
 use std::collections::BTreeSet;
 use std::test::Fail;
 use wk_bytes::{OutOfMemory, ReadFault, ReadKind, Sink};
-use wk_check::{Fault, FaultKind, Place, Verdict, judge_bytes};
 use wk_edit::read_script;
+use wk_judging::{Fault, FaultKind, Place, Verdict, judge_bytes};
 use wk_module::{Outline, Profile, Ref, read_in, read_outline};
 use wk_session::{Edit, Reply, Session};
 

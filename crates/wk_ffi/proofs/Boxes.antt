@@ -12,8 +12,8 @@ use Rattle.std.specs.contracts.boxed.Box as box
 use Rattle.std.specs.contracts.impls.GlobalAllocator.TheImpl.{ghosts, dict}
 use Rattle.std.specs.contracts.option.Option as option
 use Rattle.std.specs.declared.option.Option.TheVariants.{None, Some}
-use Rattle.wk_check.specs.contracts.validator.Validator as validator
-use Rattle.wk_check.proofs.validator.Validator.TheLaws as validator_laws
+use Rattle.wk_judging.specs.contracts.validator.Validator as validator
+use Rattle.wk_judging.proofs.validator.Validator.TheLaws as validator_laws
 use Rattle.wk_ffi.specs.contracts.code.Code as code
 use Rattle.wk_ffi.specs.declared.code.Code.TheVariants.{Fine, NoMemory}
 use Rattle.wk_ffi.proofs.wk_check++validator++Validator+Destruct.drop.Kinds as kinds

@@ -4,7 +4,7 @@ use Rattle.std.specs.Ptr.{if_non_null}
 use Rattle.std.specs.Box.Ownership.{box_owns}
 use Rattle.std.specs.Global.{Global}
 use Rattle.std.specs.contracts.impls.GlobalAllocator.TheImpl.{ghosts}
-use Rattle.wk_check.specs.contracts.validator.Validator.{the_row}
+use Rattle.wk_judging.specs.contracts.validator.Validator.{the_row}
 use Rattle.wk_ffi.specs.declared.code.Code.TheVariants.{Fine, NoMemory}
 use Rattle.wk_ffi.specs.Told.{code_number}
 use denote.RawPtr.{Ptr, null_ptr}

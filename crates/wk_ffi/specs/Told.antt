@@ -13,7 +13,7 @@ use Rattle.wk_strip.specs.Stripped.{with_kept}
 use Rattle.wk_edit.specs.declared.fault.Status.{Status}
 use Rattle.wk_edit.specs.declared.fault.Status.TheVariants as statuses
 use Rattle.wk_edit.specs.Outcome.{Outcome, outcome_of, out_of}
-use Rattle.wk_edit.specs.ReportText.{malformed_text}
+use Rattle.wk_check.specs.VerdictLines.{malformed_text}
 use Rattle.wk_answers.specs.Listing.{is_fault, listing}
 use Rattle.wk_answers.specs.Validation.{printed, status_of}
 use Rattle.wk_ffi.specs.declared.code.Code.{Code}

@@ -6,7 +6,7 @@ ghost use Rattle.wk_ffi.specs.Told.{validation_told};
 use crate::hand::hand_text;
 use crate::jobs;
 use std::alloc::Global;
-use wk_check::Validator;
+use wk_judging::Validator;
 
 /// What C sees of a validator: that it lies somewhere. (A pointer to a type that holds a `Vec` cannot go to C.)
 #[repr(C)]

@@ -76,7 +76,7 @@ use crate::handle::Handle;
 use crate::locating::locate_with;
 use std::alloc::Global;
 use std::ptr::null_mut;
-use wk_check::Validator;
+use wk_judging::Validator;
 
 /// Judges the module that bytes spell: the text is its verdict, or the first fault of bytes that spell none. The code is `Fine`,
 /// `Invalid` or `Malformed`, or one of those of every call.

@@ -8,7 +8,7 @@ ghost use Rattle.wk_module.specs.ListReading.{IsReading};
 ghost use Rattle.wk_module.specs.Modules.{Spells};
 ghost use Rattle.wk_module.specs.Reading.{module_at};
 ghost use Rattle.wk_typing.specs.declared.fault.Verdict.TheVariants as VerdictOf;
-ghost use Rattle.wk_check.specs.Spelled.{judged};
+ghost use Rattle.wk_judging.specs.Spelled.{judged};
 ghost use Rattle.wk_check.specs.Verdict.{module_verdict};
 ghost use Rattle.wk_answers.specs.Validation.{status_of};
 ghost use Rattle.wk_ffi.specs.Asked.{taken};
@@ -22,7 +22,7 @@ use crate::code::Code;
 use crate::numbers::{COUNT, FaultNumbers};
 use std::alloc::Global;
 use wk_bytes::{OutOfMemory, ReadFault, ReadKind};
-use wk_check::{Fault, Validator, Verdict};
+use wk_judging::{Fault, Validator, Verdict};
 use wk_module::Profile;
 use wk_place::{func_of_fault, locate};
 

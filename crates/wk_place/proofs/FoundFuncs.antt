@@ -97,7 +97,7 @@ funcs_read end contents is s =
     rw read refl
 
 -- how many functions are imported, and that an index of 32 bits is left for each code
-imported_is : (b : List ℕ) (m : Parts) → Spells b m → (imported_at b ≡ Ok (import_count kinds.Func m.imports)) × (import_count kinds.Func m.imports ≤ limit)
+pub imported_is : (b : List ℕ) (m : Parts) → Spells b m → (imported_at b ≡ Ok (import_count kinds.Func m.imports)) × (import_count kinds.Func m.imports ≤ limit)
 imported_is b m s =
     let f = s.framing in
     let ss = sections_of-again b s.frames f in

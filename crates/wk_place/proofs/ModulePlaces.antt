@@ -129,7 +129,7 @@ module _ (b : List ℕ) (m : Parts) (spelled : Spells b m) (fits : IsBytes b) wh
       ]
 
   module _ (profile : Profile) where
-    standing : {A : Type 0} (k : SectionId) (Holds : List ℕ → A → Type 0) (xs before later : List A) (x : A) → There k (SpellsVector Holds) xs
+    pub standing : {A : Type 0} (k : SectionId) (Holds : List ℕ → A → Type 0) (xs before later : List A) (x : A) → There k (SpellsVector Holds) xs
         → xs ≡ before ++ x ∷ later
         → ((contents rest : List ℕ) → IsBehindItems Holds (length before) contents rest → ReachesItem profile k (length before) contents rest)
         → Standing profile b k (length before) Holds x

@@ -6,7 +6,7 @@ use Rattle.wk_bytes.specs.Leb.{◌>>=◌}
 use Rattle.wk_bytes.specs.Span.{Span, offset, u32_at}
 use Rattle.wk_body.specs.declared.types.Profile.{Profile}
 use Rattle.wk_body.specs.Bodies.{BodyOf}
-use Rattle.wk_body.specs.Reading.{token_at, after, all_body_at}
+use Rattle.wk_body.specs.Reading.{token_at, after, all_body_at, expr_at}
 use Rattle.wk_body.specs.TokenReading.{local_groups_at}
 use Rattle.wk_body.specs.Vectors.{items_at, vector_at}
 use Rattle.wk_module.specs.declared.types.Kind.TheVariants as kinds
@@ -197,3 +197,40 @@ broken_in profile b = then_at (first_with 10 (sections_of b)) (λ s. broken_at p
 -- the index of the function of a code, where these functions are imported and the fault that it meets is this
 abbrev pub IsFuncIf : ReadFault → ℕ → ReadFault → Result ℕ ReadFault → Option ℕ → Type 0
 IsFuncIf e item met imported func = ((met ≡ e) × (func ≡ func_by imported item)) ⊎ ((met ≢ e) × (func ≡ None))
+
+-- ---- the entries of an element segment
+
+-- of so many indices the first that is not below a count, by its number from that of the first on
+abbrev pub unknown_from : ℕ → ℕ → ℕ → ℕ → List ℕ → Result (Option ℕ) ReadFault
+unknown_from count entry zero end bytes = Ok None
+unknown_from count entry (suc n) end bytes =
+    u32_at end bytes >>= λ x. if nat_lt x.0 count then unknown_from count (entry + 1) n end x.1 else Ok (Some entry)
+
+-- the same of the functions of a segment, where there are several
+unfoldable pub unknown_at : Profile → ℕ → ℕ → List ℕ → Result (Option ℕ) ReadFault
+unknown_at profile count end bytes = do
+  table ← u32_at end bytes
+  offset ← passed (expr_at profile) end table.1
+  n ← u32_at end offset.1
+  if nat_lt n.0 2 then Ok None else unknown_from count 0 n.0 end n.1
+
+-- how many functions the contents of a function section define
+abbrev pub defined_in : Option Section → Result ℕ ReadFault
+defined_in None = Ok 0
+defined_in (Some s) = u32_at (section_end s) s.contents >>= λ n. Ok n.0
+
+-- the same of an input, which may have no such section
+abbrev pub defined_at : List ℕ → Result ℕ ReadFault
+defined_at b = defined_in (first_with 3 (sections_of b))
+
+-- how many functions an input has, imported and defined, where they can be counted
+abbrev pub known_by : Result ℕ ReadFault → Result ℕ ReadFault → Option ℕ
+known_by (Ok imported) (Ok defined) = Some (imported + defined)
+known_by imported defined = None
+
+abbrev pub known_at : List ℕ → Option ℕ
+known_at b = known_by (imported_at b) (defined_at b)
+
+-- the first unknown function of the segment at a place
+unfoldable pub entry_at : Profile → List ℕ → Place → Result (Option ℕ) ReadFault
+entry_at profile b p = place_at profile b p >>= λ item. then_at item (λ s. then_at (known_at b) (λ n. unknown_at profile n s.end s.rest))

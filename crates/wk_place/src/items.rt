@@ -72,9 +72,13 @@ impl ItemReader {
         self.types.read_next(cursor)
     }
 
-    // Passes an expression (5.4.6).
+    /// Passes an expression (5.4.6).
+    ///
+    /// # Errors
+    ///
+    /// Its first fault, or `Memory` at 0 where a growth was refused.
     #[tactic(auto, unfolding(wk_module::specs::Formats::made_at))]
-    fn pass_expr(&mut self, cursor: &mut Cursor<'_>) -> Result<(), ReadFault>
+    pub(crate) fn pass_expr(&mut self, cursor: &mut Cursor<'_>) -> Result<(), ReadFault>
         ensures read { Parses (λ _. tt) (passed (expr_at self.old.profile)) cursor.old result
             cursor.new }
         ensures profile { self.new.profile ≡ self.old.profile }

@@ -8,6 +8,8 @@
 //!   gives the index of the function too (`func_index`). [`one_place`] is the law that there is one place at most.
 //! - [`read_token`] gives the token that stands at an offset, for whoever prints it (`IsTokenThere`). Its labels are those of the reader.
 //! - [`locate_token`] gives the text of the token that a fault names, as the code listing has it (`IsTokenText` of `specs/TokenTexts`).
+//! - [`entry_of_fault`] gives the entry of an element segment that a fault means: the first of several functions of the segment that the
+//!   module has not (`IsEntry` of `specs/Entries`).
 //! - [`func_of_fault`] gives the function in whose body the first fault of an input lies that spells no module (`IsInBodyOf`).
 //!
 //! Each may want memory, and answers then [`OutOfMemory`](wk_bytes::OutOfMemory).
@@ -19,6 +21,7 @@
 //! hold is room for one item, and no recursion goes over nested blocks.
 #![tactic(auto)]
 
+mod entries;
 mod faults;
 mod items;
 mod place;
@@ -27,6 +30,7 @@ mod token_text;
 mod tokens;
 mod tokens_there;
 
+pub use entries::entry_of_fault;
 pub use faults::func_of_fault;
 pub use place::{Located, locate, one_place};
 pub use token_text::locate_token;

@@ -139,7 +139,7 @@ impl Session {
         Ok(Session::from_module(alloc, module, &None, None)?)
     }
 
-    /// The same as [`Session::open_in`] of a module whose verdict is known, as [`judge_bytes`](wk_check::judge_bytes) gives it. It is not judged
+    /// The same as [`Session::open_in`] of a module whose verdict is known, as `judge_bytes` of `wk_judging` gives it. It is not judged
     /// again: only bodies behind the first invalid one are typed, or all where the fault stands in front of the codes.
     ///
     /// # Errors

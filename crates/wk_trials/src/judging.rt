@@ -1,4 +1,4 @@
-//! Calls of `wk_check`.
+//! Calls of `wk_check` and `wk_judging`.
 
 ghost use Rattle.wk_module.specs.Listed.{AreNumbered, listed};
 
@@ -9,10 +9,10 @@ use crate::scenario::and_drop;
 use std::alloc::Global;
 use wk_bytes::{Cursor, OutOfMemory, RawSection, ReadFault};
 use wk_check::{
-    BodyVerdict, Meter, Validator, Verdict, Whole, first_code_fault, judge, judge_around,
-    judge_body, judge_bytes, verdict_with_export, verdict_with_global, verdict_with_import,
-    verdict_with_type,
+    BodyVerdict, Meter, Verdict, Whole, first_code_fault, judge, judge_around, judge_body,
+    verdict_with_export, verdict_with_global, verdict_with_import, verdict_with_type,
 };
+use wk_judging::{Validator, judge_bytes};
 use wk_module::Profile::Core;
 use wk_module::{CodeReader, Func, Lists, Module, Scratch, SectionReader, ValType};
 use wk_samples::outcome::Outcome;

@@ -5,7 +5,7 @@ use std::alloc::Global;
 use wk_bytes::{OutOfMemory, ReadFault, ReadKind};
 use wk_check::{Fault, FaultKind, Place};
 use wk_module::{Profile, Token, TokenReader};
-use wk_place::{Located, func_of_fault, locate, read_token};
+use wk_place::{Located, entry_of_fault, func_of_fault, locate, read_token};
 use wk_samples::outcome::Outcome;
 
 // Two types, a function, two globals, and a body with a local, a `block`, a `br_table` and two `end`s.
@@ -21,6 +21,14 @@ const BROKEN: &[u8] = b"\0asm\x01\0\0\0\
     \x03\x02\x01\0\
     \x0a\x08\x01\x06\0\x02\x40\xff\x0b\x0b";
 
+// A type, a function, a table, and a segment of two functions, of which the second is not there.
+const SEGMENT: &[u8] = b"\0asm\x01\0\0\0\
+    \x01\x04\x01\x60\0\0\
+    \x03\x02\x01\0\
+    \x04\x04\x01\x70\0\x02\
+    \x09\x08\x01\0\x41\0\x0b\x02\0\x01\
+    \x0a\x04\x01\x02\0\x0b";
+
 /// A call that looks for a place.
 #[derive(Clone, Copy)]
 pub(crate) enum Placing {
@@ -34,6 +42,8 @@ pub(crate) enum Placing {
     Token,
     /// `func_of_fault`.
     Func,
+    /// `entry_of_fault`.
+    Entry,
 }
 
 impl Placing {
@@ -45,6 +55,7 @@ impl Placing {
             Placing::Code => locates(alloc, (10, 0, Some(4)), (51, Some(0))),
             Placing::Token => reads_token(alloc),
             Placing::Func => finds_func(alloc),
+            Placing::Entry => finds_entry(alloc),
         }
     }
 }
@@ -96,6 +107,24 @@ fn finds_func(alloc: Global) -> Outcome {
     call_ends(alloc);
     match answer {
         Ok(func) => Outcome::answered(func == Some(0)),
+        Err(OutOfMemory) => Outcome::refused(true),
+    }
+}
+
+fn finds_entry(alloc: Global) -> Outcome {
+    let fault = Fault {
+        kind: FaultKind::UnknownFunc,
+        place: Place {
+            section: 9,
+            item: 0,
+            token: None,
+        },
+    };
+    call_begins(alloc);
+    let answer = entry_of_fault(alloc, SEGMENT, Profile::Core, &fault);
+    call_ends(alloc);
+    match answer {
+        Ok(entry) => Outcome::answered(entry == Some(1)),
         Err(OutOfMemory) => Outcome::refused(true),
     }
 }

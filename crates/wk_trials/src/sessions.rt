@@ -11,7 +11,7 @@ use crate::scenario::and_drop;
 use crate::sinks::{Room, holds, holds_begun, sink};
 use std::alloc::Global;
 use wk_bytes::{Out, ReadFault, Sink};
-use wk_check::{Verdict, judge_bytes};
+use wk_judging::{Verdict, judge_bytes};
 use wk_list::{ListFault, Part};
 use wk_module::{EncodeFault, Module, Outline, Profile, Ref, read_outline};
 use wk_samples::outcome::Outcome;

@@ -4,7 +4,8 @@ use std::alloc::{AllocError, Global};
 use std::process::Abort;
 use std::test::Fail;
 use wk_bytes::put_u32;
-use wk_check::{Fault, FaultKind, Place, Verdict, judge, judge_bytes};
+use wk_check::{Fault, FaultKind, Place, Verdict, judge};
+use wk_judging::judge_bytes;
 use wk_module::{Profile, read_in};
 
 const HEADER: &[u8] = b"\0asm\x01\0\0\0";

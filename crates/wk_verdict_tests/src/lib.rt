@@ -1,5 +1,5 @@
-//! Tests of verdicts: bodies typed through the calls of `wk_typing`, and modules and bodies judged through those of `wk_check`;
-//! and where faults lie, through those of `wk_place`.
+//! Tests of verdicts: bodies typed through the calls of `wk_typing`, and modules and bodies judged through those of `wk_check`
+//! and `wk_judging`; and where faults lie, through those of `wk_place`.
 #![tactic(auto)]
 
 #[cfg(test)]

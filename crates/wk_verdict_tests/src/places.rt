@@ -5,9 +5,9 @@ use std::alloc::Global;
 use std::process::Abort;
 use std::test::Fail;
 use wk_bytes::{ReadFault, ReadKind};
-use wk_check::{Fault, FaultKind, Place, Verdict, judge_bytes};
+use wk_judging::{Fault, FaultKind, Place, Verdict, judge_bytes};
 use wk_module::{Profile, Token, TokenReader, read_in};
-use wk_place::{Located, func_of_fault, locate, read_token};
+use wk_place::{Located, entry_of_fault, func_of_fault, locate, read_token};
 
 /// A section, an item and a token, and the offset and the function that are wanted, if there is such a place.
 type Row = ((u8, u32, Option<u32>), Option<(u32, Option<u32>)>);
@@ -228,6 +228,77 @@ fn finds_the_body_of_a_first_fault(rt: HostRuntime) -> Result<(), Fail> {
         let (fault, func) = faulty(alloc, sections.as_slice())?;
         assert_eq!(rt; fault, ReadFault { kind, at }, "{code:?}");
         assert_eq!(rt; func, wanted, "{code:?}");
+    }
+    Ok(())
+}
+
+// The entry that the fault of an invalid module means.
+fn entry_told(alloc: Global, sections: &[u8]) -> Result<Option<u32>, Fail> {
+    let bytes = behind_header(alloc, sections)?;
+    let Verdict::Invalid(fault) = judge_bytes(alloc, bytes.as_slice(), Profile::Core)? else {
+        return Err("a fault".into());
+    };
+    Ok(entry_of_fault(alloc, bytes.as_slice(), Profile::Core, &fault)?)
+}
+
+// Two imported functions and a memory, a function, and a table: the module has the functions 0 to 2.
+const FUNCS: &[u8] = b"\x01\x04\x01\x60\0\0\
+    \x02\x0e\x03\0\0\0\0\0\0\x02\0\0\0\0\0\0\
+    \x03\x02\x01\0\
+    \x04\x04\x01\x70\0\x08";
+
+const BODY: &[u8] = b"\x0a\x04\x01\x02\0\x0b";
+
+#[test]
+fn tells_entries_of_segments(rt: HostRuntime) -> Result<(), Fail> {
+    let alloc = rt.alloc();
+    let rows: [(&[u8], Option<u32>); 9] = [
+        // the first, one in the middle, and the last
+        (b"\x09\x09\x01\0\x41\0\x0b\x03\x03\0\x01", Some(0)),
+        (b"\x09\x09\x01\0\x41\0\x0b\x03\x02\x05\x01", Some(1)),
+        (b"\x09\x09\x01\0\x41\0\x0b\x03\x02\x01\x03", Some(2)),
+        // two that are unknown
+        (b"\x09\x09\x01\0\x41\0\x0b\x03\0\x7f\x03", Some(1)),
+        // of a second segment, whose count, table, offset and indices are padded
+        (
+            b"\x09\x13\x02\0\x41\0\x0b\x01\0\x80\0\x41\x80\0\x0b\x82\0\x82\0\x83\0",
+            Some(1),
+        ),
+        // a segment of one function
+        (b"\x09\x07\x01\0\x41\0\x0b\x01\x03", None),
+        // an offset that is no constant of its type, and a table that is not there, in front of an unknown function
+        (b"\x09\x08\x01\0\x42\0\x0b\x02\0\x03", None),
+        (b"\x09\x08\x01\x01\x41\0\x0b\x02\0\x03", None),
+        // an unknown function that is exported
+        (b"\x07\x05\x01\x01a\0\x03", None),
+    ];
+    for (wrong, wanted) in rows {
+        let mut sections = Vec::from_slice(alloc, FUNCS)?;
+        sections.extend_from_slice(wrong)?;
+        sections.extend_from_slice(BODY)?;
+        let entry = entry_told(alloc, sections.as_slice())?;
+        assert_eq!(rt; entry, wanted, "{wrong:?}");
+    }
+    Ok(())
+}
+
+// Where neither section of functions is there, each function is unknown; and a fault that is of no segment of the module means no entry.
+#[test]
+fn tells_entries_of_a_module_without_functions(rt: HostRuntime) -> Result<(), Fail> {
+    let alloc = rt.alloc();
+    let sections = b"\x04\x04\x01\x70\0\x08\x09\x08\x01\0\x41\0\x0b\x02\0\0";
+    assert_eq!(rt; entry_told(alloc, sections)?, Some(0));
+    let bytes = behind_header(alloc, sections)?;
+    for (section, item, token) in [(9, 1, None), (9, 0, Some(0)), (11, 0, None)] {
+        let place = Place {
+            section,
+            item,
+            token,
+        };
+        let kind = FaultKind::UnknownFunc;
+        let fault = Fault { kind, place };
+        let entry = entry_of_fault(alloc, bytes.as_slice(), Profile::Core, &fault)?;
+        assert_eq!(rt; entry, None, "{place:?}");
     }
     Ok(())
 }

@@ -4,7 +4,7 @@ use std::alloc::Global;
 use std::process::Abort;
 use std::test::Fail;
 use wk_bytes::{ReadKind, put_u32};
-use wk_check::{Fault, FaultKind, Place, Verdict, judge_bytes, judge_spelled};
+use wk_judging::{Fault, FaultKind, Place, Verdict, judge_bytes, judge_spelled};
 use wk_module::{Profile, read_outline};
 
 /// The verdict on these bytes, which spell a module, is valid, or this first fault, also where it is known that they spell one.

@@ -3,7 +3,7 @@
 use std::alloc::Global;
 use std::process::Abort;
 use std::test::Fail;
-use wk_check::{Validator, Verdict, judge_bytes};
+use wk_judging::{Validator, Verdict, judge_bytes};
 use wk_module::Profile;
 
 // Valid, invalid and malformed modules, which leave operands, blocks, locals, items, names, references and faults to the next.

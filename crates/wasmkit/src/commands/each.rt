@@ -10,7 +10,6 @@ ghost use Rattle.wasmkit.specs.Answers.{is_control, named_line, shown, IsPrinted
 ghost use Rattle.wasmkit.specs.Events.{then_asked, Loaded};
 ghost use Rattle.wasmkit.specs.Runs.{between, Goes, Hears, IsLeft, JudgesEach};
 
-use crate::command::EachCommand;
 use crate::commands::judging::judged;
 use crate::commands::telling::tell_after;
 use crate::commands::{load, print};
@@ -19,7 +18,8 @@ use crate::store::Store;
 use std::alloc::{AllocError, Global};
 use wk_answers::Explanation;
 use wk_bytes::Out;
-use wk_check::Validator;
+use wk_command_line::EachCommand;
+use wk_judging::Validator;
 
 // Whether a byte is a control character of ASCII.
 fn is_control(b: u8) -> bool

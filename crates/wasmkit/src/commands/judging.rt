@@ -8,7 +8,7 @@ ghost use Rattle.wasmkit.specs.Answers.{IsPrinted};
 use std::alloc::Global;
 use wk_answers::{Explanation, Validation, explain_with, validate_with};
 use wk_bytes::OutOfMemory;
-use wk_check::Validator;
+use wk_judging::Validator;
 use wk_module::Profile;
 
 /// What is printed of the module of a profile that the bytes spell, with the line of the place where that is asked for, and the status.

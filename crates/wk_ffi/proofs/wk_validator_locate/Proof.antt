@@ -34,7 +34,7 @@ use denote.Triple.Clauses.{Lasts, lasts, at_exit}
 use denote.Triple.Spec.{triple_of}
 use denote.Triple.Table.{framed}
 use denote.Triple.Walked.{Stays, walk_of, stay_dropped, gave_slice, Goes-dropped, Goes-gave_slice, ends_at}
-use Rattle.wk_check.specs.contracts.validator.Validator.{the_row}
+use Rattle.wk_judging.specs.contracts.validator.Validator.{the_row}
 use Rattle.wk_ffi.specs.Handles.{validator_at, token}
 use Rattle.wk_ffi.specs.contracts.locating.locate_with as g
 use Rattle.wk_ffi.proofs.locating.locate_with.Met.{met}

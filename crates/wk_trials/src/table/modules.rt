@@ -1,4 +1,4 @@
-//! Calls of `wk_module`, `wk_check`, `wk_place`, `wk_list` and `wk_strip`.
+//! Calls of `wk_module`, `wk_check`, `wk_judging`, `wk_place`, `wk_list` and `wk_strip`.
 
 use crate::judging::{Constants, OfValid, Validate};
 use crate::modules::{OF_ALL, OF_MANY, OF_MOVING, OF_TWO, OF_TYPES, OF_VALID, OF_WIDE};
@@ -10,7 +10,7 @@ use crate::strips;
 use wk_list::Part;
 use wk_module::Profile::{Core, Extended};
 
-/// Calls of `wk_module`, `wk_check`, `wk_place`, `wk_list` and `wk_strip`.
+/// Calls of `wk_module`, `wk_check`, `wk_judging`, `wk_place`, `wk_list` and `wk_strip`.
 pub(crate) static MODULES: [Named; 92] = scenarios! {
     "read-types" => Scenario::Read(OF_TYPES),
     "read-whole" => Scenario::Read(OF_ALL),
@@ -74,6 +74,7 @@ pub(crate) static MODULES: [Named; 92] = scenarios! {
     "locate-code" => Scenario::Place(Placing::Code),
     "read-token" => Scenario::Place(Placing::Token),
     "func-of-fault" => Scenario::Place(Placing::Func),
+    "entry-of-fault" => Scenario::Place(Placing::Entry),
     "plain-in-room" => Scenario::Plain(OF_ALL),
     "plain-wide-in-room" => Scenario::Plain(OF_WIDE),
     "layout" => Scenario::Layout(OF_ALL),

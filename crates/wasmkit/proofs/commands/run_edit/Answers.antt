@@ -1,7 +1,7 @@
 use Rattle.std.proofs.Common.{ℕ, List, rules, refl, inl, inr}
 use Rattle.wk_edit.specs.Outcome.{outcome_of}
 use Rattle.wasmkit.specs.Answers.{AreOf}
-use Rattle.wasmkit.specs.declared.command.EditCommand.{EditCommand}
+use Rattle.wk_command_line.specs.declared.command.EditCommand.{EditCommand}
 use Rattle.wasmkit.specs.Runs.{Loads, Rest, Scripted}
 use Rattle.wasmkit.proofs.Steps.{ends, given_edited, loaded, not_loaded, nothing, script_refused, scripted}
 use Rattle.wasmkit.proofs.commands.run_edit.Goals as goal

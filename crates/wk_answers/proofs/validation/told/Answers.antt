@@ -6,7 +6,7 @@ use Rattle.wk_module.specs.declared.types.Parts.{Parts}
 use Rattle.wk_module.specs.ListReading.{IsReading}
 use Rattle.wk_module.specs.Reading.{module_at}
 use Rattle.wk_typing.specs.declared.fault.Verdict.{Verdict}
-use Rattle.wk_check.specs.Spelled.{judged}
+use Rattle.wk_judging.specs.Spelled.{judged}
 use Rattle.wk_answers.specs.Validation.{printed, status_of}
 use Rattle.wk_answers.proofs.validation.told.Goals as goal
 

@@ -2,8 +2,7 @@ use Rattle.std.proofs.Common.{◌∙◌, List, length, sym, ap}
 use Rattle.wk_module.specs.declared.types.GlobalType.{GlobalType}
 use Rattle.wk_module.specs.Sections.{SectionLists}
 use Rattle.wk_typing.specs.Constants.{constant_flaw}
-use Rattle.wk_check.specs.Contexts.{with_globals}
-use Rattle.wk_check.specs.Spaces.{answer_in, initial_spaces, spaces_of}
+use Rattle.wk_check.specs.Spaces.{answer_in, initial_spaces, spaces_of, with_globals}
 use Rattle.wk_check.proofs.ValidGrowth.{valid_with_global, told_at}
 use Rattle.wk_check.proofs.incremental.verdict_with_global.Goals as goal
 

@@ -1,5 +1,5 @@
 use Rattle.std.proofs.Common.{◌∙◌, take}
-use Rattle.wasmkit.specs.CommandLine.{files_of}
+use Rattle.wk_command_line.specs.CommandLine.{files_of}
 use Rattle.wasmkit.proofs.EachSteps.{fault_more, files_more, files_split, line_lost, line_more, so_far_as}
 use Rattle.wasmkit.proofs.commands.each.run_each.Goals as goal
 use Rattle.wasmkit.proofs.commands.each.run_each.Goals.{in-Ok+in_ok-status-in-Ok, in-Err}

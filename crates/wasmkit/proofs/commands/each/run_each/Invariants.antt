@@ -1,5 +1,5 @@
 use Rattle.std.proofs.Common.{◌≡◌, take}
-use Rattle.wasmkit.specs.CommandLine.{files_of}
+use Rattle.wk_command_line.specs.CommandLine.{files_of}
 use Rattle.wasmkit.specs.Runs.{between}
 use Rattle.wasmkit.proofs.EachSteps.{SoFar}
 use Rattle.wasmkit.proofs.commands.each.run_each.Given as goal

@@ -1,8 +1,7 @@
 use Rattle.std.proofs.Common.{◌≡◌, List, IfOk, subst}
 use Rattle.wk_module.specs.declared.types.GlobalType.{GlobalType}
 use Rattle.wk_typing.specs.Constants.{constant_flaw}
-use Rattle.wk_check.specs.Contexts.{with_globals}
-use Rattle.wk_check.specs.Spaces.{answer_in, spaces_of}
+use Rattle.wk_check.specs.Spaces.{answer_in, spaces_of, with_globals}
 use Rattle.wk_check.proofs.rules.WholeRuleGlobalDef.flaw.Goals as goal
 
 pub returns : goal.returns

@@ -1,0 +1,13 @@
+pub mod FuncSpaces
+pub mod JudgedCodes
+pub mod JudgedExports
+pub mod JudgedFront
+pub mod JudgedItems
+pub mod JudgedKinds
+pub mod JudgedSections
+pub mod JudgedSteps
+pub mod KnownNames
+pub mod MadeReading
+pub mod ReadIndices
+pub mod SectionFaults
+pub mod ValidRead
