@@ -13,7 +13,7 @@ RefusesWords words (CommandLine complaint) = SpellsNone words
 RefusesWords words BadWords = SpellsNone words
 RefusesWords words Memory = Unit {0}
 
--- of what the parser says: that memory was refused, or of the words what it says
+-- what becomes of the parser's own fault: want of memory, where it is that, and else what it says
 abbrev pub IsOfParser : Error → WordsFault → Type 0
 IsOfParser e (CommandLine complaint) = (complaint ≡ e) × (kind_of e ≢ OutOfMemory)
 IsOfParser e BadWords = ⊥

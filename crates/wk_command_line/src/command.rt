@@ -194,10 +194,7 @@ fn read_parts(alloc: Global, found: &ArgMatches<'_>) -> Result<Vec<Part>, AllocE
     Ok(parts)
 }
 
-fn read_objdump<'a>(
-    alloc: Global,
-    found: &ArgMatches<'a>,
-) -> Result<ObjdumpCommand<'a>, WordsFault>
+fn read_objdump<'a>(alloc: Global, found: &ArgMatches<'a>) -> Result<ObjdumpCommand<'a>, WordsFault>
     ensures ok { IfOk result (ReadsObjdump (rows_of (found_of found.now))) }
     ensures err { IfErr result (Unreadable (ReadsObjdump (rows_of (found_of found.now)))) }
 {
@@ -237,10 +234,7 @@ fn read_keep<'a>(alloc: Global, word: Option<&str>) -> Result<Option<Text>, Word
     }
 }
 
-fn read_strip<'a>(
-    alloc: Global,
-    found: &ArgMatches<'a>,
-) -> Result<StripCommand<'a>, WordsFault>
+fn read_strip<'a>(alloc: Global, found: &ArgMatches<'a>) -> Result<StripCommand<'a>, WordsFault>
     ensures ok { IfOk result (ReadsStrip (rows_of (found_of found.now))) }
     ensures err { IfErr result (Unreadable (ReadsStrip (rows_of (found_of found.now)))) }
 {
