@@ -11,7 +11,7 @@ use wk_list::Part;
 use wk_module::Profile::{Core, Extended};
 
 /// Calls of `wk_module`, `wk_check`, `wk_judging`, `wk_place`, `wk_list` and `wk_strip`.
-pub(crate) static MODULES: [Named; 92] = scenarios! {
+pub(crate) static MODULES: [Named; 93] = scenarios! {
     "read-types" => Scenario::Read(OF_TYPES),
     "read-whole" => Scenario::Read(OF_ALL),
     "read-valid" => Scenario::Read(OF_VALID),
