@@ -29,6 +29,8 @@ from samples import (
     MODULE,
     MOVING,
     MOVING_STRIPPED,
+    NO_FUNC,
+    NO_FUNC_LINES,
     NO_OPCODE,
     NO_OPCODE_LINES,
     NO_OPERAND,
@@ -240,6 +242,7 @@ COMMANDS = [
     Command("validate of a malformed module", VALIDATE, {"in.wasm": HEADER + b"\x0c\x00"}, 2, MALFORMED),
     Command("validate of a missing file", VALIDATE, {}, 4, stderr=UNREAD),
     Command("validate with the place of a token", [*VALIDATE, "--explain"], {"in.wasm": NO_OPERAND}, 1, NO_OPERAND_LINES),
+    Command("validate with the entry of a segment", [*VALIDATE, "--explain"], {"in.wasm": NO_FUNC}, 1, NO_FUNC_LINES),
     Command("validate with the body of a fault", [*VALIDATE, "--explain"], {"in.wasm": NO_OPCODE}, 2, NO_OPCODE_LINES),
     Command("validate in the other profile", [*VALIDATE, "--extended"], {"in.wasm": EXTENDED}, 0, b"valid\n"),
     each(

@@ -51,6 +51,9 @@ NO_OPERAND = HEADER + b"\x01\x04\x01\x60\x00\x00\x03\x02\x01\x00\x0a\x08\x01\x06
 NO_OPERAND_LINES = b"invalid V13 StackUnderflow at section 10 item 0 token 0\n at 0x00000017 in func[0]: br_table 0 0\n"
 NO_OPCODE = HEADER + b"\x01\x04\x01\x60\x00\x00\x03\x02\x01\x00\x0a\x05\x01\x03\x00\xff\x0b"
 NO_OPCODE_LINES = b"malformed R11 UnknownOpcode at 0x00000017\n in func[0]\n"
+# A segment of two functions, of which the second is not there.
+NO_FUNC = HEADER + b"\x01\x04\x01\x60\x00\x00\x03\x02\x01\x00\x04\x04\x01\x70\x00\x02\x09\x08\x01\x00\x41\x00\x0b\x02\x00\x01\x0a\x04\x01\x02\x00\x0b"
+NO_FUNC_LINES = b"invalid V7 UnknownFunc at section 9 item 0\n at 0x0000001b entry 1\n"
 # Modules with a fault behind what takes memory to read: in the blocks of a second body, which is invalid or malformed, and at a second type with two
 # results, in the profile that has none.
 FAULTY = {

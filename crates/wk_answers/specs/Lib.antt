@@ -4,3 +4,5 @@ pub mod Listing
 pub mod Validation
 -- What `validate --explain` prints: where in the bytes the fault is.
 pub mod Explaining
+-- ---- laws, for proofs above
+pub mod JudgingLaws

@@ -13,27 +13,9 @@ use Rattle.wk_typing.specs.declared.fault.Verdict.{Verdict}
 use Rattle.wk_judging.specs.Spelled.{judged}
 use Rattle.wk_check.specs.Verdict.{module_verdict}
 use Rattle.wk_place.specs.Places.{IsInBodyOf, IsInNoBody}
+use Rattle.wk_answers.specs.JudgingLaws.{Judging, by_fault, by_verdict, not_both, same_fault}
 use Rattle.wk_ffi.specs.declared.numbers.FaultNumbers.{FaultNumbers}
 use Rattle.wk_ffi.specs.Numbers.{malformed_numbers, AreOfRead, AreOfVerdict}
-
-abbrev pub Judging : Type 0
-Judging = Result Verdict ReadFault
-
-abbrev pub verdict_is : Verdict → Judging
-verdict_is v = Ok v
-
-abbrev fault_is : ReadFault → Judging
-fault_is e = Err e
-
-not_both : (r : Judging) (v : Verdict) (e : ReadFault) → r ≡ Ok v → r ≡ Err e → ⊥
-not_both (Ok w) v e good bad = absurd cc
-not_both (Err d) v e good bad = absurd cc
-
-same_verdict : (v w : Verdict) → verdict_is v ≡ Ok w → v ≡ w
-same_verdict v w e = cc
-
-same_fault : (d e : ReadFault) → fault_is d ≡ Err e → d ≡ e
-same_fault d e is = cc
 
 -- what follows of a value from all that holds of it on success holds then
 pub all_if_ok : {A E M : Type 0} (r : Result A E) (Is : M → Type 0) (P : M → A → Type 0) (Q : A → Type 0) → ((m : M) → Is m → IfOk r (P m))
@@ -50,17 +32,16 @@ read_known (Err d) (Err e) fails known =
     subst (λ (f : ReadFault). f.kind ≢ Memory) (sym (same_fault e d (other_fault d d.kind (judged (Err e)) known fails))) known
 
 module _ (profile : Profile) (b : List ℕ) (n : FaultNumbers) where
+  abbrev Are : Result Parts ReadFault → Type 0
+  Are r = AreOfRead profile b r n
+
   -- a module was judged
   pub of_verdict : (r : Result Parts ReadFault) (v : Verdict) → IsReading profile b r → judged r ≡ Ok v
-      → ((m : Parts) → (m.profile ≡ profile) × Spells b m × (module_verdict m ≡ v) → AreOfVerdict profile b m v n) → AreOfRead profile b r n
-  of_verdict (Ok m) v is read are =
-      subst (λ (w : Verdict). AreOfVerdict profile b m w n) (sym (same_verdict (module_verdict m) v read)) (are m (is.0, is.1, same_verdict (module_verdict m) v read))
-  of_verdict (Err e) v is read are = absurd (not_both (judged (Err e)) v e read refl)
+      → ((m : Parts) → (m.profile ≡ profile) × Spells b m × (module_verdict m ≡ v) → AreOfVerdict profile b m v n) → Are r
+  of_verdict r v is read are =
+      by_verdict profile b Are r v is read (λ m h. subst (λ (w : Verdict). AreOfVerdict profile b m w n) (sym h.2) (are m h))
 
   -- the bytes are no module
   pub of_no_module : (r : Result Parts ReadFault) (e : ReadFault) → FailsAs e e.kind (judged r) → e.kind ≢ Memory
-      → (func : Option ℕ) → MatchOption func (IsInNoBody profile b e) (IsInBodyOf profile b e) → n ≡ malformed_numbers e func → AreOfRead profile b r n
-  of_no_module (Ok m) e fails known func is are =
-      absurd (not_both (judged (Ok m)) (module_verdict m) e refl (other_fault e e.kind (judged (Ok m)) known fails))
-  of_no_module (Err d) e fails known func is are =
-      subst (λ (f : ReadFault). AreOfRead profile b (Err f) n) (sym (same_fault d e (other_fault e e.kind (judged (Err d)) known fails))) (func, is, are)
+      → (func : Option ℕ) → MatchOption func (IsInNoBody profile b e) (IsInBodyOf profile b e) → n ≡ malformed_numbers e func → Are r
+  of_no_module r e fails known func is are = by_fault profile b Are r e fails known (func, is, are)

@@ -50,10 +50,7 @@ impl<'a> Codes<'a> {
 
     /// The same with each new one in the place of the one that is kept. They are measured here.
     #[inline]
-    pub fn with_new(
-        pieces: &'a EncodedSections,
-        news: &'a Vec<Option<Items<u8>>>,
-    ) -> Codes<'a>
+    pub fn with_new(pieces: &'a EncodedSections, news: &'a Vec<Option<Items<u8>>>) -> Codes<'a>
         requires many { length news.now.items ≡ length pieces.now.codes.items }
         requires few { entries_size (with_items pieces.now.codes.items news.now.items) ≤ limit }
         ensures { result ≡ with_items pieces.now.codes.items news.now.items }

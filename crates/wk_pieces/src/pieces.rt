@@ -116,11 +116,7 @@ pub fn no_news(alloc: Global) -> Result<Vec<Option<Items<u8>>>, OutOfMemory>
 }
 
 /// Makes the contents of one section anew, and of no other.
-pub fn one_remade(
-    alloc: Global,
-    lists: &Lists<'_>,
-    id: u8,
-) -> Result<NewSections, EncodeFault>
+pub fn one_remade(alloc: Global, lists: &Lists<'_>, id: u8) -> Result<NewSections, EncodeFault>
     requires { IsListId id }
     ensures { MatchResult result
         (IsOneRemade id (contents_by (listed lists.now) (of_number id)))

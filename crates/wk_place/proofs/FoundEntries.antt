@@ -1,5 +1,5 @@
 -- The entry that is looked for is the first unknown function of the segment that stands at the place.
-use Rattle.std.proofs.Common.{◌≡◌, ◌≢◌, ◌⊎◌, ℕ, zero, suc, ◌+◌, ◌-◌, ◌<◌, ◌≤◌, Bool, true, false, ltb, cond, inl, inr, List, [], ◌∷◌, ◌++◌, length, map}
+use Rattle.std.proofs.Common.{◌≡◌, ◌≢◌, ◌⊎◌, ℕ, zero, suc, ◌+◌, ◌<◌, ◌≤◌, Bool, true, false, ltb, cond, inl, inr, List, [], ◌∷◌, ◌++◌, length, map}
 use Rattle.std.proofs.Common.{Option, Some, None, Result, Ok, Err, refl, sym, ap, subst, ◌∙◌, length-append, arith}
 use Rattle.std.proofs.lemmas.Bool.{cases_lt, ltb-true, ltb-false, lt-ltb, le-ltb}
 use Rattle.std.specs.List.{AllByRecursion}
@@ -17,7 +17,6 @@ use Rattle.wk_body.specs.Vectors.{SpellsItems, SpellsVector}
 use Rattle.wk_module.specs.declared.types.Elem.{Elem}
 use Rattle.wk_module.specs.declared.types.Kind.TheVariants as kinds
 use Rattle.wk_module.specs.declared.types.Parts.{Parts}
-use Rattle.wk_module.specs.Formats.{made_at}
 use Rattle.wk_module.specs.Imports.{import_count}
 use Rattle.wk_module.specs.Items.{SpellsElem}
 use Rattle.wk_module.specs.Modules.{Spells, SpellsSection}
@@ -31,43 +30,15 @@ use Rattle.wk_check.specs.Spaces.{imported, func_in}
 use Rattle.wk_check.specs.SpacesLaws.{imported_funcs}
 use Rattle.wk_place.specs.Entries.{IsFirstUnknown, IsOfFuncs, MeansEntry, IsEntry, func_count}
 use Rattle.wk_place.specs.Places.{IsItemAt, IsWithin}
-use Rattle.wk_place.specs.Seeking.{first_with, passed, seek_at, then_at, item_at, place_at, imported_at, unknown_from, unknown_at, defined_in, defined_at, known_at}
+use Rattle.wk_place.specs.Seeking.{first_with, passed, seek_at, then_at, item_at, place_at, unknown_from, unknown_at, defined_in, defined_at, known_at}
 use Rattle.wk_place.specs.Seeking.{entry_at}
+use Rattle.wk_place.proofs.EntrySteps.{EntryFound}
 use Rattle.wk_place.proofs.FoundFuncs.{section_of, imported_is}
 use Rattle.wk_place.proofs.FoundInstrs.{some_span}
 use Rattle.wk_place.proofs.FoundItems.{code_laws, passed_again}
 use Rattle.wk_place.proofs.FoundPlaces.{place_again}
 use Rattle.wk_place.proofs.FoundSections.{section_found}
 use Rattle.wk_place.proofs.ModulePlaces.{section_there, standing}
-
-abbrev pub EntryFound : Type 0
-EntryFound = Result (Option ℕ) ReadFault
-
--- ---- steps of the loop
-
-pub fails : (known count i end : ℕ) (bytes : List ℕ) (e : ReadFault) (whole : EntryFound) → i < count → u32_at end bytes ≡ Err e
-    → unknown_from known i (count - i) end bytes ≡ whole → whole ≡ Err e
-fails known count i end bytes e whole lt bad before =
-    let k : count - i ≡ suc (count - (i + 1)) = omega arith in
-    sym (rw (k, bad) at before)
-
-pub meets : (known count i end func : ℕ) (bytes after : List ℕ) (whole : EntryFound) → i < count → u32_at end bytes ≡ Ok (func, after) → known ≤ func
-    → unknown_from known i (count - i) end bytes ≡ whole → whole ≡ Ok (Some i)
-meets known count i end func bytes after whole lt read unknown before =
-    let k : count - i ≡ suc (count - (i + 1)) = omega arith in
-    sym (rw (k, read, le-ltb func known unknown) at before)
-
-pub goes_on : (known count i end now func : ℕ) (bytes after : List ℕ) (whole : EntryFound) → i < count → u32_at end bytes ≡ Ok (func, after) → now ≡ end
-    → func < known → unknown_from known i (count - i) end bytes ≡ whole → unknown_from known (i + 1) (count - (i + 1)) now after ≡ whole
-goes_on known count i end now func bytes after whole lt read same less before =
-    let k : count - i ≡ suc (count - (i + 1)) = omega arith in
-    rw same (rw (k, read, lt-ltb func known less) at before)
-
-pub ends : (known count i end : ℕ) (bytes : List ℕ) (whole : EntryFound) → count ≤ i → unknown_from known i (count - i) end bytes ≡ whole
-    → whole ≡ Ok None
-ends known count i end bytes whole past before =
-    let k : count - i ≡ 0 = omega arith in
-    sym (rw k at before)
 
 -- ---- the first of a list that is not below a count
 
@@ -129,7 +100,7 @@ entry_is : (known entry : ℕ) (funcs : List ℕ) → 1 < length funcs → IsFir
 entry_is known entry funcs several h =
     let same : 0 + length h.front ≡ entry = omega (arith, h.number) in
     rw (le-ltb (length funcs) 2 several) (
-      ap (first_from known 0) h.parts ∙ first_is known 0 h.func h.front h.later h.known h.unknown ∙ ap (λ (n : ℕ). Some n) same
+    ap (first_from known 0) h.parts ∙ first_is known 0 h.func h.front h.later h.known h.unknown ∙ ap (λ (n : ℕ). Some n) same
     )
 
 is_entry : (known entry : ℕ) (funcs : List ℕ) → entry_in known funcs ≡ Some entry → (1 < length funcs) × IsFirstUnknown known funcs entry
@@ -171,8 +142,8 @@ funcs_read known entry end b later (x ∷ xs) s =
     let one : u32_at end (b ++ later) ≡ Ok (x, s.1 ++ later) =
     ap (u32_at end) (both_parts b s.0 s.1 later s.2) ∙ u32_at-again end s.0 x (s.1 ++ later) s.3 in
     rw one (
-      ap (λ (r : EntryFound). cond (ltb x known) r (Ok (Some entry))) (funcs_read known (entry + 1) end s.1 later xs s.4)
-      ∙ pushed (ltb x known) (first_from known (entry + 1) xs) (Some entry)
+    ap (λ (r : EntryFound). cond (ltb x known) r (Ok (Some entry))) (funcs_read known (entry + 1) end s.1 later xs s.4)
+    ∙ pushed (ltb x known) (first_from known (entry + 1) xs) (Some entry)
     )
 
 segment_read : (profile : Profile) (known end : ℕ) (own more : List ℕ) (e : Elem) → SpellsElem profile own e
@@ -190,8 +161,8 @@ segment_read profile known end own more e s =
     let count : u32_at end (t.later ++ more) ≡ Ok (length e.funcs, v.items ++ more) =
     ap (u32_at end) (both_parts t.later v.count v.items more v.parts) ∙ u32_at-again end v.count (length e.funcs) (v.items ++ more) v.counts in
     rw (table, offset, count) (
-      ap (λ (r : EntryFound). cond (ltb (length e.funcs) 2) (Ok None) r) (funcs_read known 0 end v.items more e.funcs v.spelled)
-      ∙ pushed (ltb (length e.funcs) 2) None (first_from known 0 e.funcs)
+    ap (λ (r : EntryFound). cond (ltb (length e.funcs) 2) (Ok None) r) (funcs_read known 0 end v.items more e.funcs v.spelled)
+    ∙ pushed (ltb (length e.funcs) 2) None (first_from known 0 e.funcs)
     )
 
 -- ---- an item of a list by its number
@@ -255,19 +226,25 @@ module _ (b : List ℕ) (m : Parts) (spelled : Spells b m) (fits : IsBytes b) wh
       count_as : ℕ → Result ℕ ReadFault
       count_as n = Ok n
 
-  known_is : known_at b ≡ Ok (func_count m)
-  unfolding known_at
+  known_is : known_at b ≡ Some (func_count m)
   known_is =
       let imports = imported_is b m spelled in
       let sum : import_count kinds.Func m.imports + length Types ≡ func_count m =
       omega (arith, imported_funcs m.imports, length-append (imported func_in m.imports) Types) in
-      rw (imports.0, defined_is) (ap (λ (n : ℕ). Ok n) sum)
+      rw (imports.0, defined_is) (ap (λ (n : ℕ). Some n) sum)
 
   -- ---- the segment at a place
 
+  entry_there : (p : Place) (place : Span) (own more : List ℕ) (segment : Elem) → place_at m.profile b p ≡ some_span place → place.rest ≡ own ++ more
+      → SpellsElem m.profile own segment → entry_at m.profile b p ≡ Ok (entry_in (func_count m) segment.funcs)
+  unfolding entry_at
+  entry_there p place own more segment at parts spells =
+      rw (at, known_is) (
+        ap (unknown_at m.profile (func_count m) place.end) parts ∙ segment_read m.profile (func_count m) place.end own more segment spells
+      )
+
   segment_entry : (p : Place) (before behind : List Elem) (segment : Elem) → p.section ≡ number ElementSection → p.token ≡ None
       → m.elems ≡ before ++ segment ∷ behind → length before ≡ p.item → entry_at m.profile b p ≡ Ok (entry_in (func_count m) segment.funcs)
-  unfolding entry_at
   segment_entry p before behind segment section whole parts item =
       let other : m.elems ≢ [] = λ e. absurd (omega (arith, ap length (sym parts ∙ e), length-append before (segment ∷ behind))) in
       let there = section_there b m spelled fits ElementSection (SpellsVector (SpellsElem m.profile)) [] m.elems (spelled.sections ElementSection) other in
@@ -281,9 +258,7 @@ module _ (b : List ℕ) (m : Parts) (spelled : Spells b m) (fits : IsBytes b) wh
         reached = at;
         within = subst (λ (t : Option ℕ). IsWithin m.profile ElementSection t st.place st.place) (sym whole) refl;
       }) in
-      rw (place, known_is) (
-        ap (unknown_at m.profile (func_count m) st.place.end) st.parts ∙ segment_read m.profile (func_count m) st.place.end st.own st.more segment st.spelled
-      )
+      entry_there p st.place st.own st.more segment place st.parts st.spelled
 
   no_item : (item : ℕ) → length m.elems ≤ item → item_at m.profile b 9 item ≡ Ok None
   no_item item past =

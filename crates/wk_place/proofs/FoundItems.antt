@@ -24,7 +24,7 @@ use Rattle.wk_place.specs.Places.{SpellsItem, IsBehindItems, ReachesItem}
 use Rattle.wk_place.proofs.FoundInstrs.{at_span, none_some}
 use Rattle.wk_place.specs.Seeking.{passed, all_passed, item_passed, count_at, seek_at}
 
-code_laws : (profile : Profile) → CodeLaws profile
+pub code_laws : (profile : Profile) → CodeLaws profile
 code_laws profile = record {
   expr = exprs_read profile;
   body = bodies_read profile;

@@ -16,6 +16,7 @@ pub mod FaultTokens
 pub mod ModulePlaces
 pub mod VerdictPlaces
 pub mod PlacesOfVerdicts
+pub mod EntrySteps
 pub mod FoundEntries
 pub mod PlaceLaws
 pub mod TokenTexts

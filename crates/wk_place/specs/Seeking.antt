@@ -223,10 +223,14 @@ defined_in (Some s) = u32_at (section_end s) s.contents >>= λ n. Ok n.0
 abbrev pub defined_at : List ℕ → Result ℕ ReadFault
 defined_at b = defined_in (first_with 3 (sections_of b))
 
--- how many functions an input has, imported and defined
-unfoldable pub known_at : List ℕ → Result ℕ ReadFault
-known_at b = imported_at b >>= λ n. defined_at b >>= λ d. Ok (n + d)
+-- how many functions an input has, imported and defined, where they can be counted
+abbrev pub known_by : Result ℕ ReadFault → Result ℕ ReadFault → Option ℕ
+known_by (Ok imported) (Ok defined) = Some (imported + defined)
+known_by imported defined = None
+
+abbrev pub known_at : List ℕ → Option ℕ
+known_at b = known_by (imported_at b) (defined_at b)
 
 -- the first unknown function of the segment at a place
 unfoldable pub entry_at : Profile → List ℕ → Place → Result (Option ℕ) ReadFault
-entry_at profile b p = place_at profile b p >>= λ item. then_at item (λ s. known_at b >>= λ n. unknown_at profile n s.end s.rest)
+entry_at profile b p = place_at profile b p >>= λ item. then_at item (λ s. then_at (known_at b) (λ n. unknown_at profile n s.end s.rest))

@@ -2,11 +2,12 @@
 
 ghost use Rattle.std.specs.Prelude.{◌≡◌, ◌↔◌, IfOk, IsTrue};
 ghost use Rattle.wk_bytes.specs.Leb.{Answers};
-ghost use Rattle.wk_body.specs.Reads.{Reads};
+ghost use Rattle.wk_body.specs.Reading.{expr_at};
+ghost use Rattle.wk_body.specs.Reads.{Parses, Reads};
 ghost use Rattle.wk_module.specs.declared.types.Parts.{Parts};
 ghost use Rattle.wk_module.specs.Modules.{Spells};
 ghost use Rattle.wk_place.specs.Entries.{IsEntry, IsOfFuncs};
-ghost use Rattle.wk_place.specs.Seeking.{defined_at, entry_at, known_at, unknown_at, unknown_from};
+ghost use Rattle.wk_place.specs.Seeking.{defined_at, entry_at, known_at, passed, unknown_at, unknown_from};
 
 use crate::items::ItemReader;
 use crate::place::{find_place, imported_funcs};
@@ -26,19 +27,19 @@ fn defined_funcs(bytes: &[u8]) -> Result<u32, ReadFault>
     section.cursor().u32()
 }
 
-// How many functions an input has, imported and defined (2.5.1).
-#[tactic(auto, unfolding(crate::specs::Seeking::known_at))]
-fn known_funcs(bytes: &[u8]) -> Result<u64, ReadFault>
-    ensures { Answers (λ n. n) result (known_at bytes.now) }
+// How many functions an input has, imported and defined (2.5.1), if they can be counted.
+fn known_funcs(bytes: &[u8]) -> Option<u64>
+    ensures { result ≡ known_at bytes.now }
 {
-    let imported = imported_funcs(bytes)?;
-    let defined = defined_funcs(bytes)?;
-    Ok(u64::from(imported) + u64::from(defined))
+    let imported = imported_funcs(bytes).ok()?;
+    let defined = defined_funcs(bytes).ok()?;
+    Some(u64::from(imported) + u64::from(defined))
 }
 
 // Of so many functions of a segment the first that is not below a count.
+#[tactic(auto, using(crate::proofs::EntrySteps::fails, crate::proofs::EntrySteps::meets, crate::proofs::EntrySteps::goes_on, crate::proofs::EntrySteps::ends))]
 fn first_unknown(known: u64, count: u32, funcs: &mut Cursor<'_>) -> Result<Option<u32>, ReadFault>
-    ensures { Answers (λ entry. entry) result
+    ensures { Reads (λ entry. entry) result
         (unknown_from known 0 count funcs.old.end funcs.old.rest) }
 {
     for entry in 0..count {
@@ -48,6 +49,17 @@ fn first_unknown(known: u64, count: u32, funcs: &mut Cursor<'_>) -> Result<Optio
         }
     }
     Ok(None)
+}
+
+// Passes the offset of a segment.
+fn pass_offset(
+    alloc: Global,
+    profile: Profile,
+    cursor: &mut Cursor<'_>,
+) -> Result<(), ReadFault>
+    ensures { Parses (λ _. tt) (passed (expr_at profile)) cursor.old result cursor.new }
+{
+    ItemReader::new(alloc, profile).pass_expr(cursor)
 }
 
 // The first unknown function of the segment that the cursor stands at, where the segment has several.
@@ -63,7 +75,7 @@ fn unknown_func(
 {
     let mut cursor = segment;
     let _table = cursor.u32()?;
-    ItemReader::new(alloc, profile).pass_expr(&mut cursor)?;
+    pass_offset(alloc, profile, &mut cursor)?;
     let count = cursor.u32()?;
     if count < 2 {
         return Ok(None);
@@ -84,7 +96,9 @@ fn find_entry(
     let Some(segment) = find_place(alloc, bytes, profile, place)? else {
         return Ok(None);
     };
-    let known = known_funcs(bytes)?;
+    let Some(known) = known_funcs(bytes) else {
+        return Ok(None);
+    };
     unknown_func(alloc, profile, known, segment)
 }
 

@@ -37,7 +37,9 @@ use wk_module::{
     EncodeFault, Import, ImportDesc, Kind, Limits, Lists, MovedLists, Parts, ShiftFault,
     import_count, moving_of_code, moving_of_module, section_id, shift_lists,
 };
-use wk_pieces::{NewSections, codes_len_after, module_len, one_remade, remake_section, replace_each, sizes_after};
+use wk_pieces::{
+    NewSections, codes_len_after, module_len, one_remade, remake_section, replace_each, sizes_after,
+};
 
 /// What an import makes of a module beside its list of imports.
 #[derive(Drop)]
@@ -224,28 +226,26 @@ fn verdicts_or<'a>(
     }
 }
 
-impl NewSections {
-    // Makes the section of an id anew where it has moved.
-    fn remake_where(
-        &mut self,
-        alloc: Global,
-        lists: &Lists<'_>,
-        id: u8,
-        is_moved: bool,
-    ) -> Result<(), EncodeFault>
-        requires id { IsListId id }
-        requires few { self.old.made < 12 }
-        requires all { length self.old.sections.items ≡ 12 }
-        ensures { MatchResult result
-            (λ _. IsRemadeWhere (listed lists.now) is_moved id self.old self.new)
-            (IsUnwritten (listed lists.now)) }
-    {
-        if is_moved {
-            let contents = remake_section(alloc, lists, id, &mut self.made)?;
-            self.sections[id as usize] = Some(contents);
-        }
-        Ok(())
+// Makes the section of an id anew where it has moved.
+fn remake_where(
+    alloc: Global,
+    lists: &Lists<'_>,
+    news: &mut NewSections,
+    id: u8,
+    is_moved: bool,
+) -> Result<(), EncodeFault>
+    requires id { IsListId id }
+    requires few { news.old.made < 12 }
+    requires all { length news.old.sections.items ≡ 12 }
+    ensures { MatchResult result
+        (λ _. IsRemadeWhere (listed lists.now) is_moved id news.old news.new)
+        (IsUnwritten (listed lists.now)) }
+{
+    if is_moved {
+        let contents = remake_section(alloc, lists, id, &mut news.made)?;
+        news.sections[id as usize] = Some(contents);
     }
+    Ok(())
 }
 
 // Makes the import section anew, and all that have moved.
@@ -258,11 +258,41 @@ fn remade_after(
         (IsUnwritten (listed lists.now)) }
 {
     let mut news = one_remade(alloc, lists, section_id::IMPORT)?;
-    news.remake_where(alloc, lists, section_id::GLOBAL, moved.globals.is_some())?;
-    news.remake_where(alloc, lists, section_id::EXPORT, moved.exports.is_some())?;
-    news.remake_where(alloc, lists, section_id::START, moved.start.is_some())?;
-    news.remake_where(alloc, lists, section_id::ELEMENT, moved.elems.is_some())?;
-    news.remake_where(alloc, lists, section_id::DATA, moved.datas.is_some())?;
+    remake_where(
+        alloc,
+        lists,
+        &mut news,
+        section_id::GLOBAL,
+        moved.globals.is_some(),
+    )?;
+    remake_where(
+        alloc,
+        lists,
+        &mut news,
+        section_id::EXPORT,
+        moved.exports.is_some(),
+    )?;
+    remake_where(
+        alloc,
+        lists,
+        &mut news,
+        section_id::START,
+        moved.start.is_some(),
+    )?;
+    remake_where(
+        alloc,
+        lists,
+        &mut news,
+        section_id::ELEMENT,
+        moved.elems.is_some(),
+    )?;
+    remake_where(
+        alloc,
+        lists,
+        &mut news,
+        section_id::DATA,
+        moved.datas.is_some(),
+    )?;
     Ok(news)
 }
 

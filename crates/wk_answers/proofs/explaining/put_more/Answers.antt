@@ -10,7 +10,8 @@ use Rattle.wk_typing.specs.declared.fault.Verdict.TheVariants.{Invalid}
 use Rattle.wk_judging.specs.Spelled.{judged}
 use Rattle.wk_check.specs.Verdict.{module_verdict}
 use Rattle.wk_answers.specs.Explaining.{Puts, TellsBody, TellsMore, TellsPlace}
-use Rattle.wk_answers.proofs.Telling.{all_on_ok, one_on_ok, told_fault, told_verdict, verdict_is}
+use Rattle.wk_answers.specs.JudgingLaws.{verdict_is}
+use Rattle.wk_answers.proofs.Telling.{all_on_ok, one_on_ok, told_fault, told_verdict}
 use Rattle.wk_answers.proofs.explaining.put_more.Goals as goal
 
 pub returns-in-Invalid : goal.returns-in-Invalid

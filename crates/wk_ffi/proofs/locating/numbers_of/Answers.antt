@@ -10,7 +10,8 @@ use Rattle.wk_typing.specs.declared.fault.Verdict.TheVariants.{Invalid}
 use Rattle.wk_judging.specs.Spelled.{judged}
 use Rattle.wk_check.specs.Verdict.{module_verdict}
 use Rattle.wk_ffi.specs.Numbers.{AreOfFault, AreOfRead}
-use Rattle.wk_ffi.proofs.Located.{all_if_ok, of_no_module, of_verdict, verdict_is}
+use Rattle.wk_answers.specs.JudgingLaws.{verdict_is}
+use Rattle.wk_ffi.proofs.Located.{all_if_ok, of_no_module, of_verdict}
 use Rattle.wk_ffi.proofs.locating.numbers_of.Goals as goal
 
 pub returns-in-Invalid : goal.returns-in-Invalid

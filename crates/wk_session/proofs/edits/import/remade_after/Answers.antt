@@ -14,11 +14,11 @@ pub returns : goal.returns
 returns c =
     let l = listed c.args.lists.now in
     let v = c.args.moved.now in
-    remade_in_order l v c.in_ok-news.news c.remake_where.new.self c.remake_where-2.new.self c.remake_where-3.new.self c.remake_where-4.new.self
-    c.remake_where-5.new.self
+    remade_in_order l v c.in_ok-news.news c.remake_where.new.news c.remake_where-2.new.news c.remake_where-3.new.news c.remake_where-4.new.news
+    c.remake_where-5.new.news
     c.in_ok-news.ensures
-    (subst (λ (b : Bool). IsRemadeWhere l b 6 c.in_ok-news.news c.remake_where.new.self) c.is_some.ensures c.in_ok-remake_where.ensures)
-    (subst (λ (b : Bool). IsRemadeWhere l b 7 c.remake_where.new.self c.remake_where-2.new.self) c.is_some-2.ensures c.in_ok-remake_where-2.ensures)
-    (subst (λ (b : Bool). IsRemadeWhere l b 8 c.remake_where-2.new.self c.remake_where-3.new.self) c.is_some-3.ensures c.in_ok-remake_where-3.ensures)
-    (subst (λ (b : Bool). IsRemadeWhere l b 9 c.remake_where-3.new.self c.remake_where-4.new.self) c.is_some-4.ensures c.in_ok-remake_where-4.ensures)
-    (subst (λ (b : Bool). IsRemadeWhere l b 11 c.remake_where-4.new.self c.remake_where-5.new.self) c.is_some-5.ensures c.in_ok-remake_where-5.ensures)
+    (subst (λ (b : Bool). IsRemadeWhere l b 6 c.in_ok-news.news c.remake_where.new.news) c.is_some.ensures c.in_ok-remake_where.ensures)
+    (subst (λ (b : Bool). IsRemadeWhere l b 7 c.remake_where.new.news c.remake_where-2.new.news) c.is_some-2.ensures c.in_ok-remake_where-2.ensures)
+    (subst (λ (b : Bool). IsRemadeWhere l b 8 c.remake_where-2.new.news c.remake_where-3.new.news) c.is_some-3.ensures c.in_ok-remake_where-3.ensures)
+    (subst (λ (b : Bool). IsRemadeWhere l b 9 c.remake_where-3.new.news c.remake_where-4.new.news) c.is_some-4.ensures c.in_ok-remake_where-4.ensures)
+    (subst (λ (b : Bool). IsRemadeWhere l b 11 c.remake_where-4.new.news c.remake_where-5.new.news) c.is_some-5.ensures c.in_ok-remake_where-5.ensures)
