@@ -5,7 +5,7 @@ ghost use Rattle.wasmkit.specs.declared.fault.ProgramFault.TheVariants.{Memory a
 ghost use Rattle.wasmkit.specs.Faults.{fault_status, fault_text, of_list, of_words, IsOfLoad, IsOfSave};
 
 use crate::store::StoreFault;
-use std::alloc::{AllocError, AllocFailed};
+use std::alloc::AllocError;
 use std::fmt;
 use wk_bytes::OutOfMemory;
 use wk_command_line::WordsFault;
@@ -111,14 +111,6 @@ impl<'a> From<AllocError> for ProgramFault<'a> {
     ghost from_gives = { λ _ f. f ≡ no_memory };
 
     fn from(_error: AllocError) -> ProgramFault<'a> {
-        ProgramFault::Memory
-    }
-}
-
-impl<'a, T: Drop> From<AllocFailed<T>> for ProgramFault<'a> {
-    ghost from_gives = { λ _ f. f ≡ no_memory };
-
-    fn from(_error: AllocFailed<T>) -> ProgramFault<'a> {
         ProgramFault::Memory
     }
 }

@@ -12,13 +12,12 @@ use Rattle.clap.specs.Simple.{App, HasMatchesOf, is_simple, subcommand_of, subco
 use Rattle.clap.specs.Faults.{fault_of, is_simple_and_free}
 use Rattle.clap.specs.declared.error.Error.{Error}
 use Rattle.clap.specs.declared.error.kind.ErrorKind.{ErrorKind}
-use Rattle.clap.specs.declared.error.kind.ErrorKind.TheVariants as kind
 use Rattle.clap.specs.declared.parser.matches.ArgMatches.{ArgMatches}
 use Rattle.wk_command_line.specs.declared.command.Asked.{Asked}
 use Rattle.wk_command_line.specs.declared.command.Asked.TheVariants as asks
 use Rattle.wk_command_line.specs.declared.fault.WordsFault.{WordsFault}
 use Rattle.wk_command_line.specs.declared.fault.WordsFault.TheVariants.{CommandLine, BadWords, Memory}
-use Rattle.wk_command_line.specs.CommandLine.{SpellsNone, SpellsOnly, edit, objdump, sections, strip, validate}
+use Rattle.wk_command_line.specs.CommandLine.{SpellsOnly, edit, objdump, sections, strip, validate}
 use Rattle.wk_command_line.specs.Faults.{IsOfParser, RefusesWords}
 use Rattle.wk_command_line.specs.Syntax.{Reads, ReadsEach, ReadsJudging, ReadsValidate, Unreadable, wasmkit_app}
 use Rattle.wk_command_line.proofs.FirstWord.{is_free_program, is_simple_program}

@@ -6,7 +6,7 @@ ghost use Rattle.wk_command_line.specs.declared.fault.WordsFault.TheVariants.{Me
 
 use clap::Error;
 use clap::error::ErrorKind;
-use std::alloc::{AllocError, AllocFailed};
+use std::alloc::AllocError;
 
 /// Why words give no command.
 #[derive(Debug, Drop)]
@@ -34,14 +34,6 @@ impl From<AllocError> for WordsFault {
     ghost from_gives = { λ _ f. f ≡ no_memory };
 
     fn from(_error: AllocError) -> WordsFault {
-        WordsFault::Memory
-    }
-}
-
-impl<T: Drop> From<AllocFailed<T>> for WordsFault {
-    ghost from_gives = { λ _ f. f ≡ no_memory };
-
-    fn from(_error: AllocFailed<T>) -> WordsFault {
         WordsFault::Memory
     }
 }
