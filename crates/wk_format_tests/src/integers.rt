@@ -11,194 +11,140 @@ use wk_samples::integers::{
     SIGNED_64_HASHES, Signed, TOO_LARGE_64, TOO_LONG_64, UNSIGNED, UNSIGNED_BORDERS, Unsigned,
 };
 
-// Whether the integer is measured and written so.
-fn is_written(alloc: Global, row: Unsigned) -> Result<bool, OutOfMemory> {
-    let mut out = Vec::new(alloc);
-    put_u32(&mut out, row.value)?;
-    Ok(out.as_slice() == row.bytes && leb_len_u32(row.value) == row.bytes.len())
-}
-
-// Whether it is put so to an output.
-fn is_put_out(alloc: Global, row: Unsigned) -> bool {
+// Whether the integer is put, put out, measured and read so.
+fn is_spelled(alloc: Global, row: Unsigned) -> Result<bool, OutOfMemory> {
+    let mut bytes = Vec::new(alloc);
+    put_u32(&mut bytes, row.value)?;
     let mut sink = Sink::new(Vec::new(alloc));
-    let answer = out_u32(&mut sink, row.value);
-    answer.is_ok() && sink.into_inner().as_slice() == row.bytes
+    let is_out = out_u32(&mut sink, row.value).is_ok();
+    let put_out = sink.into_inner();
+    Ok(
+        bytes.as_slice() == row.bytes
+            && is_out
+            && put_out.as_slice() == row.bytes
+            && leb_len_u32(row.value) == row.bytes.len()
+            && row.bytes.len() <= 5
+            && Cursor::new(row.bytes).u32() == Ok(row.value),
+    )
 }
 
-fn is_read(row: Unsigned) -> bool {
-    row.bytes.len() <= 5 && Cursor::new(row.bytes).u32() == Ok(row.value)
+/// How many bits an integer with a sign may have.
+#[derive(Clone, Copy, Debug)]
+enum Width {
+    Bits32,
+    Bits33,
+    Bits64,
 }
 
-// The first of these integers without a sign that is not spelled so.
-fn wrong_unsigned(alloc: Global, rows: &[Unsigned]) -> Option<u32> {
-    for row in rows {
-        if is_written(alloc, *row) != Ok(true) || !is_put_out(alloc, *row) || !is_read(*row) {
-            return Some(row.value);
+impl Width {
+    // Puts an integer, if it has no more bits.
+    fn put(self, out: &mut Vec<u8>, value: i64) -> Result<(), OutOfMemory> {
+        match self {
+            Width::Bits32 => match i32::try_from(value) {
+                Ok(value) => put_s32(out, value),
+                Err(_) => Ok(()),
+            },
+            Width::Bits33 if -4_294_967_296 <= value && value < 4_294_967_296 => {
+                put_s33(out, value)
+            }
+            Width::Bits33 => Ok(()),
+            Width::Bits64 => put_s64(out, value),
         }
     }
-    None
-}
 
-fn is_written_64(alloc: Global, row: Signed) -> Result<bool, OutOfMemory> {
-    let mut out = Vec::new(alloc);
-    put_s64(&mut out, row.value)?;
-    Ok(out.as_slice() == row.bytes && leb_len_s64(row.value) == row.bytes.len())
-}
-
-fn is_read_64(row: Signed) -> bool {
-    row.bytes.len() <= 10 && Cursor::new(row.bytes).s64() == Ok(row.value)
-}
-
-// The first of these integers that is not spelled so in 64 bits.
-fn wrong_64(alloc: Global, rows: &[Signed]) -> Option<i64> {
-    for row in rows {
-        if is_written_64(alloc, *row) != Ok(true) || !is_read_64(*row) {
-            return Some(row.value);
+    fn read(self, cursor: &mut Cursor<'_>) -> Result<i64, ReadFault> {
+        match self {
+            Width::Bits32 => cursor.s32().map(i64::from),
+            Width::Bits33 => cursor.s33(),
+            Width::Bits64 => cursor.s64(),
         }
     }
-    None
 }
 
-fn is_written_33(alloc: Global, row: Signed) -> Result<bool, OutOfMemory> {
-    let mut out = Vec::new(alloc);
-    if -4_294_967_296 <= row.value && row.value < 4_294_967_296 {
-        put_s33(&mut out, row.value)?;
-    }
-    Ok(out.as_slice() == row.bytes)
-}
-
-fn is_read_33(row: Signed) -> bool {
-    row.bytes.len() <= 5 && Cursor::new(row.bytes).s33() == Ok(row.value)
-}
-
-// The first of these integers that is not spelled so in 33 bits.
-fn wrong_33(alloc: Global, rows: &[Signed]) -> Option<i64> {
-    for row in rows {
-        if is_written_33(alloc, *row) != Ok(true) || !is_read_33(*row) {
-            return Some(row.value);
-        }
-    }
-    None
-}
-
-fn is_written_32(alloc: Global, row: Signed) -> Result<bool, OutOfMemory> {
-    let mut out = Vec::new(alloc);
-    if let Ok(value) = i32::try_from(row.value) {
-        put_s32(&mut out, value)?;
-    }
-    Ok(out.as_slice() == row.bytes)
-}
-
-fn is_read_32(row: Signed) -> bool {
-    row.bytes.len() <= 5 && Cursor::new(row.bytes).s32().map(i64::from) == Ok(row.value)
-}
-
-// The first of these integers that is not spelled so in 32 bits.
-fn wrong_32(alloc: Global, rows: &[Signed]) -> Option<i64> {
-    for row in rows {
-        if is_written_32(alloc, *row) != Ok(true) || !is_read_32(*row) {
-            return Some(row.value);
-        }
-    }
-    None
-}
-
-// The first integer with a sign that is not spelled so in each width that holds it.
-fn wrong_signed(alloc: Global) -> Option<i64> {
-    wrong_64(alloc, &SIGNED_32)
-        .or(wrong_64(alloc, &SIGNED_33))
-        .or(wrong_64(alloc, &SIGNED_64))
-        .or(wrong_64(alloc, &SIGNED_64_BORDERS))
-        .or(wrong_64(alloc, &SIGNED_64_HASHES))
-        .or(wrong_33(alloc, &SIGNED_32))
-        .or(wrong_33(alloc, &SIGNED_33))
-        .or(wrong_32(alloc, &SIGNED_32))
-        .or(wrong_64(alloc, &SIGNED_32_BORDERS))
-        .or(wrong_33(alloc, &SIGNED_32_BORDERS))
-        .or(wrong_32(alloc, &SIGNED_32_BORDERS))
+// Whether the integer is put, measured and read so.
+fn is_spelled_in(alloc: Global, width: Width, row: Signed) -> Result<bool, OutOfMemory> {
+    let mut bytes = Vec::new(alloc);
+    width.put(&mut bytes, row.value)?;
+    Ok(
+        bytes.as_slice() == row.bytes
+            && leb_len_s64(row.value) == row.bytes.len()
+            && row.bytes.len() <= 10
+            && width.read(&mut Cursor::new(row.bytes)) == Ok(row.value),
+    )
 }
 
 #[test]
 fn spells_integers(rt: HostRuntime) -> Result<(), Fail> {
-    assert_eq!(rt; wrong_unsigned(rt.alloc(), &UNSIGNED), None);
-    assert_eq!(rt; wrong_unsigned(rt.alloc(), &UNSIGNED_BORDERS), None);
-    assert_eq!(rt; wrong_signed(rt.alloc()), None);
+    let unsigned: [&[Unsigned]; 2] = [&UNSIGNED, &UNSIGNED_BORDERS];
+    for rows in unsigned {
+        for row in rows {
+            assert_eq!(rt; is_spelled(rt.alloc(), *row), Ok(true), "{row:?}");
+        }
+    }
+    let signed: [(Width, &[Signed]); 11] = [
+        (Width::Bits32, &SIGNED_32),
+        (Width::Bits32, &SIGNED_32_BORDERS),
+        (Width::Bits33, &SIGNED_32),
+        (Width::Bits33, &SIGNED_32_BORDERS),
+        (Width::Bits33, &SIGNED_33),
+        (Width::Bits64, &SIGNED_32),
+        (Width::Bits64, &SIGNED_32_BORDERS),
+        (Width::Bits64, &SIGNED_33),
+        (Width::Bits64, &SIGNED_64),
+        (Width::Bits64, &SIGNED_64_BORDERS),
+        (Width::Bits64, &SIGNED_64_HASHES),
+    ];
+    for (width, rows) in signed {
+        for row in rows {
+            let answer = is_spelled_in(rt.alloc(), width, *row);
+            assert_eq!(rt; answer, Ok(true), "{row:?} in {width:?}");
+        }
+    }
     Ok(())
 }
 
 // Other bytes behind an integer: longer ones are read in one way where ten bytes are at hand, and in another where fewer are.
 const BEHIND: &[u8] = b"\x80\x00\xff\x7f\x80\x00\xff\x7f\x80\x00";
 
-fn before_more(alloc: Global, bytes: &[u8]) -> Result<Vec<u8>, OutOfMemory> {
-    let mut more = Vec::new(alloc);
-    more.extend_from_slice(bytes)?;
+// Whether reading 64 bits answers this: what is read leaves what stands behind it, and what is refused leaves all.
+fn is_read(input: &[u8], behind: &[u8], wanted: Result<i64, ReadKind>) -> bool {
+    if input.len() > 21 {
+        return false;
+    }
+    let mut cursor = Cursor::new(input);
+    match wanted {
+        Ok(value) => cursor.s64() == Ok(value) && cursor.rest() == behind,
+        Err(kind) => { cursor.s64() == Err(ReadFault { kind, at: 0 }) && cursor.rest() == input }
+    }
+}
+
+// The same of the bytes alone and with others behind them, where they are not cut.
+fn answers(
+    alloc: Global,
+    bytes: &[u8],
+    wanted: Result<i64, ReadKind>,
+) -> Result<bool, OutOfMemory> {
+    let mut more = Vec::from_slice(alloc, bytes)?;
     more.extend_from_slice(BEHIND)?;
-    Ok(more)
-}
-
-// Whether the integer is read with other bytes behind it, which are left.
-fn is_read_before_more(alloc: Global, row: Signed) -> Result<bool, OutOfMemory> {
-    let more = before_more(alloc, row.bytes)?;
-    if more.len() > 20 {
-        return Ok(false);
-    }
-    let mut cursor = Cursor::new(more.as_slice());
-    Ok(cursor.s64() == Ok(row.value) && cursor.rest() == BEHIND)
-}
-
-// The first of these spellings that is not read, alone or with other bytes behind it.
-fn misread_64(alloc: Global, rows: &[Signed]) -> Option<i64> {
-    for row in rows {
-        if !is_read_64(*row) || is_read_before_more(alloc, *row) != Ok(true) {
-            return Some(row.value);
-        }
-    }
-    None
+    let is_cut = wanted == Err(ReadKind::UnexpectedEnd);
+    Ok(is_read(bytes, b"", wanted) && (is_cut || is_read(more.as_slice(), BEHIND, wanted)))
 }
 
 #[test]
 fn reads_long_integers(rt: HostRuntime) -> Result<(), Fail> {
-    assert_eq!(rt; misread_64(rt.alloc(), &SIGNED_64), None);
-    assert_eq!(rt; misread_64(rt.alloc(), &SIGNED_64_BORDERS), None);
-    assert_eq!(rt; misread_64(rt.alloc(), &SIGNED_64_HASHES), None);
-    assert_eq!(rt; misread_64(rt.alloc(), &PADDED_64), None);
+    let tables: [&[Signed]; 4] = [
+        &SIGNED_64,
+        &SIGNED_64_BORDERS,
+        &SIGNED_64_HASHES,
+        &PADDED_64,
+    ];
+    for rows in tables {
+        for row in rows {
+            let answer = answers(rt.alloc(), row.bytes, Ok(row.value));
+            assert_eq!(rt; answer, Ok(true), "{row:?}");
+        }
+    }
     Ok(())
-}
-
-fn is_refused_64(bytes: &[u8], kind: ReadKind) -> bool {
-    if bytes.len() > 21 {
-        return false;
-    }
-    let mut cursor = Cursor::new(bytes);
-    cursor.s64() == Err(ReadFault { kind, at: 0 }) && cursor.rest() == bytes
-}
-
-fn is_refused_before_more(
-    alloc: Global,
-    bytes: &[u8],
-    kind: ReadKind,
-) -> Result<bool, OutOfMemory> {
-    Ok(is_refused_64(before_more(alloc, bytes)?.as_slice(), kind))
-}
-
-// The first of these that is not refused so, alone and with other bytes behind it.
-fn unrefused_64(alloc: Global, rows: &'static [&'static [u8]], kind: ReadKind) -> &'static [u8] {
-    for row in rows {
-        if !is_refused_64(row, kind) || is_refused_before_more(alloc, row, kind) != Ok(true) {
-            return row;
-        }
-    }
-    b""
-}
-
-// The first of these that is not cut short.
-fn uncut_64(rows: &'static [&'static [u8]]) -> &'static [u8] {
-    for row in rows {
-        if !is_refused_64(row, ReadKind::UnexpectedEnd) {
-            return row;
-        }
-    }
-    b""
 }
 
 // Padded ones have more bytes than 32 and 33 bits may have.
@@ -214,16 +160,19 @@ fn is_refused_short(row: Signed) -> bool {
 
 #[test]
 fn refuses_long_integers(rt: HostRuntime) -> Result<(), Fail> {
-    let alloc = rt.alloc();
-    assert_eq!(rt;
-        unrefused_64(alloc, &TOO_LARGE_64, ReadKind::IntTooLarge),
-        b"".as_slice()
-    );
-    assert_eq!(rt;
-        unrefused_64(alloc, &TOO_LONG_64, ReadKind::IntTooLong),
-        b"".as_slice()
-    );
-    assert_eq!(rt; uncut_64(&CUT_64), b"".as_slice());
-    assert!(rt; PADDED_64.iter().all(|row| is_refused_short(*row)));
+    let tables: [(ReadKind, &[&[u8]]); 3] = [
+        (ReadKind::IntTooLarge, &TOO_LARGE_64),
+        (ReadKind::IntTooLong, &TOO_LONG_64),
+        (ReadKind::UnexpectedEnd, &CUT_64),
+    ];
+    for (kind, rows) in tables {
+        for bytes in rows {
+            let answer = answers(rt.alloc(), bytes, Err(kind));
+            assert_eq!(rt; answer, Ok(true), "{kind:?} of {bytes:?}");
+        }
+    }
+    for row in &PADDED_64 {
+        assert!(rt; is_refused_short(*row), "{row:?}");
+    }
     Ok(())
 }

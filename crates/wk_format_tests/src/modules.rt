@@ -28,24 +28,30 @@ fn is_written(alloc: Global, module: &Module, bytes: &[u8]) -> bool {
     }
 }
 
-// Whether bytes are read, and written as others.
-fn becomes(alloc: Global, bytes: &[u8], profile: Profile, written: &[u8]) -> bool {
+// Bytes, the profile by which they are read, and their written form.
+type Row = (&'static [u8], Profile, &'static [u8]);
+
+static ROWS: [Row; 4] = [
+    (WHOLE, Profile::Core, WHOLE),
+    (LONGER, Profile::Core, SHORTEST),
+    (WHOLE, Profile::Extended, WHOLE),
+    (EXTENDED, Profile::Extended, EXTENDED),
+];
+
+// Whether bytes are read and written so.
+fn becomes(alloc: Global, row: Row) -> bool {
+    let (bytes, profile, written) = row;
     match read_in(alloc, bytes, profile) {
         Ok(module) => is_written(alloc, &module, written) && module.parts().profile == profile,
         Err(_) => false,
     }
 }
 
-fn become_all(alloc: Global) -> bool {
-    becomes(alloc, WHOLE, Profile::Core, WHOLE)
-        && becomes(alloc, LONGER, Profile::Core, SHORTEST)
-        && becomes(alloc, WHOLE, Profile::Extended, WHOLE)
-        && becomes(alloc, EXTENDED, Profile::Extended, EXTENDED)
-}
-
 #[test]
 fn reads_and_writes(rt: HostRuntime) -> Result<(), Fail> {
-    assert!(rt; become_all(rt.alloc()));
+    for row in &ROWS {
+        assert!(rt; becomes(rt.alloc(), *row), "{row:?}");
+    }
     Ok(())
 }
 
@@ -59,27 +65,19 @@ fn refuses_the_other_profile(rt: HostRuntime) -> Result<(), Fail> {
     Ok(())
 }
 
-// Whether the sections of the whole module are as long as their contents.
-fn are_measured(module: &Module) -> bool {
+// Whether the sections of the whole module are as long as their contents, which is told of the lists alone, too.
+fn are_sections_measured(module: &Module) -> bool {
+    let lists = Lists::of(module.parts(), &[0]);
     for row in OF_WHOLE {
-        if !is_length(section_len(module, row.id), row.bytes) {
+        let has_lengths = is_length(section_len(module, row.id), row.bytes)
+            && is_length(lists.contents_len(row.id), row.bytes);
+        if !has_lengths {
             return false;
         }
     }
     section_len(module, 10) == Some(6)
         && section_len(module, 0).is_none()
         && section_len(module, 12).is_none()
-}
-
-// Whether the same lengths are told of the lists alone.
-fn are_lists_measured(module: &Module) -> bool {
-    let lists = Lists::of(module.parts(), &[0]);
-    for row in OF_WHOLE {
-        if !is_length(lists.contents_len(row.id), row.bytes) {
-            return false;
-        }
-    }
-    true
 }
 
 // Whether its first type and its first export are so long.
@@ -105,21 +103,6 @@ fn are_customs_measured(module: &Module) -> bool {
     customs.len() == CUSTOMS_OF_WHOLE.len()
 }
 
-fn is_measured(module: &Module) -> bool {
-    are_measured(module)
-        && are_lists_measured(module)
-        && are_items_measured(module)
-        && are_customs_measured(module)
-        && counts(module)
-}
-
-fn is_whole_measured(alloc: Global) -> bool {
-    match read(alloc, WHOLE) {
-        Ok(module) => is_measured(&module),
-        Err(_) => false,
-    }
-}
-
 // The imports of the whole module, one of each kind, and lengths of sections of 9 and 30 bytes.
 fn counts(module: &Module) -> bool {
     let imports = module.parts().imports.as_slice();
@@ -127,6 +110,18 @@ fn counts(module: &Module) -> bool {
         && import_count(imports, Kind::Global) == 1
         && framed_len(30) == Some(32)
         && whole_len(&[0, 9, 30], 5) == Some(56)
+}
+
+fn is_whole_measured(alloc: Global) -> bool {
+    match read(alloc, WHOLE) {
+        Ok(module) => {
+            are_sections_measured(&module)
+                && are_items_measured(&module)
+                && are_customs_measured(&module)
+                && counts(&module)
+        }
+        Err(_) => false,
+    }
 }
 
 fn empty_is_a_header(alloc: Global) -> bool {
@@ -157,22 +152,18 @@ fn is_settled(alloc: Global, module: &Module, place: u8, bytes: &[u8]) -> bool {
 }
 
 // A section that becomes empty lowers the place of the custom section behind it.
-fn settles(alloc: Global, module: Module) -> bool {
+fn settles(alloc: Global) -> bool {
+    let Ok(module) = read(alloc, EXPORTED) else {
+        return false;
+    };
     let is_read = is_settled(alloc, &module, 7, EXPORTED);
     let private = without_exports(alloc, module);
     is_settled(alloc, &private, 3, PRIVATE) && is_read
 }
 
-fn settles_as_read(alloc: Global) -> bool {
-    match read(alloc, EXPORTED) {
-        Ok(module) => settles(alloc, module),
-        Err(_) => false,
-    }
-}
-
 #[test]
 fn lowers_the_place_of_a_custom(rt: HostRuntime) -> Result<(), Fail> {
-    assert!(rt; settles_as_read(rt.alloc()));
+    assert!(rt; settles(rt.alloc()));
     Ok(())
 }
 

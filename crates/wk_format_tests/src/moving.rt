@@ -12,76 +12,20 @@ use wk_samples::bodies::{
     WITH_GLOBAL_MOVED,
 };
 
-// How a body's references move, and what it becomes: nothing where an index has no next.
-#[derive(Clone, Copy)]
-struct Move {
-    body: &'static [u8],
-    kind: Moving,
-    from: u32,
-    becomes: Option<&'static [u8]>,
-}
+// A body, how its references move, and what it becomes: nothing where an index has no next.
+type Move = (&'static [u8], Moving, u32, Option<&'static [u8]>);
 
-const MOVES: [Move; 10] = [
-    Move {
-        body: BODY,
-        kind: Moving::Func,
-        from: 0,
-        becomes: Some(WITH_FUNC_MOVED),
-    },
-    Move {
-        body: BODY,
-        kind: Moving::Func,
-        from: 5,
-        becomes: Some(WITH_FUNC_MOVED),
-    },
-    Move {
-        body: BODY,
-        kind: Moving::Func,
-        from: 6,
-        becomes: Some(BODY),
-    },
-    Move {
-        body: BODY,
-        kind: Moving::Global,
-        from: 7,
-        becomes: Some(WITH_GLOBAL_MOVED),
-    },
-    Move {
-        body: BODY,
-        kind: Moving::Global,
-        from: 8,
-        becomes: Some(BODY),
-    },
-    Move {
-        body: GREATEST_CALL,
-        kind: Moving::Func,
-        from: 0,
-        becomes: None,
-    },
-    Move {
-        body: GREATEST_CALL,
-        kind: Moving::Func,
-        from: u32::MAX,
-        becomes: None,
-    },
-    Move {
-        body: GREATEST_CALL,
-        kind: Moving::Global,
-        from: 0,
-        becomes: Some(GREATEST_CALL),
-    },
-    Move {
-        body: GREAT_CALL,
-        kind: Moving::Func,
-        from: u32::MAX - 1,
-        becomes: Some(GREATEST_CALL),
-    },
-    Move {
-        body: GREAT_CALL,
-        kind: Moving::Func,
-        from: u32::MAX,
-        becomes: Some(GREAT_CALL),
-    },
+static MOVES: [Move; 10] = [
+    (BODY, Moving::Func, 0, Some(WITH_FUNC_MOVED)),
+    (BODY, Moving::Func, 5, Some(WITH_FUNC_MOVED)),
+    (BODY, Moving::Func, 6, Some(BODY)),
+    (BODY, Moving::Global, 7, Some(WITH_GLOBAL_MOVED)),
+    (BODY, Moving::Global, 8, Some(BODY)),
+    (GREATEST_CALL, Moving::Func, 0, None),
+    (GREATEST_CALL, Moving::Func, u32::MAX, None),
+    (GREATEST_CALL, Moving::Global, 0, Some(GREATEST_CALL)),
+    (GREAT_CALL, Moving::Func, u32::MAX - 1, Some(GREATEST_CALL)),
+    (GREAT_CALL, Moving::Func, u32::MAX, Some(GREAT_CALL)),
 ];
 
 fn is_encoded(answer: Result<Vec<u8>, EncodeFault>, bytes: &[u8]) -> bool {
@@ -91,50 +35,37 @@ fn is_encoded(answer: Result<Vec<u8>, EncodeFault>, bytes: &[u8]) -> bool {
     }
 }
 
-// Whether the body moves so.
+// Whether the body moves so, which is told before.
 fn moves(alloc: Global, body: &Body, row: Move) -> bool {
-    match (shift(alloc, body, row.kind, row.from), row.becomes) {
+    let (bytes, kind, from, becomes) = row;
+    let stuck = becomes.is_none();
+    let moves = stuck || becomes != Some(bytes);
+    if expr_movement(body.expr(), kind, from) != (Movement { moves, stuck }) {
+        return false;
+    }
+    match (shift(alloc, body, kind, from), becomes) {
         (Ok(moved), Some(bytes)) => is_encoded(encode_body(alloc, &moved), bytes),
         (Err(ShiftFault::Overflow), None) => true,
         _ => false,
     }
 }
 
-// Whether what moves of it is told so.
-fn is_told(body: &Body, row: Move) -> bool {
-    let found = expr_movement(body.expr(), row.kind, row.from);
-    let stuck = row.becomes.is_none();
-    let moves = stuck || row.becomes != Some(row.body);
-    found == Movement { moves, stuck }
-}
-
 // Whether the body moves so where it stands, and by its written form.
 fn moves_in_place(alloc: Global, body: Body, row: Move) -> bool {
-    if expr_movement(body.expr(), row.kind, row.from).stuck {
-        return row.becomes.is_none();
+    let (_, kind, from, becomes) = row;
+    if expr_movement(body.expr(), kind, from).stuck {
+        return becomes.is_none();
     }
-    let (Ok(code), Some(becomes)) = (encode_body(alloc, &body), row.becomes) else {
+    let (Ok(code), Some(becomes)) = (encode_body(alloc, &body), becomes) else {
         return false;
     };
     let mut moved = Vec::new(alloc);
-    let appended = append_shifted(&mut moved, &body, &code, row.kind, row.from);
+    let appended = append_shifted(&mut moved, &body, &code, kind, from);
     let mut body = body;
-    shift_in_place(&mut body, row.kind, row.from);
+    shift_in_place(&mut body, kind, from);
     appended.is_ok()
         && moved.as_slice() == becomes
         && is_encoded(encode_body(alloc, &body), becomes)
-}
-
-fn moves_as_read(alloc: Global, row: Move) -> bool {
-    match read_body(alloc, row.body) {
-        Ok(body) => {
-            moves(alloc, &body, row)
-                && is_told(&body, row)
-                && moves_in_place(alloc, body, row)
-                && moves_from_bytes(alloc, row)
-        }
-        Err(_) => false,
-    }
 }
 
 // Whether the written form, moved by its bytes alone, is that one, or is none and leaves nothing.
@@ -156,18 +87,38 @@ const UNMOVED: Shifts = Shifts {
 
 // The same of a move by one.
 fn moves_from_bytes(alloc: Global, row: Move) -> bool {
+    let (bytes, kind, from, becomes) = row;
     let mut shifts = UNMOVED;
-    match row.kind {
+    match kind {
         Moving::Func => {
-            shifts.funcs_from = row.from;
+            shifts.funcs_from = from;
             shifts.funcs_by = 1;
         }
         Moving::Global => {
-            shifts.globals_from = row.from;
+            shifts.globals_from = from;
             shifts.globals_by = 1;
         }
     }
-    is_shifted(alloc, row.body, shifts, row.becomes)
+    is_shifted(alloc, bytes, shifts, becomes)
+}
+
+fn moves_as_read(alloc: Global, row: Move) -> bool {
+    match read_body(alloc, row.0) {
+        Ok(body) => {
+            moves(alloc, &body, row)
+                && moves_in_place(alloc, body, row)
+                && moves_from_bytes(alloc, row)
+        }
+        Err(_) => false,
+    }
+}
+
+#[test]
+fn moves_bodies(rt: HostRuntime) -> Result<(), Fail> {
+    for row in &MOVES {
+        assert!(rt; moves_as_read(rt.alloc(), *row), "{row:?}");
+    }
+    Ok(())
 }
 
 // The body with 300 functions in front of the function 5, and 120 globals in front of the global 7: the one index gets longer.
@@ -179,41 +130,36 @@ const SHIFTED: &[u8] = b"\x02\x02\x7f\x01\x7c\
 // A call of the function 5, and of the function 4,294,967,295.
 const STUCK_BEHIND_5: &[u8] = b"\x00\x10\x05\x10\xff\xff\xff\xff\x0f\x0b";
 
-fn shifts_bodies(alloc: Global) -> bool {
-    let mut shifts = Shifts {
-        funcs_from: 5,
-        funcs_by: 300,
-        globals_from: 7,
-        globals_by: 120,
-    };
-    let both = is_shifted(alloc, BODY, shifts, Some(SHIFTED));
-    let stuck = is_shifted(alloc, STUCK_BEHIND_5, shifts, None);
-    shifts.funcs_from = 6;
-    shifts.globals_from = 8;
-    let none = is_shifted(alloc, BODY, shifts, Some(BODY));
-    let nothing = is_shifted(alloc, b"", shifts, None);
-    both && stuck && none && nothing && is_shifted(alloc, SHIFTED, UNMOVED, Some(SHIFTED))
-}
+const BOTH: Shifts = Shifts {
+    funcs_from: 5,
+    funcs_by: 300,
+    globals_from: 7,
+    globals_by: 120,
+};
+
+// Behind the last reference of either kind.
+const NONE: Shifts = Shifts {
+    funcs_from: 6,
+    funcs_by: 300,
+    globals_from: 8,
+    globals_by: 120,
+};
+
+// A written form, where references stand, and what it becomes.
+static SHIFTS: [(&[u8], Shifts, Option<&[u8]>); 5] = [
+    (BODY, BOTH, Some(SHIFTED)),
+    (STUCK_BEHIND_5, BOTH, None),
+    (BODY, NONE, Some(BODY)),
+    (b"", NONE, None),
+    (SHIFTED, UNMOVED, Some(SHIFTED)),
+];
 
 #[test]
 fn shifts_by_several(rt: HostRuntime) -> Result<(), Fail> {
-    assert!(rt; shifts_bodies(rt.alloc()));
-    Ok(())
-}
-
-// The first row of the table that is wrong.
-fn wrong_move(alloc: Global) -> Option<(Moving, u32)> {
-    for row in MOVES {
-        if !moves_as_read(alloc, row) {
-            return Some((row.kind, row.from));
-        }
+    for &(code, shifts, becomes) in &SHIFTS {
+        let is_right = is_shifted(rt.alloc(), code, shifts, becomes);
+        assert!(rt; is_right, "{code:?} by {shifts:?}");
     }
-    None
-}
-
-#[test]
-fn moves_bodies(rt: HostRuntime) -> Result<(), Fail> {
-    assert_eq!(rt; wrong_move(rt.alloc()), None);
     Ok(())
 }
 
@@ -229,12 +175,13 @@ fn expr_moves(alloc: Global, bytes: &[u8], from: u32, becomes: Option<&[u8]>) ->
     }
 }
 
-fn move_exprs(alloc: Global) -> bool {
-    expr_moves(alloc, EXPR, 0, Some(MOVED_EXPR))
-        && expr_moves(alloc, EXPR, 7, Some(MOVED_EXPR))
-        && expr_moves(alloc, EXPR, 8, Some(EXPR))
-        && expr_moves(alloc, GREATEST_EXPR, 9, None)
-}
+// An expression, where its globals move from, and what it becomes.
+static EXPRS: [(&[u8], u32, Option<&[u8]>); 4] = [
+    (EXPR, 0, Some(MOVED_EXPR)),
+    (EXPR, 7, Some(MOVED_EXPR)),
+    (EXPR, 8, Some(EXPR)),
+    (GREATEST_EXPR, 9, None),
+];
 
 const STUCK: Movement = Movement {
     moves: true,
@@ -250,7 +197,11 @@ fn move_indexes() -> bool {
 
 #[test]
 fn moves_expressions(rt: HostRuntime) -> Result<(), Fail> {
-    assert!(rt; move_exprs(rt.alloc()) && move_indexes());
+    for &(bytes, from, becomes) in &EXPRS {
+        let is_right = expr_moves(rt.alloc(), bytes, from, becomes);
+        assert!(rt; is_right, "{bytes:?} from {from}");
+    }
+    assert!(rt; move_indexes());
     Ok(())
 }
 
@@ -286,32 +237,21 @@ fn nested(alloc: Global, callee: u8) -> Result<Vec<u8>, AllocError> {
     Ok(bytes)
 }
 
-fn copy_of(alloc: Global, bytes: &[u8]) -> Option<Body> {
-    match read_body(alloc, bytes) {
-        Ok(body) => body.clone().ok(),
-        Err(_) => None,
-    }
-}
-
 // A copy of a body with its references to functions moved; the body itself is gone.
 fn moved_copy(alloc: Global, bytes: &[u8]) -> Option<Body> {
-    match copy_of(alloc, bytes) {
-        Some(copy) => shift(alloc, &copy, Moving::Func, 0).ok(),
-        None => None,
-    }
-}
-
-fn is_deep(alloc: Global, bytes: &[u8], becomes: &[u8]) -> bool {
-    match moved_copy(alloc, bytes) {
-        Some(body) => is_encoded(encode_body(alloc, &body), becomes),
-        None => false,
-    }
+    let body = read_body(alloc, bytes).ok()?;
+    let copy = body.clone().ok()?;
+    drop(body);
+    shift(alloc, &copy, Moving::Func, 0).ok()
 }
 
 fn moves_deep(alloc: Global) -> Result<bool, AllocError> {
     let bytes = nested(alloc, 0)?;
     let becomes = nested(alloc, 1)?;
-    Ok(is_deep(alloc, &bytes, &becomes))
+    match moved_copy(alloc, &bytes) {
+        Some(body) => Ok(is_encoded(encode_body(alloc, &body), &becomes)),
+        None => Ok(false),
+    }
 }
 
 #[test]
