@@ -11,21 +11,15 @@ use wk_judging::{Fault, FaultKind, Place, Verdict, judge_bytes};
 use wk_module::{Outline, Profile, Ref, read_in, read_outline};
 use wk_session::{Edit, Reply, Session};
 
-// The bytes that a session writes.
-fn written(alloc: Global, session: &Session) -> Option<Vec<u8>> {
-    let mut out = Sink::new(Vec::new(alloc));
-    session.write(&mut out).ok()?;
-    Some(out.into_inner())
-}
-
 /// Whether a session has this verdict, and is measured and written as these bytes.
 pub(crate) fn says(alloc: Global, session: &Session, whole: &[u8], verdict: Verdict) -> bool {
-    let is_judged = *session.verdict() == verdict;
-    let is_measured = session.encoded_len() as usize == whole.len();
-    match written(alloc, session) {
-        Some(bytes) => is_judged && is_measured && bytes.as_slice() == whole,
-        None => false,
-    }
+    let mut out = Sink::new(Vec::new(alloc));
+    let is_written = session.write(&mut out).is_ok();
+    let bytes = out.into_inner();
+    is_written
+        && *session.verdict() == verdict
+        && session.encoded_len() as usize == whole.len()
+        && bytes.as_slice() == whole
 }
 
 /// A session over a module of a profile.
@@ -139,17 +133,6 @@ static OPENED: [Opened; 10] = [
     ),
 ];
 
-// The first module that is opened otherwise.
-fn wrong_opened(alloc: Global) -> Option<&'static [u8]> {
-    for (profile, bytes, whole, verdict) in &OPENED {
-        let is_opened = opens_as(alloc, *profile, bytes, whole, *verdict);
-        if !is_opened || !is_over(alloc, *profile, bytes, whole, *verdict) {
-            return Some(*bytes);
-        }
-    }
-    None
-}
-
 // Bytes that spell no module of 1.0, and their first fault.
 static REFUSED: [(&[u8], ReadKind, u32); 4] = [
     (b"", ReadKind::UnexpectedEnd, 0),
@@ -162,40 +145,27 @@ static REFUSED: [(&[u8], ReadKind, u32); 4] = [
     (SIGN_EXTENSION, ReadKind::UnknownOpcode, 25),
 ];
 
-// The first of them that is opened, or has another fault.
-fn wrong_refused(alloc: Global) -> Option<&'static [u8]> {
-    for (bytes, kind, at) in &REFUSED {
-        let fault = ReadFault {
-            kind: *kind,
-            at: *at,
-        };
-        if open(alloc, Profile::Core, bytes).err() != Some(fault) {
-            return Some(*bytes);
-        }
-    }
-    None
-}
-
 #[test]
 fn opens(rt: HostRuntime) -> Result<(), Fail> {
-    assert_eq!(rt; wrong_opened(rt.alloc()), None);
-    assert_eq!(rt; wrong_refused(rt.alloc()), None);
-    Ok(())
-}
-
-fn apply(session: &mut Session, keep: bool, edit: &Edit) -> Reply {
-    if keep {
-        session.apply_kept(edit)
-    } else {
-        session.apply(edit)
+    for &(profile, bytes, whole, verdict) in &OPENED {
+        let is_opened = opens_as(rt.alloc(), profile, bytes, whole, verdict)
+            && is_over(rt.alloc(), profile, bytes, whole, verdict);
+        assert!(rt; is_opened, "{bytes:?}");
     }
+    for &(bytes, kind, at) in &REFUSED {
+        let fault = open(rt.alloc(), Profile::Core, bytes).err();
+        assert_eq!(rt; fault, Some(ReadFault { kind, at }), "{bytes:?}");
+    }
+    Ok(())
 }
 
 // What the one edit of a script is answered.
 fn reply_to(alloc: Global, session: &mut Session, keep: bool, script: &[u8]) -> Option<Reply> {
-    match read_script(alloc, script) {
-        Ok(edits) => edits.first().map(|edit| apply(session, keep, edit)),
-        Err(_) => None,
+    let edits = read_script(alloc, script).ok()?;
+    match edits.first() {
+        Some(edit) if keep => Some(session.apply_kept(edit)),
+        Some(edit) => Some(session.apply(edit)),
+        None => None,
     }
 }
 
@@ -222,35 +192,22 @@ fn wrong_step(alloc: Global, walk: &Walk) -> Option<&'static [u8]> {
     None
 }
 
-// The same of all walks.
-fn wrong_walk(alloc: Global) -> Option<&'static [u8]> {
-    for walk in &WALKS {
-        let wrong = wrong_step(alloc, walk);
-        if wrong.is_some() {
-            return wrong;
-        }
-    }
-    None
-}
-
 #[test]
 fn applies(rt: HostRuntime) -> Result<(), Fail> {
-    assert_eq!(rt; wrong_walk(rt.alloc()), None);
+    for walk in &WALKS {
+        assert_eq!(rt; wrong_step(rt.alloc(), walk), None);
+    }
     Ok(())
 }
 
 // The edits of a walk as one script.
-fn script_of(alloc: Global, steps: &[Step]) -> Option<Vec<u8>> {
+fn edits_of(alloc: Global, steps: &[Step]) -> Option<Vec<Edit>> {
     let mut script = Vec::new(alloc);
     for (line, ..) in steps {
         script.extend_from_slice(line).ok()?;
         script.push(b'\n').ok()?;
     }
-    Some(script)
-}
-
-fn edits_of(alloc: Global, steps: &[Step]) -> Option<Vec<Edit>> {
-    read_script(alloc, &script_of(alloc, steps)?).ok()
+    read_script(alloc, script.as_slice()).ok()
 }
 
 /// What edits are answered.
@@ -300,22 +257,15 @@ fn runs(alloc: Global, walk: &Walk) -> bool {
     }
 }
 
-// The module of the first walk whose edits run otherwise.
-fn wrong_run(alloc: Global) -> Option<&'static [u8]> {
-    for walk in &WALKS {
-        if !runs(alloc, walk) {
-            return Some(walk.bytes);
-        }
-    }
-    None
-}
-
 #[test]
 fn runs_at_once(rt: HostRuntime) -> Result<(), Fail> {
-    assert_eq!(rt; wrong_run(rt.alloc()), None);
+    for walk in &WALKS {
+        assert!(rt; runs(rt.alloc(), walk), "{:?}", walk.bytes);
+    }
     Ok(())
 }
 
+// Whether these references are found, and no others.
 fn are_refs(found: Option<&BTreeSet<Ref>>, wanted: &[Ref]) -> bool {
     let Some(found) = found else {
         return false;

@@ -1,16 +1,16 @@
-//! Calls of `wk_body` on bodies.
+//! Calls of `wk_body` on bodies. Those that give the same kind of answer are one function.
 
 ghost use Rattle.std.specs.Prelude.{◌≤◌, length};
 
 use crate::mark::{call_begins, call_ends};
 use crate::scenario::and_drop;
-use crate::sinks::{Room, has_appended, vector, was_appended};
+use crate::sinks::{Room, has_appended, vector};
 use std::alloc::{AllocError, Global};
 use std::collections::BTreeSet;
 use wk_body::{
-    Body, EncodeFault, LocalGroup, Moving, Profile, Ref, Scratch, ShiftFault, Shifts, TokenReader,
-    append_body, append_shifted, append_shifts, code_bytes, encode_body, expr_movement,
-    moving_of_code, next_groups, read_body, read_body_in, refs, shift, shift_uses, uses,
+    Body, EncodeFault, Moving, Profile, Ref, Scratch, ShiftFault, Shifts, TokenReader, append_body,
+    append_shifted, append_shifts, code_bytes, encode_body, expr_movement, moving_of_code,
+    next_groups, read_body, read_body_in, refs, shift, shift_uses, uses,
 };
 use wk_bytes::{Cursor, LIMIT, OutOfMemory, ReadFault, ReadKind};
 use wk_samples::bodies::{
@@ -40,18 +40,9 @@ pub(crate) struct Code {
     written: &'static [u8],
     /// With the function 5 and those above it moved.
     moved: &'static [u8],
-    /// What it refers to beside [`REFS`].
-    more: &'static [Ref],
+    /// What it refers to.
+    refs: &'static [Ref],
 }
-
-// What either code refers to.
-const REFS: [Ref; 5] = [
-    Ref::Ty(3),
-    Ref::Func(5),
-    Ref::Global(7),
-    Ref::Table,
-    Ref::Memory,
-];
 
 /// Code of WebAssembly 1.0.
 pub(crate) const CORE_CODE: Code = Code {
@@ -59,7 +50,13 @@ pub(crate) const CORE_CODE: Code = Code {
     padded: PADDED,
     written: BODY,
     moved: WITH_FUNC_MOVED,
-    more: &[],
+    refs: &[
+        Ref::Ty(3),
+        Ref::Func(5),
+        Ref::Global(7),
+        Ref::Table,
+        Ref::Memory,
+    ],
 };
 
 /// Code that only the wider profile has.
@@ -68,7 +65,14 @@ pub(crate) const WIDE_CODE: Code = Code {
     padded: WIDE_PADDED,
     written: WIDE,
     moved: WIDE_WITH_FUNC_MOVED,
-    more: &[Ref::Ty(64)],
+    refs: &[
+        Ref::Ty(3),
+        Ref::Func(5),
+        Ref::Global(7),
+        Ref::Table,
+        Ref::Memory,
+        Ref::Ty(64),
+    ],
 };
 
 // Whether the body is written as these bytes.
@@ -97,16 +101,6 @@ fn has_all(found: &BTreeSet<Ref>, wanted: &[Ref]) -> bool {
     true
 }
 
-// Whether they are the same references.
-fn are_alike(left: &BTreeSet<Ref>, right: &BTreeSet<Ref>) -> bool {
-    for reference in left {
-        if !right.contains(reference) {
-            return false;
-        }
-    }
-    left.len() == right.len()
-}
-
 /// A call that reads a code.
 #[derive(Clone, Copy)]
 pub(crate) enum ReadCode {
@@ -118,10 +112,10 @@ pub(crate) enum ReadCode {
     Form,
     /// `Scratch::written_len`.
     Len,
+    /// `encode_body`.
+    Encode,
     /// `code_bytes` of bytes that are not the shortest.
     Shorten,
-    /// `append_shifts` of functions, in the written form.
-    AppendShifts,
     /// `next_groups`, and `TokenReader::next` up to the end.
     Tokens,
 }
@@ -133,32 +127,57 @@ impl ReadCode {
             return Outcome::NO_SAMPLE;
         }
         match self {
-            ReadCode::Body => code.reads(alloc),
-            ReadCode::Again => code.reads_again(alloc),
-            ReadCode::Form => code.writes_form(alloc),
-            ReadCode::Len => code.measures_form(alloc),
-            ReadCode::Shorten => code.shortens(alloc),
-            ReadCode::AppendShifts => code.appends_shifts(alloc),
-            ReadCode::Tokens => code.reads_tokens(alloc),
+            ReadCode::Body | ReadCode::Again => code.reads(alloc, matches!(self, ReadCode::Again)),
+            ReadCode::Form | ReadCode::Len | ReadCode::Tokens => self.looks(alloc, code),
+            ReadCode::Encode => code.encodes(alloc, false),
+            ReadCode::Shorten => code.encodes(alloc, true),
+        }
+    }
+
+    // A call that gives no body.
+    fn looks(self, alloc: Global, code: Code) -> Outcome
+        requires { length code.padded.now ≤ LIMIT }
+    {
+        let mut scratch = Scratch::new(alloc);
+        call_begins(alloc);
+        let answer = self.is_right(alloc, code, &mut scratch);
+        call_ends(alloc);
+        match answer {
+            Ok(is_right) => Outcome::answered(is_right),
+            Err(fault) => Outcome::refused(fault == NO_MEMORY),
+        }
+    }
+
+    // Whether it answers the written form, its length, or each token.
+    fn is_right(self, alloc: Global, code: Code, scratch: &mut Scratch) -> Result<bool, ReadFault>
+        requires { length code.padded.now ≤ LIMIT }
+    {
+        let cursor = Cursor::new(code.padded);
+        match self {
+            ReadCode::Form => {
+                Ok(scratch.written_form(alloc, &cursor, code.profile)? == code.written)
+            }
+            ReadCode::Len => {
+                let len = scratch.written_len(alloc, &cursor, code.profile)?;
+                Ok(is_length(Some(len), code.written))
+            }
+            _ => has_tokens(alloc, code.profile, cursor),
         }
     }
 }
 
-// The groups and the tokens of a body, one after the other.
-fn read_tokens(
-    groups: &mut Vec<LocalGroup>,
-    reader: &mut TokenReader,
-    profile: Profile,
-    cursor: &mut Cursor<'_>,
-) -> Result<(), ReadFault> {
-    next_groups(groups, cursor)?;
+// Whether two groups and the tokens of a body come, one after the other, up to its end.
+fn has_tokens(alloc: Global, profile: Profile, mut cursor: Cursor<'_>) -> Result<bool, ReadFault> {
+    let mut groups = Vec::new(alloc);
+    let mut reader = TokenReader::new(alloc);
+    next_groups(&mut groups, &mut cursor)?;
     reader.begin();
     for _ in 0..cursor.rest().len() {
-        if reader.next(profile, cursor)?.is_none() {
+        if reader.next(profile, &mut cursor)?.is_none() {
             break;
         }
     }
-    Ok(())
+    Ok(cursor.rest().is_empty() && groups.len() == 2)
 }
 
 impl Code {
@@ -169,94 +188,66 @@ impl Code {
         }
     }
 
-    // What reading the body answered.
-    fn was_read(self, alloc: Global, answer: &Result<Body, ReadFault>) -> Outcome {
-        match answer {
-            Ok(body) => Outcome::answered(is_body(alloc, body, self.written)),
-            Err(fault) => Outcome::refused(*fault == NO_MEMORY),
-        }
-    }
-
-    fn reads(self, alloc: Global) -> Outcome {
-        call_begins(alloc);
-        let answer = self.read(alloc);
-        call_ends(alloc);
-        and_drop(self.was_read(alloc, &answer), answer)
-    }
-
-    fn reads_again(self, alloc: Global) -> Outcome
+    // Reads the body, in a room that was used before or in none.
+    fn reads(self, alloc: Global, in_room: bool) -> Outcome
         requires { length self.padded.now ≤ LIMIT }
     {
         let mut scratch = Scratch::new(alloc);
         let cursor = Cursor::new(self.padded);
-        if scratch.read_body(alloc, &cursor, self.profile).is_err() {
+        if in_room && scratch.read_body(alloc, &cursor, self.profile).is_err() {
             return Outcome::NO_SAMPLE;
         }
         call_begins(alloc);
-        let answer = scratch.read_body(alloc, &cursor, self.profile);
+        let answer = if in_room {
+            scratch.read_body(alloc, &cursor, self.profile)
+        } else {
+            self.read(alloc)
+        };
         call_ends(alloc);
-        and_drop(self.was_read(alloc, &answer), answer)
+        let outcome = match &answer {
+            Ok(body) => Outcome::answered(is_body(alloc, body, self.written)),
+            Err(fault) => Outcome::refused(*fault == NO_MEMORY),
+        };
+        and_drop(outcome, answer)
     }
 
-    fn writes_form(self, alloc: Global) -> Outcome
-        requires { length self.padded.now ≤ LIMIT }
-    {
-        let mut scratch = Scratch::new(alloc);
-        let cursor = Cursor::new(self.padded);
+    // Encodes the body, by itself or by the bytes that spell it.
+    fn encodes(self, alloc: Global, by_bytes: bool) -> Outcome {
+        let Ok(body) = read_body_in(alloc, self.padded, self.profile) else {
+            return Outcome::NO_SAMPLE;
+        };
         call_begins(alloc);
-        let answer = scratch.written_form(alloc, &cursor, self.profile);
+        let answer = if by_bytes {
+            code_bytes(alloc, &body, self.padded)
+        } else {
+            encode_body(alloc, &body)
+        };
         call_ends(alloc);
-        match answer {
-            Ok(written) => Outcome::answered(written == self.written),
-            Err(fault) => Outcome::refused(fault == NO_MEMORY),
-        }
-    }
-
-    fn measures_form(self, alloc: Global) -> Outcome
-        requires { length self.padded.now ≤ LIMIT }
-    {
-        let mut scratch = Scratch::new(alloc);
-        let cursor = Cursor::new(self.padded);
-        call_begins(alloc);
-        let answer = scratch.written_len(alloc, &cursor, self.profile);
-        call_ends(alloc);
-        match answer {
-            Ok(len) => Outcome::answered(is_length(Some(len), self.written)),
-            Err(fault) => Outcome::refused(fault == NO_MEMORY),
-        }
-    }
-
-    fn reads_tokens(self, alloc: Global) -> Outcome
-        requires { length self.padded.now ≤ LIMIT }
-    {
-        let mut groups = Vec::new(alloc);
-        let mut reader = TokenReader::new(alloc);
-        let mut cursor = Cursor::new(self.padded);
-        call_begins(alloc);
-        let answer = read_tokens(&mut groups, &mut reader, self.profile, &mut cursor);
-        call_ends(alloc);
-        match answer {
-            Ok(()) => Outcome::answered(cursor.rest().is_empty() && groups.len() == 2),
-            Err(fault) => Outcome::refused(fault == NO_MEMORY),
-        }
+        let outcome = match &answer {
+            Ok(bytes) => Outcome::answered(bytes.as_slice() == self.written),
+            Err(fault) => Outcome::refused(
+                *fault == EncodeFault::Memory && is_body(alloc, &body, self.written),
+            ),
+        };
+        and_drop(outcome, (answer, body))
     }
 }
 
 /// A call that is lent a body.
 #[derive(Clone, Copy)]
 pub(crate) enum OfBody {
-    /// `encode_body`.
-    Encode,
     /// `append_body`.
     Append,
-    /// `shift` of functions.
-    Shift,
     /// `append_shifted` of functions.
     AppendShifted,
-    /// `shift_uses` of functions.
-    ShiftUses,
+    /// `append_shifts` of functions, in the written form.
+    AppendShifts,
+    /// `shift` of functions.
+    Shift,
     /// `Body::clone`.
     Clone,
+    /// `shift_uses` of functions.
+    ShiftUses,
     /// `refs`.
     Refs,
     /// `uses`.
@@ -274,74 +265,29 @@ impl OfBody {
 
     fn run_on(self, alloc: Global, code: Code, body: &Body) -> Outcome {
         match self {
-            OfBody::Encode => code.encodes(alloc, body),
-            OfBody::Append => code.appends(alloc, body),
-            OfBody::Shift => code.shifts(alloc, body),
-            OfBody::AppendShifted => code.appends_shifted(alloc, body),
+            OfBody::Append | OfBody::AppendShifted | OfBody::AppendShifts => {
+                code.appends(alloc, self, body)
+            }
+            OfBody::Shift => code.copies(alloc, body, true),
+            OfBody::Clone => code.copies(alloc, body, false),
             OfBody::ShiftUses => code.shifts_uses(alloc, body),
-            OfBody::Clone => code.clones(alloc, body),
-            OfBody::Refs => code.finds(alloc, body),
-            OfBody::Uses => code.finds_uses(alloc, body),
+            OfBody::Refs => code.finds(alloc, body, &[]),
+            OfBody::Uses => code.finds(alloc, body, &OWN_REF),
         }
     }
 }
 
+// The functions from 5 on move by one.
+const SHIFTS: Shifts = Shifts {
+    funcs_from: 5,
+    funcs_by: 1,
+    globals_from: 0,
+    globals_by: 0,
+};
+
 impl Code {
-    // What encoding the body answered.
-    fn was_encoded(
-        self,
-        alloc: Global,
-        answer: &Result<Vec<u8>, EncodeFault>,
-        body: &Body,
-    ) -> Outcome {
-        match answer {
-            Ok(bytes) => Outcome::answered(bytes.as_slice() == self.written),
-            Err(fault) => Outcome::refused(
-                *fault == EncodeFault::Memory && is_body(alloc, body, self.written),
-            ),
-        }
-    }
-
-    fn encodes(self, alloc: Global, body: &Body) -> Outcome {
-        call_begins(alloc);
-        let answer = encode_body(alloc, body);
-        call_ends(alloc);
-        and_drop(self.was_encoded(alloc, &answer, body), answer)
-    }
-
-    fn shortens(self, alloc: Global) -> Outcome {
-        let Ok(body) = read_body_in(alloc, self.padded, self.profile) else {
-            return Outcome::NO_SAMPLE;
-        };
-        call_begins(alloc);
-        let answer = code_bytes(alloc, &body, self.padded);
-        call_ends(alloc);
-        and_drop(self.was_encoded(alloc, &answer, &body), answer)
-    }
-
-    fn appends(self, alloc: Global, body: &Body) -> Outcome {
-        let Some(mut bytes) = vector(alloc, Room::Scant) else {
-            return Outcome::NO_SAMPLE;
-        };
-        call_begins(alloc);
-        let answer = append_body(&mut bytes, body);
-        call_ends(alloc);
-        was_appended(&bytes, answer, self.written)
-    }
-
-    fn shifts(self, alloc: Global, body: &Body) -> Outcome {
-        call_begins(alloc);
-        let answer = shift(alloc, body, Moving::Func, 5);
-        call_ends(alloc);
-        match answer {
-            Ok(moved) => Outcome::answered(is_body(alloc, &moved, self.moved)),
-            Err(fault) => {
-                Outcome::refused(fault == ShiftFault::Memory && is_body(alloc, body, self.written))
-            }
-        }
-    }
-
-    fn appends_shifted(self, alloc: Global, body: &Body) -> Outcome {
+    // Appends the body, or what it becomes.
+    fn appends(self, alloc: Global, call: OfBody, body: &Body) -> Outcome {
         let (Some(mut bytes), Ok(code)) = (vector(alloc, Room::Scant), encode_body(alloc, body))
         else {
             return Outcome::NO_SAMPLE;
@@ -350,28 +296,64 @@ impl Code {
             return Outcome::NO_SAMPLE;
         }
         call_begins(alloc);
-        let answer = append_shifted(&mut bytes, body, &code, Moving::Func, 5);
-        call_ends(alloc);
-        was_appended(&bytes, answer, self.moved)
-    }
-
-    fn appends_shifts(self, alloc: Global) -> Outcome {
-        let Some(mut bytes) = vector(alloc, Room::Scant) else {
-            return Outcome::NO_SAMPLE;
+        let answer = match call {
+            OfBody::Append => append_body(&mut bytes, body).and(Ok(true)),
+            OfBody::AppendShifted => {
+                append_shifted(&mut bytes, body, &code, Moving::Func, 5).and(Ok(true))
+            }
+            _ => append_shifts(&mut bytes, self.written, SHIFTS),
         };
-        let shifts = Shifts {
-            funcs_from: 5,
-            funcs_by: 1,
-            globals_from: 0,
-            globals_by: 0,
-        };
-        call_begins(alloc);
-        let answer = append_shifts(&mut bytes, self.written, shifts);
         call_ends(alloc);
+        let wanted = match call {
+            OfBody::Append => self.written,
+            _ => self.moved,
+        };
         match answer {
-            Ok(done) => Outcome::answered(done && has_appended(&bytes, self.moved)),
+            Ok(is_done) => Outcome::answered(is_done && has_appended(&bytes, wanted)),
             Err(OutOfMemory) => Outcome::refused(has_appended(&bytes, b"")),
         }
+    }
+
+    // Copies the body, with or without a move.
+    fn copies(self, alloc: Global, body: &Body, moves: bool) -> Outcome {
+        call_begins(alloc);
+        let answer = if moves {
+            shift(alloc, body, Moving::Func, 5)
+        } else {
+            let copy: Result<Body, AllocError> = body.clone();
+            copy.or(Err(ShiftFault::Memory))
+        };
+        call_ends(alloc);
+        let wanted = if moves { self.moved } else { self.written };
+        let outcome = match &answer {
+            Ok(copy) => Outcome::answered(is_body(alloc, copy, wanted)),
+            Err(fault) => Outcome::refused(
+                *fault == ShiftFault::Memory && is_body(alloc, body, self.written),
+            ),
+        };
+        and_drop(outcome, answer)
+    }
+
+    // Whether what it refers to is found, with these, and nothing else.
+    fn are_refs(self, found: &BTreeSet<Ref>, own: &[Ref]) -> bool {
+        let count = self.refs.len().saturating_add(own.len());
+        has_all(found, self.refs) && has_all(found, own) && found.len() == count
+    }
+
+    // What its code refers to, or with its own type what the function does.
+    fn finds(self, alloc: Global, body: &Body, own: &[Ref]) -> Outcome {
+        call_begins(alloc);
+        let answer = if own.is_empty() {
+            refs(alloc, body)
+        } else {
+            uses(alloc, OWN_TYPE, body)
+        };
+        call_ends(alloc);
+        let outcome = match &answer {
+            Ok(found) => Outcome::answered(self.are_refs(found, own)),
+            Err(OutOfMemory) => Outcome::refused(is_body(alloc, body, self.written)),
+        };
+        and_drop(outcome, answer)
     }
 
     // What the references are that moving the body leaves.
@@ -396,76 +378,23 @@ impl Code {
         let answer = shift_uses(alloc, &found, Moving::Func, 5);
         call_ends(alloc);
         match answer {
-            Ok(moved) => Outcome::answered(are_alike(&moved, &wanted)),
+            Ok(moved) => Outcome::answered(moved == wanted),
             Err(OutOfMemory) => Outcome::refused(self.are_refs(&found, &OWN_REF)),
         }
-    }
-
-    fn clones(self, alloc: Global, body: &Body) -> Outcome {
-        call_begins(alloc);
-        let answer: Result<Body, AllocError> = body.clone();
-        call_ends(alloc);
-        match answer {
-            Ok(copy) => Outcome::answered(is_body(alloc, &copy, self.written)),
-            Err(AllocError) => Outcome::refused(is_body(alloc, body, self.written)),
-        }
-    }
-
-    // Whether what it refers to is found, with these, and nothing else.
-    fn are_refs(self, found: &BTreeSet<Ref>, own: &[Ref]) -> bool {
-        let count = REFS
-            .len()
-            .saturating_add(self.more.len())
-            .saturating_add(own.len());
-        has_all(found, &REFS)
-            && has_all(found, self.more)
-            && has_all(found, own)
-            && found.len() == count
-    }
-
-    // What looking for references answered, of which these are right beside those of the code.
-    fn was_found(
-        self,
-        alloc: Global,
-        answer: &Result<BTreeSet<Ref>, OutOfMemory>,
-        own: &[Ref],
-        body: &Body,
-    ) -> Outcome {
-        match answer {
-            Ok(found) => Outcome::answered(self.are_refs(found, own)),
-            Err(OutOfMemory) => Outcome::refused(is_body(alloc, body, self.written)),
-        }
-    }
-
-    fn finds(self, alloc: Global, body: &Body) -> Outcome {
-        call_begins(alloc);
-        let answer = refs(alloc, body);
-        call_ends(alloc);
-        and_drop(self.was_found(alloc, &answer, &[], body), answer)
-    }
-
-    fn finds_uses(self, alloc: Global, body: &Body) -> Outcome {
-        call_begins(alloc);
-        let answer = uses(alloc, OWN_TYPE, body);
-        call_ends(alloc);
-        and_drop(self.was_found(alloc, &answer, &OWN_REF, body), answer)
     }
 }
 
 /// `refs` of twenty functions.
 pub(crate) fn finds_many(alloc: Global) -> Outcome {
-    match read_body(alloc, REFERRING) {
-        Ok(body) => finds_many_of(alloc, &body),
-        Err(_) => Outcome::NO_SAMPLE,
-    }
-}
-
-fn finds_many_of(alloc: Global, body: &Body) -> Outcome {
+    let Ok(body) = read_body(alloc, REFERRING) else {
+        return Outcome::NO_SAMPLE;
+    };
     call_begins(alloc);
-    let answer = refs(alloc, body);
+    let answer = refs(alloc, &body);
     call_ends(alloc);
-    match answer {
+    let outcome = match &answer {
         Ok(found) => Outcome::answered(found.len() == 20),
-        Err(OutOfMemory) => Outcome::refused(is_body(alloc, body, REFERRING)),
-    }
+        Err(OutOfMemory) => Outcome::refused(is_body(alloc, &body, REFERRING)),
+    };
+    and_drop(outcome, (answer, body))
 }
