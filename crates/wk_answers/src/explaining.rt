@@ -163,8 +163,8 @@ fn put_more(
 /// of an invalid module is: behind the line of the verdict comes one as ` at 0x00000058 in func[2]: call 1`. Its offset is that of the first byte
 /// of the item, or of the token where the verdict names one; the function has its index in the function index space, where the item is a body; and
 /// the token is as in the code listing. Where an element segment of several functions has one that the module has not, the line says which is the
-/// first, counted from 0, as ` at 0x00000058 entry 17`. Of bytes that are no module it says in which function's body the fault is, as ` in func[2]`, where it is in one. The
-/// validator may be used again whatever this answered.
+/// first, counted from 0, as ` at 0x00000058 entry 17`. Of bytes that are no module it says in which function's body the fault is, as ` in func[2]`,
+/// where it is in one. The validator may be used again whatever this answered.
 ///
 /// # Errors
 ///

@@ -240,7 +240,7 @@ module _ (b : List ℕ) (m : Parts) (spelled : Spells b m) (fits : IsBytes b) wh
   unfolding entry_at
   entry_there p place own more segment at parts spells =
       rw (at, known_is) (
-        ap (unknown_at m.profile (func_count m) place.end) parts ∙ segment_read m.profile (func_count m) place.end own more segment spells
+      ap (unknown_at m.profile (func_count m) place.end) parts ∙ segment_read m.profile (func_count m) place.end own more segment spells
       )
 
   segment_entry : (p : Place) (before behind : List Elem) (segment : Elem) → p.section ≡ number ElementSection → p.token ≡ None

@@ -52,11 +52,7 @@ fn first_unknown(known: u64, count: u32, funcs: &mut Cursor<'_>) -> Result<Optio
 }
 
 // Passes the offset of a segment.
-fn pass_offset(
-    alloc: Global,
-    profile: Profile,
-    cursor: &mut Cursor<'_>,
-) -> Result<(), ReadFault>
+fn pass_offset(alloc: Global, profile: Profile, cursor: &mut Cursor<'_>) -> Result<(), ReadFault>
     ensures { Parses (λ _. tt) (passed (expr_at profile)) cursor.old result cursor.new }
 {
     ItemReader::new(alloc, profile).pass_expr(cursor)
