@@ -16,10 +16,10 @@ use Rattle.wk_judging.specs.contracts.validator.Validator as validator
 use Rattle.wk_judging.proofs.validator.Validator.TheLaws as validator_laws
 use Rattle.wk_ffi.specs.contracts.code.Code as code
 use Rattle.wk_ffi.specs.declared.code.Code.TheVariants.{Fine, NoMemory}
-use Rattle.wk_ffi.proofs.wk_check++validator++Validator+Destruct.drop.Kinds as kinds
-use Rattle.wk_ffi.proofs.wk_check++validator++Validator+Destruct.drop.Met as dropped_met
-use Rattle.wk_ffi.proofs.wk_check++validator++Validator+Destruct.drop.Reads as reads
-use Rattle.wk_ffi.proofs.wk_check++validator++Validator+Destruct.drop.Symbol as dropped
+use Rattle.wk_ffi.proofs.wk_judging++validator++Validator+Destruct.drop.Kinds as kinds
+use Rattle.wk_ffi.proofs.wk_judging++validator++Validator+Destruct.drop.Met as dropped_met
+use Rattle.wk_ffi.proofs.wk_judging++validator++Validator+Destruct.drop.Reads as reads
+use Rattle.wk_ffi.proofs.wk_judging++validator++Validator+Destruct.drop.Symbol as dropped
 use seplogic.Ra.Ura.{Ura}
 use base.Logic.{ent, emp}
 use prog.Model.{Model}
@@ -70,7 +70,7 @@ E = record { row = V; laws = V_laws; al = record { row = Z; laws = Z_laws; g = g
 
 -- ---- the drop of a validator
 abbrev pub goes : Dict
-goes = impl ("wk_ffi::wk_check++validator++Validator+Destruct::drop" ∷ []) tnil dnil
+goes = impl ("wk_ffi::wk_judging++validator++Validator+Destruct::drop" ∷ []) tnil dnil
 
 pub goes_met : {M : Type 1} (𝓤 : Ura M) (𝓛 : Logic 𝓤) (𝓜 : Model 𝓤 𝓛.H) (𝓡 : Running 𝓤 𝓛.H 𝓜) → Wired 𝓡.env dropped.code → Met 𝓛 𝓜 𝓡 𝓡.env V goes
 goes_met {M} 𝓤 𝓛 𝓜 𝓡 wired =

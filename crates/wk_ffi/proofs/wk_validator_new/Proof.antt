@@ -68,7 +68,7 @@ wk_validator_new_spec {M} 𝓤 𝓛 𝓜 𝓡 wired =
     (heap_met.passed 𝓡.env (code.calls-std_heap::GlobalAllocator::allocate 𝓡.env wired) (code.calls-std_heap::GlobalAllocator::deallocate 𝓡.env wired)
     (code.calls-std_heap::GlobalAllocator::grow 𝓡.env wired) (code.calls-std_heap::GlobalAllocator::shrink 𝓡.env wired) M 𝓤 𝓛 𝓜 𝓡)
     (glues "wk_ffi::Destruct++none::drop" 𝓡.env (code.calls-wk_ffi::Destruct++none::drop 𝓡.env wired) Z Z_laws M 𝓤 𝓛 𝓜 𝓡)
-    (goes_met 𝓤 𝓛 𝓜 𝓡 (code.calls-wk_ffi::wk_check++validator++Validator+Destruct::drop 𝓡.env wired)) in
+    (goes_met 𝓤 𝓛 𝓜 𝓡 (code.calls-wk_ffi::wk_judging++validator++Validator+Destruct::drop 𝓡.env wired)) in
     let T = into_raw.ended V Z ghosts dict idle goes in let arms : Body = head (after 1 (code.function).body) in
     let toks : Item 𝓤 = ‵ (flft V.lives full_share) ⊛ ‵ (flft Z.lives full_share) ⊛ ‵ ftrue in
     proved 𝓛 f.ended stayed c 𝓜 𝓡 (Goes-dropped 𝓛 1 (plain (λ _. heap.the_row)) yes (λ κs x w. refl), (Goes-ref 𝓛 1 0 tt (plain (λ _. RawPtr)), tt))
